@@ -8,14 +8,14 @@ use Rattle.dwp_elf.specs.FileText.{Object as File, file_text}
 use Rattle.dwp_elf.specs.Written.{written_elf}
 use Rattle.dwp_elf_read.specs.Elf.{elf_of}
 use Rattle.dwp_table.specs.declared.object.DwarfObject.{DwarfObject}
-use Rattle.thorin_errors.specs.Fault.{Fault}
+use Rattle.thorin_errors.specs.Errors.{ErrorValue}
 use Rattle.thorin_join.specs.Builder.{State, taken}
 use Rattle.thorin_input.specs.Encodings.{encoding_of}
 use Rattle.thorin_join.specs.Meaning.{Meaning, Members, input_meaning}
 use Rattle.thorin_input.specs.Used.{opened, input_file_of}
 
 -- the encoding of an input is that of the first unit of its first info section
-unfoldable pub input_encoding : List ℕ → Result Encoding Fault
+unfoldable pub input_encoding : List ℕ → Result Encoding ErrorValue
 input_encoding bytes = do
   file ← opened bytes
   object ← input_file_of file

@@ -3,7 +3,7 @@
 use Rattle.std.specs.Prelude.{◌≡◌, ℕ, true, List, slice_get, Ok, MatchOption}
 use Rattle.std.specs.List.{list_all}
 use Rattle.std.specs.Map.{lookup}
-use Rattle.dwp_base.specs.declared.section.SectionKind.TheVariants.{StrOffsets}
+use Rattle.dwp_base.specs.declared.section.SectionKind.TheVariants.{StrOffsets, Str}
 use Rattle.dwp_bytes.specs.declared.encoding.Encoding.{Encoding}
 use Rattle.dwp_elf.specs.Contents.{KindsDiffer}
 use Rattle.dwp_elf.specs.FileText.{Object as File, file_text}
@@ -19,7 +19,6 @@ use Rattle.thorin_again.specs.Again.{input_encoding, HaveEncodingOf}
 use Rattle.thorin_join.specs.Join.{GivesUnit, GivesNone, look_limit}
 use Rattle.thorin_join.specs.Meaning.{Meaning, Members}
 use Rattle.dwp_index.specs.Contents.{content}
-use Rattle.dwp_base.specs.declared.section.SectionKind.TheVariants.{Str}
 
 -- each unit of an input, passed over or not, has the encoding of the first unit of its first info
 -- section

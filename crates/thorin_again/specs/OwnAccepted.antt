@@ -4,8 +4,7 @@ use Rattle.dwp_elf.specs.Contents.{KindsDiffer}
 use Rattle.dwp_elf.specs.FileText.{Object as File, file_text}
 use Rattle.dwp_elf.specs.Written.{written_elf}
 use Rattle.dwp_elf_read.specs.Elf.{elf_of}
-use Rattle.thorin_join.specs.Builder.{State, order_of, start, taken, finish_test}
-use Rattle.thorin_join.specs.Builder.{IsFinishedState}
+use Rattle.thorin_join.specs.Builder.{State, order_of, start, taken, finish_test, IsFinishedState}
 use Rattle.thorin_join.specs.Meaning.{Members}
 use Rattle.thorin_again.specs.OneEncoding.{AnswersAs}
 use Rattle.thorin_again.specs.Own.{packs_again}

@@ -36,6 +36,14 @@ written_object file = record {
   has_abbreviations = is_present Abbrev (written_elf file);
 }
 
+-- a written package as an input, of this encoding and with these indexes
+abbrev pub own_source : File → Encoding → Indexes → Source
+own_source file encoding indexes = record {
+  object = written_object file;
+  encoding = encoding;
+  indexes = indexes;
+}
+
 -- a file is that of a builder's finished package, all of whose units come from inputs of this
 -- encoding, and the first unit of info has it
 pub record IsOwn (state : State) (encoding : Encoding) (file : File) : Type 0 where
@@ -57,7 +65,7 @@ pub record TakesUpToParts (file : File) (encoding : Encoding)
   pub read : indexes_of (written_object file) encoding ≡ Ok indexes
   pub finished : is_package indexes ≡ true
   pub is : with_input (file_text file) before ≡ with_source_or_new (written_elf file)
-      (record { object = written_object file; encoding = encoding; indexes = indexes }) before
+      (own_source file encoding indexes) before
 
 -- contents are in the format of an encoding, and where there are string offsets there are strings,
 -- among which they can be rewritten

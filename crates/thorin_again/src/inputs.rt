@@ -7,11 +7,10 @@ ghost use Rattle.dwp_base.specs.declared.endian.Endianness.{Endianness};
 ghost use Rattle.dwp_elf_read.specs.Elf.{Elf, elf_of};
 ghost use Rattle.thorin_join.specs.Builder.{State, IsFinishedState, start, finish_test, order_of};
 ghost use Rattle.thorin_join.specs.Builder.{taken};
-ghost use Rattle.thorin_again.specs.OneEncoding.{IsOfOneEncoding, IsOfEncoding};
-ghost use Rattle.thorin_again.specs.OneEncoding.{AnswersOnceWritten, HaveEncodingOnceWritten};
+ghost use Rattle.thorin_again.specs.OneEncoding.{IsOfOneEncoding, IsOfEncoding, AnswersOnceWritten};
+ghost use Rattle.thorin_again.specs.OneEncoding.{HaveEncodingOnceWritten};
 ghost use Rattle.thorin_again.specs.Own.{packs_again};
-ghost use Rattle.thorin_again.specs.OwnAccepted.{IsAcceptedByNewOnceWritten};
-ghost use Rattle.thorin_again.specs.OwnAccepted.{IsAcceptedOnceWritten};
+ghost use Rattle.thorin_again.specs.OwnAccepted.{IsAcceptedByNewOnceWritten, IsAcceptedOnceWritten};
 ghost use Rattle.thorin_again.specs.PlainInputs.{AreTaken, IsOfPlainObjects};
 ghost use Rattle.thorin_join.specs.Represents.{units_in};
 

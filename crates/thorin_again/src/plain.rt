@@ -10,9 +10,8 @@ ghost use Rattle.thorin_strings.specs.Strings.{IsTable};
 ghost use Rattle.thorin_join.specs.Builder.{State, IsFinishedState, finish_test, taken};
 ghost use Rattle.thorin_input.specs.Growing.{Contents};
 ghost use Rattle.thorin_input.specs.Indexes.{Indexes, indexes_of};
-ghost use Rattle.thorin_again.specs.OwnAccepted.{IsAcceptedByNewOnceWritten};
-ghost use Rattle.thorin_again.specs.OwnAccepted.{IsAcceptedOnceWritten};
-ghost use Rattle.thorin_again.specs.OwnInput.{written_object, IsOwn};
+ghost use Rattle.thorin_again.specs.OwnAccepted.{IsAcceptedByNewOnceWritten, IsAcceptedOnceWritten};
+ghost use Rattle.thorin_again.specs.OwnInput.{written_object, own_source, IsOwn};
 ghost use Rattle.thorin_input.specs.NewUnits.{new_units};
 ghost use Rattle.thorin_again.specs.OwnRefusals.{UnlessForeseen, UnlessStringOffset};
 ghost use Rattle.thorin_again.specs.OwnUnits.{HoldsOwn};
@@ -54,11 +53,8 @@ pub fn own_string_offsets_are_rewritten()
         → (made : InProgress) → state.begun ≡ Some made → IsPlain encoding made
         → (indexes : Indexes) → indexes_of (written_object file) encoding ≡ Ok indexes
         → (strings : List (List ℕ))
-        → UnlessStringOffset (rewritten (record {
-          object = written_object file;
-          encoding = encoding;
-          indexes = indexes;
-        }) (content_of StrOffsets file.contents) strings) }
+        → UnlessStringOffset (rewritten (own_source file encoding indexes)
+        (content_of StrOffsets file.contents) strings) }
 {
     written_index_is_read();
     written_index_has_the_entries();
@@ -73,13 +69,8 @@ pub fn own_units_are_taken()
         → (made : InProgress) → state.begun ≡ Some made → IsPlain encoding made
         → (indexes : Indexes) → indexes_of (written_object file) encoding ≡ Ok indexes
         → (before : InProgress) (parts : Contents) (after : List (List ℕ)) → IsTable before.strings
-        → parts_of (record { object = written_object file; encoding = encoding; indexes = indexes })
-        before.strings ≡ Ok (parts, after)
-        → UnlessForeseen (new_units (adding (record {
-          object = written_object file;
-          encoding = encoding;
-          indexes = indexes;
-        }) before parts)) }
+        → parts_of (own_source file encoding indexes) before.strings ≡ Ok (parts, after)
+        → UnlessForeseen (new_units (adding (own_source file encoding indexes) before parts)) }
 {
     rewritten_offsets_name_the_same();
     packaged_rows_are_read_alike();

@@ -14,7 +14,7 @@ use Rattle.std.proofs.lemmas.List.Sums.{sum_by-cons}
 use Rattle.std.proofs.lemmas.Map.Keys.{IsDistinct-IsPermutation}
 use Rattle.indexmap.proofs.MapLemmas.{lookup_permutation}
 use Rattle.dwp_table.specs.declared.object.DwarfObject.{DwarfObject}
-use Rattle.thorin_errors.specs.Fault.{Fault}
+use Rattle.thorin_errors.specs.Errors.{ErrorValue}
 use Rattle.thorin_again.specs.Again.{all_meant}
 use Rattle.thorin_join.specs.Builder.{State, start, with_input, taken}
 use Rattle.thorin_input.specs.Encodings.{own_encoding}
@@ -25,19 +25,19 @@ use Rattle.thorin_input.specs.Names.{same_name}
 use Rattle.thorin_join.specs.Represents.{AreApart}
 use Rattle.thorin_again.proofs.Lists.StringsWhole.{Finds}
 use Rattle.thorin_join.proofs.Units.NamesApart.{same_name-self, same_name-true, same_name-sym}
-use Rattle.thorin_join.proofs.Steps.{ok-eq, bind-inv}
 use Rattle.thorin_again.proofs.Taken.NamesFree.{different-sym}
+use Rattle.dwp_base.proofs.Steps.{bind-was, same-ok}
 
 -- ---- names
 
-flips : (a b : DwarfObject) → same_name a b ≡ same_name b a
+pub flips : (a b : DwarfObject) → same_name a b ≡ same_name b a
 flips a b = by (same_name a b) refl
   where
     by : (t : Bool) → same_name a b ≡ t → t ≡ same_name b a
     by true e = sym (same_name-sym a b e)
     by false e = sym (different-sym a b e)
 
-equivalence : IsEquivalence same_name
+pub equivalence : IsEquivalence same_name
 equivalence = record {
   refl = same_name-self;
   symm = flips;
@@ -80,7 +80,7 @@ not-before (m ∷ ms) n rest h =
     by false h k = k
 
 -- units of distinct names are joined as they are
-joining-apart : {X : Type 0} (names : List DwarfObject) (us : List (DwarfObject × X))
+pub joining-apart : {X : Type 0} (names : List DwarfObject) (us : List (DwarfObject × X))
     → IsDistinct same_name (names ++ keys us) → joining names us ≡ us
 joining-apart names [] h = refl
 joining-apart names (u ∷ us) h =
@@ -110,9 +110,9 @@ pub taken-input : (bytes : List ℕ) (after : State) → taken bytes start ≡ O
     → with_input bytes None ≡ Ok after.begun
 unfolding taken
 taken-input bytes after h =
-    let s = bind-inv (with_input bytes None) _ after h in
-    let t = bind-inv (own_encoding bytes) _ after s.2 in
-    s.1 ∙ ap Ok (ap (λ (x : State). x.begun) (ok-eq {E = Fault} _ after t.2))
+    let s = bind-was (with_input bytes None) _ after h in
+    let t = bind-was (own_encoding bytes) _ after s.2 in
+    s.1 ∙ ap Ok (ap (λ (x : State). x.begun) (same-ok {E = ErrorValue} _ after t.2))
 
 -- the units that were joined alone are those that the input means
 pub alone-units : (bytes : List ℕ) (other : Meaning) (us now : Members) → IsDistinct same_name

@@ -20,7 +20,7 @@ use Rattle.dwp_elf.specs.Contents.{KindsDiffer, content_of}
 use Rattle.dwp_elf.specs.FileText.{Object as File, file_text}
 use Rattle.dwp_elf.specs.Written.{written_elf}
 use Rattle.dwp_elf_read.specs.Elf.{elf_of}
-use Rattle.thorin_errors.specs.Fault.{Fault, MissingRequiredSection}
+use Rattle.thorin_errors.specs.Errors.{ErrorValue, MissingRequiredSection}
 use Rattle.thorin_index.specs.IndexText.{is_used}
 use Rattle.thorin_strings.specs.Strings.{IsTable, data_of}
 use Rattle.thorin_join.specs.Builder.{State, IsFinished, IsFinishedState, finish_test, order_of}
@@ -31,13 +31,12 @@ use Rattle.thorin_input.specs.Indexes.{Indexes, Source, is_package, indexes_of}
 use Rattle.thorin_input.specs.NewUnits.{new_units, unit_section}
 use Rattle.thorin_again.specs.Own.{has_content, has_sections, packs_again}
 use Rattle.thorin_again.specs.OwnAccepted.{IsAcceptedOnceWritten}
-use Rattle.thorin_again.specs.OwnInput.{written_used, written_object, IsOwn, TakesParts}
+use Rattle.thorin_again.specs.OwnInput.{written_used, written_object, IsOwn, TakesParts, own_source}
 use Rattle.thorin_again.specs.OwnRefusals.{UnlessStringOffset, UnlessForeseen}
 use Rattle.thorin_again.specs.OwnUnits.{AllOf, HoldsOwn}
-use Rattle.thorin_input.specs.Format.{is_in_format, is_copied}
+use Rattle.thorin_input.specs.Format.{is_in_format, is_copied, is_shared}
 use Rattle.thorin_input.specs.InputStrings.{rewritten}
 use Rattle.thorin_input.specs.Parts.{Parts, with_offsets, with_part, with_each_part, parts_of}
-use Rattle.thorin_input.specs.Format.{is_shared}
 use Rattle.thorin_again.specs.Plain.{IsPlain, HoldsPlain}
 use Rattle.thorin_join.specs.Represents.{IsSound, IsSoundBegun, units_of, units_begun}
 use Rattle.thorin_join.specs.State.{InProgress, adding, abbreviations_test, with_source, kind_at}
@@ -58,9 +57,9 @@ use Rattle.thorin_again.proofs.Taken.UnlessThere.{then-foreseen}
 use Rattle.thorin_join.proofs.Parts.Appended.{is-rewritten}
 use Rattle.thorin_join.proofs.Parts.OffsetLaws.{NamesTheSameLaw, PackagedLaw}
 use Rattle.thorin_again.proofs.Meant.RowPlaces.{FirstLaw, FindLaw}
-use Rattle.thorin_join.proofs.Steps.{bind-ok}
 use Rattle.thorin_join.proofs.Files.Finished.{tested-state, finished-own, finished-strings}
 use Rattle.thorin_join.proofs.Units.HeadersRead.{kind-place}
+use Rattle.dwp_base.proofs.Steps.{bind-ok}
 
 -- ---- the parts, unless the offset of a string doesn't fit
 
@@ -91,7 +90,7 @@ offsets-tried : (source : Source) (before : Parts) (bytes : List ℕ) → source
 unfolding with_offsets
 offsets-tried source before bytes has tried = by source.object.has_strings has
   where
-    by : (b : Bool) → b ≡ true → UnlessStringOffset (cond {A = Result Parts Fault} (not b)
+    by : (b : Bool) → b ≡ true → UnlessStringOffset (cond {A = Result Parts ErrorValue} (not b)
         (Err (MissingRequiredSection (name_of kinds.Str))) (rewritten source bytes before.1 >>=
         λ written. Ok (before.0 ++ (kinds.StrOffsets, written.0) ∷ [], written.1)))
     by true e = then-unless (rewritten source bytes before.1) (λ written.
@@ -165,7 +164,7 @@ parts-tried source (c ∷ cs) before differ fresh can =
         (one (same_kind c.0 kinds.StrOffsets) (is_copied c.0) refl refl e later))
 
 -- the refusal of a string's offset is foreseen
-foreseen : {X : Type 0} (r : Result X Fault) → UnlessStringOffset r → UnlessForeseen r
+foreseen : {X : Type 0} (r : Result X ErrorValue) → UnlessStringOffset r → UnlessForeseen r
 foreseen (Ok x) h = tt
 foreseen (Err e) h = inl h
 
@@ -207,7 +206,7 @@ module _ (names : NamesTheSameLaw) (law : PackagedLaw) (reads : UnitsAreTaken)
 
   pub abbreviations-tested : abbreviations_test (written_object file) ≡ Ok tt
   unfolding abbreviations_test
-  abbreviations-tested = ap (λ b. cond {A = Result (Unit {0}) Fault} b (Ok tt)
+  abbreviations-tested = ap (λ b. cond {A = Result (Unit {0}) ErrorValue} b (Ok tt)
       (Err (MissingRequiredSection (name_of kinds.Abbrev)))) (present-written kinds.Abbrev
       file abbreviations)
 
@@ -264,7 +263,7 @@ module _ (names : NamesTheSameLaw) (law : PackagedLaw) (reads : UnitsAreTaken)
 
   module _ (indexes : Indexes) (read : indexes_of (written_object file) encoding ≡ Ok indexes) where
     abbrev source : Source
-    source = record { object = written_object file; encoding = encoding; indexes = indexes }
+    source = own_source file encoding indexes
 
     can : CanTry source file.contents
     can = record {
@@ -315,7 +314,7 @@ module _ (names : NamesTheSameLaw) (law : PackagedLaw) (reads : UnitsAreTaken)
   own-read =
       bind-ok (opened (file_text file)) (written_elf file) _ (opened-elf (file_text file)
       (written_elf file) own.read_back)
-      ∙ ap (λ b. cond {A = Result (Option Encoding) Fault} b (file_encoding (written_elf file))
+      ∙ ap (λ b. cond {A = Result (Option Encoding) ErrorValue} b (file_encoding (written_elf file))
       (Ok None)) (info-written file own.info)
       ∙ bind-ok (input_file_of (written_elf file)) (written_object file) _
       (object-written file own.kinds)

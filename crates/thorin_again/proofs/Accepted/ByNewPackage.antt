@@ -18,7 +18,7 @@ use Rattle.thorin_input.specs.Names.{same_name}
 use Rattle.thorin_input.specs.NewUnits.{new_units}
 use Rattle.thorin_again.specs.Own.{has_sections}
 use Rattle.thorin_again.specs.OwnAccepted.{IsAcceptedByNewOnceWritten}
-use Rattle.thorin_again.specs.OwnInput.{written_object, IsOwn}
+use Rattle.thorin_again.specs.OwnInput.{written_object, IsOwn, own_source}
 use Rattle.thorin_again.specs.OwnUnits.{AllOf, HoldsOwn}
 use Rattle.thorin_input.specs.Parts.{parts_of}
 use Rattle.thorin_again.specs.Plain.{IsPlain, HoldsPlain}
@@ -41,9 +41,9 @@ use Rattle.thorin_again.proofs.Taken.ByNewPackage.{own-units-new}
 use Rattle.thorin_join.proofs.Parts.OffsetLaws.{NamesTheSameLaw, PackagedLaw}
 use Rattle.thorin_again.proofs.Meant.RowPlaces.{FirstLaw, FindLaw}
 use Rattle.thorin_again.proofs.Kept.OneEncoding.{InputsJoined}
-use Rattle.thorin_join.proofs.Steps.{bind-ok}
 use Rattle.thorin_join.proofs.Units.InRows.{keys-units}
 use Rattle.thorin_join.proofs.Files.Finished.{finished-order}
+use Rattle.dwp_base.proofs.Steps.{bind-ok}
 
 module _ (names : NamesTheSameLaw) (law : PackagedLaw) (reads : UnitsAreTaken)
     (first_law : FirstLaw) (find_law : FindLaw) (is_read : IndexIsRead)
@@ -53,7 +53,7 @@ module _ (names : NamesTheSameLaw) (law : PackagedLaw) (reads : UnitsAreTaken)
     (sections : has_sections (Some made) ≡ true) where
   module _ (indexes : Indexes) (read : indexes_of (written_object file) encoding ≡ Ok indexes) where
     abbrev source : Source
-    source = record { object = written_object file; encoding = encoding; indexes = indexes }
+    source = own_source file encoding indexes
 
     -- the package once it was taken
     source-alone : (before : InProgress) → is_package indexes ≡ true → before.rows ≡ []

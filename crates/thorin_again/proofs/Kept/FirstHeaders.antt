@@ -15,8 +15,8 @@ use Rattle.dwp_base.proofs.Bools.{or-right}
 use Rattle.dwp_bytes.specs.Input.{Input, section, number_at, split_at, offset_at}
 use Rattle.dwp_bytes.specs.declared.encoding.Encoding.{Encoding}
 use Rattle.dwp_bytes.specs.declared.encoding.Format.{Format}
-use Rattle.dwp_bytes.specs.declared.fault.ReadError.{ReadError}
-use Rattle.dwp_bytes.specs.declared.fault.ReadError.TheVariants.{UnknownVersion}
+use Rattle.dwp_bytes.specs.declared.error.ReadError.{ReadError}
+use Rattle.dwp_bytes.specs.declared.error.ReadError.TheVariants.{UnknownVersion}
 use Rattle.dwp_dwarf.specs.Units.{Unit as Header, initial_length_at, address_size_at, older_type_at}
 use Rattle.dwp_dwarf.specs.Units.{older_at, newer_at, header_at, unit_at, listed, units_within}
 use Rattle.dwp_dwarf.specs.Units.{units}
@@ -24,7 +24,8 @@ use Rattle.dwp_dwarf.specs.declared.unit.UnitSection.TheVariants as places
 use Rattle.dwp_dwarf.specs.declared.unit.UnitType.{UnitType}
 use Rattle.dwp_dwarf.specs.declared.unit.UnitType.TheVariants as unit_types
 use Rattle.dwp_table.specs.declared.object.DwarfObject.{DwarfObject}
-use Rattle.thorin_errors.specs.Fault.{Fault, ParseUnitHeader, NotSplitUnit, NoCompilationUnits}
+use Rattle.thorin_errors.specs.Errors.{ErrorValue, ParseUnitHeader, NotSplitUnit}
+use Rattle.thorin_errors.specs.Errors.{NoCompilationUnits}
 use Rattle.thorin_identity.specs.Identity.{identity}
 use Rattle.thorin_input.specs.Encodings.{first_encoding}
 use Rattle.thorin_input.specs.Indexes.{Source}
@@ -38,8 +39,9 @@ use Rattle.thorin_input.specs.Used.{Used, has_kind, bytes_of, first}
 use Rattle.thorin_join.proofs.Units.NamesApart.{same_name-self}
 use Rattle.thorin_join.proofs.Units.HeadersRead.{no_header, Reads}
 use Rattle.thorin_join.proofs.Units.Sorts.{identity-sort}
-use Rattle.thorin_join.proofs.Steps.{err-ok, ok-eq, bind-inv, by-choice}
+use Rattle.thorin_join.proofs.Steps.{err-ok}
 use Rattle.thorin_join.proofs.Moved.Units.{newer-five}
+use Rattle.dwp_base.proofs.Steps.{bind-was, same-ok, by-choice}
 
 -- ---- a unit in info is of version 5, or no type unit
 
@@ -50,23 +52,24 @@ older-sort : (format : Format) (i : Input) (t : UnitType × Input) → older_typ
     i ≡ Ok t → type_signature t.0 ≡ None
 unfolding older_type_at
 older-sort format i t h = ap (λ (x : UnitType × Input). type_signature x.0)
-    (sym (ok-eq {E = ReadError} (unit_types.Compilation, i) t h))
+    (sym (same-ok {E = ReadError} (unit_types.Compilation, i) t h))
 
 older-none : (format : Format) (version : ℕ) (whole i : Input) (u : Header) → older_at places.Info
     format version whole i ≡ Ok u → FiveOrNone u
 unfolding older_at
 older-none format version whole i u h =
-    let a = bind-inv (offset_at format i) _ u h in
-    let b = bind-inv (address_size_at a.0.1) _ u a.2 in
-    let c = bind-inv (older_type_at places.Info format b.0.1) _ u b.2 in
+    let a = bind-was (offset_at format i) _ u h in
+    let b = bind-was (address_size_at a.0.1) _ u a.2 in
+    let c = bind-was (older_type_at places.Info format b.0.1) _ u b.2 in
     let t = older-sort format b.0.1 c.0 c.1 in
-    inr (sym (ap (λ (x : Header). type_signature x.unit_type) (ok-eq {E = ReadError} _ u c.2)) ∙ t)
+    inr (sym (ap (λ (x : Header). type_signature x.unit_type) (same-ok {E = ReadError} _ u c.2)) ∙
+    t)
 
 header-none : (format : Format) (whole i : Input) (u : Header) → header_at places.Info format whole
     i ≡ Ok u → FiveOrNone u
 unfolding header_at
 header-none format whole i u h =
-    let a = bind-inv (number_at 2 i) _ u h in
+    let a = bind-was (number_at 2 i) _ u h in
     let older : Result Header ReadError = older_at places.Info format a.0.0 whole a.0.1 in
     let others : Result Header ReadError = cond (leb 2 a.0.0 && leb a.0.0 4) older
     (Err UnknownVersion) in
@@ -78,11 +81,11 @@ header-none format whole i u h =
 unit-none : (i : Input) (x : Header × Input) → unit_at places.Info i ≡ Ok x → FiveOrNone x.0
 unfolding unit_at
 unit-none i x h =
-    let a = bind-inv (initial_length_at i) _ x h in
-    let b = bind-inv (split_at a.0.0.1 a.0.1) _ x a.2 in
-    let c = bind-inv (split_at (b.0.1.place - i.place) i) _ x b.2 in
-    let d = bind-inv (header_at places.Info a.0.0.0 c.0.0 b.0.0) _ x c.2 in
-    subst FiveOrNone (ap (λ (y : Header × Input). y.0) (ok-eq {E = ReadError} _ x d.2))
+    let a = bind-was (initial_length_at i) _ x h in
+    let b = bind-was (split_at a.0.0.1 a.0.1) _ x a.2 in
+    let c = bind-was (split_at (b.0.1.place - i.place) i) _ x b.2 in
+    let d = bind-was (header_at places.Info a.0.0.0 c.0.0 b.0.0) _ x c.2 in
+    subst FiveOrNone (ap (λ (y : Header × Input). y.0) (same-ok {E = ReadError} _ x d.2))
     (header-none a.0.0.0 c.0.0 b.0.0 d.0 d.1)
 
 -- what is read first, where its encoding is that
@@ -107,7 +110,7 @@ first-of (suc n) i encoding h = by (eqb (length i.bytes) 0) (unit_at places.Info
       unit = x.0;
       others = units_within n places.Info x.1;
       are = refl;
-      is = ok-eq {E = Fault} _ encoding e;
+      is = same-ok {E = ErrorValue} _ encoding e;
       sort = unit-none i x k;
     }
     by false (Err f) k e = absurd (err-ok (ParseUnitHeader f) encoding e)
@@ -125,9 +128,9 @@ no-units order encoding h = err-ok NoCompilationUnits encoding h
 
 -- ---- its name
 
-ok-some : {A : Type 0} (r : Option A) (x : A) → ok_or r NotSplitUnit ≡ Ok x → r ≡ Some x
+pub ok-some : {A : Type 0} (r : Option A) (x : A) → ok_or r NotSplitUnit ≡ Ok x → r ≡ Some x
 ok-some None x h = absurd (err-ok NotSplitUnit x h)
-ok-some (Some y) x h = ap (λ v. Some v) (ok-eq {E = Fault} y x h)
+ok-some (Some y) x h = ap (λ v. Some v) (same-ok {E = ErrorValue} y x h)
 
 any-behind : (test : DwarfObject → Bool) (us vs : Reads) → list_any test (keys vs) ≡ true
     → list_any test (keys (us ++ vs)) ≡ true
@@ -151,17 +154,17 @@ module _ (source : Source) (encoding : Encoding) where
       (us : Reads) → named_each source kind (Ok u ∷ others) ≡ Ok us → HeadNamed u us
   unfolding named_each named_unit name_for
   head-named kind u others us h =
-      let a = bind-inv (named_unit source kind (Ok u)) _ us h in
-      let b = bind-inv (named_each source kind others) _ us a.2 in
-      let d = bind-inv (name_for source kind u) _ a.0 a.1 in
-      let e = bind-inv (abbreviations_for source kind u) _ d.0 d.1 in
-      let f = bind-inv (identity (section source.object.order e.0) u) _ d.0 e.2 in
+      let a = bind-was (named_unit source kind (Ok u)) _ us h in
+      let b = bind-was (named_each source kind others) _ us a.2 in
+      let d = bind-was (name_for source kind u) _ a.0 a.1 in
+      let e = bind-was (abbreviations_for source kind u) _ d.0 d.1 in
+      let f = bind-was (identity (section source.object.order e.0) u) _ d.0 e.2 in
       let name : d.0 ≡ a.0.0 = ap (λ (x : DwarfObject × UnitRead). x.0)
-      (ok-eq {E = Fault} _ a.0 d.2) in
+      (same-ok {E = ErrorValue} _ a.0 d.2) in
       record {
         read = a.0;
         rest = b.0;
-        are = sym (ok-eq {E = Fault} _ us b.2);
+        are = sym (same-ok {E = ErrorValue} _ us b.2);
         sort = identity-sort (section source.object.order e.0) u d.0
             (f.1 ∙ ap (λ x. Ok x) (ok-some f.0 d.0 f.2)) ∙ ap name_signature name;
       }
@@ -172,9 +175,9 @@ module _ (source : Source) (encoding : Encoding) where
   unfolding named_sections
   first-named [] all h e = absurd (no-units source.object.order encoding e)
   first-named (from ∷ rest) all h e =
-      let a = bind-inv (named_at source from (unit_section from.kind)) _ all h in
-      let b = bind-inv (named_sections source rest) _ all a.2 in
-      subst FirstNamed (ok-eq {E = Fault} (a.0 ++ b.0) all b.2)
+      let a = bind-was (named_at source from (unit_section from.kind)) _ all h in
+      let b = bind-was (named_sections source rest) _ all a.2 in
+      subst FirstNamed (same-ok {E = ErrorValue} (a.0 ++ b.0) all b.2)
       (by a.0 b.0 a.1 (same_kind from.kind kinds.Info) refl e (λ k. first-named rest b.0 b.1 k))
     where
       by : (here others : Reads) → named_at source from (unit_section from.kind) ≡ Ok here

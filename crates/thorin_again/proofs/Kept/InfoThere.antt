@@ -14,15 +14,16 @@ use Rattle.dwp_base.specs.declared.section.SectionKind.TheVariants as kinds
 use Rattle.dwp_base.specs.Sections.{name_of, same_kind}
 use Rattle.dwp_base.proofs.Bools.{or-right}
 use Rattle.dwp_bytes.specs.declared.encoding.Encoding.{Encoding}
-use Rattle.dwp_bytes.specs.declared.fault.ReadError.{ReadError}
+use Rattle.dwp_bytes.specs.declared.error.ReadError.{ReadError}
 use Rattle.dwp_dwarf.specs.Units.{Unit as Header, UnitsAreTaken}
 use Rattle.dwp_dwarf.specs.declared.unit.UnitSection.{UnitSection}
 use Rattle.dwp_dwarf.specs.declared.unit.UnitSection.TheVariants as places
 use Rattle.dwp_elf.specs.Contents.{content_of}
 use Rattle.dwp_table.specs.declared.object.DwarfObject.{DwarfObject}
 use Rattle.dwp_table.specs.declared.object.DwarfObject.TheVariants.{Compilation, TypeUnit}
-use Rattle.thorin_errors.specs.Answers.{as_fault}
-use Rattle.thorin_errors.specs.Fault.{Fault, ParseUnitHeader, RepeatedSection, SectionOutsideFormat}
+use Rattle.thorin_errors.specs.Answers.{as_error}
+use Rattle.thorin_errors.specs.Errors.{ErrorValue, ParseUnitHeader, RepeatedSection}
+use Rattle.thorin_errors.specs.Errors.{SectionOutsideFormat}
 use Rattle.thorin_index.specs.declared.entry.IndexEntry.{IndexEntry}
 use Rattle.thorin_input.specs.Encodings.{encoding_of}
 use Rattle.thorin_input.specs.Growing.{joined_parts}
@@ -47,10 +48,11 @@ use Rattle.thorin_join.proofs.Rows.LieInTurn.{AllCanLie, all-can-lie}
 use Rattle.thorin_join.proofs.Parts.Appended.{content-with_bytes, content-with_parts, differ}
 use Rattle.thorin_again.proofs.Kept.SharedParts.{plain-added}
 use Rattle.thorin_join.proofs.Joined.Source.{with_all_parts, keys-held}
-use Rattle.thorin_join.proofs.Steps.{err-ok, ok-eq, bind-inv}
+use Rattle.thorin_join.proofs.Steps.{err-ok}
 use Rattle.thorin_join.proofs.Rows.AllAdded.{names-added}
 use Rattle.thorin_join.proofs.Units.Whole.{go-joining, units-go}
-use Rattle.thorin_join.proofs.EachKind.{same-each}
+use Rattle.dwp_base.proofs.Steps.{bind-was, same-ok}
+use Rattle.dwp_base.proofs.EveryKind.{same-each}
 
 -- ---- where units of that name go
 
@@ -60,8 +62,8 @@ InFormat encoding [] = Unit {0}
 InFormat encoding (s ∷ ss) = (is_in_format encoding s.kind ≡ true) × InFormat encoding ss
 
 format-by : (source : Source) (before next : Parts) (s : Used) (twice format : Bool)
-    (r : Result Parts Fault)
-    → cond {A = Result Parts Fault} twice (Err (RepeatedSection (name_of s.kind)))
+    (r : Result Parts ErrorValue)
+    → cond {A = Result Parts ErrorValue} twice (Err (RepeatedSection (name_of s.kind)))
     (cond (not format) (Err (SectionOutsideFormat (name_of s.kind))) r) ≡ Ok
     next → format ≡ true
 format-by source before next s true format r h =
@@ -82,7 +84,7 @@ each-format : (source : Source) (sections : List Used) (before after : Parts)
 unfolding with_each_part
 each-format source [] before after h = tt
 each-format source (s ∷ ss) before after h =
-    let next = bind-inv (with_part source before s) _ after h in
+    let next = bind-was (with_part source before s) _ after h in
     (part-format source before next.0 s next.1, each-format source ss next.0 after next.2)
 
 -- what holds of each unit that was read
@@ -120,15 +122,15 @@ module _ (source : Source) where
       → EachRead (FromFormat source.encoding) us
   unfolding named_each named_unit
   each-from kind [] us format h = subst (EachRead (FromFormat source.encoding))
-      (ok-eq {E = Fault} [] us h) tt
+      (same-ok {E = ErrorValue} [] us h) tt
   each-from kind (read ∷ rest) us format h =
-      let a = bind-inv (named_unit source kind read) _ us h in
-      let b = bind-inv (named_each source kind rest) _ us a.2 in
-      let c = bind-inv (as_fault ParseUnitHeader read) _ a.0 a.1 in
-      let d = bind-inv (name_for source kind c.0) _ a.0 c.2 in
+      let a = bind-was (named_unit source kind read) _ us h in
+      let b = bind-was (named_each source kind rest) _ us a.2 in
+      let c = bind-was (as_error ParseUnitHeader read) _ a.0 a.1 in
+      let d = bind-was (name_for source kind c.0) _ a.0 c.2 in
       let from : kind ≡ a.0.1.from = ap (λ (x : DwarfObject × UnitRead). x.1.from)
-      (ok-eq {E = Fault} _ a.0 d.2) in
-      subst (EachRead (FromFormat source.encoding)) (ok-eq {E = Fault} _ us b.2) (
+      (same-ok {E = ErrorValue} _ a.0 d.2) in
+      subst (EachRead (FromFormat source.encoding)) (same-ok {E = ErrorValue} _ us b.2) (
         subst (λ k. is_in_format source.encoding k ≡ true) from format,
         each-from kind
             rest b.0 format b.1,
@@ -138,18 +140,18 @@ module _ (source : Source) where
       from.kind ≡ true → named_at source from place ≡ Ok us
       → EachRead (FromFormat source.encoding) us
   at-from from None us format h = subst (EachRead (FromFormat source.encoding))
-      (ok-eq {E = Fault} [] us h) tt
+      (same-ok {E = ErrorValue} [] us h) tt
   at-from from (Some place) us format h = each-from from.kind _ us format h
 
   sections-from : (sections : List Used) (us : Reads) → InFormat source.encoding sections
       → named_sections source sections ≡ Ok us → EachRead (FromFormat source.encoding) us
   unfolding named_sections
   sections-from [] us format h = subst (EachRead (FromFormat source.encoding))
-      (ok-eq {E = Fault} [] us h) tt
+      (same-ok {E = ErrorValue} [] us h) tt
   sections-from (from ∷ rest) us format h =
-      let a = bind-inv (named_at source from (unit_section from.kind)) _ us h in
-      let b = bind-inv (named_sections source rest) _ us a.2 in
-      subst (EachRead (FromFormat source.encoding)) (ok-eq {E = Fault} (a.0 ++ b.0) us b.2)
+      let a = bind-was (named_at source from (unit_section from.kind)) _ us h in
+      let b = bind-was (named_sections source rest) _ us a.2 in
+      subst (EachRead (FromFormat source.encoding)) (same-ok {E = ErrorValue} (a.0 ++ b.0) us b.2)
       (read-append (FromFormat source.encoding) a.0 b.0 (at-from from (unit_section from.kind) a.0
       format.0 a.1) (sections-from rest b.0 format.1 b.1))
 

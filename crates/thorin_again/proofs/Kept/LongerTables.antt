@@ -10,10 +10,10 @@ use Rattle.dwp_base.specs.declared.endian.Endianness.{Endianness}
 use Rattle.dwp_base.specs.Reading.{◌>>=◌}
 use Rattle.dwp_bytes.specs.Input.{Input, after, byte_at, skip_at}
 use Rattle.dwp_bytes.specs.Leb.{leb_at, uleb_at, signed_leb_at, sleb_at, is_i64}
-use Rattle.dwp_bytes.specs.declared.fault.ReadError.{ReadError}
-use Rattle.dwp_bytes.specs.declared.fault.ReadError.TheVariants.{UnexpectedEof, BigLeb, ZeroTag}
-use Rattle.dwp_bytes.specs.declared.fault.ReadError.TheVariants.{BadChildren, OffsetOutOfRange}
-use Rattle.dwp_bytes.specs.declared.fault.ReadError.TheVariants.{UnknownCode}
+use Rattle.dwp_bytes.specs.declared.error.ReadError.{ReadError}
+use Rattle.dwp_bytes.specs.declared.error.ReadError.TheVariants.{UnexpectedEof, BigLeb, ZeroTag}
+use Rattle.dwp_bytes.specs.declared.error.ReadError.TheVariants.{BadChildren, OffsetOutOfRange}
+use Rattle.dwp_bytes.specs.declared.error.ReadError.TheVariants.{UnknownCode}
 use Rattle.dwp_dwarf.specs.Abbreviations.{Specification, Declaration, constant_at, specification_at}
 use Rattle.dwp_dwarf.specs.Abbreviations.{is_last, specifications_within, specifications_at, tag_at}
 use Rattle.dwp_dwarf.specs.Abbreviations.{children_at, declaration_at, code_at, declaration_within}
@@ -24,10 +24,12 @@ use Rattle.dwp_dwarf.specs.Units.{Unit as Header}
 use Rattle.dwp_dwarf.specs.declared.unit.UnitType.{UnitType}
 use Rattle.dwp_dwarf.specs.declared.unit.UnitType.TheVariants as unit_types
 use Rattle.dwp_table.specs.declared.object.DwarfObject.{DwarfObject}
-use Rattle.thorin_errors.specs.Fault.{Fault, NoDie, ParseUnitAbbreviations, GimliRead}
-use Rattle.thorin_errors.specs.Answers.{as_fault}
+use Rattle.thorin_errors.specs.Errors.{NoDie, ParseUnitAbbreviations, GimliRead}
+use Rattle.thorin_errors.specs.Answers.{as_error}
 use Rattle.thorin_identity.specs.Identity.{root_identity, identity_by, identity}
-use Rattle.thorin_join.proofs.Steps.{err-ok, ok-eq, bind-ok, bind-inv}
+use Rattle.thorin_join.proofs.Steps.{err-ok}
+use Rattle.thorin_strings.proofs.NamedEntries.{as_error_ok}
+use Rattle.dwp_base.proofs.Steps.{bind-was, bind-ok, same-ok}
 
 -- the input with more bytes behind
 abbrev pub more : Input → List ℕ → Input
@@ -44,7 +46,7 @@ Stays A read = (i : Input) (rest : List ℕ) (x : A × Input) → read i ≡ Ok 
 -- an answer with more bytes behind
 longer : {A : Type 0} (rest : List ℕ) (x y : A × Input) → ◌≡◌ {A = Answer A} (Ok x) (Ok y)
     → ◌≡◌ {A = Answer A} (Ok (x.0, more x.1 rest)) (Ok (y.0, more y.1 rest))
-longer rest x y h = ap (λ z. Ok (z.0, more z.1 rest)) (ok-eq x y h)
+longer rest x y h = ap (λ z. Ok (z.0, more z.1 rest)) (same-ok x y h)
 
 not-short : (n : ℕ) → ltb (suc n) 1 ≡ false
 not-short n = le-ltb (suc n) 1 (omega arith)
@@ -82,15 +84,15 @@ stays-byte i rest x h = byte-of i.order i.relocated i.place i.bytes rest x h
 then-stays : {A B : Type 0} (read : Input → Answer A) → Stays A read → (next : A → Input → Answer B)
     → ((a : A) → Stays B (next a)) → Stays B (λ i. read i >>= λ a. next a.0 a.1)
 then-stays read first next second i rest x h =
-    let s = bind-inv (read i) _ x h in
+    let s = bind-was (read i) _ x h in
     bind-ok (read (more i rest)) (s.0.0, more s.0.1 rest) (λ a. next a.0 a.1) (first i rest s.0 s.1)
     ∙ second s.0.0 s.0.1 rest x s.2
 
 same-stays : {A : Type 0} (a : A) → Stays A (λ i. Ok (a, i))
 same-stays a i rest x h = longer rest (a, i) x h
 
-fault-stays : {A : Type 0} (e : ReadError) → Stays A (λ i. Err e)
-fault-stays e i rest x h = absurd (err-ok e x h)
+error-stays : {A : Type 0} (e : ReadError) → Stays A (λ i. Err e)
+error-stays e i rest x h = absurd (err-ok e x h)
 
 if-stays : {A : Type 0} (b : Bool) (one other : Input → Answer A) → Stays A one → Stays A other
     → Stays A (λ i. cond b (one i) (other i))
@@ -99,7 +101,7 @@ if-stays false one other f g = g
 
 stays-leb : (n : ℕ) → Stays ℕ (leb_at n)
 unfolding leb_at
-stays-leb zero = fault-stays BigLeb
+stays-leb zero = error-stays BigLeb
 stays-leb (suc n) =
     then-stays byte_at stays-byte (λ b i. cond (ltb b 128) (Ok (b, i)) (leb_at n i >>= λ r.
     Ok (b - 128 + 128 * r.0, r.1)))
@@ -113,11 +115,11 @@ unfolding uleb_at
 stays-uleb = then-stays (leb_at 10) (stays-leb 10) (λ n i. cond (ltb n (2 ^ 64))
     (Ok (n, i)) (Err BigLeb))
     (λ n. if-stays (ltb n (2 ^ 64)) (λ i. Ok (n, i)) (λ i. Err BigLeb) (same-stays n)
-    (fault-stays BigLeb))
+    (error-stays BigLeb))
 
 stays-signed : (n : ℕ) → Stays ℤ (signed_leb_at n)
 unfolding signed_leb_at
-stays-signed zero = fault-stays BigLeb
+stays-signed zero = error-stays BigLeb
 stays-signed (suc n) =
     then-stays byte_at stays-byte (λ b i. cond (ltb b 64) (Ok (pos b, i))
     (cond (ltb b 128) (Ok (pos b -ℤ pos 128, i)) (signed_leb_at n i >>= λ r.
@@ -134,7 +136,7 @@ unfolding sleb_at
 stays-sleb = then-stays (signed_leb_at 10) (stays-signed 10) (λ n i.
     cond (is_i64 n) (Ok (n, i)) (Err BigLeb))
     (λ n. if-stays (is_i64 n) (λ i. Ok (n, i)) (λ i. Err BigLeb) (same-stays n)
-    (fault-stays BigLeb))
+    (error-stays BigLeb))
 
 stays-constant : (form : ℕ) → Stays (Unit {0}) (constant_at form)
 unfolding constant_at
@@ -166,7 +168,7 @@ within-rest : (n m : ℕ) → Within n m → (first : Specification) (j : Input)
     (more j rest) >>= λ others. Ok (first ∷ others.0, others.1)) ≡ Ok (x.0, more x.1 rest)
 within-rest n m within first j rest x true h = longer rest ([], j) x h
 within-rest n m within first j rest x false h =
-    let s = bind-inv (specifications_within n j) _ x h in
+    let s = bind-was (specifications_within n j) _ x h in
     bind-ok (specifications_within m (more j rest)) (s.0.0, more s.0.1 rest) (λ others.
     Ok (first ∷ others.0, others.1)) (within j rest s.0 s.1) ∙ longer rest
     (first ∷ s.0.0, s.0.1) x s.2
@@ -176,7 +178,7 @@ unfolding specifications_within
 stays-within zero m le i rest x h = absurd (err-ok UnexpectedEof x h)
 stays-within (suc n) zero le i rest x h = absurd (omega (arith, le))
 stays-within (suc n) (suc m) le i rest x h =
-    let s = bind-inv (specification_at i) _ x h in
+    let s = bind-was (specification_at i) _ x h in
     bind-ok (specification_at (more i rest)) (s.0.0, more s.0.1 rest) (λ first.
     cond (is_last first.0) (Ok ([], first.1)) (specifications_within m first.1 >>= λ others.
     Ok (first.0 ∷ others.0, others.1)))
@@ -191,7 +193,7 @@ stays-specifications i rest x h = stays-within (length i.bytes) (length (i.bytes
 stays-tag : Stays ℕ tag_at
 unfolding tag_at
 stays-tag = then-stays uleb_at stays-uleb (λ tag i. cond (eqb tag 0) (Err ZeroTag) (Ok (tag, i)))
-    (λ tag. if-stays (eqb tag 0) (λ i. Err ZeroTag) (λ i. Ok (tag, i)) (fault-stays ZeroTag)
+    (λ tag. if-stays (eqb tag 0) (λ i. Err ZeroTag) (λ i. Ok (tag, i)) (error-stays ZeroTag)
     (same-stays tag))
 
 stays-children : Stays Bool children_at
@@ -201,7 +203,7 @@ stays-children = then-stays byte_at stays-byte (λ byte i. cond (eqb byte 0) (Ok
     (λ byte. if-stays (eqb byte 0) (λ i. Ok (false, i)) (λ i. cond (eqb byte 1) (Ok (true, i))
     (Err BadChildren)) (same-stays false)
     (if-stays (eqb byte 1) (λ i. Ok (true, i)) (λ i. Err BadChildren) (same-stays true)
-    (fault-stays BadChildren)))
+    (error-stays BadChildren)))
 
 stays-declaration : Stays Declaration declaration_at
 unfolding declaration_at
@@ -229,7 +231,7 @@ code-by : (i : Input) (rest : List ℕ) (x : ℕ × Input) (b : Bool) → eqb (l
     (eqb (length (i.bytes ++ rest)) 0) (Ok (0, more i rest)) (uleb_at (more i rest)) ≡ Ok
     (x.0, more x.1 rest)
 code-by i rest x true e other h =
-    absurd (true≢false (ap (λ y. eqb y.0 0) (ok-eq (0, i) x h) ∙ other))
+    absurd (true≢false (ap (λ y. eqb y.0 0) (same-ok (0, i) x h) ∙ other))
 code-by i rest x false e other h =
     let some : length i.bytes ≡ 0 → ⊥ = eqb-false (length i.bytes) 0 e in
     let more_some : eqb (length (i.bytes ++ rest)) 0 ≡ false = ne_eqb (length (i.bytes ++ rest)) 0
@@ -269,7 +271,7 @@ found-behind : (wanted n m : ℕ) → FoundWithin wanted n m → (code : ℕ × 
     (Some d)
 found-behind wanted n m within code d rest true h = h
 found-behind wanted n m within code d rest false h =
-    let s = bind-inv (declaration_at code.1) _ (Some d) h in
+    let s = bind-was (declaration_at code.1) _ (Some d) h in
     bind-ok (declaration_at (more code.1 rest)) (s.0.0, more s.0.1 rest) (λ first.
     cond (eqb code.0 wanted) (Ok (Some first.0)) (declaration_within m wanted first.1))
     (stays-declaration code.1 rest s.0 s.1)
@@ -286,7 +288,7 @@ unfolding declaration_within
 stays-found wanted zero m le i rest d h = no-declaration _ d h
 stays-found wanted (suc n) zero le i rest d h = absurd (omega (arith, le))
 stays-found wanted (suc n) (suc m) le i rest d h =
-    let s = bind-inv (code_at i) _ (Some d) h in
+    let s = bind-was (code_at i) _ (Some d) h in
     bind-ok (code_at (more i rest)) (s.0.0, more s.0.1 rest) (λ code. cond (eqb code.0 0) (Ok None)
     (declaration_at code.1 >>= λ first. cond (eqb code.0 wanted) (Ok (Some first.0))
     (declaration_within m wanted first.1)))
@@ -330,46 +332,42 @@ from-by : (offset : ℕ) (s : Input) (rest : List ℕ) (t : Input) (b : Bool)
 from-by offset s rest t true e h = absurd (err-ok OffsetOutOfRange t h)
 from-by offset s rest t false e h =
     let few : offset ≤ length s.bytes = ltb-false (length s.bytes) offset e in
-    let r = bind-inv (skip_at offset s) _ t h in
+    let r = bind-was (skip_at offset s) _ t h in
     ap (λ v. cond {A = Result Input ReadError} v (Err OffsetOutOfRange)
     (skip_at offset (more s rest) >>= λ q. Ok q.1)) (le-ltb (length (s.bytes ++ rest)) offset
     (omega (arith, few, length-append s.bytes rest)))
     ∙ bind-ok (skip_at offset (more s rest)) (r.0.0, more r.0.1 rest) (λ q. Ok q.1)
     (stays-skip offset s rest r.0 r.1)
-    ∙ ap (λ q. Ok (more q rest)) (ok-eq r.0.1 t r.2)
+    ∙ ap (λ q. Ok (more q rest)) (same-ok r.0.1 t r.2)
 
 stays-from : (offset : ℕ) (s : Input) (rest : List ℕ) (t : Input) → from_at offset s ≡ Ok t
     → from_at offset (more s rest) ≡ Ok (more t rest)
 unfolding from_at
 stays-from offset s rest t h = from-by offset s rest t (ltb (length s.bytes) offset) refl h
 
-as-ok : {A E : Type 0} (f : E → Fault) (r : Result A E) (x : A) → as_fault f r ≡ Ok x → r ≡ Ok x
-as-ok f (Ok y) x h = ap Ok (ok-eq y x h)
-as-ok f (Err e) x h = absurd (err-ok (f e) x h)
-
 some-of : (r : Option Declaration) (d : Declaration) → ok_or r (GimliRead UnknownCode) ≡
     Ok d → r ≡ Some d
 some-of None d h = absurd (err-ok (GimliRead UnknownCode) d h)
-some-of (Some e) d h = ap Some (ok-eq e d h)
+some-of (Some e) d h = ap Some (same-ok e d h)
 
 root-stays : (section : Input) (rest : List ℕ) (unit : Header) (name : Option DwarfObject)
     → root_identity section unit ≡ Ok name → root_identity (more section rest) unit ≡ Ok name
 unfolding root_identity
 root-stays section rest unit name h =
-    let a = bind-inv (as_fault ParseUnitAbbreviations (from_at unit.abbrev_offset section)) _ name
+    let a = bind-was (as_error ParseUnitAbbreviations (from_at unit.abbrev_offset section)) _ name
     h in
-    let b = bind-inv (as_fault GimliRead (root_code_at unit.entries)) _ name a.2 in
-    let c = bind-inv (ok_or b.0 NoDie) _ name b.2 in
-    let d = bind-inv (as_fault ParseUnitAbbreviations (declaration c.0.0 a.0)) _ name c.2 in
-    let e = bind-inv (ok_or d.0 (GimliRead UnknownCode)) _ name d.2 in
-    let table = stays-from unit.abbrev_offset section rest a.0 (as-ok ParseUnitAbbreviations
+    let b = bind-was (as_error GimliRead (root_code_at unit.entries)) _ name a.2 in
+    let c = bind-was (ok_or b.0 NoDie) _ name b.2 in
+    let d = bind-was (as_error ParseUnitAbbreviations (declaration c.0.0 a.0)) _ name c.2 in
+    let e = bind-was (ok_or d.0 (GimliRead UnknownCode)) _ name d.2 in
+    let table = stays-from unit.abbrev_offset section rest a.0 (as_error_ok ParseUnitAbbreviations
     (from_at unit.abbrev_offset section) a.0 a.1) in
-    let found : declaration c.0.0 a.0 ≡ Ok (Some e.0) = as-ok ParseUnitAbbreviations
+    let found : declaration c.0.0 a.0 ≡ Ok (Some e.0) = as_error_ok ParseUnitAbbreviations
     (declaration c.0.0 a.0) d.0 d.1 ∙ ap Ok (some-of d.0 e.0 e.1) in
-    bind-ok _ (more a.0 rest) _ (ap (as_fault ParseUnitAbbreviations) table)
+    bind-ok _ (more a.0 rest) _ (ap (as_error ParseUnitAbbreviations) table)
     ∙ bind-ok _ b.0 _ b.1
     ∙ bind-ok _ c.0 _ c.1
-    ∙ bind-ok _ (Some e.0) _ (ap (as_fault ParseUnitAbbreviations) (declaration-stays c.0.0 a.0
+    ∙ bind-ok _ (Some e.0) _ (ap (as_error ParseUnitAbbreviations) (declaration-stays c.0.0 a.0
     rest e.0 found))
     ∙ e.2
 

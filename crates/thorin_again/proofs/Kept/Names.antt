@@ -1,8 +1,8 @@
 -- Each unit of a package names itself by the abbreviations of its row, where plain objects of one
 -- encoding are added.
 use Rattle.std.proofs.Common.{◌≡◌, ◌∙◌, ℕ, ◌+◌, ◌<◌, ◌≤◌, Bool, true, false, cond, List, [], ◌∷◌}
-use Rattle.std.proofs.Common.{◌++◌, length, refl, sym, ap, subst, Ok, Option, Some, None, arith}
-use Rattle.std.proofs.Common.{length-append, ⊎_elim}
+use Rattle.std.proofs.Common.{◌++◌, length, refl, sym, ap, subst, Ok, Some, arith, length-append}
+use Rattle.std.proofs.Common.{⊎_elim}
 use Rattle.std.specs.Prelude.{find}
 use Rattle.std.specs.List.{list_any, list_all}
 use Rattle.std.proofs.lemmas.Option.{none-some, same_Some}
@@ -218,11 +218,6 @@ put-inside kind parts c range h =
         r.offset.0) same in
         let size : length (b ∷ bs) ≡ range.size = ap (λ (r : Contribution). r.size) same in
         (omega (arith, long, at, size), omega (arith, size, some))
-
-none-inside : (kind : SectionKind) (c : Contents) (part : Option Contribution)
-    (range : Contribution) → part ≡ None → part ≡ Some range
-    → (range.offset.0 + range.size ≤ length (content_of kind c)) × (0 < range.size)
-none-inside kind c part range n e = absurd (none-some range (sym n ∙ e))
 
 module _ (source : Source) (made : InProgress) (parts : Contents) (plain : is_package source.indexes
     ≡ false) (n : DwarfObject × NewUnit) (r : DwarfObject × UnitRead)

@@ -2,21 +2,20 @@
 use Rattle.std.proofs.Common.{◌≡◌, ◌∙◌, ℕ, suc, Bool, true, false, cond, ◌&&◌, List, [], ◌∷◌, ◌++◌}
 use Rattle.std.proofs.Common.{refl, sym, ap, subst, Result, Ok, Option, Some, None, true≢false}
 use Rattle.std.specs.List.{list_any, list_all}
-use Rattle.std.specs.Option.{ok_or}
 use Rattle.dwp_base.specs.declared.endian.Endianness.{Endianness}
 use Rattle.dwp_base.specs.declared.section.SectionKind.{SectionKind}
 use Rattle.dwp_base.specs.declared.section.SectionKind.TheVariants as kinds
 use Rattle.dwp_base.proofs.Bools.{both}
 use Rattle.dwp_bytes.specs.Input.{Input, section}
 use Rattle.dwp_bytes.specs.declared.encoding.Encoding.{Encoding}
-use Rattle.dwp_bytes.specs.declared.fault.ReadError.{ReadError}
+use Rattle.dwp_bytes.specs.declared.error.ReadError.{ReadError}
 use Rattle.dwp_dwarf.specs.Units.{Unit as Header, UnitsAreTaken, unit_at, units}
 use Rattle.dwp_dwarf.specs.declared.unit.UnitSection.{UnitSection}
 use Rattle.dwp_dwarf.specs.declared.unit.UnitSection.TheVariants as places
 use Rattle.dwp_table.specs.declared.object.DwarfObject.{DwarfObject}
 use Rattle.dwp_table.specs.declared.object.DwarfObject.TheVariants.{Compilation, TypeUnit}
-use Rattle.thorin_errors.specs.Fault.{Fault, ParseUnitHeader, NotSplitUnit}
-use Rattle.thorin_errors.specs.Answers.{as_fault}
+use Rattle.thorin_errors.specs.Errors.{ErrorValue, ParseUnitHeader}
+use Rattle.thorin_errors.specs.Answers.{as_error}
 use Rattle.thorin_identity.specs.Identity.{identity}
 use Rattle.thorin_input.specs.Encodings.{has_encoding, all_have, section_has}
 use Rattle.thorin_input.specs.Indexes.{Source, is_package}
@@ -34,9 +33,10 @@ use Rattle.thorin_join.proofs.Units.HeadersRead.{ReadAlone, name-identity, kind-
 use Rattle.thorin_join.proofs.Units.Sorts.{identity-sort}
 use Rattle.thorin_again.proofs.Kept.OneEncoding.{encoding-eq}
 use Rattle.thorin_join.proofs.Moved.RootEntries.{identity-shifted}
-use Rattle.thorin_join.proofs.Steps.{ok-eq, bind-inv}
-use Rattle.thorin_join.proofs.Units.Whole.{ReadsAlone, IsKnown, AreKnown, known-in}
-use Rattle.thorin_join.proofs.Units.Whole.{other-alone, five-named, fault-ok}
+use Rattle.thorin_join.proofs.Units.Whole.{ReadsAlone, IsKnown, AreKnown, known-in, other-alone}
+use Rattle.thorin_join.proofs.Units.Whole.{five-named, error-ok}
+use Rattle.thorin_again.proofs.Kept.FirstHeaders.{ok-some}
+use Rattle.dwp_base.proofs.Steps.{bind-was, same-ok}
 
 -- ---- the units of a plain object by its first section of abbreviations
 
@@ -53,14 +53,10 @@ AllNamed order encoding table [] = Unit {0}
 AllNamed order encoding table (u ∷ us) = NamedAlone order encoding table u
     × AllNamed order encoding table us
 
-ok-some : {A : Type 0} (r : Option A) (x : A) → ok_or r NotSplitUnit ≡ Ok x → r ≡ Some x
-ok-some None x h = absurd cc
-ok-some (Some y) x h = ap (λ v. Some v) (ok-eq y x h)
-
-by-plain : (packed compile : Bool) (r : Result (List ℕ) Fault) (bytes found : List ℕ)
+by-plain : (packed compile : Bool) (r : Result (List ℕ) ErrorValue) (bytes found : List ℕ)
     → packed ≡ false → cond (packed && compile) r (Ok bytes) ≡ Ok found → bytes ≡ found
 by-plain true compile r bytes found p h = absurd (true≢false p)
-by-plain false compile r bytes found p h = ok-eq {E = Fault} bytes found h
+by-plain false compile r bytes found p h = same-ok {E = ErrorValue} bytes found h
 
 plain-name : (source : Source) (kind : SectionKind) (unit : Header) (name : DwarfObject)
     → is_package source.indexes ≡ false → name_for source kind unit ≡ Ok name
@@ -68,8 +64,8 @@ plain-name : (source : Source) (kind : SectionKind) (unit : Header) (name : Dwar
     ≡ Ok (Some name)
 unfolding name_for abbreviations_for
 plain-name source kind unit name plain h =
-    let s1 = bind-inv (abbreviations_for source kind unit) _ name h in
-    let s2 = bind-inv (identity (section source.object.order s1.0) unit) _ name s1.2 in
+    let s1 = bind-was (abbreviations_for source kind unit) _ name h in
+    let s2 = bind-was (identity (section source.object.order s1.0) unit) _ name s1.2 in
     let same : first kinds.Abbrev source.object.sections ≡ s1.0 =
     by-plain (is_package source.indexes) (is_compile unit.unit_type)
     (numbered_abbreviations (first kinds.Abbrev source.object.sections) source.indexes.compilations
@@ -105,7 +101,7 @@ module _ (taken : UnitsAreTaken) (alone : ReadAlone) (source : Source)
   unit-named place name unit known encoded named other rest read =
       let id = name-identity source (kind_at place) unit name named in
       let a = goes-alone place name unit known (identity-sort id.0 unit name id.1) in
-      let same : other ≡ a.alone = ap (λ (x : Header × Input). x.0) (ok-eq {E = ReadError} _ _
+      let same : other ≡ a.alone = ap (λ (x : Header × Input). x.0) (same-ok {E = ReadError} _ _
       (sym read ∙ a.read)) in (
         ap (λ (u : Header). u.encoding) same ∙ a.encoding ∙ encoded,
         ap (identity (section so st)) same ∙ sym (identity-shifted (section so st) a.behind a.alone
@@ -118,15 +114,15 @@ module _ (taken : UnitsAreTaken) (alone : ReadAlone) (source : Source)
       → named_unit source kind read ≡ Ok u → NamedAlone so se st u
   unfolding named_unit
   one-named kind place read u at known has h =
-      let a = bind-inv (as_fault ParseUnitHeader read) _ u h in
-      let b = bind-inv (name_for source kind a.0) _ u a.2 in
-      let is = fault-ok ParseUnitHeader read a.0 a.1 in
+      let a = bind-was (as_error ParseUnitHeader read) _ u h in
+      let b = bind-was (name_for source kind a.0) _ u a.2 in
+      let is = error-ok ParseUnitHeader read a.0 a.1 in
       let encoded : a.0.encoding ≡ se = encoding-eq a.0.encoding se
       (sym (ap (has_encoding se) is) ∙ has) in
       let kind_is = kind-place kind place at in
       let here = unit-named place b.0 a.0 (known a.0 is) encoded
       (subst (λ k. name_for source k a.0 ≡ Ok b.0) kind_is b.1) in
-      subst (NamedAlone so se st) (ok-eq {E = Fault} _ u b.2)
+      subst (NamedAlone so se st) (same-ok {E = ErrorValue} _ u b.2)
       (subst (λ k. NamedAlone so se st (b.0, record { from = k; unit = a.0 }))
       (sym kind_is) here)
 
@@ -136,15 +132,15 @@ module _ (taken : UnitsAreTaken) (alone : ReadAlone) (source : Source)
       reads ≡ Ok us → AllNamed so se st us
   unfolding named_each
   each-named kind place [] us at known has h = subst (AllNamed so se st)
-      (ok-eq {E = Fault} [] us h) tt
+      (same-ok {E = ErrorValue} [] us h) tt
   each-named kind place (read ∷ rest) us at known has h =
-      let a = bind-inv (named_unit source kind read) _ us h in
-      let b = bind-inv (named_each source kind rest) _ us a.2 in
+      let a = bind-was (named_unit source kind read) _ us h in
+      let b = bind-was (named_each source kind rest) _ us a.2 in
       let all = both (has_encoding se read) (list_all (has_encoding se) rest) has in
       let one = one-named kind place read a.0 at (λ unit is. known 0 unit (ap Some is)) all.0 a.1 in
       let others = each-named kind place rest b.0 at (λ k unit is.
       known (suc k) unit is) all.1 b.1 in
-      subst (AllNamed so se st) (ok-eq {E = Fault} (a.0 ∷ b.0) us b.2) (one, others)
+      subst (AllNamed so se st) (same-ok {E = ErrorValue} (a.0 ∷ b.0) us b.2) (one, others)
 
   named-append : (us vs : List (DwarfObject × UnitRead)) → AllNamed so se st us
       → AllNamed so se st vs → AllNamed so se st (us ++ vs)
@@ -155,7 +151,7 @@ module _ (taken : UnitsAreTaken) (alone : ReadAlone) (source : Source)
       → unit_section from.kind ≡ place
       → all_have se so from.bytes place ≡ true → named_at source from place ≡ Ok us
       → AllNamed so se st us
-  at-named from None us at has h = subst (AllNamed so se st) (ok-eq {E = Fault} [] us h) tt
+  at-named from None us at has h = subst (AllNamed so se st) (same-ok {E = ErrorValue} [] us h) tt
   at-named from (Some place) us at has h = each-named from.kind place
       (units place (section so from.bytes)) us at (known-in taken alone so place from.bytes) has h
 
@@ -163,14 +159,14 @@ module _ (taken : UnitsAreTaken) (alone : ReadAlone) (source : Source)
       → list_all (section_has se so) sections ≡ true → named_sections source sections ≡ Ok us
       → AllNamed so se st us
   unfolding named_sections
-  sections-named [] us has h = subst (AllNamed so se st) (ok-eq {E = Fault} [] us h) tt
+  sections-named [] us has h = subst (AllNamed so se st) (same-ok {E = ErrorValue} [] us h) tt
   sections-named (from ∷ rest) us has h =
-      let a = bind-inv (named_at source from (unit_section from.kind)) _ us h in
-      let b = bind-inv (named_sections source rest) _ us a.2 in
+      let a = bind-was (named_at source from (unit_section from.kind)) _ us h in
+      let b = bind-was (named_sections source rest) _ us a.2 in
       let all = both (section_has se so from) (list_all (section_has se so) rest) has in
       let here = at-named from (unit_section from.kind) a.0 refl all.0 a.1 in
       let others = sections-named rest b.0 all.1 b.1 in
-      subst (AllNamed so se st) (ok-eq {E = Fault} (a.0 ++ b.0) us b.2)
+      subst (AllNamed so se st) (same-ok {E = ErrorValue} (a.0 ++ b.0) us b.2)
       (named-append a.0 b.0 here others)
 
   named-cond : (u : DwarfObject × UnitRead) (kept more : List (DwarfObject × UnitRead)) (b : Bool)

@@ -14,11 +14,11 @@ use Rattle.dwp_elf_read.specs.Elf.{Elf}
 use Rattle.dwp_bytes.specs.declared.encoding.Encoding.{Encoding}
 use Rattle.dwp_bytes.specs.declared.encoding.Format.{Format}
 use Rattle.dwp_bytes.specs.declared.encoding.Format.TheVariants.{Dwarf32, Dwarf64}
-use Rattle.dwp_bytes.specs.declared.fault.ReadError.{ReadError}
+use Rattle.dwp_bytes.specs.declared.error.ReadError.{ReadError}
 use Rattle.dwp_index.specs.Index.{Ranges}
 use Rattle.dwp_table.specs.declared.object.DwarfObject.{DwarfObject}
 use Rattle.thorin_index.specs.EntryTests.{same_encoding, same_format}
-use Rattle.thorin_errors.specs.Fault.{Fault}
+use Rattle.thorin_errors.specs.Errors.{ErrorValue}
 use Rattle.thorin_join.specs.Builder.{State, start, taken, with_input, with_own, own_after}
 use Rattle.thorin_join.specs.Builder.{names_in}
 use Rattle.thorin_input.specs.Encodings.{encoding_of, one_encoding, file_encoding, own_encoding}
@@ -36,7 +36,7 @@ use Rattle.thorin_input.specs.Rows.{own_range}
 use Rattle.thorin_join.specs.State.{InProgress}
 use Rattle.thorin_join.specs.Strings.{strings_of}
 use Rattle.thorin_input.specs.Used.{InputFile, opened, has_info, input_file_of, first}
-use Rattle.thorin_join.proofs.Steps.{ok-eq, bind-inv}
+use Rattle.dwp_base.proofs.Steps.{bind-was, same-ok}
 
 -- ---- the units that an input means have its encoding
 
@@ -109,8 +109,8 @@ pub source-encoding : (source : Source) (units : Meant) → source_meaning sourc
     → MeantOf source.encoding units
 unfolding source_meaning
 source-encoding source units h =
-    let s = bind-inv (source_units source) _ units h in
-    subst (MeantOf source.encoding) (ok-eq _ units s.2) (all-meant source s.0)
+    let s = bind-was (source_units source) _ units h in
+    subst (MeantOf source.encoding) (same-ok _ units s.2) (all-meant source s.0)
 
 same-one : (encoding own : Encoding) (b : Bool) → cond {A = Option Encoding} b (Some encoding) None
     ≡ Some own → encoding ≡ own
@@ -122,9 +122,10 @@ object-encoding : (object : InputFile) (own : Encoding) (units : Meant) → obje
     → MeantOf own units
 unfolding object_meaning
 object-encoding object own units h e found one =
-    let s = bind-inv (encoding_of object) _ units h in
-    let i = bind-inv (indexes_of object s.0) _ units s.2 in
-    let same : s.0 ≡ own = ok-eq s.0 e (sym s.1 ∙ found) ∙ same-one e own (is_plain object.sections
+    let s = bind-was (encoding_of object) _ units h in
+    let i = bind-was (indexes_of object s.0) _ units s.2 in
+    let same : s.0 ≡ own = same-ok s.0 e (sym s.1 ∙ found) ∙ same-one e own
+    (is_plain object.sections
     && list_all (section_has e object.order) object.sections) one in
     subst (λ v. MeantOf v units) same (source-encoding (record {
       object = object;
@@ -137,17 +138,19 @@ file-encoding : (file : Elf) (own : Encoding) (units : Meant)
     → MeantOf own units
 unfolding file_encoding
 file-encoding file own units h k =
-    let o = bind-inv (input_file_of file) object_meaning units h in
-    let p = bind-inv (input_file_of file) _ (Some own) k in
-    let e = bind-inv (encoding_of p.0) _ (Some own) p.2 in
-    let same : p.0 ≡ o.0 = ok-eq p.0 o.0 (sym p.1 ∙ o.1) in
-    let one : one_encoding p.0 e.0 ≡ Some own = ok-eq _ (Some own) e.2 in
+    let o = bind-was (input_file_of file) object_meaning units h in
+    let p = bind-was (input_file_of file) _ (Some own) k in
+    let e = bind-was (encoding_of p.0) _ (Some own) p.2 in
+    let same : p.0 ≡ o.0 = same-ok p.0 o.0 (sym p.1 ∙ o.1) in
+    let one : one_encoding p.0 e.0 ≡ Some own = same-ok _ (Some own) e.2 in
     object-encoding o.0 own units o.2 e.0 (subst (λ x. encoding_of x ≡ Ok e.0) same e.1)
     (subst (λ x. one_encoding x e.0 ≡ Some own) same one)
 
 with-info : (file : Elf) (own : Encoding) (units : Meant) (b : Bool)
-    → cond {A = Result Meant Fault} b (input_file_of file >>= object_meaning) (Ok []) ≡ Ok units
-    → cond {A = Result (Option Encoding) Fault} b (file_encoding file) (Ok None) ≡ Ok (Some own)
+    → cond {A = Result Meant ErrorValue} b (input_file_of file >>= object_meaning)
+    (Ok []) ≡ Ok units
+    → cond {A = Result (Option Encoding) ErrorValue} b (file_encoding file)
+    (Ok None) ≡ Ok (Some own)
     → MeantOf own units
 with-info file own units true h k = file-encoding file own units h k
 with-info file own units false h k = absurd cc
@@ -157,11 +160,11 @@ input-encoding : (bytes : List ℕ) (own : Encoding) (units : Meant) → input_m
     → own_encoding bytes ≡ Ok (Some own) → MeantOf own units
 unfolding input_meaning own_encoding
 input-encoding bytes own units h k =
-    let f = bind-inv (opened bytes) _ units h in
-    let g = bind-inv (opened bytes) _ (Some own) k in
-    let same : g.0 ≡ f.0 = ok-eq g.0 f.0 (sym g.1 ∙ f.1) in
+    let f = bind-was (opened bytes) _ units h in
+    let g = bind-was (opened bytes) _ (Some own) k in
+    let same : g.0 ≡ f.0 = same-ok g.0 f.0 (sym g.1 ∙ f.1) in
     with-info f.0 own units (has_info f.0) f.2
-    (subst (λ x. cond {A = Result (Option Encoding) Fault} (has_info x) (file_encoding x)
+    (subst (λ x. cond {A = Result (Option Encoding) ErrorValue} (has_info x) (file_encoding x)
     (Ok None) ≡ Ok (Some own)) same g.2)
 
 -- ---- so have those that are joined
@@ -251,9 +254,9 @@ pub own-holds : (bytes : List ℕ) (old new : State) → HoldsOwn old → Joins 
     (units_in new) → taken bytes old ≡ Ok new → HoldsOwn new
 unfolding taken
 own-holds bytes old new holds j h =
-    let s = bind-inv (with_input bytes old.begun) _ new h in
-    let t = bind-inv (own_encoding bytes) _ new s.2 in
-    let is = ok-eq _ new t.2 in
+    let s = bind-was (with_input bytes old.begun) _ new h in
+    let t = bind-was (own_encoding bytes) _ new s.2 in
+    let is = same-ok _ new t.2 in
     let own : own_after old s.0 t.0 ≡ new.own = ap (λ (x : State). x.own) is in
     let begun : s.0 ≡ new.begun = ap (λ (x : State). x.begun) is in
     let split = λ (e : Encoding) (k : new.own ≡ Some e).
@@ -286,9 +289,9 @@ pub begun-now : (bytes : List ℕ) (old new : State) → taken bytes old ≡ Ok 
     → with_input bytes old.begun ≡ Ok new.begun
 unfolding taken
 begun-now bytes old new h =
-    let s = bind-inv (with_input bytes old.begun) _ new h in
-    let t = bind-inv (own_encoding bytes) _ new s.2 in
-    s.1 ∙ ap (λ (x : State). Ok x.begun) (ok-eq _ new t.2)
+    let s = bind-was (with_input bytes old.begun) _ new h in
+    let t = bind-was (own_encoding bytes) _ new s.2 in
+    s.1 ∙ ap (λ (x : State). Ok x.begun) (same-ok _ new t.2)
 
 pub taken-holds : InputsJoined → (bytes : List ℕ) (old new : State) → IsSoundBegun old.begun
     → HoldsOwn old → taken bytes old ≡ Ok new → HoldsOwn new

@@ -1,6 +1,6 @@
 -- What a plain object of one encoding is for the package that it is added to.
-use Rattle.std.proofs.Common.{◌≡◌, ◌∙◌, ℕ, ◌<◌, Bool, true, false, cond, ltb, ◌&&◌, ◌||◌, List}
-use Rattle.std.proofs.Common.{[], ◌∷◌, length, refl, sym, ap, subst, Result, Ok, Option, Some, None}
+use Rattle.std.proofs.Common.{◌≡◌, ◌∙◌, ℕ, ◌<◌, Bool, true, false, cond, ltb, ◌&&◌, ◌||◌, List, []}
+use Rattle.std.proofs.Common.{◌∷◌, length, refl, sym, ap, subst, Result, Ok, Option, Some, None}
 use Rattle.std.proofs.Common.{arith}
 use Rattle.std.specs.Prelude.{find, is_some}
 use Rattle.std.specs.List.{list_any, list_all}
@@ -15,7 +15,7 @@ use Rattle.dwp_base.proofs.Bools.{is-false, neither}
 use Rattle.dwp_elf_read.specs.Elf.{Elf}
 use Rattle.dwp_bytes.specs.declared.encoding.Encoding.{Encoding}
 use Rattle.dwp_index.specs.Index.{Index}
-use Rattle.thorin_errors.specs.Fault.{Fault}
+use Rattle.thorin_errors.specs.Errors.{ErrorValue}
 use Rattle.thorin_join.specs.Builder.{State, package_or_new, order_test, with_source_or_new}
 use Rattle.thorin_join.specs.Builder.{with_units, with_input, names_in, with_own, own_after, taken}
 use Rattle.thorin_input.specs.Encodings.{encoding_of, is_index, is_plain, section_has}
@@ -28,7 +28,7 @@ use Rattle.thorin_join.proofs.Joined.Input.{made-order}
 use Rattle.thorin_again.proofs.Kept.OneEncoding.{common-are, own-or-none}
 use Rattle.thorin_again.proofs.Opened.Indexes.{none-taken}
 use Rattle.thorin_again.proofs.Meant.Package.{are-indexes}
-use Rattle.thorin_join.proofs.Steps.{ok-eq, bind-inv}
+use Rattle.dwp_base.proofs.Steps.{bind-was, same-ok}
 
 -- ---- a plain object has no index
 
@@ -56,10 +56,12 @@ plain-indexes : (object : InputFile) (encoding : Encoding) (indexes : Indexes)
 plain-indexes object encoding indexes plain h =
     let are = are-indexes object encoding indexes h in
     let none = is-false (list_any is_index object.sections) plain in
-    let c : indexes.compilations ≡ None = ok-eq {E = Fault} _ _ (sym are.compilations ∙ none-taken
+    let c : indexes.compilations ≡ None = same-ok {E = ErrorValue} _ _
+    (sym are.compilations ∙ none-taken
     object.order CuIndex (first CuIndex object.sections) (none-found CuIndex no-compilations
     object.sections none)) in
-    let t : indexes.types ≡ None = ok-eq {E = Fault} _ _ (sym are.types ∙ none-taken object.order
+    let t : indexes.types ≡ None = same-ok {E = ErrorValue} _ _
+    (sym are.types ∙ none-taken object.order
     TuIndex (first TuIndex object.sections) (none-found TuIndex no-types
     object.sections none)) in
     no-index indexes.compilations indexes.types c t
@@ -90,7 +92,8 @@ pub record OwnFile (bytes : List ℕ) (own : Encoding) : Type 0 where
   pub plain : is_plain object.sections ≡ true
   pub all : list_all (section_has own object.order) object.sections ≡ true
 
-info-by : (b : Bool) (r : Result (Option Encoding) Fault) (own : Encoding) → cond b r (Ok None) ≡ Ok
+info-by : (b : Bool) (r : Result (Option Encoding) ErrorValue) (own : Encoding)
+    → cond b r (Ok None) ≡ Ok
     (Some own) → (b ≡ true) × (r ≡ Ok (Some own))
 info-by true r own h = (refl, h)
 info-by false r own h = absurd cc
@@ -99,12 +102,12 @@ pub own-file : (bytes : List ℕ) (own : Encoding) → own_encoding bytes ≡ Ok
     → OwnFile bytes own
 unfolding own_encoding file_encoding
 own-file bytes own h =
-    let f = bind-inv (opened bytes) _ (Some own) h in
+    let f = bind-was (opened bytes) _ (Some own) h in
     let i = info-by (has_info f.0) (file_encoding f.0) own f.2 in
-    let o = bind-inv (input_file_of f.0) _ (Some own) i.1 in
-    let e = bind-inv (encoding_of o.0) _ (Some own) o.2 in
+    let o = bind-was (input_file_of f.0) _ (Some own) i.1 in
+    let e = bind-was (encoding_of o.0) _ (Some own) o.2 in
     let one = one-by o.0 e.0 own (is_plain o.0.sections) (list_all (section_has e.0 o.0.order)
-    o.0.sections) refl refl (ok-eq {E = Fault} _ (Some own) e.2) in
+    o.0.sections) refl refl (same-ok {E = ErrorValue} _ (Some own) e.2) in
     record {
       file = f.0;
       opens = f.1;
@@ -158,13 +161,14 @@ units-of : (bytes : List ℕ) (file : Elf) (begun now : Option InProgress) → o
     → has_info file ≡ true → with_input bytes begun ≡ Ok now → with_units file begun ≡ Ok now
 unfolding with_input
 units-of bytes file begun now opens info h =
-    let s = bind-inv (opened bytes) _ now h in
-    let same : s.0 ≡ file = ok-eq {E = Fault} s.0 file (sym s.1 ∙ opens) in
-    let here : cond {A = Result (Option InProgress) Fault} (has_info file) (with_units file begun)
+    let s = bind-was (opened bytes) _ now h in
+    let same : s.0 ≡ file = same-ok {E = ErrorValue} s.0 file (sym s.1 ∙ opens) in
+    let here : cond {A = Result (Option InProgress) ErrorValue} (has_info file)
+    (with_units file begun)
     (Ok (Some (package_or_new file begun))) ≡ Ok now =
-    subst (λ f. cond {A = Result (Option InProgress) Fault} (has_info f) (with_units f begun)
+    subst (λ f. cond {A = Result (Option InProgress) ErrorValue} (has_info f) (with_units f begun)
     (Ok (Some (package_or_new f begun))) ≡ Ok now) same s.2 in
-    sym (ap (λ b. cond {A = Result (Option InProgress) Fault} b (with_units file begun)
+    sym (ap (λ b. cond {A = Result (Option InProgress) ErrorValue} b (with_units file begun)
     (Ok (Some (package_or_new file begun)))) info) ∙ here
 
 -- what an object with units made of a package
@@ -183,14 +187,14 @@ units-step : (file : Elf) (object : InputFile) (encoding : Encoding) (begun now 
     now → UnitsStep file object encoding begun now
 unfolding with_units with_source_or_new
 units-step file object encoding begun now o e h =
-    let s1 = bind-inv (input_file_of file) _ now h in
-    let s2 = bind-inv (encoding_of s1.0) _ now s1.2 in
-    let s3 = bind-inv (order_test s1.0.order begun) _ now s2.2 in
-    let s4 = bind-inv (indexes_of s1.0 s2.0) _ now s3.2 in
-    let s5 = bind-inv (with_source (record { object = s1.0; encoding = s2.0; indexes = s4.0 })
+    let s1 = bind-was (input_file_of file) _ now h in
+    let s2 = bind-was (encoding_of s1.0) _ now s1.2 in
+    let s3 = bind-was (order_test s1.0.order begun) _ now s2.2 in
+    let s4 = bind-was (indexes_of s1.0 s2.0) _ now s3.2 in
+    let s5 = bind-was (with_source (record { object = s1.0; encoding = s2.0; indexes = s4.0 })
     (package_or_new file begun)) _ now s4.2 in
-    let same : s1.0 ≡ object = ok-eq {E = Fault} s1.0 object (sym s1.1 ∙ o) in
-    let same_encoding : s2.0 ≡ encoding = ok-eq {E = Fault} s2.0 encoding
+    let same : s1.0 ≡ object = same-ok {E = ErrorValue} s1.0 object (sym s1.1 ∙ o) in
+    let same_encoding : s2.0 ≡ encoding = same-ok {E = ErrorValue} s2.0 encoding
     (sym s2.1 ∙ ap encoding_of same ∙ e) in
     record {
       indexes = s4.0;
@@ -202,16 +206,16 @@ units-step file object encoding begun now o e h =
         encoding = sym same_encoding i;
         indexes = s4.0;
       }) (package_or_new file begun)) ∙ s5.1;
-      now_is = sym (ok-eq {E = Fault} _ now s5.2);
+      now_is = sym (same-ok {E = ErrorValue} _ now s5.2);
     }
 
 pub plain-step : (bytes : List ℕ) (old new : State) (encoding : Encoding) → taken bytes old ≡ Ok new
     → new.own ≡ Some encoding → PlainStep old new encoding
 unfolding taken
 plain-step bytes old new encoding h k =
-    let s = bind-inv (with_input bytes old.begun) _ new h in
-    let t = bind-inv (own_encoding bytes) _ new s.2 in
-    let is = ok-eq {E = Fault} _ new t.2 in
+    let s = bind-was (with_input bytes old.begun) _ new h in
+    let t = bind-was (own_encoding bytes) _ new s.2 in
+    let is = same-ok {E = ErrorValue} _ new t.2 in
     let own : own_after old s.0 t.0 ≡ new.own = ap (λ (x : State). x.own) is in
     let begun : s.0 ≡ new.begun = ap (λ (x : State). x.begun) is in
     let split = own-or-none (with_own old.begun old.own t.0) encoding

@@ -12,7 +12,7 @@ use Rattle.dwp_dwarf.specs.declared.unit.UnitSection.{UnitSection}
 use Rattle.dwp_dwarf.specs.declared.unit.UnitSection.TheVariants as places
 use Rattle.dwp_elf.specs.Contents.{content_of}
 use Rattle.dwp_table.specs.declared.object.DwarfObject.{DwarfObject}
-use Rattle.thorin_errors.specs.Fault.{Fault}
+use Rattle.thorin_errors.specs.Errors.{ErrorValue}
 use Rattle.thorin_index.specs.Entries.{contribution_to}
 use Rattle.thorin_index.specs.IndexText.{is_used}
 use Rattle.thorin_index.specs.declared.entry.IndexEntry.{IndexEntry}
@@ -33,8 +33,8 @@ use Rattle.thorin_join.proofs.Rows.OfUnits.{adjusted-plain, is-unit_row, whole-p
 use Rattle.thorin_join.proofs.Parts.Appended.{either, content-with_bytes, content-with_parts}
 use Rattle.thorin_join.proofs.Parts.Appended.{differ}
 use Rattle.thorin_join.proofs.Joined.Source.{with_all_parts, all-is}
-use Rattle.thorin_join.proofs.Steps.{ok-eq, bind-inv}
 use Rattle.thorin_join.proofs.Rows.OneAdded.{row-other}
+use Rattle.dwp_base.proofs.Steps.{bind-was, same-ok}
 
 -- units' own bytes go to other sections
 pub shared-apart : (place : UnitSection) (kind : SectionKind) → is_shared kind ≡ true
@@ -150,7 +150,8 @@ pub plain-part : (source : Source) (made : InProgress) (parts : Contents) (n : D
 plain-part source made parts n r plain is kind shared =
     let whole = whole_row source.encoding made.file.contents parts in
     let row = is-unit_row source.indexes whole r.0 n.1.row is.row in
-    ok-eq {E = Fault} _ _ (sym (row.parts kind shared) ∙ adjusted-plain source.indexes r.0 kind
+    same-ok {E = ErrorValue} _ _ (sym (row.parts kind shared) ∙ adjusted-plain
+    source.indexes r.0 kind
     (contribution_to kind whole) plain)
     ∙ whole-part source.encoding made.file.contents parts kind shared
 
@@ -198,9 +199,9 @@ pub plain-added : (source : Source) (before now : InProgress) → with_source so
     → PlainAdded source before now
 unfolding with_source
 plain-added source before now h =
-    let s1 = bind-inv (parts_of source before.strings) _ now h in
-    let s2 = bind-inv (abbreviations_test source.object) _ now s1.2 in
-    let s3 = bind-inv (new_units (adding source before s1.0.0)) _ now s2.2 in
+    let s1 = bind-was (parts_of source before.strings) _ now h in
+    let s2 = bind-was (abbreviations_test source.object) _ now s1.2 in
+    let s3 = bind-was (new_units (adding source before s1.0.0)) _ now s2.2 in
     let j = units-joined (adding source before s1.0.0) s3.0 s3.1 in
     record {
       parts = s1.0.0;
@@ -211,7 +212,7 @@ plain-added source before now h =
       parts_are = s1.1;
       units_are = s3.1;
       are = j.are;
-      is = sym (ok-eq {E = Fault} _ now s3.2) ∙ all-is before s1.0.0 s1.0.1 s3.0;
+      is = sym (same-ok {E = ErrorValue} _ now s3.2) ∙ all-is before s1.0.0 s1.0.1 s3.0;
     }
 
 -- the content of a shared section is then what was there, and the part

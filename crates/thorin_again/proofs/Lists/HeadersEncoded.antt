@@ -15,17 +15,17 @@ use Rattle.dwp_base.proofs.Bools.{both}
 use Rattle.dwp_bytes.specs.Input.{Input, section, number_at, split_at, offset_at}
 use Rattle.dwp_bytes.specs.declared.encoding.Encoding.{Encoding}
 use Rattle.dwp_bytes.specs.declared.encoding.Format.{Format}
-use Rattle.dwp_bytes.specs.declared.fault.ReadError.{ReadError}
-use Rattle.dwp_bytes.specs.declared.fault.ReadError.TheVariants.{UnknownVersion}
+use Rattle.dwp_bytes.specs.declared.error.ReadError.{ReadError}
+use Rattle.dwp_bytes.specs.declared.error.ReadError.TheVariants.{UnknownVersion}
 use Rattle.dwp_dwarf.specs.Units.{Unit as Header, UnitsAreTaken, unit_at, units, header_at}
-use Rattle.dwp_dwarf.specs.Units.{older_at}
-use Rattle.dwp_dwarf.specs.Units.{newer_at, older_type_at, address_size_at, initial_length_at}
+use Rattle.dwp_dwarf.specs.Units.{older_at, newer_at, older_type_at, address_size_at}
+use Rattle.dwp_dwarf.specs.Units.{initial_length_at}
 use Rattle.dwp_dwarf.specs.declared.unit.UnitSection.{UnitSection}
 use Rattle.dwp_index.specs.Index.{Ranges}
 use Rattle.dwp_index.specs.Package.{encoding_in}
 use Rattle.dwp_table.specs.declared.object.DwarfObject.{DwarfObject}
-use Rattle.thorin_errors.specs.Answers.{as_fault}
-use Rattle.thorin_errors.specs.Fault.{Fault, ParseUnitHeader}
+use Rattle.thorin_errors.specs.Answers.{as_error}
+use Rattle.thorin_errors.specs.Errors.{ErrorValue, ParseUnitHeader}
 use Rattle.thorin_input.specs.Encodings.{has_encoding, all_have, section_has}
 use Rattle.thorin_input.specs.Indexes.{Source, is_package, index_for}
 use Rattle.thorin_input.specs.Names.{same_name}
@@ -39,8 +39,8 @@ use Rattle.thorin_join.specs.Meaning.{offsets_by, placed_row}
 use Rattle.thorin_join.specs.Strings.{strings_of}
 use Rattle.thorin_join.proofs.Units.HeadersRead.{ReadAlone, Listed, Reads}
 use Rattle.thorin_again.proofs.Kept.OneEncoding.{encoding-eq, some-eq, none-some}
-use Rattle.thorin_join.proofs.Steps.{ok-eq, bind-inv}
-use Rattle.thorin_join.proofs.Units.Whole.{IsKnown, AreKnown, known-in, fault-ok}
+use Rattle.thorin_join.proofs.Units.Whole.{IsKnown, AreKnown, known-in, error-ok}
+use Rattle.dwp_base.proofs.Steps.{bind-was, same-ok}
 
 -- ---- a header has one encoding, in whichever section it is read
 
@@ -49,31 +49,31 @@ older-encoding : (p q : UnitSection) (format : Format) (version : ℕ) (whole i 
     → older_at q format version whole i ≡ Ok v → u.encoding ≡ v.encoding
 unfolding older_at
 older-encoding p q format version whole i u v h k =
-    let a = bind-inv (offset_at format i) _ u h in
-    let b = bind-inv (offset_at format i) _ v k in
-    let same : a.0 ≡ b.0 = ok-eq {E = ReadError} a.0 b.0 (sym a.1 ∙ b.1) in
-    let c = bind-inv (address_size_at a.0.1) _ u a.2 in
-    let d = bind-inv (address_size_at b.0.1) _ v b.2 in
-    let size : c.0 ≡ d.0 = ok-eq {E = ReadError} c.0 d.0
+    let a = bind-was (offset_at format i) _ u h in
+    let b = bind-was (offset_at format i) _ v k in
+    let same : a.0 ≡ b.0 = same-ok {E = ReadError} a.0 b.0 (sym a.1 ∙ b.1) in
+    let c = bind-was (address_size_at a.0.1) _ u a.2 in
+    let d = bind-was (address_size_at b.0.1) _ v b.2 in
+    let size : c.0 ≡ d.0 = same-ok {E = ReadError} c.0 d.0
     (sym c.1 ∙ ap (λ (x : ℕ × Input). address_size_at x.1) same ∙ d.1) in
-    let e = bind-inv (older_type_at p format c.0.1) _ u c.2 in
-    let f = bind-inv (older_type_at q format d.0.1) _ v d.2 in
-    ap (λ (x : Header). x.encoding) (sym (ok-eq {E = ReadError} _ u e.2))
+    let e = bind-was (older_type_at p format c.0.1) _ u c.2 in
+    let f = bind-was (older_type_at q format d.0.1) _ v d.2 in
+    ap (λ (x : Header). x.encoding) (sym (same-ok {E = ReadError} _ u e.2))
     ∙ ap (λ (x : ℕ × Input). record {
       version = version;
       format = format;
       address_size = x.0;
     }) size
-    ∙ ap (λ (x : Header). x.encoding) (ok-eq {E = ReadError} _ v f.2)
+    ∙ ap (λ (x : Header). x.encoding) (same-ok {E = ReadError} _ v f.2)
 
 header-encoding : (p q : UnitSection) (format : Format) (whole i : Input) (u v : Header)
     → header_at p format whole i ≡ Ok u → header_at q format whole i ≡ Ok v
     → u.encoding ≡ v.encoding
 unfolding header_at
 header-encoding p q format whole i u v h k =
-    let a = bind-inv (number_at 2 i) _ u h in
-    let b = bind-inv (number_at 2 i) _ v k in
-    let same : b.0 ≡ a.0 = ok-eq {E = ReadError} b.0 a.0 (sym b.1 ∙ a.1) in
+    let a = bind-was (number_at 2 i) _ u h in
+    let b = bind-was (number_at 2 i) _ v k in
+    let same : b.0 ≡ a.0 = same-ok {E = ReadError} b.0 a.0 (sym b.1 ∙ a.1) in
     by a.0 (nat_eq a.0.0 5) (nat_le 2 a.0.0 && nat_le a.0.0 4) a.2
     (ap (λ (n : ℕ × Input). cond {A = Result Header ReadError} (nat_eq n.0 5)
     (newer_at format whole n.1) (cond (nat_le 2 n.0 && nat_le n.0 4)
@@ -85,7 +85,7 @@ header-encoding p q format whole i u v h k =
         → cond {A = Result Header ReadError} five (newer_at format whole n.1)
         (cond older (older_at q format n.0 whole n.1) (Err UnknownVersion)) ≡ Ok v
         → u.encoding ≡ v.encoding
-    by n true older x y = ap (λ (w : Header). w.encoding) (ok-eq {E = ReadError} u v (sym x ∙ y))
+    by n true older x y = ap (λ (w : Header). w.encoding) (same-ok {E = ReadError} u v (sym x ∙ y))
     by n false true x y = older-encoding p q format n.0 whole n.1 u v x y
     by n false false x y = absurd cc
 
@@ -93,21 +93,21 @@ places-encoding : (p q : UnitSection) (i : Input) (u v : Header × Input) → un
     → unit_at q i ≡ Ok v → u.0.encoding ≡ v.0.encoding
 unfolding unit_at
 places-encoding p q i u v h k =
-    let a = bind-inv (initial_length_at i) _ u h in
-    let b = bind-inv (initial_length_at i) _ v k in
-    let l : b.0 ≡ a.0 = ok-eq {E = ReadError} b.0 a.0 (sym b.1 ∙ a.1) in
-    let c = bind-inv (split_at a.0.0.1 a.0.1) _ u a.2 in
-    let d = bind-inv (split_at b.0.0.1 b.0.1) _ v b.2 in
-    let body : d.0 ≡ c.0 = ok-eq {E = ReadError} d.0 c.0
+    let a = bind-was (initial_length_at i) _ u h in
+    let b = bind-was (initial_length_at i) _ v k in
+    let l : b.0 ≡ a.0 = same-ok {E = ReadError} b.0 a.0 (sym b.1 ∙ a.1) in
+    let c = bind-was (split_at a.0.0.1 a.0.1) _ u a.2 in
+    let d = bind-was (split_at b.0.0.1 b.0.1) _ v b.2 in
+    let body : d.0 ≡ c.0 = same-ok {E = ReadError} d.0 c.0
     (sym d.1 ∙ ap (λ (x : (Format × ℕ) × Input). split_at x.0.1 x.1) l ∙ c.1) in
-    let e = bind-inv (split_at (c.0.1.place - i.place) i) _ u c.2 in
-    let f = bind-inv (split_at (d.0.1.place - i.place) i) _ v d.2 in
-    let whole : f.0 ≡ e.0 = ok-eq {E = ReadError} f.0 e.0
+    let e = bind-was (split_at (c.0.1.place - i.place) i) _ u c.2 in
+    let f = bind-was (split_at (d.0.1.place - i.place) i) _ v d.2 in
+    let whole : f.0 ≡ e.0 = same-ok {E = ReadError} f.0 e.0
     (sym f.1 ∙ ap (λ (x : Input × Input). split_at (x.1.place - i.place) i) body ∙ e.1) in
-    let x = bind-inv (header_at p a.0.0.0 e.0.0 c.0.0) _ u e.2 in
-    let y = bind-inv (header_at q b.0.0.0 f.0.0 d.0.0) _ v f.2 in
-    let first : x.0 ≡ u.0 = ap (λ (w : Header × Input). w.0) (ok-eq {E = ReadError} _ u x.2) in
-    let second : y.0 ≡ v.0 = ap (λ (w : Header × Input). w.0) (ok-eq {E = ReadError} _ v y.2) in
+    let x = bind-was (header_at p a.0.0.0 e.0.0 c.0.0) _ u e.2 in
+    let y = bind-was (header_at q b.0.0.0 f.0.0 d.0.0) _ v f.2 in
+    let first : x.0 ≡ u.0 = ap (λ (w : Header × Input). w.0) (same-ok {E = ReadError} _ u x.2) in
+    let second : y.0 ≡ v.0 = ap (λ (w : Header × Input). w.0) (same-ok {E = ReadError} _ v y.2) in
     ap (λ (w : Header). w.encoding) (sym first)
     ∙ header-encoding p q a.0.0.0 e.0.0 c.0.0 x.0 y.0 x.1
     ((λ j. header_at q (sym l j).0.0 (sym whole j).0 (sym body j).0) ∙ y.1)
@@ -117,11 +117,11 @@ in-encoding : (p q : UnitSection) (order : Endianness) (bytes : List ℕ) (a b :
     → encoding_in order p bytes ≡ Ok a → encoding_in order q bytes ≡ Ok b → a ≡ b
 unfolding encoding_in
 in-encoding p q order bytes a b h k =
-    let u = bind-inv (unit_at p (section order bytes)) _ a h in
-    let v = bind-inv (unit_at q (section order bytes)) _ b k in
-    sym (ok-eq {E = ReadError} _ a u.2)
+    let u = bind-was (unit_at p (section order bytes)) _ a h in
+    let v = bind-was (unit_at q (section order bytes)) _ b k in
+    sym (same-ok {E = ReadError} _ a u.2)
     ∙ places-encoding p q (section order bytes) u.0 v.0 u.1 v.1
-    ∙ ok-eq {E = ReadError} _ b v.2
+    ∙ same-ok {E = ReadError} _ b v.2
 
 -- ---- bytes whose header has an encoding
 
@@ -173,12 +173,12 @@ module _ (taken : UnitsAreTaken) (alone : ReadAlone) (source : Source) where
       → ReadHas source u
   unfolding named_unit
   one-has kind place read u known has h =
-      let a = bind-inv (as_fault ParseUnitHeader read) _ u h in
-      let b = bind-inv (name_for source kind a.0) _ u a.2 in
-      let is = fault-ok ParseUnitHeader read a.0 a.1 in
+      let a = bind-was (as_error ParseUnitHeader read) _ u h in
+      let b = bind-was (name_for source kind a.0) _ u a.2 in
+      let is = error-ok ParseUnitHeader read a.0 a.1 in
       let encoded : a.0.encoding ≡ source.encoding = encoding-eq a.0.encoding source.encoding
       (sym (ap (has_encoding source.encoding) is) ∙ has) in
-      subst (ReadHas source) (ok-eq {E = Fault} _ u b.2)
+      subst (ReadHas source) (same-ok {E = ErrorValue} _ u b.2)
       (known-has source.object.order place a.0 source.encoding (known a.0 is) encoded)
 
   each-has : (kind : SectionKind) (place : UnitSection) (reads : Listed) (us : Reads)
@@ -186,20 +186,20 @@ module _ (taken : UnitsAreTaken) (alone : ReadAlone) (source : Source) where
       → list_all (has_encoding source.encoding) reads ≡ true → named_each source kind reads ≡ Ok us
       → AllHave us
   unfolding named_each
-  each-has kind place [] us known has h = subst AllHave (ok-eq {E = Fault} [] us h) tt
+  each-has kind place [] us known has h = subst AllHave (same-ok {E = ErrorValue} [] us h) tt
   each-has kind place (read ∷ rest) us known has h =
-      let a = bind-inv (named_unit source kind read) _ us h in
-      let b = bind-inv (named_each source kind rest) _ us a.2 in
+      let a = bind-was (named_unit source kind read) _ us h in
+      let b = bind-was (named_each source kind rest) _ us a.2 in
       let all = both (has_encoding source.encoding read)
       (list_all (has_encoding source.encoding) rest) has in
       let one = one-has kind place read a.0 (λ unit is. known 0 unit (ap Some is)) all.0 a.1 in
       let others = each-has kind place rest b.0 (λ k unit is. known (suc k) unit is) all.1 b.1 in
-      subst AllHave (ok-eq {E = Fault} (a.0 ∷ b.0) us b.2) (one, others)
+      subst AllHave (same-ok {E = ErrorValue} (a.0 ∷ b.0) us b.2) (one, others)
 
   at-has : (from : Used) (place : Option UnitSection) (us : Reads)
       → all_have source.encoding source.object.order from.bytes place ≡ true
       → named_at source from place ≡ Ok us → AllHave us
-  at-has from None us has h = subst AllHave (ok-eq {E = Fault} [] us h) tt
+  at-has from None us has h = subst AllHave (same-ok {E = ErrorValue} [] us h) tt
   at-has from (Some place) us has h = each-has from.kind place
       (units place (section source.object.order from.bytes)) us
       (known-in taken alone source.object.order place from.bytes) has h
@@ -208,13 +208,13 @@ module _ (taken : UnitsAreTaken) (alone : ReadAlone) (source : Source) where
       → list_all (section_has source.encoding source.object.order) sections ≡ true
       → named_sections source sections ≡ Ok us → AllHave us
   unfolding named_sections
-  sections-have [] us has h = subst AllHave (ok-eq {E = Fault} [] us h) tt
+  sections-have [] us has h = subst AllHave (same-ok {E = ErrorValue} [] us h) tt
   sections-have (from ∷ rest) us has h =
-      let a = bind-inv (named_at source from (unit_section from.kind)) _ us h in
-      let b = bind-inv (named_sections source rest) _ us a.2 in
+      let a = bind-was (named_at source from (unit_section from.kind)) _ us h in
+      let b = bind-was (named_sections source rest) _ us a.2 in
       let all = both (section_has source.encoding source.object.order from)
       (list_all (section_has source.encoding source.object.order) rest) has in
-      subst AllHave (ok-eq {E = Fault} (a.0 ++ b.0) us b.2) (have-append a.0 b.0
+      subst AllHave (same-ok {E = ErrorValue} (a.0 ++ b.0) us b.2) (have-append a.0 b.0
       (at-has from (unit_section from.kind) a.0 all.0 a.1) (sections-have rest b.0 all.1 b.1))
 
 -- ---- what they mean
@@ -287,8 +287,8 @@ pub source-fine : UnitsAreTaken → ReadAlone → (source : Source) (units : Mea
     → source_meaning source ≡ Ok units → MeantAre source.object.order units
 unfolding source_meaning
 source-fine taken alone source units has h =
-    let s = bind-inv (source_units source) _ units h in
-    subst (MeantAre source.object.order) (ok-eq {E = Fault} _ units s.2)
+    let s = bind-was (source_units source) _ units h in
+    subst (MeantAre source.object.order) (same-ok {E = ErrorValue} _ units s.2)
     (all-fine taken alone source s.0 (sections-have taken alone source source.object.sections s.0
     has s.1))
 

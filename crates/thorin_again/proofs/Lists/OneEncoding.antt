@@ -1,7 +1,6 @@
 -- Where all inputs have one encoding, so has what is written, as an input.
-use Rattle.std.proofs.Common.{◌≡◌, ◌∙◌, ℕ, ◌<◌, Bool, true, false, cond, List, [], ◌∷◌}
-use Rattle.std.proofs.Common.{length}
-use Rattle.std.proofs.Common.{map, refl, sym, ap, subst, Result, Ok, Option, Some, None, arith}
+use Rattle.std.proofs.Common.{◌≡◌, ◌∙◌, ℕ, ◌<◌, Bool, true, false, cond, List, [], ◌∷◌, length, map}
+use Rattle.std.proofs.Common.{refl, sym, ap, subst, Result, Ok, Option, Some, None, arith}
 use Rattle.std.specs.Prelude.{All}
 use Rattle.std.proofs.lemmas.List.{length-map}
 use Rattle.std.proofs.lemmas.List.Elements.{All-nil, All-append, All-head, All-tail}
@@ -16,7 +15,7 @@ use Rattle.dwp_elf.specs.Written.{written_elf}
 use Rattle.dwp_elf_read.specs.Elf.{Elf}
 use Rattle.dwp_index.specs.Package.{place_of}
 use Rattle.dwp_table.specs.declared.object.DwarfObject.{DwarfObject}
-use Rattle.thorin_errors.specs.Fault.{Fault}
+use Rattle.thorin_errors.specs.Errors.{ErrorValue}
 use Rattle.thorin_index.specs.declared.entry.IndexEntry.{IndexEntry}
 use Rattle.thorin_input.specs.Encodings.{encoding_of}
 use Rattle.thorin_input.specs.Growing.{Contents}
@@ -35,8 +34,7 @@ use Rattle.thorin_join.specs.Represents.{IsSound, IsSoundBegun, meaning_at, unit
 use Rattle.thorin_join.specs.Represents.{units_begun}
 use Rattle.thorin_join.specs.StandApart.{EachRow}
 use Rattle.thorin_join.specs.State.{InProgress, with_source, unit_bytes}
-use Rattle.thorin_again.proofs.Lists.StringsWhole.{Encoded, means-source}
-use Rattle.thorin_again.proofs.Lists.StringsWhole.{each-encoded, each-sound}
+use Rattle.thorin_again.proofs.Lists.StringsWhole.{Encoded, means-source, each-encoded, each-sound}
 use Rattle.thorin_again.proofs.Lists.HeadersEncoded.{AreEncoded, IsEncoded, in-of}
 use Rattle.thorin_join.proofs.Units.HeadersRead.{ReadAlone}
 use Rattle.thorin_again.proofs.Kept.InfoThere.{info-there}
@@ -45,9 +43,9 @@ use Rattle.thorin_again.proofs.Kept.OneEncoding.{joined-encoding, there-encoding
 use Rattle.thorin_again.proofs.Opened.FirstEncoding.{EncodesItself, first-of}
 use Rattle.thorin_again.proofs.Opened.Sections.{object-written, opened-elf}
 use Rattle.thorin_again.proofs.Lists.PlainInputs.{InputsSound}
-use Rattle.thorin_join.proofs.Steps.{ok-eq, bind-ok, bind-inv}
 use Rattle.thorin_join.proofs.Files.Finished.{finished-own}
 use Rattle.thorin_join.proofs.Joined.Input.{new-units}
+use Rattle.dwp_base.proofs.Steps.{bind-was, bind-ok, same-ok}
 
 -- ---- one input
 
@@ -78,15 +76,15 @@ with-filled : UnitsAreTaken → ReadAlone → (e : Encoding) (bytes : List ℕ) 
     → with_units file begun ≡ Ok now → Filled e begun → Filled e now
 unfolding with_units with_source_or_new
 with-filled reads alone e bytes file begun now one opens info j h before =
-    let s1 = bind-inv (input_file_of file) _ now h in
-    let s2 = bind-inv (encoding_of s1.0) _ now s1.2 in
-    let s3 = bind-inv (order_test s1.0.order begun) _ now s2.2 in
-    let s4 = bind-inv (indexes_of s1.0 s2.0) _ now s3.2 in
+    let s1 = bind-was (input_file_of file) _ now h in
+    let s2 = bind-was (encoding_of s1.0) _ now s1.2 in
+    let s3 = bind-was (order_test s1.0.order begun) _ now s2.2 in
+    let s4 = bind-was (indexes_of s1.0 s2.0) _ now s3.2 in
     let old = package_or_new file begun in
     let own : Source = record { object = s1.0; encoding = s2.0; indexes = s4.0 } in
-    let s5 = bind-inv (with_source own old) _ now s4.2 in
+    let s5 = bind-was (with_source own old) _ now s4.2 in
     let made = s5.0 in
-    let is : Some made ≡ now = ok-eq {E = Fault} _ now s5.2 in
+    let is : Some made ≡ now = same-ok {E = ErrorValue} _ now s5.2 in
     let encoding : s2.0 ≡ e = one.1 s2.0 (encoding-read bytes file s1.0 s2.0 opens s1.1 s2.1) in
     let m = means-source bytes file s1.0 s2.0 j.units opens info s1.1 s2.1 j.meaning in
     let of : MeantOf e j.units = subst (λ x. MeantOf x j.units) (m.2 ∙ encoding)
@@ -107,16 +105,16 @@ input-filled : UnitsAreTaken → ReadAlone → (e : Encoding) (bytes : List ℕ)
     → Filled e begun → Filled e now
 unfolding with_input
 input-filled reads alone e bytes begun now one j h before =
-    let f = bind-inv (opened bytes) _ now h in
+    let f = bind-was (opened bytes) _ now h in
     by f.0 f.1 (has_info f.0) refl f.2
   where
     by : (file : Elf) → opened bytes ≡ Ok file → (b : Bool) → has_info file ≡ b
-        → cond {A = Result (Option InProgress) Fault} b (with_units file begun)
+        → cond {A = Result (Option InProgress) ErrorValue} b (with_units file begun)
         (Ok (Some (package_or_new file begun))) ≡ Ok now → Filled e now
     by file opens true info k =
         with-filled reads alone e bytes file begun now one opens info j k before
     by file opens false info k =
-        subst (Filled e) (ok-eq {E = Fault} _ now k) (new-filled e file begun before)
+        subst (Filled e) (same-ok {E = ErrorValue} _ now k) (new-filled e file begun before)
 
 -- ---- what is written
 

@@ -13,7 +13,7 @@ use Rattle.dwp_bytes.specs.declared.encoding.Format.{Format}
 use Rattle.dwp_bytes.specs.declared.encoding.Format.TheVariants.{Dwarf32, Dwarf64}
 use Rattle.dwp_table.specs.declared.object.DwarfObject.{DwarfObject}
 use Rattle.thorin_index.specs.EntryTests.{same_encoding, same_format}
-use Rattle.thorin_errors.specs.Fault.{Fault}
+use Rattle.thorin_errors.specs.Errors.{ErrorValue}
 use Rattle.thorin_input.specs.Encodings.{encoding_of, own_encoding, file_encoding, common}
 use Rattle.thorin_input.specs.Used.{opened, has_info, input_file_of}
 use Rattle.thorin_join.specs.Builder.{State, start, taken, with_input, with_units, names_in}
@@ -29,7 +29,7 @@ use Rattle.thorin_join.specs.State.{InProgress, with_source}
 use Rattle.thorin_again.proofs.Kept.OneEncoding.{InputsJoined, own-or-none, common-are, begun-now}
 use Rattle.thorin_again.proofs.Kept.OneEncoding.{units-names}
 use Rattle.thorin_again.proofs.Kept.PlainObject.{own-file}
-use Rattle.thorin_join.proofs.Steps.{ok-eq, bind-ok, bind-inv}
+use Rattle.dwp_base.proofs.Steps.{bind-was, bind-ok, same-ok}
 
 -- ---- plain objects of one encoding
 
@@ -51,7 +51,8 @@ own-of : (bytes : List ℕ) (e : Encoding) → IsPlainOf e bytes → own_encodin
 unfolding own_encoding file_encoding
 own-of bytes e p =
     bind-ok (opened bytes) p.file _ p.opens
-    ∙ ap (λ b. cond {A = Result (Option Encoding) Fault} b (file_encoding p.file) (Ok None)) p.info
+    ∙ ap (λ b. cond {A = Result (Option Encoding) ErrorValue} b (file_encoding p.file)
+    (Ok None)) p.info
     ∙ bind-ok (input_file_of p.file) p.object _ p.used
     ∙ bind-ok (encoding_of p.object) e _ p.first
     ∙ ap (λ b. Ok (cond {A = Option Encoding} b (Some e) None))
@@ -104,27 +105,27 @@ begun-some : (bytes : List ℕ) (begun now : Option InProgress) → with_input b
     → (made : InProgress) × (now ≡ Some made)
 unfolding with_input with_units with_source_or_new
 begun-some bytes begun now h =
-    let f = bind-inv (opened bytes) _ now h in
+    let f = bind-was (opened bytes) _ now h in
     by f.0 (has_info f.0) f.2
   where
     units : (file : Elf) → with_units file begun ≡ Ok now → (made : InProgress) × (now ≡ Some made)
     units file k =
-        let o = bind-inv (input_file_of file) _ now k in
-        let e = bind-inv (encoding_of o.0) _ now o.2 in
-        let t = bind-inv (order_test o.0.order begun) _ now e.2 in
-        let x = bind-inv (indexes_of o.0 e.0) _ now t.2 in
-        let m = bind-inv (with_source (record {
+        let o = bind-was (input_file_of file) _ now k in
+        let e = bind-was (encoding_of o.0) _ now o.2 in
+        let t = bind-was (order_test o.0.order begun) _ now e.2 in
+        let x = bind-was (indexes_of o.0 e.0) _ now t.2 in
+        let m = bind-was (with_source (record {
           object = o.0;
           encoding = e.0;
           indexes = x.0;
         }) (package_or_new file begun)) _ now x.2 in
-        (m.0, sym (ok-eq {E = Fault} _ now m.2))
+        (m.0, sym (same-ok {E = ErrorValue} _ now m.2))
 
-    by : (file : Elf) (b : Bool) → cond {A = Result (Option InProgress) Fault} b
+    by : (file : Elf) (b : Bool) → cond {A = Result (Option InProgress) ErrorValue} b
         (with_units file begun) (Ok (Some (package_or_new file begun))) ≡ Ok now
         → (made : InProgress) × (now ≡ Some made)
     by file true k = units file k
-    by file false k = (package_or_new file begun, sym (ok-eq {E = Fault} _ now k))
+    by file false k = (package_or_new file begun, sym (same-ok {E = ErrorValue} _ now k))
 
 -- ---- one input
 
@@ -139,9 +140,9 @@ record Step (bytes : List ℕ) (old new : State) : Type 0 where
 step-of : (bytes : List ℕ) (old new : State) → taken bytes old ≡ Ok new → Step bytes old new
 unfolding taken
 step-of bytes old new h =
-    let s = bind-inv (with_input bytes old.begun) _ new h in
-    let t = bind-inv (own_encoding bytes) _ new s.2 in
-    let is = ok-eq {E = Fault} _ new t.2 in
+    let s = bind-was (with_input bytes old.begun) _ new h in
+    let t = bind-was (own_encoding bytes) _ new s.2 in
+    let is = same-ok {E = ErrorValue} _ new t.2 in
     let begun : s.0 ≡ new.begun = ap (λ (x : State). x.begun) is in
     let some = begun-some bytes old.begun s.0 s.1 in
     record {
@@ -174,7 +175,7 @@ adds-own : (bytes : List ℕ) (old new : State) (e : Encoding) → taken bytes o
     → Adds bytes old new e → new.own ≡ Some e
 adds-own bytes old new e h a =
     let s = step-of bytes old new h in
-    let found : s.found ≡ Some e = ok-eq {E = Fault} s.found (Some e) (sym s.is ∙ a.plain) in
+    let found : s.found ≡ Some e = same-ok {E = ErrorValue} s.found (Some e) (sym s.is ∙ a.plain) in
     sym s.after
     ∙ ap (λ b. cond {A = Option Encoding} b (with_own old.begun old.own s.found) None)
     (lt-ltb (length (names_in old.begun)) (length (names_in new.begun)) a.more)
@@ -210,7 +211,8 @@ some-same (u ∷ us) (v ∷ vs) h =
 joins-same : (bytes : List ℕ) (before one other : Members) → Joins bytes before one
     → Joins bytes before other → one ≡ other
 joins-same bytes before one other j k =
-    let units : j.units ≡ k.units = ok-eq {E = Fault} j.units k.units (sym j.meaning ∙ k.meaning) in
+    let units : j.units ≡ k.units = same-ok {E = ErrorValue} j.units k.units
+    (sym j.meaning ∙ k.meaning) in
     let added : j.added ≡ k.added = some-same j.added k.added
     (sym j.joined ∙ ap (joining (keys before)) units ∙ k.joined) in
     j.is ∙ ap (λ l. before ++ l) added ∙ sym k.is

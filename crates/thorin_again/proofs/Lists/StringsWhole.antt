@@ -17,9 +17,9 @@ use Rattle.dwp_elf.specs.Written.{written_elf}
 use Rattle.dwp_elf_read.specs.Elf.{Elf, elf_of}
 use Rattle.dwp_index.specs.Contents.{content, contents_of}
 use Rattle.dwp_index.specs.Index.{Index, Ranges, row_in, range_in}
-use Rattle.dwp_index.specs.declared.fault.PackageError.{PackageError}
-use Rattle.dwp_index.specs.declared.fault.PackageError.TheVariants as faults
-use Rattle.dwp_elf_read.specs.declared.fault.ReadError.{ReadError as ElfError}
+use Rattle.dwp_index.specs.declared.error.PackageError.{PackageError}
+use Rattle.dwp_index.specs.declared.error.PackageError.TheVariants as errors
+use Rattle.dwp_elf_read.specs.declared.error.ReadError.{ReadError as ElfError}
 use Rattle.dwp_dwarf.specs.declared.unit.UnitSection.{UnitSection}
 use Rattle.dwp_index.specs.Package as index
 use Rattle.dwp_index.specs.Package.{Package, package_of, found_counted, found_by, unit_found}
@@ -28,7 +28,7 @@ use Rattle.dwp_index.specs.Package.{row_bytes, all_inside, first_outside, index_
 use Rattle.dwp_table.specs.Probing.{found_row, look_count}
 use Rattle.dwp_table.specs.Objects.{identifier_of}
 use Rattle.dwp_table.specs.declared.object.DwarfObject.{DwarfObject}
-use Rattle.thorin_errors.specs.Fault.{Fault}
+use Rattle.thorin_errors.specs.Errors.{ErrorValue}
 use Rattle.thorin_input.specs.Encodings.{encoding_of, section_has}
 use Rattle.thorin_input.specs.Indexes.{Source, indexes_of}
 use Rattle.thorin_input.specs.Names.{same_name}
@@ -62,16 +62,18 @@ use Rattle.thorin_again.proofs.Kept.OneEncoding.{InputsJoined, begun-now}
 use Rattle.thorin_again.proofs.Opened.Sections.{opened-elf}
 use Rattle.thorin_again.proofs.Lists.PlainInputs.{InputsSound}
 use Rattle.thorin_join.proofs.Joined.Source.{with_all_parts, all-is}
-use Rattle.thorin_join.proofs.Steps.{ok-eq, bind-inv}
 use Rattle.thorin_join.proofs.Files.Finished.{finished-order}
+use Rattle.dwp_base.proofs.Steps.{bind-was, same-ok}
 
 -- ---- an input's units
 
 info-means : (file : Elf) (units : Meant) (b : Bool) → has_info file ≡ b
-    → cond {A = Result Meant Fault} (has_info file) (input_file_of file >>= object_meaning) (Ok [])
-    ≡ Ok units → cond {A = Result Meant Fault} b (input_file_of file >>= object_meaning) (Ok [])
+    → cond {A = Result Meant ErrorValue} (has_info file) (input_file_of file >>=
+    object_meaning) (Ok [])
+    ≡ Ok units → cond {A = Result Meant ErrorValue} b (input_file_of file >>=
+    object_meaning) (Ok [])
     ≡ Ok units
-info-means file units b is h = ap (λ x. cond {A = Result Meant Fault} x
+info-means file units b is h = ap (λ x. cond {A = Result Meant ErrorValue} x
     (input_file_of file >>= object_meaning) (Ok [])) (sym is) ∙ h
 
 -- what an input with units means is what its source means
@@ -82,15 +84,15 @@ pub means-source : (bytes : List ℕ) (file : Elf) (object : InputFile) (encodin
     × (source.encoding ≡ encoding) × (source_meaning source ≡ Ok units)
 unfolding input_meaning object_meaning
 means-source bytes file object encoding units opens info is first h =
-    let f = bind-inv (opened bytes) _ units h in
-    let same : f.0 ≡ file = ok-eq {E = Fault} f.0 file (sym f.1 ∙ opens) in
-    let here = info-means file units true info (subst (λ x. cond {A = Result Meant Fault}
+    let f = bind-was (opened bytes) _ units h in
+    let same : f.0 ≡ file = same-ok {E = ErrorValue} f.0 file (sym f.1 ∙ opens) in
+    let here = info-means file units true info (subst (λ x. cond {A = Result Meant ErrorValue}
     (has_info x) (input_file_of x >>= object_meaning) (Ok []) ≡ Ok units) same f.2) in
-    let o = bind-inv (input_file_of file) object_meaning units here in
-    let e = bind-inv (encoding_of o.0) _ units o.2 in
-    let i = bind-inv (indexes_of o.0 e.0) _ units e.2 in
-    let object_is : o.0 ≡ object = ok-eq {E = Fault} o.0 object (sym o.1 ∙ is) in
-    let encoding_is : e.0 ≡ encoding = ok-eq {E = Fault} e.0 encoding
+    let o = bind-was (input_file_of file) object_meaning units here in
+    let e = bind-was (encoding_of o.0) _ units o.2 in
+    let i = bind-was (indexes_of o.0 e.0) _ units e.2 in
+    let object_is : o.0 ≡ object = same-ok {E = ErrorValue} o.0 object (sym o.1 ∙ is) in
+    let encoding_is : e.0 ≡ encoding = same-ok {E = ErrorValue} e.0 encoding
     (sym e.1 ∙ ap encoding_of object_is ∙ first) in (
       record { object = o.0; encoding = e.0; indexes = i.0 },
       object_is,
@@ -104,11 +106,11 @@ source-order : (source : Source) (before now : InProgress) → with_source sourc
     → now.file.order ≡ before.file.order
 unfolding with_source
 source-order source before now h =
-    let s1 = bind-inv (parts_of source before.strings) _ now h in
-    let s2 = bind-inv (abbreviations_test source.object) _ now s1.2 in
-    let s3 = bind-inv (new_units (adding source before s1.0.0)) _ now s2.2 in
+    let s1 = bind-was (parts_of source before.strings) _ now h in
+    let s2 = bind-was (abbreviations_test source.object) _ now s1.2 in
+    let s3 = bind-was (new_units (adding source before s1.0.0)) _ now s2.2 in
     let q = with_all_parts before s1.0.0 s1.0.1 (before.differing ++ s3.0.differing) in
-    ap (λ (p : InProgress). p.file.order) (sym (ok-eq {E = Fault} _ now s3.2)
+    ap (λ (p : InProgress). p.file.order) (sym (same-ok {E = ErrorValue} _ now s3.2)
     ∙ all-is before s1.0.0 s1.0.1 s3.0) ∙ order-kept q s3.0.units
 
 -- ---- one input
@@ -129,18 +131,18 @@ with-encoded : UnitsAreTaken → ReadAlone → (bytes : List ℕ) (file : Elf)
     → with_units file begun ≡ Ok now → Encoded begun → Encoded now
 unfolding with_units with_source_or_new
 with-encoded reads alone bytes file begun now one opens info j h before =
-    let s1 = bind-inv (input_file_of file) _ now h in
-    let s2 = bind-inv (encoding_of s1.0) _ now s1.2 in
-    let s3 = bind-inv (order_test s1.0.order begun) _ now s2.2 in
-    let s4 = bind-inv (indexes_of s1.0 s2.0) _ now s3.2 in
+    let s1 = bind-was (input_file_of file) _ now h in
+    let s2 = bind-was (encoding_of s1.0) _ now s1.2 in
+    let s3 = bind-was (order_test s1.0.order begun) _ now s2.2 in
+    let s4 = bind-was (indexes_of s1.0 s2.0) _ now s3.2 in
     let old = package_or_new file begun in
-    let s5 = bind-inv (with_source (record {
+    let s5 = bind-was (with_source (record {
       object = s1.0;
       encoding = s2.0;
       indexes = s4.0;
     }) old) _ now s4.2 in
     let made = s5.0 in
-    let is : Some made ≡ now = ok-eq {E = Fault} _ now s5.2 in
+    let is : Some made ≡ now = same-ok {E = ErrorValue} _ now s5.2 in
     let same : s1.0.order ≡ old.file.order = made-order file s1.0 begun s1.1 s3.1 in
     let kept = source-order (record {
       object = s1.0;
@@ -172,16 +174,16 @@ input-encoded : UnitsAreTaken → ReadAlone → (bytes : List ℕ) (begun now : 
     → with_input bytes begun ≡ Ok now → Encoded begun → Encoded now
 unfolding with_input
 input-encoded reads alone bytes begun now one j h before =
-    let f = bind-inv (opened bytes) _ now h in
+    let f = bind-was (opened bytes) _ now h in
     by f.0 f.1 (has_info f.0) refl f.2
   where
     by : (file : Elf) → opened bytes ≡ Ok file → (b : Bool) → has_info file ≡ b
-        → cond {A = Result (Option InProgress) Fault} b (with_units file begun)
+        → cond {A = Result (Option InProgress) ErrorValue} b (with_units file begun)
         (Ok (Some (package_or_new file begun))) ≡ Ok now → Encoded now
     by file opens true info k =
         with-encoded reads alone bytes file begun now one opens info j k before
     by file opens false info k =
-        subst Encoded (ok-eq {E = Fault} _ now k) (new-encoded file begun before)
+        subst Encoded (same-ok {E = ErrorValue} _ now k) (new-encoded file begun before)
 
 -- ---- inputs in order
 
@@ -203,20 +205,20 @@ module _ (reads : UnitsAreTaken) (alone : ReadAlone) (sound : InputsSound)
 
 -- ---- look-ups
 
-fault-was : {X E F : Type 0} (f : E → F) (r : Result X E) (x : X) → index.as_fault f r ≡ Ok x
+error-was : {X E F : Type 0} (f : E → F) (r : Result X E) (x : X) → index.as_error f r ≡ Ok x
     → r ≡ Ok x
-fault-was f (Ok y) x h = cc
-fault-was f (Err e) x h = absurd cc
+error-was f (Ok y) x h = cc
+error-was f (Err e) x h = absurd cc
 
 some-was : (a b : index.FoundUnit) (m n : ℕ) → ◌≡◌ {A = Result (Option index.FoundUnit × ℕ)
     PackageError} (Ok (Some a, m)) (Ok (Some b, n)) → a ≡ b
 some-was a b m n h = same_Some a b (ap (λ (x : Option index.FoundUnit × ℕ). x.0)
-    (ok-eq {E = PackageError} (Some a, m) (Some b, n) h))
+    (same-ok {E = PackageError} (Some a, m) (Some b, n) h))
 
 none-was : {X : Type 0} (b : index.FoundUnit) (m n : ℕ) → ◌≡◌ {A = Result (Option index.FoundUnit ×
     ℕ) PackageError} (Ok (None, m)) (Ok (Some b, n)) → X
 none-was b m n h = absurd (none-some b (ap (λ (x : Option index.FoundUnit × ℕ). x.0)
-    (ok-eq {E = PackageError} (None, m) (Some b, n) h)))
+    (same-ok {E = PackageError} (None, m) (Some b, n) h)))
 
 -- the header of a unit that was found
 abbrev HasHeader : Package → index.FoundUnit → Type 0
@@ -227,13 +229,13 @@ unit-header : (pack : Package) (name : DwarfObject) (number : ℕ) (row : Ranges
     (found : index.FoundUnit) → unit_in pack name number row ≡ Ok found → HasHeader pack found
 unfolding unit_in
 unit-header pack name number row found h =
-    let s1 = bind-inv (all_inside (first_outside pack.contents row)) _ found h in
+    let s1 = bind-was (all_inside (first_outside pack.contents row)) _ found h in
     let place = place_of name (range_in row kinds.Types) in
     let bytes = row_bytes pack.contents row (kind_of place) in
-    let s2 = bind-inv (index.as_fault faults.Unit (encoding_in pack.order place bytes)) _ found s1.2
+    let s2 = bind-was (index.as_error errors.Unit (encoding_in pack.order place bytes)) _ found s1.2
     in
-    subst (HasHeader pack) (ok-eq {E = PackageError} _ found s2.2)
-    (place, fault-was faults.Unit (encoding_in pack.order place bytes) s2.0 s2.1)
+    subst (HasHeader pack) (same-ok {E = PackageError} _ found s2.2)
+    (place, error-was errors.Unit (encoding_in pack.order place bytes) s2.0 s2.1)
 
 found-header : (pack : Package) (name : DwarfObject) (found : index.FoundUnit) (count : ℕ)
     → found_counted pack name ≡ Ok (Some found, count) → HasHeader pack found
@@ -243,8 +245,8 @@ found-header pack name found count h = by (index_for pack name) h
     at-row : (ix : Index) (number c : ℕ)
         → unit_at_row pack name ix number c ≡ Ok (Some found, count) → HasHeader pack found
     at-row ix number c k =
-        let a = bind-inv (index.as_fault faults.Index (row_in ix number)) _ (Some found, count) k in
-        let u = bind-inv (unit_in pack name number a.0) _ (Some found, count) a.2 in
+        let a = bind-was (index.as_error errors.Index (row_in ix number)) _ (Some found, count) k in
+        let u = bind-was (unit_in pack name number a.0) _ (Some found, count) a.2 in
         subst (HasHeader pack) (some-was u.0 found c count u.2)
         (unit-header pack name number a.0 u.0 u.1)
 
@@ -309,13 +311,13 @@ pack-order : (bytes : List ℕ) (file : Elf) (pack : Package) → elf_of bytes �
     → package_of bytes ≡ Ok pack → pack.order ≡ file.order
 unfolding package_of
 pack-order bytes file pack is h =
-    let s1 = bind-inv (index.as_fault faults.Elf (elf_of bytes)) _ pack h in
-    let s2 = bind-inv (index.as_fault faults.Elf (contents_of s1.0.sections)) _ pack s1.2 in
-    let s3 = bind-inv (index_in_section s1.0.order (content s2.0 kinds.CuIndex)) _ pack s2.2 in
-    let s4 = bind-inv (index_in_section s1.0.order (content s2.0 kinds.TuIndex)) _ pack s3.2 in
-    let same : s1.0 ≡ file = ok-eq {E = ElfError} s1.0 file
-    (sym (fault-was faults.Elf (elf_of bytes) s1.0 s1.1) ∙ is) in
-    ap (λ (p : Package). p.order) (sym (ok-eq {E = PackageError} _ pack s4.2))
+    let s1 = bind-was (index.as_error errors.Elf (elf_of bytes)) _ pack h in
+    let s2 = bind-was (index.as_error errors.Elf (contents_of s1.0.sections)) _ pack s1.2 in
+    let s3 = bind-was (index_in_section s1.0.order (content s2.0 kinds.CuIndex)) _ pack s2.2 in
+    let s4 = bind-was (index_in_section s1.0.order (content s2.0 kinds.TuIndex)) _ pack s3.2 in
+    let same : s1.0 ≡ file = same-ok {E = ElfError} s1.0 file
+    (sym (error-was errors.Elf (elf_of bytes) s1.0 s1.1) ∙ is) in
+    ap (λ (p : Package). p.order) (sym (same-ok {E = PackageError} _ pack s4.2))
     ∙ ap (λ (f : Elf). f.order) same
 
 pub answers-whole : (order : Endianness) (units : Members) (file : File)
@@ -378,8 +380,8 @@ pub input-order : (bytes : List ℕ) (file : Elf) (begun now : Option InProgress
     → order_of now order ≡ order_of begun file.order
 unfolding with_input with_units with_source_or_new
 input-order bytes file begun now order opens h =
-    let f = bind-inv (opened bytes) _ now h in
-    let same : f.0 ≡ file = ok-eq {E = Fault} f.0 file (sym f.1 ∙ opens) in
+    let f = bind-was (opened bytes) _ now h in
+    let same : f.0 ≡ file = same-ok {E = ErrorValue} f.0 file (sym f.1 ∙ opens) in
     by f.0 (has_info f.0) f.2 ∙ ap (λ (e : Elf). order_of begun e.order) same
   where
     new : (e : Elf) → (package_or_new e begun).file.order ≡ order_of begun e.order
@@ -391,19 +393,20 @@ input-order bytes file begun now order opens h =
 
     units : (e : Elf) → with_units e begun ≡ Ok now → order_of now order ≡ order_of begun e.order
     units e k =
-        let s1 = bind-inv (input_file_of e) _ now k in
-        let s2 = bind-inv (encoding_of s1.0) _ now s1.2 in
-        let s3 = bind-inv (order_test s1.0.order begun) _ now s2.2 in
-        let s4 = bind-inv (indexes_of s1.0 s2.0) _ now s3.2 in
+        let s1 = bind-was (input_file_of e) _ now k in
+        let s2 = bind-was (encoding_of s1.0) _ now s1.2 in
+        let s3 = bind-was (order_test s1.0.order begun) _ now s2.2 in
+        let s4 = bind-was (indexes_of s1.0 s2.0) _ now s3.2 in
         let source : Source = record { object = s1.0; encoding = s2.0; indexes = s4.0 } in
-        let s5 = bind-inv (with_source source (package_or_new e begun)) _ now s4.2 in
-        ap (λ b. order_of b order) (sym (ok-eq {E = Fault} _ now s5.2))
+        let s5 = bind-was (with_source source (package_or_new e begun)) _ now s4.2 in
+        ap (λ b. order_of b order) (sym (same-ok {E = ErrorValue} _ now s5.2))
         ∙ source-order source (package_or_new e begun) s5.0 s5.1 ∙ new e
 
-    by : (e : Elf) (b : Bool) → cond {A = Result (Option InProgress) Fault} b (with_units e begun)
+    by : (e : Elf) (b : Bool) → cond {A = Result (Option InProgress) ErrorValue} b
+        (with_units e begun)
         (Ok (Some (package_or_new e begun))) ≡ Ok now → order_of now order ≡ order_of begun e.order
     by e true k = units e k
-    by e false k = ap (λ b. order_of b order) (sym (ok-eq {E = Fault} _ now k)) ∙ new e
+    by e false k = ap (λ b. order_of b order) (sym (same-ok {E = ErrorValue} _ now k)) ∙ new e
 
 pub taken-order : (bytes : List ℕ) (file : Elf) (old new : State) (order : Endianness)
     → elf_of bytes ≡ Ok file → taken bytes old ≡ Ok new
@@ -419,7 +422,7 @@ row-encoded : (order : Endianness) (encoding : Encoding) (contents : Contents)
 unfolding encoding_in
 row-encoded order encoding contents strings row owns names is =
     let bytes = unit_bytes contents row in
-    let u = bind-inv (unit_at owns.place (section order bytes)) _ owns.encoding owns.header in
+    let u = bind-was (unit_at owns.place (section order bytes)) _ owns.encoding owns.header in
     let named = names u.0.0 u.0.1 (ap (λ p. unit_at p (section order bytes)) (sym owns.place_is) ∙
     u.1) in
     header-has order owns.place bytes row.encoding

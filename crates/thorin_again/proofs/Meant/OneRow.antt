@@ -22,9 +22,9 @@ use Rattle.dwp_index.specs.Package.{part_of, is_outside, place_of}
 use Rattle.dwp_table.specs.Objects.{identifier_of}
 use Rattle.dwp_table.specs.Probing.{found_row}
 use Rattle.dwp_table.specs.declared.object.DwarfObject.{DwarfObject}
-use Rattle.thorin_errors.specs.Fault.{Fault, UnitNotInIndex, RowNotInIndex, BadContribution}
-use Rattle.thorin_errors.specs.Fault.{NotSplitUnit}
-use Rattle.thorin_errors.specs.Answers.{as_fault}
+use Rattle.thorin_errors.specs.Errors.{ErrorValue, UnitNotInIndex, RowNotInIndex, BadContribution}
+use Rattle.thorin_errors.specs.Errors.{NotSplitUnit}
+use Rattle.thorin_errors.specs.Answers.{as_error}
 use Rattle.thorin_identity.specs.Identity.{identity}
 use Rattle.thorin_packaged.specs.RowPlaces.{row_by_place, IsFirstWith}
 use Rattle.thorin_input.specs.Adjusting.{row_found, row_of}
@@ -57,11 +57,11 @@ use Rattle.thorin_again.proofs.Meant.RowPlaces.{sort-rows, some-index, same-numb
 use Rattle.thorin_again.proofs.Meant.RowPlaces.{test-ok, compile-sort, identity-any, find-none}
 use Rattle.thorin_again.proofs.Meant.RowPlaces.{inside-by, signature-name, index-alike}
 use Rattle.thorin_join.proofs.Files.RowsFound.{id-at}
-use Rattle.thorin_join.proofs.Steps.{ok-eq}
 use Rattle.thorin_join.proofs.Parts.StringLists.{strings-are}
 use Rattle.thorin_join.proofs.Moved.Readings.{plain}
 use Rattle.thorin_join.proofs.Units.InRows.{pieces-same}
 use Rattle.thorin_again.proofs.Meant.UnitsBySection.{IsTested}
+use Rattle.dwp_base.proofs.Steps.{same-ok}
 
 module _ (first_law : FirstLaw) (find_law : FindLaw) (source : Source) (contents : Contents)
     (strings : List (List ℕ)) (rows : List IndexEntry) (again : IsAgain source
@@ -124,7 +124,7 @@ module _ (first_law : FirstLaw) (find_law : FindLaw) (source : Source) (contents
       get-left (rows_of sort before) (row ∷ rows_of sort later) l within ∙ r.1 in
       let ps = has.each l r.0 get in
       let next : suc l ≡ l + 1 = omega arith in
-      let same : other ≡ ps.row = ok-eq _ _ (sym h ∙ ap (row_in index) next ∙ ps.there) in
+      let same : other ≡ ps.row = same-ok _ _ (sym h ∙ ap (row_in index) next ∙ ps.there) in
       let has_range : contribution_to kind r.0 ≡ Some range =
       non_empty-some (contribution_to kind r.0) range (sym (ps.parts kind) ∙ ap (λ x.
       range_in x kind) (sym same) ∙ e) in
@@ -217,7 +217,7 @@ module _ (first_law : FirstLaw) (find_law : FindLaw) (source : Source) (contents
   unfolding row_of
   found-row = ap (λ i. row_of i (identifier_of row.id)) there.1 ∙ ap
       (row_found index (identifier_of row.id)) row_is ∙ ap
-      (as_fault (λ fault. RowNotInIndex fault (number + 1))) parts.there
+      (as_error (λ error. RowNotInIndex error (number + 1))) parts.there
 
   -- the row's part of a section
   pub found-range : (k : SectionKind) → range_in parts.row k ≡ contribution_to k row
@@ -333,9 +333,9 @@ module _ (first_law : FirstLaw) (find_law : FindLaw) (source : Source) (contents
         (content_of kinds.Abbrev contents) (contribution_to kinds.Abbrev row)
         (is.lie.inside kinds.Abbrev) in
         (λ i. numbered_abbreviations bytes (index_is i) (number_is i))
-        ∙ ap (λ r. as_fault (λ e. RowNotInIndex e (number + 1)) r >>= row_abbreviations
+        ∙ ap (λ r. as_error (λ e. RowNotInIndex e (number + 1)) r >>= row_abbreviations
         bytes) parts.there
-        ∙ ap (λ b. cond {A = Result (List ℕ) Fault} b
+        ∙ ap (λ b. cond {A = Result (List ℕ) ErrorValue} b
         (Err (BadContribution (name_of kinds.Abbrev) 0))
         (Ok (part_of bytes (range_in parts.row kinds.Abbrev)))) outside
         ∙ ap Ok (bytes-are kinds.Abbrev)

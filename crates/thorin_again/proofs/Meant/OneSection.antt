@@ -6,11 +6,10 @@ use Rattle.std.specs.Prelude.{slice_range}
 use Rattle.std.proofs.lemmas.Option.{none-some, same_Some}
 use Rattle.std.proofs.Math.Dec.{eqb-suc-zero}
 use Rattle.std.proofs.Math.Seq.{drop-append_seam, take-append_seam}
-use Rattle.dwp_base.specs.declared.endian.Endianness.{Endianness}
 use Rattle.dwp_base.specs.declared.section.Contribution.{Contribution}
 use Rattle.dwp_base.specs.declared.section.SectionKind.{SectionKind}
 use Rattle.dwp_bytes.specs.Input.{Input, section, after}
-use Rattle.dwp_bytes.specs.declared.fault.ReadError.{ReadError}
+use Rattle.dwp_bytes.specs.declared.error.ReadError.{ReadError}
 use Rattle.dwp_dwarf.specs.Units.{Unit as Header, UnitsAreTaken, unit_at, listed, units_within}
 use Rattle.dwp_dwarf.specs.Units.{units}
 use Rattle.dwp_dwarf.specs.declared.unit.UnitSection.{UnitSection}
@@ -29,11 +28,11 @@ use Rattle.thorin_join.specs.State.{kind_at}
 use Rattle.thorin_join.proofs.Rows.Stay.{part-inside}
 use Rattle.thorin_again.proofs.Meant.OneRow.{row-means-again}
 use Rattle.thorin_again.proofs.Meant.RowPlaces.{FirstLaw, FindLaw, IsAgain, Below}
-use Rattle.thorin_join.proofs.Steps.{ok-eq, bind-inv}
 use Rattle.thorin_join.proofs.Moved.Readings.{plain}
 use Rattle.thorin_join.proofs.Moved.Units.{unit-moves}
 use Rattle.thorin_join.proofs.Units.HeadersRead.{Reads}
 use Rattle.thorin_again.proofs.Meant.UnitsBySection.{AreTested}
+use Rattle.dwp_base.proofs.Steps.{bind-was, same-ok}
 
 -- what rows of one encoding mean
 abbrev pub Encoded : Source → (IndexEntry → Meaning) → List IndexEntry → Type 0
@@ -113,14 +112,14 @@ named-first : (source : Source) (kind : SectionKind) (h : Header)
     Ok us → Named source kind h later us
 unfolding named_each named_unit
 named-first source kind h later us e =
-    let s1 = bind-inv (named_unit source kind (Ok h)) _ us e in
-    let s2 = bind-inv (named_each source kind later) _ us s1.2 in
-    let t1 = bind-inv (name_for source kind h) _ s1.0 s1.1 in
-    let first : (t1.0, record { from = kind; unit = h }) ≡ s1.0 = ok-eq _ _ t1.2 in
+    let s1 = bind-was (named_unit source kind (Ok h)) _ us e in
+    let s2 = bind-was (named_each source kind later) _ us s1.2 in
+    let t1 = bind-was (name_for source kind h) _ s1.0 s1.1 in
+    let first : (t1.0, record { from = kind; unit = h }) ≡ s1.0 = same-ok _ _ t1.2 in
     record {
       name = t1.0;
       others = s2.0;
-      are = sym (ok-eq _ us s2.2) ∙ ap (λ u. u ∷ s2.0)
+      are = sym (same-ok _ us s2.2) ∙ ap (λ u. u ∷ s2.0)
           (sym first);
       named = t1.1;
       rest = s2.1;
@@ -129,7 +128,7 @@ named-first source kind h later us e =
 no-named : (source : Source) (kind : SectionKind) (us : Reads) → named_each source kind []
     ≡ Ok us → us ≡ []
 unfolding named_each
-no-named source kind us h = sym (ok-eq [] us h)
+no-named source kind us h = sym (same-ok [] us h)
 
 module _ (taken : UnitsAreTaken) (first_law : FirstLaw) (find_law : FindLaw) (source : Source)
     (contents : Contents) (strings : List (List ℕ)) (rows : List IndexEntry)

@@ -1,7 +1,7 @@
 -- A finished package, taken as an input, means the units that were joined in it.
-use Rattle.std.proofs.Common.{◌≡◌, ◌∙◌, ◌⊎◌, inl, inr, ℕ, suc, Bool, true, false, cond, not}
-use Rattle.std.proofs.Common.{List, [], ◌∷◌, ◌++◌, map, ap, ap₂, sym, refl, subst, Result}
-use Rattle.std.proofs.Common.{Ok, Err, Option, Some, arith, nat_eq, length, None}
+use Rattle.std.proofs.Common.{◌≡◌, ◌∙◌, ◌⊎◌, inl, inr, ℕ, suc, Bool, true, false, cond, not, List}
+use Rattle.std.proofs.Common.{[], ◌∷◌, ◌++◌, map, ap, ap₂, sym, refl, subst, Result, Ok, Err}
+use Rattle.std.proofs.Common.{Option, Some, arith, nat_eq, length, None}
 use Rattle.std.specs.List.Sorted.{IsPermutation}
 use Rattle.std.proofs.lemmas.List.{map-append}
 use Rattle.std.proofs.lemmas.List.Sorted.{IsPermutation-refl, IsPermutation-trans}
@@ -13,7 +13,7 @@ use Rattle.dwp_base.specs.Reading.{◌>>=◌}
 use Rattle.dwp_base.specs.declared.endian.Endianness.{Endianness}
 use Rattle.dwp_bytes.specs.Input.{section}
 use Rattle.dwp_bytes.specs.declared.encoding.Encoding.{Encoding}
-use Rattle.dwp_bytes.specs.declared.fault.ReadError.{ReadError}
+use Rattle.dwp_bytes.specs.declared.error.ReadError.{ReadError}
 use Rattle.dwp_dwarf.specs.Units.{UnitsAreTaken, units, units_within}
 use Rattle.dwp_dwarf.specs.declared.unit.UnitSection.{UnitSection}
 use Rattle.dwp_dwarf.specs.declared.unit.UnitSection.TheVariants as places
@@ -29,18 +29,18 @@ use Rattle.dwp_index.specs.Index.{Index}
 use Rattle.dwp_index.specs.IndexBytes.{index_of}
 use Rattle.dwp_table.specs.declared.object.DwarfObject.{DwarfObject}
 use Rattle.dwp_index.specs.Package as reader
-use Rattle.dwp_index.specs.declared.fault.PackageError.TheVariants as faults
-use Rattle.thorin_errors.specs.Fault.{Fault, ParseFileKind, NoCompilationUnits, ParseIndex}
-use Rattle.thorin_errors.specs.Answers.{as_fault}
+use Rattle.dwp_index.specs.declared.error.PackageError.TheVariants as errors
+use Rattle.thorin_errors.specs.Errors.{ErrorValue, ParseFileKind, NoCompilationUnits, ParseIndex}
+use Rattle.thorin_errors.specs.Answers.{as_error}
 use Rattle.thorin_index.specs.declared.entry.IndexEntry.{IndexEntry}
 use Rattle.thorin_again.specs.Again.{input_encoding, HaveEncodingOf, all_meant, MeansWhereTaken}
 use Rattle.thorin_again.specs.Again.{MeansOnceWritten}
 use Rattle.thorin_join.specs.Builder.{State, IdentifiersFit, IsFinished, IsFinishedState}
-use Rattle.thorin_join.specs.Builder.{finish_test, package_or_new, order_test}
-use Rattle.thorin_join.specs.Builder.{with_source_or_new, with_units, with_input, taken, rows_of}
+use Rattle.thorin_join.specs.Builder.{finish_test, package_or_new, order_test, with_source_or_new}
+use Rattle.thorin_join.specs.Builder.{with_units, with_input, taken, rows_of}
 use Rattle.thorin_input.specs.Encodings.{encoding_of, first_encoding}
-use Rattle.thorin_input.specs.Indexes.{Indexes, Source, indexes_of}
-use Rattle.thorin_input.specs.Indexes.{is_package, index_in, version_test}
+use Rattle.thorin_input.specs.Indexes.{Indexes, Source, indexes_of, is_package, index_in}
+use Rattle.thorin_input.specs.Indexes.{version_test}
 use Rattle.thorin_join.specs.Laid.{IsLaid, Lie, is_at, rows_at}
 use Rattle.thorin_join.specs.Meaning.{Meaning, keys, meant, source_units, source_meaning}
 use Rattle.thorin_join.specs.Meaning.{input_meaning, named_sections}
@@ -58,18 +58,19 @@ use Rattle.thorin_join.proofs.Units.JoinedByName.{units-joined}
 use Rattle.thorin_join.proofs.Rows.Stay.{keep-rows}
 use Rattle.thorin_again.proofs.Meant.RowPlaces.{FirstLaw, FindLaw, IsAgain}
 use Rattle.thorin_again.proofs.Meant.OneSection.{Encoded, meant_rows, with_names, section-again}
-use Rattle.thorin_join.proofs.Steps.{err-ok, ok-eq, bind-ok, bind-inv}
+use Rattle.thorin_join.proofs.Steps.{err-ok}
 use Rattle.thorin_again.proofs.Meant.UnitsBySection.{AreTested, Split, joined-tested}
 use Rattle.thorin_again.proofs.Meant.UnitsBySection.{sections-split}
 use Rattle.thorin_join.proofs.Files.Finished.{Tested, tested-state, finished-order, finished-grows}
-use Rattle.thorin_join.proofs.Files.Finished.{finished-own, finished-strings}
-use Rattle.thorin_join.proofs.Files.Finished.{finished-compilations, finished-types}
+use Rattle.thorin_join.proofs.Files.Finished.{finished-own, finished-strings, finished-compilations}
+use Rattle.thorin_join.proofs.Files.Finished.{finished-types}
 use Rattle.thorin_join.proofs.Units.HeadersRead.{Reads}
 use Rattle.thorin_join.proofs.Units.NamesApart.{distinct_chosen}
 use Rattle.thorin_again.proofs.Opened.SectionsWritten.{useds, written-object, first-content}
 use Rattle.thorin_again.proofs.Opened.SectionsWritten.{no-info}
 use Rattle.thorin_again.proofs.Opened.Sections.{object-written, first-written}
-use Rattle.thorin_again.specs.OwnInput.{written_object}
+use Rattle.thorin_again.specs.OwnInput.{written_object, own_source}
+use Rattle.dwp_base.proofs.Steps.{bind-was, bind-ok, same-ok}
 
 -- ---- an index that an input has is the one that a reader of packages has
 
@@ -79,9 +80,9 @@ unfolding index_in index_in_section
 index-same order kind bytes a b h k = by (nat_eq (length bytes) 0) (index_of order bytes) h k
   where
     by : (e : Bool) (r : Result Index ReadError)
-        → cond e (Ok None) (as_fault (λ f. ParseIndex f (Rattle.dwp_base.specs.Sections.name_of
+        → cond e (Ok None) (as_error (λ f. ParseIndex f (Rattle.dwp_base.specs.Sections.name_of
         kind)) r >>= λ index. Ok (Some index)) ≡ Ok a
-        → cond e (Ok None) (reader.as_fault faults.Index r >>= λ index. Ok (Some index)) ≡ Ok b
+        → cond e (Ok None) (reader.as_error errors.Index r >>= λ index. Ok (Some index)) ≡ Ok b
         → a ≡ b
     by true r x y = cc
     by false (Ok i) x y = cc
@@ -98,13 +99,14 @@ pub are-indexes : (object : InputFile) (encoding : Encoding) (indexes : Indexes)
     → indexes_of object encoding ≡ Ok indexes → AreIndexes object indexes
 unfolding indexes_of
 are-indexes object encoding indexes h =
-    let s1 = bind-inv (index_in object.order kinds.CuIndex (first kinds.CuIndex object.sections)) _
+    let s1 = bind-was (index_in object.order kinds.CuIndex (first kinds.CuIndex object.sections)) _
     indexes h in
-    let s2 = bind-inv (index_in object.order kinds.TuIndex (first kinds.TuIndex object.sections))
+    let s2 = bind-was (index_in object.order kinds.TuIndex (first kinds.TuIndex object.sections))
     _ indexes s1.2 in
-    let s3 = bind-inv (version_test encoding kinds.CuIndex s1.0) _ indexes s2.2 in
-    let s4 = bind-inv (version_test encoding kinds.TuIndex s2.0) _ indexes s3.2 in
-    subst (AreIndexes object) (ok-eq _ indexes s4.2) (record { compilations = s1.1; types = s2.1 })
+    let s3 = bind-was (version_test encoding kinds.CuIndex s1.0) _ indexes s2.2 in
+    let s4 = bind-was (version_test encoding kinds.TuIndex s2.0) _ indexes s3.2 in
+    subst (AreIndexes object) (same-ok _ indexes s4.2)
+    (record { compilations = s1.1; types = s2.1 })
 
 no-rows : (rows : List IndexEntry) → rows_of true rows ≡ [] → rows_of false rows ≡ [] → rows ≡ []
 no-rows [] h k = refl
@@ -136,7 +138,7 @@ module _ (is_read : IndexIsRead) (has_entries : IndexHasEntries) (some_index : S
     (indexes : Indexes) (read : indexes_of (written_object file) encoding ≡ Ok indexes)
     (some : made.rows ≡ [] → ⊥) where
   abbrev own-source : Source
-  own-source = record { object = written_object file; encoding = encoding; indexes = indexes }
+  own-source = own_source file encoding indexes
 
   own-held : (kind : SectionKind) → first kind (written_object file).sections ≡ content_of
       kind file.contents
@@ -186,23 +188,23 @@ module _ (is_read : IndexIsRead) (has_entries : IndexHasEntries) (some_index : S
 
 -- ---- the file
 
-elf-ok : (f : Rattle.dwp_elf_read.specs.declared.fault.ReadError.ReadError → Fault)
-    (r : Result Elf Rattle.dwp_elf_read.specs.declared.fault.ReadError.ReadError) (file w : Elf)
-    → as_fault f r ≡ Ok file → r ≡ Ok w → file ≡ w
+elf-ok : (f : Rattle.dwp_elf_read.specs.declared.error.ReadError.ReadError → ErrorValue)
+    (r : Result Elf Rattle.dwp_elf_read.specs.declared.error.ReadError.ReadError) (file w : Elf)
+    → as_error f r ≡ Ok file → r ≡ Ok w → file ≡ w
 elf-ok f (Ok x) file w h k = cc
 elf-ok f (Err e) file w h k = absurd cc
 
-elf-by : (bytes : List ℕ) (kind : FileKind) (file w : Elf) → elf_in bytes kind ≡ Ok file
+pub elf-by : (bytes : List ℕ) (kind : FileKind) (file w : Elf) → elf_in bytes kind ≡ Ok file
     → elf_of bytes ≡ Ok w → file ≡ w
 elf-by bytes Archive file w h k = absurd cc
 elf-by bytes Elf32 file w h k = elf-ok _ (elf_of bytes) file w h k
 elf-by bytes Elf64 file w h k = elf-ok _ (elf_of bytes) file w h k
 
-opened-is : (bytes : List ℕ) (file w : Elf) → opened bytes ≡ Ok file
+pub opened-is : (bytes : List ℕ) (file w : Elf) → opened bytes ≡ Ok file
     → elf_of bytes ≡ Ok w → file ≡ w
 unfolding opened
 opened-is bytes file w h k =
-    let s = bind-inv (as_fault ParseFileKind (identification.kind_of bytes)) _ file h in
+    let s = bind-was (as_error ParseFileKind (identification.kind_of bytes)) _ file h in
     elf-by bytes s.0 file w s.2 k
 
 -- ---- encodings
@@ -220,8 +222,8 @@ input-encoding : (bytes : List ℕ) (w : Elf) (e : Encoding) → elf_of bytes �
     × (encoding_of object ≡ Ok e)
 unfolding input_encoding
 input-encoding bytes w e back h =
-    let s1 = bind-inv (opened bytes) _ e h in
-    let s2 = bind-inv (input_file_of s1.0) _ e s1.2 in
+    let s1 = bind-was (opened bytes) _ e h in
+    let s2 = bind-was (input_file_of s1.0) _ e s1.2 in
     (s2.0, ap input_file_of (sym (opened-is bytes s1.0 w s1.1 back)) ∙ s2.1, s2.2)
 
 -- rows whose units have the encoding of these bytes
@@ -278,16 +280,16 @@ units-taken : (bytes : List ℕ) (file : Elf) (begun now : Option InProgress) �
     → has_info file ≡ true → with_units file begun ≡ Ok now → Taken bytes file
 unfolding with_units with_source_or_new with_source
 units-taken bytes file begun now opens info h =
-    let s1 = bind-inv (input_file_of file) _ now h in
-    let s2 = bind-inv (encoding_of s1.0) _ now s1.2 in
-    let s3 = bind-inv (order_test s1.0.order begun) _ now s2.2 in
-    let s4 = bind-inv (indexes_of s1.0 s2.0) _ now s3.2 in
+    let s1 = bind-was (input_file_of file) _ now h in
+    let s2 = bind-was (encoding_of s1.0) _ now s1.2 in
+    let s3 = bind-was (order_test s1.0.order begun) _ now s2.2 in
+    let s4 = bind-was (indexes_of s1.0 s2.0) _ now s3.2 in
     let source : Source = record { object = s1.0; encoding = s2.0; indexes = s4.0 } in
     let made = package_or_new file begun in
-    let s5 = bind-inv (with_source source made) _ now s4.2 in
-    let t1 = bind-inv (parts_of source made.strings) _ s5.0 s5.1 in
-    let t2 = bind-inv (abbreviations_test source.object) _ s5.0 t1.2 in
-    let t3 = bind-inv (new_units (adding source made t1.0.0)) _ s5.0 t2.2 in
+    let s5 = bind-was (with_source source made) _ now s4.2 in
+    let t1 = bind-was (parts_of source made.strings) _ s5.0 s5.1 in
+    let t2 = bind-was (abbreviations_test source.object) _ s5.0 t1.2 in
+    let t3 = bind-was (new_units (adding source made t1.0.0)) _ s5.0 t2.2 in
     let j = units-joined (adding source made t1.0.0) t3.0 t3.1 in
     record {
       object = s1.0;
@@ -319,8 +321,8 @@ state-taken : (bytes : List ℕ) (before after : State) (w : Elf) → elf_of byt
     ⊎ Taken bytes w
 unfolding taken with_input
 state-taken bytes before after w back h =
-    let s1 = bind-inv (with_input bytes before.begun) _ after h in
-    let s2 = bind-inv (opened bytes) _ s1.0 s1.1 in
+    let s1 = bind-was (with_input bytes before.begun) _ after h in
+    let s2 = bind-was (opened bytes) _ s1.0 s1.1 in
     let is : s2.0 ≡ w = opened-is bytes s2.0 w s2.1 back in
     subst (λ f. ((has_info f ≡ false) × (input_meaning bytes ≡ Ok [])) ⊎ Taken bytes f) is
     (input-taken bytes s2.0 before.begun s1.0 (has_info s2.0) s2.1 refl s2.2)
@@ -376,7 +378,7 @@ module _ (reads : UnitsAreTaken) (first_law : FirstLaw) (find_law : FindLaw) (is
     written = written-object file t.object differ t.object_is
 
     same_object : t.object ≡ written_object file
-    same_object = ok-eq _ _ (sym t.object_is ∙ object-written file differ)
+    same_object = same-ok _ _ (sym t.object_is ∙ object-written file differ)
 
     held : (kind : SectionKind) → first kind t.object.sections ≡ content_of kind file.contents
     held kind = ap (first kind) written.1 ∙ first-content kind file.contents differ
@@ -397,8 +399,8 @@ module _ (reads : UnitsAreTaken) (first_law : FirstLaw) (find_law : FindLaw) (is
     encoding-is : (e : Encoding) → input_encoding (file_text file) ≡ Ok e → t.encoding ≡ e
     encoding-is e h =
         let i = input-encoding (file_text file) (written_elf file) e back h in
-        let same : t.object ≡ i.0 = ok-eq _ _ (sym t.object_is ∙ i.1) in
-        ok-eq _ _ (sym t.encoding_is ∙ ap encoding_of same ∙ i.2)
+        let same : t.object ≡ i.0 = same-ok _ _ (sym t.object_is ∙ i.1) in
+        same-ok _ _ (sym t.encoding_is ∙ ap encoding_of same ∙ i.2)
 
     again : IsAgain source file.contents made.strings made.rows
     again = subst (λ o. IsAgain (record {
@@ -475,12 +477,12 @@ module _ (reads : UnitsAreTaken) (first_law : FirstLaw) (find_law : FindLaw) (is
       elim (state-taken (file_text file) before after (written_elf file) back took) [
         | inl none ↦
             let rows : made.rows ≡ [] = none-meant (no-info file none.0) in
-            let no_units : units ≡ [] = ok-eq _ _ (sym meaning ∙ none.1) in
+            let no_units : units ≡ [] = same-ok _ _ (sym meaning ∙ none.1) in
             subst (IsPermutation (all_meant (units_of made))) (sym no_units)
             (subst (λ l. IsPermutation l []) (sym (ap (λ rs. all_meant (with_names mean rs)) rows))
             (IsPermutation-refl []))
         | inr t ↦ subst (IsPermutation (all_meant (units_of made)))
-            (ok-eq _ _ (sym t.meaning ∙ meaning)) (rows-meant t)
+            (same-ok _ _ (sym t.meaning ∙ meaning)) (rows-meant t)
       ]
 
 pub again-is : UnitsAreTaken → FirstLaw → FindLaw → IndexIsRead → IndexHasEntries

@@ -23,7 +23,7 @@ use Rattle.dwp_table.specs.Probing.{found_row, look_count}
 use Rattle.dwp_table.specs.Table.{IsIndex, FindsExactly}
 use Rattle.dwp_table.specs.declared.object.DwarfObject.{DwarfObject}
 use Rattle.dwp_table.specs.declared.object.DwarfObject.TheVariants.{Compilation, TypeUnit}
-use Rattle.thorin_errors.specs.Fault.{Fault}
+use Rattle.thorin_errors.specs.Errors.{ErrorValue}
 use Rattle.thorin_identity.specs.Identity.{identity_by, identity}
 use Rattle.thorin_packaged.specs.RowPlaces.{row_by_place, IsFirstWith}
 use Rattle.thorin_index.specs.Entries.{contribution_to}
@@ -162,19 +162,20 @@ pub same-number : (looked : Option ℕ) (n : ℕ) → is_same_row (Some n) looke
 same-number None n h = absurd (true≢false (sym h))
 same-number (Some m) n h = ap Some (sym (eqb-true n m h))
 
-pub test-inv : (packed same : Bool) (fault : Fault) → packed ≡ true
-    → ◌≡◌ {A = Result (Unit {0}) Fault}
-    (cond (not packed) (Ok tt) (cond same (Ok tt) (Err fault))) (Ok tt) → same ≡ true
-test-inv true true fault p h = refl
-test-inv true false fault p h = absurd cc
-test-inv false same fault p h = absurd (true≢false (sym p))
+pub test-inv : (packed same : Bool) (error : ErrorValue) → packed ≡ true
+    → ◌≡◌ {A = Result (Unit {0}) ErrorValue}
+    (cond (not packed) (Ok tt) (cond same (Ok tt) (Err error))) (Ok tt) → same ≡ true
+test-inv true true error p h = refl
+test-inv true false error p h = absurd cc
+test-inv false same error p h = absurd (true≢false (sym p))
 
-pub test-ok : (packed same : Bool) (fault : Fault) → packed ≡ true → same ≡ true
-    → ◌≡◌ {A = Result (Unit {0}) Fault} (cond (not packed) (Ok tt) (cond same (Ok tt) (Err fault)))
+pub test-ok : (packed same : Bool) (error : ErrorValue) → packed ≡ true → same ≡ true
+    → ◌≡◌ {A = Result (Unit {0}) ErrorValue} (cond (not packed) (Ok tt)
+    (cond same (Ok tt) (Err error)))
     (Ok tt)
-test-ok true true fault p h = refl
-test-ok true false fault p h = absurd (true≢false (sym h))
-test-ok false same fault p h = absurd (true≢false (sym p))
+test-ok true true error p h = refl
+test-ok true false error p h = absurd (true≢false (sym h))
+test-ok false same error p h = absurd (true≢false (sym p))
 
 -- a compile unit's name is looked for among compilations
 pub compile-sort : (source : Source) (type : UnitType) (name : DwarfObject) → is_compile type ≡ true

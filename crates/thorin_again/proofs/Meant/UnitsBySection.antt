@@ -1,7 +1,7 @@
 -- The units of a written file, section by section.
 use Rattle.std.proofs.Common.{◌≡◌, ◌∙◌, ℕ, true, false, Bool, cond, not, ◌&&◌, List, [], ◌∷◌, ◌++◌}
-use Rattle.std.proofs.Common.{ap, sym, refl, subst, Result, Ok, append-nil, arith}
-use Rattle.std.proofs.Common.{Option, Some, None}
+use Rattle.std.proofs.Common.{ap, sym, refl, subst, Result, Ok, append-nil, arith, Option, Some}
+use Rattle.std.proofs.Common.{None}
 use Rattle.std.specs.List.{list_any}
 use Rattle.std.specs.List.Sorted.{IsPermutation}
 use Rattle.std.proofs.lemmas.List.Sorted.{IsPermutation-refl, IsPermutation-trans}
@@ -16,7 +16,7 @@ use Rattle.dwp_dwarf.specs.declared.unit.UnitSection.{UnitSection}
 use Rattle.dwp_dwarf.specs.declared.unit.UnitSection.TheVariants as places
 use Rattle.dwp_elf.specs.Contents.{KindsDiffer, content_of}
 use Rattle.dwp_table.specs.declared.object.DwarfObject.{DwarfObject}
-use Rattle.thorin_errors.specs.Fault.{Fault}
+use Rattle.thorin_errors.specs.Errors.{ErrorValue}
 use Rattle.thorin_input.specs.Growing.{Contents}
 use Rattle.thorin_input.specs.Indexes.{Source}
 use Rattle.thorin_join.specs.Meaning.{UnitRead, joining, can_join, named_each, named_at}
@@ -26,12 +26,12 @@ use Rattle.thorin_input.specs.NewUnits.{Adding, NewUnit, unit_section}
 use Rattle.thorin_input.specs.Rows.{row_test}
 use Rattle.thorin_join.specs.State.{kind_at}
 use Rattle.thorin_join.proofs.Units.JoinedByName.{AreAdded}
-use Rattle.thorin_join.proofs.Steps.{ok-eq, bind-inv}
 use Rattle.thorin_join.proofs.Units.HeadersRead.{kind-place, Reads}
 use Rattle.thorin_join.proofs.Parts.Appended.{differ}
 use Rattle.thorin_join.proofs.Files.Contents.{nothing}
 use Rattle.thorin_again.proofs.Opened.SectionsWritten.{useds, empty-content}
 use Rattle.thorin_again.proofs.Opened.Sections.{rest-differ, section_of}
+use Rattle.dwp_base.proofs.Steps.{bind-was, same-ok}
 
 -- ---- the rows of compilation units that are accepted were tested
 
@@ -82,7 +82,7 @@ joined-tested adding names (u ∷ us) ns can are =
 -- ---- the units of info and of types
 
 -- the units that a section of a place has
-abbrev pub section_units : Source → UnitSection → Contents → Result Reads Fault
+abbrev pub section_units : Source → UnitSection → Contents → Result Reads ErrorValue
 section_units source place cs = named_each source (kind_at place)
     (units place (section source.object.order (content_of (kind_at place) cs)))
 
@@ -134,7 +134,7 @@ module _ (source : Source) (k : SectionKind) (bytes : List ℕ) (cs : Contents) 
       → named_each source kinds.Info (units places.Info (section source.object.order bytes)) ≡ Ok
       here → Split source now (here ++ others)
   info-split h none t read =
-      let no : rest.infos ≡ [] = ok-eq _ _ (sym rest.info ∙ no-units source places.Info
+      let no : rest.infos ≡ [] = same-ok _ _ (sym rest.info ∙ no-units source places.Info
       (content_of kinds.Info cs) none) in
       record {
         infos = here;
@@ -155,7 +155,7 @@ module _ (source : Source) (k : SectionKind) (bytes : List ℕ) (cs : Contents) 
       → named_each source kinds.Types (units places.Types (section source.object.order bytes)) ≡ Ok
       here → Split source now (here ++ others)
   types-split h none t read =
-      let no : rest.types ≡ [] = ok-eq _ _ (sym rest.type ∙ no-units source places.Types
+      let no : rest.types ≡ [] = same-ok _ _ (sym rest.type ∙ no-units source places.Types
       (content_of kinds.Types cs) none) in
       let infos : IsPermutation rest.infos others = subst (λ l. IsPermutation l others)
       (append-nil rest.infos)
@@ -201,7 +201,7 @@ section-split source k bytes cs here others apart tested rest h = by (unit_secti
         other-split source k bytes cs here others tested rest
         (ap (λ b. cond b bytes (content_of kinds.Info cs)) (other places.Info refl))
         (ap (λ b. cond b bytes (content_of kinds.Types cs)) (other places.Types refl))
-        (sym (ok-eq [] here h))
+        (sym (same-ok [] here h))
     by (Some place) at h =
         subst (λ j. KindsDiffer ((j, bytes) ∷ cs)
         → named_at source (section_of (j, bytes)) (Some place) ≡ Ok here
@@ -219,16 +219,16 @@ sections-split source [] all differ h tested = record {
   type = no-units source places.Types [] refl;
   info_tested = tt;
   types_tested = tt;
-  are = subst (IsPermutation []) (ok-eq [] all h) (IsPermutation-refl []);
+  are = subst (IsPermutation []) (same-ok [] all h) (IsPermutation-refl []);
 }
 sections-split source ((k, []) ∷ cs) all differ h tested =
     split-as source ((k, []) ∷ cs) cs all (empty-content kinds.Info k cs differ)
     (empty-content kinds.Types k cs differ)
     (sections-split source cs all (rest-differ (k, []) cs differ) h tested)
 sections-split source ((k, b ∷ bs) ∷ cs) all differ h tested =
-    let s1 = bind-inv (named_at source (section_of (k, b ∷ bs)) (unit_section k)) _ all h in
-    let s2 = bind-inv (named_sections source (useds cs)) _ all s1.2 in
-    let is : s1.0 ++ s2.0 ≡ all = ok-eq _ all s2.2 in
+    let s1 = bind-was (named_at source (section_of (k, b ∷ bs)) (unit_section k)) _ all h in
+    let s2 = bind-was (named_sections source (useds cs)) _ all s1.2 in
+    let is : s1.0 ++ s2.0 ≡ all = same-ok _ all s2.2 in
     let both : AreTested source (s1.0 ++ s2.0) = subst (AreTested source) (sym is) tested in
     let rest = sections-split source cs s2.0 (rest-differ (k, b ∷ bs) cs differ) s2.1
     (tested-back source s1.0 s2.0 both) in

@@ -22,7 +22,7 @@ use Rattle.thorin_join.specs.Builder.{State, IsFinished}
 use Rattle.thorin_input.specs.Growing.{Contents, with_bytes}
 use Rattle.thorin_input.specs.Indexes.{Indexes, Source, indexes_of}
 use Rattle.thorin_join.specs.Meaning.{Meaning, Members}
-use Rattle.thorin_again.specs.OwnInput.{written_object, IsOwn}
+use Rattle.thorin_again.specs.OwnInput.{written_object, IsOwn, own_source}
 use Rattle.thorin_again.specs.OwnRefusals.{UnlessStringOffset}
 use Rattle.thorin_again.specs.OwnUnits.{AllOf}
 use Rattle.thorin_input.specs.InputStrings.{rewritten}
@@ -130,11 +130,7 @@ pub record IsReadOf (state : State) (encoding : Encoding) (file : File)
   pub sound : IsSound made
   pub plain : IsPlain encoding made
   pub all : AllOf encoding (units_of made)
-  pub again : IsAgain (record {
-    object = written_object file;
-    encoding = encoding;
-    indexes = indexes;
-  }) file.contents made.strings made.rows
+  pub again : IsAgain (own_source file encoding indexes) file.contents made.strings made.rows
 
 pub read-of : IndexIsRead → IndexHasEntries → SomeIndex → NoIndex → (state : State)
     (encoding : Encoding) (file : File) → IsOwn state encoding file
@@ -166,22 +162,15 @@ pub own-offsets : IndexIsRead → IndexHasEntries → SomeIndex → NoIndex
     → (state : State) (encoding : Encoding) (file : File) → IsOwn state encoding file
     → (made : InProgress) → state.begun ≡ Some made → IsPlain encoding made → (indexes : Indexes)
     → indexes_of (written_object file) encoding ≡ Ok indexes → (strings : List (List ℕ))
-    → UnlessStringOffset (rewritten (record {
-      object = written_object file;
-      encoding = encoding;
-      indexes = indexes;
-    }) (content_of kinds.StrOffsets file.contents) strings)
+    → UnlessStringOffset (rewritten (own_source file encoding indexes) (content_of kinds.StrOffsets
+    file.contents) strings)
 own-offsets is_read has_entries some_index none_index state encoding file own other begun plain
     indexes read strings =
     let is = read-of is_read has_entries some_index none_index state encoding file own other begun
     plain indexes read in
     let made = is.made in
     let f = is.finished in
-    let source : Source = record {
-      object = written_object file;
-      encoding = encoding;
-      indexes = indexes;
-    } in
+    let source : Source = own_source file encoding indexes in
     let order : file.order ≡ made.file.order = finished-order made file f in
     let content = finished-shared made file f kinds.StrOffsets refl in
     let old = content_of kinds.StrOffsets made.file.contents in
@@ -209,7 +198,7 @@ pub own-offsets-alone : IndexIsRead → IndexHasEntries → SomeIndex → NoInde
     → (made : InProgress) → state.begun ≡ Some made → IsPlain encoding made → (indexes : Indexes)
     → indexes_of (written_object file) encoding ≡ Ok indexes
     → (w : List ℕ × List (List ℕ))
-    × (rewritten (record { object = written_object file; encoding = encoding; indexes = indexes })
+    × (rewritten (own_source file encoding indexes)
     (content_of kinds.StrOffsets file.contents) [] ≡ Ok w)
 own-offsets-alone is_read has_entries some_index none_index state encoding file own other begun
     plain indexes read =
@@ -217,11 +206,7 @@ own-offsets-alone is_read has_entries some_index none_index state encoding file 
     plain indexes read in
     let made = is.made in
     let f = is.finished in
-    let source : Source = record {
-      object = written_object file;
-      encoding = encoding;
-      indexes = indexes;
-    } in
+    let source : Source = own_source file encoding indexes in
     let order : file.order ≡ made.file.order = finished-order made file f in
     let content = finished-shared made file f kinds.StrOffsets refl in
     let old = content_of kinds.StrOffsets made.file.contents in

@@ -27,13 +27,13 @@ use Rattle.dwp_bytes.specs.StringOffsets.{header_size, entry_count, string_at}
 use Rattle.dwp_bytes.specs.declared.encoding.Encoding.{Encoding}
 use Rattle.dwp_bytes.specs.declared.encoding.Format.{Format}
 use Rattle.dwp_bytes.specs.declared.encoding.Format.TheVariants.{Dwarf32, Dwarf64}
-use Rattle.dwp_bytes.specs.declared.fault.ReadError.{ReadError}
-use Rattle.dwp_bytes.specs.declared.fault.ReadError.TheVariants.{UnexpectedEof, RowOutOfRange}
+use Rattle.dwp_bytes.specs.declared.error.ReadError.{ReadError}
+use Rattle.dwp_bytes.specs.declared.error.ReadError.TheVariants.{UnexpectedEof, RowOutOfRange}
 use Rattle.dwp_index.specs.Index.{Index, Ranges, row_in, range_in}
 use Rattle.dwp_index.specs.Strings.{entry_in, string_for, string_in}
-use Rattle.thorin_errors.specs.Answers.{as_fault}
-use Rattle.thorin_errors.specs.Fault.{Fault, OffsetAtIndex, StrAtOffset, NumberTooLarge}
-use Rattle.thorin_errors.specs.Fault.{BadStringOffsets, OverlappingStringOffsets}
+use Rattle.thorin_errors.specs.Answers.{as_error}
+use Rattle.thorin_errors.specs.Errors.{ErrorValue, OffsetAtIndex, StrAtOffset, NumberTooLarge}
+use Rattle.thorin_errors.specs.Errors.{BadStringOffsets, OverlappingStringOffsets}
 use Rattle.thorin_packaged.specs.PackagedOffsets.{place_cmp, with_ranges, with_rows, offset_ranges}
 use Rattle.thorin_packaged.specs.PackagedOffsets.{is_whole_range, ranges_test, rewritten_from}
 use Rattle.thorin_packaged.specs.PackagedOffsets.{packaged_offsets}
@@ -53,7 +53,7 @@ use Rattle.thorin_join.specs.StandApart.{EachRow}
 use Rattle.thorin_join.proofs.Files.Indexes.{HasRows}
 use Rattle.thorin_join.proofs.Parts.OffsetRanges.{count-again}
 use Rattle.thorin_again.proofs.Meant.RowPlaces.{get-there, non_empty-some, first-row}
-use Rattle.thorin_join.proofs.Steps.{ok-eq, bind-ok, bind-inv}
+use Rattle.dwp_base.proofs.Steps.{bind-was, bind-ok, same-ok}
 
 -- ---- ranges in the order of others, of which some may be left out
 
@@ -219,7 +219,7 @@ module _ (order : Endianness) (encoding : Encoding) (end : ℕ) (ys : List Contr
       let entry = get-there rows l (omega (arith, count, within)) in
       let parts = has.each l entry.0 entry.1 in
       let next : suc l ≡ l + 1 = omega arith in
-      let same : row ≡ parts.row = ok-eq {E = ReadError} _ _ (sym read ∙ ap (row_in index) next
+      let same : row ≡ parts.row = same-ok {E = ReadError} _ _ (sym read ∙ ap (row_in index) next
       ∙ parts.there) in
       each-at rows l entry.0 h entry.1 range (non_empty-some (contribution_to StrOffsets entry.0)
       range (sym (parts.parts StrOffsets) ∙ ap (λ x. range_in x StrOffsets) (sym same) ∙ e))
@@ -305,10 +305,10 @@ ranges-tested order encoding size last_end at end (y ∷ ys) (x ∷ xs) tile (in
     (sym long) tile.1 in
     let fits = is-whole order encoding size x whole (omega (arith, from, long, last, high)) in
     let apart : ltb x.offset.0 last_end ≡ false = le-ltb _ _ (omega (arith, from, low)) in
-    ap (λ b. cond {A = Result (Unit {0}) Fault} (not b) (Err (BadStringOffsets x.offset.0))
+    ap (λ b. cond {A = Result (Unit {0}) ErrorValue} (not b) (Err (BadStringOffsets x.offset.0))
     (cond (nat_lt x.offset.0 last_end) (Err (OverlappingStringOffsets x.offset.0))
     (ranges_test encoding size (x.offset.0 + x.size) xs))) fits
-    ∙ ap (λ b. cond {A = Result (Unit {0}) Fault} b (Err (OverlappingStringOffsets x.offset.0))
+    ∙ ap (λ b. cond {A = Result (Unit {0}) ErrorValue} b (Err (OverlappingStringOffsets x.offset.0))
     (ranges_test encoding size (x.offset.0 + x.size) xs)) apart
     ∙ ranges-tested order encoding size (x.offset.0 + x.size) (at + y.size) end ys xs tile.2 p.1
     (omega (arith, from, long)) high
@@ -324,7 +324,8 @@ AreNamed order encoding section bytes n = (k : ℕ) → k < n → (string : List
     × (named_at order encoding section bytes k ≡ Ok string)
 
 -- a step, and then another
-pub then-unless : {X Y : Type 0} (r : Result X Fault) (f : X → Result Y Fault) → UnlessStringOffset
+pub then-unless : {X Y : Type 0} (r : Result X ErrorValue) (f : X → Result Y ErrorValue)
+    → UnlessStringOffset
     r → ((x : X) → r ≡ Ok x → UnlessStringOffset (f x)) → UnlessStringOffset (r >>= f)
 then-unless (Ok x) f h k = k x refl
 then-unless (Err e) f h k = h
@@ -333,7 +334,7 @@ fits-or : (format : Format) (offset : ℕ) → UnlessStringOffset (fitting_offse
 unfolding fitting_offset
 fits-or format offset = by (nat_lt (offset_limit format) offset)
   where
-    by : (b : Bool) → UnlessStringOffset (cond {A = Result ℕ Fault} b
+    by : (b : Bool) → UnlessStringOffset (cond {A = Result ℕ ErrorValue} b
         (Err (NumberTooLarge (codes "string offset") offset)) (Ok offset))
     by true = (offset, refl)
     by false = tt
@@ -381,7 +382,7 @@ range-rewritten order encoding section bytes size strings whole named =
 
     by : (none short : Bool) → none ≡ false → short ≡ false → header_of order encoding
         (entry_count encoding size * offset_size encoding.format) ≡ Ok whole.header
-        → UnlessStringOffset (cond {A = Result (List ℕ × List (List ℕ)) Fault} none
+        → UnlessStringOffset (cond {A = Result (List ℕ × List (List ℕ)) ErrorValue} none
         (Ok ([], strings)) (cond short (Err (BadStringOffsets 0))
         (header_of order encoding (entry_count encoding size * offset_size encoding.format) >>=
         λ header.
@@ -457,12 +458,12 @@ named-by order encoding section bytes k n there long less h =
     let offset = number order width (drop at bytes) in
     let read : (string_at section offset >>= λ string. Ok (Some string)) ≡ Ok there =
     sym (ap (λ b. string_for section (cond b (Some offset) None)) within) ∙ h in
-    let s = bind-inv (string_at section offset) _ there read in (
+    let s = bind-was (string_at section offset) _ there read in (
       s.0,
-      ap (λ b. as_fault (λ e. OffsetAtIndex e k) (cond {A = Result ℕ ReadError} b
-          (Err UnexpectedEof) (Ok offset)) >>= λ o. as_fault (λ e. StrAtOffset e o)
+      ap (λ b. as_error (λ e. OffsetAtIndex e k) (cond {A = Result ℕ ReadError} b
+          (Err UnexpectedEof) (Ok offset)) >>= λ o. as_error (λ e. StrAtOffset e o)
           (string_at section o)) enough
-          ∙ ap (as_fault (λ e. StrAtOffset e offset)) s.1,
+          ∙ ap (as_error (λ e. StrAtOffset e offset)) s.1,
     )
 
 pub are-named : (order : Endianness) (encoding : Encoding) (section bytes : List ℕ) (there : ℕ

@@ -31,12 +31,10 @@ use Rattle.thorin_join.proofs.Files.Indexes.{HasRows}
 use Rattle.thorin_again.proofs.Offsets.RewrittenAgain.{InTurn}
 use Rattle.thorin_again.proofs.Offsets.Tiled.{weaker}
 use Rattle.thorin_again.proofs.Offsets.RangesApart.{EachSome, index-holds, each-chosen, rows-some}
-use Rattle.thorin_again.proofs.Offsets.RangesApart.{all-some}
-use Rattle.thorin_again.proofs.Offsets.RangesApart.{inserted, ranges-tested, IsPartOf, part-later}
-use Rattle.thorin_again.proofs.Offsets.RangesApart.{first-among}
-use Rattle.thorin_again.proofs.Offsets.RangesApart.{tile-apart, cmp-less, cmp-greater, cmp-equal}
-use Rattle.thorin_again.proofs.Offsets.RangesApart.{Put}
-use Rattle.thorin_join.proofs.Steps.{bind-ok}
+use Rattle.thorin_again.proofs.Offsets.RangesApart.{all-some, inserted, ranges-tested, IsPartOf}
+use Rattle.thorin_again.proofs.Offsets.RangesApart.{part-later, first-among, tile-apart, cmp-less}
+use Rattle.thorin_again.proofs.Offsets.RangesApart.{cmp-greater, cmp-equal, Put}
+use Rattle.dwp_base.proofs.Steps.{bind-ok}
 
 -- ---- parts of a list
 

@@ -5,7 +5,7 @@ use Rattle.std.proofs.Common.{cond, eqb, ltb, List, [], ◌∷◌, ◌++◌, len
 use Rattle.std.proofs.Common.{ap, subst, Result, Ok, Err, arith, ⊎_elim, length-append, add-mul}
 use Rattle.std.specs.Prelude.{nat_lt, slice_range}
 use Rattle.std.proofs.Math.Dec.{eqb-suc-zero}
-use Rattle.std.proofs.Math.Seq.{drop-append-add, drop-append_seam, take-length}
+use Rattle.std.proofs.Math.Seq.{drop-append-add}
 use Rattle.std.proofs.lemmas.Bool.{cases_lt, lt-ltb, le-ltb, eqb-true}
 use Rattle.std.proofs.lemmas.List.{length-drop, drop-append-le}
 use Rattle.std.proofs.lemmas.Nat.{row_fits}
@@ -16,10 +16,10 @@ use Rattle.dwp_base.specs.declared.section.Contribution.{Contribution}
 use Rattle.dwp_bytes.specs.Encoding.{offset_size}
 use Rattle.dwp_bytes.specs.StringOffsets.{header_size, entry_count, string_at}
 use Rattle.dwp_bytes.specs.declared.encoding.Encoding.{Encoding}
-use Rattle.dwp_bytes.specs.declared.fault.ReadError.{ReadError}
-use Rattle.dwp_bytes.specs.declared.fault.ReadError.TheVariants.{UnexpectedEof}
-use Rattle.thorin_errors.specs.Answers.{as_fault}
-use Rattle.thorin_errors.specs.Fault.{Fault, OffsetAtIndex, StrAtOffset, BadStringOffsets}
+use Rattle.dwp_bytes.specs.declared.error.ReadError.{ReadError}
+use Rattle.dwp_bytes.specs.declared.error.ReadError.TheVariants.{UnexpectedEof}
+use Rattle.thorin_errors.specs.Answers.{as_error}
+use Rattle.thorin_errors.specs.Errors.{ErrorValue, OffsetAtIndex, StrAtOffset, BadStringOffsets}
 use Rattle.thorin_packaged.specs.PackagedOffsets.{rewritten_from}
 use Rattle.thorin_packaged.specs.PackagedReading.{range_bytes}
 use Rattle.thorin_strings.specs.StringOffsets.{header_of, offset_at, named_at, fitting_offset}
@@ -27,12 +27,13 @@ use Rattle.thorin_strings.specs.StringOffsets.{remapped_entry, remapped_entries,
 use Rattle.thorin_strings.specs.StringOffsets.{entry_bytes}
 use Rattle.thorin_strings.specs.Strings.{IsTable, data_of, offset_of, with_string}
 use Rattle.thorin_again.specs.Plain.{IsWholeRange, Tile}
-use Rattle.thorin_join.proofs.Parts.FirstUses.{no-entries, fault-inv}
+use Rattle.thorin_join.proofs.Parts.FirstUses.{no-entries, error-inv}
 use Rattle.thorin_join.proofs.Rows.Stay.{range-front}
-use Rattle.thorin_join.proofs.Parts.OffsetRanges.{number-front, no-header, count-again}
+use Rattle.thorin_join.proofs.Parts.OffsetRanges.{count-again}
 use Rattle.thorin_again.proofs.Offsets.RangesApart.{tile-end}
 use Rattle.thorin_join.proofs.Parts.OffsetLaws.{NamesTheSameLaw}
-use Rattle.thorin_join.proofs.Steps.{ok-eq, bind-ok, bind-inv}
+use Rattle.dwp_base.proofs.Steps.{bind-was, bind-ok, same-ok}
+use Rattle.thorin_packaged.proofs.OffsetsJoined.{number_front, no_header}
 
 module _ (order : Endianness) (encoding : Encoding) where
   abbrev width : ℕ
@@ -52,11 +53,12 @@ module _ (order : Endianness) (encoding : Encoding) where
   unfolding remapped_entries remapped_entry
   entries-alike s t xs ys zero strings h = refl
   entries-alike s t xs ys (suc n) strings h =
-      let entry : List (List ℕ) → Result (List ℕ) Fault → Result (ℕ × List (List ℕ)) Fault =
+      let entry : List (List ℕ) → Result (List ℕ) ErrorValue
+      → Result (ℕ × List (List ℕ)) ErrorValue =
       λ before q. q >>= λ string. fitting_offset encoding.format (offset_of before string) >>=
       λ offset. Ok (offset, with_string before string) in
-      let all : Result (List ℕ × List (List ℕ)) Fault → Result (List ℕ) Fault
-      → Result (List ℕ × List (List ℕ)) Fault =
+      let all : Result (List ℕ × List (List ℕ)) ErrorValue → Result (List ℕ) ErrorValue
+      → Result (List ℕ × List (List ℕ)) ErrorValue =
       λ r q. r >>= λ before. entry before.1 q >>= λ e. Ok (before.0 ++ e.0 ∷ [], e.1) in
       let before = entries-alike s t xs ys n strings (λ k less. h k (omega (arith, less))) in
       let here = h n (omega arith) in
@@ -70,7 +72,7 @@ module _ (order : Endianness) (encoding : Encoding) where
       by (eqb size 0) (nat_lt size (header_size encoding)) refl h
     where
       by : (none short : Bool) → eqb size 0 ≡ none
-          → cond {A = Result (List ℕ × List (List ℕ)) Fault} none (Ok ([], strings))
+          → cond {A = Result (List ℕ × List (List ℕ)) ErrorValue} none (Ok ([], strings))
           (cond short (Err (BadStringOffsets 0))
           (header_of order encoding (entry_count encoding size * offset_size encoding.format) >>=
           λ header.
@@ -83,17 +85,17 @@ module _ (order : Endianness) (encoding : Encoding) where
         ap (λ n. remapped_entries order encoding section bytes n strings) (ap (entry_count encoding)
             (eqb-true size 0 none) ∙ no-entries encoding)
             ∙ ap (λ (w : List ℕ × List (List ℕ)). Ok ([], w.1))
-            (ok-eq {E = Fault} ([], strings) written k),
+            (same-ok {E = ErrorValue} ([], strings) written k),
       )
       by false true none k = absurd cc
       by false false none k =
-          let s1 = bind-inv (header_of order encoding (entry_count encoding size * offset_size
+          let s1 = bind-was (header_of order encoding (entry_count encoding size * offset_size
           encoding.format)) _ written k in
-          let s2 = bind-inv (remapped_entries order encoding section bytes
+          let s2 = bind-was (remapped_entries order encoding section bytes
           (entry_count encoding size) strings) _ written s1.2 in (
             s2.0.0,
             s2.1 ∙ ap (λ (w : List ℕ × List (List ℕ)). Ok (s2.0.0, w.1))
-                (ok-eq {E = Fault} _ written s2.2),
+                (same-ok {E = ErrorValue} _ written s2.2),
           )
 
   -- what was rewritten, in the section of any strings that begin with those after it
@@ -127,7 +129,7 @@ module _ (order : Endianness) (encoding : Encoding) where
       ap (λ b. cond {A = Result ℕ ReadError} b (Err UnexpectedEof)
       (Ok (number order width (drop at (xs ++ ys))))) here
       ∙ ap (λ n. Ok n) (ap (number order width) (drop-append-le at xs ys (omega (arith, room))) ∙
-      number-front order encoding.format (drop at xs) ys (omega (arith, room, left)))
+      number_front order encoding.format (drop at xs) ys (omega (arith, room, left)))
       ∙ sym (ap (λ b. cond {A = Result ℕ ReadError} b (Err UnexpectedEof)
       (Ok (number order width (drop at xs)))) there)
 
@@ -154,9 +156,9 @@ module _ (order : Endianness) (encoding : Encoding) where
         encoding section xs k
     unfolding named_at
     named-front k less =
-        let header = no-header encoding old in
+        let header = no_header encoding old in
         let room : k * width + width ≤ n * width = row_fits k width n width less (omega arith) in
-        ap (λ r. as_fault (λ e. OffsetAtIndex e k) r >>= λ o. as_fault (λ e. StrAtOffset e o)
+        ap (λ r. as_error (λ e. OffsetAtIndex e k) r >>= λ o. as_error (λ e. StrAtOffset e o)
         (string_at section o))
         (offset-front xs ys (header_size encoding + k * width) (omega (arith, header, room, long)))
 
@@ -164,9 +166,9 @@ module _ (order : Endianness) (encoding : Encoding) where
         → named_at order encoding section (xs ++ ys) (n + k) ≡ Ok string
     unfolding named_at
     named-back k string h =
-        let s = bind-inv (as_fault (λ e. OffsetAtIndex e k) (offset_at order encoding.format ys
+        let s = bind-was (as_error (λ e. OffsetAtIndex e k) (offset_at order encoding.format ys
         (header_size encoding + k * width))) _ string h in
-        let alone = fault-inv (λ e. OffsetAtIndex e k) (offset_at order encoding.format ys
+        let alone = error-inv (λ e. OffsetAtIndex e k) (offset_at order encoding.format ys
         (header_size encoding + k * width)) s.0 s.1 in
         let sum = add-mul n k width in
         let place : header_size encoding + (n + k) * width ≡ length xs + (header_size encoding + k *
@@ -175,9 +177,9 @@ module _ (order : Endianness) (encoding : Encoding) where
         width) ≡ Ok s.0 =
         ap (offset_at order encoding.format (xs ++ ys)) place ∙ offset-back xs ys
         (header_size encoding + k * width) ∙ alone in
-        bind-ok (as_fault (λ e. OffsetAtIndex e (n + k)) (offset_at order encoding.format (xs ++ ys)
+        bind-ok (as_error (λ e. OffsetAtIndex e (n + k)) (offset_at order encoding.format (xs ++ ys)
         (header_size encoding + (n + k) * width))) s.0 _
-        (ap (as_fault (λ e. OffsetAtIndex e (n + k))) there)
+        (ap (as_error (λ e. OffsetAtIndex e (n + k))) there)
         ∙ s.2
 
     -- first those of the one, then those of the other
@@ -191,14 +193,14 @@ module _ (order : Endianness) (encoding : Encoding) where
               ∙ entries-alike section section (xs ++ ys) xs n before named-front
               ∙ first.1
               ∙ ap (λ (w : List ℕ × List (List ℕ)). Ok (first.0, w.1))
-              (ok-eq {E = Fault} ([], middle) (second.0, after) second.1),
+              (same-ok {E = ErrorValue} ([], middle) (second.0, after) second.1),
         )
     leads-joined (suc m) before middle after first second =
-        let s1 = bind-inv (remapped_entries order encoding section ys m middle) _
+        let s1 = bind-was (remapped_entries order encoding section ys m middle) _
         (second.0, after) second.1 in
-        let s2 = bind-inv (remapped_entry order encoding section ys m s1.0.1) _
+        let s2 = bind-was (remapped_entry order encoding section ys m s1.0.1) _
         (second.0, after) s1.2 in
-        let s3 = bind-inv (named_at order encoding section ys m) _ s2.0 s2.1 in
+        let s3 = bind-was (named_at order encoding section ys m) _ s2.0 s2.1 in
         let rest = leads-joined m before middle s1.0.1 first (s1.0.0, s1.1) in
         let entry : remapped_entry order encoding section (xs ++ ys) (n + m) s1.0.1 ≡ Ok s2.0 =
         bind-ok (named_at order encoding section (xs ++ ys) (n + m)) s3.0 _
@@ -211,7 +213,7 @@ module _ (order : Endianness) (encoding : Encoding) where
               ∙ bind-ok (remapped_entry order encoding section (xs ++ ys) (n + m)
               s1.0.1) s2.0 _ entry
               ∙ ap (λ (w : List ℕ × List (List ℕ)). Ok (rest.0 ++ s2.0.0 ∷ [], w.1))
-              (ok-eq {E = Fault} _ (second.0, after) s2.2),
+              (same-ok {E = ErrorValue} _ (second.0, after) s2.2),
         )
 
   -- ---- a whole range
@@ -229,15 +231,16 @@ module _ (order : Endianness) (encoding : Encoding) where
       (header_size encoding) whole.count long in
       let header : header_of order encoding (entry_count encoding size * width) ≡ Ok whole.header =
       ap (λ n. header_of order encoding (n * width)) count ∙ whole.written in
-      let rest : List ℕ → Result (List ℕ × List (List ℕ)) Fault =
+      let rest : List ℕ → Result (List ℕ × List (List ℕ)) ErrorValue =
       λ h. remapped_entries order encoding section bytes (entry_count encoding size) before >>=
       λ entries. Ok (h ++ entry_bytes order encoding.format entries.0, entries.1) in (
         whole.header ++ entry_bytes order encoding.format lead.0,
-        ap (λ b. cond {A = Result (List ℕ × List (List ℕ)) Fault} b (Ok ([], before))
+        ap (λ b. cond {A = Result (List ℕ × List (List ℕ)) ErrorValue} b (Ok ([], before))
             (cond (nat_lt size (header_size encoding)) (Err (BadStringOffsets 0))
             (header_of order encoding (entry_count encoding size * width) >>= rest)))
             (some-size size whole.some)
-            ∙ ap (λ b. cond {A = Result (List ℕ × List (List ℕ)) Fault} b (Err (BadStringOffsets 0))
+            ∙ ap (λ b. cond {A = Result (List ℕ × List (List ℕ)) ErrorValue} b
+            (Err (BadStringOffsets 0))
             (header_of order encoding (entry_count encoding size * width) >>= rest))
             (le-ltb size (header_size encoding) (omega (arith, long)))
             ∙ bind-ok (header_of order encoding (entry_count encoding size * width))
@@ -285,16 +288,16 @@ module _ (order : Endianness) (encoding : Encoding) where
   unfolding rewritten_from
   grown section old new at end [] tail before middle after tile fits first second =
       let same : before ≡ middle = ap (λ (w : List ℕ × List (List ℕ)). w.1)
-      (ok-eq {E = Fault} (drop at old, before) (first.0, middle) first.1) in
+      (same-ok {E = ErrorValue} (drop at old, before) (first.0, middle) first.1) in
       subst (λ n. InTurn section (old ++ new) n tail before after) (sym tile)
       (subst (λ s. InTurn section (old ++ new) end tail s after) (sym same) second)
   grown section old new at end (r ∷ ranges) tail before middle after tile fits first second =
-      let s1 = bind-inv (remapped order encoding section (range_bytes old r) r.size before) _
+      let s1 = bind-was (remapped order encoding section (range_bytes old r) r.size before) _
       (first.0, middle) first.1 in
-      let s2 = bind-inv (rewritten_from order encoding section old (r.offset.0 + r.size) ranges
+      let s2 = bind-was (rewritten_from order encoding section old (r.offset.0 + r.size) ranges
       s1.0.1) _ (first.0, middle) s1.2 in
       let last : s2.0.1 ≡ middle = ap (λ (w : List ℕ × List (List ℕ)). w.1)
-      (ok-eq {E = Fault} _ (first.0, middle) s2.2) in
+      (same-ok {E = ErrorValue} _ (first.0, middle) s2.2) in
       let from = tile.0 in
       let within = tile-end order encoding (at + r.size) end ranges tile.2 in
       let place : r.offset.0 + r.size ≡ at + r.size = ap (λ n. n + r.size) from in
@@ -310,10 +313,3 @@ module _ (order : Endianness) (encoding : Encoding) where
       fits rest second in
       turn section (old ++ new) at r (ranges ++ tail) before s1.0.1 after (s1.0.0, one)
       (subst (λ n. InTurn section (old ++ new) n (ranges ++ tail) s1.0.1 after) (sym place) all)
-
--- the bytes behind
-pub range-behind : (a x : List ℕ) → slice_range (a ++ x) (length a) (length a + length x) ≡ x
-range-behind a x =
-    let size : length a + length x - length a ≡ length x = omega arith in
-    ap (λ n. take n (drop (length a) (a ++ x))) size ∙ ap (take (length x))
-    (drop-append_seam a x) ∙ take-length x

@@ -29,15 +29,15 @@ use Rattle.thorin_join.specs.State.{InProgress, names_of, row_at, adding, with_u
 use Rattle.thorin_join.specs.State.{with_new_unit, with_new_units, with_source}
 use Rattle.thorin_join.proofs.Units.JoinedByName.{AreAdded}
 use Rattle.thorin_again.proofs.Offsets.RewrittenAgain.{Lead, range-leads, no-turn, turn, grown}
-use Rattle.thorin_again.proofs.Offsets.RewrittenAgain.{range-behind}
 use Rattle.thorin_join.proofs.Parts.Appended.{no-bytes}
 use Rattle.thorin_join.proofs.Parts.OffsetLaws.{NamesTheSameLaw}
 use Rattle.thorin_join.proofs.Parts.Strings.{front-front}
 use Rattle.thorin_again.proofs.Kept.SharedParts.{shared-row, each-unit, plain-part, plain-added}
 use Rattle.thorin_again.proofs.Kept.SharedParts.{content-added}
 use Rattle.thorin_join.proofs.Joined.Source.{with_all_parts}
-use Rattle.thorin_join.proofs.Rows.OneAdded.{place-put, range_for}
+use Rattle.thorin_join.proofs.Rows.OneAdded.{place-put, range_for, own-bytes}
 use Rattle.thorin_again.proofs.Offsets.WholeRanges.{part-fills, unchanged}
+use Rattle.thorin_join.proofs.Parts.FirstUses.{units-strings}
 
 -- ---- rows that are added
 
@@ -163,10 +163,6 @@ among-or range more (r ∷ rs) (inr h) = ⊎_elim (λ k. inl (inr k)) (λ e. inr
 
 -- ---- a plain object that was added
 
-pub strings-kept : (p : InProgress) (us : List (DwarfObject × NewUnit))
-    → (with_new_units p us).strings ≡ p.strings
-strings-kept p us = each-unit (λ q. q.strings ≡ p.strings) (λ q u h. h) p us refl
-
 -- the strings of ranges once further bytes follow, and a range of them
 module _ (order : Endianness) (encoding : Encoding) (old joined : List ℕ)
     (ranges : List Contribution) (tile : Tile order encoding 0 ranges (length old))
@@ -198,7 +194,7 @@ module _ (order : Endianness) (encoding : Encoding) (old joined : List ℕ)
       let here : remapped order encoding (data_of final) (range_bytes (old ++ joined) range)
       (length joined) before ≡ Ok (one.0, after) =
       ap (λ l. remapped order encoding (data_of final) l (length joined) before)
-      (range-behind old joined) ∙ one.1 in
+      (own-bytes old joined) ∙ one.1 in
       grown order encoding (data_of final) old joined 0 (length old) ranges (range ∷ []) [] before
       after tile (omega arith)
       (gives final table (front-front before after final kept front))
@@ -224,7 +220,8 @@ tiled-kept names source before now plain table same h more tiled =
     ap length content ∙ length-append old joined in
     let order_is : now.file.order ≡ before.file.order = ap (λ (p : InProgress). p.file.order) a.is ∙
     order-kept q a.new.units in
-    let strings_are : now.strings ≡ a.after = ap (λ (p : InProgress). p.strings) a.is ∙ strings-kept
+    let strings_are : now.strings ≡ a.after = ap (λ (p : InProgress). p.strings)
+    a.is ∙ units-strings
     q a.new.units in
     let part = part-fills names source plain before.strings a.parts a.after table a.parts_are in
     let given : (ranges : List Contribution) → GiveStrings before.file.order encoding

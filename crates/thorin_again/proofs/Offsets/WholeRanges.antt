@@ -14,7 +14,7 @@ use Rattle.dwp_bytes.specs.StringOffsets.{header_size, entry_count}
 use Rattle.dwp_bytes.specs.declared.encoding.Encoding.{Encoding}
 use Rattle.dwp_bytes.specs.declared.encoding.Format.{Format}
 use Rattle.dwp_bytes.specs.declared.encoding.Format.TheVariants.{Dwarf32, Dwarf64}
-use Rattle.thorin_errors.specs.Fault.{Fault, NumberTooLarge, BadStringOffsets}
+use Rattle.thorin_errors.specs.Errors.{ErrorValue, NumberTooLarge, BadStringOffsets}
 use Rattle.thorin_strings.specs.StringOffsets.{header_of, length_limit, initial_length}
 use Rattle.thorin_strings.specs.StringOffsets.{remapped_entries, remapped, entry_bytes}
 use Rattle.thorin_strings.specs.Strings.{IsTable, data_of}
@@ -25,14 +25,15 @@ use Rattle.thorin_input.specs.Parts.{parts_of}
 use Rattle.thorin_again.specs.Plain.{IsWholeRange}
 use Rattle.thorin_input.specs.Used.{Used, first}
 use Rattle.thorin_join.proofs.Parts.FirstUses.{no-entries}
-use Rattle.thorin_join.proofs.Parts.OffsetRanges.{no-header, rewritten-long, count-again}
+use Rattle.thorin_join.proofs.Parts.OffsetRanges.{rewritten-long, count-again}
 use Rattle.thorin_again.proofs.Offsets.RewrittenAgain.{Lead, leads-again, leads-joined}
 use Rattle.thorin_join.proofs.Parts.Appended.{either, joined_parts-more, joined_parts-other}
 use Rattle.thorin_join.proofs.Parts.Appended.{Rewritten, Adds, step}
 use Rattle.thorin_join.proofs.Parts.OffsetLaws.{NamesTheSameLaw}
 use Rattle.thorin_join.proofs.Parts.PlainOffsets.{has-more, has-other, not-there}
 use Rattle.thorin_join.proofs.Parts.Strings.{front-front, rewritten-plain}
-use Rattle.thorin_join.proofs.Steps.{bind-inv, ok-eq}
+use Rattle.dwp_base.proofs.Steps.{bind-was, same-ok}
+use Rattle.thorin_packaged.proofs.OffsetsJoined.{no_header}
 
 -- ---- the part of string offsets that a plain object makes is whole
 
@@ -52,7 +53,7 @@ header-by : (order : Endianness) (encoding : Encoding) (section bytes : List ℕ
 header-by order encoding section bytes size strings written short true n h = absurd (true≢false n)
 header-by order encoding section bytes size strings written true false n h = absurd cc
 header-by order encoding section bytes size strings written false false n h =
-    let s = bind-inv (header_of order encoding (entry_count encoding size * offset_size
+    let s = bind-was (header_of order encoding (entry_count encoding size * offset_size
     encoding.format)) _ written h in
     (s.0, s.1)
 
@@ -79,7 +80,7 @@ old-header : (order : Endianness) (encoding : Encoding) (size : ℕ) → encodin
     → header_of order encoding size ≡ Ok []
 unfolding header_of
 old-header order encoding size old =
-    ap (λ b. cond {A = Result (List ℕ) Fault} b (Ok [])
+    ap (λ b. cond {A = Result (List ℕ) ErrorValue} b (Ok [])
     (cond (ltb (length_limit encoding.format) (size + 4))
     (Err (NumberTooLarge (Rattle.std.specs.Prelude.codes "string offsets length") (size + 4)))
     (Ok (initial_length order encoding.format (size + 4) ++
@@ -155,7 +156,7 @@ module _ (names : NamesTheSameLaw) (source : Source) (plain : is_package source.
       → remapped order encoding section bytes (length bytes) strings ≡ Ok written
       → Again new strings → Again (new ++ written.0) written.1
   again-joined new bytes strings written n old long table h before final final_table kept =
-      let none = no-header encoding old in
+      let none = no_header encoding old in
       let law = names order encoding section bytes (length bytes) strings written.0
       written.1 table h in
       let m = entry_count encoding (length bytes) in
@@ -240,9 +241,9 @@ module _ (names : NamesTheSameLaw) (source : Source) (plain : is_package source.
   made-each : (sections : List Used) (before after : Parts) → MadeBy before → with_each_part source
       before sections ≡ Ok after → MadeBy after
   unfolding with_each_part
-  made-each [] before after so_far h = subst MadeBy (ok-eq {E = Fault} before after h) so_far
+  made-each [] before after so_far h = subst MadeBy (same-ok {E = ErrorValue} before after h) so_far
   made-each (s ∷ ss) before after so_far h =
-      let next = bind-inv (with_part source before s) _ after h in
+      let next = bind-was (with_part source before s) _ after h in
       let made = step source before s next.0 next.1 in
       made-each ss next.0 after (made-step before s next.0 so_far made.once made.adds) next.2
 
@@ -267,7 +268,7 @@ module _ (names : NamesTheSameLaw) (source : Source) (plain : is_package source.
   older-fills : (new : List ℕ) (n : ℕ) → encoding.version < 5 → length new ≡ n * offset_size
       encoding.format → Fills order encoding (length new)
   older-fills new n old long =
-      let none = no-header encoding old in
+      let none = no_header encoding old in
       ⊎_elim
       (λ empty. inl (eqb-true (length new) 0 empty))
       (λ some.
@@ -312,4 +313,4 @@ module _ (names : NamesTheSameLaw) (source : Source) (plain : is_package source.
       (ap (entry_count encoding) none ∙ no-entries encoding) (part.again after part.table
       (take-length after)) in
       ap (λ (w : List ℕ × List (List ℕ)). w.1)
-      (sym (ok-eq {E = Fault} ([], start) (lead.0, after) lead.1))
+      (sym (same-ok {E = ErrorValue} ([], start) (lead.0, after) lead.1))

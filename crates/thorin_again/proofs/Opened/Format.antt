@@ -13,7 +13,7 @@ use Rattle.dwp_bytes.specs.Encoding.{index_version_of}
 use Rattle.dwp_bytes.specs.declared.encoding.Encoding.{Encoding}
 use Rattle.dwp_dwarf.specs.declared.unit.UnitSection.{UnitSection}
 use Rattle.dwp_table.specs.Columns.{column_of, contribution_kinds}
-use Rattle.thorin_errors.specs.Fault.{Fault, SectionOutsideFormat}
+use Rattle.thorin_errors.specs.Errors.{ErrorValue, SectionOutsideFormat}
 use Rattle.thorin_index.specs.Entries.{contribution_to}
 use Rattle.thorin_index.specs.EntryTests.{each, count_test, encoding_test, format_test, parts_test}
 use Rattle.thorin_index.specs.EntryTests.{tests_under, index_tests}
@@ -26,25 +26,25 @@ use Rattle.thorin_input.specs.Used.{counts_once}
 use Rattle.thorin_join.specs.State.{kind_at}
 use Rattle.thorin_again.proofs.Opened.Indexes.{HaveVersion, version-chosen}
 use Rattle.thorin_again.proofs.Taken.RowsGiven.{used-chosen}
-use Rattle.thorin_join.proofs.Steps.{bind-inv}
-use Rattle.thorin_join.proofs.EachKind.{same-each}
+use Rattle.dwp_base.proofs.Steps.{bind-was}
+use Rattle.dwp_base.proofs.EveryKind.{same-each}
 
 -- what each of a list passes
-each-passed : {A : Type 0} (test : A → Result (Unit {0}) Fault) (xs : List A) (n : ℕ) (x : A)
+each-passed : {A : Type 0} (test : A → Result (Unit {0}) ErrorValue) (xs : List A) (n : ℕ) (x : A)
     → each test xs ≡ Ok tt → slice_get xs n ≡ Some x → test x ≡ Ok tt
 each-passed test [] n x h e = absurd (none-some x e)
-each-passed test (y ∷ ys) zero x h e = let s = bind-inv (test y) (λ _. each test ys) tt h in
+each-passed test (y ∷ ys) zero x h e = let s = bind-was (test y) (λ _. each test ys) tt h in
     ap test (sym (same_Some y x e)) ∙ s.1
-each-passed test (y ∷ ys) (suc n) x h e = let s = bind-inv (test y) (λ _. each test ys) tt h in
+each-passed test (y ∷ ys) (suc n) x h e = let s = bind-was (test y) (λ _. each test ys) tt h in
     each-passed test ys n x s.2 e
 
 format-passed : (encoding : Encoding) (entries : List IndexEntry) → tests_under encoding entries ≡
     Ok tt → each (parts_test (format_test (index_version_of encoding.version))) entries ≡ Ok tt
 unfolding tests_under
 format-passed encoding entries h =
-    let s1 = bind-inv (count_test (length entries)) _ tt h in
-    let s2 = bind-inv (each (encoding_test encoding) entries) _ tt s1.2 in
-    let s3 = bind-inv (each (parts_test (format_test (index_version_of encoding.version)))
+    let s1 = bind-was (count_test (length entries)) _ tt h in
+    let s2 = bind-was (each (encoding_test encoding) entries) _ tt s1.2 in
+    let s3 = bind-was (each (parts_test (format_test (index_version_of encoding.version)))
     entries) _ tt s2.2 in
     s3.1
 
@@ -53,7 +53,7 @@ column-by : (version : ℕ) (kind : SectionKind) (part : Option Contribution) �
 column-by version kind None some h = absurd (true≢false (sym some))
 column-by version kind (Some part) some h = by (is_some (column_of version kind)) h
   where
-    by : (b : Bool) → cond {A = Result (Unit {0}) Fault} b (Ok tt)
+    by : (b : Bool) → cond {A = Result (Unit {0}) ErrorValue} b (Ok tt)
         (Err (SectionOutsideFormat (name_of kind))) ≡ Ok tt → b ≡ true
     by true k = refl
     by false k = absurd cc

@@ -13,7 +13,7 @@ use Rattle.dwp_base.specs.Reading.{◌>>=◌}
 use Rattle.dwp_base.specs.Sections.{name_of}
 use Rattle.dwp_bytes.specs.Encoding.{index_version_of, is_compatible}
 use Rattle.dwp_bytes.specs.declared.encoding.Encoding.{Encoding}
-use Rattle.dwp_bytes.specs.declared.fault.ReadError.TheVariants.{UnexpectedEof}
+use Rattle.dwp_bytes.specs.declared.error.ReadError.TheVariants.{UnexpectedEof}
 use Rattle.dwp_elf.specs.Contents.{KindsDiffer}
 use Rattle.dwp_elf.specs.FileText.{Object as File, file_text}
 use Rattle.dwp_elf.specs.Written.{written_elf}
@@ -24,9 +24,9 @@ use Rattle.thorin_index.specs.declared.entry.IndexEntry.{IndexEntry}
 use Rattle.thorin_index.specs.EntryTests.{index_tests}
 use Rattle.thorin_index.specs.IndexText.{IsIndexOf, entry_ids, used_sections}
 use Rattle.thorin_index.specs.ReadBack.{index_with}
-use Rattle.thorin_errors.specs.Fault.{Fault, ParseIndex, IncompatibleIndexVersion}
-use Rattle.thorin_errors.specs.Fault.{MixedInputEncodings}
-use Rattle.thorin_errors.specs.Answers.{as_fault}
+use Rattle.thorin_errors.specs.Errors.{ErrorValue, ParseIndex, IncompatibleIndexVersion}
+use Rattle.thorin_errors.specs.Errors.{MixedInputEncodings}
+use Rattle.thorin_errors.specs.Answers.{as_error}
 use Rattle.thorin_join.specs.Builder.{State, IdentifiersFit, IsFinished, rows_of, is_chosen}
 use Rattle.thorin_join.specs.Builder.{order_of, same_order, order_test, package_or_new}
 use Rattle.thorin_join.specs.Builder.{with_source_or_new, with_units, with_input}
@@ -35,7 +35,7 @@ use Rattle.thorin_input.specs.Growing.{Contents}
 use Rattle.thorin_join.specs.Meaning.{Members}
 use Rattle.thorin_input.specs.Indexes.{Indexes, is_package, index_in, version_test, indexes_of}
 use Rattle.thorin_input.specs.Names.{is_compilation}
-use Rattle.thorin_again.specs.OwnInput.{written_object, IsOwn, TakesUpToParts}
+use Rattle.thorin_again.specs.OwnInput.{written_object, IsOwn, TakesUpToParts, own_source}
 use Rattle.thorin_again.specs.OwnUnits.{AllOf}
 use Rattle.thorin_join.specs.Represents.{IsSound, IsSoundBegun, AreRowsOf, units_of, units_begun}
 use Rattle.thorin_join.specs.State.{InProgress}
@@ -43,9 +43,10 @@ use Rattle.thorin_input.specs.Used.{first, opened, has_info}
 use Rattle.thorin_join.proofs.Files.Indexes.{IndexIsRead, chosen-fit, no-bytes}
 use Rattle.thorin_again.proofs.Opened.ContentsByName.{info-written}
 use Rattle.thorin_again.proofs.Opened.Sections.{first-written, object-written, opened-elf}
-use Rattle.thorin_join.proofs.Steps.{bind-ok, err-ok}
+use Rattle.thorin_join.proofs.Steps.{err-ok}
 use Rattle.thorin_join.proofs.Files.Finished.{Tested, tested-state, finished-order}
 use Rattle.thorin_join.proofs.Files.Finished.{finished-compilations, finished-types}
+use Rattle.dwp_base.proofs.Steps.{bind-ok}
 
 -- rows come from inputs of this version
 abbrev pub HaveVersion : ℕ → List IndexEntry → Type 0
@@ -74,8 +75,8 @@ compatible version = own-version (leb 5 version)
 pub none-taken : (order : Endianness) (kind : SectionKind) (bytes : List ℕ) → bytes ≡ []
     → index_in order kind bytes ≡ Ok None
 unfolding index_in
-none-taken order kind bytes none = ap (λ l. cond {A = Result (Option Index) Fault}
-    (eqb (length l) 0) (Ok None) (as_fault (λ e. ParseIndex e (name_of kind)) (index_of order l) >>=
+none-taken order kind bytes none = ap (λ l. cond {A = Result (Option Index) ErrorValue}
+    (eqb (length l) 0) (Ok None) (as_error (λ e. ParseIndex e (name_of kind)) (index_of order l) >>=
     λ index. Ok (Some index))) none
 
 some-taken : (order : Endianness) (kind : SectionKind) (bytes : List ℕ) (index : Index)
@@ -84,10 +85,10 @@ unfolding index_in
 some-taken order kind [] index read =
     absurd (err-ok UnexpectedEof index (sym (no-bytes order) ∙ read))
 some-taken order kind (b ∷ bs) index read =
-    ap (λ v. cond {A = Result (Option Index) Fault} v (Ok None)
-    (as_fault (λ e. ParseIndex e (name_of kind)) (index_of order (b ∷ bs)) >>= λ index.
+    ap (λ v. cond {A = Result (Option Index) ErrorValue} v (Ok None)
+    (as_error (λ e. ParseIndex e (name_of kind)) (index_of order (b ∷ bs)) >>= λ index.
     Ok (Some index))) (eqb-suc-zero (length bs))
-    ∙ ap (λ r. as_fault (λ e. ParseIndex e (name_of kind)) r >>= λ index. Ok (Some index)) read
+    ∙ ap (λ r. as_error (λ e. ParseIndex e (name_of kind)) r >>= λ index. Ok (Some index)) read
 
 index-taken : IndexIsRead → (order : Endianness) (rows : List IndexEntry)
     (bytes : List ℕ) (version : ℕ)
@@ -107,7 +108,7 @@ index-taken is_read order (row ∷ rows) bytes version text tested fit have =
       index = Some index;
       taken = λ kind. some-taken order kind bytes index (is_read order row.encoding (row ∷ rows)
           bytes tested fit text);
-      fits = λ encoding kind same. ap (λ b. cond {A = Result (Unit {0}) Fault} b (Ok tt)
+      fits = λ encoding kind same. ap (λ b. cond {A = Result (Unit {0}) ErrorValue} b (Ok tt)
           (Err (IncompatibleIndexVersion (name_of kind) (index_version_of encoding.version)
           index.version)))
           (ap (λ v. is_compatible encoding.version (index_version_of v)) (have.0 ∙ sym same) ∙
@@ -219,7 +220,7 @@ same-itself Big = refl
 order-tested : (order : Endianness) (before : Option InProgress) → order_of before order ≡ order
     → order_test order before ≡ Ok tt
 unfolding order_test
-order-tested order before same = ap (λ b. cond {A = Result (Unit {0}) Fault} b (Ok tt)
+order-tested order before same = ap (λ b. cond {A = Result (Unit {0}) ErrorValue} b (Ok tt)
     (Err MixedInputEncodings)) (ap (λ o. same_order o order) same ∙ same-itself order)
 
 units-tested : (file : File) (encoding : Encoding) (indexes : Indexes) (before : Option InProgress)
@@ -227,7 +228,7 @@ units-tested : (file : File) (encoding : Encoding) (indexes : Indexes) (before :
     → order_of before file.order ≡ file.order
     → indexes_of (written_object file) encoding ≡ Ok indexes
     → with_units (written_elf file) before ≡ with_source_or_new (written_elf file)
-    (record { object = written_object file; encoding = encoding; indexes = indexes }) before
+    (own_source file encoding indexes) before
 unfolding with_units
 units-tested file encoding indexes before differ found same read =
     bind-ok _ (written_object file) _ (object-written file differ)
@@ -239,7 +240,7 @@ input-tested : (bytes : List ℕ) (file : Elf) (before : Option InProgress) → 
     → has_info file ≡ true → with_input bytes before ≡ with_units file before
 unfolding with_input
 input-tested bytes file before opens info =
-    bind-ok _ file _ opens ∙ ap (λ b. cond {A = Result (Option InProgress) Fault} b
+    bind-ok _ file _ opens ∙ ap (λ b. cond {A = Result (Option InProgress) ErrorValue} b
     (with_units file before) (Ok (Some (package_or_new file before)))) info
 
 pub up-to-parts : IndexIsRead → (state : State) (encoding : Encoding) (file : File)

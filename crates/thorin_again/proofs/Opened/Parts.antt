@@ -10,8 +10,8 @@ use Rattle.dwp_base.specs.Reading.{◌>>=◌}
 use Rattle.dwp_base.specs.Sections.{name_of, same_kind}
 use Rattle.dwp_base.proofs.EveryKind.{is-same, same-self}
 use Rattle.dwp_elf.specs.Contents.{count_of, KindsDiffer, content_of}
-use Rattle.thorin_errors.specs.Fault.{Fault, MissingRequiredSection, RepeatedSection}
-use Rattle.thorin_errors.specs.Fault.{SectionOutsideFormat}
+use Rattle.thorin_errors.specs.Errors.{ErrorValue, MissingRequiredSection, RepeatedSection}
+use Rattle.thorin_errors.specs.Errors.{SectionOutsideFormat}
 use Rattle.thorin_input.specs.Growing.{Contents}
 use Rattle.thorin_input.specs.Indexes.{Source}
 use Rattle.thorin_again.specs.OwnInput.{written_used, CanTake, TakesParts}
@@ -20,10 +20,10 @@ use Rattle.thorin_input.specs.InputStrings.{rewritten}
 use Rattle.thorin_input.specs.Parts.{Parts, has_part, stands_once, with_offsets, with_part}
 use Rattle.thorin_input.specs.Parts.{with_each_part}
 use Rattle.thorin_input.specs.Used.{Used}
-use Rattle.thorin_again.proofs.Opened.Sections.{rest-differ, fewer, last-counts}
-use Rattle.thorin_again.proofs.Opened.Sections.{one-there, section_of}
-use Rattle.thorin_join.proofs.Steps.{bind-ok}
+use Rattle.thorin_again.proofs.Opened.Sections.{rest-differ, fewer, last-counts, one-there}
+use Rattle.thorin_again.proofs.Opened.Sections.{section_of}
 use Rattle.thorin_join.proofs.Files.Contents.{nothing}
+use Rattle.dwp_base.proofs.Steps.{bind-ok}
 
 -- ---- no kind of the parts so far comes again
 
@@ -127,11 +127,12 @@ pub past-tests : (source : Source) (before : Parts) (c : SectionKind × List ℕ
 unfolding with_part
 past-tests source before c cs fresh format =
     repeated (stands_once source c.0) (has_part c.0 before.0) (not-had c cs before.0 fresh)
-    ∙ ap (λ b. cond {A = Result Parts Fault} (not b) (Err (SectionOutsideFormat (name_of c.0)))
+    ∙ ap (λ b. cond {A = Result Parts ErrorValue} (not b) (Err (SectionOutsideFormat (name_of c.0)))
     (cond (same_kind c.0 StrOffsets) (with_offsets source before c.1)
     (cond (is_copied c.0) (Ok (before.0 ++ (c.0, c.1) ∷ [], before.1)) (Ok before)))) format
   where
-    repeated : {X : Result Parts Fault} (a b : Bool) → b ≡ false → cond {A = Result Parts Fault}
+    repeated : {X : Result Parts ErrorValue} (a b : Bool) → b ≡ false
+        → cond {A = Result Parts ErrorValue}
         (a && b) (Err (RepeatedSection (name_of c.0))) X ≡ X
     repeated true true h = absurd (true≢false h)
     repeated true false h = refl
@@ -142,7 +143,7 @@ offsets-taken : (source : Source) (before : Parts) (bytes : List ℕ) (w : List 
     → with_offsets source before bytes ≡ Ok (before.0 ++ (StrOffsets, w.0) ∷ [], w.1)
 unfolding with_offsets
 offsets-taken source before bytes w has is =
-    ap (λ b. cond {A = Result Parts Fault} (not b) (Err (MissingRequiredSection (name_of Str)))
+    ap (λ b. cond {A = Result Parts ErrorValue} (not b) (Err (MissingRequiredSection (name_of Str)))
     (rewritten source bytes before.1 >>= λ written.
     Ok (before.0 ++ (StrOffsets, written.0) ∷ [], written.1))) has
     ∙ bind-ok (rewritten source bytes before.1) w _ is
@@ -197,7 +198,7 @@ one-part source c cs before differ fresh can tests later false true s k h =
     then-all source before (before.0 ++ (c.0, c.1) ∷ [], before.1) (section_of c) (written_used cs)
     (tests ∙ ap (λ b. cond b (with_offsets source before c.1)
     (cond (is_copied c.0) (Ok (before.0 ++ (c.0, c.1) ∷ [], before.1)) (Ok before))) s
-    ∙ ap (λ b. cond {A = Result Parts Fault} b (Ok (before.0 ++ (c.0, c.1) ∷ [], before.1))
+    ∙ ap (λ b. cond {A = Result Parts ErrorValue} b (Ok (before.0 ++ (c.0, c.1) ∷ [], before.1))
     (Ok before)) k)
     (later (before.0 ++ (c.0, c.1) ∷ [], before.1) (fresh-more c c.1 cs before.0 differ fresh)
     (can-rest source c cs before.1 differ can))
@@ -205,7 +206,7 @@ one-part source c cs before differ fresh can tests later false false s k h =
     then-all source before before (section_of c) (written_used cs)
     (tests ∙ ap (λ b. cond b (with_offsets source before c.1)
     (cond (is_copied c.0) (Ok (before.0 ++ (c.0, c.1) ∷ [], before.1)) (Ok before))) s
-    ∙ ap (λ b. cond {A = Result Parts Fault} b (Ok (before.0 ++ (c.0, c.1) ∷ [], before.1))
+    ∙ ap (λ b. cond {A = Result Parts ErrorValue} b (Ok (before.0 ++ (c.0, c.1) ∷ [], before.1))
     (Ok before)) k)
     (later before (fresh-rest c cs before.0 fresh) (can-rest source c cs before.1 differ can))
 

@@ -9,29 +9,29 @@ use Rattle.dwp_base.specs.declared.class.Class.{Class}
 use Rattle.dwp_base.specs.declared.section.SectionKind.{SectionKind}
 use Rattle.dwp_base.specs.Reading.{◌>>=◌}
 use Rattle.dwp_base.specs.Sections.{name_of, is_named, all_kinds, same_kind}
-use Rattle.dwp_base.proofs.EveryKind.{not-older, same-self}
+use Rattle.dwp_base.proofs.EveryKind.{not-older, same-self, kind-named}
 use Rattle.dwp_elf.specs.Contents.{count_of, KindsDiffer, content_of}
 use Rattle.dwp_elf.specs.FileText.{Object as File, name_table}
 use Rattle.dwp_elf.specs.Written.{plain_section, written_sections, written_elf}
 use Rattle.dwp_elf_read.specs.Elf.{Elf, SectionMeaning, elf_of}
 use Rattle.dwp_elf_read.specs.Identification.{kind_of, class_of, identity_of}
-use Rattle.dwp_elf_read.specs.declared.fault.ReadError.{ReadError}
-use Rattle.dwp_elf_read.specs.declared.fault.ReadError.TheVariants.{NotElf, Compressed}
+use Rattle.dwp_elf_read.specs.declared.error.ReadError.{ReadError}
+use Rattle.dwp_elf_read.specs.declared.error.ReadError.TheVariants.{NotElf, Compressed}
 use Rattle.dwp_elf_read.specs.declared.kind.FileKind.{FileKind}
 use Rattle.dwp_elf_read.specs.declared.kind.FileKind.TheVariants.{Archive, Elf32, Elf64}
 use Rattle.dwp_index.specs.Contents as contents
 use Rattle.dwp_index.specs.Contents.{is_of_kind}
-use Rattle.thorin_errors.specs.Fault.{Fault, ParseFileKind, ParseObjectFile}
-use Rattle.thorin_errors.specs.Answers.{as_fault}
+use Rattle.thorin_errors.specs.Errors.{ErrorValue, ParseFileKind, ParseObjectFile}
+use Rattle.thorin_errors.specs.Answers.{as_error}
 use Rattle.thorin_input.specs.Growing.{Contents}
 use Rattle.thorin_again.specs.OwnInput.{written_used, written_object}
 use Rattle.thorin_input.specs.Used.{Used, elf_in, opened, used_kind, counts_once, unusable}
 use Rattle.thorin_input.specs.Used.{used_bytes, has_kind, with_used, used_from, input_file_of}
 use Rattle.thorin_input.specs.Used.{bytes_of, first}
 use Rattle.thorin_join.proofs.Parts.Appended.{either}
-use Rattle.thorin_join.proofs.Steps.{err-ok, bind-ok, bind-inv}
-use Rattle.thorin_join.proofs.EachKind.{kind-named}
+use Rattle.thorin_join.proofs.Steps.{err-ok}
 use Rattle.thorin_join.proofs.Files.Contents.{fewer-one}
+use Rattle.dwp_base.proofs.Steps.{bind-was, bind-ok}
 
 -- ---- the file is opened
 
@@ -39,20 +39,20 @@ in-kind : {X : Type 0} (kind : FileKind) (f : Class → Result X ReadError) (x :
     (bytes : List ℕ) (file : Elf)
     → (class_of kind >>= f) ≡ Ok x → elf_of bytes ≡ Ok file → elf_in bytes kind ≡ Ok file
 in-kind Archive f x bytes file h e = absurd (err-ok NotElf x h)
-in-kind Elf32 f x bytes file h e = ap (as_fault ParseObjectFile) e
-in-kind Elf64 f x bytes file h e = ap (as_fault ParseObjectFile) e
+in-kind Elf32 f x bytes file h e = ap (as_error ParseObjectFile) e
+in-kind Elf64 f x bytes file h e = ap (as_error ParseObjectFile) e
 
 identity-is : (bytes : List ℕ) (file : Elf) → elf_of bytes ≡ Ok file → (i : _)
     × (identity_of bytes ≡ Ok i)
 unfolding elf_of
-identity-is bytes file h = let s = bind-inv (identity_of bytes) _ file h in (s.0, s.1)
+identity-is bytes file h = let s = bind-was (identity_of bytes) _ file h in (s.0, s.1)
 
 pub opened-elf : (bytes : List ℕ) (file : Elf) → elf_of bytes ≡ Ok file → opened bytes ≡ Ok file
 unfolding opened identity_of
 opened-elf bytes file h =
     let i = identity-is bytes file h in
-    let k = bind-inv (kind_of bytes) _ i.0 i.1 in
-    ap (λ r. as_fault ParseFileKind r >>= elf_in bytes) k.1 ∙ in-kind k.0 _ i.0 bytes file k.2 h
+    let k = bind-was (kind_of bytes) _ i.0 i.1 in
+    ap (λ r. as_error ParseFileKind r >>= elf_in bytes) k.1 ∙ in-kind k.0 _ i.0 bytes file k.2 h
 
 -- ---- the sections of written contents
 
@@ -82,7 +82,7 @@ names-none n bytes = ⊎_elim
 bytes-are : (n : ℕ) (kind : SectionKind) (bytes : List ℕ)
     → used_bytes kind (plain_section n 1 (name_of kind) bytes) ≡ Ok bytes
 unfolding used_bytes contents.used_bytes
-bytes-are n kind bytes = ap (λ b. as_fault unusable (cond {A = Result (List ℕ) ReadError} b
+bytes-are n kind bytes = ap (λ b. as_error unusable (cond {A = Result (List ℕ) ReadError} b
     (Err Compressed) (Ok bytes))) (not-older kind)
 
 taken-section : (n : ℕ) (kind : SectionKind) (bytes : List ℕ) (used : List Used)
@@ -90,7 +90,7 @@ taken-section : (n : ℕ) (kind : SectionKind) (bytes : List ℕ) (used : List U
     → with_used used (plain_section n 1 (name_of kind) bytes) (Some kind) ≡ Ok
     (used ++ record { kind = kind; bytes = bytes; address = 0 } ∷ [])
 taken-section n kind bytes used once =
-    ap (λ b. cond {A = Result (List Used) Fault} b (Ok used)
+    ap (λ b. cond {A = Result (List Used) ErrorValue} b (Ok used)
     (used_bytes kind (plain_section n 1 (name_of kind) bytes) >>= λ x.
     Ok (used ++ record { kind = kind; bytes = x; address = 0 } ∷ []))) once
     ∙ bind-ok (used_bytes kind (plain_section n 1 (name_of kind) bytes)) bytes _

@@ -14,9 +14,9 @@ use Rattle.dwp_elf.specs.Written.{plain_section, written_sections, written_elf}
 use Rattle.thorin_input.specs.Growing.{Contents}
 use Rattle.thorin_input.specs.Used.{Used, InputFile, is_of, has_info, first, input_file_of}
 use Rattle.thorin_again.specs.OwnInput.{written_used}
-use Rattle.thorin_join.proofs.Steps.{ok-eq}
 use Rattle.thorin_join.proofs.Files.Contents.{nothing}
 use Rattle.thorin_again.proofs.Opened.Sections.{section_of, object-written, first-written}
+use Rattle.dwp_base.proofs.Steps.{same-ok}
 
 -- the sections that are used: those that have bytes
 abbrev pub useds : Contents → List Used
@@ -38,7 +38,7 @@ pub written-object : (o : File) (object : InputFile) → KindsDiffer o.contents
     → input_file_of (written_elf o) ≡ Ok object → (object.order ≡ o.order)
     × (object.sections ≡ useds o.contents)
 written-object o object differ h =
-    let same = ok-eq _ _ (sym (object-written o differ) ∙ h) in (
+    let same = same-ok _ _ (sym (object-written o differ) ∙ h) in (
       sym (ap (λ (x : InputFile). x.order) same),
       sym (ap (λ (x : InputFile). x.sections) same) ∙ sym (useds-are o.contents),
     )

@@ -19,7 +19,7 @@ use Rattle.thorin_input.specs.Indexes.{Indexes, Source, indexes_of}
 use Rattle.thorin_join.specs.Laid.{Lie, rows_at}
 use Rattle.thorin_join.specs.Meaning.{Meaning}
 use Rattle.thorin_input.specs.NewUnits.{Adding, with_each_read, new_units}
-use Rattle.thorin_again.specs.OwnInput.{written_object, IsOwn}
+use Rattle.thorin_again.specs.OwnInput.{written_object, IsOwn, own_source}
 use Rattle.thorin_again.specs.OwnRefusals.{UnlessForeseen}
 use Rattle.thorin_input.specs.Parts.{parts_of}
 use Rattle.thorin_input.specs.Format.{is_shared}
@@ -61,11 +61,7 @@ pub record IsReadAgain (state : State) (encoding : Encoding) (file : File)
     (indexes : Indexes) : Type 0 where
   pub made : InProgress
   pub sound : IsSound made
-  pub again : IsAgain (record {
-    object = written_object file;
-    encoding = encoding;
-    indexes = indexes;
-  }) file.contents made.strings made.rows
+  pub again : IsAgain (own_source file encoding indexes) file.contents made.strings made.rows
   pub rows_are : AreRowsOf file.order file.contents made.strings made.rows (with_names (λ row.
       meaning_at made.file.order made.file.contents made.strings row) made.rows)
   pub lie : EachRow (LieInside file.contents) made.rows
@@ -135,23 +131,15 @@ pub own-units : NamesTheSameLaw → PackagedLaw → UnitsAreTaken → FirstLaw �
     → (made : InProgress) → state.begun ≡ Some made → IsPlain encoding made → (indexes : Indexes)
     → indexes_of (written_object file) encoding ≡ Ok indexes
     → (before : InProgress) (parts : Contents) (after : List (List ℕ)) → IsTable before.strings
-    → parts_of (record { object = written_object file; encoding = encoding; indexes = indexes })
+    → parts_of (own_source file encoding indexes)
     before.strings ≡ Ok (parts, after)
-    → UnlessForeseen (new_units (adding (record {
-      object = written_object file;
-      encoding = encoding;
-      indexes = indexes;
-    }) before parts))
+    → UnlessForeseen (new_units (adding (own_source file encoding indexes) before parts))
 own-units names law taken first_law find_law is_read has_entries some_index none_index state
     encoding file own other begun plain indexes read before parts after table parts_are =
     let is = read-again is_read has_entries some_index none_index state encoding file own other
     begun plain indexes read in
     let made = is.made in
-    let source : Source = record {
-      object = written_object file;
-      encoding = encoding;
-      indexes = indexes;
-    } in
+    let source : Source = own_source file encoding indexes in
     let add : Adding = adding source before parts in
     let c = file.contents in
     let mean : IndexEntry → Meaning = λ row. meaning_at made.file.order made.file.contents

@@ -12,7 +12,7 @@ use Rattle.thorin_input.specs.Growing.{Contents, joined_parts}
 use Rattle.thorin_input.specs.Indexes.{Indexes, Source, indexes_of}
 use Rattle.thorin_join.specs.Meaning.{Meaning}
 use Rattle.thorin_input.specs.NewUnits.{New, Adding, with_each_read, new_units}
-use Rattle.thorin_again.specs.OwnInput.{written_object, IsOwn}
+use Rattle.thorin_again.specs.OwnInput.{written_object, IsOwn, own_source}
 use Rattle.thorin_input.specs.Parts.{parts_of}
 use Rattle.thorin_again.specs.Plain.{IsPlain}
 use Rattle.thorin_join.specs.Represents.{meaning_at}
@@ -32,7 +32,7 @@ pub own-units-new : NamesTheSameLaw → PackagedLaw → UnitsAreTaken → FirstL
     → indexes_of (written_object file) encoding ≡ Ok indexes
     → (before : InProgress) → before.rows ≡ [] → (parts : Contents) (after : List (List ℕ))
     → IsTable before.strings
-    → parts_of (record { object = written_object file; encoding = encoding; indexes = indexes })
+    → parts_of (own_source file encoding indexes)
     before.strings ≡ Ok (parts, after)
     → Answers New (λ new. Unit {0})
     (new_units (adding (record {
@@ -46,11 +46,7 @@ own-units-new names law taken first_law find_law is_read has_entries some_index 
     let is = read-again is_read has_entries some_index none_index state encoding file own other
     begun plain indexes read in
     let made = is.made in
-    let source : Source = record {
-      object = written_object file;
-      encoding = encoding;
-      indexes = indexes;
-    } in
+    let source : Source = own_source file encoding indexes in
     let add : Adding = adding source before parts in
     let c = file.contents in
     let mean : IndexEntry → Meaning = λ row. meaning_at made.file.order made.file.contents

@@ -13,7 +13,7 @@ use Rattle.dwp_base.specs.declared.section.SectionKind.{SectionKind}
 use Rattle.dwp_base.specs.declared.section.SectionKind.TheVariants as kinds
 use Rattle.dwp_bytes.specs.Input.{section, after}
 use Rattle.dwp_bytes.specs.declared.encoding.Encoding.{Encoding}
-use Rattle.dwp_bytes.specs.declared.fault.ReadError.{ReadError}
+use Rattle.dwp_bytes.specs.declared.error.ReadError.{ReadError}
 use Rattle.dwp_dwarf.specs.Units.{Unit as Header, UnitsAreTaken, unit_at, units_within, units}
 use Rattle.dwp_dwarf.specs.declared.unit.UnitSection.{UnitSection}
 use Rattle.dwp_dwarf.specs.declared.unit.UnitSection.TheVariants as places
@@ -21,7 +21,7 @@ use Rattle.dwp_elf.specs.Contents.{count_of, KindsDiffer, content_of}
 use Rattle.dwp_index.specs.Package.{part_of, place_of}
 use Rattle.dwp_table.specs.declared.object.DwarfObject.{DwarfObject}
 use Rattle.dwp_table.specs.Objects.{identifier_of}
-use Rattle.thorin_errors.specs.Fault.{Fault, EmptyUnit}
+use Rattle.thorin_errors.specs.Errors.{ErrorValue, EmptyUnit}
 use Rattle.thorin_identity.specs.Identity.{identity}
 use Rattle.thorin_index.specs.Entries.{contribution_to}
 use Rattle.thorin_index.specs.IndexText.{is_used}
@@ -53,7 +53,6 @@ use Rattle.thorin_again.proofs.Meant.RowPlaces.{FirstLaw, FindLaw, IsAgain, Belo
 use Rattle.thorin_again.proofs.Meant.OneSection.{with_names, below-more, part-middle, no-reads}
 use Rattle.thorin_again.proofs.Meant.OneSection.{one-read}
 use Rattle.thorin_join.proofs.Moved.RootEntries.{IsShifted, identity-shifted}
-use Rattle.thorin_join.proofs.Steps.{bind-ok}
 use Rattle.thorin_join.proofs.Moved.Readings.{plain}
 use Rattle.thorin_join.proofs.Moved.Units.{unit-moves}
 use Rattle.thorin_join.proofs.Units.HeadersRead.{kind-place}
@@ -62,16 +61,18 @@ use Rattle.thorin_again.proofs.Taken.UnlessThere.{NotAgain, once-passed, not-met
 use Rattle.thorin_again.proofs.Taken.UnlessThere.{section-is}
 use Rattle.thorin_again.proofs.Taken.NamesFree.{Free, Avoids, IsMore, avoids-more, avoids-none}
 use Rattle.thorin_again.proofs.Taken.NamesFree.{Apart, others-apart, later-apart}
+use Rattle.dwp_base.proofs.Steps.{bind-ok}
 
 -- an answer of which something holds
-pub record Answers (X : Type 0) (P : X → Type 0) (r : Result X Fault) : Type 0 where
+pub record Answers (X : Type 0) (P : X → Type 0) (r : Result X ErrorValue) : Type 0 where
   pub out : X
   pub is : r ≡ Ok out
   pub holds : P out
 
 -- a step, and then another
-pub then-answers : {X Y : Type 0} (P : X → Type 0) (Q : Y → Type 0) (r : Result X Fault) (f : X
-    → Result Y Fault) → Answers X P r → ((x : X) → P x → Answers Y Q (f x)) → Answers Y Q (r >>= f)
+pub then-answers : {X Y : Type 0} (P : X → Type 0) (Q : Y → Type 0) (r : Result X ErrorValue) (f : X
+    → Result Y ErrorValue) → Answers X P r → ((x : X) → P x → Answers Y Q (f x))
+    → Answers Y Q (r >>= f)
 then-answers P Q r f a k = let b = k a.out a.holds in record {
   out = b.out;
   is =
@@ -95,7 +96,7 @@ first-added add from name unit new row address tested given =
     } in
     record {
       out = record new { units = new.units ++ (name, u) ∷ [] };
-      is = ap (λ b. cond {A = Result New Fault} b (row_test add.source.indexes from.kind
+      is = ap (λ b. cond {A = Result New ErrorValue} b (row_test add.source.indexes from.kind
           name unit >>= λ _.
           unit_row add.source.indexes add.whole name >>= λ row.
           Ok (record new {

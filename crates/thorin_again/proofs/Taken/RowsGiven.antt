@@ -1,15 +1,14 @@
 -- A unit of a written package gets a row, whatever package it is added to.
 use Rattle.std.proofs.Common.{◌≡◌, ◌∙◌, ℕ, suc, ◌+◌, ◌<◌, ◌≤◌, Bool, true, false, cond, not, ◌||◌}
 use Rattle.std.proofs.Common.{◌⊎◌, inl, inr, ⊎_elim, List, [], ◌∷◌, map, length, refl, sym, ap}
-use Rattle.std.proofs.Common.{subst}
-use Rattle.std.proofs.Common.{Result, Ok, Err, Option, Some, None, arith, true≢false}
+use Rattle.std.proofs.Common.{subst, Result, Ok, Err, Option, Some, None, arith, true≢false}
 use Rattle.std.specs.Prelude.{slice_get, is_some}
 use Rattle.std.proofs.lemmas.Bool.{le-leb}
 use Rattle.std.proofs.lemmas.Option.{none-some, same_Some}
 use Rattle.dwp_base.specs.ByKind.{value_of}
 use Rattle.dwp_base.specs.Reading.{◌>>=◌, read_each}
 use Rattle.dwp_base.specs.Sections.{name_of, all_kinds}
-use Rattle.dwp_base.proofs.Steps.{each-read}
+use Rattle.dwp_base.proofs.Steps.{each-read, bind-ok}
 use Rattle.dwp_base.specs.declared.section.Contribution.{Contribution}
 use Rattle.dwp_base.specs.declared.section.SectionKind.{SectionKind}
 use Rattle.dwp_elf.specs.Contents.{content_of}
@@ -17,7 +16,7 @@ use Rattle.dwp_index.specs.Index.{Index, Ranges, row_in, range_in, column_place}
 use Rattle.dwp_table.specs.Objects.{identifier_of}
 use Rattle.dwp_table.specs.declared.object.DwarfObject.{DwarfObject}
 use Rattle.dwp_table.specs.declared.object.DwarfObject.TheVariants.{Compilation, TypeUnit}
-use Rattle.thorin_errors.specs.Fault.{Fault, BadContribution}
+use Rattle.thorin_errors.specs.Errors.{ErrorValue, BadContribution}
 use Rattle.thorin_input.specs.Adjusting.{Adjustor, own_index, other_index, row_of, has_column_for}
 use Rattle.thorin_input.specs.Adjusting.{moved, moved_range, without_column, part_by_row, adjusted}
 use Rattle.thorin_index.specs.Entries.{contribution_to, entry_by}
@@ -35,7 +34,6 @@ use Rattle.thorin_join.proofs.Files.Indexes.{HasRows}
 use Rattle.thorin_join.proofs.Rows.OfUnits.{own-index, some-index}
 use Rattle.thorin_join.proofs.Files.UnitsFound.{part-there}
 use Rattle.thorin_join.proofs.Rows.Ranges.{range-none}
-use Rattle.thorin_join.proofs.Steps.{bind-ok}
 use Rattle.thorin_join.proofs.Rows.OneAdded.{place-put, range_for}
 
 -- ---- a section that some row names has a column in the index of that row
@@ -151,7 +149,7 @@ either-column kind c compilations types rows h k lie used =
 -- ---- a unit's part is moved
 
 -- a part of a section which as a whole has so many bytes
-abbrev Gives : Result (Option Contribution) Fault → Type 0
+abbrev Gives : Result (Option Contribution) ErrorValue → Type 0
 Gives r = (part : Option Contribution) × (r ≡ Ok part)
 
 moved-there : (kind : SectionKind) (id : ℕ) (range : Option Contribution) (x : List ℕ)
@@ -166,7 +164,7 @@ moved-there kind id (Some r) x before h =
     let whole = range_for kind x before in (
       Some (record { offset = record { 0 = whole.offset.0 + r.offset.0 }; size = r.size }),
       ap (moved kind id r) (place-put kind x before some)
-          ∙ ap (λ b. cond {A = Result (Option Contribution) Fault} b
+          ∙ ap (λ b. cond {A = Result (Option Contribution) ErrorValue} b
           (Ok (Some (record {
             offset = record { 0 = whole.offset.0 + r.offset.0 };
             size =

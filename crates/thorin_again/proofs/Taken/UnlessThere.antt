@@ -16,7 +16,7 @@ use Rattle.dwp_base.specs.declared.section.SectionKind.TheVariants as kinds
 use Rattle.dwp_base.proofs.EveryKind.{same-self}
 use Rattle.dwp_bytes.specs.Input.{section, after}
 use Rattle.dwp_bytes.specs.declared.encoding.Encoding.{Encoding}
-use Rattle.dwp_bytes.specs.declared.fault.ReadError.{ReadError}
+use Rattle.dwp_bytes.specs.declared.error.ReadError.{ReadError}
 use Rattle.dwp_dwarf.specs.Units.{Unit as Header, UnitsAreTaken, unit_at, units_within, units}
 use Rattle.dwp_dwarf.specs.declared.unit.UnitSection.{UnitSection}
 use Rattle.dwp_dwarf.specs.declared.unit.UnitSection.TheVariants as places
@@ -25,7 +25,7 @@ use Rattle.dwp_index.specs.Package.{part_of, place_of}
 use Rattle.dwp_table.specs.declared.object.DwarfObject.{DwarfObject}
 use Rattle.dwp_table.specs.declared.object.DwarfObject.TheVariants.{Compilation, TypeUnit}
 use Rattle.dwp_table.specs.Objects.{identifier_of}
-use Rattle.thorin_errors.specs.Fault.{Fault, EmptyUnit}
+use Rattle.thorin_errors.specs.Errors.{ErrorValue, EmptyUnit}
 use Rattle.thorin_identity.specs.Identity.{identity}
 use Rattle.thorin_index.specs.Entries.{contribution_to}
 use Rattle.thorin_index.specs.IndexText.{is_used}
@@ -50,21 +50,22 @@ use Rattle.thorin_join.specs.StandApart.{EachRow}
 use Rattle.thorin_join.specs.State.{kind_at, unit_bytes}
 use Rattle.thorin_input.specs.Used.{Used}
 use Rattle.thorin_again.proofs.Opened.Parts.{behind, front}
-use Rattle.thorin_again.proofs.Opened.Sections.{fewer, rest-differ, last-counts}
-use Rattle.thorin_again.proofs.Opened.Sections.{one-there, section_of}
+use Rattle.thorin_again.proofs.Opened.Sections.{fewer, rest-differ, last-counts, one-there}
+use Rattle.thorin_again.proofs.Opened.Sections.{section_of}
 use Rattle.thorin_again.proofs.Taken.RowsGiven.{row-given}
 use Rattle.thorin_again.proofs.Meant.OneRow.{parts, found-row, found-range, row-tested, named-again}
 use Rattle.thorin_again.proofs.Meant.RowPlaces.{FirstLaw, FindLaw, IsAgain, Below, place-eq}
 use Rattle.thorin_again.proofs.Meant.OneSection.{with_names, below-more, part-middle, no-reads}
 use Rattle.thorin_again.proofs.Meant.OneSection.{one-read}
 use Rattle.thorin_join.proofs.Moved.RootEntries.{IsShifted, identity-shifted}
-use Rattle.thorin_join.proofs.Steps.{ok-eq, bind-ok, bind-inv}
 use Rattle.thorin_join.proofs.Moved.Readings.{plain}
 use Rattle.thorin_join.proofs.Moved.Units.{unit-moves}
 use Rattle.thorin_join.proofs.Units.HeadersRead.{kind-place}
+use Rattle.dwp_base.proofs.Steps.{bind-was, bind-ok, same-ok}
 
 -- a step, and then another
-pub then-foreseen : {X Y : Type 0} (r : Result X Fault) (f : X → Result Y Fault) → UnlessForeseen r
+pub then-foreseen : {X Y : Type 0} (r : Result X ErrorValue) (f : X → Result Y ErrorValue)
+    → UnlessForeseen r
     → ((x : X) → r ≡ Ok x → UnlessForeseen (f x)) → UnlessForeseen (r >>= f)
 then-foreseen (Ok x) f h k = k x refl
 then-foreseen (Err e) f h k = h
@@ -79,7 +80,7 @@ unfolding with_first
 first-taken add from name unit new row address tested given = by (eqb from.address 0) address
   where
     by : (b : Bool) → b ≡ true
-        → UnlessForeseen (cond {A = Result New Fault} b (row_test add.source.indexes from.kind
+        → UnlessForeseen (cond {A = Result New ErrorValue} b (row_test add.source.indexes from.kind
         name unit >>= λ _.
         unit_row add.source.indexes add.whole name >>= λ row.
         Ok (record new {
@@ -310,7 +311,7 @@ pub once-passed : (add : Adding) (place : UnitSection) (met : Met) → is_met pl
 unfolding once_test
 once-passed add place met h = by (is_package add.source.indexes) (is_met place met) h
   where
-    by : (a b : Bool) → b ≡ false → ◌≡◌ {A = Result (Unit {0}) Fault}
+    by : (a b : Bool) → b ≡ false → ◌≡◌ {A = Result (Unit {0}) ErrorValue}
         (cond (a && b) (Err (second_section place)) (Ok tt)) (Ok tt)
     by true true e = absurd (true≢false e)
     by true false e = refl
@@ -363,10 +364,10 @@ met-is : (add : Adding) (from : Used) (place : UnitSection) (before next : Met �
     → with_section_at add from place before ≡ Ok next → with_met place before.0 ≡ next.0
 unfolding with_section_at
 met-is add from place before next h =
-    let s1 = bind-inv (once_test add place before.0) _ next h in
-    let s2 = bind-inv (with_each_read add from before.1
+    let s1 = bind-was (once_test add place before.0) _ next h in
+    let s2 = bind-was (with_each_read add from before.1
     (units place (section add.source.object.order from.bytes))) _ next s1.2 in
-    ap (λ (m : Met × New). m.0) (ok-eq {E = Fault} _ next s2.2)
+    ap (λ (m : Met × New). m.0) (same-ok {E = ErrorValue} _ next s2.2)
 
 pub section-is : (add : Adding) (c : SectionKind × List ℕ) (before : Met × New)
     → with_section add before (section_of c) ≡ with_section_in add (section_of c)
