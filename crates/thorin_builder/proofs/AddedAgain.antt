@@ -1,17 +1,15 @@
 -- What an input adds that adds no unit, however often it is taken.
 use Rattle.std.proofs.Common.{◌≡◌, ◌∙◌, ℕ, Bool, true, false, cond, List, [], ◌∷◌, ◌++◌, refl, sym}
-use Rattle.std.proofs.Common.{ap, subst, inl, inr, true≢false, arith}
-use Rattle.std.specs.Prelude.{is_some}
-use Rattle.std.proofs.Common.{Result, Ok, Err, Option, Some, None, map}
-use Rattle.std.specs.Prelude.{IfOk, IfSome}
+use Rattle.std.proofs.Common.{ap, subst, inl, inr, true≢false, arith, Result, Ok, Err, Option, Some}
+use Rattle.std.proofs.Common.{None, map}
+use Rattle.std.specs.Prelude.{is_some, IfOk, IfSome, String, string_bytes, string_eq, length}
 use Rattle.thorin_errors.specs.declared.error.Error.{Error}
-use Rattle.std.proofs.lemmas.List.{append-nil, append_assoc, map-append, take-append-drop}
+use Rattle.std.proofs.lemmas.List.{append-nil, append_assoc, map-append}
 use Rattle.std.proofs.lemmas.Option.{none-some, same_Some}
 use Rattle.std.proofs.lemmas.Slice.Eq.{bytes_eq-Decides}
 use Rattle.std.proofs.Math.Seq.{take-length}
 use Rattle.std.specs.Global.{Global}
 use Rattle.std.specs.Map.{lookup}
-use Rattle.std.specs.Prelude.{String, string_bytes, string_eq, take, drop, length}
 use Rattle.std.specs.Str.{bytes_eq}
 use Rattle.std.specs.declared.io.Error.{Error as IoError}
 use Rattle.indexmap.specs.IndexMap.{insert_entry}
@@ -37,19 +35,19 @@ use Rattle.thorin_join.specs.Join.{Joins}
 use Rattle.thorin_join.specs.Meaning.{Meaning}
 use Rattle.thorin_join.specs.Represents.{units_begun, units_of, meaning_at}
 use Rattle.thorin_join.specs.State.{InProgress, unit_bytes, held_units, adding, with_source}
-use Rattle.thorin_join.specs.State.{with_all}
-use Rattle.thorin_join.specs.State.{with_new_units}
+use Rattle.thorin_join.specs.State.{with_all, with_new_units}
 use Rattle.thorin_builder.specs.declared.repeated.Repeated.{Repeated}
 use Rattle.thorin_builder.specs.Repeated.{IsLater, IsLaterBegun, ExtendsBegun, AddsAlone, AddsAgain}
 use Rattle.thorin_builder.specs.Repeated.{AddsAgainTo, AddsNoUnit, with_more, IsTaken, AreTaken}
 use Rattle.thorin_builder.specs.Repeated.{Remembers}
-use Rattle.thorin_builder.proofs.Extending.{with_source-is, front-append, extends-refl}
+use Rattle.thorin_builder.proofs.Extending.{with_source-is, extends-refl}
 use Rattle.thorin_builder.specs.StateView.{in_progress_of, begun_of}
 use Rattle.thorin_builder.specs.declared.in_progress.InProgressDwarfPackage.{InProgressDwarfPackage}
 use Rattle.thorin_builder.proofs.PartsApart.{parts-apart, held-apart}
 use Rattle.thorin_builder.proofs.UnitsLater.{units-later}
 use Rattle.thorin_builder.proofs.StringsLater.{parts-later}
 use Rattle.dwp_base.proofs.Steps.{bind-ok}
+use Rattle.thorin_join.proofs.Parts.Strings.{front-front}
 
 -- ---- packages that another one became
 
@@ -61,18 +59,10 @@ later-refl made = record {
   held = sym (append-nil (held_units made));
 }
 
--- what stands at the front of a front stands at the front
-front-of-front : {A : Type 0} (a b c : List A) → take (length a) b ≡ a → take (length b) c ≡ b
-    → take (length a) c ≡ a
-front-of-front a b c h k =
-    let whole : b ++ drop (length b) c ≡ c =
-    subst (λ l. l ++ drop (length b) c ≡ c) k (take-append-drop (length b) c) in
-    subst (λ l. take (length a) l ≡ a) whole (front-append a b (drop (length b) c) h)
-
 later-trans : (a b c : InProgress) → IsLater a b → IsLater b c → IsLater a c
 later-trans a b c h k = record {
   order = k.order ∙ h.order;
-  strings = front-of-front a.strings b.strings c.strings h.strings k.strings;
+  strings = front-front a.strings b.strings c.strings h.strings k.strings;
   more = h.more ++ k.more;
   held = k.held ∙ ap (λ l. l ++ k.more) h.held ∙ append_assoc (held_units a) h.more k.more;
 }
@@ -289,7 +279,7 @@ are-taken-later offer (e ∷ es) begun now h k = (
 )
 
 -- what is found by a path is of that path
-pub taken-found : (offer : List ℕ → Result (List ℕ) IoError → Type 0)
+taken-found : (offer : List ℕ → Result (List ℕ) IoError → Type 0)
     (es : List (String Global × Repeated)) (begun : Option InProgress) (path : List ℕ)
     (again : Repeated)
     → AreTaken offer es begun → lookup (λ k. bytes_eq path (string_bytes k)) es ≡ Some again
@@ -346,10 +336,26 @@ taken-remembered offer old new begun path bytes may k (inr (key, again, at, adds
     }))
 
 -- a target changes nothing of the package
-pub target-begun : (target : DwarfObject) (state : State)
+target-begun : (target : DwarfObject) (state : State)
     → (with_target target state).begun ≡ state.begun
 target-begun (Compilation id) state = refl
 target-begun (TypeUnit signature) state = refl
+
+-- so the package is as before, and what is found by a path is of that path still
+pub target-kept : (target : DwarfObject) (old new : State) → new ≡ with_target target old
+    → old.begun ≡ new.begun
+target-kept target old new added =
+    sym (ap (λ (s : State). s.begun) added ∙ target-begun target old)
+
+pub target-found : (offer : List ℕ → Result (List ℕ) IoError → Type 0)
+    (es : List (String Global × Repeated)) (target : DwarfObject) (old new : State) (path : List ℕ)
+    (again : Repeated)
+    → new ≡ with_target target old → AreTaken offer es old.begun
+    → lookup (λ k. bytes_eq path (string_bytes k)) es ≡ Some again
+    → IsTaken (offer path) again new.begun
+target-found offer es target old new path again added k h =
+    subst (IsTaken (offer path) again) (target-kept target old new added)
+    (taken-found offer es old.begun path again k h)
 
 -- ---- what is known is added
 

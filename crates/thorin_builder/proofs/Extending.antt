@@ -1,7 +1,6 @@
 -- A package that loses nothing of what it had.
-use Rattle.std.proofs.Common.{◌≡◌, ◌∙◌, ℕ, ◌≤◌, true, false, List, ◌++◌, length, take}
-use Rattle.std.proofs.Common.{map}
-use Rattle.std.proofs.Common.{min, ap, sym, refl, arith, Ok, Err, Result, true≢false}
+use Rattle.std.proofs.Common.{◌≡◌, ◌∙◌, ℕ, ◌≤◌, true, false, List, ◌++◌, length, take, map, min, ap}
+use Rattle.std.proofs.Common.{sym, refl, arith, Ok, Err, Result, true≢false}
 use Rattle.std.specs.Result.{OnOk, OnErr, is_err}
 use Rattle.std.proofs.lemmas.List.{length-take, map-append, take-append-le}
 use Rattle.std.proofs.Math.Seq.{take-length}

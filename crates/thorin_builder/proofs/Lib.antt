@@ -5,7 +5,6 @@ pub mod HeldLemmas
 pub mod Running
 pub mod MissingLemmas
 pub mod Grown
-pub mod UnitNames
 pub mod OwnKept
 pub mod AddedAgain
 pub mod PartsApart

@@ -1,10 +1,7 @@
 -- The units that an input adds: what is kept for the name of one, and one that is added last.
-use Rattle.std.proofs.Common.{◌≡◌, ◌∙◌, ℕ, suc, ◌<◌, ◌≤◌, Bool, true, false, cond, List}
-use Rattle.std.proofs.Common.{Option}
-use Rattle.std.proofs.Common.{Some, None, ap, sym, refl, map, take, min, length, get_or, [], ◌∷◌}
-use Rattle.std.proofs.Common.{◌++◌}
-use Rattle.std.proofs.Common.{arith}
-use Rattle.std.proofs.lemmas.List.{get_or-take, length-take, map-append}
+use Rattle.std.proofs.Common.{◌≡◌, ◌∙◌, ℕ, suc, ◌<◌, Bool, true, false, cond, List, Option, Some}
+use Rattle.std.proofs.Common.{None, ap, sym, refl, map, take, length, get_or, [], ◌∷◌, ◌++◌, arith}
+use Rattle.std.proofs.lemmas.List.{get_or-take, map-append}
 use Rattle.std.proofs.lemmas.List.Elements.{All-push}
 use Rattle.std.proofs.lemmas.Option.{none-some, same_Some, get_or_from_slice_get, slice_get_within}
 use Rattle.std.specs.Prelude.{All, slice_get}
@@ -16,6 +13,7 @@ use Rattle.thorin_input.specs.NewUnits.{NewUnit, or_held, kept_bytes}
 use Rattle.thorin_input.specs.Names.{same_name}
 use Rattle.thorin_builder.specs.declared.new_units.NewUnit.{NewUnit as CodeUnit}
 use Rattle.thorin_builder.specs.UnitView.{new_unit}
+use Rattle.thorin_index.proofs.RowLemmas.{at_least}
 
 -- the units with their rows
 abbrev pub with_rows : List IndexEntry → List (DwarfObject × CodeUnit)
@@ -80,13 +78,6 @@ not_added held rows units name h =
 -- the number of each unit is one of the rows
 abbrev pub AreNumbered : List IndexEntry → List (DwarfObject × CodeUnit) → Type 0
 AreNumbered rows units = All (λ (e : DwarfObject × CodeUnit). e.1.row < length rows) units
-
-at_least : {A : Type 0} (front all : List A) → take (length front) all ≡ front
-    → length front ≤ length all
-at_least front all h =
-    let e : length front ≡ min (length front) (length all) =
-    ap length (sym h) ∙ length-take (length front) all in
-    omega arith
 
 -- where there are more rows, each unit has its number still, and the row of it
 pub numbered_still : (rows more : List IndexEntry) (units : List (DwarfObject × CodeUnit))

@@ -1,7 +1,6 @@
 -- Units keep their bytes where parts of other sections are added.
 use Rattle.std.proofs.Common.{◌≡◌, ◌∙◌, ℕ, Bool, true, false, not, cond, eqb, ◌&&◌, List, [], ◌∷◌}
-use Rattle.std.proofs.Common.{◌++◌, map, length, Result, Ok, Err, ap, sym, subst, refl}
-use Rattle.std.proofs.Common.{true≢false}
+use Rattle.std.proofs.Common.{◌++◌, map, length, Result, Ok, Err, ap, sym, subst, refl, true≢false}
 use Rattle.std.proofs.lemmas.Bool.{eqb-true}
 use Rattle.dwp_base.specs.declared.section.SectionKind.{SectionKind}
 use Rattle.dwp_base.specs.declared.section.SectionKind.TheVariants.{Info, Types, Abbrev, StrOffsets}
@@ -15,8 +14,8 @@ use Rattle.dwp_index.specs.Package.{part_of, place_of}
 use Rattle.dwp_table.specs.declared.object.DwarfObject.{DwarfObject}
 use Rattle.thorin_index.specs.Entries.{contribution_to}
 use Rattle.thorin_index.specs.declared.entry.IndexEntry.{IndexEntry}
-use Rattle.thorin_errors.specs.Fault.{Fault, MissingRequiredSection, RepeatedSection}
-use Rattle.thorin_errors.specs.Fault.{SectionOutsideFormat}
+use Rattle.thorin_errors.specs.Errors.{ErrorValue, MissingRequiredSection, RepeatedSection}
+use Rattle.thorin_errors.specs.Errors.{SectionOutsideFormat}
 use Rattle.thorin_input.specs.Growing.{Contents, with_bytes, with_parts}
 use Rattle.thorin_input.specs.Indexes.{Source}
 use Rattle.thorin_input.specs.Format.{is_in_format, is_copied}
@@ -25,7 +24,7 @@ use Rattle.thorin_input.specs.Parts.{Parts, has_part, stands_once, with_offsets,
 use Rattle.thorin_input.specs.Parts.{with_each_part, parts_of}
 use Rattle.thorin_input.specs.Used.{Used}
 use Rattle.thorin_join.specs.State.{InProgress, kind_at, unit_bytes, held_units}
-use Rattle.thorin_builder.proofs.UnitsLater.{bind-inv}
+use Rattle.dwp_base.proofs.Steps.{bind-was}
 
 -- none of some parts is a section of units
 abbrev pub ArePartsApart : Contents → Type 0
@@ -50,12 +49,12 @@ copied-apart Abbrev h = (refl, refl)
 copied-apart _ h = (refl, refl)
 
 offsets-by : (missing : Bool) (before after : Parts) (written : Result (List ℕ × List (List ℕ))
-    Fault) → cond missing (Err (MissingRequiredSection (name_of Str))) (written >>= λ w.
+    ErrorValue) → cond missing (Err (MissingRequiredSection (name_of Str))) (written >>= λ w.
     Ok (before.0 ++ (StrOffsets, w.0) ∷ [], w.1)) ≡ Ok after → ArePartsApart before.0
     → ArePartsApart after.0
 offsets-by true before after written h apart = absurd cc
 offsets-by false before after written h apart =
-    let w = bind-inv written _ after h in
+    let w = bind-was written _ after h in
     let is : ◌≡◌ {A = Parts} (before.0 ++ (StrOffsets, w.0.0) ∷ [], w.0.1) after = cc (w.2) in
     subst (λ (p : Parts). ArePartsApart p.0) is
     (one-apart before.0 StrOffsets w.0.0 apart refl refl)
@@ -68,7 +67,7 @@ offsets-apart source before after bytes h apart = offsets-by (not source.object.
 
 copied-by : (copied : Bool) (before after : Parts) (section : Used)
     → is_copied section.kind ≡ copied
-    → ◌≡◌ {A = Result Parts Fault} (cond copied (Ok (
+    → ◌≡◌ {A = Result Parts ErrorValue} (cond copied (Ok (
       before.0 ++
           (section.kind, section.bytes) ∷ [],
       before.1,
@@ -115,7 +114,7 @@ each-apart source before after [] h apart =
     let is : before ≡ after = cc h in
     subst (λ (p : Parts). ArePartsApart p.0) is apart
 each-apart source before after (section ∷ sections) h apart =
-    let step = bind-inv (with_part source before section) _ after h in
+    let step = bind-was (with_part source before section) _ after h in
     each-apart source step.0 after sections step.2
     (part-apart source before step.0 section step.1 apart)
 

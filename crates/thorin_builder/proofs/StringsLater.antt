@@ -1,13 +1,11 @@
 -- The parts of an input are the same over more strings behind those that it left.
 use Rattle.std.proofs.Common.{◌≡◌, ◌∙◌, ℕ, zero, suc, ◌+◌, ◌*◌, Bool, true, false, not, cond, ltb}
-use Rattle.std.proofs.Common.{eqb}
-use Rattle.std.proofs.Common.{◌&&◌, ◌||◌, List, [], ◌∷◌, ◌++◌, length, take, drop, slice_range}
+use Rattle.std.proofs.Common.{eqb, ◌&&◌, List, [], ◌∷◌, ◌++◌, length, take, drop, slice_range}
 use Rattle.std.proofs.Common.{Option, Result, Ok, Err, ap, sym, subst, refl, append_assoc}
 use Rattle.std.specs.List.{list_any}
 use Rattle.std.specs.Str.{bytes_eq}
 use Rattle.std.proofs.lemmas.Bool.{false≢true, or_parts, cond-true}
 use Rattle.std.proofs.lemmas.List.{append-nil, take-append-drop}
-use Rattle.std.proofs.lemmas.Slice.Eq.{bytes_eq-Decides}
 use Rattle.dwp_base.specs.declared.endian.Endianness.{Endianness}
 use Rattle.dwp_base.specs.declared.section.Contribution.{Contribution}
 use Rattle.dwp_base.specs.declared.section.SectionKind.TheVariants.{Str, StrOffsets}
@@ -18,8 +16,8 @@ use Rattle.dwp_bytes.specs.declared.encoding.Format.{Format}
 use Rattle.dwp_bytes.specs.Encoding.{offset_size}
 use Rattle.dwp_bytes.specs.StringOffsets.{header_size, entry_count}
 use Rattle.dwp_index.specs.Index.{Index}
-use Rattle.thorin_errors.specs.Fault.{Fault, BadStringOffsets, MissingRequiredSection}
-use Rattle.thorin_errors.specs.Fault.{RepeatedSection, SectionOutsideFormat}
+use Rattle.thorin_errors.specs.Errors.{ErrorValue, BadStringOffsets, MissingRequiredSection}
+use Rattle.thorin_errors.specs.Errors.{RepeatedSection, SectionOutsideFormat}
 use Rattle.thorin_strings.specs.Strings.{offset_of, with_string}
 use Rattle.thorin_strings.specs.StringOffsets.{header_of, named_at, fitting_offset, entry_bytes}
 use Rattle.thorin_strings.specs.StringOffsets.{remapped_entry, remapped_entries, remapped}
@@ -32,8 +30,9 @@ use Rattle.thorin_input.specs.InputStrings.{rewritten}
 use Rattle.thorin_input.specs.Parts.{has_part, stands_once, with_offsets, with_part, with_each_part}
 use Rattle.thorin_input.specs.Parts.{parts_of}
 use Rattle.thorin_input.specs.Used.{Used, first}
-use Rattle.dwp_base.proofs.Steps.{bind-ok, bind-was as bind-inv}
+use Rattle.dwp_base.proofs.Steps.{bind-ok, bind-was as bind-inv, same-ok}
 use Rattle.dwp_base.proofs.Bools.{or-right}
+use Rattle.thorin_strings.proofs.Named.{offset_by, has_by, itself}
 
 abbrev Strings : Type 0
 Strings = List (List ℕ)
@@ -55,41 +54,39 @@ front-more a b c f g = record {
 -- ---- steps that use strings
 
 -- what was given with these strings is given with more behind those that were left
-record Later {W : Type 0} (step : Strings → Result (W × Strings) Fault) (before : Strings)
+record Later {W : Type 0} (step : Strings → Result (W × Strings) ErrorValue) (before : Strings)
     (given : W × Strings) : Type 0 where
   more : Front before given.1
   again : (later : Strings) → Front given.1 later → step later ≡ Ok (given.0, later)
 
 -- so it is whatever the step gave
-abbrev Keeps : {W : Type 0} → (Strings → Result (W × Strings) Fault) → Type 0
+abbrev Keeps : {W : Type 0} → (Strings → Result (W × Strings) ErrorValue) → Type 0
 Keeps {W} step = (before : Strings) (given : W × Strings) → step before ≡ Ok given
     → Later step before given
 
-ok-eq : {X E : Type 0} (x y : X) → ◌≡◌ {A = Result X E} (Ok x) (Ok y) → x ≡ y
-ok-eq x y h = cc
-
 ok-keeps : {W : Type 0} (w : W) → Keeps (λ s. Ok (w, s))
 ok-keeps {W} w before given h =
-    subst (Later (λ s. Ok (w, s)) before) (ok-eq (w, before) given h)
+    subst (Later (λ s. Ok (w, s)) before) (same-ok (w, before) given h)
     (record { more = front-refl before; again = λ later front. refl })
 
-err-keeps : {W : Type 0} (fault : Fault) → Keeps {W = W} (λ s. Err fault)
-err-keeps fault before given h = absurd cc
+err-keeps : {W : Type 0} (error : ErrorValue) → Keeps {W = W} (λ s. Err error)
+err-keeps error before given h = absurd cc
 
-cond-keeps : {W : Type 0} (b : Bool) (one other : Strings → Result (W × Strings) Fault)
+cond-keeps : {W : Type 0} (b : Bool) (one other : Strings → Result (W × Strings) ErrorValue)
     → Keeps one → Keeps other → Keeps (λ s. cond b (one s) (other s))
 cond-keeps true one other k l = k
 cond-keeps false one other k l = l
 
 -- a step that uses no string, and then one that does
-alone-keeps : {A W : Type 0} (r : Result A Fault) (next : A → Strings → Result (W × Strings) Fault)
+alone-keeps : {A W : Type 0} (r : Result A ErrorValue) (next : A → Strings
+    → Result (W × Strings) ErrorValue)
     → ((x : A) → Keeps (next x)) → Keeps (λ s. r >>= λ x. next x s)
 alone-keeps (Ok x) next k = k x
 alone-keeps (Err e) next k = err-keeps e
 
 -- one step after another
-then-keeps : {A W : Type 0} (step : Strings → Result (A × Strings) Fault)
-    (next : A → Strings → Result (W × Strings) Fault) → Keeps step → ((x : A) → Keeps (next x))
+then-keeps : {A W : Type 0} (step : Strings → Result (A × Strings) ErrorValue)
+    (next : A → Strings → Result (W × Strings) ErrorValue) → Keeps step → ((x : A) → Keeps (next x))
     → Keeps (λ s. step s >>= λ p. next p.0 p.1)
 then-keeps step next k l before given h =
     let one = bind-inv (step before) (λ p. next p.0 p.1) given h in
@@ -108,32 +105,19 @@ then-keeps step next k l before given h =
 abbrev has : Strings → List ℕ → Bool
 has ss s = list_any (λ t. bytes_eq t s) ss
 
-itself : (s : List ℕ) → bytes_eq s s ≡ true
-itself s = (bytes_eq-Decides s s).1 refl
-
-has-by : (b r q : Bool) → (b || r) ≡ true → (r ≡ true → q ≡ true) → (b || q) ≡ true
-has-by true r q h more = refl
-has-by false r q h more = more h
-
 -- what is there stays there
 has-more : (ss ts : Strings) (s : List ℕ) → has ss s ≡ true → has (ss ++ ts) s ≡ true
 has-more [] ts s h = absurd (false≢true h)
-has-more (t ∷ ss) ts s h = has-by (bytes_eq t s) (has ss s) (has (ss ++ ts) s) h (has-more ss ts s)
+has-more (t ∷ ss) ts s h = has_by (bytes_eq t s) (has ss s) (has (ss ++ ts) s) h (has-more ss ts s)
 
 has-last : (ss : Strings) (s : List ℕ) → has (ss ++ s ∷ []) s ≡ true
 has-last [] s = rw (itself s) refl
 has-last (t ∷ ss) s = or-right (bytes_eq t s) (has (ss ++ s ∷ []) s) (has-last ss s)
 
--- and keeps its offset
-offset-by : (b r : Bool) (n x y : ℕ) → (b || r) ≡ true → (r ≡ true → x ≡ y) → cond b 0 (n + 1 + x)
-    ≡ cond b 0 (n + 1 + y)
-offset-by true r n x y h same = refl
-offset-by false r n x y h same = ap (λ m. n + 1 + m) (same h)
-
 offset-kept : (ss ts : Strings) (s : List ℕ) → has ss s ≡ true → offset_of (ss ++ ts) s ≡
     offset_of ss s
 offset-kept [] ts s h = absurd (false≢true h)
-offset-kept (t ∷ ss) ts s h = offset-by (bytes_eq t s) (has ss s) (length t)
+offset-kept (t ∷ ss) ts s h = offset_by (bytes_eq t s) (has ss s) (length t)
     (offset_of (ss ++ ts) s) (offset_of ss s) h (offset-kept ss ts s)
 
 offset-last : (ss : Strings) (s : List ℕ) → has ss s ≡ false → offset_of (ss ++ s ∷ []) s ≡
@@ -166,12 +150,12 @@ placed ss s = placed-by (has ss s) ss s refl
 string-keeps : (format : Format) (string : List ℕ) → Keeps (λ s.
     fitting_offset format (offset_of s string) >>= λ o. Ok (o, with_string s string))
 string-keeps format string before given h =
-    let step : Strings → Result (ℕ × Strings) Fault = λ s.
+    let step : Strings → Result (ℕ × Strings) ErrorValue = λ s.
     fitting_offset format (offset_of s string) >>= λ o. Ok (o, with_string s string) in
     let fit = bind-inv (fitting_offset format (offset_of before string)) _ given h in
     let used = placed before string in
     let new = with_string before string in
-    subst (Later step before) (ok-eq (fit.0, new) given fit.2) (record {
+    subst (Later step before) (same-ok (fit.0, new) given fit.2) (record {
       more = used.more;
       again = λ later front.
           let there : has later string ≡ true = subst (λ l. has l string ≡ true) (sym front.is)
@@ -262,10 +246,10 @@ module _ (source : Source) where
       → Keeps (λ s. with_offsets source (parts, s) bytes)
   unfolding with_offsets
   offsets-keep parts bytes =
-      let fault = MissingRequiredSection (name_of Str) in
-      cond-keeps (not source.object.has_strings) (λ s. Err fault)
+      let error = MissingRequiredSection (name_of Str) in
+      cond-keeps (not source.object.has_strings) (λ s. Err error)
       (λ s. rewritten source bytes s >>= λ w. Ok (parts ++ (StrOffsets, w.0) ∷ [], w.1))
-      (err-keeps fault)
+      (err-keeps error)
       (then-keeps (rewritten source bytes) (λ w s. Ok (parts ++ (StrOffsets, w) ∷ [], s))
       (rewritten-keeps bytes) (λ w. ok-keeps (parts ++ (StrOffsets, w) ∷ [])))
 

@@ -6,15 +6,15 @@ use Rattle.std.specs.Map.{lookup}
 use Rattle.std.specs.Str.{bytes_eq}
 use Rattle.dwp_base.specs.Reading.{◌>>=◌}
 use Rattle.dwp_bytes.specs.Input.{section}
-use Rattle.dwp_bytes.specs.declared.fault.ReadError.{ReadError}
+use Rattle.dwp_bytes.specs.declared.error.ReadError.{ReadError}
 use Rattle.dwp_dwarf.specs.Units.{Unit as Header, units}
 use Rattle.dwp_dwarf.specs.declared.unit.UnitSection.{UnitSection}
 use Rattle.dwp_table.specs.Objects.{identifier_of}
 use Rattle.dwp_table.specs.declared.object.DwarfObject.{DwarfObject}
 use Rattle.dwp_table.specs.declared.object.DwarfObject.TheVariants.{Compilation, TypeUnit}
 use Rattle.thorin_index.specs.declared.entry.IndexEntry.{IndexEntry}
-use Rattle.thorin_errors.specs.Fault.{Fault, ParseUnitHeader, EmptyUnit}
-use Rattle.thorin_errors.specs.Answers.{as_fault}
+use Rattle.thorin_errors.specs.Errors.{ErrorValue, ParseUnitHeader, EmptyUnit}
+use Rattle.thorin_errors.specs.Answers.{as_error}
 use Rattle.thorin_input.specs.Indexes.{Source}
 use Rattle.thorin_input.specs.Names.{same_name}
 use Rattle.thorin_input.specs.NewUnits.{New, NewUnit, Adding, Met, or_held, kept_bytes, place_for}
@@ -24,22 +24,9 @@ use Rattle.thorin_input.specs.NewUnits.{with_section_at, with_section_in, with_s
 use Rattle.thorin_input.specs.NewUnits.{with_each_section, new_units}
 use Rattle.thorin_input.specs.Rows.{unit_row, row_test}
 use Rattle.thorin_input.specs.Used.{Used}
+use Rattle.dwp_base.proofs.Steps.{bind-was, bind-ok, same-ok}
 
 -- ---- steps that are made one after the other
-
-ok-eq : {X E : Type 0} (x y : X) → ◌≡◌ {A = Result X E} (Ok x) (Ok y) → x ≡ y
-ok-eq x y h = cc
-
--- a step that gives x goes on with it
-bind-ok : {A B E : Type 0} (r : Result A E) (x : A) (f : A → Result B E) → r ≡ Ok x
-    → (r >>= f) ≡ f x
-bind-ok r x f h = ap (λ q. q >>= f) h
-
--- the value of a step that did not fail, and what came of it
-pub bind-inv : {A B E : Type 0} (r : Result A E) (f : A → Result B E) (y : B) → (r >>= f) ≡ Ok y
-    → (x : A) × (r ≡ Ok x) × (f x ≡ Ok y)
-bind-inv (Ok x) f y h = (x, refl, h)
-bind-inv (Err e) f y h = absurd cc
 
 -- ---- a unit that is added
 
@@ -64,9 +51,9 @@ first-by : (adding : Adding) (from : Used) (name : DwarfObject) (unit : Header)
     })) (Err (EmptyUnit (identifier_of name))) ≡ Ok
     after → after.units ≡ [] → ⊥
 first-by adding from name unit before after true h none =
-    let s1 = bind-inv (row_test adding.source.indexes from.kind name unit) _ after h in
-    let s2 = bind-inv (unit_row adding.source.indexes adding.whole name) _ after s1.2 in
-    one-more before.units _ (ap (λ (n : New). n.units) (ok-eq _ after s2.2) ∙ none)
+    let s1 = bind-was (row_test adding.source.indexes from.kind name unit) _ after h in
+    let s2 = bind-was (unit_row adding.source.indexes adding.whole name) _ after s1.2 in
+    one-more before.units _ (ap (λ (n : New). n.units) (same-ok _ after s2.2) ∙ none)
 first-by adding from name unit before after false h none = absurd cc
 
 -- where a unit is the first of its name, there are units
@@ -78,9 +65,9 @@ first-some adding from name unit before after h none = first-by adding from name
     (from.address == 0) h none
 
 passed-over : (e : Bool) (new other next : New) → other.units ≡ new.units
-    → ◌≡◌ {A = Result New Fault} (Ok (cond e new other)) (Ok next) → new.units ≡ next.units
-passed-over true new other next s h = ap (λ (n : New). n.units) (ok-eq new next h)
-passed-over false new other next s h = sym s ∙ ap (λ (n : New). n.units) (ok-eq other next h)
+    → ◌≡◌ {A = Result New ErrorValue} (Ok (cond e new other)) (Ok next) → new.units ≡ next.units
+passed-over true new other next s h = ap (λ (n : New). n.units) (same-ok new next h)
+passed-over false new other next s h = sym s ∙ ap (λ (n : New). n.units) (same-ok other next h)
 
 -- ---- a unit that is kept
 
@@ -115,7 +102,7 @@ kept-later held more units name bytes h = or_held-later (lookup (same_name name)
 
 -- no unit was there before some steps, and with other parts and more units they come to the same
 record Stays {X : Type 0} (units : X → List (DwarfObject × NewUnit)) (before after : X)
-    (again : Result X Fault) : Type 0 where
+    (again : Result X ErrorValue) : Type 0 where
   none : units before ≡ []
   same : again ≡ Ok after
 
@@ -154,13 +141,13 @@ module _ (source : Source) (whole other : IndexEntry) (held more : List (DwarfOb
       → Stays units_of before after (with_read there from before read)
   unfolding with_read
   read-later from before after read h none =
-      let unit = bind-inv (as_fault ParseUnitHeader read) _ after h in
-      let name = bind-inv (name_for source from.kind unit.0) _ after unit.2 in
+      let unit = bind-was (as_error ParseUnitHeader read) _ after h in
+      let name = bind-was (name_for source from.kind unit.0) _ after unit.2 in
       let one = unit-later (kept_bytes held before.units name.0) from name.0 unit.0 before after
       refl name.2 none in
       record {
         none = one.none;
-        same = bind-ok (as_fault ParseUnitHeader read) unit.0 _ unit.1
+        same = bind-ok (as_error ParseUnitHeader read) unit.0 _ unit.1
             ∙ bind-ok (name_for source from.kind unit.0) name.0 _ name.1 ∙ one.same;
       }
 
@@ -169,11 +156,11 @@ module _ (source : Source) (whole other : IndexEntry) (held more : List (DwarfOb
       → Stays units_of before after (with_each_read there from before reads)
   unfolding with_each_read
   each-later from before after [] h none = record {
-    none = ap (λ (n : New). n.units) (ok-eq before after h) ∙ none;
+    none = ap (λ (n : New). n.units) (same-ok before after h) ∙ none;
     same = h;
   }
   each-later from before after (read ∷ rest) h none =
-      let step = bind-inv (with_read here from before read) _ after h in
+      let step = bind-was (with_read here from before read) _ after h in
       let later = each-later from step.0 after rest step.2 none in
       let one = read-later from before step.0 read step.1 later.none in
       record {
@@ -193,9 +180,9 @@ module _ (source : Source) (whole other : IndexEntry) (held more : List (DwarfOb
   unfolding with_section_at
   section_at-later from place before after h none =
       let reads = units place (section source.object.order from.bytes) in
-      let once = bind-inv (once_test here place before.0) _ after h in
-      let step = bind-inv (with_each_read here from before.1 reads) _ after once.2 in
-      let is = ok-eq (with_met place before.0, step.0) after step.2 in
+      let once = bind-was (once_test here place before.0) _ after h in
+      let step = bind-was (with_each_read here from before.1 reads) _ after once.2 in
+      let is = same-ok (with_met place before.0, step.0) after step.2 in
       let all = each-later from before.1 step.0 reads step.1
       (ap (λ (m : Met × New). m.1.units) is ∙ none) in
       record {
@@ -209,7 +196,7 @@ module _ (source : Source) (whole other : IndexEntry) (held more : List (DwarfOb
       → with_section_in here from place before ≡ Ok after → after.1.units ≡ []
       → Stays units_met before after (with_section_in there from place before)
   section_in-later from None before after h none = record {
-    none = ap (λ (m : Met × New). m.1.units) (ok-eq before after h) ∙ none;
+    none = ap (λ (m : Met × New). m.1.units) (same-ok before after h) ∙ none;
     same = h;
   }
   section_in-later from (Some place) before after h none =
@@ -227,11 +214,11 @@ module _ (source : Source) (whole other : IndexEntry) (held more : List (DwarfOb
       → Stays units_met before after (with_each_section there before sections)
   unfolding with_each_section
   sections-later before after [] h none = record {
-    none = ap (λ (m : Met × New). m.1.units) (ok-eq before after h) ∙ none;
+    none = ap (λ (m : Met × New). m.1.units) (same-ok before after h) ∙ none;
     same = h;
   }
   sections-later before after (from ∷ others) h none =
-      let step = bind-inv (with_section here before from) _ after h in
+      let step = bind-was (with_section here before from) _ after h in
       let later = sections-later step.0 after others step.2 none in
       let one = section-later from before step.0 step.1 later.none in
       record {
@@ -250,9 +237,9 @@ unfolding new_units
 units-later source whole other held more new h none =
     let start : Met × New = (none_met, record { units = []; differing = [] }) in
     let sections = source.object.sections in
-    let step = bind-inv (with_each_section (here source whole other held more) start sections) _ new
+    let step = bind-was (with_each_section (here source whole other held more) start sections) _ new
     h in
-    let is : step.0.1 ≡ new = ok-eq step.0.1 new step.2 in
+    let is : step.0.1 ≡ new = same-ok step.0.1 new step.2 in
     let all = sections-later source whole other held more start step.0 sections step.1
     (ap (λ (n : New). n.units) is ∙ none) in
     bind-ok (with_each_section (there source whole other held more) start sections) step.0 _

@@ -7,14 +7,14 @@ use Rattle.thorin_errors.specs.declared.error.Error.{Error}
 use Rattle.thorin_errors.specs.declared.error.Error.TheVariants as error
 use Rattle.thorin_errors.specs.declared.error.InputError.{InputError}
 use Rattle.thorin_errors.specs.declared.error.InputError.TheVariants as input_error
-use Rattle.thorin_errors.specs.Fault.{Fault, fault_of, Memory}
+use Rattle.thorin_errors.specs.Errors.{ErrorValue, error_of, Memory}
 use Rattle.thorin_errors.specs.declared.error.MissingReferencedObjectBehaviour.{MissingReferencedObjectBehaviour}
 use Rattle.thorin_errors.specs.declared.error.MissingReferencedObjectBehaviour.TheVariants as behaviour
 use Rattle.thorin_executable.specs.Skeletons.{Listed, skeletons_of, named_skeletons_of}
 use Rattle.dwp_table.specs.declared.object.DwarfObject.{DwarfObject}
 use Rattle.dwp_table.specs.declared.object.DwarfObject.TheVariants.{Compilation, TypeUnit}
 use Rattle.thorin_errors.specs.Answers.{Gives}
-use Rattle.thorin_errors.specs.Inputs.{input_fault}
+use Rattle.thorin_errors.specs.Inputs.{input_error}
 use Rattle.thorin_join.specs.Builder.{State, names_in, taken}
 use Rattle.thorin_join.specs.Join.{Joins}
 use Rattle.thorin_input.specs.Names.{same_name, with_name}
@@ -24,7 +24,7 @@ use Rattle.thorin_join.specs.Represents.{units_in}
 abbrev pub Outcome : Type 0
 Outcome = Result (Unit {0}) Error
 
--- an input's bytes were taken, and their units joined; or they were refused for their first fault,
+-- an input's bytes were taken, and their units joined; or they were refused for their first error,
 -- want of memory aside, and then nothing changed
 pub record Takes (bytes : List ℕ) (old : State) (outcome : Outcome) (new : State) : Type 0 where
   pub meaning : Gives (λ _. new) outcome (taken bytes old)
@@ -47,7 +47,7 @@ abbrev pub TakesRead : Result (List ℕ) InputError → State → Outcome → St
 TakesRead (Ok bytes) old outcome new accepted =
     Takes bytes old outcome new × (accepted ≡ accepted_of outcome bytes)
 TakesRead (Err e) old outcome new accepted =
-    (outcome ≡ Err (input_fault e)) × (new ≡ old) × (accepted ≡ [])
+    (outcome ≡ Err (input_error e)) × (new ≡ old) × (accepted ≡ [])
 
 -- the same for the object at a path, of which that may be read
 pub record TakesFile (offered : Result (List ℕ) IoError
@@ -71,7 +71,7 @@ abbrev pub is_there : DwarfObject → State → Bool
 is_there (Compilation id) state = list_any (same_name (Compilation id)) (names_in state.begun)
 is_there (TypeUnit signature) state = false
 
--- an object that an executable refers to can't be read: it is passed over, or a fault
+-- an object that an executable refers to can't be read: it is passed over, or an error
 abbrev pub PassesOver : MissingReferencedObjectBehaviour → IoError → Outcome → Type 0
 PassesOver behaviour.Skip cause outcome = outcome ≡ Ok tt
 PassesOver behaviour.Error cause outcome = outcome ≡ Err (error.ReadInput cause)
@@ -124,11 +124,11 @@ TakesSkeleton offer missing named old outcome new accepted =
     ⊎ (TakesAbsent offer missing named old outcome new accepted
     ⊎ ((outcome ≡ Err error.Memory) × (new ≡ old) × (accepted ≡ [])))
 
--- what comes of a list's end: nothing, or the fault that ended it
-abbrev pub EndsWith : Option Fault → Outcome → Type 0
+-- what comes of a list's end: nothing, or the error that ended it
+abbrev pub EndsWith : Option ErrorValue → Outcome → Type 0
 EndsWith None outcome = outcome ≡ Ok tt
-EndsWith (Some fault) (Ok x) = ⊥
-EndsWith (Some fault) (Err e) = fault_of e ≡ fault
+EndsWith (Some error) (Ok x) = ⊥
+EndsWith (Some error) (Err e) = error_of e ≡ error
 
 -- a state on the way, the bytes that were accepted up to it, and those after it
 pub record Step : Type 0 where
@@ -144,25 +144,25 @@ GoesOn (Err e) s outcome new accepted rest =
 
 -- the units that an executable refers to, in order, up to the first refusal
 abbrev pub TakesSkeletons : (List ℕ → Result (List ℕ) IoError → Type 0)
-    → MissingReferencedObjectBehaviour → List (DwarfObject × List ℕ) → Option Fault → State
+    → MissingReferencedObjectBehaviour → List (DwarfObject × List ℕ) → Option ErrorValue → State
     → Outcome → State → List (List ℕ) → Type 0
-TakesSkeletons offer missing [] fault old outcome new accepted =
-    EndsWith fault outcome × (new ≡ old) × (accepted ≡ [])
-TakesSkeletons offer missing (named ∷ rest) fault old outcome new accepted =
+TakesSkeletons offer missing [] error old outcome new accepted =
+    EndsWith error outcome × (new ≡ old) × (accepted ≡ [])
+TakesSkeletons offer missing (named ∷ rest) error old outcome new accepted =
     (s : Step) × (first : Outcome) × TakesSkeleton offer missing named old first s.middle s.here
     × GoesOn first s outcome new accepted
-    (TakesSkeletons offer missing rest fault s.middle outcome new s.later)
+    (TakesSkeletons offer missing rest error s.middle outcome new s.later)
 
--- the units that an executable refers to and the fault that ends their list; where memory ran out,
+-- the units that an executable refers to and the error that ends their list; where memory ran out,
 -- the first of them
 pub record TakesNamed (offer : List ℕ → Result (List ℕ) IoError
     → Type 0) (missing : MissingReferencedObjectBehaviour) (meaning : Listed) (old : State)
     (outcome : Outcome) (new : State) (accepted : List (List ℕ)) : Type 0 where
   pub named : List (DwarfObject × List ℕ)
-  pub fault : Option Fault
-  pub are : fault ≢ Some Memory → meaning ≡ (named, fault)
+  pub error : Option ErrorValue
+  pub are : error ≢ Some Memory → meaning ≡ (named, error)
   pub front : take (length named) meaning.0 ≡ named
-  pub taken : TakesSkeletons offer missing named fault old outcome new accepted
+  pub taken : TakesSkeletons offer missing named error old outcome new accepted
 
 -- what a read of an executable gave was taken; `names` says which units its bytes name
 abbrev pub TakesExecutableRead : (names : List ℕ → Listed)
@@ -171,7 +171,7 @@ abbrev pub TakesExecutableRead : (names : List ℕ → Listed)
 TakesExecutableRead names offer missing (Ok bytes) old outcome new accepted =
     TakesNamed offer missing (names bytes) old outcome new accepted
 TakesExecutableRead names offer missing (Err e) old outcome new accepted =
-    (outcome ≡ Err (input_fault e)) × (new ≡ old) × (accepted ≡ [])
+    (outcome ≡ Err (input_error e)) × (new ≡ old) × (accepted ≡ [])
 
 -- the same for the executable at a path, of which that may be read
 pub record TakesExecutableBy (names : List ℕ → Listed) (offer : List ℕ → Result (List ℕ) IoError
@@ -182,7 +182,7 @@ pub record TakesExecutableBy (names : List ℕ → Listed) (offer : List ℕ →
   pub accepted : List (List ℕ)
   pub taken : TakesExecutableRead names offer missing read old outcome new accepted
 
--- where a unit that names no object is a fault
+-- where a unit that names no object is an error
 abbrev pub TakesExecutable : (offer : List ℕ → Result (List ℕ) IoError → Type 0) → List ℕ
     → MissingReferencedObjectBehaviour → State → Outcome → State → Type 0
 TakesExecutable = TakesExecutableBy skeletons_of

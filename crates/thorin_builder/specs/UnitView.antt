@@ -1,12 +1,15 @@
 -- What the units that an input adds, and what they are added to, stand for.
-use Rattle.std.specs.Prelude.{List, map, get_or}
+use Rattle.std.specs.Prelude.{◌≡◌, List, map, get_or}
+use Rattle.dwp_base.specs.declared.section.SectionKind.{SectionKind}
 use Rattle.thorin_builder.specs.declared.new_units.NewUnit.{NewUnit}
 use Rattle.thorin_builder.specs.declared.new_units.NewUnits.{NewUnits}
 use Rattle.thorin_builder.specs.declared.units.Adding.{Adding}
 use Rattle.thorin_builder.specs.declared.units.Met.{Met}
 use Rattle.dwp_bytes.specs.Input.{Input}
 use Rattle.dwp_bytes.specs.declared.slice.SliceReader.{SliceReader}
+use Rattle.thorin_input.specs.Indexes.{Source}
 use Rattle.thorin_input.specs.NewUnits as spec
+use Rattle.thorin_input.specs.declared.rows.Places.{Places}
 use Rattle.thorin_join.specs.State.{held_units}
 use Rattle.dwp_table.specs.declared.object.DwarfObject.{DwarfObject}
 use Rattle.thorin_index.specs.declared.entry.IndexEntry.{IndexEntry}
@@ -37,6 +40,12 @@ adding_of a = record {
 
 abbrev pub met_of : Met → spec.Met
 met_of m = record { info = m.info; types = m.types }
+
+-- the rows by place are those of both indexes of a source, in its section of a kind
+pub record ArePlacesIn (source : Source) (kind : SectionKind) (places : Places) : Type 0 where
+  pub compilations : places.compilations
+      ≡ record { index = source.indexes.compilations; section = kind }
+  pub types : places.types ≡ record { index = source.indexes.types; section = kind }
 
 -- what a reader of a section has left
 abbrev pub left_in : SliceReader → Input

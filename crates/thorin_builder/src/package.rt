@@ -10,15 +10,13 @@ ghost use Rattle.thorin_join.specs.Builder.{IsFinishedState};
 ghost use Rattle.thorin_join.specs.Join.{Joins, IsPackageOnceWritten};
 ghost use Rattle.thorin_join.specs.Meaning.{keys};
 ghost use Rattle.thorin_join.specs.Represents.{IsSoundBegun, units_in};
-ghost use Rattle.thorin_builder.specs.Missing.{missing_left};
+ghost use Rattle.thorin_builder.specs.Missing.{missing_left, without_targets};
 ghost use Rattle.thorin_again.specs.Own.{packs_again};
-ghost use Rattle.thorin_again.specs.OwnAccepted.{IsAcceptedByNewOnceWritten};
-ghost use Rattle.thorin_again.specs.OwnAccepted.{IsAcceptedOnceWritten};
+ghost use Rattle.thorin_again.specs.OwnAccepted.{IsAcceptedByNewOnceWritten, IsAcceptedOnceWritten};
 ghost use Rattle.thorin_again.specs.OwnUnits.{HasOneEncoding};
 ghost use Rattle.thorin_builder.specs.Repeated.{AddsAgainTo, IsLaterBegun};
 ghost use Rattle.thorin_builder.specs.StateView.{begun_of};
 ghost use Rattle.thorin_builder.specs.Taking.{Takes, TakesFile, with_target};
-ghost use Rattle.thorin_builder.specs.Missing.{without_targets};
 
 use crate::adding::add_input;
 use crate::in_progress::InProgressDwarfPackage;

@@ -1,10 +1,10 @@
 //! A package while it is made: adding a source's units, taking them back, and finishing with
 //! strings and indexes.
 
-ghost use Rattle.std.specs.Prelude.{◌≡◌, ℕ, List, [], map, length, take, option_map, Some, IfOk};
-ghost use Rattle.std.specs.Prelude.{IfErr, OnOk, OnErr, true};
+ghost use Rattle.std.specs.Prelude.{◌≡◌, ℕ, ◌<◌, ◌^◌, List, map, length, take, option_map, Some};
+ghost use Rattle.std.specs.Prelude.{IfOk, IfErr, OnOk, OnErr, true};
 ghost use Rattle.std.specs.Map.{lookup};
-ghost use Rattle.dwp_index.specs.Package.{part_of};
+ghost use Rattle.dwp_table.specs.Objects.{identifier_of};
 ghost use Rattle.thorin_errors.specs.Answers.{Gives};
 ghost use Rattle.thorin_index.specs.EntryTests.{index_tests};
 ghost use Rattle.thorin_index.specs.IndexText.{IsIndexOf};
@@ -21,10 +21,11 @@ ghost use Rattle.thorin_input.specs.View as view;
 use crate::in_progress::InProgressDwarfPackage;
 use crate::new_units::NewUnits;
 use crate::units::Adding;
-use dwp_base::{Class, Contribution, Endianness, SectionKind};
+use dwp_base::{Class, Endianness, SectionKind};
 use dwp_dwarf::UnitSection;
 use dwp_elf::WritableObject;
-use dwp_table::{Bucketable, DebugTypeSignature, DwarfObject};
+use dwp_index::part_of;
+use dwp_table::{DebugTypeSignature, DwarfObject};
 use indexmap::IndexSet;
 use std::alloc::Global;
 use thorin_errors::Error;
@@ -50,21 +51,6 @@ fn kind_at(place: UnitSection) -> SectionKind
         UnitSection::Info => SectionKind::Info,
         UnitSection::Types => SectionKind::Types,
     }
-}
-
-/// The bytes of a range of a section's content; none where it is absent or outside.
-fn part_of(content: &[u8], range: Option<Contribution>) -> &[u8]
-    ensures { result.now ≡ part_of content.now range }
-{
-    let Some(range) = range else {
-        return &[];
-    };
-    let size = content.len() as u64;
-    if range.offset.0 > size || size - range.offset.0 < range.size {
-        return &[];
-    }
-    let start = range.offset.0 as usize;
-    &content[start..start + range.size as usize]
 }
 
 /// The bytes of the unit of a row: its range of types, where it is a type unit and has one, else of
@@ -272,7 +258,7 @@ impl InProgressDwarfPackage {
     pub(crate) fn finish(self) -> (Result<WritableObject, Error>, Vec<DebugTypeSignature>)
         ensures refusal { Gives (λ _. tt) result.0 (indexes_test (in_progress_of self)) }
         ensures finished { IfOk result.0 (IsFinished (in_progress_of self)) }
-        ensures identifiers { IdentifiersFit self.rows }
+        ensures identifiers { OnOk result.0 (IdentifiersFit self.rows) }
         ensures differing { result.1.items ≡ self.differing.items }
     {
         let InProgressDwarfPackage {
@@ -283,7 +269,6 @@ impl InProgressDwarfPackage {
             rows,
             differing,
         } = self;
-        identifiers_fit(&rows);
         (finished(alloc, object, strings, &rows), differing)
     }
 }
@@ -298,6 +283,7 @@ fn index_of(
     ensures refusal { Gives (λ _. tt) result (index_tests (rows_of compilations rows.now)) }
     ensures written { IfOk result (λ bytes.
         IsIndexOf order (rows_of compilations rows.now) bytes.items) }
+    ensures identifiers { OnOk result (IdentifiersFit rows.now) }
 {
     // (mostly all units are of one kind: their rows aren't copied then)
     if are_all(rows, compilations) {
@@ -324,6 +310,7 @@ fn finished(
       rows = rows.now;
       differing = differing;
     })) }
+    ensures identifiers { OnOk result (IdentifiersFit rows.now) }
 {
     let mut object = object;
     let order = object.endianness();
@@ -337,7 +324,8 @@ fn finished(
 
 /// Whether a name is that of a compilation unit.
 fn is_compilation(name: DwarfObject) -> bool
-    ensures { result ≡ is_compilation name }
+    ensures kind { result ≡ is_compilation name }
+    ensures identifier { identifier_of name < 2 ^ 64 }
 {
     match name {
         DwarfObject::Compilation(_) => true,
@@ -347,7 +335,8 @@ fn is_compilation(name: DwarfObject) -> bool
 
 /// Whether all rows are those of compilation units, or those of type units.
 fn are_all(rows: &IndexRows, compilations: bool) -> bool
-    ensures { result ≡ true → rows_of compilations rows.now ≡ rows.now }
+    ensures all { result ≡ true → rows_of compilations rows.now ≡ rows.now }
+    ensures identifiers { result ≡ true → IdentifiersFit rows.now }
 {
     for place in 0..rows.len() {
         if is_compilation(rows.unit(place)) != compilations {
@@ -360,6 +349,7 @@ fn are_all(rows: &IndexRows, compilations: bool) -> bool
 /// The rows of compilation units, or those of type units.
 fn rows_of(alloc: Global, rows: &IndexRows, compilations: bool) -> Result<IndexRows, Error>
     ensures rows { IfOk result (λ chosen. chosen ≡ rows_of compilations rows.now) }
+    ensures identifiers { OnOk result (IdentifiersFit rows.now) }
     ensures refused { IfErr result (λ e. e ≡ Error.Memory) }
 {
     let mut chosen = IndexRows::new(alloc);
@@ -369,14 +359,4 @@ fn rows_of(alloc: Global, rows: &IndexRows, compilations: bool) -> Result<IndexR
         }
     }
     Ok(chosen)
-}
-
-/// The identifiers of rows have 64 bits, as their type says: what the law of written indexes asks
-/// of numbers.
-fn identifiers_fit(rows: &IndexRows)
-    ensures { IdentifiersFit rows.now }
-{
-    for place in 0..rows.len() {
-        let _identifier = rows.unit(place).index();
-    }
 }

@@ -1,13 +1,13 @@
 //! The units that an input adds to a package, each with its row.
 
-ghost use Rattle.std.specs.Prelude.{◌≡◌, ◌&&◌, [], option_map, Ok, Some, IfOk, IfErr, OnOk};
+ghost use Rattle.std.specs.Prelude.{◌≡◌, ◌&&◌, option_map, Ok, Some, IfOk, OnOk};
 ghost use Rattle.dwp_dwarf.specs.Units.{unit_of, unit_seen};
 ghost use Rattle.thorin_errors.specs.Answers.{Gives};
 ghost use Rattle.thorin_input.specs.Encodings.{has_encoding, all_have, section_has, are_alike};
 ghost use Rattle.thorin_input.specs.NewUnits as spec;
 ghost use Rattle.thorin_join.specs.State.{held_units};
 ghost use Rattle.thorin_builder.specs.StateView.{in_progress_of};
-ghost use Rattle.thorin_builder.specs.UnitView.{adding_of, met_of, new_unit, new_of};
+ghost use Rattle.thorin_builder.specs.UnitView.{ArePlacesIn, adding_of, met_of, new_of};
 ghost use Rattle.thorin_input.specs.View.{tables_in};
 ghost use Rattle.thorin_input.specs.View as view;
 
@@ -95,8 +95,7 @@ fn name_for<'a>(
     kind: SectionKind,
     header: &UnitHeader<SliceReader<'a>>,
 ) -> Result<DwarfObject, Error>
-    requires places { places.now.compilations
-        ≡ record { index = (view.source source.now).indexes.compilations; section = kind } }
+    requires places { ArePlacesIn (view.source source.now) kind places.now }
     requires tables { tables.old ≡ tables_in (view.source source.now).object }
     ensures meaning { Gives (λ name. name) result (spec.name_for (view.source source.now) kind
         (unit_of ⟦<SliceReader<'a> as Reader>⟧.input header.now)) }
@@ -200,16 +199,7 @@ impl<'a> NewUnits<'a> {
         section: UsedSection<'a>,
         read: Result<UnitHeader<SliceReader<'a>>, ReadError>,
     ) -> Result<(), Error>
-        requires compilations { places.now.compilations
-            ≡ record {
-              index = (view.source adding.now.source.now).indexes.compilations;
-              section = section.kind;
-            } }
-        requires types { places.now.types
-            ≡ record {
-              index = (view.source adding.now.source.now).indexes.types;
-              section = section.kind;
-            } }
+        requires places { ArePlacesIn (view.source adding.now.source.now) section.kind places.now }
         requires tables { tables.old ≡ tables_in (view.source adding.now.source.now).object }
         ensures meaning { Gives (λ _. new_of self.new) result
             (spec.with_read (adding_of adding.now) (view.used section.entry) (new_of self.old)
@@ -253,16 +243,7 @@ impl<'a> NewUnits<'a> {
         name: DwarfObject,
         header: &UnitHeader<SliceReader<'a>>,
     ) -> Result<(), Error>
-        requires compilations { places.now.compilations
-            ≡ record {
-              index = (view.source adding.now.source.now).indexes.compilations;
-              section = section.kind;
-            } }
-        requires types { places.now.types
-            ≡ record {
-              index = (view.source adding.now.source.now).indexes.types;
-              section = section.kind;
-            } }
+        requires places { ArePlacesIn (view.source adding.now.source.now) section.kind places.now }
         ensures { Gives (λ _. new_of self.new) result (spec.with_unit
             (spec.kept_bytes (adding_of adding.now).held (new_of self.old).units name)
             (adding_of adding.now) (view.used section.entry) name
@@ -291,16 +272,7 @@ impl<'a> NewUnits<'a> {
         name: DwarfObject,
         header: &UnitHeader<SliceReader<'a>>,
     ) -> Result<(), Error>
-        requires compilations { places.now.compilations
-            ≡ record {
-              index = (view.source adding.now.source.now).indexes.compilations;
-              section = section.kind;
-            } }
-        requires types { places.now.types
-            ≡ record {
-              index = (view.source adding.now.source.now).indexes.types;
-              section = section.kind;
-            } }
+        requires places { ArePlacesIn (view.source adding.now.source.now) section.kind places.now }
         requires absent { spec.kept_bytes (adding_of adding.now).held (new_of self.old).units name
             ≡ None }
         ensures { Gives (λ _. new_of self.new) result

@@ -9,8 +9,7 @@ use Rattle.thorin_input.specs.View.{used}
 use Rattle.thorin_builder.proofs.new_units.NewUnits.add_section_at.Given as goal
 
 -- what the units that are left add to those so far is what all add; and all have the input's
--- encoding where those so far
--- have it, and those that are left
+-- encoding where those so far have it, and those that are left
 abbrev pub invariant-loop-read : goal.invariant-loop-read
 invariant-loop-read l =
     (with_each_read (adding_of l.adding) (used l.section) (new_of l.self)

@@ -2,7 +2,7 @@ use Rattle.std.proofs.Common.{◌≡◌, ◌∙◌, ◌+◌, ◌<◌, ℕ, List,
 use Rattle.std.proofs.Common.{ap, sym, refl}
 use Rattle.std.proofs.lemmas.List.{drop_more}
 use Rattle.std.proofs.lemmas.Result.{err_from_is_err_and}
-use Rattle.thorin_errors.specs.Fault.{Fault}
+use Rattle.thorin_errors.specs.Errors.{ErrorValue}
 use Rattle.thorin_input.specs.declared.object.UsedSection.{UsedSection}
 use Rattle.thorin_input.specs.NewUnits.{Met, New, none_met, new_units, with_section}
 use Rattle.thorin_input.specs.NewUnits.{with_each_section}
@@ -11,24 +11,24 @@ use Rattle.thorin_builder.specs.declared.units.Adding.{Adding}
 use Rattle.thorin_builder.specs.UnitView.{adding_of}
 use Rattle.thorin_builder.proofs.new_units.NewUnits.read.Goals as goal
 
--- the first fault of a section is that of all
+-- the first error of a section is that of all
 stopped : (adding : Adding) (sections : List UsedSection) (i : ℕ) (d : UsedSection)
-    (before : Met × New) (fault : Fault) → sections ≡ adding.source.now.object.sections.items
+    (before : Met × New) (error : ErrorValue) → sections ≡ adding.source.now.object.sections.items
     → i < length sections → with_each_section (adding_of adding) before
     (map used (drop i adding.source.now.object.sections.items))
     ≡ with_each_section (adding_of adding) (none_met, record { units = []; differing = [] })
     (map used adding.source.now.object.sections.items)
-    → with_section (adding_of adding) before (used (get_or sections i d)) ≡ Err fault
-    → new_units (adding_of adding) ≡ Err fault
+    → with_section (adding_of adding) before (used (get_or sections i d)) ≡ Err error
+    → new_units (adding_of adding) ≡ Err error
 unfolding new_units with_each_section
-stopped adding sections i d before fault all inside left first =
+stopped adding sections i d before error all inside left first =
     let more : drop i adding.source.now.object.sections.items
     ≡ get_or sections i d ∷ drop (i + 1) sections =
     ap (drop i) (sym all) ∙ drop_more sections i d inside in
     let met : with_each_section (adding_of adding) (
       none_met,
       record { units = []; differing = [] },
-    ) (map used adding.source.now.object.sections.items) ≡ Err fault =
+    ) (map used adding.source.now.object.sections.items) ≡ Err error =
     sym left ∙ rw (more, first) refl in
     rw met refl
 

@@ -7,8 +7,7 @@ use Rattle.thorin_input.specs.View.{used, source, tables_in}
 use Rattle.thorin_builder.proofs.new_units.NewUnits.read.Given as goal
 
 -- what the sections that are left add to the units so far is what all add; and all have the input's
--- encoding where those
--- so far have it, and those that are left
+-- encoding where those so far have it, and those that are left
 abbrev pub invariant-loop-section : goal.invariant-loop-section
 invariant-loop-section l =
     (with_each_section (adding_of l.adding) (met_of l.met, new_of l.new)

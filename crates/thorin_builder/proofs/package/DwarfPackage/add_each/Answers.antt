@@ -2,13 +2,13 @@ use Rattle.std.proofs.Common.{◌∙◌, Ok, subst, sym}
 use Rattle.std.proofs.lemmas.Result.{err_from_is_err_and}
 use Rattle.thorin_executable.specs.View.{IsNextNamed, IsPathAfter}
 use Rattle.thorin_builder.specs.Taking.{CanBePassedOver}
-use Rattle.thorin_builder.proofs.Running.{next-taken, next-refused, list-ended, list-fault}
+use Rattle.thorin_builder.proofs.Running.{next-taken, next-refused, list-ended, list-error}
 use Rattle.thorin_builder.proofs.package.DwarfPackage.add_each.Goals as goal
 
 pub returns-in_err-unit-clause-taken : goal.returns-in_err-unit-clause-taken
 returns-in_err-unit-clause-taken g c =
     let p = err_from_is_err_and c.from_residual.result c.from_residual.ensures.1 in
-    rw (p.1, p.2) (list-fault _ _ _ _ _ _ _ c.loop-known.invariant.0 c.in_err-unit.ensures.next)
+    rw (p.1, p.2) (list-error _ _ _ _ _ _ _ c.loop-known.invariant.0 c.in_err-unit.ensures.next)
 
 pub add_skeleton-requires : goal.add_skeleton-requires
 add_skeleton-requires g c =

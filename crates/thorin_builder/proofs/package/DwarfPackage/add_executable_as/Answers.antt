@@ -20,7 +20,7 @@ returns-in-Err-Io-clause-taken g c = record {
     c.in-Err-Io.field-0-is,
   );
   accepted = [];
-  taken = (search (rules, c.in-Err-Io.cause-is, c.in-Err-Io.field-0-is), refl, refl);
+  taken = (search (rules, c.in-Err-Io.cause-is), refl, refl);
 }
 
 pub returns-clause-taken : goal.returns-clause-taken

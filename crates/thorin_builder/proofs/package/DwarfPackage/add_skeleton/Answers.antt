@@ -1,15 +1,10 @@
-use Rattle.std.proofs.Common.{◌≡◌, ◌∙◌, ap, false, refl, rules, sym, subst, inl, inr, [], Some, Ok}
-use Rattle.std.proofs.Common.{Err}
-use Rattle.std.specs.Map.{lookup}
-use Rattle.std.specs.Prelude.{string_bytes}
-use Rattle.std.specs.Str.{bytes_eq}
+use Rattle.std.proofs.Common.{◌≡◌, false, refl, rules, subst, inl, inr, [], Ok, Err}
 use Rattle.thorin_errors.specs.declared.error.Error.TheVariants as error
 use Rattle.thorin_errors.specs.declared.error.InputError.TheVariants.{Memory}
-use Rattle.thorin_join.specs.Builder.{State}
-use Rattle.thorin_builder.specs.Repeated.{AddsAgainTo, AreTaken}
+use Rattle.thorin_builder.specs.Repeated.{AreTaken}
 use Rattle.thorin_builder.specs.Taking.{TakesReferredFile, Takes, with_target, is_there}
 use Rattle.thorin_builder.specs.Taking.{accepted_of}
-use Rattle.thorin_builder.proofs.AddedAgain.{taken-found, are-taken-later, target-begun}
+use Rattle.thorin_builder.proofs.AddedAgain.{are-taken-later, target-kept, target-found}
 use Rattle.thorin_builder.proofs.Extending.{on_ok-both}
 use Rattle.thorin_builder.proofs.Running.{unread-again}
 use Rattle.thorin_builder.proofs.package.DwarfPackage.add_skeleton.Goals as goal
@@ -38,17 +33,12 @@ pub add_again-requires : goal.add_again-requires
 add_again-requires g c =
     let offer = g.R.InputReader.offer c.args.reader.now in
     let old = c.args.self.now.state in
-    let entries = c.args.known.now.taken.entries in
     let target : c.add_target.new.self.state ≡ with_target c.args.named.target old =
     search (rules, c.in_ok-add_target.ensures.target) in
-    let begun : old.begun ≡ c.add_target.new.self.state.begun =
-    sym (ap (λ (s : State). s.begun) target ∙ target-begun c.args.named.target old) in
-    let is : lookup (λ k. bytes_eq c.args.named.path.now (string_bytes k)) entries ≡ Some
-    c.in-Some.again.now = search (rules, c.get.ensures.value, c.in-Some.is) in
-    let found = taken-found offer entries old.begun c.args.named.path.now c.in-Some.again.now
-    c.requires.known is in
-    let adds = subst (λ b. AddsAgainTo found.bytes c.in-Some.again.now b) begun found.adds in
-    record { known = (found.bytes, adds) }
+    let found = target-found offer c.args.known.now.taken.entries c.args.named.target old
+    c.add_target.new.self.state c.args.named.path.now c.in-Some.again.now target c.requires.known
+    (search (rules, c.get.ensures.value, c.in-Some.is)) in
+    record { known = (found.bytes, found.adds) }
 
 pub returns-then-not-admits-clause-taken : goal.returns-then-not-admits-clause-taken
 returns-then-not-admits-clause-taken g c =
@@ -71,21 +61,16 @@ pub returns-else-not-admits-clause-taken : goal.returns-else-not-admits-clause-t
 returns-else-not-admits-clause-taken g c =
     let offer = g.R.InputReader.offer c.args.reader.now in
     let old = c.args.self.now.state in
-    let entries = c.args.known.now.taken.entries in
     let target : c.add_target.new.self.state ≡ with_target c.args.named.target old =
     search (rules, c.in_ok-add_target.ensures.target) in
-    let begun : old.begun ≡ c.add_target.new.self.state.begun =
-    sym (ap (λ (s : State). s.begun) target ∙ target-begun c.args.named.target old) in
-    let is : lookup (λ k. bytes_eq c.args.named.path.now (string_bytes k)) entries ≡ Some
-    c.in-Some.again.now = search (rules, c.get.ensures.value, c.in-Some.is) in
-    let found = taken-found offer entries old.begun c.args.named.path.now c.in-Some.again.now
-    c.requires.known is in
-    let adds = subst (λ b. AddsAgainTo found.bytes c.in-Some.again.now b) begun found.adds in
+    let found = target-found offer c.args.known.now.taken.entries c.args.named.target old
+    c.add_target.new.self.state c.args.named.path.now c.in-Some.again.now target c.requires.known
+    (search (rules, c.get.ensures.value, c.in-Some.is)) in
     let absent : is_there c.args.named.target old ≡ false =
     search (rules, c.is_there.ensures, c.if-is_there) in
     let takes : Takes found.bytes (with_target c.args.named.target old) c.add_again.result
     c.add_again.new.self.state = subst (λ s. Takes found.bytes s c.add_again.result
-    c.add_again.new.self.state) target (c.add_again.ensures.takes found.bytes adds) in
+    c.add_again.new.self.state) target (c.add_again.ensures.takes found.bytes found.adds) in
     let file : TakesReferredFile (offer c.args.named.path.now) c.args.missing
     (with_target c.args.named.target old) c.add_again.result c.add_again.new.self.state = record {
       read = Ok found.bytes;
@@ -102,17 +87,11 @@ returns-else-not-admits-clause-known g c =
     let entries = c.args.known.now.taken.entries in
     let target : c.add_target.new.self.state ≡ with_target c.args.named.target old =
     search (rules, c.in_ok-add_target.ensures.target) in
-    let begun : old.begun ≡ c.add_target.new.self.state.begun =
-    sym (ap (λ (s : State). s.begun) target ∙ target-begun c.args.named.target old) in
-    let is : lookup (λ k. bytes_eq c.args.named.path.now (string_bytes k)) entries ≡ Some
-    c.in-Some.again.now = search (rules, c.get.ensures.value, c.in-Some.is) in
-    let found = taken-found offer entries old.begun c.args.named.path.now c.in-Some.again.now
-    c.requires.known is in
-    let adds = subst (λ b. AddsAgainTo found.bytes c.in-Some.again.now b) begun found.adds in
     on_ok-both c.add_again.result _ _ _ c.add_again.ensures.later c.add_again.ensures.later
     (λ later again. are-taken-later offer entries c.add_target.new.self.state.begun
     c.add_again.new.self.state.begun later
-    (subst (λ b. AreTaken offer entries b) begun c.requires.known))
+    (subst (AreTaken offer entries) (target-kept c.args.named.target old
+    c.add_target.new.self.state target) c.requires.known))
 
 pub returns-in-None-clause-taken : goal.returns-in-None-clause-taken
 returns-in-None-clause-taken g c =

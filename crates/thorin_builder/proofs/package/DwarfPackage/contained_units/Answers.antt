@@ -2,8 +2,8 @@ use Rattle.std.proofs.Common.{◌≡◌, ◌∙◌, ap, sym, Some, rules}
 use Rattle.thorin_join.specs.Meaning.{keys}
 use Rattle.thorin_join.specs.Represents.{units_begun}
 use Rattle.thorin_builder.specs.StateView.{in_progress_of}
-use Rattle.thorin_builder.proofs.UnitNames.{keys-units}
 use Rattle.thorin_builder.proofs.package.DwarfPackage.contained_units.Goals as goal
+use Rattle.thorin_join.proofs.Units.InRows.{keys-units}
 
 pub returns-in-Some : goal.returns-in-Some
 returns-in-Some g c =
