@@ -16,18 +16,18 @@ fn main(rt: HostRuntime) -> io::Result<()> {
     let object = fs::read(&rt, "hello.dwo")?;
     let package = match package_of(rt.alloc(), &[object.as_slice()]) {
         Ok(package) => package,
-        Err(fault) => return println!(rt; "error: {fault}"),
+        Err(error) => return println!(rt; "error: {error}"),
     };
     println!(rt; "{} bytes", package.len())?;
     for number in 0..4 {
         match string_of_unit(&package, DwoId(0x084a58cc96339e44), number) {
             Ok(Some(text)) => println!(rt; "{number} {}", text.escape_ascii())?,
             Ok(None) => println!(rt; "{number} is past the strings")?,
-            Err(fault) => println!(rt; "error: {fault}")?,
+            Err(error) => println!(rt; "error: {error}")?,
         }
     }
     match units_packed_again(rt.alloc(), &package) {
         Ok(count) => println!(rt; "{count} unit packed again"),
-        Err(fault) => println!(rt; "error: {fault}"),
+        Err(error) => println!(rt; "error: {error}"),
     }
 }

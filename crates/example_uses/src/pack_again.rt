@@ -3,7 +3,7 @@
 ghost use Rattle.std.specs.Prelude.{◌≡◌, OnErr, OnOk, IfErr};
 ghost use Rattle.dwp_elf.specs.FileText.{Object, file_text};
 ghost use Rattle.thorin_errors.specs.Answers.{Gives, MemoryAside};
-ghost use Rattle.thorin_errors.specs.Fault.{fault_of};
+ghost use Rattle.thorin_errors.specs.Errors.{error_of};
 ghost use Rattle.thorin_join.specs.Builder.{order_of, taken};
 ghost use Rattle.thorin_join.specs.Join.{Joins};
 ghost use Rattle.thorin_join.specs.Represents.{units_in};
@@ -36,7 +36,7 @@ pub fn add_package<'output, 'session: 'output, Sess: Session<RelocationEntry>>(
     ensures err { OnErr result (builder.new.state ≡ builder.old.state) }
     ensures refused { (file : Object) → bytes.now ≡ file_text file → IsAccepted file
         → order_of builder.old.state.begun file.order ≡ file.order
-        → IfErr result (λ e. MemoryAside e (IsForeseen (fault_of e))) }
+        → IfErr result (λ e. MemoryAside e (IsForeseen (error_of e))) }
 {
     let _units = builder.contained_units();
     builder.add_object_bytes(bytes)

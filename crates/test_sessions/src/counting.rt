@@ -1,8 +1,5 @@
 //! A session that counts its calls and refuses one of them.
 
-ghost use Rattle.std.specs.Prelude.{IfErr, IfOk};
-ghost use Rattle.thorin_sessions.specs.Sessions.{IsNoWantOfMemory, IsOffered};
-
 use crate::objects::Files;
 use bumpalo::Bump;
 use dwp_bytes::RelocationEntry;

@@ -1,7 +1,7 @@
 //! Small executables, which name split objects.
 
 use crate::objects::{object, part};
-use dwp_elf::SectionKind;
+use dwp_base::SectionKind;
 use std::alloc::Global;
 
 /// An abbreviation 1 of a compile unit: GNU_dwo_name and comp_dir, both strings, and a GNU_dwo_id

@@ -1,6 +1,7 @@
 //! Small objects, and the files of a session.
 
-use dwp_elf::{Class, Endianness, SectionKind, WritableObject};
+use dwp_base::SectionKind;
+use dwp_elf::{Class, Endianness, WritableObject};
 use std::alloc::Global;
 use std::collections::BTreeMap;
 

@@ -1,22 +1,21 @@
 -- The type units that an input's steps pass over and find to differ are those of its list of units.
 use Rattle.std.proofs.Common.{◌≡◌, ◌∙◌, ℕ, Bool, true, false, cond, ◌==◌, List, [], ◌∷◌, ◌++◌, map}
 use Rattle.std.proofs.Common.{refl, sym, ap, subst, Result, Ok, Err, Option, Some, None}
-use Rattle.std.proofs.Common.{append_assoc}
-use Rattle.std.proofs.Common.{append-nil}
+use Rattle.std.proofs.Common.{append_assoc, append-nil}
 use Rattle.std.specs.Map.{lookup}
 use Rattle.std.specs.Str.{bytes_eq}
 use Rattle.std.proofs.lemmas.List.{map-append}
 use Rattle.dwp_base.specs.Reading.{◌>>=◌}
 use Rattle.dwp_bytes.specs.Input.{section}
-use Rattle.dwp_bytes.specs.declared.fault.ReadError.{ReadError}
+use Rattle.dwp_bytes.specs.declared.error.ReadError.{ReadError}
 use Rattle.dwp_dwarf.specs.Units.{Unit as Header, units}
 use Rattle.dwp_dwarf.specs.declared.unit.UnitSection.{UnitSection}
 use Rattle.dwp_elf_read.specs.Elf.{Elf}
 use Rattle.dwp_table.specs.Objects.{identifier_of}
 use Rattle.dwp_table.specs.declared.object.DwarfObject.{DwarfObject}
 use Rattle.dwp_table.specs.declared.object.DwarfObject.TheVariants.{Compilation, TypeUnit}
-use Rattle.thorin_errors.specs.Answers.{as_fault}
-use Rattle.thorin_errors.specs.Fault.{Fault, ParseUnitHeader, EmptyUnit}
+use Rattle.thorin_errors.specs.Answers.{as_error}
+use Rattle.thorin_errors.specs.Errors.{ErrorValue, ParseUnitHeader, EmptyUnit}
 use Rattle.thorin_input.specs.Encodings.{encoding_of}
 use Rattle.thorin_input.specs.Indexes.{Source, indexes_of}
 use Rattle.thorin_input.specs.Names.{same_name}
@@ -28,24 +27,23 @@ use Rattle.thorin_input.specs.NewUnits.{with_each_section, new_units}
 use Rattle.thorin_input.specs.Rows.{unit_row, row_test}
 use Rattle.thorin_input.specs.Used.{Used, opened, has_info, input_file_of}
 use Rattle.thorin_join.specs.Meaning.{UnitRead, named_unit, named_each, named_at, named_sections}
-use Rattle.thorin_join.specs.Meaning.{source_units}
+use Rattle.thorin_join.specs.Meaning.{source_units, Meaning}
 use Rattle.thorin.specs.Differing.{Bytes, read_bytes, or_there, kept_for, differs, differing_by}
 use Rattle.thorin.specs.Differing.{differing, own_bytes, object_units, input_units}
 use Rattle.thorin_join.specs.Builder.{State, taken, with_input, with_units, package_or_new}
 use Rattle.thorin_join.specs.Builder.{with_source_or_new, order_test, differing_begun, differing_in}
-use Rattle.thorin_join.specs.Meaning.{Meaning}
 use Rattle.thorin_join.specs.Represents.{meaning_at, units_of, units_begun, units_in}
 use Rattle.thorin_join.specs.State.{InProgress, names_of, unit_bytes, held_units}
-use Rattle.thorin_join.specs.State.{adding as adding_to}
-use Rattle.thorin_join.specs.State.{abbreviations_test, with_unit_added, with_new_unit}
-use Rattle.thorin_join.specs.State.{with_new_units, with_all, with_source}
+use Rattle.thorin_join.specs.State.{adding as adding_to, abbreviations_test, with_unit_added}
+use Rattle.thorin_join.specs.State.{with_new_unit, with_new_units, with_all, with_source}
 use Rattle.thorin_input.specs.Growing.{Contents, with_parts}
 use Rattle.thorin_input.specs.Parts.{parts_of}
 use Rattle.thorin_index.specs.declared.entry.IndexEntry.{IndexEntry}
-use Rattle.thorin.proofs.RunTaken.{bind-was, begun-then}
 use Rattle.std.specs.List.{list_any}
+use Rattle.dwp_base.proofs.Steps.{bind-was}
+use Rattle.thorin.proofs.RunTaken.{begun-then}
 
-ok-was : {X : Type 0} (x y : X) → ◌≡◌ {A = Result X Fault} (Ok x) (Ok y) → x ≡ y
+ok-was : {X : Type 0} (x y : X) → ◌≡◌ {A = Result X ErrorValue} (Ok x) (Ok y) → x ≡ y
 ok-was x y h = cc
 
 -- ---- lists of units
@@ -177,7 +175,7 @@ module _ (adding : Adding) where
   unfolding with_first
   first-pass from name unit before after h = by (from.address == 0) h
     where
-      by : (b : Bool) → cond {A = Result New Fault} b
+      by : (b : Bool) → cond {A = Result New ErrorValue} b
           (row_test adding.source.indexes from.kind name unit >>= λ _.
           unit_row adding.source.indexes adding.whole name >>= λ row.
           Ok (record before {
@@ -229,7 +227,7 @@ module _ (adding : Adding) where
       }
 
   -- units that were read
-  record Reads (before after : New) (meaning : Result (List (DwarfObject × UnitRead)) Fault)
+  record Reads (before after : New) (meaning : Result (List (DwarfObject × UnitRead)) ErrorValue)
       : Type 0 where
     all : List (DwarfObject × UnitRead)
     is : meaning ≡ Ok all
@@ -241,7 +239,7 @@ module _ (adding : Adding) where
       × Passes held before after (read_bytes (u ∷ []))
   unfolding with_read named_unit
   read-pass from before after read h =
-      let unit = bind-was (as_fault ParseUnitHeader read) _ after h in
+      let unit = bind-was (as_error ParseUnitHeader read) _ after h in
       let name = bind-was (name_for adding.source from.kind unit.0) _ after unit.2 in (
         (name.0, record { from = from.kind; unit = unit.0 }),
         ap (λ r. r >>= λ v. name_for adding.source from.kind v >>= λ n.
@@ -259,7 +257,8 @@ module _ (adding : Adding) where
     passes = none-pass held before after same;
   }
 
-  more-reads : (before mid after : New) (r s whole : Result (List (DwarfObject × UnitRead)) Fault)
+  more-reads : (before mid after : New)
+      (r s whole : Result (List (DwarfObject × UnitRead)) ErrorValue)
       → (one : Reads before mid r) → (two : Reads mid after s)
       → whole ≡ Ok (one.all ++ two.all) → Reads before after whole
   more-reads before mid after r s whole one two is = record {
@@ -437,9 +436,9 @@ with-differs file begun now units h k =
     (ok-was _ units t4.2 i))
 
 file-differs : (file : Elf) (begun now : Option InProgress) (units : Bytes) (b : Bool)
-    → cond {A = Result (Option InProgress) Fault} b (with_units file begun)
+    → cond {A = Result (Option InProgress) ErrorValue} b (with_units file begun)
     (Ok (Some (package_or_new file begun))) ≡ Ok now
-    → cond {A = Result Bytes Fault} b (input_file_of file >>= object_units) (Ok []) ≡ Ok units
+    → cond {A = Result Bytes ErrorValue} b (input_file_of file >>= object_units) (Ok []) ≡ Ok units
     → differing_begun now ≡ differing_begun begun ++ differing (own_bytes (units_begun begun)) []
     units
 file-differs file begun now units true h k = with-differs file begun now units h k
@@ -459,7 +458,7 @@ begun-differs bytes begun now units h k =
     let g = bind-was (opened bytes) _ units k in
     let same : g.0 ≡ f.0 = ok-was g.0 f.0 (sym g.1 ∙ f.1) in
     file-differs f.0 begun now units (has_info f.0) f.2
-    (subst (λ x. cond {A = Result Bytes Fault} (has_info x) (input_file_of x >>= object_units)
+    (subst (λ x. cond {A = Result Bytes ErrorValue} (has_info x) (input_file_of x >>= object_units)
     (Ok []) ≡ Ok units) same g.2)
 
 pub taken-differs : (bytes : List ℕ) (old new : State) (units : Bytes) → taken bytes old ≡ Ok new

@@ -1,6 +1,6 @@
 -- Joining in groups: joining what groups joined is joining all of them.
 use Rattle.std.proofs.Common.{◌≡◌, ◌∙◌, Bool, true, false, not, cond, ◌||◌, ◌&&◌, List, [], ◌∷◌}
-use Rattle.std.proofs.Common.{◌++◌, filter, true≢false, ap, ap₂, sym, subst, refl, eq-eqb, eqb-true}
+use Rattle.std.proofs.Common.{◌++◌, filter, true≢false, ap, ap₂, sym, subst, refl}
 use Rattle.std.proofs.Common.{append_assoc, append-nil}
 use Rattle.std.specs.Cmp.{IsEquivalence}
 use Rattle.std.specs.List.{IsDistinct, AllByRecursion, list_any, flat_map}
@@ -10,27 +10,13 @@ use Rattle.std.proofs.lemmas.List.Sorted.{IsPermutation-refl, IsPermutation-appe
 use Rattle.std.proofs.lemmas.List.Sorted.{IsPermutation-map, list_any-IsPermutation}
 use Rattle.std.proofs.lemmas.Map.Keys.{IsDistinct-IsPermutation, IsDistinct-push}
 use Rattle.dwp_table.specs.declared.object.DwarfObject.{DwarfObject}
-use Rattle.dwp_table.specs.declared.object.DwarfObject.TheVariants.{Compilation, TypeUnit}
 use Rattle.thorin.specs.Groups.{AreJoined}
 use Rattle.thorin_join.specs.Meaning.{keys, joining, can_join}
 use Rattle.thorin_input.specs.Names.{same_name, is_compilation}
 use Rattle.thorin.proofs.Shuffled.{IsPermutation-filter}
+use Rattle.thorin_join.proofs.Units.NamesApart.{same_name-self, same_name-true, same_name-equal}
 
 -- ---- names
-
-pub same-true : (a b : DwarfObject) → same_name a b ≡ true → a ≡ b
-same-true (Compilation a) (Compilation b) h = ap (λ n. Compilation (record { 0 = n }))
-    (eqb-true a.0 b.0 h)
-same-true (TypeUnit a) (TypeUnit b) h = ap (λ n. TypeUnit (record { 0 = n })) (eqb-true a.0 b.0 h)
-same-true (Compilation a) (TypeUnit b) h = cc
-same-true (TypeUnit a) (Compilation b) h = cc
-
-same-self : (a : DwarfObject) → same_name a a ≡ true
-same-self (Compilation a) = eq-eqb a.0 a.0 refl
-same-self (TypeUnit a) = eq-eqb a.0 a.0 refl
-
-same-at : (a b : DwarfObject) → a ≡ b → same_name a b ≡ true
-same-at a b h = subst (λ c. same_name a c ≡ true) h (same-self a)
 
 both : (a b : Bool) → (a ≡ true → b ≡ true) → (b ≡ true → a ≡ true) → a ≡ b
 both true b f g = sym (f refl)
@@ -38,14 +24,15 @@ both false true f g = g refl
 both false false f g = refl
 
 same-flips : (a b : DwarfObject) → same_name a b ≡ same_name b a
-same-flips a b = both (same_name a b) (same_name b a) (λ h. same-at b a (sym (same-true a b h)))
-    (λ h. same-at a b (sym (same-true b a h)))
+same-flips a b = both (same_name a b) (same_name b a) (λ h.
+    same_name-equal b a (sym (same_name-true a b h)))
+    (λ h. same_name-equal a b (sym (same_name-true b a h)))
 
 names-equal : IsEquivalence same_name
 names-equal = record {
-  refl = same-self;
+  refl = same_name-self;
   symm = same-flips;
-  congr = λ x y z h. ap (λ n. same_name n z) (same-true x y h);
+  congr = λ x y z h. ap (λ n. same_name n z) (same_name-true x y h);
 }
 
 -- some names pass each test alike
@@ -78,7 +65,8 @@ passed-there (n ∷ ns) name test h k = by (same_name name n) refl h (λ later.
     by : (b : Bool) → same_name name n ≡ b → (b || list_any (same_name name) ns) ≡ true
         → (list_any (same_name name) ns ≡ true → list_any test ns ≡ true)
         → (test n || list_any test ns) ≡ true
-    by true e h later = ap (λ t. t || list_any test ns) (ap test (sym (same-true name n e)) ∙ k)
+    by true e h later = ap (λ t. t || list_any test ns)
+        (ap test (sym (same_name-true name n e)) ∙ k)
     by false e h later = ap (λ t. test n || t) (later h) ∙ or-true (test n)
 
 -- a name that is there changes nothing

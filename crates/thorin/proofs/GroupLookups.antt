@@ -11,8 +11,8 @@ use Rattle.std.proofs.lemmas.List.Sorted.{IsPermutation-keeps}
 use Rattle.dwp_table.specs.declared.object.DwarfObject.{DwarfObject}
 use Rattle.thorin_join.specs.Meaning.{keys}
 use Rattle.thorin_input.specs.Names.{same_name}
-use Rattle.thorin.proofs.GroupJoins.{same-true}
 use Rattle.thorin.proofs.Shuffled.{IsPermutation-filter}
+use Rattle.thorin_join.proofs.Units.NamesApart.{same_name-true}
 
 -- a list of one element has one order
 short-step : {X : Type 0} (xs l : List X) (i j : ℕ) → length xs ≤ 1 → i < length l → j < length l
@@ -62,7 +62,7 @@ one-named {X} name (u ∷ us) h = by (same_name name u.0) refl (one-named name u
     by true e later =
         let none : filter (is_named name) us ≡ [] =
         none-named name us (subst (λ n. AllByRecursion (λ other. same_name n other ≡ false)
-        (keys us)) (sym (same-true name u.0 e)) h.0) in
+        (keys us)) (sym (same_name-true name u.0 e)) h.0) in
         let zero_left = ap length none in
         omega arith
     by false e later = later

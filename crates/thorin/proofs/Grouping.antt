@@ -4,7 +4,7 @@ use Rattle.std.proofs.Common.{get_or, map, refl, sym, ap, Result, Ok, Err, inr, 
 use Rattle.std.specs.Prelude.{IfOk}
 use Rattle.std.proofs.lemmas.List.{map-append, take-append-drop}
 use Rattle.dwp_base.specs.Reading.{◌>>=◌}
-use Rattle.thorin_errors.specs.Fault.{Fault}
+use Rattle.thorin_errors.specs.Errors.{ErrorValue}
 use Rattle.thorin_errors.specs.declared.error.Error.{Error}
 use Rattle.thorin_join.specs.Builder.{State, start, taken}
 use Rattle.thorin_join.specs.Join.{JoinAll, IsPackageOf}
@@ -21,7 +21,7 @@ unfolding taken_each
 taken-append [] rest old = refl
 taken-append (bytes ∷ done) rest old = by (taken bytes old) (λ next. taken-append done rest next)
   where
-    by : (r : Result State Fault) → ((next : State) → taken_each (done ++ rest) next ≡
+    by : (r : Result State ErrorValue) → ((next : State) → taken_each (done ++ rest) next ≡
         (taken_each done next >>= taken_each rest))
         → (r >>= (λ next. taken_each (done ++ rest) next)) ≡ ((r >>= (λ next. taken_each done next))
         >>= taken_each rest)
@@ -37,14 +37,15 @@ pub taken-start : taken_each [] start ≡ Ok start
 unfolding taken_each
 taken-start = refl
 
-taken-none : (r : Result State Fault) → (r >>= taken_each []) ≡ r
+taken-none : (r : Result State ErrorValue) → (r >>= taken_each []) ≡ r
 unfolding taken_each
 taken-none (Ok state) = refl
 taken-none (Err e) = refl
 
 -- one more input is taken, or refused
 pub taken-more : (done : List (List ℕ)) (bytes : List ℕ) (old middle : State)
-    (answer : Result State Fault) → taken_each done old ≡ Ok middle → taken bytes middle ≡ answer
+    (answer : Result State ErrorValue) → taken_each done old ≡ Ok middle
+    → taken bytes middle ≡ answer
     → taken_each (done ++ bytes ∷ []) old ≡ answer
 taken-more done bytes old middle answer before here =
     taken-append done (bytes ∷ []) old
@@ -55,9 +56,10 @@ taken-more done bytes old middle answer before here =
 
 -- a refusal is that of the whole list
 pub taken-refused : (done : List (List ℕ)) (bytes : List ℕ) (rest : List (List ℕ))
-    (old middle : State) (fault : Fault) → taken_each done old ≡ Ok middle → taken bytes middle ≡
-    Err fault → taken_each (done ++ bytes ∷ rest) old ≡ Err fault
-taken-refused done bytes rest old middle fault before here =
+    (old middle : State) (error : ErrorValue) → taken_each done old ≡ Ok middle
+    → taken bytes middle ≡
+    Err error → taken_each (done ++ bytes ∷ rest) old ≡ Err error
+taken-refused done bytes rest old middle error before here =
     taken-append done (bytes ∷ rest) old
     ∙ ap (λ r. r >>= taken_each (bytes ∷ rest)) before
     ∙ taken-first bytes rest middle

@@ -1,6 +1,6 @@
 -- Numbers past their limits are refused.
-use Rattle.std.proofs.Common.{◌≡◌, ℕ, ◌*◌, ◌^◌, ◌<◌, ◌≤◌, true, false, ltb, List, [], ◌∷◌}
-use Rattle.std.proofs.Common.{length, codes, arith, Ok, Err, refl}
+use Rattle.std.proofs.Common.{◌≡◌, ℕ, ◌*◌, ◌^◌, ◌<◌, ◌≤◌, true, false, ltb, List, [], ◌∷◌, length}
+use Rattle.std.proofs.Common.{codes, arith, Ok, Err, refl}
 use Rattle.std.specs.Prelude.{Option}
 use Rattle.std.proofs.lemmas.Bool.{lt-ltb, le-ltb}
 use Rattle.dwp_base.specs.declared.class.Class.{Class}
@@ -8,12 +8,12 @@ use Rattle.dwp_base.specs.declared.class.Class.TheVariants.{Elf32, Elf64}
 use Rattle.dwp_base.specs.declared.endian.Endianness.{Endianness}
 use Rattle.dwp_base.specs.declared.section.SectionKind.{SectionKind}
 use Rattle.dwp_bytes.specs.declared.encoding.Encoding.{Encoding}
-use Rattle.dwp_elf_read.specs.declared.fault.WriteError.TheVariants as written
-use Rattle.dwp_elf_read.specs.declared.fault.WriteError.{WriteError}
+use Rattle.dwp_elf_read.specs.declared.error.WriteError.TheVariants as written
+use Rattle.dwp_elf_read.specs.declared.error.WriteError.{WriteError}
 use Rattle.dwp_elf.specs.FileText.{Object, headers_place}
 use Rattle.dwp_elf.specs.Numbers.{Fits}
 use Rattle.dwp_elf.specs.Refusals.{RefusesFile, RefusesWriter}
-use Rattle.thorin_errors.specs.Fault.{NumberTooLarge}
+use Rattle.thorin_errors.specs.Errors.{NumberTooLarge}
 use Rattle.thorin_index.specs.declared.entry.IndexEntry.{IndexEntry}
 use Rattle.thorin_index.specs.EntryTests.{tests_under, index_tests}
 use Rattle.thorin_strings.specs.StringOffsets.{named_at, offset_limit, fitting_offset}

@@ -7,14 +7,14 @@ use Rattle.dwp_base.specs.Reading.{◌>>=◌}
 use Rattle.dwp_base.specs.Sections.{name_of}
 use Rattle.dwp_base.specs.declared.endian.Endianness.{Endianness}
 use Rattle.dwp_base.specs.declared.section.SectionKind.{SectionKind}
-use Rattle.dwp_base.specs.declared.section.SectionKind.TheVariants.{StrOffsets, Str}
-use Rattle.dwp_base.specs.declared.section.SectionKind.TheVariants.{CuIndex, TuIndex}
+use Rattle.dwp_base.specs.declared.section.SectionKind.TheVariants.{StrOffsets, Str, CuIndex}
+use Rattle.dwp_base.specs.declared.section.SectionKind.TheVariants.{TuIndex}
 use Rattle.dwp_base.proofs.KindsRead.{read-kind}
 use Rattle.dwp_bytes.specs.declared.encoding.Encoding.{Encoding}
-use Rattle.dwp_bytes.specs.declared.fault.ReadError.{ReadError}
+use Rattle.dwp_bytes.specs.declared.error.ReadError.{ReadError}
 use Rattle.dwp_elf_read.specs.Elf.{Elf, SectionMeaning, elf_of}
 use Rattle.dwp_elf_read.specs.Identification as identification
-use Rattle.dwp_elf_read.specs.declared.fault.ReadError as elf_fault
+use Rattle.dwp_elf_read.specs.declared.error.ReadError as elf_error
 use Rattle.dwp_elf_read.specs.declared.kind.FileKind.{FileKind}
 use Rattle.dwp_elf_read.specs.declared.kind.FileKind.TheVariants.{Archive, Elf32, Elf64}
 use Rattle.dwp_index.specs.Contents.{Sections, content, content_among, contents_of}
@@ -23,11 +23,11 @@ use Rattle.dwp_index.specs.IndexBytes.{index_of}
 use Rattle.dwp_index.specs.Package as reader
 use Rattle.dwp_index.specs.Package.{Package, package_of, index_in_section, row_bytes, part_of}
 use Rattle.dwp_index.specs.Package.{is_outside}
-use Rattle.dwp_index.specs.declared.fault.PackageError.TheVariants as faults
+use Rattle.dwp_index.specs.declared.error.PackageError.TheVariants as errors
 use Rattle.dwp_table.specs.declared.object.DwarfObject.{DwarfObject}
 use Rattle.dwp_table.specs.declared.object.DwarfObject.TheVariants.{Compilation, TypeUnit}
-use Rattle.thorin_errors.specs.Fault.{Fault, ParseFileKind, ParseIndex}
-use Rattle.thorin_errors.specs.Answers.{as_fault}
+use Rattle.thorin_errors.specs.Errors.{ErrorValue, ParseFileKind, ParseIndex}
+use Rattle.thorin_errors.specs.Answers.{as_error}
 use Rattle.thorin_input.specs.Encodings.{encoding_of}
 use Rattle.thorin_input.specs.Indexes.{Indexes, Source, is_package, index_for, index_in}
 use Rattle.thorin_input.specs.Indexes.{version_test, indexes_of}
@@ -40,16 +40,15 @@ use Rattle.thorin_join.specs.Meaning.{source_meaning, object_meaning, input_mean
 use Rattle.thorin_join.specs.Strings.{strings_of}
 use Rattle.thorin.specs.MeaningRead.{has_index, lies_in, unit_with, unit_of_row, unit_of_package}
 use Rattle.thorin.specs.MeaningRead.{MeansByReader}
-use Rattle.thorin.proofs.RunTaken.{bind-was}
 use Rattle.thorin.proofs.SectionsRead.{first-is}
-use Rattle.dwp_base.proofs.Steps.{same-ok as was}
+use Rattle.dwp_base.proofs.Steps.{same-ok as was, bind-was}
 
 -- ---- the package
 
-fault-was : {X E F : Type 0} (f : E → F) (r : Result X E) (x : X) → reader.as_fault f r ≡ Ok x
+error-was : {X E F : Type 0} (f : E → F) (r : Result X E) (x : X) → reader.as_error f r ≡ Ok x
     → r ≡ Ok x
-fault-was f (Ok y) x h = ap Ok (was y x h)
-fault-was f (Err e) x h = absurd cc
+error-was f (Ok y) x h = ap Ok (was y x h)
+error-was f (Err e) x h = absurd cc
 
 contents-are : (ss : List SectionMeaning) (cs : Sections) → contents_of ss ≡ Ok cs
     → (kind : SectionKind) → content_among ss kind ≡ Ok (content cs kind)
@@ -67,24 +66,24 @@ record Parsed (bytes : List ℕ) (pack : Package) : Type 0 where
 parsed : (bytes : List ℕ) (pack : Package) → package_of bytes ≡ Ok pack → Parsed bytes pack
 unfolding package_of
 parsed bytes pack h =
-    let s1 = bind-was (reader.as_fault faults.Elf (elf_of bytes)) _ pack h in
-    let s2 = bind-was (reader.as_fault faults.Elf (contents_of s1.0.sections)) _ pack s1.2 in
+    let s1 = bind-was (reader.as_error errors.Elf (elf_of bytes)) _ pack h in
+    let s2 = bind-was (reader.as_error errors.Elf (contents_of s1.0.sections)) _ pack s1.2 in
     let s3 = bind-was (index_in_section s1.0.order (content s2.0 CuIndex)) _ pack s2.2 in
     let s4 = bind-was (index_in_section s1.0.order (content s2.0 TuIndex)) _ pack s3.2 in
     subst (Parsed bytes) (was _ pack s4.2) (record {
       file = s1.0;
-      is = fault-was faults.Elf (elf_of bytes) s1.0 s1.1;
+      is = error-was errors.Elf (elf_of bytes) s1.0 s1.1;
       order = refl;
       each = contents-are s1.0.sections s2.0
-          (fault-was faults.Elf (contents_of s1.0.sections) s2.0 s2.1);
+          (error-was errors.Elf (contents_of s1.0.sections) s2.0 s2.1);
       compilations = s3.1;
       types = s4.1;
     })
 
 -- ---- the input
 
-elf-ok : (f : elf_fault.ReadError → Fault) (r : Result Elf elf_fault.ReadError) (file w : Elf)
-    → as_fault f r ≡ Ok file → r ≡ Ok w → file ≡ w
+elf-ok : (f : elf_error.ReadError → ErrorValue) (r : Result Elf elf_error.ReadError) (file w : Elf)
+    → as_error f r ≡ Ok file → r ≡ Ok w → file ≡ w
 elf-ok f (Ok x) file w h k = cc
 elf-ok f (Err e) file w h k = absurd cc
 
@@ -98,7 +97,7 @@ opened-is : (bytes : List ℕ) (file w : Elf) → opened bytes ≡ Ok file → e
     → file ≡ w
 unfolding opened
 opened-is bytes file w h k =
-    let s = bind-was (as_fault ParseFileKind (identification.kind_of bytes)) _ file h in
+    let s = bind-was (as_error ParseFileKind (identification.kind_of bytes)) _ file h in
     elf-by bytes s.0 file w s.2 k
 
 index-same : (order : Endianness) (kind : SectionKind) (bytes : List ℕ) (a b : Option Index)
@@ -107,9 +106,9 @@ unfolding index_in index_in_section
 index-same order kind bytes a b h k = by (nat_eq (length bytes) 0) (index_of order bytes) h k
   where
     by : (e : Bool) (r : Result Index ReadError)
-        → cond e (Ok None) (as_fault (λ f. ParseIndex f (name_of kind)) r >>= λ index.
+        → cond e (Ok None) (as_error (λ f. ParseIndex f (name_of kind)) r >>= λ index.
         Ok (Some index)) ≡ Ok a
-        → cond e (Ok None) (reader.as_fault faults.Index r >>= λ index. Ok (Some index)) ≡ Ok b
+        → cond e (Ok None) (reader.as_error errors.Index r >>= λ index. Ok (Some index)) ≡ Ok b
         → a ≡ b
     by true r x y = cc
     by false (Ok i) x y = cc
@@ -244,7 +243,7 @@ read-meaning bytes pack meanings h some k =
     by p s.0 s.1 (has_info s.0) s.2
   where
     by : (p : Parsed bytes pack) (file : Elf) → opened bytes ≡ Ok file → (b : Bool)
-        → cond {A = Result (List (DwarfObject × Option Meaning)) Fault} b
+        → cond {A = Result (List (DwarfObject × Option Meaning)) ErrorValue} b
         (input_file_of file >>= object_meaning) (Ok []) ≡ Ok meanings
         → (meanings ≡ []) ⊎ MeansByReader bytes pack meanings
     by p file opens true e = inr (object-read bytes pack p meanings file some opens e)

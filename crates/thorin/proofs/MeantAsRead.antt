@@ -1,13 +1,12 @@
 -- What a written package means as an input is what a reader finds in it, whoever takes it.
-use Rattle.std.proofs.Common.{◌≡◌, ◌∙◌, ℕ, true, List, [], ◌∷◌, sym, ap, subst, Result, Ok}
-use Rattle.std.proofs.Common.{Option}
+use Rattle.std.proofs.Common.{◌≡◌, ◌∙◌, ℕ, true, List, [], ◌∷◌, sym, ap, subst, Result, Ok, Option}
 use Rattle.std.specs.Prelude.{All, ◌↔◌}
 use Rattle.std.specs.List.{list_all}
 use Rattle.dwp_bytes.specs.declared.encoding.Encoding.{Encoding}
 use Rattle.dwp_elf.specs.FileText.{Object as File, file_text}
 use Rattle.dwp_elf.specs.Written.{written_elf}
 use Rattle.dwp_elf_read.specs.Elf.{Elf, elf_of}
-use Rattle.thorin_errors.specs.Fault.{Fault}
+use Rattle.thorin_errors.specs.Errors.{ErrorValue}
 use Rattle.thorin_input.specs.Encodings.{encoding_of, section_has}
 use Rattle.thorin_input.specs.Used.{InputFile, opened, input_file_of}
 use Rattle.thorin_again.specs.Again.{HaveEncodingOf, MeansWhereTaken, input_encoding}
@@ -21,8 +20,9 @@ use Rattle.thorin_join.specs.State.{InProgress}
 use Rattle.thorin.specs.Again.{MeansAsRead}
 use Rattle.thorin.specs.Run.{IsWritten}
 use Rattle.thorin.proofs.GroupMeaning.{KeepsSound, MeansAgain}
-use Rattle.thorin.proofs.RunTaken.{bind-was, begun-then}
 use Rattle.thorin.proofs.TakenAgain.{ByNewLaw, EncodingLaw, read-text}
+use Rattle.dwp_base.proofs.Steps.{bind-was}
+use Rattle.thorin.proofs.RunTaken.{begun-then}
 
 abbrev pub JoinsLaw : Type 0
 JoinsLaw = (bytes : List ℕ) (begun now : Option InProgress) → IsSoundBegun begun
@@ -38,7 +38,7 @@ PlainLaw = (accepted : List (List ℕ)) (state : State) → AreTaken accepted st
 
 -- ---- inputs of one encoding
 
-was : {A : Type 0} (x y : A) → ◌≡◌ {A = Result A Fault} (Ok x) (Ok y) → x ≡ y
+was : {A : Type 0} (x y : A) → ◌≡◌ {A = Result A ErrorValue} (Ok x) (Ok y) → x ≡ y
 was x y h = cc
 
 module _ (encoding : Encoding) (bytes : List ℕ) (p : IsPlainOf encoding bytes) where

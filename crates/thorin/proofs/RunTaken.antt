@@ -1,11 +1,9 @@
 -- What a run accepted was taken, one input after another.
 use Rattle.std.proofs.Common.{◌≡◌, ◌∙◌, ℕ, List, [], ◌∷◌, ◌++◌, refl, sym, ap, subst, Option}
-use Rattle.std.proofs.Common.{Result}
-use Rattle.std.proofs.Common.{Ok, Err, inl, inr}
-use Rattle.dwp_base.specs.Reading.{◌>>=◌}
+use Rattle.std.proofs.Common.{Result, Ok, Err, inl, inr}
 use Rattle.dwp_table.specs.declared.object.DwarfObject.{DwarfObject}
 use Rattle.dwp_table.specs.declared.object.DwarfObject.TheVariants.{Compilation, TypeUnit}
-use Rattle.thorin_errors.specs.Fault.{Fault}
+use Rattle.thorin_errors.specs.Errors.{ErrorValue}
 use Rattle.thorin_errors.specs.declared.error.InputError.{InputError}
 use Rattle.thorin_errors.specs.declared.error.InputError.TheVariants.{Io, Memory as no_memory}
 use Rattle.thorin_errors.specs.declared.error.MissingReferencedObjectBehaviour.{MissingReferencedObjectBehaviour}
@@ -21,15 +19,11 @@ use Rattle.thorin_executable.specs.Skeletons.{Listed, skeletons_of, named_skelet
 use Rattle.thorin.specs.Groups.{taken_each}
 use Rattle.thorin.specs.Run.{TakesInput, Ran}
 use Rattle.thorin.proofs.Running.{Offer}
+use Rattle.dwp_base.proofs.Steps.{bind-was}
 
 -- ---- lists of inputs
 
-pub bind-was : {A B E : Type 0} (r : Result A E) (f : A → Result B E) (y : B) → (r >>= f) ≡ Ok y
-    → (x : A) × (r ≡ Ok x) × (f x ≡ Ok y)
-bind-was (Ok x) f y h = (x, refl, h)
-bind-was (Err e) f y h = absurd cc
-
-state-eq : (x y : State) → ◌≡◌ {A = Result State Fault} (Ok x) (Ok y) → x ≡ y
+pub state-eq : (x y : State) → ◌≡◌ {A = Result State ErrorValue} (Ok x) (Ok y) → x ≡ y
 state-eq x y h = cc
 
 -- what one input made of a package
@@ -127,15 +121,15 @@ first-taken offer missing n s old new (Err e) outcome accepted rest later one go
     (skeleton-taken offer missing n old s.middle (Err e) s.here one))
 
 skeletons-taken : (offer : Offer) (missing : MissingReferencedObjectBehaviour)
-    (list : List (DwarfObject × List ℕ)) (fault : Option Fault) (old new : State)
+    (list : List (DwarfObject × List ℕ)) (error : Option ErrorValue) (old new : State)
     (outcome : Outcome) (accepted : List (List ℕ))
-    → TakesSkeletons offer missing list fault old outcome new accepted → AreTaken accepted old new
-skeletons-taken offer missing [] fault old new outcome accepted takes = none-taken accepted old
+    → TakesSkeletons offer missing list error old outcome new accepted → AreTaken accepted old new
+skeletons-taken offer missing [] error old new outcome accepted takes = none-taken accepted old
     new takes.1 takes.2
-skeletons-taken offer missing (n ∷ ns) fault old new outcome accepted takes =
+skeletons-taken offer missing (n ∷ ns) error old new outcome accepted takes =
     first-taken offer missing n takes.0 old new takes.1 outcome accepted
-    (TakesSkeletons offer missing ns fault takes.0.middle outcome new takes.0.later)
-    (λ rest. skeletons-taken offer missing ns fault takes.0.middle new outcome takes.0.later
+    (TakesSkeletons offer missing ns error takes.0.middle outcome new takes.0.later)
+    (λ rest. skeletons-taken offer missing ns error takes.0.middle new outcome takes.0.later
     rest) takes.2 takes.3
 
 executable-taken : (names : List ℕ → Listed) (offer : Offer)
@@ -145,7 +139,7 @@ executable-taken : (names : List ℕ → Listed) (offer : Offer)
     → AreTaken accepted old new
 executable-taken names offer missing (Ok bytes) old new outcome accepted takes =
     skeletons-taken offer
-    missing takes.named takes.fault old new outcome accepted takes.taken
+    missing takes.named takes.error old new outcome accepted takes.taken
 executable-taken names offer missing (Err e) old new outcome accepted takes =
     none-taken accepted old new
     takes.1 takes.2

@@ -9,7 +9,7 @@ use Rattle.std.specs.Path.{path_bytes}
 use Rattle.std.specs.declared.path.Path.{Path}
 use Rattle.dwp_table.specs.declared.object.DwarfObject.{DwarfObject}
 use Rattle.dwp_table.specs.declared.object.DwarfObject.TheVariants.{Compilation, TypeUnit}
-use Rattle.thorin_errors.specs.Fault.{Fault}
+use Rattle.thorin_errors.specs.Errors.{ErrorValue}
 use Rattle.thorin_errors.specs.declared.error.InputError.{InputError}
 use Rattle.thorin_errors.specs.declared.error.InputError.TheVariants.{Io, Memory as no_memory}
 use Rattle.thorin_errors.specs.declared.error.MissingReferencedObjectBehaviour.{MissingReferencedObjectBehaviour}
@@ -127,16 +127,16 @@ first-joined offer missing n s old new (Err e) outcome accepted rest later one g
     (skeleton-joined offer missing n old s.middle (Err e) s.here one))
 
 skeletons-joined : (offer : Offer) (missing : MissingReferencedObjectBehaviour)
-    (list : List (DwarfObject × List ℕ)) (fault : Option Fault) (old new : State)
+    (list : List (DwarfObject × List ℕ)) (error : Option ErrorValue) (old new : State)
     (outcome : Outcome) (accepted : List (List ℕ))
-    → TakesSkeletons offer missing list fault old outcome new accepted
+    → TakesSkeletons offer missing list error old outcome new accepted
     → JoinAll accepted (units_in old) (units_in new)
-skeletons-joined offer missing [] fault old new outcome accepted takes = none-joined accepted old
+skeletons-joined offer missing [] error old new outcome accepted takes = none-joined accepted old
     new takes.1 takes.2
-skeletons-joined offer missing (n ∷ ns) fault old new outcome accepted takes =
+skeletons-joined offer missing (n ∷ ns) error old new outcome accepted takes =
     first-joined offer missing n takes.0 old new takes.1 outcome accepted
-    (TakesSkeletons offer missing ns fault takes.0.middle outcome new takes.0.later)
-    (λ rest. skeletons-joined offer missing ns fault takes.0.middle new outcome takes.0.later
+    (TakesSkeletons offer missing ns error takes.0.middle outcome new takes.0.later)
+    (λ rest. skeletons-joined offer missing ns error takes.0.middle new outcome takes.0.later
     rest) takes.2 takes.3
 
 executable-joined : (names : List ℕ → Listed) (offer : Offer)
@@ -146,7 +146,7 @@ executable-joined : (names : List ℕ → Listed) (offer : Offer)
     → JoinAll accepted (units_in old) (units_in new)
 executable-joined names offer missing (Ok bytes) old new outcome accepted takes =
     skeletons-joined offer
-    missing takes.named takes.fault old new outcome accepted takes.taken
+    missing takes.named takes.error old new outcome accepted takes.taken
 executable-joined names offer missing (Err e) old new outcome accepted takes =
     none-joined accepted old
     new takes.1 takes.2

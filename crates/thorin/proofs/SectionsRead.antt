@@ -15,10 +15,11 @@ use Rattle.dwp_base.proofs.Steps.{bind-was, same-ok}
 use Rattle.dwp_elf_read.specs.Elf.{SectionMeaning}
 use Rattle.dwp_index.specs.Contents as reader
 use Rattle.dwp_index.specs.Contents.{has_name, is_of_kind, content_among}
-use Rattle.thorin_errors.specs.Fault.{Fault}
-use Rattle.thorin_errors.specs.Answers.{as_fault}
+use Rattle.thorin_errors.specs.Errors.{ErrorValue}
+use Rattle.thorin_errors.specs.Answers.{as_error}
 use Rattle.thorin_input.specs.Used.{Used, used_kind, counts_once, used_bytes, has_kind, with_used}
 use Rattle.thorin_input.specs.Used.{used_from, bytes_of, first}
+use Rattle.dwp_index.proofs.HeldContents.{not_both}
 
 -- ---- no name is that of two kinds
 
@@ -125,7 +126,7 @@ with-stays k u s before after None f h =
 with-stays k u s before after (Some j) f h =
     by (counts_once j && is_some (find (has_kind j) before)) h
   where
-    by : (b : Bool) → cond {A = Result (List Used) Fault} b (Ok before)
+    by : (b : Bool) → cond {A = Result (List Used) ErrorValue} b (Ok before)
         (used_bytes j s >>= λ bytes. Ok (before ++ used-one j s bytes ∷ [])) ≡ Ok after
         → find (has_kind k) after ≡ Some u
     by true e = subst (λ l. find (has_kind k) l ≡ Some u) (same-ok before after e) f
@@ -149,7 +150,7 @@ with-other : (k j : SectionKind) (s : SectionMeaning) (before after : List Used)
 with-other k j s before after other f h =
     by (counts_once j && is_some (find (has_kind j) before)) h
   where
-    by : (b : Bool) → cond {A = Result (List Used) Fault} b (Ok before)
+    by : (b : Bool) → cond {A = Result (List Used) ErrorValue} b (Ok before)
         (used_bytes j s >>= λ bytes. Ok (before ++ used-one j s bytes ∷ [])) ≡ Ok after
         → find (has_kind k) after ≡ None
     by true e = subst (λ l. find (has_kind k) l ≡ None) (same-ok before after e) f
@@ -159,7 +160,7 @@ with-other k j s before after other f h =
         subst (λ l. find (has_kind k) l ≡ None) (same-ok _ after t.2)
         (find-last (has_kind k) before one f ∙ ap (λ b. cond b (Some one) None) other)
 
-as-given : {X E : Type 0} (f : E → Fault) (r : Result X E) (x y : X) → as_fault f r ≡ Ok x
+as-given : {X E : Type 0} (f : E → ErrorValue) (r : Result X E) (x y : X) → as_error f r ≡ Ok x
     → r ≡ Ok y → x ≡ y
 as-given f (Ok z) x y h g = cc
 as-given f (Err e) x y h g = absurd cc
@@ -171,19 +172,15 @@ record IsUsed (k : SectionKind) (s : SectionMeaning) (bytes : List ℕ)
   found : find (has_kind k) after ≡ Some one
   same : one.bytes ≡ bytes
 
-and-none : (a : Bool) → (a && false) ≡ false
-and-none true = refl
-and-none false = refl
-
 with-first : (k : SectionKind) (s : SectionMeaning) (before after : List Used) (bytes : List ℕ)
     → find (has_kind k) before ≡ None → with_used before s (Some k) ≡ Ok after
     → reader.used_bytes k s ≡ Ok bytes → IsUsed k s bytes after
 unfolding used_bytes
 with-first k s before after bytes f h c =
     let free : (counts_once k && is_some (find (has_kind k) before)) ≡ false =
-    ap (λ o. counts_once k && is_some o) f ∙ and-none (counts_once k) in
+    ap (λ o. counts_once k && is_some o) f ∙ not_both (counts_once k) in
     let read : (used_bytes k s >>= λ x. Ok (before ++ used-one k s x ∷ [])) ≡ Ok after =
-    sym (ap (λ b. cond {A = Result (List Used) Fault} b (Ok before)
+    sym (ap (λ b. cond {A = Result (List Used) ErrorValue} b (Ok before)
     (used_bytes k s >>= λ x. Ok (before ++ used-one k s x ∷ []))) free) ∙ h in
     let t = bind-was (used_bytes k s) _ after read in
     let one = used-one k s t.0 in

@@ -1,7 +1,6 @@
 -- Packages that are packed again, and inputs of one encoding, as packing has them.
 use Rattle.std.proofs.Common.{◌≡◌, ◌∙◌, ℕ, true, List, [], ◌∷◌, refl, sym, ap, subst, Result, Ok}
-use Rattle.std.proofs.Common.{Err}
-use Rattle.std.proofs.Common.{inl, inr, ◌⊎◌, ⊎_elim}
+use Rattle.std.proofs.Common.{Err, inl, inr, ◌⊎◌, ⊎_elim}
 use Rattle.std.specs.Prelude.{All, IfOk}
 use Rattle.std.proofs.lemmas.List.Elements.{All-head, All-tail}
 use Rattle.dwp_base.specs.Reading.{◌>>=◌}
@@ -10,7 +9,7 @@ use Rattle.dwp_bytes.specs.declared.encoding.Encoding.{Encoding}
 use Rattle.dwp_elf.specs.FileText.{Object as File, file_text}
 use Rattle.dwp_elf.specs.Written.{written_elf}
 use Rattle.dwp_elf_read.specs.Elf.{Elf, elf_of}
-use Rattle.thorin_errors.specs.Fault.{Fault}
+use Rattle.thorin_errors.specs.Errors.{ErrorValue}
 use Rattle.thorin_errors.specs.declared.error.Error.{Error}
 use Rattle.thorin_again.specs.Again.{HaveEncodingOf}
 use Rattle.thorin_join.specs.Builder.{State, start, taken, order_of, finish_test, IsFinishedState}
@@ -26,7 +25,8 @@ use Rattle.thorin.specs.Groups.{taken_each, IsPackedAlone, ArePackedAlone, Refus
 use Rattle.thorin.specs.Groups.{HaveTheirEncodings}
 use Rattle.thorin.specs.Run.{IsWritten, Writes}
 use Rattle.thorin.proofs.GroupMeaning.{KeepsSound}
-use Rattle.thorin.proofs.RunTaken.{each-taken, begun-then}
+use Rattle.thorin.proofs.RunTaken.{each-taken}
+use Rattle.thorin.proofs.RunTaken.{begun-then}
 
 -- ---- what was written
 
@@ -94,10 +94,11 @@ OrderLaw = (bytes : List ℕ) (file : Elf) (old new : State) (order : Endianness
     → order_of new.begun order ≡ order_of old.begun file.order
 
 -- taking one of them, and then the others
-then-foreseen : (r : Result State Fault) (f : State → Result State Fault) → UnlessForeseen r
+then-foreseen : (r : Result State ErrorValue) (f : State → Result State ErrorValue)
+    → UnlessForeseen r
     → ((next : State) → r ≡ Ok next → UnlessForeseen (f next)) → UnlessForeseen (r >>= f)
 then-foreseen (Ok next) f h later = later next refl
-then-foreseen (Err fault) f h later = h
+then-foreseen (Err error) f h later = h
 
 module _ (keeps : KeepsSound) (any : AcceptedLaw) (orders : OrderLaw) (order : Endianness) where
   each-foreseen : (groups : List (List (List ℕ))) (packages : List (List ℕ))
@@ -122,11 +123,11 @@ module _ (keeps : KeepsSound) (any : AcceptedLaw) (orders : OrderLaw) (order : E
       (orders bytes (written_elf w.file) old next order w.read_back took ∙ ap
       (order_of old.begun) can.1 ∙ same))
 
-  pub groups-left : (groups : List (List (List ℕ))) (fault : Fault)
-      (refused : RefusesPackages groups fault)
+  pub groups-left : (groups : List (List (List ℕ))) (error : ErrorValue)
+      (refused : RefusesPackages groups error)
       → CanBePackedAgain order groups refused.packages refused.each
-      → IsLeft refused.packages fault
-  groups-left groups fault refused can = ⊎_elim
+      → IsLeft refused.packages error
+  groups-left groups error refused can = ⊎_elim
       (λ h. inl (subst UnlessForeseen h (each-foreseen groups refused.packages refused.each can
       start tt refl)))
       (λ u. inr u) refused.refused

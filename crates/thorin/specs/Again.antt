@@ -5,7 +5,7 @@ use Rattle.dwp_base.specs.declared.endian.Endianness.{Endianness}
 use Rattle.dwp_bytes.specs.declared.encoding.Encoding.{Encoding}
 use Rattle.dwp_elf.specs.FileText.{Object as File, file_text}
 use Rattle.dwp_table.specs.declared.object.DwarfObject.{DwarfObject}
-use Rattle.thorin_errors.specs.Fault.{Fault}
+use Rattle.thorin_errors.specs.Errors.{ErrorValue}
 use Rattle.thorin_again.specs.Again.{all_meant}
 use Rattle.thorin_join.specs.Join.{IsPackageOf}
 use Rattle.thorin_join.specs.Meaning.{Meaning, Members, input_meaning}
@@ -35,9 +35,9 @@ CanBePackedAgain order (group ∷ groups) (file ∷ files) each =
     × CanBePackedAgain order groups files each.1
 
 -- what the join of such packages can still end with: a compilation unit that is there twice, the
--- offset of a string that doesn't fit, or a fault of finishing or writing what was joined
-abbrev pub IsLeft : (packages : List (List ℕ)) → Fault → Type 0
-IsLeft packages fault = IsForeseen fault ⊎ IsUnwritten packages fault
+-- offset of a string that doesn't fit, or an error of finishing or writing what was joined
+abbrev pub IsLeft : (packages : List (List ℕ)) → ErrorValue → Type 0
+IsLeft packages error = IsForeseen error ⊎ IsUnwritten packages error
 
 -- all units of the inputs of a group have one encoding
 abbrev pub HasCommonEncoding : List (List ℕ) → Type 0

@@ -7,7 +7,7 @@ use Rattle.std.specs.Str.{bytes_eq}
 use Rattle.dwp_base.specs.Reading.{◌>>=◌}
 use Rattle.dwp_table.specs.Objects.{identifier_of}
 use Rattle.dwp_table.specs.declared.object.DwarfObject.{DwarfObject}
-use Rattle.thorin_errors.specs.Fault.{Fault}
+use Rattle.thorin_errors.specs.Errors.{ErrorValue}
 use Rattle.thorin_input.specs.Encodings.{encoding_of}
 use Rattle.thorin_input.specs.Indexes.{indexes_of}
 use Rattle.thorin_input.specs.Names.{same_name}
@@ -25,14 +25,14 @@ abbrev pub read_bytes : List (DwarfObject × UnitRead) → Bytes
 read_bytes units = map {B = DwarfObject × List ℕ} (λ u. (u.0, u.1.unit.whole.bytes)) units
 
 -- the units of an input, in file order; without an info section there are none
-unfoldable pub object_units : InputFile → Result Bytes Fault
+unfoldable pub object_units : InputFile → Result Bytes ErrorValue
 object_units object = do
   encoding ← encoding_of object
   indexes ← indexes_of object encoding
   units ← source_units (record { object = object; encoding = encoding; indexes = indexes })
   Ok (read_bytes units)
 
-unfoldable pub input_units : List ℕ → Result Bytes Fault
+unfoldable pub input_units : List ℕ → Result Bytes ErrorValue
 input_units bytes = do
   file ← opened bytes
   if has_info file then (input_file_of file >>= object_units) else Ok []

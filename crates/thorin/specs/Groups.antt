@@ -8,7 +8,7 @@ use Rattle.std.specs.Map.{lookup}
 use Rattle.dwp_base.specs.Reading.{◌>>=◌}
 use Rattle.dwp_table.specs.declared.object.DwarfObject.{DwarfObject}
 use Rattle.thorin_errors.specs.declared.error.Error.{Error}
-use Rattle.thorin_errors.specs.Fault.{Fault, fault_of}
+use Rattle.thorin_errors.specs.Errors.{ErrorValue, error_of}
 use Rattle.thorin_errors.specs.Answers.{MemoryAside}
 use Rattle.thorin_again.specs.Again.{HaveEncodingOf}
 use Rattle.thorin_join.specs.Builder.{State, start, taken}
@@ -25,8 +25,8 @@ bytes_in inputs = map (λ input. input.now) inputs
 abbrev pub groups_in : List (Bor (List (Bor (List ℕ)))) → List (List (List ℕ))
 groups_in groups = map (λ group. bytes_in group.now) groups
 
--- the state once each of some inputs was taken, or the first fault
-unfoldable pub taken_each : List (List ℕ) → State → Result State Fault
+-- the state once each of some inputs was taken, or the first error
+unfoldable pub taken_each : List (List ℕ) → State → Result State ErrorValue
 taken_each [] state = Ok state
 taken_each (bytes ∷ rest) state = do
   next ← taken bytes state
@@ -40,20 +40,20 @@ pub record IsPackedAlone (inputs : List (List ℕ)) (file : List ℕ) : Type 0 w
   pub written : IsWritten state file
   pub package_of : IsPackageOf (units_in state) file
 
--- all inputs were taken, and what they make isn't written for this fault
-pub record IsUnwritten (inputs : List (List ℕ)) (fault : Fault) : Type 0 where
+-- all inputs were taken, and what they make isn't written for this error
+pub record IsUnwritten (inputs : List (List ℕ)) (error : ErrorValue) : Type 0 where
   pub state : State
   pub taken : taken_each inputs start ≡ Ok state
-  pub refused : RefusesToWrite state fault
+  pub refused : RefusesToWrite state error
 
--- the first fault of packing inputs alone: of an input, else of finishing or writing
-abbrev pub RefusesAlone : List (List ℕ) → Fault → Type 0
-RefusesAlone inputs fault = (taken_each inputs start ≡ Err fault) ⊎ IsUnwritten inputs fault
+-- the first error of packing inputs alone: of an input, else of finishing or writing
+abbrev pub RefusesAlone : List (List ℕ) → ErrorValue → Type 0
+RefusesAlone inputs error = (taken_each inputs start ≡ Err error) ⊎ IsUnwritten inputs error
 
 -- what packing inputs alone gives, want of memory aside
 abbrev pub PacksAlone : {V : Type 0} → (V → List ℕ) → List (List ℕ) → Result V Error → Type 0
 PacksAlone view inputs (Ok file) = IsPackedAlone inputs (view file)
-PacksAlone view inputs (Err e) = MemoryAside e (RefusesAlone inputs (fault_of e))
+PacksAlone view inputs (Err e) = MemoryAside e (RefusesAlone inputs (error_of e))
 
 -- each group has its package
 abbrev pub ArePackedAlone : List (List (List ℕ)) → List (List ℕ) → Type 0
@@ -70,27 +70,27 @@ pub record IsPackedInGroups (groups : List (List (List ℕ))) (file : List ℕ) 
   pub together : IsPackedAlone packages file
 
 -- a group is refused, and those before it were packed
-pub record RefusesGroup (groups : List (List (List ℕ))) (fault : Fault) : Type 0 where
+pub record RefusesGroup (groups : List (List (List ℕ))) (error : ErrorValue) : Type 0 where
   pub before : List (List (List ℕ))
   pub group : List (List ℕ)
   pub after : List (List (List ℕ))
   pub are : groups ≡ before ++ group ∷ after
   pub packages : List (List ℕ)
   pub each : ArePackedAlone before packages
-  pub refused : RefusesAlone group fault
+  pub refused : RefusesAlone group error
 
 -- every group was packed, and their packages are refused
-pub record RefusesPackages (groups : List (List (List ℕ))) (fault : Fault) : Type 0 where
+pub record RefusesPackages (groups : List (List (List ℕ))) (error : ErrorValue) : Type 0 where
   pub packages : List (List ℕ)
   pub each : ArePackedAlone groups packages
-  pub refused : RefusesAlone packages fault
+  pub refused : RefusesAlone packages error
 
--- what packing in groups gives: the package, or the first fault, want of memory aside
+-- what packing in groups gives: the package, or the first error, want of memory aside
 abbrev pub PacksInGroups : {V : Type 0} → (V → List ℕ) → List (List (List ℕ))
     → Result V Error → Type 0
 PacksInGroups view groups (Ok file) = IsPackedInGroups groups (view file)
 PacksInGroups view groups (Err e) =
-    MemoryAside e (RefusesGroup groups (fault_of e) ⊎ RefusesPackages groups (fault_of e))
+    MemoryAside e (RefusesGroup groups (error_of e) ⊎ RefusesPackages groups (error_of e))
 
 -- the units of groups, each group's in order, joined to no names; and what came of it, in any order
 abbrev pub AreJoined : {X : Type 0} → (groups results : List (List (DwarfObject × X))) → Type 0

@@ -3,9 +3,9 @@
 use Rattle.std.specs.Prelude.{◌≡◌, ℕ, Bool, ◌||◌, List, map, find, is_none, is_some, Option, Some}
 use Rattle.std.specs.Prelude.{None, Result, Ok, Err, if◌then◌else◌}
 use Rattle.std.specs.Option.{option_and_then}
-use Rattle.dwp_base.specs.declared.section.SectionKind.TheVariants.{StrOffsets}
+use Rattle.dwp_base.specs.declared.section.SectionKind.TheVariants.{StrOffsets, Str}
 use Rattle.dwp_bytes.specs.declared.encoding.Encoding.{Encoding}
-use Rattle.dwp_bytes.specs.declared.fault.ReadError.{ReadError}
+use Rattle.dwp_bytes.specs.declared.error.ReadError.{ReadError}
 use Rattle.dwp_elf_read.specs.Elf.{Elf}
 use Rattle.dwp_index.specs.Contents.{content}
 use Rattle.dwp_index.specs.Index.{Ranges, range_in}
@@ -18,7 +18,6 @@ use Rattle.thorin_input.specs.Used.{opened, input_file_of}
 use Rattle.thorin_join.specs.Meaning.{Meaning, UnitRead, pieces_by, shared_kinds, placed_row}
 use Rattle.thorin_join.specs.Meaning.{source_units}
 use Rattle.thorin_join.specs.Strings.{strings_of}
-use Rattle.dwp_base.specs.declared.section.SectionKind.TheVariants.{Str}
 
 -- a package has an index
 abbrev pub has_index : Package → Bool

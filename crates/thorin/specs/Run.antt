@@ -7,9 +7,9 @@ use Rattle.dwp_elf.specs.Contents.{KindsDiffer}
 use Rattle.dwp_elf.specs.Numbers.{Fits}
 use Rattle.dwp_elf.specs.Written.{written_elf}
 use Rattle.dwp_elf_read.specs.Elf.{elf_of}
-use Rattle.dwp_elf_read.specs.declared.fault.WriteError.TheVariants as writer
+use Rattle.dwp_elf_read.specs.declared.error.WriteError.TheVariants as writer
 use Rattle.thorin_errors.specs.declared.error.Error.{Error}
-use Rattle.thorin_errors.specs.Fault.{Fault, fault_of, ObjectWrite}
+use Rattle.thorin_errors.specs.Errors.{ErrorValue, error_of, ObjectWrite}
 use Rattle.thorin_errors.specs.Answers.{MemoryAside}
 use Rattle.thorin.specs.declared.packing.Input.{Input}
 use Rattle.thorin.specs.declared.packing.Input.TheVariants as inputs
@@ -64,12 +64,12 @@ pub record IsTooLarge (state : State) : Type 0 where
   pub finished : IsFinishedState state file
   pub unfit : ¬ Fits file
 
--- why nothing was written: the first fault of finishing, or a number that doesn't fit
-abbrev pub RefusesToWrite : State → Fault → Type 0
-RefusesToWrite state fault = (finish_test state ≡ Err fault)
-    ⊎ ((fault ≡ ObjectWrite writer.NumberTooLarge) × IsTooLarge state)
+-- why nothing was written: the first error of finishing, or a number that doesn't fit
+abbrev pub RefusesToWrite : State → ErrorValue → Type 0
+RefusesToWrite state error = (finish_test state ≡ Err error)
+    ⊎ ((error ≡ ObjectWrite writer.NumberTooLarge) × IsTooLarge state)
 
 -- what was written
 abbrev pub Writes : {V : Type 0} → (V → List ℕ) → State → Result V Error → Type 0
 Writes view state (Ok bytes) = IsWritten state (view bytes)
-Writes view state (Err e) = MemoryAside e (RefusesToWrite state (fault_of e))
+Writes view state (Err e) = MemoryAside e (RefusesToWrite state (error_of e))

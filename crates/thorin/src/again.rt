@@ -4,7 +4,7 @@ ghost use Rattle.std.specs.Prelude.{◌≡◌, ℕ, true, List, [], Option, Ok, 
 ghost use Rattle.dwp_base.specs.declared.endian.Endianness.{Endianness};
 ghost use Rattle.dwp_index.specs.Package.{Package, package_of};
 ghost use Rattle.dwp_table.specs.declared.object.DwarfObject.{DwarfObject};
-ghost use Rattle.thorin_errors.specs.Fault.{Fault};
+ghost use Rattle.thorin_errors.specs.Errors.{ErrorValue};
 ghost use Rattle.thorin_again.specs.Again.{HaveEncodingOf};
 ghost use Rattle.thorin_join.specs.Builder.{State, start, taken};
 ghost use Rattle.thorin_join.specs.Meaning.{Meaning, input_meaning};
@@ -92,10 +92,10 @@ pub fn packages_of_groups_are_taken_again()
     ensures alone { (inputs : List (List ℕ)) (bytes : List ℕ) (is : IsPackedAlone inputs bytes)
         → packs_again is.state ≡ true
         → IsTakenAgain (units_in is.state) bytes }
-    ensures left { (order : Endianness) (groups : List (List (List ℕ))) (fault : Fault)
-        (refused : RefusesPackages groups fault)
+    ensures left { (order : Endianness) (groups : List (List (List ℕ))) (error : ErrorValue)
+        (refused : RefusesPackages groups error)
         → CanBePackedAgain order groups refused.packages refused.each
-        → IsLeft refused.packages fault }
+        → IsLeft refused.packages error }
 {
     inputs_are_joined();
     packages_that_pack_again_are_accepted();

@@ -1,18 +1,18 @@
 //! What runs and packing in groups mean, as laws.
 
-ghost use Rattle.std.specs.Prelude.{◌≡◌, ◌∷◌, ◌++◌, ℕ, List, [], Ok, Option, IsPermutation};
-ghost use Rattle.std.specs.Prelude.{◌^◌, ◌*◌, ◌≤◌, ◌<◌, Err, length, codes};
+ghost use Rattle.std.specs.Prelude.{◌≡◌, ◌∷◌, ◌++◌, ℕ, List, [], Ok, Option, IsPermutation, ◌^◌};
+ghost use Rattle.std.specs.Prelude.{◌*◌, ◌≤◌, ◌<◌, Err, length, codes};
 ghost use Rattle.std.specs.List.{flat_map};
 ghost use Rattle.dwp_base.specs.declared.class.Class.TheVariants.{Elf32};
 ghost use Rattle.dwp_base.specs.declared.endian.Endianness.{Endianness};
-ghost use Rattle.dwp_elf_read.specs.declared.fault.WriteError.{WriteError};
-ghost use Rattle.dwp_elf_read.specs.declared.fault.WriteError.TheVariants as written;
+ghost use Rattle.dwp_elf_read.specs.declared.error.WriteError.{WriteError};
+ghost use Rattle.dwp_elf_read.specs.declared.error.WriteError.TheVariants as written;
 ghost use Rattle.dwp_elf.specs.FileText.{Object, headers_place};
 ghost use Rattle.dwp_elf.specs.Numbers.{Fits};
 ghost use Rattle.dwp_elf.specs.Refusals.{RefusesFile, RefusesWriter};
 ghost use Rattle.dwp_bytes.specs.declared.encoding.Encoding.{Encoding};
 ghost use Rattle.dwp_table.specs.declared.object.DwarfObject.{DwarfObject};
-ghost use Rattle.thorin_errors.specs.Fault.{NumberTooLarge};
+ghost use Rattle.thorin_errors.specs.Errors.{NumberTooLarge};
 ghost use Rattle.thorin_strings.specs.Strings.{offset_of};
 ghost use Rattle.thorin_strings.specs.StringOffsets.{named_at, offset_limit, remapped_entry};
 ghost use Rattle.thorin_index.specs.declared.entry.IndexEntry.{IndexEntry};

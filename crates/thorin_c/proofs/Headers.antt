@@ -1,8 +1,7 @@
 -- Sections and their headers.
 use Rattle.std.proofs.Common.{◌≡◌, ◌∙◌, ℕ, zero, suc, ◌+◌, ◌*◌, ◌<◌, ◌≤◌, Bool, true, false, cond}
 use Rattle.std.proofs.Common.{not, ◌||◌, ◌&&◌, List, [], length, Some, None, Result, Ok, Err}
-use Rattle.std.proofs.Common.{Option}
-use Rattle.std.proofs.Common.{refl, sym, ap, subst, arith, map, IsTrue}
+use Rattle.std.proofs.Common.{Option, refl, sym, ap, subst, arith, map, IsTrue}
 use Rattle.std.specs.Prelude.{slice_get, slice_range, ◌==◌}
 use Rattle.std.specs.List.{range_with_len}
 use Rattle.std.specs.Option.{ok_or}
@@ -21,12 +20,12 @@ use Rattle.dwp_elf_read.specs.Elf.{SHT_NOBITS, section_header_at, has_compressed
 use Rattle.dwp_elf_read.specs.Identification.{identity_of}
 use Rattle.dwp_elf_read.specs.Layout.{word_size, entry_size, file_header_of, is_inside, number_at}
 use Rattle.dwp_elf_read.specs.Layout.{section_header_of}
-use Rattle.dwp_elf_read.specs.declared.fault.ReadError.{ReadError}
-use Rattle.dwp_elf_read.specs.declared.fault.ReadError.TheVariants.{SectionRange, Compressed}
+use Rattle.dwp_elf_read.specs.declared.error.ReadError.{ReadError}
+use Rattle.dwp_elf_read.specs.declared.error.ReadError.TheVariants.{SectionRange, Compressed}
 use Rattle.dwp_index.specs.Contents.{is_of_kind, has_older_name, used_bytes}
 use Rattle.thorin_c.specs.Headers.{table_in, offset_in}
 use Rattle.thorin_c.specs.Opening.{bytes_at}
-use Rattle.thorin_c.proofs.Steps.{bind_ok}
+use Rattle.dwp_base.proofs.Steps.{bind-was}
 
 -- a file that could be read: its sections are those that the headers describe, and these lie in it
 pub record IsRead (bytes : List ℕ) (elf : Elf) : Type 0 where
@@ -47,7 +46,7 @@ counted : (class : Class) (order : Endianness) (bytes : List ℕ) (n : ℕ)
 unfolding section_count
 counted class order bytes n e =
     let header = file_header_of (word_size class) order bytes in
-    let named = bind_ok (named_count class order bytes header) _ n e in
+    let named = bind-was (named_count class order bytes header) _ n e in
     let both = inside_of (is_inside bytes header.table (named.0 * entry_size class)) named.0 n _
     named.2 in
     subst (λ m. header.table + m * entry_size class ≤ length bytes) both.1
@@ -62,10 +61,10 @@ value_of x y e = cc
 pub read_of : (bytes : List ℕ) (elf : Elf) → elf_of bytes ≡ Ok elf → IsRead bytes elf
 unfolding elf_of
 read_of bytes elf e =
-    let a = bind_ok (identity_of bytes) _ elf e in
+    let a = bind-was (identity_of bytes) _ elf e in
     let header = file_header_of (word_size a.0.0) a.0.1 bytes in
-    let b = bind_ok (section_count a.0.0 a.0.1 bytes header) _ elf a.2 in
-    let c = bind_ok (name_table a.0.0 a.0.1 bytes header b.0) _ elf b.2 in
+    let b = bind-was (section_count a.0.0 a.0.1 bytes header) _ elf a.2 in
+    let c = bind-was (name_table a.0.0 a.0.1 bytes header b.0) _ elf b.2 in
     subst (IsRead bytes) (value_of _ elf c.2) (record {
       names = c.0;
       count = b.0;

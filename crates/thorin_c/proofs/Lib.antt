@@ -2,10 +2,6 @@ pub mod Writing
 pub mod Looking
 pub mod PlainFiles
 pub mod Taking
-pub mod Steps
-pub mod Called
-pub mod FirstSection
-pub mod FirstUnit
 pub mod SplitHeaders
 pub mod Headers
 pub mod ByIndex

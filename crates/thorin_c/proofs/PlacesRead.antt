@@ -10,7 +10,7 @@ use Rattle.dwp_base.proofs.EveryKind.{value-of}
 use Rattle.dwp_base.proofs.KindsRead.{ReadBelow, read-all, answers-each}
 use Rattle.dwp_base.proofs.Steps.{each-read}
 use Rattle.dwp_elf_read.specs.Elf.{SectionMeaning}
-use Rattle.dwp_elf_read.specs.declared.fault.ReadError.{ReadError}
+use Rattle.dwp_elf_read.specs.declared.error.ReadError.{ReadError}
 use Rattle.dwp_index.specs.Contents.{content, content_among, contents_of}
 use Rattle.thorin_c.specs.Opening.{bytes_at, nowhere, IsPlaceIn, place_in, sections_at}
 use Rattle.thorin_c.specs.declared.types.ThorinPackage.{ThorinPackage}

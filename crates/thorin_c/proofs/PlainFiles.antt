@@ -4,8 +4,8 @@ use Rattle.std.proofs.lemmas.Int.{ints}
 use Rattle.std.specs.Prelude.{◌≢◌, ◌⊎◌, ℤ, pos, Some, Ok, Err}
 use Rattle.dwp_elf_read.specs.Elf.{elf_of}
 use Rattle.dwp_decompress.specs.Result.{decompressed_of}
-use Rattle.dwp_decompress.specs.declared.fault.DecompressError.{DecompressError}
-use Rattle.dwp_decompress.specs.declared.fault.DecompressError.TheVariants as faults
+use Rattle.dwp_decompress.specs.declared.error.DecompressError.{DecompressError}
+use Rattle.dwp_decompress.specs.declared.error.DecompressError.TheVariants as faults
 use Rattle.thorin_c.specs.Plain.{Decompresses, NeedsRoom, status_of, IsFault, TellsFault}
 
 module _ (bytes file : List ℕ) (size : ℕ) where

@@ -8,12 +8,11 @@ use Rattle.thorin_executable.specs.View.{named, listed, UnlessMemory}
 use Rattle.thorin_executable.specs.declared.listing.Skeleton.{Skeleton}
 use Rattle.thorin_executable.specs.declared.listing.SkeletonList.{SkeletonList}
 use Rattle.thorin_errors.specs.declared.error.Error.{Error}
-use Rattle.thorin_c.specs.Skeletons.{paths_of, skeleton_of, skeleton_named}
+use Rattle.thorin_c.specs.Skeletons.{paths_of, skeleton_of, skeleton_named, ListsUnits, TellsOfEnd}
+use Rattle.thorin_c.specs.Skeletons.{IsNoWantOfMemory}
 use Rattle.thorin_c.specs.Packing.{TellsOfFault}
-use Rattle.thorin_c.specs.Skeletons.{ListsUnits, TellsOfEnd}
 use Rattle.thorin_c.specs.Listing.{written_over}
 use Rattle.thorin_c.specs.declared.types.ThorinReport.{ThorinReport}
-use Rattle.thorin_c.specs.Skeletons.{IsNoWantOfMemory}
 use Rattle.thorin_c.specs.declared.types.ThorinSkeleton.{ThorinSkeleton}
 
 paths-append : (units : List Named) (unit : Named)

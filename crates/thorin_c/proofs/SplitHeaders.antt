@@ -1,6 +1,6 @@
 -- The header of a split compilation unit of DWARF 5, in the 32-bit format.
-use Rattle.std.proofs.Common.{◌≡◌, ℕ, ◌+◌, ◌-◌, ◌<◌, ◌≤◌, true, cond, ltb, List}
-use Rattle.std.proofs.Common.{length, drop, take, get_or, refl, sym, ap, ◌∙◌, arith, Ok, Err}
+use Rattle.std.proofs.Common.{◌≡◌, ℕ, ◌+◌, ◌-◌, ◌<◌, ◌≤◌, true, cond, ltb, List, length, drop, take}
+use Rattle.std.proofs.Common.{get_or, refl, sym, ap, ◌∙◌, arith, Ok, Err}
 use Rattle.std.proofs.lemmas.Bool.{le-ltb, lt-ltb}
 use Rattle.std.proofs.lemmas.Grind.{get_or_after_one}
 use Rattle.std.proofs.lemmas.List.{length-drop, length-take-le, get_or-drop}
@@ -9,7 +9,7 @@ use Rattle.dwp_base.specs.declared.endian.Endianness.{Endianness}
 use Rattle.dwp_bytes.specs.Input.{Input, section, front, after, split_at, byte_at, number_at}
 use Rattle.dwp_bytes.specs.Input.{relocated_at, offset_at, is_address_size}
 use Rattle.dwp_bytes.specs.declared.encoding.Format.TheVariants.{Dwarf32}
-use Rattle.dwp_bytes.specs.declared.fault.ReadError.TheVariants.{UnexpectedEof}
+use Rattle.dwp_bytes.specs.declared.error.ReadError.TheVariants.{UnexpectedEof}
 use Rattle.dwp_dwarf.specs.Units.{Unit, initial_length_at, address_size_at, unit_code_at}
 use Rattle.dwp_dwarf.specs.Units.{unit_type_at, newer_at, header_at, unit_at}
 use Rattle.dwp_dwarf.specs.declared.unit.UnitSection.{UnitSection}

@@ -1,11 +1,11 @@
 -- Inputs taken one after the other.
 use Rattle.std.proofs.Common.{◌≡◌, ◌∙◌, ℕ, ◌+◌, true, List, [], ◌∷◌, ◌++◌, refl, sym, ap, subst}
-use Rattle.std.proofs.Common.{Result}
-use Rattle.std.proofs.Common.{Ok, Err, ◌<◌, if◌then◌else◌, inl, length, take, get_or, map, arith}
+use Rattle.std.proofs.Common.{Result, Ok, Err, ◌<◌, if◌then◌else◌, inl, length, take, get_or, map}
+use Rattle.std.proofs.Common.{arith}
 use Rattle.std.proofs.lemmas.List.{take_more, map-append, length-map}
 use Rattle.std.proofs.Math.Seq.{take-append_seam}
 use Rattle.dwp_base.specs.Reading.{◌>>=◌}
-use Rattle.thorin_errors.specs.Fault.{Fault, fault_of, NoOutputObjectCreated}
+use Rattle.thorin_errors.specs.Errors.{ErrorValue, error_of, NoOutputObjectCreated}
 use Rattle.thorin_errors.specs.Answers.{MemoryAside}
 use Rattle.thorin_errors.specs.declared.error.Error.{Error}
 use Rattle.thorin_errors.specs.declared.error.Error.TheVariants as error
@@ -25,8 +25,9 @@ use Rattle.thorin_c.specs.Packing.{bytes_of, all_taken, Accepts, RefusesAt, Stop
 use Rattle.thorin_c.specs.Packing.{TellsRefused, TellsLeft, TellsUnfinished, Refuses, RunsOutAt}
 use Rattle.thorin_c.specs.Packing.{RunsOutAfter, IsPackage, ArePackedAgain, Differ}
 use Rattle.thorin_c.specs.declared.types.ThorinBytes.{ThorinBytes}
+use Rattle.thorin.proofs.RunTaken.{state-eq}
 
-abbrev value : Result State Fault → State → State
+abbrev value : Result State ErrorValue → State → State
 value (Ok s) other = s
 value (Err e) other = other
 
@@ -38,7 +39,7 @@ taken-next [] input old middle new h k =
     ap (λ r. r >>= λ s. all_taken [] s) (subst (λ s. taken input.bytes.now s ≡ Ok new) (sym same) k)
 taken-next (x ∷ done) input old middle new h k = step (taken x.bytes.now old) (λ s g.
     taken-next done input s middle new g k) h where
-      step : (first : Result State Fault) → ((s : State) → all_taken done s ≡ Ok middle
+      step : (first : Result State ErrorValue) → ((s : State) → all_taken done s ≡ Ok middle
           → all_taken (done ++ input ∷ []) s ≡ Ok new)
           → (first >>= λ s. all_taken done s) ≡ Ok middle
           → (first >>= λ s. all_taken (done ++ input ∷ []) s) ≡ Ok new
@@ -71,7 +72,7 @@ pub refuses : (inputs : List ThorinBytes) (old : State) (refusal : RefusedInput)
     → StopsAt inputs old refusal.number refusal.fault → TellsRefused refusal.number refusal.fault
     report → Refuses inputs report
 refuses inputs old refusal report is at told =
-    let here : RefusesAt inputs old refusal.number (fault_of refusal.fault) =
+    let here : RefusesAt inputs old refusal.number (error_of refusal.fault) =
     record {
       within = at.within;
       state = at.state;
@@ -80,9 +81,9 @@ refuses inputs old refusal report is at told =
           at.refused told.not_memory;
     } in
     record {
-      fault = fault_of refusal.fault;
-      refused = subst (λ s. RefusesAt inputs s report.input (fault_of refusal.fault)) is
-          (subst (λ n. RefusesAt inputs old n (fault_of refusal.fault)) (sym told.input) here);
+      fault = error_of refusal.fault;
+      refused = subst (λ s. RefusesAt inputs s report.input (error_of refusal.fault)) is
+          (subst (λ n. RefusesAt inputs old n (error_of refusal.fault)) (sym told.input) here);
       told = told.told;
     }
 
@@ -102,7 +103,7 @@ runs_out_at inputs old refusal number is at here =
 pub unfinished : (inputs : List ThorinBytes) (fault : Error) (report : ThorinReport)
     → Leaves inputs fault → TellsLeft fault report → TellsUnfinished inputs report
 unfinished inputs fault report is told = record {
-  fault = fault_of fault;
+  fault = error_of fault;
   is = record { state = is.state; accepted = is.accepted; refused = is.refused told.not_memory };
   told = told.told;
 }
@@ -134,16 +135,13 @@ packs inputs old state signatures bytes is accepted written joined differ = reco
 
 -- ---- a package that is taken again
 
-state-eq : (x y : State) → ◌≡◌ {A = Result State Fault} (Ok x) (Ok y) → x ≡ y
-state-eq x y h = cc
-
 each-taken : (inputs : List ThorinBytes) (old new : State) → all_taken inputs old ≡ Ok new
     → AreTaken (bytes_of inputs) old new
 each-taken [] old new h = (old.targets, sym (state-eq old new h))
 each-taken (x ∷ rest) old new h =
     by (taken x.bytes.now old) refl (λ next k. each-taken rest next new k) h
   where
-    by : (first : Result State Fault) → taken x.bytes.now old ≡ first
+    by : (first : Result State ErrorValue) → taken x.bytes.now old ≡ first
         → ((next : State) → all_taken rest next ≡ Ok new → AreTaken (bytes_of rest) next new)
         → (first >>= λ next. all_taken rest next) ≡ Ok new
         → AreTaken (bytes_of (x ∷ rest)) old new
@@ -179,7 +177,7 @@ handed_over inputs file written rest n same size again =
 -- and why it can't be finished
 pub fails : (inputs : List ThorinBytes) (old state : State) (fault : Error) → old ≡ start
     → 0 < length inputs → Accepts inputs old state
-    → MemoryAside fault (RefusesToWrite state (fault_of fault)) → Leaves inputs fault
+    → MemoryAside fault (RefusesToWrite state (error_of fault)) → Leaves inputs fault
 fails inputs old state fault is some accepted refused = record {
   state = state;
   accepted = subst (λ s. Accepts inputs s state) is accepted;

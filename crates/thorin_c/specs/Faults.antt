@@ -1,26 +1,26 @@
 -- How the exports name a fault of packing.
 use Rattle.std.specs.Prelude.{◌≡◌, ◌<◌, ℕ, take, slice_index, IfSome}
 use Rattle.std.specs.Fmt.Cut.{IsTextOrCut}
-use Rattle.thorin_errors.specs.Fault.{Fault, ReadInput, ParseFileKind, ParseObjectFile}
-use Rattle.thorin_errors.specs.Fault.{InvalidInputKind, DecompressData, NamelessSection}
-use Rattle.thorin_errors.specs.Fault.{RelocationWithInvalidSymbol, MultipleRelocations}
-use Rattle.thorin_errors.specs.Fault.{UnsupportedRelocation, MissingDwoName, NoCompilationUnits}
-use Rattle.thorin_errors.specs.Fault.{NoDie, TopLevelDieNotUnit, MissingRequiredSection}
-use Rattle.thorin_errors.specs.Fault.{ParseUnitAbbreviations, ParseUnitHeader, ParseUnit}
-use Rattle.thorin_errors.specs.Fault.{IncompatibleIndexVersion, OffsetAtIndex, StrAtOffset}
-use Rattle.thorin_errors.specs.Fault.{ParseIndex, UnitNotInIndex, RowNotInIndex, SectionNotInRow}
-use Rattle.thorin_errors.specs.Fault.{EmptyUnit, MultipleDebugInfoSection}
-use Rattle.thorin_errors.specs.Fault.{MultipleDebugTypesSection, NotSplitUnit, DuplicateUnit}
-use Rattle.thorin_errors.specs.Fault.{MissingReferencedUnit, NoOutputObjectCreated}
-use Rattle.thorin_errors.specs.Fault.{MixedInputEncodings, Io, ObjectRead, ObjectWrite, GimliRead}
-use Rattle.thorin_errors.specs.Fault.{GimliWrite, Memory, NumberTooLarge, BadContribution}
-use Rattle.thorin_errors.specs.Fault.{SectionOutsideFormat, RepeatedSection, BadStringOffsets}
-use Rattle.thorin_errors.specs.Fault.{OverlappingStringOffsets}
-use Rattle.thorin_errors.specs.Text.{fault_text}
+use Rattle.thorin_errors.specs.Errors.{ErrorValue, ReadInput, ParseFileKind, ParseObjectFile}
+use Rattle.thorin_errors.specs.Errors.{InvalidInputKind, DecompressData, NamelessSection}
+use Rattle.thorin_errors.specs.Errors.{RelocationWithInvalidSymbol, MultipleRelocations}
+use Rattle.thorin_errors.specs.Errors.{UnsupportedRelocation, MissingDwoName, NoCompilationUnits}
+use Rattle.thorin_errors.specs.Errors.{NoDie, TopLevelDieNotUnit, MissingRequiredSection}
+use Rattle.thorin_errors.specs.Errors.{ParseUnitAbbreviations, ParseUnitHeader, ParseUnit}
+use Rattle.thorin_errors.specs.Errors.{IncompatibleIndexVersion, OffsetAtIndex, StrAtOffset}
+use Rattle.thorin_errors.specs.Errors.{ParseIndex, UnitNotInIndex, RowNotInIndex, SectionNotInRow}
+use Rattle.thorin_errors.specs.Errors.{EmptyUnit, MultipleDebugInfoSection}
+use Rattle.thorin_errors.specs.Errors.{MultipleDebugTypesSection, NotSplitUnit, DuplicateUnit}
+use Rattle.thorin_errors.specs.Errors.{MissingReferencedUnit, NoOutputObjectCreated}
+use Rattle.thorin_errors.specs.Errors.{MixedInputEncodings, Io, ObjectRead, ObjectWrite, GimliRead}
+use Rattle.thorin_errors.specs.Errors.{GimliWrite, Memory, NumberTooLarge, BadContribution}
+use Rattle.thorin_errors.specs.Errors.{SectionOutsideFormat, RepeatedSection, BadStringOffsets}
+use Rattle.thorin_errors.specs.Errors.{OverlappingStringOffsets}
+use Rattle.thorin_errors.specs.Text.{error_text}
 use Rattle.thorin_c.specs.declared.types.ThorinReport.{ThorinReport}
 
 -- from 1 on
-abbrev pub number_of : Fault → ℕ
+abbrev pub number_of : ErrorValue → ℕ
 number_of (ReadInput _) = 1
 number_of (ParseFileKind _) = 2
 number_of (ParseObjectFile _) = 3
@@ -67,9 +67,9 @@ number_of (BadStringOffsets _) = 43
 number_of (OverlappingStringOffsets _) = 44
 
 -- a report has the fault's number, and its text, cut to 255 bytes, with a zero byte behind it
-pub record Tells (fault : Fault) (report : ThorinReport) : Type 0 where
+pub record Tells (fault : ErrorValue) (report : ThorinReport) : Type 0 where
   pub number : report.fault ≡ number_of fault
-  pub text : IfSome (fault_text fault) (λ text.
+  pub text : IfSome (error_text fault) (λ text.
       IsTextOrCut 255 text (take report.text_size report.text))
   pub within : report.text_size < 256
   pub ends : slice_index report.text report.text_size ≡ 0

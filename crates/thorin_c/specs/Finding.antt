@@ -6,17 +6,16 @@ use Rattle.dwp_base.specs.declared.section.SectionKind.{SectionKind}
 use Rattle.dwp_base.specs.declared.section.SectionKind.TheVariants as kinds
 use Rattle.dwp_base.specs.declared.section.Contribution.{Contribution}
 use Rattle.dwp_bytes.specs.Encoding.{offset_size}
-use Rattle.dwp_bytes.specs.declared.fault.ReadError.{ReadError}
+use Rattle.dwp_bytes.specs.declared.error.ReadError.{ReadError}
 use Rattle.dwp_table.specs.Columns.{contribution_kinds}
 use Rattle.dwp_table.specs.declared.object.DwarfObject.{DwarfObject}
 use Rattle.dwp_table.specs.declared.object.DwarfObject.TheVariants.{Compilation, TypeUnit}
 use Rattle.dwp_index.specs.Contents.{content}
 use Rattle.dwp_index.specs.Index.{Ranges, range_in}
-use Rattle.dwp_index.specs.Package.{Package, FoundUnit, found_counted, row_counted}
-use Rattle.dwp_index.specs.Package.{row_bytes}
+use Rattle.dwp_index.specs.Package.{Package, FoundUnit, found_counted, row_counted, row_bytes}
 use Rattle.dwp_index.specs.Strings.{string_in}
-use Rattle.dwp_index.specs.declared.fault.PackageError.{PackageError}
-use Rattle.dwp_index.specs.declared.fault.PackageError.TheVariants as faults
+use Rattle.dwp_index.specs.declared.error.PackageError.{PackageError}
+use Rattle.dwp_index.specs.declared.error.PackageError.TheVariants as faults
 use Rattle.thorin_c.specs.declared.types.ThorinLookup.{ThorinLookup}
 use Rattle.thorin_c.specs.declared.types.ThorinRange.{ThorinRange}
 use Rattle.thorin_c.specs.declared.types.ThorinUnit.{ThorinUnit}

@@ -11,7 +11,7 @@ use Rattle.dwp_elf_read.specs.Layout.{is_inside}
 use Rattle.dwp_index.specs.Contents.{Sections, content}
 use Rattle.dwp_index.specs.Holding.{sections_of}
 use Rattle.dwp_index.specs.Package.{Package, index_in_section}
-use Rattle.dwp_index.specs.declared.fault.PackageError.{PackageError}
+use Rattle.dwp_index.specs.declared.error.PackageError.{PackageError}
 use Rattle.thorin_c.specs.declared.types.ThorinPackage.{ThorinPackage}
 use Rattle.thorin_c.specs.declared.types.ThorinRange.{ThorinRange}
 

@@ -4,7 +4,7 @@ use Rattle.std.specs.Prelude.{take, drop, length, Result, Ok, Err, ◌⊎◌}
 use Rattle.std.specs.List.{HoldsAt}
 use Rattle.dwp_base.specs.Reading.{◌>>=◌}
 use Rattle.thorin_errors.specs.Answers.{MemoryAside}
-use Rattle.thorin_errors.specs.Fault.{Fault, fault_of}
+use Rattle.thorin_errors.specs.Errors.{ErrorValue, error_of}
 use Rattle.thorin_errors.specs.declared.error.Error.{Error}
 use Rattle.thorin_errors.specs.declared.error.Error.TheVariants as error
 use Rattle.thorin_join.specs.Builder.{State, start, taken, differing_in}
@@ -32,7 +32,7 @@ abbrev pub bytes_of : List ThorinBytes → List (List ℕ)
 bytes_of inputs = map (λ input. input.bytes.now) inputs
 
 -- the state once each input was taken, or the first fault
-abbrev pub all_taken : List ThorinBytes → State → Result State Fault
+abbrev pub all_taken : List ThorinBytes → State → Result State ErrorValue
 all_taken [] state = Ok state
 all_taken (input ∷ rest) state = taken input.bytes.now state >>= λ next. all_taken rest next
 
@@ -43,7 +43,7 @@ pub record Accepts (inputs : List ThorinBytes) (old new : State) : Type 0 where
 
 -- the input of this number is refused for this fault, and those before it are accepted
 pub record RefusesAt (inputs : List ThorinBytes) (old : State) (number : ℕ)
-    (fault : Fault) : Type 0 where
+    (fault : ErrorValue) : Type 0 where
   pub within : number < length inputs
   pub state : State
   pub before : Accepts (take number inputs) old state
@@ -57,7 +57,7 @@ pub record StopsAt (inputs : List ThorinBytes) (old : State) (number : ℕ)
   pub state : State
   pub before : Accepts (take number inputs) old state
   pub refused : MemoryAside fault
-      (HoldsAt (λ input. taken input.bytes.now state ≡ Err (fault_of fault)) inputs number)
+      (HoldsAt (λ input. taken input.bytes.now state ≡ Err (error_of fault)) inputs number)
 
 -- all inputs are accepted; the bytes are the file of the finished package, a package of their
 -- joined units; so many type units were passed over that differ from those kept; and 1 where it is
@@ -80,7 +80,7 @@ pub record ArePackedAgain (inputs : List ThorinBytes) (bytes : List ℕ) : Type 
   pub again : IsTakenAgain units bytes
 
 -- all inputs are accepted, and the package can't be finished or written for this fault
-pub record IsUnfinished (inputs : List ThorinBytes) (fault : Fault) : Type 0 where
+pub record IsUnfinished (inputs : List ThorinBytes) (fault : ErrorValue) : Type 0 where
   pub state : State
   pub accepted : Accepts inputs start state
   pub refused : RefusesToWrite state fault
@@ -89,7 +89,7 @@ pub record IsUnfinished (inputs : List ThorinBytes) (fault : Fault) : Type 0 whe
 pub record Leaves (inputs : List ThorinBytes) (fault : Error) : Type 0 where
   pub state : State
   pub accepted : Accepts inputs start state
-  pub refused : MemoryAside fault (RefusesToWrite state (fault_of fault))
+  pub refused : MemoryAside fault (RefusesToWrite state (error_of fault))
   pub memory : fault ≡ error.Memory → 0 < length inputs
 
 -- what stands in a refusal
@@ -101,11 +101,11 @@ IsRefusal inputs (refusals.Package fault) = Leaves inputs fault
 -- want of memory
 pub record TellsRefused (number : ℕ) (fault : Error) (report : ThorinReport) : Type 0 where
   pub input : report.input ≡ number
-  pub told : Tells (fault_of fault) report
+  pub told : Tells (error_of fault) report
   pub not_memory : fault ≢ error.Memory
 
 pub record TellsLeft (fault : Error) (report : ThorinReport) : Type 0 where
-  pub told : Tells (fault_of fault) report
+  pub told : Tells (error_of fault) report
   pub not_memory : fault ≢ error.Memory
 
 -- the package stands at the beginning of the room, the rest of which is as it was
@@ -124,13 +124,13 @@ pub record Needs (inputs : List ThorinBytes) (report : ThorinReport) (room : ℕ
 
 -- the first input that is refused, and its fault
 pub record Refuses (inputs : List ThorinBytes) (report : ThorinReport) : Type 0 where
-  pub fault : Fault
+  pub fault : ErrorValue
   pub refused : RefusesAt inputs start report.input fault
   pub told : Tells fault report
 
 -- why the package can't be finished or written
 pub record TellsUnfinished (inputs : List ThorinBytes) (report : ThorinReport) : Type 0 where
-  pub fault : Fault
+  pub fault : ErrorValue
   pub is : IsUnfinished inputs fault
   pub told : Tells fault report
 
@@ -158,8 +158,7 @@ pub record Differ (inputs : List ThorinBytes) (report : ThorinReport)
   pub signatures : new ≡ written_over old (differing_in state)
 
 -- which fields of a report are written: at a package, at a refused input, at a package that can't
--- be
--- finished, where memory ran out; the others are as they were
+-- be finished, where memory ran out; the others are as they were
 abbrev pub TellsOfPackage : ThorinReport → ThorinReport → Type 0
 TellsOfPackage old new = new ≡ record old {
   size = new.size;

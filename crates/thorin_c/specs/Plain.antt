@@ -1,13 +1,10 @@
 -- What the export that decompresses answers.
-use Rattle.std.specs.Prelude.{◌≡◌, ◌<◌, ◌≤◌, ℕ, ℤ, pos, List, take, drop, length, Option, Some}
-use Rattle.std.specs.Prelude.{None}
-use Rattle.std.specs.Prelude.{Result, Ok, Err, ◌⊎◌}
+use Rattle.std.specs.Prelude.{◌≡◌, ◌<◌, ◌≤◌, ℕ, ℤ, pos, List, take, drop, length, Some, Ok, Err}
+use Rattle.std.specs.Prelude.{◌⊎◌}
 use Rattle.dwp_elf_read.specs.Elf.{elf_of}
-use Rattle.dwp_elf_read.specs.declared.fault.ReadError.{ReadError}
-use Rattle.dwp_inflate.specs.declared.fault.InflateError.{InflateError}
 use Rattle.dwp_decompress.specs.Result.{decompressed_of}
-use Rattle.dwp_decompress.specs.declared.fault.DecompressError.{DecompressError}
-use Rattle.dwp_decompress.specs.declared.fault.DecompressError.TheVariants as faults
+use Rattle.dwp_decompress.specs.declared.error.DecompressError.{DecompressError}
+use Rattle.dwp_decompress.specs.declared.error.DecompressError.TheVariants as faults
 
 -- the file with plain sections stands at the beginning of the room, the rest of which is as it was
 pub record Decompresses (bytes : List ℕ) (size : ℕ) (old new : List ℕ) : Type 0 where

@@ -2,7 +2,7 @@
 use Rattle.std.specs.Prelude.{◌≡◌, ◌≢◌, ℕ, List, [], ◌∷◌, ◌++◌, length, map, Option, Some, None}
 use Rattle.dwp_table.specs.declared.object.DwarfObject.{DwarfObject}
 use Rattle.dwp_table.specs.declared.object.DwarfObject.TheVariants.{Compilation, TypeUnit}
-use Rattle.thorin_errors.specs.Fault.{Fault}
+use Rattle.thorin_errors.specs.Errors.{ErrorValue}
 use Rattle.thorin_errors.specs.declared.error.Error.{Error}
 use Rattle.thorin_errors.specs.declared.error.Error.TheVariants as error
 use Rattle.thorin_executable.specs.Skeletons.{Named}
@@ -33,7 +33,7 @@ pub record ListsUnits (units : List Named) (old new : List ThorinSkeleton) (befo
   pub size : report.size ≡ length (paths_of units)
 
 -- the fault that ended a list is told
-abbrev pub TellsEnd : Option Fault → ThorinReport → Type 0
+abbrev pub TellsEnd : Option ErrorValue → ThorinReport → Type 0
 TellsEnd None report = ⊥
 TellsEnd (Some fault) report = Tells fault report
 

@@ -1,7 +1,7 @@
 //! The numbers of the faults of packing.
 
 ghost use Rattle.std.specs.Prelude.{◌≡◌};
-ghost use Rattle.thorin_errors.specs.Fault.{fault_of};
+ghost use Rattle.thorin_errors.specs.Errors.{error_of};
 ghost use Rattle.thorin_c.specs.Faults.{number_of, Tells};
 ghost use Rattle.thorin_c.specs.Packing.{TellsOfFault};
 
@@ -11,7 +11,7 @@ use thorin_errors::Error;
 
 /// Writes a fault's number and text, with a zero byte behind it.
 pub(crate) fn tell(fault: Error, report: &mut ThorinReport)
-    ensures told { Tells (fault_of fault) report.new }
+    ensures told { Tells (error_of fault) report.new }
     ensures alone { TellsOfFault report.old report.new }
 {
     report.fault = number_of(&fault);
@@ -25,7 +25,7 @@ pub(crate) fn tell(fault: Error, report: &mut ThorinReport)
 
 /// The number of a fault, from 1 on in the order of `Error`.
 fn number_of(fault: &Error) -> u32
-    ensures { result ≡ number_of (fault_of fault.now) }
+    ensures { result ≡ number_of (error_of fault.now) }
 {
     match fault {
         Error::ReadInput(_) => 1,

@@ -3,9 +3,8 @@
 ghost use Rattle.std.specs.Prelude.{◌≡◌, pos, Ok, map, take};
 ghost use Rattle.dwp_base.specs.Reading.{Answers};
 ghost use Rattle.dwp_index.specs.Package.{package_of, found_counted};
-ghost use Rattle.thorin_c.specs.Finding.{object_of, section_of, as_status, present, range_of};
-ghost use Rattle.thorin_c.specs.Finding.{ranges_of, row_of, unit_of, unit_in, looked_up, looked};
-ghost use Rattle.thorin_c.specs.Finding.{unit_found};
+ghost use Rattle.thorin_c.specs.Finding.{object_of, section_of, as_status, range_of, ranges_of};
+ghost use Rattle.thorin_c.specs.Finding.{row_of, unit_of, unit_in, looked_up, looked, unit_found};
 ghost use Rattle.thorin_c.specs.Finding.{content_found, string_found, Fills, FillsEach};
 
 use crate::status::{

@@ -1,14 +1,13 @@
 //! Where the sections of a package lie among its bytes.
 
-ghost use Rattle.std.specs.Prelude.{◌≡◌, pos, Ok, Some, IsTrue, IfSome, IfOk, slice_get, option_map};
-ghost use Rattle.std.specs.List.{find};
+ghost use Rattle.std.specs.Prelude.{◌≡◌, pos, Ok, Some, IsTrue, IfOk, slice_get};
 ghost use Rattle.dwp_base.specs.Reading.{Answers};
 ghost use Rattle.dwp_elf_read.specs.Elf.{elf_of};
 ghost use Rattle.dwp_elf_read.specs.View.{elf, section};
 ghost use Rattle.dwp_index.specs.Contents.{is_of_kind, has_older_name, used_bytes, content_among};
 ghost use Rattle.dwp_index.specs.Contents.{contents_of};
-ghost use Rattle.dwp_index.specs.Package.{as_fault, package_of};
-ghost use Rattle.dwp_index.specs.declared.fault.PackageError.TheVariants as faults;
+ghost use Rattle.dwp_index.specs.Package.{as_error, package_of};
+ghost use Rattle.dwp_index.specs.declared.error.PackageError.TheVariants as faults;
 ghost use Rattle.thorin_c.specs.Opening.{bytes_at, order_of, sections_at, package_in, opened};
 ghost use Rattle.thorin_c.specs.Opening.{IsPlaceIn, LieIn};
 ghost use Rattle.thorin_c.specs.Finding.{as_status, Fills};
@@ -20,7 +19,7 @@ use crate::status::{DONE, status_of};
 use crate::types::{ThorinPackage, ThorinRange};
 use dwp_base::{Endianness, SectionKind};
 use dwp_elf_read::{ElfFile, ReadError, Section};
-use dwp_index::PackageError;
+use dwp_index::{PackageError, section_of_kind};
 
 /// The place of a section that isn't there.
 const NOWHERE: ThorinRange = ThorinRange { offset: 0, size: 0 };
@@ -59,7 +58,7 @@ fn places_of(bytes: &[u8]) -> Result<ThorinPackage, PackageError>
 }
 
 fn read_file(bytes: &[u8]) -> Result<ElfFile<'_>, PackageError>
-    ensures exact { Answers elf result (as_fault faults.Elf (elf_of bytes.now)) }
+    ensures exact { Answers elf result (as_error faults.Elf (elf_of bytes.now)) }
     ensures whole { IfOk result (λ file. elf_of bytes.now ≡ Ok (elf file)) }
 {
     match ElfFile::parse(bytes) {
@@ -71,7 +70,7 @@ fn read_file(bytes: &[u8]) -> Result<ElfFile<'_>, PackageError>
 fn read_places(file: &ElfFile<'_>, bytes: &[u8]) -> Result<ThorinPackage, PackageError>
     requires { elf_of bytes.now ≡ Ok (elf file.now) }
     ensures contents { Answers (λ places. sections_at places bytes.now) result
-        (as_fault faults.Elf (contents_of (elf file.now).sections)) }
+        (as_error faults.Elf (contents_of (elf file.now).sections)) }
     ensures order { IfOk result (λ places. order_of places.big_endian ≡ (elf file.now).order) }
     ensures inside { IfOk result (LieIn bytes.now) }
 {
@@ -121,7 +120,7 @@ fn place(file: &ElfFile<'_>, bytes: &[u8], kind: SectionKind) -> Result<ThorinRa
         (content_among (elf file.now).sections kind) }
     ensures inside { IfOk result (IsPlaceIn bytes.now) }
 {
-    match first_section(file, kind) {
+    match section_of_kind(file, kind) {
         None => Ok(NOWHERE),
         Some((number, used)) => used_place(file, bytes, kind, number, &used),
     }
@@ -155,38 +154,9 @@ fn used_place(
 }
 
 /// Whether a section's name is the older spelling, of compressed sections.
-#[tactic(auto, using(crate::proofs::Called::called_is_older))]
+#[tactic(auto, using(dwp_index::proofs::Called::called_is_older))]
 fn has_older_name(candidate: &Section<'_>, kind: SectionKind) -> bool
     ensures { result ≡ has_older_name kind (section candidate.now).name }
 {
     candidate.is_called(kind.compressed_name())
-}
-
-/// Whether a section has bytes, and is one of this kind.
-#[tactic(auto, unfolding(dwp_index::specs::Contents::is_of_kind), using(crate::proofs::Called::called_is_named))]
-fn is_of_kind(candidate: &Section<'_>, kind: SectionKind) -> bool
-    ensures { result ≡ is_of_kind kind (section candidate.now) }
-{
-    if candidate.is_empty() {
-        return false;
-    }
-    candidate.is_called(kind.name()) || candidate.is_called(kind.compressed_name())
-}
-
-/// The first section of a kind that has bytes, and its number.
-fn first_section<'a>(file: &ElfFile<'a>, kind: SectionKind) -> Option<(usize, Section<'a>)>
-    ensures first { option_map (λ found. section found.1) result
-        ≡ find (is_of_kind kind) (elf file.now).sections }
-    ensures there { IfSome result (λ found.
-        slice_get (elf file.now).sections found.0 ≡ Some (section found.1)) }
-    ensures filled { IfSome result (λ found. IsTrue (is_of_kind kind (section found.1))) }
-{
-    for i in 0..file.section_count() {
-        if let Some(candidate) = file.section(i) {
-            if is_of_kind(&candidate, kind) {
-                return Some((i, candidate));
-            }
-        }
-    }
-    None
 }

@@ -7,11 +7,10 @@ ghost use Rattle.thorin_join.specs.Join.{IsPackageOf};
 ghost use Rattle.thorin.specs.Run.{Writes};
 ghost use Rattle.thorin_c.specs.Listing.{written_over};
 ghost use Rattle.thorin_c.specs.Packing.{Accepts, StopsAt, IsPackage, IsRefusal, TellsRefused};
-ghost use Rattle.thorin_c.specs.Packing.{ArePackedAgain};
-ghost use Rattle.thorin_c.specs.Packing.{TellsLeft, Packs, Needs, Refuses, TellsUnfinished};
-ghost use Rattle.thorin_c.specs.Packing.{RunsOutAt, RunsOutAfter, Differ, IsPackingStatus};
-ghost use Rattle.thorin_c.specs.Packing.{IsDifferingStatus, TellsAlone, TellsOfPackage};
-ghost use Rattle.thorin_c.specs.Packing.{TellsOfInput, TellsOfFault, TellsOfMemory};
+ghost use Rattle.thorin_c.specs.Packing.{ArePackedAgain, TellsLeft, Packs, Needs, Refuses};
+ghost use Rattle.thorin_c.specs.Packing.{TellsUnfinished, RunsOutAt, RunsOutAfter, Differ};
+ghost use Rattle.thorin_c.specs.Packing.{IsPackingStatus, IsDifferingStatus, TellsAlone};
+ghost use Rattle.thorin_c.specs.Packing.{TellsOfPackage, TellsOfInput, TellsOfFault, TellsOfMemory};
 ghost use Rattle.thorin_c.specs.Packing.{TellsOfDiffering};
 
 use crate::faults::tell;

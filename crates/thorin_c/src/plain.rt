@@ -1,12 +1,12 @@
 //! Files with plain sections in place of compressed ones.
 
-ghost use Rattle.std.specs.Prelude.{◌≡◌, ◌≢◌, ◌⊎◌, ◌≤◌, ◌<◌, pos, length, take, drop, Ok, Err, Some, None};
-ghost use Rattle.dwp_elf_read.specs.Elf.{elf_of};
+ghost use Rattle.std.specs.Prelude.{◌≡◌, ◌≢◌, ◌⊎◌, ◌≤◌, ◌<◌, pos, length, take, drop, Ok, Err};
+ghost use Rattle.std.specs.Prelude.{Some, None};
 ghost use Rattle.dwp_decompress.specs.Result.{decompressed_of};
-ghost use Rattle.dwp_decompress.specs.declared.fault.DecompressError.TheVariants.{Memory};
-ghost use Rattle.dwp_decompress.specs.declared.fault.DecompressError.TheVariants.{Unrepresentable};
-ghost use Rattle.thorin_c.specs.Plain.{Decompresses, NeedsRoom, IsFault, TellsFault};
-ghost use Rattle.thorin_c.specs.Plain.{IsPlainStatus, status_of};
+ghost use Rattle.dwp_decompress.specs.declared.error.DecompressError.TheVariants.{Memory};
+ghost use Rattle.dwp_decompress.specs.declared.error.DecompressError.TheVariants.{Unrepresentable};
+ghost use Rattle.thorin_c.specs.Plain.{Decompresses, NeedsRoom, IsFault, TellsFault, IsPlainStatus};
+ghost use Rattle.thorin_c.specs.Plain.{status_of};
 
 use crate::status::{
     DAMAGED, DONE, MALFORMED_FILE, NO_MEMORY, NOT_COMPRESSED, TOO_SMALL, UNKNOWN_COMPRESSION,

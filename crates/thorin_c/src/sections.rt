@@ -4,13 +4,12 @@ ghost use Rattle.std.specs.Prelude.{◌≡◌};
 ghost use Rattle.dwp_elf_read.specs.Layout.{is_inside};
 ghost use Rattle.dwp_index.specs.Contents.{content};
 ghost use Rattle.dwp_index.specs.Index.{range_in};
-ghost use Rattle.dwp_index.specs.Package.{part_of, lies_inside, row_bytes, first_outside};
-ghost use Rattle.dwp_index.specs.Package.{is_outside};
+ghost use Rattle.dwp_index.specs.Package.{row_bytes, first_outside, is_outside};
 ghost use Rattle.thorin_c.specs.Opening.{bytes_at, sections_at};
 
 use crate::types::{ThorinPackage, ThorinRange};
-use dwp_base::{Contribution, SectionKind};
-use dwp_index::Row;
+use dwp_base::SectionKind;
+use dwp_index::{Row, lies_inside, part_of};
 use dwp_table::CONTRIBUTION_KINDS;
 
 /// A package's bytes, and where its sections lie among them.
@@ -85,30 +84,4 @@ impl<'p, 'a> PlacedSections<'p, 'a> {
             Some(range) => !lies_inside(self.of(kind), range),
         }
     }
-}
-
-/// The bytes of a range; none where it is absent.
-#[inline(always)]
-fn part_of<'a>(bytes: &'a [u8], range: Option<Contribution>) -> &'a [u8]
-    ensures { result.now ≡ part_of bytes.now range }
-{
-    match range {
-        None => &[],
-        Some(range) => {
-            if lies_inside(bytes, range) {
-                let start = range.offset.0 as usize;
-                &bytes[start..start + range.size as usize]
-            } else {
-                &[]
-            }
-        }
-    }
-}
-
-/// Whether a range lies inside a section of these bytes.
-#[inline(always)]
-fn lies_inside(bytes: &[u8], range: Contribution) -> bool
-    ensures { result ≡ lies_inside bytes.now range }
-{
-    is_inside(bytes, range.offset.0, range.size)
 }

@@ -1,4 +1,3 @@
-mod Inputs
 mod Left
 mod Opened
 mod Prefixing

@@ -1,6 +1,6 @@
 -- Inputs that stand for others, taken one after the other.
-use Rattle.std.proofs.Common.{◌≡◌, ◌∙◌, ℕ, Bool, true, false, List, [], ◌∷◌, ◌++◌, refl}
-use Rattle.std.proofs.Common.{cond, sym, ap, subst, Result, Ok, map, inl, inr}
+use Rattle.std.proofs.Common.{◌≡◌, ◌∙◌, ℕ, Bool, true, false, List, [], ◌∷◌, ◌++◌, refl, cond, sym}
+use Rattle.std.proofs.Common.{ap, subst, Result, Ok, map, inl, inr}
 use Rattle.std.specs.Path.{path_bytes}
 use Rattle.std.specs.Prelude.{filter, OnOk, Err}
 use Rattle.std.specs.declared.path.Path.{Path}

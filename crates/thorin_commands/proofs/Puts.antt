@@ -7,20 +7,16 @@ use Rattle.std.specs.Str.{bytes_eq}
 use Rattle.std.specs.declared.io.Error.{Error as IoError}
 use Rattle.std.specs.Io.KnownBytes.{Appends, Keeps}
 use Rattle.std.proofs.lemmas.List.{append-nil, take_all}
-use Rattle.dwp_elf_read.specs.declared.fault.WriteError.{WriteError}
-use Rattle.dwp_elf_read.specs.declared.fault.WriteError.TheVariants.{NumberTooLarge, Memory, Io}
-use Rattle.dwp_elf.specs.FileText.{Object, file_text}
+use Rattle.dwp_elf_read.specs.declared.error.WriteError.{WriteError}
+use Rattle.dwp_elf_read.specs.declared.error.WriteError.TheVariants.{NumberTooLarge, Memory, Io}
+use Rattle.dwp_elf.specs.FileText.{Object, file_text, Object as File}
 use Rattle.dwp_elf.specs.Refusals.{RefusesWriter}
-use Rattle.dwp_elf.specs.FileText.{Object as File}
 use Rattle.thorin.specs.declared.packing.Input.{Input}
 use Rattle.thorin_queries.specs.declared.output.Failure.{Failure}
 use Rattle.thorin_commands.specs.Files.{HasBeginning, Begun, Adds, IsOfWriting, PutIn, BeginsIn}
 use Rattle.thorin_commands.specs.Files.{Put, Begins}
-use Rattle.thorin_commands.specs.Packing.{asked, asks, out_of, IsPackedFrom, IsPackageFor}
-use Rattle.thorin_commands.specs.Packing.{Packs}
-use Rattle.thorin_commands.specs.Packing.{paths_in, reads}
-use Rattle.thorin_commands.specs.Packing.{Comes}
-use Rattle.thorin_commands.specs.Packing.{Fails}
+use Rattle.thorin_commands.specs.Packing.{asked, asks, out_of, IsPackedFrom, IsPackageFor, Packs}
+use Rattle.thorin_commands.specs.Packing.{paths_in, reads, Comes, Fails}
 use Rattle.thorin_commands.specs.declared.output.Refusal.{Refusal}
 use Rattle.thorin_commands.specs.declared.output.Refusal.TheVariants as refusals
 use Rattle.thorin_commands.specs.declared.packing.Packing.{Packing}

@@ -5,14 +5,14 @@ use Rattle.std.specs.Prelude.{Result, Ok, Err, Option, Some, None}
 use Rattle.std.specs.declared.io.Error.{Error as IoError}
 use Rattle.std.specs.Borrow.{Bor}
 use Rattle.dwp_elf_read.specs.Elf.{Elf, elf_of}
-use Rattle.dwp_elf_read.specs.declared.fault.ReadError.{ReadError}
+use Rattle.dwp_elf_read.specs.declared.error.ReadError.{ReadError}
 use Rattle.dwp_macros.specs.Last.{last_macros_of}
 use Rattle.thorin_errors.specs.declared.error.InputError.{InputError}
 use Rattle.thorin_errors.specs.declared.error.InputError.TheVariants as input
 use Rattle.thorin_commands.specs.Prefixes.{mapped}
 use Rattle.thorin_commands.specs.Packing.{IsAmong, through}
-use Rattle.thorin_commands.specs.Plain.{Offer, IsPlainOf, IsReadOver, taken_from, last_from}
-use Rattle.thorin_commands.specs.Plain.{IsLast, IsLastOf}
+use Rattle.thorin_commands.specs.Plain.{Offer, IsPlainOf, IsReadOver, taken_from, last_from, IsLast}
+use Rattle.thorin_commands.specs.Plain.{IsLastOf}
 
 module _ (offer : Offer) (path : List ℕ) where
   -- a file that is decompressed

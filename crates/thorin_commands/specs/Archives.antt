@@ -4,7 +4,7 @@ use Rattle.std.specs.Prelude.{codes, find, is_some, Option, Some, None, Result, 
 use Rattle.std.specs.Global.{Vec}
 use Rattle.std.specs.Path.{path_bytes}
 use Rattle.dwp_elf_read.specs.Elf.{Elf, elf_of, is_named}
-use Rattle.dwp_elf_read.specs.declared.fault.ReadError.{ReadError}
+use Rattle.dwp_elf_read.specs.declared.error.ReadError.{ReadError}
 use Rattle.dwp_archive.specs.Entries.{Member}
 use Rattle.dwp_archive.specs.Members.{members_of}
 use Rattle.thorin.specs.declared.packing.Input.{Input}

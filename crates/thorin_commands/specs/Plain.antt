@@ -3,8 +3,8 @@ use Rattle.std.specs.Prelude.{◌≡◌, ℕ, List, Bool, true, false, Result, O
 use Rattle.std.specs.Prelude.{◌⊎◌}
 use Rattle.std.specs.declared.io.Error.{Error as IoError}
 use Rattle.dwp_elf_read.specs.Elf.{Elf, elf_of}
-use Rattle.dwp_elf_read.specs.declared.fault.ReadError.{ReadError}
-use Rattle.dwp_decompress.specs.declared.fault.DecompressError.{DecompressError}
+use Rattle.dwp_elf_read.specs.declared.error.ReadError.{ReadError}
+use Rattle.dwp_decompress.specs.declared.error.DecompressError.{DecompressError}
 use Rattle.dwp_decompress.specs.Result.{decompressed_of}
 use Rattle.dwp_macros.specs.Last.{last_macros_of}
 use Rattle.thorin_errors.specs.declared.error.InputError.{InputError}

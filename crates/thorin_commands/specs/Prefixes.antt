@@ -1,7 +1,7 @@
 -- Prefixes of paths that others take the place of, as `-fdebug-prefix-map=OLD=NEW` of gcc and clang
 -- has them: of all that fit a path the longest counts.
-use Rattle.std.specs.Prelude.{ℕ, List, [], ◌∷◌, ◌++◌, length, fold, ◌==◌, nat_lt, nat_le}
-use Rattle.std.specs.Prelude.{Option, Some, None, if◌then◌else◌, Bool}
+use Rattle.std.specs.Prelude.{ℕ, List, [], ◌∷◌, ◌++◌, length, fold, ◌==◌, nat_lt, nat_le, Option}
+use Rattle.std.specs.Prelude.{Some, None, if◌then◌else◌, Bool}
 use Rattle.std.specs.Borrow.{Bor}
 use Rattle.std.specs.List.{position_or_len, before_first, after_first}
 

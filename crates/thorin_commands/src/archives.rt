@@ -64,12 +64,12 @@ pub(crate) fn take_opened<'o, 's: 'o, Sess: Session<RelocationEntry>, I: Inputs,
             take_read(files, builder, bytes, place, err)
         }
         Err(e) => {
-            let fault = Error::from(e);
+            let error = Error::from(e);
             let refused = Refused {
                 input: Input::Object(path),
                 room: &[],
                 before: None,
-                fault: &fault,
+                error: &error,
             };
             tell_refused(files, refused, telling, err);
             Err(Refusal::Told)
@@ -145,7 +145,7 @@ fn take_members<'o, 's: 'o, Sess: Session<RelocationEntry>, I: Inputs, E: Write>
 {
     match members(place.telling.alloc, bytes) {
         Ok(members) => take_listed(files, builder, members.as_slice(), place, err),
-        Err(fault) => Err(malformed(place, fault, err)),
+        Err(error) => Err(malformed(place, error, err)),
     }
 }
 
@@ -233,8 +233,8 @@ fn take_split<'o, 's: 'o, Sess: Session<RelocationEntry>, I: Inputs, E: Write>(
             keep_member(files, builder.contained_units().len(), member, place);
             Ok(true)
         }
-        Err(fault) => {
-            refuse_member(files, builder, &fault, member, place, err);
+        Err(error) => {
+            refuse_member(files, builder, &error, member, place, err);
             Err(Refusal::Told)
         }
     }
@@ -264,11 +264,11 @@ fn take_content<'o, 's: 'o, Sess: Session<RelocationEntry>, I: Inputs>(
 }
 
 /// What becomes of an archive whose members can't be told, which is told here.
-fn malformed<E: Write>(place: Place<'_>, fault: ArchiveError, err: &mut E) -> Refusal {
-    if let ArchiveError::Memory = fault {
+fn malformed<E: Write>(place: Place<'_>, error: ArchiveError, err: &mut E) -> Refusal {
+    if let ArchiveError::Memory = error {
         return Refusal::Command(Failure::Memory);
     }
-    let _ = writeln!(err, "error: {fault}");
+    let _ = writeln!(err, "error: {error}");
     if place.telling.notes {
         if let Ok(archive) = shown(place.telling.alloc, place.path.path_text()) {
             note_alone(archive.as_str(), err);
@@ -281,25 +281,25 @@ fn malformed<E: Write>(place: Place<'_>, fault: ArchiveError, err: &mut E) -> Re
 fn refuse_member<'o, 's: 'o, Sess: Session<RelocationEntry>, I: Inputs, E: Write>(
     files: &I,
     builder: &DwarfPackage<'o, 's, Sess>,
-    fault: &Error,
+    error: &Error,
     member: Member<'_>,
     place: Place<'_>,
     err: &mut E,
 ) {
-    tell_error(place.telling.alloc, fault, files.found_growth(), err);
+    tell_error(place.telling.alloc, error, files.found_growth(), err);
     if place.telling.notes {
         let before = Before {
-            place: place_of_unit(builder, fault),
+            place: place_of_unit(builder, error),
             executable: None,
         };
-        note_member(files, fault, member, before, place, err);
+        note_member(files, error, member, before, place, err);
     }
 }
 
 /// Prints the note on a member that was refused.
 fn note_member<I: Inputs, E: Write>(
     files: &I,
-    fault: &Error,
+    error: &Error,
     member: Member<'_>,
     before: Before<'_>,
     place: Place<'_>,
@@ -309,7 +309,7 @@ fn note_member<I: Inputs, E: Write>(
     if let Ok(text) = place_of_member(alloc, place.path.path_text(), member.name()) {
         match files.found_growth() {
             Some(growth) => note_reason(text.as_str(), growth.note(), err),
-            None => note_place(alloc, files, fault, text.as_str(), before, err),
+            None => note_place(alloc, files, error, text.as_str(), before, err),
         }
     }
 }

@@ -3,8 +3,9 @@
 
 use crate::growth::LEAST_ROOM;
 use crate::used::{Used, content};
+use dwp_base::SectionKind;
 use dwp_bytes::string_at;
-use dwp_elf::{ElfFile, Endianness, SectionKind};
+use dwp_elf::{ElfFile, Endianness};
 use std::alloc::{AllocError, Global};
 
 /// How many bytes an offset of a string has at least. A longer one is a word with its lower half,

@@ -11,7 +11,7 @@ use crate::output::{Refusal, flush};
 use crate::packing::{Packing, paths_in};
 use crate::plain::InputFiles;
 use crate::reading::Inputs;
-use crate::telling::{Telling, tell_fault};
+use crate::telling::{Telling, print_error};
 use bumpalo::Bump;
 use dwp_bytes::RelocationEntry;
 use dwp_table::{Bucketable, DwarfObject};
@@ -291,8 +291,8 @@ pub fn list_missing<F: FileSystem, O: Write, E: Write>(
     match listed {
         Ok(false) => Ok(0),
         Ok(true) => Ok(1),
-        Err(Unlisted::Refused(fault)) => {
-            tell_fault(alloc, &fault, err);
+        Err(Unlisted::Refused(error)) => {
+            print_error(alloc, &error, err);
             Ok(1)
         }
         Err(Unlisted::Failed(failure)) => Err(failure),
@@ -309,8 +309,8 @@ enum Unlisted {
 }
 
 impl From<Error> for Unlisted {
-    fn from(fault: Error) -> Unlisted {
-        Unlisted::Refused(fault)
+    fn from(error: Error) -> Unlisted {
+        Unlisted::Refused(error)
     }
 }
 
@@ -369,7 +369,7 @@ fn list_read<I: Inputs, W: Write>(
     let session = BytesSession::new(&bump);
     match named_units(alloc, &session, bytes, nameless) {
         Ok(mut units) => list_each(alloc, files, &mut units, seen, lines),
-        Err(fault) => Err(Unlisted::Refused(fault)),
+        Err(error) => Err(Unlisted::Refused(error)),
     }
 }
 

@@ -99,9 +99,9 @@ pub(crate) fn note_unread<E: Write>(unread: &Unread, err: &mut E) {
 }
 
 /// Prints the note on an input, or an object that it names, that was read and refused.
-pub(crate) fn note_refused<E: Write>(place: &str, fault: &Error, decompresses: bool, err: &mut E) {
-    let cause = Cause(fault);
-    let advice = advice_on(fault, decompresses);
+pub(crate) fn note_refused<E: Write>(place: &str, error: &Error, decompresses: bool, err: &mut E) {
+    let cause = Cause(error);
+    let advice = advice_on(error, decompresses);
     let _ = writeln!(err, "note: {place}{cause}{advice}");
 }
 
@@ -119,9 +119,9 @@ pub(crate) fn note_twice_in<E: Write>(unit: u64, place: &str, err: &mut E) {
     let _ = writeln!(err, "note: unit 0x{unit:08x}: twice in {place}");
 }
 
-/// What can be done about a fault, if anything.
-fn advice_on(fault: &Error, decompresses: bool) -> &'static str {
-    match fault {
+/// What can be done about an error, if anything.
+fn advice_on(error: &Error, decompresses: bool) -> &'static str {
+    match error {
         Error::DecompressData(_) => {
             if decompresses {
                 ": not by zlib, or damaged"
@@ -133,7 +133,7 @@ fn advice_on(fault: &Error, decompresses: bool) -> &'static str {
     }
 }
 
-/// The cause below a fault, where there is one: the fault itself was told.
+/// The cause below an error, where there is one: the error itself was told.
 #[derive(Drop)]
 struct Cause<'a>(&'a Error);
 

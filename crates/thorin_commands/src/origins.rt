@@ -94,12 +94,12 @@ fn origin_of(alloc: Global, source: Source<'_>) -> Result<Origin, AllocError> {
     }
 }
 
-/// Where among the package's units the one stands that an input has too, of which a fault tells.
+/// Where among the package's units the one stands that an input has too, of which an error tells.
 pub(crate) fn place_of_unit<'o, 's: 'o, Sess: Session<RelocationEntry>>(
     builder: &DwarfPackage<'o, 's, Sess>,
-    fault: &Error,
+    error: &Error,
 ) -> Option<usize> {
-    match fault {
+    match error {
         Error::DuplicateUnit(id) => {
             let unit = DwarfObject::Compilation(DwoId(*id));
             builder.contained_units().get_index_of(&unit)

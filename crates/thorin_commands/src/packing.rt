@@ -1,14 +1,15 @@
 //! `thorin pack`.
 
-ghost use Rattle.std.specs.Prelude.{◌≡◌, ◌≤◌, Ok, Some, OnOk, OnErr, IfOk, IfErr, string_bytes, true};
+ghost use Rattle.std.specs.Prelude.{◌≡◌, ◌≤◌, Ok, Some, OnOk, OnErr, IfOk, IfErr, string_bytes};
+ghost use Rattle.std.specs.Prelude.{true};
 ghost use Rattle.dwp_elf.specs.FileText.{file_text};
 ghost use Rattle.thorin_join.specs.Builder.{IsFinishedState};
 ghost use Rattle.thorin_join.specs.Join.{IsPackageOf, IsPackageOnceWritten};
 ghost use Rattle.thorin_join.specs.Meaning.{Members};
 ghost use Rattle.thorin_join.specs.Represents.{units_in};
 ghost use Rattle.thorin_commands.specs.Files.{IsOfWriting, Put, Begins};
-ghost use Rattle.thorin_commands.specs.Packing.{out_of, Packs, Comes};
-ghost use Rattle.thorin_commands.specs.Packing.{IsPackageFor, IsPackedFrom, Fails, paths_in, reads};
+ghost use Rattle.thorin_commands.specs.Packing.{out_of, Packs, Comes, IsPackageFor, IsPackedFrom};
+ghost use Rattle.thorin_commands.specs.Packing.{Fails, paths_in, reads};
 
 use crate::asked::{inputs_of, inputs_with};
 use crate::files::FileSystem;
@@ -17,7 +18,7 @@ use crate::output::{Refusal, write_package};
 use crate::plain::InputFiles;
 use crate::reading::Inputs;
 use crate::taking::take_all;
-use crate::telling::{Telling, tell_fault, tell_unfinished};
+use crate::telling::{Telling, print_error, tell_unfinished};
 use crate::warnings::{Warned, Warnings, warn};
 use bumpalo::Bump;
 use dwp_bytes::RelocationEntry;
@@ -153,7 +154,7 @@ pub fn pack<F: FileSystem, O: Write, E: Write>(
     match pack_all(alloc, files, packing, out, err) {
         Ok(()) => Ok(0),
         Err(Refusal::Empty) => {
-            tell_fault(alloc, &Error::NoOutputObjectCreated, err);
+            print_error(alloc, &Error::NoOutputObjectCreated, err);
             Ok(1)
         }
         Err(Refusal::Told) => Ok(1),
@@ -411,23 +412,23 @@ fn finished<'o, 's: 'o, Sess: Session<RelocationEntry>, I: Inputs, E: Write>(
     match finished {
         Ok(object) => match can_be_written(&object) {
             Ok(()) => Ok((object, differing)),
-            Err(fault) => Err(unfinished(files, &fault, telling, err)),
+            Err(error) => Err(unfinished(files, &error, telling, err)),
         },
-        Err(fault) => Err(unfinished(files, &fault, telling, err)),
+        Err(error) => Err(unfinished(files, &error, telling, err)),
     }
 }
 
 /// What becomes of a package that can't be finished: it is told here, unless no input began it.
 fn unfinished<I: Inputs, E: Write>(
     files: &I,
-    fault: &Error,
+    error: &Error,
     telling: Telling,
     err: &mut E,
 ) -> Refusal {
-    match fault {
+    match error {
         Error::NoOutputObjectCreated => Refusal::Empty,
         _ => {
-            tell_unfinished(files, fault, telling, err);
+            tell_unfinished(files, error, telling, err);
             Refusal::Told
         }
     }

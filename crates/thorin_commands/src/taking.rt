@@ -105,12 +105,12 @@ pub(crate) fn settle<'o, 's: 'o, Sess: Session<RelocationEntry>, I: Inputs, E: W
             Ok(()) => Ok(()),
             Err(failure) => Err(Refusal::Command(failure)),
         },
-        Err(fault) => {
+        Err(error) => {
             let refused = Refused {
                 input: tried.input,
                 room: tried.room,
-                before: place_of_unit(builder, &fault),
-                fault: &fault,
+                before: place_of_unit(builder, &error),
+                error: &error,
             };
             tell_refused(files, refused, telling, err);
             Err(Refusal::Told)

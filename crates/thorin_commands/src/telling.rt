@@ -117,9 +117,9 @@ pub(crate) struct Refused<'a> {
     pub(crate) input: Input<'a>,
     /// What was read last.
     pub(crate) room: &'a [u8],
-    /// Where among the package's units the one stands that the input has too, if that is the fault.
+    /// Where among the package's units the one stands that the input has too, if that is the error.
     pub(crate) before: Option<usize>,
-    pub(crate) fault: &'a Error,
+    pub(crate) error: &'a Error,
 }
 
 /// Prints why an input was refused, and where that is asked for what it is about.
@@ -130,7 +130,7 @@ pub(crate) fn tell_refused<I: Inputs, E: Write>(
     err: &mut E,
 ) {
     let growth = inputs.found_growth();
-    tell_error(telling.alloc, refused.fault, growth, err);
+    tell_error(telling.alloc, refused.error, growth, err);
     if !telling.notes {
         return;
     }
@@ -144,23 +144,23 @@ pub(crate) fn tell_refused<I: Inputs, E: Write>(
     }
 }
 
-/// Prints why an input or a member of one was refused: by its fault, or since it would make the
+/// Prints why an input or a member of one was refused: by its error, or since it would make the
 /// package larger than its files.
 pub(crate) fn tell_error<E: Write>(
     alloc: Global,
-    fault: &Error,
+    error: &Error,
     growth: Option<Growth>,
     err: &mut E,
 ) {
     match growth {
         Some(growth) => put_error(growth.error(), err),
-        None => tell_fault(alloc, fault, err),
+        None => print_error(alloc, error, err),
     }
 }
 
 /// Prints the note on an input that was refused.
 fn note_input<I: Inputs, E: Write>(alloc: Global, inputs: &I, refused: Refused<'_>, err: &mut E) {
-    if let Error::ReadInput(_) = refused.fault {
+    if let Error::ReadInput(_) = refused.error {
         note_first_unread(inputs, err);
         return;
     }
@@ -169,7 +169,7 @@ fn note_input<I: Inputs, E: Write>(alloc: Global, inputs: &I, refused: Refused<'
             place: refused.before,
             executable: executable_of(refused.input),
         };
-        note_place(alloc, inputs, refused.fault, place.as_str(), before, err);
+        note_place(alloc, inputs, refused.error, place.as_str(), before, err);
     }
 }
 
@@ -184,15 +184,15 @@ fn note_first_unread<I: Inputs, E: Write>(inputs: &I, err: &mut E) {
 pub(crate) fn note_place<I: Inputs, E: Write>(
     alloc: Global,
     inputs: &I,
-    fault: &Error,
+    error: &Error,
     place: &str,
     before: Before<'_>,
     err: &mut E,
 ) {
-    match fault {
+    match error {
         Error::DuplicateUnit(unit) => note_twice(alloc, inputs, *unit, place, before, err),
         Error::MixedInputEncodings => note_encodings(inputs, Some(place), err),
-        _ => note_refused(place, fault, inputs.decompresses(), err),
+        _ => note_refused(place, error, inputs.decompresses(), err),
     }
 }
 
@@ -273,7 +273,7 @@ fn first_path(
     let session = BytesSession::new(&bump);
     match named_units(alloc, &session, executable, nameless) {
         Ok(mut units) => first_of(alloc, &mut units, unit),
-        Err(fault) => Err(fault),
+        Err(error) => Err(error),
     }
 }
 
@@ -310,7 +310,7 @@ fn place_of_refused<I: Inputs>(
     refused: Refused<'_>,
 ) -> Result<Option<String>, AllocError> {
     let named = match inputs.last_named() {
-        Some(named) if is_of_object(alloc, refused.fault, refused.room) => Some(named),
+        Some(named) if is_of_object(alloc, refused.error, refused.room) => Some(named),
         _ => None,
     };
     place_in(alloc, refused.input, named)
@@ -335,10 +335,10 @@ fn place_in(
     Ok(Some(place?))
 }
 
-/// Whether a fault is that of an object, and not of the executable that names it: no executable has
+/// Whether an error is that of an object, and not of the executable that names it: no executable has
 /// it, or a new package refuses the object too.
-fn is_of_object(alloc: Global, fault: &Error, object: &[u8]) -> bool {
-    match fault {
+fn is_of_object(alloc: Global, error: &Error, object: &[u8]) -> bool {
+    match error {
         Error::DuplicateUnit(_) | Error::MixedInputEncodings | Error::NumberTooLarge(_, _) => true,
         _ => {
             let bump = Bump::new(alloc);
@@ -353,15 +353,15 @@ fn is_of_object(alloc: Global, fault: &Error, object: &[u8]) -> bool {
 /// read, or which encodings the inputs have.
 pub(crate) fn tell_unfinished<I: Inputs, E: Write>(
     inputs: &I,
-    fault: &Error,
+    error: &Error,
     telling: Telling,
     err: &mut E,
 ) {
-    tell_fault(telling.alloc, fault, err);
+    print_error(telling.alloc, error, err);
     if !telling.notes {
         return;
     }
-    match fault {
+    match error {
         Error::MissingReferencedUnit(_) => note_first_unread(inputs, err),
         Error::MixedInputEncodings => note_encodings(inputs, None, err),
         _ => {}
@@ -369,16 +369,16 @@ pub(crate) fn tell_unfinished<I: Inputs, E: Write>(
 }
 
 /// Prints why an input was refused.
-pub(crate) fn tell_fault<E: Write>(alloc: Global, fault: &Error, err: &mut E) {
-    match fault {
+pub(crate) fn print_error<E: Write>(alloc: Global, error: &Error, err: &mut E) {
+    match error {
         Error::RelocationWithInvalidSymbol(_, _)
         | Error::MultipleRelocations(_, _)
-        | Error::UnsupportedRelocation(_, _) => match printed_fault(alloc, fault) {
+        | Error::UnsupportedRelocation(_, _) => match printed_error(alloc, error) {
             Ok(text) => put_error(text.as_str(), err),
             Err(AllocError) => put_error("Out of memory", err),
         },
         _ => {
-            let _ = writeln!(err, "error: {fault}");
+            let _ = writeln!(err, "error: {error}");
         }
     }
 }
@@ -388,8 +388,8 @@ fn put_error<E: Write>(text: &str, err: &mut E) {
     let _ = writeln!(err, "error: {text}");
 }
 
-/// The text of a fault that has a name out of a file, without control characters.
-fn printed_fault(alloc: Global, fault: &Error) -> Result<String, AllocError> {
-    let text = format!(in alloc; "{fault}")?;
+/// The text of an error that has a name out of a file, without control characters.
+fn printed_error(alloc: Global, error: &Error) -> Result<String, AllocError> {
+    let text = format!(in alloc; "{error}")?;
     printed(alloc, text.as_str())
 }

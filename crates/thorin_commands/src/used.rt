@@ -1,6 +1,7 @@
 //! The sections of an object or a package that are used.
 
-use dwp_elf::{ElfFile, Endianness, Section, SectionKind};
+use dwp_base::SectionKind;
+use dwp_elf::{ElfFile, Endianness, Section};
 use thorin::UnitIndex;
 
 /// The sections of a file that are used. Of strings and of each index that is the first that isn't

@@ -1,7 +1,7 @@
 -- What words ask for.
-use Rattle.std.proofs.Common.{◌≡◌, ◌≢◌, ◌∙◌, ℕ, zero, suc, Bool, true, false, cond, List, [], ◌∷◌}
-use Rattle.std.proofs.Common.{◌++◌, inl, inr, refl, sym, ap}
-use Rattle.std.specs.Prelude.{codes, Some, None, find, slice_get}
+use Rattle.std.proofs.Common.{◌≡◌, ◌≢◌, ◌∙◌, ℕ, Bool, true, false, cond, List, [], ◌∷◌, ◌++◌, inl}
+use Rattle.std.proofs.Common.{inr, refl, sym, ap}
+use Rattle.std.specs.Prelude.{codes, Some, None, find}
 use Rattle.std.specs.Str.{bytes_eq}
 use Rattle.std.specs.Str.Pattern.{FindsTextPrefix, StripsPrefix}
 use Rattle.std.proofs.lemmas.Bool.{false≢true}
@@ -11,6 +11,7 @@ use Rattle.dwp_base.specs.Sections.{short_name, kind_of_short_name, all_kinds, r
 use Rattle.dwp_base.specs.declared.section.SectionKind.{SectionKind}
 use Rattle.dwp_base.proofs.EveryKind.{at-rank}
 use Rattle.thorin_queries.specs.Finding.{HasDigits}
+use Rattle.dwp_index.proofs.HeldContents.{found-none}
 
 -- the digits behind `0x`
 pub digits_behind : (text digits : List ℕ) → StripsPrefix (FindsTextPrefix (codes "0x")) text digits
@@ -32,19 +33,6 @@ found-passes : {X : Type 0} (p : X → Bool) (xs : List X) (x : X) → find p xs
 found-passes p [] x e = absurd cc
 found-passes p (y ∷ ys) x e = found-step p y ys x (p y) refl (found-passes p ys x) e
 
-none-step : {X : Type 0} (p : X → Bool) (y : X) (ys : List X) (x : X) (b : Bool) → p y ≡ b
-    → (find p ys ≡ None → (i : ℕ) → slice_get ys i ≡ Some x → p x ≡ false)
-    → cond b (Some y) (find p ys) ≡ None → (i : ℕ) → slice_get (y ∷ ys) i ≡ Some x → p x ≡ false
-none-step p y ys x true here later e i at = absurd cc
-none-step p y ys x false here later e zero at = ap p (sym (same_Some _ _ at)) ∙ here
-none-step p y ys x false here later e (suc i) at = later e i at
-
-none-passes : {X : Type 0} (p : X → Bool) (xs : List X) (i : ℕ) (x : X) → find p xs ≡ None
-    → slice_get xs i ≡ Some x → p x ≡ false
-none-passes p [] i x e at = absurd cc
-none-passes p (y ∷ ys) i x e at =
-    none-step p y ys x (p y) refl (λ f j there. none-passes p ys j x f there) e i at
-
 -- the kind that was found by its short name
 pub its_short_name : (text : List ℕ) (kind : SectionKind) → kind_of_short_name text ≡ Some kind
     → text ≡ short_name kind
@@ -56,5 +44,5 @@ its_short_name text kind e =
 pub no_short_name : (text : List ℕ) → kind_of_short_name text ≡ None → (kind : SectionKind)
     → text ≢ short_name kind
 no_short_name text e kind same = false≢true
-    (sym (none-passes (λ k. bytes_eq text (short_name k)) all_kinds (rank_of kind) kind e
+    (sym (found-none (λ k. bytes_eq text (short_name k)) all_kinds (rank_of kind) kind e
     (at-rank kind)) ∙ (bytes_eq-Decides text (short_name kind)).1 same)

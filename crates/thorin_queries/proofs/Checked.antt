@@ -1,7 +1,6 @@
 -- What was checked.
 use Rattle.std.proofs.Common.{◌≡◌, ◌∙◌, ℕ, zero, suc, get_or, ◌<◌, Bool, true, false, List, [], ◌∷◌}
-use Rattle.std.proofs.Common.{◌++◌, refl, sym, ap}
-use Rattle.std.proofs.Common.{subst, length, inl, inr, arith, append_assoc}
+use Rattle.std.proofs.Common.{◌++◌, refl, sym, ap, subst, length, inl, inr, arith, append_assoc}
 use Rattle.std.specs.Prelude.{Option, Result, Ok, Err}
 use Rattle.std.specs.Borrow.{Bor}
 use Rattle.std.specs.List.{concat}
@@ -9,16 +8,16 @@ use Rattle.std.specs.declared.io.Error.{Error as IoError}
 use Rattle.std.specs.Io.KnownBytes.{Appends}
 use Rattle.std.proofs.KnownBytes.{Appends-trans, Keeps-refl}
 use Rattle.dwp_elf_read.specs.Elf.{elf_of}
-use Rattle.dwp_elf_read.specs.declared.fault.ReadError.{ReadError as ElfError}
+use Rattle.dwp_elf_read.specs.declared.error.ReadError.{ReadError as ElfError}
 use Rattle.dwp_index.specs.Package.{Package, package_of}
-use Rattle.dwp_index.specs.declared.fault.PackageError.{PackageError}
+use Rattle.dwp_index.specs.declared.error.PackageError.{PackageError}
 use Rattle.dwp_index.specs.declared.units.UnitEntry.{UnitEntry}
 use Rattle.thorin_executable.specs.Skeletons.{skeletons_by}
 use Rattle.thorin_queries.specs.Answers.{FailsToRead}
 use Rattle.thorin_queries.specs.Checking.{counts_line, status_of, has_no_index, TellsTaken}
-use Rattle.thorin_queries.specs.Checking.{TellsExecutable, TellsPackage, IsOfReading}
-use Rattle.thorin_queries.specs.Checking.{IsOfChecking, IsTaken, Finishes}
-use Rattle.thorin_queries.specs.Checking.{ChecksIndexed, ChecksPackage, ChecksBytes, Checks}
+use Rattle.thorin_queries.specs.Checking.{TellsExecutable, TellsPackage, IsOfReading, IsOfChecking}
+use Rattle.thorin_queries.specs.Checking.{IsTaken, Finishes, ChecksIndexed, ChecksPackage}
+use Rattle.thorin_queries.specs.Checking.{ChecksBytes, Checks}
 use Rattle.thorin_queries.specs.Faults.{TellsListed}
 use Rattle.thorin_queries.specs.Listing.{AreByRow}
 use Rattle.thorin_queries.specs.Telling.{IsOfPrinting, Grows, fault_count, counted_on, Progress}

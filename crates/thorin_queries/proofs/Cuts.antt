@@ -1,6 +1,6 @@
 -- Names that are cut.
-use Rattle.std.proofs.Common.{◌≡◌, ◌∙◌, ◌⊎◌, inl, inr, ⊎_elim, ℕ, zero, suc, ◌-◌, ◌<◌, ◌≤◌}
-use Rattle.std.proofs.Common.{List, [], ◌++◌, codes, length, take, drop, true, false, refl, sym, ap}
+use Rattle.std.proofs.Common.{◌≡◌, ◌∙◌, ◌⊎◌, inl, inr, ⊎_elim, ℕ, zero, suc, ◌-◌, ◌<◌, ◌≤◌, List}
+use Rattle.std.proofs.Common.{[], ◌++◌, codes, length, take, drop, true, false, refl, sym, ap}
 use Rattle.std.proofs.Common.{subst, arith, le-leb}
 use Rattle.std.proofs.lemmas.Bool.{lt-leb, lt-ltb, le-ltb, cases_order}
 use Rattle.std.proofs.Math.Nat.{sub-zero}
@@ -17,7 +17,7 @@ IsLastBoundary bs i kept =
     (kept ≤ i) × IsCharBoundary bs kept
     × ((j : ℕ) → kept < j → j ≤ i → ¬ (IsCharBoundary bs j))
 
-order : (a b : ℕ) → (a < b) ⊎ (b ≤ a)
+pub order : (a b : ℕ) → (a < b) ⊎ (b ≤ a)
 order a b = ⊎_elim (λ e. inr (omega arith)) (λ u. ⊎_elim inl (λ g. inr (omega arith)) u)
     (cases_order a b)
 

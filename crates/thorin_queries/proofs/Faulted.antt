@@ -1,37 +1,34 @@
 -- Faults that were told.
-use Rattle.std.proofs.Common.{◌≡◌, ◌≢◌, ℕ, List, [], ◌∷◌, ◌++◌, codes, map, refl, sym}
-use Rattle.std.proofs.Common.{ap, subst}
+use Rattle.std.proofs.Common.{◌≡◌, ◌≢◌, ℕ, List, [], ◌∷◌, ◌++◌, codes, map, refl, sym, ap, subst}
 use Rattle.std.proofs.Common.{inl, inr, arith, ◌+◌}
 use Rattle.std.specs.List.{range_with_len}
 use Rattle.std.proofs.lemmas.List.FromFn.{map-range_with_len_more}
 use Rattle.thorin_queries.specs.Ends.{fault_of}
 use Rattle.thorin_queries.specs.Finding.{string_count}
-use Rattle.thorin_queries.specs.Faults.{string_of}
+use Rattle.thorin_queries.specs.Faults.{string_of, fault_line, fault_lines, TellsText, IsTextOf}
+use Rattle.thorin_queries.specs.Faults.{IsSomeText, TellsOwn, TellsFound, string_text, IsUnreadText}
+use Rattle.thorin_queries.specs.Faults.{TellsString, row_line, AreRows, broken_line, IsBroken}
+use Rattle.thorin_queries.specs.Faults.{TellsUnit, IsUnread, TellsStrings, TellsStringsOf}
+use Rattle.thorin_queries.specs.Faults.{TellsNumbered, TellsItself, TellsInRow, IsOwnText, is_bare}
+use Rattle.thorin_queries.specs.Faults.{has_abbreviations}
 use Rattle.std.specs.Prelude.{Bool, true, false, ◌&&◌, Option, Some, None, is_none, Result, Ok, Err}
 use Rattle.std.specs.Prelude.{IfOk, String, string_bytes}
 use Rattle.std.specs.Global.{Global}
 use Rattle.std.specs.Fmt.{decimal}
 use Rattle.dwp_base.specs.declared.section.SectionKind.{SectionKind}
 use Rattle.dwp_base.specs.declared.section.SectionKind.TheVariants.{Abbrev}
-use Rattle.dwp_bytes.specs.declared.fault.ReadError.{ReadError}
+use Rattle.dwp_bytes.specs.declared.error.ReadError.{ReadError}
 use Rattle.dwp_index.specs.Index.{range_in}
 use Rattle.dwp_index.specs.Package.{Package, FoundUnit, found}
-use Rattle.dwp_index.specs.declared.fault.PackageError.{PackageError}
-use Rattle.dwp_index.specs.declared.fault.PackageError.TheVariants.{Range, Elf, Index, Unit}
+use Rattle.dwp_index.specs.declared.error.PackageError.{PackageError}
+use Rattle.dwp_index.specs.declared.error.PackageError.TheVariants.{Range, Elf, Index, Unit}
 use Rattle.dwp_index.specs.declared.units.UnitEntry.{UnitEntry}
 use Rattle.dwp_table.specs.declared.object.DwarfObject.{DwarfObject}
-use Rattle.thorin_queries.specs.Faults.{fault_line, fault_lines, TellsText, IsTextOf, IsSomeText}
-use Rattle.thorin_queries.specs.Faults.{TellsOwn, TellsFound, string_text}
-use Rattle.thorin_queries.specs.Faults.{IsUnreadText}
-use Rattle.thorin_queries.specs.Faults.{TellsString, row_line, AreRows, broken_line, IsBroken}
-use Rattle.thorin_queries.specs.Faults.{TellsUnit, IsUnread, TellsStrings, TellsStringsOf}
-use Rattle.thorin_queries.specs.Faults.{TellsNumbered, TellsItself, TellsInRow, IsOwnText, is_bare}
-use Rattle.thorin_queries.specs.Faults.{has_abbreviations}
 use Rattle.thorin_queries.specs.Overlaps.{IsClash, overlap_text}
 use Rattle.thorin_queries.specs.Checking.{TellsSomeStrings}
 use Rattle.thorin_queries.specs.Telling.{Outcome, Progress, Told, Tells, Is, IsLine, ForEach}
-use Rattle.thorin_queries.proofs.Told.{none_told, tells_as, rows_more, then_or}
-use Rattle.thorin_queries.proofs.Told.{told_then, for_each_more}
+use Rattle.thorin_queries.proofs.Told.{none_told, tells_as, rows_more, then_or, told_then}
+use Rattle.thorin_queries.proofs.Told.{for_each_more}
 
 -- ---- texts
 

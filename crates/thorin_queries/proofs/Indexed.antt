@@ -1,40 +1,25 @@
 -- The indexes of a package, and the sections that they stand in.
 use Rattle.std.proofs.Common.{◌≡◌, ◌∙◌, ℕ, Bool, true, false, List, [], refl, sym, ap, length}
 use Rattle.std.specs.Prelude.{Option, Some, None, Result, Ok, Err, is_none, is_some, not, ◌&&◌}
-use Rattle.std.specs.Prelude.{◌||◌}
 use Rattle.std.specs.Prelude.{◌==◌}
 use Rattle.dwp_base.specs.Reading.{◌>>=◌}
 use Rattle.dwp_base.specs.declared.endian.Endianness.{Endianness}
-use Rattle.dwp_base.specs.Sections.{name_of, compressed_name_of}
 use Rattle.dwp_base.specs.declared.section.SectionKind.{SectionKind}
 use Rattle.dwp_base.specs.declared.section.SectionKind.TheVariants.{Abbrev, StrOffsets, Str}
 use Rattle.dwp_base.specs.declared.section.SectionKind.TheVariants.{CuIndex, TuIndex}
 use Rattle.dwp_base.proofs.KindsRead.{read-kind}
 use Rattle.dwp_base.proofs.Steps.{bind-was}
-use Rattle.dwp_elf_read.specs.Elf.{Elf, elf_of, name_is}
-use Rattle.dwp_elf_read.specs.declared.fault.ReadError.{ReadError as ElfError}
-use Rattle.dwp_index.specs.Contents.{Sections, content, contents_of, content_among, has_name}
-use Rattle.dwp_index.specs.Contents.{has_older_name}
+use Rattle.dwp_elf_read.specs.Elf.{Elf, elf_of}
+use Rattle.dwp_elf_read.specs.declared.error.ReadError.{ReadError as ElfError}
+use Rattle.dwp_index.specs.Contents.{Sections, content, contents_of, content_among}
 use Rattle.dwp_index.specs.Index.{Index}
 use Rattle.dwp_index.specs.IndexBytes.{index_of}
-use Rattle.dwp_index.specs.Package.{Package, package_of, as_fault, index_in_section}
-use Rattle.dwp_index.specs.declared.fault.PackageError.{PackageError}
-use Rattle.dwp_index.specs.declared.fault.PackageError.TheVariants as faults
+use Rattle.dwp_index.specs.Package.{Package, package_of, as_error, index_in_section}
+use Rattle.dwp_index.specs.declared.error.PackageError.{PackageError}
+use Rattle.dwp_index.specs.declared.error.PackageError.TheVariants as faults
 use Rattle.thorin_queries.specs.Checking.{has_no_index}
 use Rattle.thorin_queries.specs.Indexes.{IsIndexIn, HasIndexes}
-
-ok_same : {X E : Type 0} (x y : X) (r : Result X E) → r ≡ Ok x → r ≡ Ok y → x ≡ y
-ok_same x y r e f = cc
-
-pub called_is_named : (kind : SectionKind) (name : Option (List ℕ))
-    → (name_is (name_of kind) name || name_is (compressed_name_of kind) name) ≡ has_name kind name
-called_is_named kind None = refl
-called_is_named kind (Some own) = refl
-
-pub called_is_older : (kind : SectionKind) (name : Option (List ℕ))
-    → name_is (compressed_name_of kind) name ≡ has_older_name kind name
-called_is_older kind None = refl
-called_is_older kind (Some own) = refl
+use Rattle.thorin_queries.proofs.Reached.{ok_same}
 
 -- ---- whether there is an index
 
@@ -43,7 +28,7 @@ by_length : (order : Endianness) (bytes : List ℕ) (index : Option Index) (b : 
 unfolding index_in_section
 by_length order bytes index true e p = let none : None ≡ index = cc (rw e at p) in ap is_some none
 by_length order bytes index false e p =
-    let found = bind-was (as_fault faults.Index (index_of order bytes)) (λ i. Ok (Some i)) index
+    let found = bind-was (as_error faults.Index (index_of order bytes)) (λ i. Ok (Some i)) index
     (rw e at p) in
     let same : Some found.0 ≡ index = cc in ap is_some same
 
@@ -102,7 +87,7 @@ made_of file pack contents (Ok x) (Ok y) e =
 
 indexes_by : (file : Elf) (pack : Package) (r : Result Sections ElfError)
     → contents_of file.sections ≡ r
-    → (as_fault faults.Elf r >>= λ contents.
+    → (as_error faults.Elf r >>= λ contents.
     index_in_section file.order (content contents CuIndex) >>= λ compilations.
     index_in_section file.order (content contents TuIndex) >>= λ types.
     Ok (record {

@@ -3,7 +3,6 @@ mod Checked
 mod Cuts
 mod Decimals
 mod Faulted
-mod FirstSection
 mod Hex
 mod Indexed
 mod Lines

@@ -8,18 +8,14 @@ use Rattle.std.proofs.KnownBytes.{Appends-nil, Keeps-refl}
 use Rattle.std.proofs.lemmas.Bool.{true≢false}
 use Rattle.std.proofs.lemmas.List.{append-nil}
 use Rattle.dwp_index.specs.Package.{Package, package_of}
-use Rattle.dwp_index.specs.declared.fault.PackageError.{PackageError}
+use Rattle.dwp_index.specs.declared.error.PackageError.{PackageError}
 use Rattle.dwp_index.specs.declared.units.UnitEntry.{UnitEntry}
 use Rattle.thorin_queries.specs.Answers.{Comes, FailsToRead, OrNoMemory}
-use Rattle.thorin_queries.specs.Listing.{AreByRow, ListView, Lines, lines_of, after_lines}
-use Rattle.thorin_queries.specs.Listing.{IsListed, view_of, view_by, HasStrings}
+use Rattle.thorin_queries.specs.Listing.{AreByRow, ListView, Lines, lines_of, after_lines, IsListed}
+use Rattle.thorin_queries.specs.Listing.{view_of, ListsPackage, ListsBytes, Lists}
 use Rattle.thorin_queries.specs.declared.listing.ListForm.{ListForm}
-use Rattle.thorin_queries.specs.declared.names.Strings.{Strings}
-use Rattle.thorin_queries.specs.Listing.{ListsPackage, ListsBytes, Lists}
 use Rattle.thorin_queries.specs.declared.output.Failure.{Failure}
 use Rattle.thorin_queries.specs.declared.output.Failure.TheVariants as failures
-use Rattle.dwp_index.specs.Contents.{content}
-use Rattle.dwp_base.specs.declared.section.SectionKind.TheVariants.{Str}
 
 -- ---- the text of a list
 
@@ -101,15 +97,6 @@ entries_listed form pack old new result entries given text lent view seen by_row
           (record { printed = text; answer = given })) seen listed;
       comes = subst (λ l. Comes result (record { printed = l; answer = given }) old new) same comes;
     })
-
--- the strings at hand are those of the package
-pub strings_seen : (form : ListForm) (pack : Package) (strings : Strings) (bytes : List ℕ)
-    → ((p : Package) → package_of bytes ≡ Ok p → HasStrings strings p) → package_of bytes ≡ Ok pack
-    → view_by form strings ≡ view_of form pack
-strings_seen form pack strings bytes told is =
-    let has = told pack is in
-    let order : strings.order ≡ pack.order = has.0 in
-    let same : strings.bytes.now ≡ content pack.contents Str = has.1 in cc
 
 pub bytes_listed : (form : ListForm) (pack : Package) (p : Result Package PackageError)
     (old new : Option (List ℕ)) (result : Result ℕ Failure) → p ≡ Ok pack

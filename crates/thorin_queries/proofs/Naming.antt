@@ -1,15 +1,11 @@
 -- What is read at most.
-use Rattle.std.proofs.Common.{◌≡◌, ◌∙◌, ◌⊎◌, inl, inr, ⊎_elim, ℕ, ◌<◌, ◌≤◌, length, sym, ap}
-use Rattle.std.proofs.Common.{arith}
+use Rattle.std.proofs.Common.{◌≡◌, ◌∙◌, ◌⊎◌, ⊎_elim, ℕ, length, sym, ap, arith}
 use Rattle.std.specs.Prelude.{Err}
-use Rattle.std.proofs.lemmas.Bool.{le-ltb, cases_order}
+use Rattle.std.proofs.lemmas.Bool.{le-ltb}
 use Rattle.std.proofs.lemmas.List.{take_all}
 use Rattle.dwp_bytes.specs.Input.{Input, front, truncate_at}
-use Rattle.dwp_bytes.specs.declared.fault.ReadError.{ReadError}
-
-order : (a b : ℕ) → (a < b) ⊎ (b ≤ a)
-order a b = ⊎_elim (λ e. inr (omega arith)) (λ u. ⊎_elim inl (λ g. inr (omega arith)) u)
-    (cases_order a b)
+use Rattle.dwp_bytes.specs.declared.error.ReadError.{ReadError}
+use Rattle.thorin_queries.proofs.Cuts.{order}
 
 -- what has fewer bytes is its own beginning
 pub kept_whole : (n : ℕ) (i j : Input) (e : ReadError) → truncate_at n i ≡ Err e → j ≡ i

@@ -1,15 +1,12 @@
 -- What was printed, or begun.
-use Rattle.std.proofs.Common.{◌≡◌, ℕ, Bool, List, length, take, sym, ◌∙◌, ap}
-use Rattle.std.proofs.Common.{subst}
-use Rattle.std.proofs.Common.{arith, refl}
-use Rattle.std.specs.Prelude.{Option, Some, None, Result, Ok, Err, OnErr}
+use Rattle.std.proofs.Common.{◌≡◌, ℕ, Bool, List, length, take, sym, ◌∙◌, ap, subst, arith, refl}
 use Rattle.std.proofs.Common.{inl, inr}
+use Rattle.std.specs.Prelude.{Option, Some, None, Result, Ok, Err, OnErr}
 use Rattle.std.specs.declared.io.Error.{Error as IoError}
 use Rattle.std.specs.Io.KnownBytes.{Appends, Keeps}
 use Rattle.std.proofs.KnownBytes.{Appends-kept, Appends-nil, Keeps-refl}
-use Rattle.std.proofs.lemmas.List.{take_all}
+use Rattle.std.proofs.lemmas.List.{take_all, append-nil}
 use Rattle.std.proofs.Math.Seq.{take-append_seam}
-use Rattle.std.proofs.lemmas.List.{append-nil}
 use Rattle.dwp_elf.proofs.SoFar.{SoFar, Keeps-from_none}
 use Rattle.thorin_queries.specs.Answers.{Answer, HasBeginning, Comes, Reads, FailsToRead}
 use Rattle.thorin_queries.specs.Finding.{Seeks, FindsAsked}

@@ -1,7 +1,7 @@
 -- Which strings end, as the last zero byte of all tells.
-use Rattle.std.proofs.Common.{◌≡◌, ◌∙◌, ℕ, ◌+◌, ◌-◌, ◌<◌, ◌≤◌, eqb, true, false, List, length}
-use Rattle.std.proofs.Common.{drop, get_or, Option, Some, None, Result, Ok, Err, Decides, ⊎_elim}
-use Rattle.std.proofs.Common.{ap, sym, subst, refl, arith}
+use Rattle.std.proofs.Common.{◌≡◌, ◌∙◌, ℕ, ◌+◌, ◌-◌, ◌<◌, ◌≤◌, eqb, true, false, List, length, drop}
+use Rattle.std.proofs.Common.{get_or, Option, Some, None, Result, Ok, Err, Decides, ⊎_elim, ap, sym}
+use Rattle.std.proofs.Common.{subst, refl, arith}
 use Rattle.std.specs.List.{list_any, HoldsAt}
 use Rattle.std.proofs.lemmas.List.{get_or_default, get_or-drop, length-drop}
 use Rattle.std.proofs.lemmas.Bool.{le-ltb, lt-ltb, ltb-true, cases_lt, false_from_ne_true, eq-eqb}
@@ -10,26 +10,25 @@ use Rattle.std.proofs.lemmas.Bool.Decides.{Decides-by_or, Decides-eqb}
 use Rattle.memchr.specs.Find.{IsLastByte, Passes, Nowhere, is_byte}
 use Rattle.dwp_base.specs.Reading.{◌>>=◌}
 use Rattle.dwp_base.specs.declared.endian.Endianness.{Endianness}
-use Rattle.dwp_base.specs.declared.section.SectionKind.TheVariants.{Types}
+use Rattle.dwp_base.specs.declared.section.SectionKind.TheVariants.{Types, Str}
 use Rattle.dwp_bytes.specs.StringOffsets.{string_at, entry_count}
 use Rattle.dwp_bytes.specs.declared.encoding.Encoding.{Encoding}
-use Rattle.dwp_bytes.specs.declared.fault.ReadError.{ReadError}
-use Rattle.dwp_bytes.specs.declared.fault.ReadError.TheVariants.{OffsetOutOfRange, NoTerminator}
+use Rattle.dwp_bytes.specs.declared.error.ReadError.{ReadError}
+use Rattle.dwp_bytes.specs.declared.error.ReadError.TheVariants.{OffsetOutOfRange, NoTerminator}
 use Rattle.dwp_index.specs.Index.{Index, Ranges, row_in, range_in}
-use Rattle.dwp_index.specs.Package.{Package, FoundUnit, as_fault, first_outside, all_inside}
-use Rattle.dwp_index.specs.Package.{place_of, kind_of, row_bytes, encoding_in, unit_in}
-use Rattle.dwp_index.specs.Package.{unit_at_row, unit_found, found_by, index_for, found_counted}
-use Rattle.dwp_index.specs.Package.{found}
+use Rattle.dwp_index.specs.Package.{Package, FoundUnit, as_error, first_outside, all_inside}
+use Rattle.dwp_index.specs.Package.{place_of, kind_of, row_bytes, encoding_in, unit_in, unit_at_row}
+use Rattle.dwp_index.specs.Package.{unit_found, found_by, index_for, found_counted, found}
 use Rattle.dwp_index.specs.Strings.{entry_in, string_for, string_in}
-use Rattle.dwp_index.specs.declared.fault.PackageError.{PackageError}
-use Rattle.dwp_index.specs.declared.fault.PackageError.TheVariants as faults
+use Rattle.dwp_index.specs.declared.error.PackageError.{PackageError}
+use Rattle.dwp_index.specs.declared.error.PackageError.TheVariants as faults
 use Rattle.dwp_table.specs.Objects.{identifier_of}
 use Rattle.dwp_table.specs.Probing.{found_row, look_count}
 use Rattle.dwp_table.specs.declared.object.DwarfObject.{DwarfObject}
 use Rattle.thorin_queries.specs.Ends.{IsReach, HasEnds, is_inside, fault_of}
 use Rattle.thorin_queries.specs.declared.ends.Ends.{Ends}
 use Rattle.dwp_index.specs.Contents.{content}
-use Rattle.dwp_base.specs.declared.section.SectionKind.TheVariants.{Str}
+use Rattle.dwp_base.proofs.Steps.{bind-was}
 
 -- whether a zero is there
 any_zero : (xs : List ℕ) → Decides (list_any (λ b. eqb b 0) xs) ((k : ℕ) × (k < length xs)
@@ -131,12 +130,7 @@ of_unit ends pack unit h e f = record {
 
 -- ---- a unit that is found has the byte order and the sections of its package
 
-bind_ok : {A B E : Type 0} (r : Result A E) (f : A → Result B E) (y : B) → (r >>= f) ≡ Ok y
-    → (x : A) × (r ≡ Ok x) × (f x ≡ Ok y)
-bind_ok (Ok x) f y e = (x, refl, e)
-bind_ok (Err d) f y e = absurd cc
-
-ok_same : {X E : Type 0} (x y : X) (r : Result X E) → r ≡ Ok x → r ≡ Ok y → x ≡ y
+pub ok_same : {X E : Type 0} (x y : X) (r : Result X E) → r ≡ Ok x → r ≡ Ok y → x ≡ y
 ok_same x y r e f = cc
 
 abbrev IsOfPackage : Package → FoundUnit → Type 0
@@ -149,8 +143,8 @@ module _ (pack : Package) (object : DwarfObject) (unit : FoundUnit) where
   of_row number row e =
       let place = place_of object (range_in row Types) in
       let bytes = row_bytes pack.contents row (kind_of place) in
-      let inside = bind_ok (all_inside (first_outside pack.contents row)) _ unit e in
-      let read = bind_ok (as_fault faults.Unit (encoding_in pack.order place bytes)) _ unit
+      let inside = bind-was (all_inside (first_outside pack.contents row)) _ unit e in
+      let read = bind-was (as_error faults.Unit (encoding_in pack.order place bytes)) _ unit
       inside.2 in
       let made = ok_same {E = PackageError} _ unit _ refl read.2 in
       (sym (ap (λ (u : FoundUnit). u.order) made), sym (ap (λ (u : FoundUnit). u.contents) made))
@@ -159,8 +153,8 @@ module _ (pack : Package) (object : DwarfObject) (unit : FoundUnit) where
       → unit_at_row pack object index number count ≡ Ok x → x.0 ≡ Some unit → IsOfPackage pack unit
   unfolding unit_at_row
   at_row index number count x e is =
-      let row = bind_ok (as_fault faults.Index (row_in index number)) _ x e in
-      let read = bind_ok (unit_in pack object number row.0) _ x row.2 in
+      let row = bind-was (as_error faults.Index (row_in index number)) _ x e in
+      let read = bind-was (unit_in pack object number row.0) _ x row.2 in
       let made = ok_same {E = PackageError} _ x _ refl read.2 in
       let same : read.0 ≡ unit = cc in
       of_row number row.0 (read.1 ∙ ap Ok same)
@@ -190,7 +184,7 @@ module _ (pack : Package) (object : DwarfObject) (unit : FoundUnit) where
   found_in : found pack object ≡ Ok (Some unit) → IsOfPackage pack unit
   unfolding found
   found_in e =
-      let counts = bind_ok (found_counted pack object) _ (Some unit) e in
+      let counts = bind-was (found_counted pack object) _ (Some unit) e in
       counted counts.0 counts.1 (ok_same {E = PackageError} _ (Some unit) _ refl counts.2)
 
   pub of_found : (ends : Ends) → HasEnds ends pack.order (content pack.contents Str)

@@ -5,10 +5,10 @@ use Rattle.std.proofs.lemmas.List.{append-nil}
 use Rattle.std.specs.Prelude.{Option, Some, None, Result, Ok, Err, OnOk}
 use Rattle.std.specs.List.{flat_map}
 use Rattle.dwp_index.specs.Package.{Package, FoundUnit, found}
-use Rattle.dwp_index.specs.declared.fault.PackageError.{PackageError}
+use Rattle.dwp_index.specs.declared.error.PackageError.{PackageError}
 use Rattle.thorin_executable.specs.Skeletons.{Named, Listed}
 use Rattle.thorin_errors.specs.Answers.{MemoryAside}
-use Rattle.thorin_errors.specs.Fault.{Fault, fault_of}
+use Rattle.thorin_errors.specs.Errors.{ErrorValue, error_of}
 use Rattle.thorin_errors.specs.declared.error.Error.{Error}
 use Rattle.thorin_errors.specs.declared.error.Error.TheVariants.{Memory}
 use Rattle.thorin_queries.specs.Faults.{fault_line, missing_text, missing_lines, IsBroken}
@@ -64,7 +64,7 @@ module _ (pack : Package) (executable : List ℕ) (all : Listed) where
       (h.on [] (subst (λ l. TellsListed pack executable l []) (sym e)
       (record { ended = []; end = refl; all = refl })))
 
-  pub on_broken : (before : Listed) (fault : Fault) → before ≡ ([], Some fault)
+  pub on_broken : (before : Listed) (fault : ErrorValue) → before ≡ ([], Some fault)
       → (ls ms : List (List ℕ)) → GoesOn before ls → IsBroken executable ms
       → TellsListed pack executable all (ls ++ ms)
   on_broken before fault e ls ms h k =
@@ -72,7 +72,7 @@ module _ (pack : Package) (executable : List ℕ) (all : Listed) where
       (record { ended = ms; end = k; all = refl }))
 
 -- a list that begins with its fault
-pub only_broken : (pack : Package) (executable : List ℕ) (listed : Listed) (fault : Fault)
+pub only_broken : (pack : Package) (executable : List ℕ) (listed : Listed) (fault : ErrorValue)
     (a b : Progress) (result : Outcome) → listed ≡ ([], Some fault)
     → Tells (IsBroken executable) a b result → Tells (TellsListed pack executable listed) a b result
 only_broken pack executable listed fault a b result e h =
@@ -83,11 +83,11 @@ only_broken pack executable listed fault a b result e h =
 module _ (pack : Package) (executable : List ℕ) (listed : Listed) (a b : Progress) where
   -- the fault that a list begins with was told
   pub read_broken : (error : Error) (result : Outcome)
-      → MemoryAside error (listed ≡ ([], Some (fault_of error)))
+      → MemoryAside error (listed ≡ ([], Some (error_of error)))
       → OnOk result (error ≢ Memory) → Tells (IsBroken executable) a b result
       → Tells (TellsListed pack executable listed) a b result
   read_broken error (Ok done) aside known h =
-      only_broken pack executable listed (fault_of error) a b (Ok done) (aside known) h
+      only_broken pack executable listed (error_of error) a b (Ok done) (aside known) h
   read_broken error (Err failure) aside known h = h
 
   pub opened : (result : Outcome) (began : Listed) → listed ≡ began
@@ -99,12 +99,12 @@ module _ (pack : Package) (executable : List ℕ) (listed : Listed) (a b : Progr
 -- the fault that ends a list was told
 pub end_broken : (pack : Package) (executable : List ℕ) (all before : Listed) (a b c : Progress)
     (error : Error) (result : Outcome)
-    → MemoryAside error (before ≡ ([], Some (fault_of error))) → OnOk result (error ≢ Memory)
+    → MemoryAside error (before ≡ ([], Some (error_of error))) → OnOk result (error ≢ Memory)
     → Told (GoesOn pack executable all before) a b → Tells (IsBroken executable) b c result
     → Tells (TellsListed pack executable all) a c result
 end_broken pack executable all before a b c error (Ok done) aside known p q =
     told_then (GoesOn pack executable all before) (IsBroken executable)
     (TellsListed pack executable all)
-    (on_broken pack executable all before (fault_of error) (aside known)) p q
+    (on_broken pack executable all before (error_of error) (aside known)) p q
 end_broken pack executable all before a b c error (Err failure) aside known p q =
     (q.0, stopped_behind c.written p q.1)

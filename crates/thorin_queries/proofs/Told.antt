@@ -1,7 +1,6 @@
 -- Lines that were told.
 use Rattle.std.proofs.Common.{◌≡◌, ◌∙◌, ℕ, ◌+◌, ◌-◌, ◌^◌, ◌<◌, ◌≤◌, List, [], ◌∷◌, ◌++◌, length}
-use Rattle.std.proofs.Common.{map, min, refl}
-use Rattle.std.proofs.Common.{sym, ap, subst, arith, append_assoc, take, get_or}
+use Rattle.std.proofs.Common.{map, min, refl, sym, ap, subst, arith, append_assoc, take, get_or}
 use Rattle.std.specs.Prelude.{Option, Result, Ok, Err, OnOk}
 use Rattle.std.specs.List.{concat}
 use Rattle.std.specs.Io.KnownBytes.{Appends, Keeps}

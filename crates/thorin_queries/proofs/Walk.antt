@@ -1,12 +1,11 @@
 -- The lines of a list, slot by slot.
-use Rattle.std.proofs.Common.{◌≡◌, ℕ, Bool, true, false, List, [], ◌∷◌, ◌++◌, ◌∙◌, refl, sym}
-use Rattle.std.proofs.Common.{ap}
+use Rattle.std.proofs.Common.{◌≡◌, ℕ, Bool, true, false, List, [], ◌∷◌, ◌++◌, ◌∙◌, refl, sym, ap}
 use Rattle.std.proofs.Common.{append_assoc, subst}
 use Rattle.std.specs.Prelude.{Option, Result, Ok, Err}
 use Rattle.std.proofs.lemmas.Bool.{true≢false}
 use Rattle.std.proofs.lemmas.List.{append-nil}
 use Rattle.dwp_index.specs.Package.{Package, FoundUnit, found}
-use Rattle.dwp_index.specs.declared.fault.PackageError.{PackageError}
+use Rattle.dwp_index.specs.declared.error.PackageError.{PackageError}
 use Rattle.dwp_index.specs.declared.units.UnitEntry.{UnitEntry}
 use Rattle.thorin_queries.specs.Listing.{ListView, Lines, lines_of, slot_line, AddsLine}
 use Rattle.thorin_queries.specs.Listing.{behind_line}
@@ -21,11 +20,6 @@ pub record LinesSoFar (view : ListView) (pack : Package) (all rest : List UnitEn
   pub done : List ℕ
   pub split : lines_of view pack all ≡ behind done (lines_of view pack rest)
   pub added : new ≡ old ++ done
-
-pub so_far_none : (view : ListView) (pack : Package) (all : List UnitEntry) (old : List ℕ)
-    → LinesSoFar view pack all all old old
-so_far_none view pack all old =
-    record { done = []; split = refl; added = sym (append-nil old) }
 
 module _ (view : ListView) (pack : Package) (all : List UnitEntry) (entry : UnitEntry)
     (rest : List UnitEntry) (old middle new : List ℕ) where
@@ -81,14 +75,3 @@ module _ (view : ListView) (pack : Package) (all : List UnitEntry) (entry : Unit
       → (new ≡ old ++ (lines_of view pack all).printed)
       × (false ≡ (lines_of view pack all).is_all)
   so_far_stop h s = stop (found pack entry.object) refl h s
-
--- all slots were gone through
-pub so_far_all : (view : ListView) (pack : Package) (all : List UnitEntry) (old new : List ℕ)
-    → LinesSoFar view pack all [] old new
-    → (new ≡ old ++ (lines_of view pack all).printed)
-    × (true ≡ (lines_of view pack all).is_all)
-so_far_all view pack all old new s = (
-  s.added ∙ ap (λ l. old ++ l) (sym (append-nil s.done))
-      ∙ ap (λ l. old ++ l) (sym (ap (λ l. l.printed) s.split)),
-  sym (ap (λ l. l.is_all) s.split),
-)

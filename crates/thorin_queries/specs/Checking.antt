@@ -8,9 +8,9 @@ use Rattle.std.specs.declared.io.Error.{Error as IoError}
 use Rattle.std.specs.Io.KnownBytes.{Appends, Keeps}
 use Rattle.dwp_base.specs.Sections.{name_of}
 use Rattle.dwp_base.specs.declared.section.SectionKind.{SectionKind}
-use Rattle.dwp_base.specs.declared.section.SectionKind.TheVariants.{Abbrev, Str}
+use Rattle.dwp_base.specs.declared.section.SectionKind.TheVariants.{Abbrev, Str, StrOffsets}
 use Rattle.dwp_index.specs.Package.{Package, package_of, found}
-use Rattle.dwp_index.specs.declared.fault.PackageError.{PackageError}
+use Rattle.dwp_index.specs.declared.error.PackageError.{PackageError}
 use Rattle.dwp_index.specs.declared.units.UnitEntry.{UnitEntry}
 use Rattle.dwp_table.specs.declared.object.DwarfObject.{DwarfObject}
 use Rattle.thorin_executable.specs.Skeletons.{skeletons_by}
@@ -18,13 +18,11 @@ use Rattle.thorin_queries.specs.Answers.{RefusesFile}
 use Rattle.thorin_queries.specs.Faults.{TellsUnit, TellsStringsOf, AreRows, TellsListed}
 use Rattle.thorin_queries.specs.Lines.{line_end}
 use Rattle.thorin_queries.specs.Listing.{AreByRow}
-use Rattle.thorin_queries.specs.Telling.{Grows, InTurn, ForEach, Is}
-use Rattle.thorin_queries.specs.Telling.{IsOfPrinting, fault_count}
+use Rattle.thorin_queries.specs.Telling.{Grows, InTurn, ForEach, Is, IsOfPrinting, fault_count}
 use Rattle.thorin_queries.specs.declared.executables.Reading.{Reading}
 use Rattle.thorin_queries.specs.declared.output.Failure.{Failure}
 use Rattle.thorin_queries.specs.declared.output.Failure.TheVariants as failures
 use Rattle.dwp_index.specs.Contents.{content}
-use Rattle.dwp_base.specs.declared.section.SectionKind.TheVariants.{StrOffsets}
 
 -- ---- the last line
 

@@ -7,18 +7,18 @@ use Rattle.std.specs.Global.{Global}
 use Rattle.std.specs.List.{flat_map, range_with_len}
 use Rattle.dwp_base.specs.Sections.{name_of}
 use Rattle.dwp_base.specs.declared.section.SectionKind.{SectionKind}
-use Rattle.dwp_base.specs.declared.section.SectionKind.TheVariants.{Abbrev, StrOffsets}
-use Rattle.dwp_bytes.specs.declared.fault.ReadError.{ReadError}
+use Rattle.dwp_base.specs.declared.section.SectionKind.TheVariants.{Abbrev, StrOffsets, Str}
+use Rattle.dwp_bytes.specs.declared.error.ReadError.{ReadError}
 use Rattle.dwp_index.specs.Index.{range_in}
 use Rattle.dwp_index.specs.Package.{Package, FoundUnit, found, row_bytes}
 use Rattle.dwp_index.specs.Strings.{string_in}
-use Rattle.dwp_index.specs.declared.fault.PackageError.{PackageError}
-use Rattle.dwp_index.specs.declared.fault.PackageError.TheVariants.{Range}
+use Rattle.dwp_index.specs.declared.error.PackageError.{PackageError}
+use Rattle.dwp_index.specs.declared.error.PackageError.TheVariants.{Range}
 use Rattle.dwp_index.specs.declared.units.UnitEntry.{UnitEntry}
 use Rattle.dwp_table.specs.Objects.{identifier_of}
 use Rattle.dwp_table.specs.declared.object.DwarfObject.{DwarfObject}
 use Rattle.thorin_executable.specs.Skeletons.{Named, Listed}
-use Rattle.thorin_errors.specs.Fault.{Fault}
+use Rattle.thorin_errors.specs.Errors.{ErrorValue}
 use Rattle.thorin_queries.specs.Finding.{string_count}
 use Rattle.thorin_queries.specs.Lines.{hex16, line_end, short_kind}
 use Rattle.thorin_queries.specs.Overlaps.{IsClash, overlap_text}
@@ -28,7 +28,6 @@ use Rattle.thorin_queries.specs.Telling.{Tells}
 use Rattle.thorin_queries.specs.declared.output.Failure.TheVariants as failures
 use Rattle.thorin_words.specs.Printed.{printed}
 use Rattle.dwp_index.specs.Contents.{content}
-use Rattle.dwp_base.specs.declared.section.SectionKind.TheVariants.{Str}
 
 -- ---- units
 
@@ -203,7 +202,7 @@ broken_line executable text = shown executable ++ (codes ": " ++ (printed text +
 abbrev pub IsBroken : (executable : List ℕ) → List (List ℕ) → Type 0
 IsBroken executable lines = (text : List ℕ) × IsLine (broken_line executable text) lines
 
-abbrev pub TellsEnd : (executable : List ℕ) → Option Fault → List (List ℕ) → Type 0
+abbrev pub TellsEnd : (executable : List ℕ) → Option ErrorValue → List (List ℕ) → Type 0
 TellsEnd executable None lines = IsNone lines
 TellsEnd executable (Some fault) lines = IsBroken executable lines
 

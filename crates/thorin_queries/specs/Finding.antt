@@ -8,17 +8,17 @@ use Rattle.std.specs.declared.io.Error.{Error as IoError}
 use Rattle.std.specs.Io.KnownBytes.{Keeps}
 use Rattle.dwp_base.specs.declared.section.SectionKind.{SectionKind}
 use Rattle.dwp_base.specs.Sections.{short_name}
-use Rattle.dwp_base.specs.declared.section.SectionKind.TheVariants.{StrOffsets}
+use Rattle.dwp_base.specs.declared.section.SectionKind.TheVariants.{StrOffsets, Str}
 use Rattle.dwp_base.specs.declared.section.Contribution.{Contribution}
 use Rattle.dwp_bytes.specs.StringOffsets.{entry_count}
 use Rattle.dwp_bytes.specs.declared.encoding.Encoding.{Encoding}
 use Rattle.dwp_bytes.specs.declared.encoding.Format.{Format}
 use Rattle.dwp_bytes.specs.declared.encoding.Format.TheVariants.{Dwarf32, Dwarf64}
-use Rattle.dwp_bytes.specs.declared.fault.ReadError.{ReadError}
+use Rattle.dwp_bytes.specs.declared.error.ReadError.{ReadError}
 use Rattle.dwp_index.specs.Index.{range_in}
 use Rattle.dwp_index.specs.Package.{Package, FoundUnit, package_of, found_counted, row_bytes}
 use Rattle.dwp_index.specs.Strings.{string_in}
-use Rattle.dwp_index.specs.declared.fault.PackageError.{PackageError}
+use Rattle.dwp_index.specs.declared.error.PackageError.{PackageError}
 use Rattle.dwp_table.specs.Columns.{contribution_kinds}
 use Rattle.dwp_table.specs.Objects.{identifier_of}
 use Rattle.dwp_table.specs.declared.object.DwarfObject.{DwarfObject}
@@ -34,7 +34,6 @@ use Rattle.thorin_queries.specs.declared.wanted.Printing.TheVariants.{AllOf, Str
 use Rattle.thorin_queries.specs.declared.output.Failure.{Failure}
 use Rattle.thorin_queries.specs.declared.output.Failure.TheVariants as failures
 use Rattle.dwp_index.specs.Contents.{content}
-use Rattle.dwp_base.specs.declared.section.SectionKind.TheVariants.{Str}
 
 -- ---- the unit that is asked for
 

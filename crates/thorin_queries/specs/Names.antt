@@ -12,7 +12,7 @@ use Rattle.dwp_base.specs.declared.section.SectionKind.TheVariants.{Abbrev, StrO
 use Rattle.dwp_bytes.specs.Input.{Input, section, front, skip_at, byte_at, number_at}
 use Rattle.dwp_bytes.specs.Leb.{uleb_at}
 use Rattle.dwp_bytes.specs.StringOffsets.{string_at}
-use Rattle.dwp_bytes.specs.declared.fault.ReadError.{ReadError}
+use Rattle.dwp_bytes.specs.declared.error.ReadError.{ReadError}
 use Rattle.dwp_dwarf.specs.Abbreviations.{declaration}
 use Rattle.dwp_dwarf.specs.Entries.{DebugAttribute, DebugEntry, entry, number_read, root_code_at}
 use Rattle.dwp_dwarf.specs.Offsets.{from_at}

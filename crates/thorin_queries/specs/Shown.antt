@@ -1,6 +1,5 @@
 -- A name out of a file or of the command line as it is printed.
-use Rattle.std.specs.Prelude.{ℕ, ◌-◌, List, ◌++◌, codes, length, take, drop, nat_le}
-use Rattle.std.specs.Prelude.{if◌then◌else◌}
+use Rattle.std.specs.Prelude.{ℕ, ◌-◌, List, ◌++◌, codes, length, take, drop, nat_le, if◌then◌else◌}
 use Rattle.std.specs.Fmt.Cut.{floor_char_boundary}
 use Rattle.thorin_words.specs.Printed.{printed}
 

@@ -8,9 +8,10 @@ ghost use Rattle.dwp_index.specs.Index.{range_in};
 ghost use Rattle.dwp_index.specs.Package.{place_of};
 ghost use Rattle.thorin_queries.specs.Names.{header_in};
 
+use dwp_base::SectionKind;
 use dwp_bytes::Reader;
 use dwp_dwarf::{ReadError, SliceReader, UnitHeader, UnitHeaders, UnitSection};
-use dwp_elf::{Contribution, Endianness, SectionKind};
+use dwp_elf::{Contribution, Endianness};
 use dwp_index::PackagedUnit;
 use dwp_table::DwarfObject;
 use std::alloc::{AllocError, Global};

@@ -9,8 +9,9 @@ ghost use Rattle.thorin_queries.specs.Listing.{HasStrings};
 ghost use Rattle.dwp_index.specs.Contents.{content};
 
 use crate::names::{Strings, entry_in};
+use dwp_base::SectionKind;
 use dwp_bytes::ReadError;
-use dwp_elf::{Endianness, SectionKind};
+use dwp_elf::Endianness;
 use dwp_index::PackagedUnit;
 use memchr::memrchr;
 

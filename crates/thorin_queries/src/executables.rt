@@ -6,8 +6,7 @@ ghost use Rattle.thorin_executable.specs.Skeletons.{skeletons_by};
 ghost use Rattle.thorin_errors.specs.declared.error.Error.TheVariants.{Memory};
 ghost use Rattle.thorin_queries.specs.Checking.{IsOfChecking, IsOfReading, TellsExecutables};
 ghost use Rattle.thorin_queries.specs.Checking.{TellsExecutable, TellsTaken};
-ghost use Rattle.thorin_queries.specs.Faults.{TellsListed, missing_text};
-ghost use Rattle.thorin_queries.specs.Faults.{missing_lines, IsTextOf};
+ghost use Rattle.thorin_queries.specs.Faults.{TellsListed, missing_text, missing_lines, IsTextOf};
 ghost use Rattle.thorin_queries.specs.Faults.{broken_line, IsBroken};
 ghost use Rattle.thorin_queries.specs.Telling.{progress, Tells, TellsOr, Is};
 

@@ -4,9 +4,9 @@ ghost use Rattle.std.specs.Prelude.{◌≡◌, ◌++◌, [], IfOk, OnOk, MatchRe
 ghost use Rattle.std.specs.Option.{option_copied};
 ghost use Rattle.thorin_queries.specs.Answers.{anything, Reads, Comes, refused};
 ghost use Rattle.thorin_queries.specs.Faults.{string_of};
-ghost use Rattle.thorin_queries.specs.Finding.{Finds, Seeks};
-ghost use Rattle.thorin_queries.specs.Finding.{string_count, string_line, string_answer};
-ghost use Rattle.thorin_queries.specs.Finding.{find_answer, found_answer, wanted_answer};
+ghost use Rattle.thorin_queries.specs.Finding.{Finds, Seeks, string_count, string_line};
+ghost use Rattle.thorin_queries.specs.Finding.{string_answer, find_answer, found_answer};
+ghost use Rattle.thorin_queries.specs.Finding.{wanted_answer};
 ghost use Rattle.dwp_index.specs.Package.{found_counted};
 ghost use Rattle.thorin_queries.specs.Lines.{short_kind};
 ghost use Rattle.thorin_queries.specs.declared.wanted.Wanted.TheVariants.{Printed, Bytes};

@@ -1,11 +1,8 @@
 //! Reading files.
 
 ghost use Rattle.std.specs.Prelude.{◌≡◌, ℕ, true, List, Option, Ok, IfOk, IfSome, is_some};
-ghost use Rattle.std.specs.Prelude.{option_map};
-ghost use Rattle.std.specs.List.{find};
-ghost use Rattle.dwp_base.specs.Reading.{Answers};
-ghost use Rattle.dwp_elf_read.specs.View.{elf, section};
-ghost use Rattle.dwp_index.specs.Contents.{content_among, is_of_kind, has_older_name, used_bytes};
+ghost use Rattle.dwp_elf_read.specs.View.{elf};
+ghost use Rattle.dwp_index.specs.Contents.{content_among};
 ghost use Rattle.dwp_index.specs.Index.{Index};
 ghost use Rattle.dwp_index.specs.Package.{Package, package_of};
 ghost use Rattle.thorin_queries.specs.Checking.{has_no_index};
@@ -14,10 +11,10 @@ ghost use Rattle.thorin_queries.specs.Listing.{HasStrings};
 
 use crate::names::Strings;
 use crate::output::Failure;
+use dwp_base::SectionKind;
 use dwp_decompress::{DecompressError, decompressed};
-use dwp_elf::{ElfFile, Endianness, Section, SectionKind};
-use dwp_elf_read::ReadError;
-use dwp_index::UnitIndex;
+use dwp_elf::{ElfFile, Endianness};
+use dwp_index::{UnitIndex, content_of_kind};
 use std::alloc::Global;
 use std::io;
 
@@ -139,64 +136,8 @@ pub(crate) fn contents_of<'a>(file: &ElfFile<'a>, kind: SectionKind) -> &'a [u8]
     ensures { (bytes : List ℕ) → content_among (elf file.now).sections kind ≡ Ok bytes
         → result.now ≡ bytes }
 {
-    match content(file, kind) {
+    match content_of_kind(file, kind) {
         Ok(bytes) => bytes,
         Err(_) => &[],
     }
-}
-
-/// The content of the first section of a kind.
-#[tactic(auto, unfolding(dwp_index::specs::Contents::content_among))]
-fn content<'a>(file: &ElfFile<'a>, kind: SectionKind) -> Result<&'a [u8], ReadError>
-    ensures { Answers (λ bytes. bytes.now) result (content_among (elf file.now).sections kind) }
-{
-    match first_section(file, kind) {
-        None => Ok(&[]),
-        Some(used) => used_bytes(&used, kind),
-    }
-}
-
-/// The first section of a kind that has bytes.
-fn first_section<'a>(file: &ElfFile<'a>, kind: SectionKind) -> Option<Section<'a>>
-    ensures { option_map section result ≡ find (is_of_kind kind) (elf file.now).sections }
-{
-    for i in 0..file.section_count() {
-        if let Some(candidate) = file.section(i) {
-            if is_of_kind(&candidate, kind) {
-                return Some(candidate);
-            }
-        }
-    }
-    None
-}
-
-/// Whether a section has bytes, and the name of a kind, in either spelling. No more of a long name
-/// is read than the names of kinds are long.
-#[tactic(auto, unfolding(dwp_index::specs::Contents::is_of_kind), using(crate::proofs::Indexed::called_is_named))]
-fn is_of_kind(candidate: &Section<'_>, kind: SectionKind) -> bool
-    ensures { result ≡ is_of_kind kind (section candidate.now) }
-{
-    if candidate.is_empty() {
-        return false;
-    }
-    candidate.is_called(kind.name()) || candidate.is_called(kind.compressed_name())
-}
-
-/// Whether a section's name is the older spelling, of compressed sections.
-#[tactic(auto, using(crate::proofs::Indexed::called_is_older))]
-fn has_older_name(candidate: &Section<'_>, kind: SectionKind) -> bool
-    ensures { result ≡ has_older_name kind (section candidate.now).name }
-{
-    candidate.is_called(kind.compressed_name())
-}
-
-/// The content of a section that is used.
-#[tactic(auto, unfolding(dwp_index::specs::Contents::used_bytes))]
-fn used_bytes<'a>(used: &Section<'a>, kind: SectionKind) -> Result<&'a [u8], ReadError>
-    ensures { Answers (λ bytes. bytes.now) result (used_bytes kind (section used.now)) }
-{
-    if used.is_compressed() || has_older_name(used, kind) {
-        return Err(ReadError::Compressed);
-    }
-    used.data()
 }

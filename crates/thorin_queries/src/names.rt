@@ -11,13 +11,14 @@ ghost use Rattle.dwp_index.specs.Strings.{entry_in};
 ghost use Rattle.thorin_queries.specs.Names as spec;
 ghost use Rattle.thorin_queries.specs.Names.{table_at, entry_by, unit_die, die_of, named};
 ghost use Rattle.thorin_queries.specs.Names.{short_string_at, string_number, numbered_string};
-ghost use Rattle.thorin_queries.specs.Names.{string_of, source_in, object_in};
-ghost use Rattle.thorin_queries.specs.Names.{source_name, object_name};
+ghost use Rattle.thorin_queries.specs.Names.{string_of, source_in, object_in, source_name};
+ghost use Rattle.thorin_queries.specs.Names.{object_name};
 
 use crate::abbreviations::header_of;
+use dwp_base::SectionKind;
 use dwp_bytes::{Encoding, Format, ReadError, Reader, SliceReader, string_at};
 use dwp_dwarf::{Abbreviations, Attribute, Attributes, RootEntry, UnitHeader};
-use dwp_elf::{Endianness, SectionKind};
+use dwp_elf::Endianness;
 use dwp_index::PackagedUnit;
 use dwp_table::DwarfObject;
 

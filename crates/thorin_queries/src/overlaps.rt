@@ -4,7 +4,8 @@ ghost use Rattle.std.specs.Prelude.{◌≡◌};
 ghost use Rattle.thorin_queries.specs.Overlaps.{begins_inside, overlap};
 
 use crate::input::index_in;
-use dwp_elf::{Contribution, ElfFile, SectionKind};
+use dwp_base::SectionKind;
+use dwp_elf::{Contribution, ElfFile};
 use dwp_index::{PackageFile, Row, UnitEntry, UnitIndex};
 use dwp_table::{CONTRIBUTION_KINDS, DwarfObject};
 use std::alloc::{AllocError, Global};

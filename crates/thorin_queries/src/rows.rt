@@ -1,6 +1,6 @@
 //! The rows of a package that no slot names, in `thorin check`.
 
-ghost use Rattle.std.specs.Prelude.{◌≡◌, ◌++◌, codes, OnOk, string_bytes};
+ghost use Rattle.std.specs.Prelude.{◌≡◌, ◌++◌, OnOk, string_bytes};
 ghost use Rattle.thorin_queries.specs.Checking.{TellsRows};
 ghost use Rattle.thorin_queries.specs.Faults.{row_line, AreRows};
 ghost use Rattle.thorin_queries.specs.Telling.{progress, Tells};
@@ -9,7 +9,8 @@ use crate::faults::{Faults, pass_on};
 use crate::input::row_count;
 use crate::listing::is_type;
 use crate::output::Failure;
-use dwp_elf::{ElfFile, SectionKind};
+use dwp_base::SectionKind;
+use dwp_elf::ElfFile;
 use dwp_index::UnitEntry;
 use std::alloc::AllocError;
 use std::io::Write;

@@ -1,10 +1,10 @@
 //! Where the bytes of a package go.
 
-ghost use Rattle.std.specs.Prelude.{◌≡◌, ◌-◌, ◌^◌, ◌++◌, min, sum_by, OnOk, List, ℕ};
-ghost use Rattle.std.specs.Prelude.{string_bytes};
+ghost use Rattle.std.specs.Prelude.{◌≡◌, ◌-◌, ◌^◌, ◌++◌, min, sum_by, OnOk, List, ℕ, string_bytes};
 
 use crate::input::contents_of;
-use dwp_elf::{Contribution, ElfFile, SectionKind};
+use dwp_base::SectionKind;
+use dwp_elf::{Contribution, ElfFile};
 use dwp_table::CONTRIBUTION_KINDS;
 use std::alloc::{AllocError, Global};
 

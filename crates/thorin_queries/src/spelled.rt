@@ -1,7 +1,6 @@
 //! Texts out of a file as a line has them, plain or in JSON (RFC 8259, 7).
 
-ghost use Rattle.std.specs.Prelude.{◌≡◌, ◌++◌, ◌∷◌, [], ◌<◌, ◌||◌, ◌&&◌, ◌==◌, nat_lt, OnOk};
-ghost use Rattle.std.specs.Prelude.{string_bytes, is_none};
+ghost use Rattle.std.specs.Prelude.{◌≡◌, ◌++◌, ◌∷◌, [], ◌<◌, ◌||◌, ◌&&◌, ◌==◌, OnOk, string_bytes};
 ghost use Rattle.std.specs.List.{flat_map};
 ghost use Rattle.std.specs.Option.{option_copied};
 ghost use Rattle.std.specs.Str.{chars};

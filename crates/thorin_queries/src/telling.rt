@@ -2,9 +2,10 @@
 
 use crate::input::{plain_of, read_file};
 use crate::output::{Failure, written};
+use dwp_base::SectionKind;
 use dwp_bytes::Reader;
 use dwp_dwarf::{SliceReader, UnitHeaders, UnitSection};
-use dwp_elf::{ElfFile, Endianness, Section, SectionKind};
+use dwp_elf::{ElfFile, Endianness, Section};
 use dwp_table::DebugTypeSignature;
 use std::alloc::{AllocError, Global};
 use std::fmt;

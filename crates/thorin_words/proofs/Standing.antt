@@ -1,15 +1,12 @@
 -- What words stand for, while they are read one after another.
 use Rattle.std.proofs.Common.{◌≡◌, ℕ, List, [], ◌∷◌, ◌++◌, map, length, take, Option, Some, None}
-use Rattle.std.proofs.Common.{Ok}
-use Rattle.std.proofs.Common.{Err, Result, IfSome, Vec, String, string_bytes, refl, sym, ap, subst}
-use Rattle.std.proofs.Common.{◌∙◌}
+use Rattle.std.proofs.Common.{Ok, Err, IfSome, Vec, String, string_bytes, refl, sym, ap, subst, ◌∙◌}
 use Rattle.std.proofs.Common.{append_assoc, false, true, ◌<◌, ◌+◌, get_or, drop}
 use Rattle.std.proofs.Math.Seq.{take-append_seam}
 use Rattle.std.proofs.lemmas.List.{append-nil, map-append, take-map, length-map, drop_more}
 use Rattle.std.specs.declared.alloc.Global.{Global}
 use Rattle.thorin_words.specs.Responses.{Outcome, after, is_among, IsPlain, Stands, End, Plain}
-use Rattle.thorin_words.specs.Responses.{File}
-use Rattle.thorin_words.specs.Responses.{Inner, Itself, is_inside_of, words_in, IsAdded}
+use Rattle.thorin_words.specs.Responses.{File, Inner, Itself, is_inside_of, words_in, IsAdded}
 use Rattle.thorin_words.specs.Responses.{AreAdded}
 use Rattle.thorin_words.specs.Words.{words_of}
 use Rattle.thorin_words.specs.declared.responses.ResponseError.{ResponseError}

@@ -1,6 +1,7 @@
 //! Texts out of files and of the command line as they are printed.
 
-ghost use Rattle.std.specs.Prelude.{◌≡◌, ◌++◌, ◌∷◌, [], ◌<◌, ◌||◌, ◌==◌, nat_lt, string_bytes, IfOk, OnOk};
+ghost use Rattle.std.specs.Prelude.{◌≡◌, ◌++◌, ◌∷◌, [], ◌<◌, ◌||◌, ◌==◌, nat_lt, string_bytes};
+ghost use Rattle.std.specs.Prelude.{IfOk, OnOk};
 ghost use Rattle.thorin_words.specs.Printed as spec;
 ghost use Rattle.thorin_words.specs.Printed.{hex_digit, printed_character};
 

@@ -1,7 +1,8 @@
 //! `@FILE` among the words of a command line: a response file, as linkers have it.
 
-ghost use Rattle.std.specs.Prelude.{◌≡◌, ◌≤◌, ◌+◌, ◌++◌, ◌∷◌, [], ℕ, List, Option, Some, None, map, length};
-ghost use Rattle.std.specs.Prelude.{IfOk, IfErr, OnOk, IfSome, MatchOption, option_map, string_bytes};
+ghost use Rattle.std.specs.Prelude.{◌≡◌, ◌≤◌, ◌+◌, ◌++◌, ◌∷◌, [], ℕ, List, Option, Some, None, map};
+ghost use Rattle.std.specs.Prelude.{length, IfOk, IfErr, OnOk, IfSome, MatchOption, option_map};
+ghost use Rattle.std.specs.Prelude.{string_bytes};
 ghost use Rattle.thorin_words.specs.Responses.{is_among, Answers, IsAdded, AreAdded, Opens};
 ghost use Rattle.thorin_words.specs.Responses.{is_inside_of, words_in, name_in};
 ghost use Rattle.std.specs.List.{list_any};

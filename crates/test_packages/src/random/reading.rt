@@ -1,7 +1,5 @@
 //! Reading bytes by each reader.
 
-ghost use Rattle.std.specs.Prelude.{◌≡◌};
-
 use crate::tally::{self, Tally};
 use dwp_base::{Endianness, SectionKind};
 use dwp_dwarf::{

@@ -1,7 +1,8 @@
 //! A file that is put together.
 
 use crate::asserting::{MEMORY, Seen};
-use dwp_elf::{Class, Endianness, SectionKind, WritableObject, WriteError};
+use dwp_base::SectionKind;
+use dwp_elf::{Class, Endianness, WritableObject, WriteError};
 use std::alloc::Global;
 
 const INFO: &[u8] =

@@ -1,4 +1,4 @@
-use Rattle.std.proofs.Common.{◌≡◌, sym, subst}
+use Rattle.std.proofs.Common.{sym, subst}
 use Rattle.thorin_join.specs.Builder.{taken}
 use Rattle.thorin_again.specs.OwnRefusals.{UnlessForeseen}
 use Rattle.example_uses.proofs.Foreseen.{foreseen}

@@ -1,5 +1,5 @@
-use Rattle.std.proofs.Common.{rules, ◌≡◌, ℤ, Result, Ok, Err, to_z, of_z, w32, sym, ap, subst}
-use Rattle.std.proofs.Common.{◌∙◌, refl}
+use Rattle.std.proofs.Common.{rules, ◌≡◌, ℤ, Result, Ok, Err, to_z, of_z, w32, sym, ap, subst, ◌∙◌}
+use Rattle.std.proofs.Common.{refl}
 use Rattle.std.specs.Prelude.{pos}
 use Rattle.thorin_c.specs.Finding.{Fills, as_status, object_of, row_found_in, row_of}
 use Rattle.thorin_c.specs.Opening.{package_in}

@@ -1,5 +1,5 @@
-use Rattle.std.proofs.Common.{rules, ◌≡◌, ℤ, Result, Ok, Err, to_z, of_z, w32, sym, ap, subst}
-use Rattle.std.proofs.Common.{◌∙◌, refl}
+use Rattle.std.proofs.Common.{rules, ◌≡◌, ℤ, Result, Ok, Err, to_z, of_z, w32, sym, ap, subst, ◌∙◌}
+use Rattle.std.proofs.Common.{refl}
 use Rattle.std.specs.Prelude.{pos}
 use Rattle.dwp_bytes.specs.Encoding.{offset_size}
 use Rattle.thorin_c.specs.Finding.{Fills, as_status, object_of, unit_found}

@@ -1,7 +1,7 @@
 use Rattle.std.proofs.Common.{◌∙◌, sym, ap, Ok, Result}
 use Rattle.dwp_elf_read.specs.View.{elf}
 use Rattle.dwp_index.specs.Package.{Package}
-use Rattle.dwp_index.specs.declared.fault.PackageError.{PackageError}
+use Rattle.dwp_index.specs.declared.error.PackageError.{PackageError}
 use Rattle.thorin_c.specs.Opening.{opened}
 use Rattle.thorin_c.proofs.ByPlaces.{package_by}
 use Rattle.thorin_c.proofs.opening.places_of.Goals as goal

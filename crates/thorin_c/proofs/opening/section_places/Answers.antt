@@ -4,7 +4,7 @@ use Rattle.std.proofs.lemmas.Option.{slice_get-get_or}
 use Rattle.dwp_base.specs.Sections.{all_kinds}
 use Rattle.dwp_base.proofs.KindsRead.{read-more}
 use Rattle.dwp_elf_read.specs.View.{elf}
-use Rattle.dwp_elf_read.specs.declared.fault.ReadError.{ReadError}
+use Rattle.dwp_elf_read.specs.declared.error.ReadError.{ReadError}
 use Rattle.thorin_c.proofs.PlacesRead.{IsPlaceOf, contents_read, contents_stop, inside_each}
 use Rattle.thorin_c.proofs.opening.section_places.Goals as goal
 

@@ -1,6 +1,6 @@
 use Rattle.std.proofs.Common.{◌∙◌, sym, ap, cond, Ok, Err}
 use Rattle.dwp_elf_read.specs.View.{elf, section}
-use Rattle.dwp_elf_read.specs.declared.fault.ReadError.TheVariants.{SectionRange}
+use Rattle.dwp_elf_read.specs.declared.error.ReadError.TheVariants.{SectionRange}
 use Rattle.thorin_c.specs.Opening.{bytes_at}
 use Rattle.thorin_c.proofs.Headers.{used_there}
 use Rattle.thorin_c.proofs.opening.used_place.Goals as goal

@@ -1,6 +1,6 @@
 use Rattle.std.proofs.Common.{Ok, sym, ap, ◌∙◌}
 use Rattle.dwp_dwarf.specs.Units.{units}
-use Rattle.thorin_c.proofs.FirstUnit.{encoding-none, encoding-err, encoding-ok}
+use Rattle.dwp_index.proofs.FirstUnit.{encoding-none, encoding-err, encoding-ok}
 use Rattle.thorin_c.proofs.unit.any_encoding.Goals as goal
 
 pub returns-in-None : goal.returns-in-None

@@ -6,9 +6,9 @@ use Rattle.dwp_archive.specs.declared.member.Member as declared
 use Rattle.dwp_archive.specs.declared.member.NameForm.TheVariants.{Short}
 use Rattle.thorin_commands.specs.Archives.{split_contents}
 use Rattle.thorin_commands.specs.Opened.{TookEach}
-use Rattle.thorin_commands.proofs.Inputs.{taken-next}
 use Rattle.thorin_commands.proofs.Opened.{each_none, each_more}
 use Rattle.thorin_commands.proofs.archives.take_each.Goals as goal
+use Rattle.thorin.proofs.Running.{taken-next}
 
 pub loop-member-init : goal.loop-member-init
 loop-member-init g c = each_none (g.I.Inputs.plain c.args.files.now)

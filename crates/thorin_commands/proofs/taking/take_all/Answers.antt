@@ -3,9 +3,9 @@ use Rattle.std.proofs.lemmas.List.{take_all}
 use Rattle.thorin.specs.declared.packing.Input.{Input}
 use Rattle.thorin.specs.declared.packing.Input.TheVariants.{Object}
 use Rattle.thorin_commands.specs.Opened.{TookInputs}
-use Rattle.thorin_commands.proofs.Inputs.{taken-next}
 use Rattle.thorin_commands.proofs.Opened.{took_none, took_more}
 use Rattle.thorin_commands.proofs.taking.take_all.Goals as goal
+use Rattle.thorin.proofs.Running.{taken-next}
 
 pub loop-input-init : goal.loop-input-init
 loop-input-init g c = took_none (g.I.Inputs.opens c.args.files.now)

@@ -1,12 +1,10 @@
-use Rattle.std.proofs.Common.{◌≡◌, ℕ, ◌<◌, ◌≤◌, List, [], ◌∷◌, ◌++◌, map, drop, length, Option}
-use Rattle.std.proofs.Common.{Some, None, Ok}
-use Rattle.std.proofs.Common.{Err, IfSome, string_bytes, rules, arith, subst, refl, sym, ap, ◌∙◌}
+use Rattle.std.proofs.Common.{◌≡◌, ℕ, List, [], ◌∷◌, ◌++◌, map, drop, length, Some, Ok, Err, IfSome}
+use Rattle.std.proofs.Common.{string_bytes, rules, arith, subst, refl, sym, ap, ◌∙◌}
 use Rattle.thorin_words.specs.Responses.{Stands, Opens, is_inside_of, words_in}
 use Rattle.thorin_words.specs.Words.{words_of, IsNext}
 use Rattle.thorin_words.specs.declared.responses.Opened.TheVariants as opened
 use Rattle.thorin_words.proofs.Standing.{begin, onward, ended, stopped, filed, inner, refused}
-use Rattle.thorin_words.proofs.Standing.{itself}
-use Rattle.thorin_words.proofs.Standing.{restored}
+use Rattle.thorin_words.proofs.Standing.{itself, restored}
 use Rattle.thorin_words.proofs.responses.+responses.Goals as goal
 
 pub add_text-loop-word-init : goal.add_text-loop-word-init

@@ -1,5 +1,4 @@
-use Rattle.std.proofs.Common.{◌≡◌, ℕ, ◌+◌, List, [], ◌∷◌, map, drop, Err, IfSome, rules, arith, ap}
-use Rattle.std.proofs.Common.{◌∙◌}
+use Rattle.std.proofs.Common.{◌≡◌, ◌+◌, [], map, drop, Err, IfSome, rules, arith, ap, ◌∙◌}
 use Rattle.std.proofs.lemmas.List.{drop_all}
 use Rattle.thorin_words.specs.Responses.{Stands, is_inside_of, words_in}
 use Rattle.thorin_words.proofs.Standing.{onward, ended, stopped, texts-drop}

@@ -1,4 +1,4 @@
-use Rattle.std.proofs.Common.{◌≡◌, List, ℕ, [], map, Err, IfSome, string_bytes, rules, ap, subst}
+use Rattle.std.proofs.Common.{◌≡◌, [], map, Err, IfSome, string_bytes, rules, ap, subst}
 use Rattle.thorin_words.specs.Responses.{Stands, is_inside_of, words_in}
 use Rattle.thorin_words.proofs.Standing.{whole}
 use Rattle.thorin_words.proofs.responses.expanded.Goals as goal

@@ -1,5 +1,4 @@
-use Rattle.std.proofs.Common.{◌≡◌, ℕ, ◌+◌, ◌<◌, true, false, List, [], get_or, drop, length}
-use Rattle.std.proofs.Common.{refl, arith, ◌∙◌}
+use Rattle.std.proofs.Common.{◌≡◌, ◌<◌, true, false, get_or, length, refl, arith, ◌∙◌}
 use Rattle.thorin_words.specs.Words.{words_of, keeps, behind, is_between}
 use Rattle.thorin_words.proofs.Splitting.{prefix-nothing, words_of-ended, words_of-last}
 use Rattle.thorin_words.proofs.words.next_word.Goals as goal

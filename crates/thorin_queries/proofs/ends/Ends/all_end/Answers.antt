@@ -1,10 +1,9 @@
 use Rattle.std.proofs.Common.{arith}
-use Rattle.dwp_base.specs.declared.section.SectionKind.TheVariants.{StrOffsets}
+use Rattle.dwp_base.specs.declared.section.SectionKind.TheVariants.{StrOffsets, Str}
 use Rattle.dwp_index.specs.Package.{row_bytes}
 use Rattle.thorin_queries.proofs.Reached.{all_read_of}
 use Rattle.thorin_queries.proofs.ends.Ends.all_end.Goals as goal
 use Rattle.dwp_index.specs.Contents.{content}
-use Rattle.dwp_base.specs.declared.section.SectionKind.TheVariants.{Str}
 
 pub returns : goal.returns
 returns c = λ yes h.

@@ -1,10 +1,9 @@
 use Rattle.std.proofs.Common.{◌∙◌}
-use Rattle.dwp_base.specs.declared.section.SectionKind.TheVariants.{StrOffsets}
+use Rattle.dwp_base.specs.declared.section.SectionKind.TheVariants.{StrOffsets, Str}
 use Rattle.dwp_index.specs.Package.{row_bytes}
 use Rattle.thorin_queries.proofs.Reached.{none_there, one_there, own_order}
 use Rattle.thorin_queries.proofs.ends.Ends.fault_of.Goals as goal
 use Rattle.dwp_index.specs.Contents.{content}
-use Rattle.dwp_base.specs.declared.section.SectionKind.TheVariants.{Str}
 
 pub returns-in-None : goal.returns-in-None
 returns-in-None c =

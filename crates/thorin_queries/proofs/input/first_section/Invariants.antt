@@ -1,9 +1,0 @@
-use Rattle.std.proofs.Common.{◌≡◌, drop}
-use Rattle.std.specs.List.{find}
-use Rattle.dwp_elf_read.specs.View.{elf}
-use Rattle.dwp_index.specs.Contents.{is_of_kind}
-use Rattle.thorin_queries.proofs.input.first_section.Given as goal
-
-abbrev pub invariant-loop-i : goal.invariant-loop-i
-invariant-loop-i l = find (is_of_kind l.kind) (drop l.i (elf l.file).sections) ≡ find
-    (is_of_kind l.kind) (elf l.file).sections
