@@ -27,7 +27,7 @@ fn tell(rt: &HostRuntime, line: &str) -> io::Result<()> {
     let mut text = Vec::new(rt.alloc());
     match answer(rt, line, &mut text) {
         Ok(()) => rt.stdout().write_all(text.as_slice()),
-        Err(fault) => Err(fault),
+        Err(error) => Err(error),
     }
 }
 
@@ -118,7 +118,7 @@ impl Write for Stream {
 fn tell_size(rt: &HostRuntime, file: &str, text: &mut Vec<u8>) -> io::Result<()> {
     match fs::read(rt, file) {
         Ok(bytes) => writeln!(text, "{}", bytes.len()),
-        Err(_fault) => writeln!(text, "none"),
+        Err(_error) => writeln!(text, "none"),
     }
 }
 

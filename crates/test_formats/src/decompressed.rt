@@ -1,15 +1,15 @@
-//! Calls of `dwp_decompress`: files with compressed sections, and each fault of them.
+//! Calls of `dwp_decompress`: files with compressed sections, and each error of them.
 
 use dwp_decompress::decompressed;
 use dwp_elf_read::{ElfFile, Section};
 use test_rows::{Hex, Row, Said, Text};
 
-/// The row's name and a file: each section of the file that is made, or its fault.
+/// The row's name and a file: each section of the file that is made, or its error.
 pub fn call(row: Row<'_>, said: &mut Said) {
     match decompressed(row.alloc, row.bytes(2)) {
         Ok(Some(file)) => put_file(&file, said),
         Ok(None) => said.word("as it is"),
-        Err(fault) => said.fault(&fault),
+        Err(error) => said.error(&error),
     }
 }
 
@@ -20,7 +20,7 @@ fn put_file(bytes: &[u8], said: &mut Said) {
                 put_section(&section, said);
             }
         }
-        Err(fault) => said.err(&fault),
+        Err(error) => said.err(&error),
     }
 }
 

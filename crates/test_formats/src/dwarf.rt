@@ -61,7 +61,7 @@ fn identified<R: Reader>(root: Result<Option<RootEntry<R>>, ReadError>) -> Root 
     match root {
         Ok(Some(entry)) => numbered(entry),
         Ok(None) => Ok(None),
-        Err(fault) => Err(fault),
+        Err(error) => Err(error),
     }
 }
 
@@ -106,7 +106,7 @@ fn put_unit<R: Reader>(units: R, abbreviations: R, section: UnitSection, said: &
             told(&header),
             identified(root_of(&header, abbreviations)),
         )))),
-        Some(Err(fault)) => said.put(&Some(Err::<(), ReadError>(fault))),
+        Some(Err(error)) => said.put(&Some(Err::<(), ReadError>(error))),
         None => said.word("None"),
     }
 }
@@ -202,7 +202,7 @@ fn put_text<R: Reader>(
     };
     match attr_string(&sections, Format::Dwarf32, 4, &attribute) {
         Ok(text) => said.ok(&Text(text.to_slice())),
-        Err(fault) => said.err(&fault),
+        Err(error) => said.err(&error),
     }
 }
 
@@ -213,7 +213,7 @@ fn told_of<R: Reader>(found: Result<Option<Abbreviation<R>>, ReadError>) -> Told
     match found {
         Ok(Some(abbreviation)) => Ok(Some((abbreviation.tag(), abbreviation.has_children()))),
         Ok(None) => Ok(None),
-        Err(fault) => Err(fault),
+        Err(error) => Err(error),
     }
 }
 
@@ -221,7 +221,7 @@ fn told_of<R: Reader>(found: Result<Option<Abbreviation<R>>, ReadError>) -> Told
 fn as_read<R: Reader>(section: R, offset: u64, code: u64) -> Told {
     match Abbreviations::new(section, offset) {
         Ok(table) => told_of(table.get(code)),
-        Err(fault) => Err(fault),
+        Err(error) => Err(error),
     }
 }
 
@@ -278,14 +278,14 @@ fn put_size<R: Reader>(unit: R, table: R, said: &mut Said) {
     match entry_of(unit, UnitSection::Info, table) {
         Ok(Some(entry)) => put_first(entry.attributes, said),
         Ok(None) => said.ok(&None::<usize>),
-        Err(fault) => said.err(&fault),
+        Err(error) => said.err(&error),
     }
 }
 
 fn put_first<R: Reader>(mut attributes: Attributes<R>, said: &mut Said) {
     match attributes.next() {
         Some(Ok(attribute)) => said.ok(&Some(attribute.value.len())),
-        Some(Err(fault)) => said.err(&fault),
+        Some(Err(error)) => said.err(&error),
         None => said.ok(&None::<usize>),
     }
 }
@@ -298,7 +298,7 @@ fn entry_of<R: Reader>(
 ) -> Result<Option<RootEntry<R>>, ReadError> {
     match first(units, section) {
         Some(Ok(header)) => root_of(&header, abbreviations),
-        Some(Err(fault)) => Err(fault),
+        Some(Err(error)) => Err(error),
         None => Ok(None),
     }
 }
@@ -311,7 +311,7 @@ fn put_header<R: Reader>(units: R, section: UnitSection, said: &mut Said) {
             header.encoding(),
             header.unit_type(),
         )))),
-        Some(Err(fault)) => said.put(&Some(Err::<(), ReadError>(fault))),
+        Some(Err(error)) => said.put(&Some(Err::<(), ReadError>(error))),
         None => said.word("None"),
     }
 }
@@ -336,7 +336,7 @@ fn put_object<R: Reader>(
     match entry_of(units, section(row), abbreviations) {
         Ok(Some(entry)) => put_entry(entry, sections, row, said),
         Ok(None) => said.word("no root"),
-        Err(fault) => said.put(&fault),
+        Err(error) => said.put(&error),
     }
 }
 
@@ -363,7 +363,7 @@ fn put_next<R: Reader>(
 ) {
     match attributes.next() {
         Some(Ok(attribute)) => put_string(&attribute, sections, row, said),
-        Some(Err(fault)) => said.err(&fault),
+        Some(Err(error)) => said.err(&error),
         None => {}
     }
 }
@@ -381,6 +381,6 @@ fn put_string<R: Reader>(
             attribute.form,
             Ok::<_, ReadError>(Text(text.to_slice())),
         )),
-        Err(fault) => said.ok(&(attribute.name, attribute.form, Err::<(), ReadError>(fault))),
+        Err(error) => said.ok(&(attribute.name, attribute.form, Err::<(), ReadError>(error))),
     }
 }

@@ -45,8 +45,8 @@ fn append(
 
 /// The same, and says only why it is refused.
 fn add(object: &mut WritableObject, row: Row<'_>, word: &str, said: &mut Said) {
-    if let Err(fault) = append(row.alloc, object, word) {
-        said.put(&fault);
+    if let Err(error) = append(row.alloc, object, word) {
+        said.put(&error);
     }
 }
 
@@ -152,8 +152,8 @@ fn written_to(row: Row<'_>, said: &mut Said) {
 fn put_done(done: &Result<(), WriteError>, said: &mut Said) {
     match done {
         Ok(()) => said.word("written"),
-        Err(WriteError::Io(fault)) => said.put(&fault.kind()),
-        Err(fault) => said.put(fault),
+        Err(WriteError::Io(error)) => said.put(&error.kind()),
+        Err(error) => said.put(error),
     }
 }
 
@@ -161,7 +161,7 @@ fn put_written(writer: &Limited, said: &mut Said) {
     said.put(&(writer.bytes.len(), Hex(&writer.bytes)));
 }
 
-/// The same of a writer that is watched, behind the fault that was seen.
+/// The same of a writer that is watched, behind the error that was seen.
 fn watched(row: Row<'_>, said: &mut Said) {
     let mut watched = Watched {
         writer: make_writer(row, said),

@@ -22,15 +22,15 @@ pub fn call(row: Row<'_>, said: &mut Said) {
 fn of_file(row: Row<'_>, said: &mut Said) {
     match ElfFile::parse(row.bytes(1)) {
         Ok(file) => in_file(&file, row, said),
-        Err(fault) => put_refused(row, fault, said),
+        Err(error) => put_refused(row, error, said),
     }
 }
 
 /// Why a file is none, to each of the two questions that `file` is.
-fn put_refused(row: Row<'_>, fault: ReadError, said: &mut Said) {
-    said.err(&fault);
+fn put_refused(row: Row<'_>, error: ReadError, said: &mut Said) {
+    said.err(&error);
     if row.word(0) == "file" {
-        said.err(&fault);
+        said.err(&error);
     }
 }
 
@@ -120,7 +120,7 @@ fn content(section: Section<'_>) -> (bool, bool, Result<Hex<'_>, ReadError>) {
 fn data(section: Section<'_>) -> Result<Hex<'_>, ReadError> {
     match section.data() {
         Ok(data) => Ok(Hex(data)),
-        Err(fault) => Err(fault),
+        Err(error) => Err(error),
     }
 }
 
@@ -133,7 +133,7 @@ fn put_relocations(section: Section<'_>, said: &mut Said) {
 }
 
 /// Why bytes are no file that can be read, and whether their kind can be.
-fn faults(bytes: &[u8]) -> (Option<ReadError>, bool) {
+fn errors(bytes: &[u8]) -> (Option<ReadError>, bool) {
     (ElfFile::parse(bytes).err(), FileKind::parse(bytes).is_ok())
 }
 
@@ -142,16 +142,16 @@ fn faults(bytes: &[u8]) -> (Option<ReadError>, bool) {
 fn cuts(bytes: &[u8], said: &mut Said) {
     let mut before = None;
     for size in 0..=bytes.len() {
-        let (fault, is_known) = faults(&bytes[..size]);
-        if before != Some((fault, is_known)) {
-            said.put(&(size, fault, is_known));
+        let (error, is_known) = errors(&bytes[..size]);
+        if before != Some((error, is_known)) {
+            said.put(&(size, error, is_known));
         }
-        before = Some((fault, is_known));
+        before = Some((error, is_known));
     }
 }
 
 fn texts(said: &mut Said) {
-    for fault in [
+    for error in [
         ReadError::TooShort,
         ReadError::NotElf,
         ReadError::ByteOrder,
@@ -166,9 +166,9 @@ fn texts(said: &mut Said) {
         ReadError::RelocationTable,
         ReadError::Compressed,
     ] {
-        said.fault(&fault);
+        said.error(&error);
     }
-    said.fault(&WriteError::NumberTooLarge);
-    said.fault(&WriteError::Memory);
-    said.fault(&WriteError::Io(io::Error::from(io::ErrorKind::Other)));
+    said.error(&WriteError::NumberTooLarge);
+    said.error(&WriteError::Memory);
+    said.error(&WriteError::Io(io::Error::from(io::ErrorKind::Other)));
 }

@@ -125,7 +125,7 @@ fn text_at(section: &[u8], offset: u64) -> Result<Text<'_>, ReadError> {
 }
 
 fn texts_of_bytes(said: &mut Said) {
-    for fault in [
+    for error in [
         ReadError::UnexpectedEof,
         ReadError::ReservedLength,
         ReadError::UnknownVersion,
@@ -146,9 +146,9 @@ fn texts_of_bytes(said: &mut Said) {
         ReadError::RowOutOfRange,
         ReadError::NotAString,
     ] {
-        said.fault(&fault);
+        said.error(&error);
     }
-    said.fault(&WriteError::ValueTooLarge);
+    said.error(&WriteError::ValueTooLarge);
 }
 
 /// The two names that a number may be, what of each is sought in an index, and whether they are the

@@ -24,7 +24,7 @@ pub fn call(row: Row<'_>, said: &mut Said) {
 fn of_index(row: Row<'_>, said: &mut Said) {
     match UnitIndex::parse(row.bytes(2), row.order(1)) {
         Ok(index) => in_index(&index, row, said),
-        Err(fault) => said.err(&fault),
+        Err(error) => said.err(&error),
     }
 }
 
@@ -49,7 +49,7 @@ fn look_up(index: &UnitIndex<'_>, id: u64, said: &mut Said) {
 fn range(index: &UnitIndex<'_>, row: Row<'_>, said: &mut Said) {
     match index.row(row.small(3)) {
         Ok(found) => said.ok(&found.range(row.kind(4))),
-        Err(fault) => said.err(&fault),
+        Err(error) => said.err(&error),
     }
 }
 
@@ -57,7 +57,7 @@ fn range(index: &UnitIndex<'_>, row: Row<'_>, said: &mut Said) {
 fn of_package(row: Row<'_>, said: &mut Said) {
     match PackageFile::parse(row.bytes(1)) {
         Ok(package) => in_package(&package, row, said),
-        Err(fault) => said.err(&fault),
+        Err(error) => said.err(&error),
     }
 }
 
@@ -105,7 +105,7 @@ fn unit(row: Row<'_>) -> DwarfObject {
 fn look_up_unit(package: &PackageFile<'_>, object: DwarfObject, said: &mut Said) {
     match package.find_counted(object) {
         Ok(found) => put_counted(found, said),
-        Err(fault) => said.err(&fault),
+        Err(error) => said.err(&error),
     }
 }
 
@@ -122,7 +122,7 @@ fn packaged(package: &PackageFile<'_>, row: Row<'_>, said: &mut Said) {
     match package.find(unit(row)) {
         Ok(Some(unit)) => put_unit(&unit, row.kind(4), said),
         Ok(None) => said.word("no unit"),
-        Err(fault) => said.err(&fault),
+        Err(error) => said.err(&error),
     }
 }
 
@@ -145,12 +145,12 @@ fn told(entry: Option<UnitEntry>) -> Option<(DwarfObject, u32)> {
 }
 
 fn texts_of_index(said: &mut Said) {
-    for fault in [
+    for error in [
         PackageError::Elf(ElfReadError::TooShort),
         PackageError::Index(ReadError::SlotCount),
         PackageError::Range(SectionKind::Info),
         PackageError::Unit(ReadError::UnknownVersion),
     ] {
-        said.fault(&fault);
+        said.error(&error);
     }
 }

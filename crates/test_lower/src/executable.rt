@@ -127,7 +127,7 @@ fn file(row: Row<'_>, said: &mut Said) -> Vec<u8> {
     file
 }
 
-/// The units that a list has, and its fault.
+/// The units that a list has, and its error.
 fn put_list(list: &SkeletonList, said: &mut Said) {
     for unit in &list.units {
         put_named(unit, said);
@@ -193,7 +193,7 @@ fn put_next(left: &mut SkeletonUnits<'_>, said: &mut Said) {
     match left.next() {
         Ok(Some(unit)) => put_named(&unit, said),
         Ok(None) => said.word("none"),
-        Err(fault) => said.put(&fault),
+        Err(error) => said.put(&error),
     }
 }
 
@@ -201,7 +201,7 @@ fn put_next(left: &mut SkeletonUnits<'_>, said: &mut Said) {
 fn put_units(left: Result<SkeletonUnits<'_>, Error>, said: &mut Said) {
     match left {
         Ok(mut left) => put_four(&mut left, said),
-        Err(fault) => said.put(&fault),
+        Err(error) => said.put(&error),
     }
 }
 
@@ -223,12 +223,12 @@ fn one_by_one(row: Row<'_>, said: &mut Said) {
 fn put_named_at<Sess: Session<RelocationEntry>>(session: &Sess, row: Row<'_>, said: &mut Said) {
     match session.read_input(Path::new(row.word(1))) {
         Ok(bytes) => put_skeletons(row.alloc, session, bytes, said),
-        Err(fault) => put_fault(fault, said),
+        Err(error) => put_error(error, said),
     }
 }
 
-fn put_fault(fault: InputError, said: &mut Said) {
-    said.put(&Error::from(fault));
+fn put_error(error: InputError, said: &mut Said) {
+    said.put(&Error::from(error));
 }
 
 /// The path of a file: what it names.

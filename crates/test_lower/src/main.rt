@@ -3,7 +3,7 @@
 #![tactic(auto)]
 
 mod executable;
-mod faults;
+mod errors;
 mod packaged;
 mod parts;
 mod sessions;
@@ -14,7 +14,7 @@ use test_rows::{Calls, Row, Said, print_files};
 
 /// The files of rows, one for each crate.
 const FILES: [&str; 6] = [
-    "faults.rows",
+    "errors.rows",
     "sessions.rows",
     "strings.rows",
     "parts.rows",

@@ -35,8 +35,8 @@ fn rewritten(row: Row<'_>, said: &mut Said) {
     let types = indexed(row.alloc, encoding(row.word(1)), row.word(4), said);
     match (parsed(&compilations), parsed(&types)) {
         (Ok(compilations), Ok(types)) => put_rewritten(row, &compilations, &types, said),
-        (Err(fault), _) => said.err(&fault),
-        (_, Err(fault)) => said.err(&fault),
+        (Err(error), _) => said.err(&error),
+        (_, Err(error)) => said.err(&error),
     }
 }
 
@@ -79,7 +79,7 @@ fn remapped(
 fn put_range(range: &Result<Vec<u8>, Error>, data: &[u8], said: &mut Said) {
     match range {
         Ok(range) => said.put(&(Hex(range), Text(data))),
-        Err(fault) => said.put(fault),
+        Err(error) => said.put(error),
     }
 }
 
@@ -115,7 +115,7 @@ fn put_row(
 ) {
     match RowPlaces::new(row.alloc, index, section) {
         Ok(places) => said.ok(&places.find(range)),
-        Err(fault) => said.err(&fault),
+        Err(error) => said.err(&error),
     }
 }
 
@@ -127,7 +127,7 @@ fn row_at(row: Row<'_>, said: &mut Said) {
             let range = contribution(row.word(3));
             put_row(row, Some(&index), row.kind(2), range, said);
         }
-        Err(fault) => said.err(&fault),
+        Err(error) => said.err(&error),
     }
 }
 

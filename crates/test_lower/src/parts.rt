@@ -21,7 +21,7 @@ pub fn call(row: Row<'_>, said: &mut Said) {
         "moved_by" => moved_by(row, said),
         "moved_row" => moved_row(row, said),
         "relocations_of" | "relocations_in" => relocations_of(row, said),
-        _ => crate::faults::call(row, said),
+        _ => crate::errors::call(row, said),
     }
 }
 
@@ -93,8 +93,8 @@ fn add_ranged(entries: &mut Vec<IndexEntry>, encoding: Encoding, word: &str, sai
 fn written(alloc: Global, entries: &[IndexEntry], said: &mut Said) -> Vec<u8> {
     match write_index(alloc, Endianness::Little, entries) {
         Ok(index) => index,
-        Err(fault) => {
-            said.err(&fault);
+        Err(error) => {
+            said.err(&error);
             Vec::new(alloc)
         }
     }
@@ -139,7 +139,7 @@ fn put_table(table: Result<Buckets, Error>, said: &mut Said) {
             said.put(&slots);
             said.put(&looked);
         }
-        Err(fault) => said.put(&fault),
+        Err(error) => said.put(&error),
     }
 }
 
@@ -151,7 +151,7 @@ fn slots_of(row: Row<'_>, said: &mut Said) {
     }
     match bucket(row.alloc, &units) {
         Ok(table) => said.ok(&table.slots.len()),
-        Err(fault) => said.err(&fault),
+        Err(error) => said.err(&error),
     }
 }
 
@@ -175,7 +175,7 @@ fn moved_by(row: Row<'_>, said: &mut Said) {
 fn put_indexed(index: &[u8], id: u64, said: &mut Said) {
     match UnitIndex::parse(index, Endianness::Little) {
         Ok(index) => put_abbreviations(Some(&index), id, said),
-        Err(fault) => said.err(&fault),
+        Err(error) => said.err(&error),
     }
 }
 
@@ -195,7 +195,7 @@ fn put_abbreviations(index: Option<&UnitIndex<'_>>, id: u64, said: &mut Said) {
 fn moved_row(row: Row<'_>, said: &mut Said) {
     match UnitIndex::parse(row.bytes(1), Endianness::Little) {
         Ok(index) => put_looked_up(&index, row.number(2), said),
-        Err(fault) => said.err(&fault),
+        Err(error) => said.err(&error),
     }
 }
 
@@ -210,7 +210,7 @@ fn put_looked_up(index: &UnitIndex<'_>, id: u64, said: &mut Said) {
 fn relocations_of(row: Row<'_>, said: &mut Said) {
     match ElfFile::parse(row.bytes(1)) {
         Ok(file) => put_section(&file, row, said),
-        Err(fault) => said.put(&fault),
+        Err(error) => said.put(&error),
     }
 }
 
@@ -236,6 +236,6 @@ fn put_relocations(found: &Result<Vec<RelocationEntry>, Error>, said: &mut Said)
                 said.put(&(entry.offset, entry.relocation.value(0x10)));
             }
         }
-        Err(fault) => said.fault(fault),
+        Err(error) => said.error(error),
     }
 }

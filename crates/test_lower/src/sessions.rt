@@ -30,7 +30,7 @@ fn owned(row: Row<'_>, said: &mut Said) -> Vec<u8> {
 fn put_session<S: Session<u64>>(session: &S, row: Row<'_>, said: &mut Said) {
     match session.read_input(Path::new(row.word(1))) {
         Ok(read) => put_placed(session, read, owned(row, said), said),
-        Err(fault) => said.put(&fault),
+        Err(error) => said.put(&error),
     }
 }
 
@@ -107,7 +107,7 @@ impl Read for Failing {
     }
 }
 
-/// How many bytes a reader gives before it fails, and the kind of its fault, `OutOfMemory` or
+/// How many bytes a reader gives before it fails, and the kind of its error, `OutOfMemory` or
 /// another: what is answered.
 fn read_failing(row: Row<'_>, said: &mut Said) {
     let bump = Bump::new(row.alloc);
@@ -124,6 +124,6 @@ fn read_failing(row: Row<'_>, said: &mut Said) {
 fn put_read(read: Result<&[u8], InputError>, said: &mut Said) {
     match read {
         Ok(bytes) => said.put(&Text(bytes)),
-        Err(fault) => said.put(&fault),
+        Err(error) => said.put(&error),
     }
 }

@@ -96,14 +96,14 @@ fn put_remapped(
 fn inserted(table: &mut PackageStringTable, bytes: &[u8]) -> Result<PackageStringOffset, Error> {
     match string_at(bytes, 0) {
         Ok(string) => table.get_or_insert(string),
-        Err(fault) => Err(Error::from(fault)),
+        Err(error) => Err(Error::from(error)),
     }
 }
 
 fn put_offset(offset: Result<PackageStringOffset, Error>, said: &mut Said) {
     match offset {
         Ok(offset) => said.ok(&offset.0),
-        Err(fault) => said.err(&fault),
+        Err(error) => said.err(&error),
     }
 }
 
@@ -166,7 +166,7 @@ fn sum_of(bytes: &[u8]) -> (usize, u64) {
 fn put_sum(range: &Result<Vec<u8>, Error>, said: &mut Said) {
     match range {
         Ok(range) => said.put(&sum_of(range)),
-        Err(fault) => said.put(fault),
+        Err(error) => said.put(error),
     }
 }
 

@@ -119,7 +119,7 @@ pub fn build_by<'s, 'i, Sess: Session<RelocationEntry>>(
 fn written(object: Result<WritableObject, Error>) -> Result<Vec<u8>, Error> {
     match object {
         Ok(object) => Ok(object.write()?),
-        Err(fault) => Err(fault),
+        Err(error) => Err(error),
     }
 }
 

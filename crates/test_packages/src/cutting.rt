@@ -14,9 +14,9 @@ fn tell_answers(alloc: Global, file: &[u8], said: &mut Said) {
     match &found(file, DwarfObject::Compilation(DwoId(5))) {
         Ok((Some(_unit), _slots)) => said.add("Ok(true)"),
         Ok((None, _slots)) => said.add("Ok(false)"),
-        Err(fault) => {
+        Err(error) => {
             said.add("Err(");
-            said.debug(fault);
+            said.debug(error);
             said.add(")");
         }
     }

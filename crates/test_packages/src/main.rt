@@ -61,7 +61,7 @@ fn run_named(rt: &HostRuntime, script: &str) -> io::Result<()> {
 fn text_of(rt: &HostRuntime, file: &str, said: &mut Said) -> String {
     match fs::read_to_string(rt, file) {
         Ok(text) => text,
-        Err(_fault) => {
+        Err(_error) => {
             said.wrong("file", file);
             String::new(rt.alloc())
         }
@@ -110,7 +110,7 @@ fn keep_files<'n>(rt: &HostRuntime, table: &mut Table<'n>, words: &[&'n str], sa
     for i in 0..words.len() {
         match fs::read(rt, words[i]) {
             Ok(bytes) => table.keep(words[i], bytes, said),
-            Err(_fault) => said.wrong("file", words[i]),
+            Err(_error) => said.wrong("file", words[i]),
         }
     }
 }

@@ -27,7 +27,7 @@ pub fn object<'n>(alloc: Global, table: &mut Table<'n>, words: &[&'n str], said:
 fn keep<'n>(table: &mut Table<'n>, name: &'n str, file: &WritableObject, said: &mut Said) {
     match file.write() {
         Ok(bytes) => table.keep(name, bytes, said),
-        Err(_fault) => said.wrong("object", name),
+        Err(_error) => said.wrong("object", name),
     }
 }
 

@@ -86,13 +86,13 @@ pub fn tell_answer(names: &[&str], number: usize, answer: &Result<(), Error>, sa
     said.add(names.get(number).copied().unwrap_or("?"));
     match answer {
         Ok(()) => said.add(": Ok\n"),
-        Err(fault) => tell_fault(fault, said),
+        Err(error) => tell_error(error, said),
     }
 }
 
-fn tell_fault(fault: &Error, said: &mut Said) {
+fn tell_error(error: &Error, said: &mut Said) {
     said.add(": ");
-    said.debug(fault);
+    said.debug(error);
     said.add("\n");
 }
 
@@ -100,7 +100,7 @@ fn tell_fault(fault: &Error, said: &mut Said) {
 pub fn tell_alone(packed: &Packed, as_text: bool, said: &mut Said) {
     for i in 0..packed.outcomes.len() {
         match &packed.outcomes[i] {
-            Err(fault) if as_text => said.display(fault),
+            Err(error) if as_text => said.display(error),
             Ok(()) if as_text => said.add("Ok"),
             outcome => said.debug(outcome),
         }
@@ -114,7 +114,7 @@ pub fn text(alloc: Global, table: &Table<'_>, words: &[&str], said: &mut Said) {
     said.add("\n");
 }
 
-/// Keeps a file under a name, and says its length or its fault.
+/// Keeps a file under a name, and says its length or its error.
 pub fn keep<'n>(
     table: &mut Table<'n>,
     name: &'n str,
@@ -128,7 +128,7 @@ pub fn keep<'n>(
             said.add(" bytes\n");
             table.keep_copy(name, bytes, said);
         }
-        Err(fault) => tell_fault(fault, said),
+        Err(error) => tell_error(error, said),
     }
 }
 

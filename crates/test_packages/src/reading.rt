@@ -20,12 +20,12 @@ pub fn found<'a>(
 ) -> Result<(Option<PackagedUnit<'a>>, u32), PackageError> {
     match PackageFile::parse(file) {
         Ok(package) => package.find_counted(name),
-        Err(fault) => Err(fault),
+        Err(error) => Err(error),
     }
 }
 
 /// `unit FILE KIND ID [FIRST]`: all that the file says of a unit, with its strings from a number
-/// on, or that it is absent, or the fault.
+/// on, or that it is absent, or the error.
 pub fn unit(table: &Table<'_>, words: &[&str], said: &mut Said) {
     if let [file, kind, id, rest @ ..] = words {
         let id = number(id);
@@ -50,8 +50,8 @@ fn tell_unit(
     said: &mut Said,
 ) {
     match found {
-        Err(fault) => {
-            said.debug(fault);
+        Err(error) => {
+            said.debug(error);
             said.add("\n");
         }
         Ok((None, slots)) => {
@@ -120,7 +120,7 @@ fn tell_strings(said: &mut Said, unit: &PackagedUnit<'_>, first: u64) {
                 said.add("none\n");
                 return;
             }
-            Err(fault) => said.debug(&fault),
+            Err(error) => said.debug(&error),
         }
     }
     said.add(" ..\n");
@@ -135,9 +135,9 @@ pub fn units(table: &Table<'_>, words: &[&str], said: &mut Said) {
 
 fn tell_units(file: &[u8], said: &mut Said) {
     match PackageFile::parse(file) {
-        Err(fault) => {
+        Err(error) => {
             said.add(" ");
-            said.debug(&fault);
+            said.debug(&error);
         }
         Ok(package) => {
             for entry in package.units() {

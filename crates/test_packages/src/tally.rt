@@ -75,9 +75,9 @@ pub const GROUPS: usize = 21;
 /// What the calls did.
 #[derive(Drop)]
 pub struct Tally {
-    /// Of each call how often it answered, and how often it named a fault.
+    /// Of each call how often it answered, and how often it named an error.
     answers: [u64; 22],
-    faults: [u64; 22],
+    errors: [u64; 22],
     /// How often two calls that say the same said something else, or memory ran out.
     pub contradictions: u64,
 }
@@ -86,7 +86,7 @@ impl Tally {
     pub fn new() -> Tally {
         Tally {
             answers: [0; 22],
-            faults: [0; 22],
+            errors: [0; 22],
             contradictions: 0,
         }
     }
@@ -97,7 +97,7 @@ impl Tally {
             if answered {
                 self.answers[call] = self.answers[call].saturating_add(1);
             } else {
-                self.faults[call] = self.faults[call].saturating_add(1);
+                self.errors[call] = self.errors[call].saturating_add(1);
             }
         }
     }
@@ -114,14 +114,14 @@ impl Tally {
     pub fn tell(&self, counts: bool, said: &mut Said) {
         let mut calls: u64 = 0;
         for call in 0..22 {
-            let (answers, faults) = (self.answers[call], self.faults[call]);
-            calls = calls.saturating_add(answers).saturating_add(faults);
+            let (answers, errors) = (self.answers[call], self.errors[call]);
+            calls = calls.saturating_add(answers).saturating_add(errors);
             said.add(CALLS[call]);
-            said.add(match (answers, faults) {
+            said.add(match (answers, errors) {
                 (0, 0) => ": no call\n",
                 (_, 0) => ": answers alone\n",
-                (0, _) => ": faults alone\n",
-                _ => ": answers and faults\n",
+                (0, _) => ": errors alone\n",
+                _ => ": answers and errors\n",
             });
         }
         said.number("contradictions: ", self.contradictions);

@@ -338,9 +338,9 @@ impl Said {
     }
 
     /// Adds why such a call is refused.
-    pub fn err<T: Debug>(&mut self, fault: &T) {
+    pub fn err<T: Debug>(&mut self, error: &T) {
         self.word("Err(");
-        self.debug(fault);
+        self.debug(error);
         self.add(")");
     }
 
@@ -350,19 +350,19 @@ impl Said {
         self.add(word);
     }
 
-    /// Adds a fault and its text, in a line of their own behind the first.
-    pub fn fault<T: Debug + Display>(&mut self, fault: &T) {
+    /// Adds an error and its text, in a line of their own behind the first.
+    pub fn error<T: Debug + Display>(&mut self, error: &T) {
         self.separate("\n    ");
-        self.debug(fault);
+        self.debug(error);
         self.add(": ");
-        self.display(fault);
+        self.display(error);
     }
 
     /// Adds bytes, or why there are none.
     pub fn bytes<E: Debug>(&mut self, bytes: &Result<Vec<u8>, E>) {
         match bytes {
             Ok(bytes) => self.put(&Hex(bytes)),
-            Err(fault) => self.put(fault),
+            Err(error) => self.put(error),
         }
     }
 
@@ -370,7 +370,7 @@ impl Said {
     pub fn sized<E: Debug>(&mut self, bytes: &Result<Vec<u8>, E>) {
         match bytes {
             Ok(bytes) => self.put(&(bytes.len(), Hex(bytes))),
-            Err(fault) => self.put(fault),
+            Err(error) => self.put(error),
         }
     }
 

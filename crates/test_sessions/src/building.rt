@@ -1,4 +1,4 @@
-//! Calls of a builder and of packing, each met here alone: they promise nothing, and tell faults by
+//! Calls of a builder and of packing, each met here alone: they promise nothing, and tell errors by
 //! their names.
 
 use crate::asserting::{MEMORY, Seen};
@@ -36,7 +36,7 @@ pub fn name_of(answer: &Result<(), Error>) -> &'static str {
         },
         Err(Error::ParseFileKind(_)) => "ParseFileKind",
         Err(Error::MissingDwoName(_)) => "MissingDwoName",
-        Err(_) => "another fault",
+        Err(_) => "another error",
     }
 }
 
@@ -73,13 +73,13 @@ pub fn file_of(alloc: Global, object: &Result<WritableObject, Error>, seen: &mut
     match object {
         Ok(object) => match object.write() {
             Ok(file) => file,
-            Err(fault) => {
-                seen.expect(MEMORY, matches!(fault, WriteError::Memory));
+            Err(error) => {
+                seen.expect(MEMORY, matches!(error, WriteError::Memory));
                 object.write().unwrap_or(Vec::new(alloc))
             }
         },
-        Err(fault) => {
-            seen.expect(MEMORY, matches!(fault, Error::Memory));
+        Err(error) => {
+            seen.expect(MEMORY, matches!(error, Error::Memory));
             Vec::new(alloc)
         }
     }

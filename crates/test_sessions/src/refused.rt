@@ -331,7 +331,7 @@ fn a_refused_allocation_leaves_the_rest(rt: HostRuntime) {
 fn tell(alloc: Global, objects: &[&[u8]], seen: &mut Seen) {
     match packed(alloc, objects) {
         Ok(packed) => tell_packed(&packed, seen),
-        Err(fault) => seen.expect(MEMORY, matches!(fault, Error::Memory)),
+        Err(error) => seen.expect(MEMORY, matches!(error, Error::Memory)),
     }
     let file = sure_whole(alloc, objects);
     seen.expect("both make 608 bytes", file.len() == 608);
@@ -354,9 +354,9 @@ fn tell_packed(packed: &Packed, seen: &mut Seen) {
             let size = [608, 544].get(refused).copied().unwrap_or(0);
             seen.expect("the file has the size of those added", file.len() == size);
         }
-        Err(fault) => {
+        Err(error) => {
             seen.expect("one refusal is told once", refused == 0);
-            seen.expect(MEMORY, matches!(fault, Error::Memory));
+            seen.expect(MEMORY, matches!(error, Error::Memory));
         }
     }
 }

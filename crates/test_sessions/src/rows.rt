@@ -439,6 +439,6 @@ fn answer_of_groups<'s>(
     match pack_groups(alloc, session, groups) {
         Ok(file) if is_made_of(alloc, &file, &units) => "Ok",
         Ok(_) => "another file",
-        Err(fault) => name_of(&Err(fault)),
+        Err(error) => name_of(&Err(error)),
     }
 }

@@ -137,8 +137,8 @@ fn put_file_of(
     put(text, ": ");
     let file = file_of(alloc, object, &mut Seen::new());
     match object {
-        Err(fault) => {
-            let _ = write!(text, "{fault}");
+        Err(error) => {
+            let _ = write!(text, "{error}");
         }
         Ok(_object) => {
             put_number(text, file.len() as u64);

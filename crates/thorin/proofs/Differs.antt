@@ -6,27 +6,21 @@ use Rattle.std.specs.Map.{lookup}
 use Rattle.std.specs.Str.{bytes_eq}
 use Rattle.std.proofs.lemmas.List.{map-append}
 use Rattle.dwp_base.specs.Reading.{◌>>=◌}
-use Rattle.dwp_bytes.specs.Input.{section}
-use Rattle.dwp_bytes.specs.declared.error.ReadError.{ReadError}
 use Rattle.dwp_dwarf.specs.Units.{Unit as Header, units}
-use Rattle.dwp_dwarf.specs.declared.unit.UnitSection.{UnitSection}
 use Rattle.dwp_elf_read.specs.Elf.{Elf}
 use Rattle.dwp_table.specs.Objects.{identifier_of}
 use Rattle.dwp_table.specs.declared.object.DwarfObject.{DwarfObject}
 use Rattle.dwp_table.specs.declared.object.DwarfObject.TheVariants.{Compilation, TypeUnit}
-use Rattle.thorin_errors.specs.Answers.{as_error}
-use Rattle.thorin_errors.specs.Errors.{ErrorValue, ParseUnitHeader, EmptyUnit}
+use Rattle.thorin_errors.specs.Errors.{ErrorValue, EmptyUnit}
 use Rattle.thorin_input.specs.Encodings.{encoding_of}
 use Rattle.thorin_input.specs.Indexes.{Source, indexes_of}
 use Rattle.thorin_input.specs.Names.{same_name}
-use Rattle.thorin_input.specs.NewUnits.{NewUnit, New, Adding, Met, or_held, kept_bytes, place_for}
-use Rattle.thorin_input.specs.NewUnits.{with_first, with_unit, name_for, with_read, with_each_read}
-use Rattle.thorin_input.specs.NewUnits.{unit_section, none_met, with_met, once_test}
-use Rattle.thorin_input.specs.NewUnits.{with_section_at, with_section_in, with_section}
-use Rattle.thorin_input.specs.NewUnits.{with_each_section, new_units}
+use Rattle.thorin_input.specs.NewUnits.{NewUnit, New, Adding, or_held, kept_bytes, place_for}
+use Rattle.thorin_input.specs.NewUnits.{with_first, with_unit}
+use Rattle.thorin_input.specs.NewUnits.{new_units}
 use Rattle.thorin_input.specs.Rows.{unit_row, row_test}
 use Rattle.thorin_input.specs.Used.{Used, opened, has_info, input_file_of}
-use Rattle.thorin_join.specs.Meaning.{UnitRead, named_unit, named_each, named_at, named_sections}
+use Rattle.thorin_join.specs.Meaning.{UnitRead}
 use Rattle.thorin_join.specs.Meaning.{source_units, Meaning}
 use Rattle.thorin.specs.Differing.{Bytes, read_bytes, or_there, kept_for, differs, differing_by}
 use Rattle.thorin.specs.Differing.{differing, own_bytes, object_units, input_units}
@@ -40,90 +34,14 @@ use Rattle.thorin_input.specs.Growing.{Contents, with_parts}
 use Rattle.thorin_input.specs.Parts.{parts_of}
 use Rattle.thorin_index.specs.declared.entry.IndexEntry.{IndexEntry}
 use Rattle.std.specs.List.{list_any}
-use Rattle.dwp_base.proofs.Steps.{bind-was}
+use Rattle.dwp_base.proofs.Steps.{bind-was, same-ok}
+use Rattle.thorin_join.proofs.Units.ReadInTurn.{Steps, units-read}
 use Rattle.thorin.proofs.RunTaken.{begun-then}
-
-ok-was : {X : Type 0} (x y : X) → ◌≡◌ {A = Result X ErrorValue} (Ok x) (Ok y) → x ≡ y
-ok-was x y h = cc
-
--- ---- lists of units
-
-abbrev choose : Option (List ℕ) → Bytes → Bytes → Bytes
-choose (Some kept) passed more = passed
-choose None passed more = more
-
--- what was brought, once these were
-abbrev brought : (there before us : Bytes) → Bytes
-brought there before [] = before
-brought there before (u ∷ us) = choose (kept_for there before u.0) (brought there before us)
-    (brought there (before ++ u ∷ []) us)
-
-brought-append : (there before us vs : Bytes) → brought there before (us ++ vs)
-    ≡ brought there (brought there before us) vs
-brought-append there before [] vs = refl
-brought-append there before (u ∷ us) vs = by (kept_for there before u.0)
-    (brought-append there before us vs) (brought-append there (before ++ u ∷ []) us vs)
-  where
-    by : (k : Option (List ℕ))
-        → brought there before (us ++ vs) ≡ brought there (brought there before us) vs
-        → brought there (before ++ u ∷ []) (us ++ vs)
-        ≡ brought there (brought there (before ++ u ∷ []) us) vs
-        → choose k (brought there before (us ++ vs)) (brought there (before ++ u ∷ []) (us ++ vs))
-        ≡ brought there (choose k (brought there before us)
-        (brought there (before ++ u ∷ []) us)) vs
-    by (Some kept) one two = one
-    by None one two = two
-
-differing-append : (there before us vs : Bytes) → differing there before (us ++ vs)
-    ≡ differing there before us ++ differing there (brought there before us) vs
-differing-append there before [] vs = refl
-differing-append there before (u ∷ us) vs = by (kept_for there before u.0)
-    (differing-append there before us vs) (differing-append there (before ++ u ∷ []) us vs)
-  where
-    by : (k : Option (List ℕ))
-        → differing there before (us ++ vs)
-        ≡ differing there before us ++ differing there (brought there before us) vs
-        → differing there (before ++ u ∷ []) (us ++ vs)
-        ≡ differing there (before ++ u ∷ []) us
-        ++ differing there (brought there (before ++ u ∷ []) us) vs
-        → differing_by k u (differing there before (us ++ vs))
-        (differing there (before ++ u ∷ []) (us ++ vs))
-        ≡ differing_by k u (differing there before us) (differing there (before ++ u ∷ []) us)
-        ++ differing there (choose k (brought there before us)
-        (brought there (before ++ u ∷ []) us)) vs
-    by (Some kept) one two = ap (λ l. differs kept u ++ l) one
-        ∙ sym (append_assoc (differs kept u) (differing there before us)
-        (differing there (brought there before us) vs))
-    by None one two = two
 
 -- ---- what steps do
 
 abbrev new_bytes : List (DwarfObject × NewUnit) → Bytes
 new_bytes us = map {B = DwarfObject × List ℕ} (λ u. (u.0, u.1.bytes)) us
-
-record Passes (there : Bytes) (before after : New) (us : Bytes) : Type 0 where
-  units : new_bytes after.units ≡ brought there (new_bytes before.units) us
-  differ : after.differing ≡ before.differing ++ differing there (new_bytes before.units) us
-
-none-pass : (there : Bytes) (before after : New) → before ≡ after → Passes there before after []
-none-pass there before after same = record {
-  units = ap (λ (n : New). new_bytes n.units) (sym same);
-  differ = ap (λ (n : New). n.differing) (sym same) ∙ sym (append-nil before.differing);
-}
-
-more-pass : (there : Bytes) (before mid after : New) (us vs : Bytes) → Passes there before mid us
-    → Passes there mid after vs → Passes there before after (us ++ vs)
-more-pass there before mid after us vs one two =
-    let b = new_bytes before.units in
-    record {
-      units = two.units ∙ ap (λ m. brought there m vs) one.units ∙ sym (brought-append there b
-          us vs);
-      differ = two.differ
-          ∙ (λ i. one.differ i ++ differing there (one.units i) vs)
-          ∙ append_assoc before.differing (differing there b us)
-          (differing there (brought there b us) vs)
-          ∙ ap (λ l. before.differing ++ l) (sym (differing-append there b us vs));
-    }
 
 -- the bytes that are kept
 lookup-bytes : (name : DwarfObject) (us : List (DwarfObject × NewUnit)) (held : Option (List ℕ))
@@ -152,7 +70,7 @@ module _ (adding : Adding) where
   unfolding with_unit
   kept-pass kept from (Compilation id) unit before after h = absurd cc
   kept-pass kept from (TypeUnit signature) unit before after h =
-      by (bytes_eq kept unit.whole.bytes) (ok-was _ after h)
+      by (bytes_eq kept unit.whole.bytes) (same-ok _ after h)
     where
       by : (b : Bool) → cond b before (record before {
         differing = before.differing ++ signature.0 ∷ [];
@@ -189,7 +107,7 @@ module _ (adding : Adding) where
       by true k =
           let s1 = bind-was (row_test adding.source.indexes from.kind name unit) _ after k in
           let s2 = bind-was (unit_row adding.source.indexes adding.whole name) _ after s1.2 in
-          let is = ok-was _ after s2.2 in (
+          let is = same-ok _ after s2.2 in (
             ap (λ (n : New). new_bytes n.units) (sym is) ∙ map-append
                 {B = DwarfObject × List ℕ} (λ (u : DwarfObject × NewUnit). (u.0, u.1.bytes))
                 before.units _,
@@ -197,151 +115,50 @@ module _ (adding : Adding) where
           )
       by false k = absurd cc
 
-  none-unit : (from : Used) (name : DwarfObject) (unit : Header) (before after : New)
-      → with_unit None adding from name unit before ≡ Ok after
-      → with_first adding from name unit before ≡ Ok after
+  -- what is found to differ, unit by unit
+  steps-differ : (before after : New) (us : List (DwarfObject × UnitRead))
+      → Steps adding before us after
+      → after.differing ≡ before.differing ++ differing held (new_bytes before.units)
+      (read_bytes us)
   unfolding with_unit
-  none-unit from name unit before after h = h
-
-  unit-passes : (kept : Option (List ℕ)) (from : Used) (name : DwarfObject) (unit : Header)
-      (before after : New) → kept_for held (new_bytes before.units) name ≡ kept
-      → with_unit kept adding from name unit before ≡ Ok after
-      → Passes held before after ((name, unit.whole.bytes) ∷ [])
-  unit-passes (Some kept) from name unit before after is h =
-      let k = kept-pass kept from name unit before after h in
-      let b = new_bytes before.units in
-      let u : DwarfObject × List ℕ = (name, unit.whole.bytes) in
-      record {
-        units = ap new_bytes k.0 ∙ sym (ap (λ x. choose x b (b ++ u ∷ [])) is);
-        differ = k.1 ∙ ap (λ l. before.differing ++ l) (sym (append-nil (differs kept u)))
-            ∙ sym (ap (λ x. before.differing ++ differing_by x u [] []) is);
-      }
-  unit-passes None from name unit before after is h =
-      let k = first-pass from name unit before after (none-unit from name unit before after h) in
-      let b = new_bytes before.units in
-      let u : DwarfObject × List ℕ = (name, unit.whole.bytes) in
-      record {
-        units = k.0 ∙ sym (ap (λ x. choose x b (b ++ u ∷ [])) is);
-        differ = k.1 ∙ sym (append-nil before.differing)
-            ∙ sym (ap (λ x. before.differing ++ differing_by x u [] []) is);
-      }
-
-  -- units that were read
-  record Reads (before after : New) (meaning : Result (List (DwarfObject × UnitRead)) ErrorValue)
-      : Type 0 where
-    all : List (DwarfObject × UnitRead)
-    is : meaning ≡ Ok all
-    passes : Passes held before after (read_bytes all)
-
-  read-pass : (from : Used) (before after : New) (read : Result Header ReadError)
-      → with_read adding from before read ≡ Ok after
-      → (u : DwarfObject × UnitRead) × (named_unit adding.source from.kind read ≡ Ok u)
-      × Passes held before after (read_bytes (u ∷ []))
-  unfolding with_read named_unit
-  read-pass from before after read h =
-      let unit = bind-was (as_error ParseUnitHeader read) _ after h in
-      let name = bind-was (name_for adding.source from.kind unit.0) _ after unit.2 in (
-        (name.0, record { from = from.kind; unit = unit.0 }),
-        ap (λ r. r >>= λ v. name_for adding.source from.kind v >>= λ n.
-            Ok (n, record { from = from.kind; unit = v })) unit.1
-            ∙ ap (λ r. r >>= λ n. Ok (n, record { from = from.kind; unit = unit.0 })) name.1,
-        unit-passes (kept_bytes adding.held before.units name.0) from name.0 unit.0 before after
-            (sym (lookup-bytes name.0 before.units (lookup (same_name name.0) adding.held)))
-            name.2,
-      )
-
-  none-reads : (before after : New) → before ≡ after → Reads before after (Ok [])
-  none-reads before after same = record {
-    all = [];
-    is = refl;
-    passes = none-pass held before after same;
-  }
-
-  more-reads : (before mid after : New)
-      (r s whole : Result (List (DwarfObject × UnitRead)) ErrorValue)
-      → (one : Reads before mid r) → (two : Reads mid after s)
-      → whole ≡ Ok (one.all ++ two.all) → Reads before after whole
-  more-reads before mid after r s whole one two is = record {
-    all = one.all ++ two.all;
-    is = is;
-    passes = subst (Passes held before after) (sym (map-append {B = DwarfObject × List ℕ}
-        (λ (u : DwarfObject × UnitRead). (u.0, u.1.unit.whole.bytes)) one.all two.all))
-        (more-pass held before mid after (read_bytes one.all) (read_bytes two.all) one.passes
-        two.passes);
-  }
-
-  each-reads : (from : Used) (before after : New) (reads : List (Result Header ReadError))
-      → with_each_read adding from before reads ≡ Ok after
-      → Reads before after (named_each adding.source from.kind reads)
-  unfolding with_each_read named_each
-  each-reads from before after [] h = none-reads before after (ok-was before after h)
-  each-reads from before after (read ∷ rest) h =
-      let here = bind-was (with_read adding from before read) _ after h in
-      let one = read-pass from before here.0 read here.1 in
-      let others = each-reads from here.0 after rest here.2 in
-      let first : Reads before here.0 (Ok (one.0 ∷ [])) = record {
-        all = one.0 ∷ [];
-        is = refl;
-        passes = one.2;
-      } in
-      more-reads before here.0 after (Ok (one.0 ∷ [])) (named_each adding.source from.kind rest) _
-      first others
-      (ap (λ r. r >>= λ u. named_each adding.source from.kind rest >>= λ us. Ok (u ∷ us)) one.1
-      ∙ ap (λ r. r >>= λ us. Ok (one.0 ∷ us)) others.is)
-
-  section_at-reads : (from : Used) (place : UnitSection) (before after : Met × New)
-      → with_section_at adding from place before ≡ Ok after
-      → Reads before.1 after.1 (named_at adding.source from (Some place))
-  unfolding with_section_at
-  section_at-reads from place before after h =
-      let s1 = bind-was (once_test adding place before.0) _ after h in
-      let list = units place (section adding.source.object.order from.bytes) in
-      let s2 = bind-was (with_each_read adding from before.1 list) _ after s1.2 in
-      let j = each-reads from before.1 s2.0 list s2.1 in
-      subst (λ n. Reads before.1 n (named_at adding.source from (Some place)))
-      (ap (λ (m : Met × New). m.1) (ok-was (with_met place before.0, s2.0) after s2.2)) j
-
-  section_in-reads : (from : Used) (place : Option UnitSection) (before after : Met × New)
-      → with_section_in adding from place before ≡ Ok after
-      → Reads before.1 after.1 (named_at adding.source from place)
-  section_in-reads from None before after h = none-reads before.1 after.1
-      (ap (λ (m : Met × New). m.1) (ok-was before after h))
-  section_in-reads from (Some place) before after h = section_at-reads from place before after h
-
-  section-reads : (from : Used) (before after : Met × New)
-      → with_section adding before from ≡ Ok after
-      → Reads before.1 after.1 (named_at adding.source from (unit_section from.kind))
-  unfolding with_section
-  section-reads from before after h = section_in-reads from (unit_section from.kind) before after h
-
-  sections-reads : (before after : Met × New) (sections : List Used)
-      → with_each_section adding before sections ≡ Ok after
-      → Reads before.1 after.1 (named_sections adding.source sections)
-  unfolding with_each_section named_sections
-  sections-reads before after [] h = none-reads before.1 after.1
-      (ap (λ (m : Met × New). m.1) (ok-was before after h))
-  sections-reads before after (from ∷ rest) h =
-      let here = bind-was (with_section adding before from) _ after h in
-      let one = section-reads from before here.0 here.1 in
-      let others = sections-reads here.0 after rest here.2 in
-      more-reads before.1 here.0.1 after.1 (named_at adding.source from (unit_section from.kind))
-      (named_sections adding.source rest) _ one others
-      (ap (λ r. r >>= λ us. named_sections adding.source rest >>= λ vs. Ok (us ++ vs)) one.is
-      ∙ ap (λ r. r >>= λ vs. Ok (one.all ++ vs)) others.is)
+  steps-differ before after [] same = ap (λ (n : New). n.differing) (sym same)
+      ∙ sym (append-nil before.differing)
+  steps-differ before after (u ∷ us) h =
+      by (kept_bytes adding.held before.units u.0)
+      (lookup-bytes u.0 before.units (lookup (same_name u.0) adding.held)) h.1.is
+      (steps-differ h.0 after us h.2)
+    where
+      by : (kept : Option (List ℕ)) → kept ≡ kept_for held (new_bytes before.units) u.0
+          → with_unit kept adding h.1.from u.0 u.1.unit before ≡ Ok h.0
+          → after.differing ≡ h.0.differing ++ differing held (new_bytes h.0.units) (read_bytes us)
+          → after.differing ≡ before.differing
+          ++ differing held (new_bytes before.units) ((u.0, u.1.unit.whole.bytes) ∷ read_bytes us)
+      by (Some kept) e is later =
+          let own : DwarfObject × List ℕ = (u.0, u.1.unit.whole.bytes) in
+          let k = kept-pass kept h.1.from u.0 u.1.unit before h.0 is in
+          later
+          ∙ (λ i. k.1 i ++ differing held (new_bytes (k.0 i)) (read_bytes us))
+          ∙ append_assoc before.differing (differs kept own) _
+          ∙ ap (λ k. before.differing ++ differing_by k own
+          (differing held (new_bytes before.units) (read_bytes us)) (differing held
+          (new_bytes before.units ++ own ∷ []) (read_bytes us))) e
+      by None e is later =
+          let own : DwarfObject × List ℕ = (u.0, u.1.unit.whole.bytes) in
+          let k = first-pass h.1.from u.0 u.1.unit before h.0 is in
+          later
+          ∙ (λ i. k.1 i ++ differing held (k.0 i) (read_bytes us))
+          ∙ ap (λ k. before.differing ++ differing_by k own
+          (differing held (new_bytes before.units) (read_bytes us)) (differing held
+          (new_bytes before.units ++ own ∷ []) (read_bytes us))) e
 
   -- all of an input
   pub input-differs : (new : New) (all : List (DwarfObject × UnitRead))
       → new_units adding ≡ Ok new → source_units adding.source ≡ Ok all
       → new.differing ≡ differing held [] (read_bytes all)
-  unfolding new_units
   input-differs new all h k =
-      let start : Met × New = (none_met, record { units = []; differing = [] }) in
-      let sections = adding.source.object.sections in
-      let s = bind-was (with_each_section adding start sections) _ new h in
-      let j = sections-reads start s.0 sections s.1 in
-      let same = ok-was j.all all (sym j.is ∙ k) in
-      ap (λ (n : New). n.differing) (sym (ok-was s.0.1 new s.2)) ∙ j.passes.differ
-      ∙ ap (λ l. differing held [] (read_bytes l)) same
+      let read = units-read adding new h in
+      steps-differ (record { units = []; differing = [] }) new read.all read.steps
+      ∙ ap (λ l. differing held [] (read_bytes l)) (same-ok read.all all (sym read.is ∙ k))
 
 -- ---- a package
 
@@ -375,7 +192,7 @@ source-differs source before now all h k =
     let s1 = bind-was (parts_of source before.strings) _ now h in
     let s2 = bind-was (abbreviations_test source.object) _ now s1.2 in
     let s3 = bind-was (new_units (adding_to source before s1.0.0)) _ now s2.2 in
-    ap (λ (p : InProgress). p.differing) (sym (ok-was _ now s3.2))
+    ap (λ (p : InProgress). p.differing) (sym (same-ok _ now s3.2))
     ∙ all-keep before s1.0 s3.0
     ∙ ap (λ l. before.differing ++ l) (input-differs (adding_to source before s1.0.0)
     s3.0 all s3.1 k)
@@ -421,19 +238,19 @@ with-differs file begun now units h k =
       encoding = t2.0;
       indexes = t3.0;
     })) _ units t3.2 in
-    let object : t1.0 ≡ s1.0 = ok-was t1.0 s1.0 (sym t1.1 ∙ s1.1) in
-    let encoding : t2.0 ≡ s2.0 = ok-was t2.0 s2.0 (sym t2.1 ∙ ap encoding_of object ∙ s2.1) in
-    let indexes : t3.0 ≡ s4.0 = ok-was t3.0 s4.0
+    let object : t1.0 ≡ s1.0 = same-ok t1.0 s1.0 (sym t1.1 ∙ s1.1) in
+    let encoding : t2.0 ≡ s2.0 = same-ok t2.0 s2.0 (sym t2.1 ∙ ap encoding_of object ∙ s2.1) in
+    let indexes : t3.0 ≡ s4.0 = same-ok t3.0 s4.0
     (sym t3.1 ∙ (λ i. indexes_of (object i) (encoding i)) ∙ s4.1) in
     let all : source_units source ≡ Ok t4.0 = (λ i. source_units (record {
       object = sym object i;
       encoding = sym encoding i;
       indexes = sym indexes i;
     })) ∙ t4.1 in
-    ap differing_begun (sym (ok-was _ now s5.2))
+    ap differing_begun (sym (same-ok _ now s5.2))
     ∙ source-differs source old s5.0 t4.0 s5.1 all
     ∙ (λ i. new-differing file begun i ++ differing (new-held file begun i) []
-    (ok-was _ units t4.2 i))
+    (same-ok _ units t4.2 i))
 
 file-differs : (file : Elf) (begun now : Option InProgress) (units : Bytes) (b : Bool)
     → cond {A = Result (Option InProgress) ErrorValue} b (with_units file begun)
@@ -443,10 +260,10 @@ file-differs : (file : Elf) (begun now : Option InProgress) (units : Bytes) (b :
     units
 file-differs file begun now units true h k = with-differs file begun now units h k
 file-differs file begun now units false h k =
-    ap differing_begun (sym (ok-was _ now h)) ∙ new-differing file begun
+    ap differing_begun (sym (same-ok _ now h)) ∙ new-differing file begun
     ∙ sym (append-nil (differing_begun begun))
     ∙ ap (λ l. differing_begun begun ++ differing (own_bytes (units_begun begun)) [] l)
-    (ok-was [] units k)
+    (same-ok [] units k)
 
 begun-differs : (bytes : List ℕ) (begun now : Option InProgress) (units : Bytes)
     → with_input bytes begun ≡ Ok now → input_units bytes ≡ Ok units
@@ -456,7 +273,7 @@ unfolding with_input input_units
 begun-differs bytes begun now units h k =
     let f = bind-was (opened bytes) _ now h in
     let g = bind-was (opened bytes) _ units k in
-    let same : g.0 ≡ f.0 = ok-was g.0 f.0 (sym g.1 ∙ f.1) in
+    let same : g.0 ≡ f.0 = same-ok g.0 f.0 (sym g.1 ∙ f.1) in
     file-differs f.0 begun now units (has_info f.0) f.2
     (subst (λ x. cond {A = Result Bytes ErrorValue} (has_info x) (input_file_of x >>= object_units)
     (Ok []) ≡ Ok units) same g.2)

@@ -14,6 +14,7 @@ use Rattle.thorin.specs.Groups.{AreJoined}
 use Rattle.thorin_join.specs.Meaning.{keys, joining, can_join}
 use Rattle.thorin_input.specs.Names.{same_name, is_compilation}
 use Rattle.thorin.proofs.Shuffled.{IsPermutation-filter}
+use Rattle.dwp_base.proofs.Bools.{by-bool}
 use Rattle.thorin_join.proofs.Units.NamesApart.{same_name-self, same_name-true, same_name-equal}
 
 -- ---- names
@@ -82,6 +83,13 @@ alike-known names name h = λ test. by test (test name) refl ∙ sym
     by test false e = sym (ap (λ t. list_any test names || (t || false)) e ∙ or-false
         (list_any test names))
 
+-- nor behind others
+alike-behind : (names more : List DwarfObject) (name : DwarfObject)
+    → list_any (same_name name) names ≡ true → Alike (names ++ more) (names ++ (more ++ name ∷ []))
+alike-behind names more name known = λ test. alike-known (names ++ more) name
+    (rw (list_any-append (same_name name) names more, known) refl) test
+    ∙ ap (list_any test) (append_assoc names more (name ∷ []))
+
 joining-alike : {X : Type 0} (a b : List DwarfObject) (us : List (DwarfObject × X)) → Alike a b
     → joining a us ≡ joining b us
 joining-alike a b [] h = refl
@@ -104,35 +112,22 @@ is_new names u = not (list_any (same_name u.0) names)
 joining-new : {X : Type 0} (names more : List DwarfObject) (us : List (DwarfObject × X))
     → joining (names ++ more) us ≡ filter (is_new names) (joining more us)
 joining-new names more [] = refl
-joining-new {X} names more (u ∷ us) =
-    ap (λ b. cond b (joining (names ++ more) us) (u ∷ joining ((names ++ more) ++ u.0 ∷ []) us))
-    (list_any-append (same_name u.0) names more)
-    ∙ by (list_any (same_name u.0) names) (list_any (same_name u.0) more) refl
-    (joining-new names more us) (joining-new names (more ++ u.0 ∷ []) us)
-  where
-    by : (a b : Bool) → list_any (same_name u.0) names ≡ a
-        → joining (names ++ more) us ≡ filter (is_new names) (joining more us)
-        → joining (names ++ (more ++ u.0 ∷ [])) us ≡ filter (is_new names)
-        (joining (more ++ u.0 ∷ []) us)
-        → cond (a || b) (joining (names ++ more) us) (u ∷ joining ((names ++ more) ++ u.0 ∷ []) us)
-        ≡ filter (is_new names) (cond b (joining more us) (u ∷ joining (more ++ u.0 ∷ []) us))
-    by true true e here there = here
-    by false true e here there = here
-    by true false e here there =
-        joining-alike (names ++ more) (names ++ (more ++ u.0 ∷ [])) us (λ test.
-        alike-known (names ++ more) u.0 (list_any-append (same_name u.0) names more ∙ ap (λ t.
-        t || list_any (same_name u.0) more) e) test ∙ ap (list_any test)
-        (append_assoc names more (u.0 ∷ [])))
-        ∙ there
-        ∙ sym (ap (λ t. cond (not t) (u ∷ filter (is_new names) (joining (more ++ u.0 ∷ []) us))
-        (filter (is_new names) (joining (more ++ u.0 ∷ []) us))) e)
-    by false false e here there =
-        ap (λ l. u ∷ l) (ap (λ n. joining n us) (append_assoc names more (u.0 ∷ [])) ∙ there)
-        ∙ sym (ap (λ t. cond (not t) (u ∷ filter (is_new names) (joining (more ++ u.0 ∷ []) us))
-        (filter (is_new names) (joining (more ++ u.0 ∷ []) us))) e)
+joining-new names more (u ∷ us) = rw (list_any-append (same_name u.0) names more) (by-bool _
+    (list_any (same_name u.0) more)
+    (λ there. rw (there, or-true (list_any (same_name u.0) names)) (joining-new names more us))
+    (λ new. rw (new, or-false (list_any (same_name u.0) names)) (by-bool _
+    (list_any (same_name u.0) names)
+    (λ known. rw known (joining-alike (names ++ more) (names ++ (more ++ u.0 ∷ [])) us
+    (alike-behind names more u.0 known) ∙ joining-new names (more ++ u.0 ∷ []) us))
+    (λ fresh. rw fresh (ap (λ l. u ∷ l) (ap (λ n. joining n us) (append_assoc names more (u.0 ∷ []))
+    ∙ joining-new names (more ++ u.0 ∷ []) us))))))
 
 abbrev clashes : List DwarfObject → DwarfObject → Bool
 clashes names name = is_compilation name && list_any (same_name name) names
+
+-- whether there is none of these among some units
+abbrev Clashing : {X : Type 0} → List DwarfObject → List (DwarfObject × X) → Bool → Type 0
+Clashing names us b = b ≡ not (list_any (clashes names) (keys us))
 
 -- a list that can be joined can be joined to more names where none of its compilation units is
 -- there
@@ -140,123 +135,84 @@ can_join-new : {X : Type 0} (names more : List DwarfObject) (us : List (DwarfObj
     → can_join more us ≡ true → can_join (names ++ more) us ≡ not
     (list_any (clashes names) (keys us))
 can_join-new names more [] h = refl
-can_join-new {X} names more (u ∷ us) h =
-    ap (λ b. cond b (not (is_compilation u.0) && can_join (names ++ more) us)
-    (can_join ((names ++ more) ++ u.0 ∷ []) us)) (list_any-append (same_name u.0) names more)
-    ∙ by (list_any (same_name u.0) names) (list_any (same_name u.0) more) (is_compilation u.0) refl
-    h (can_join-new names more us) (can_join-new names (more ++ u.0 ∷ []) us)
+can_join-new names more (u ∷ us) h = rw (list_any-append (same_name u.0) names more)
+    (by (list_any (same_name u.0) names) (list_any (same_name u.0) more) (is_compilation u.0) refl h
+    (can_join-new names more us) (λ k. ap (λ n. can_join n us) (append_assoc names more (u.0 ∷ []))
+    ∙ can_join-new names (more ++ u.0 ∷ []) us k) (λ known k. can_join-alike (names ++ more)
+    (names ++ (more ++ u.0 ∷ [])) us (alike-behind names more u.0 known)
+    ∙ can_join-new names (more ++ u.0 ∷ []) us k))
   where
-    rest : Bool
-    rest = list_any (clashes names) (keys us)
-
     by : (a b c : Bool) → list_any (same_name u.0) names ≡ a
         → cond b (not c && can_join more us) (can_join (more ++ u.0 ∷ []) us) ≡ true
-        → (can_join more us ≡ true → can_join (names ++ more) us ≡ not
-        (list_any (clashes names) (keys us)))
-        → (can_join (more ++ u.0 ∷ []) us ≡ true → can_join (names ++ (more ++ u.0 ∷ [])) us ≡ not
-        (list_any (clashes names) (keys us)))
+        → (can_join more us ≡ true → Clashing names us (can_join (names ++ more) us))
+        → (can_join (more ++ u.0 ∷ []) us ≡ true
+        → Clashing names us (can_join ((names ++ more) ++ u.0 ∷ []) us))
+        → (list_any (same_name u.0) names ≡ true → can_join (more ++ u.0 ∷ []) us ≡ true
+        → Clashing names us (can_join (names ++ more) us))
         → cond (a || b) (not c && can_join (names ++ more) us)
-        (can_join ((names ++ more) ++ u.0 ∷ []) us) ≡ not
-        ((c && a) || list_any (clashes names) (keys us))
-    by a true true e h here there = absurd (true≢false (sym h))
-    by true true false e h here there = here h
-    by false true false e h here there = here h
-    by true false true e h here there = refl
-    by true false false e h here there =
-        can_join-alike (names ++ more) (names ++ (more ++ u.0 ∷ [])) us (λ test.
-        alike-known (names ++ more) u.0 (list_any-append (same_name u.0) names more ∙ ap (λ t.
-        t || list_any (same_name u.0) more) e) test ∙ ap (list_any test)
-        (append_assoc names more (u.0 ∷ [])))
-        ∙ there h
-    by false false true e h here there = ap (λ n. can_join n us) (append_assoc names more
-        (u.0 ∷ [])) ∙ there h
-    by false false false e h here there = ap (λ n. can_join n us) (append_assoc names more
-        (u.0 ∷ [])) ∙ there h
+        (can_join ((names ++ more) ++ u.0 ∷ []) us)
+        ≡ not ((c && a) || list_any (clashes names) (keys us))
+    by a true true e h here there known = absurd (true≢false (sym h))
+    by true true false e h here there known = here h
+    by false true false e h here there known = here h
+    by true false true e h here there known = refl
+    by true false false e h here there known = known e h
+    by false false true e h here there known = there h
+    by false false false e h here there known = there h
 
 -- the names that are there once a list was joined are those before and the list's
 names-joined : {X : Type 0} (names : List DwarfObject) (us : List (DwarfObject × X))
     → Alike (names ++ keys (joining names us)) (names ++ keys us)
 names-joined names [] = λ test. refl
-names-joined {X} names (u ∷ us) = by (list_any (same_name u.0) names) refl (names-joined names us)
-    (names-joined (names ++ u.0 ∷ []) us)
-  where
-    by : (b : Bool) → list_any (same_name u.0) names ≡ b
-        → Alike (names ++ keys (joining names us)) (names ++ keys us)
-        → Alike ((names ++ u.0 ∷ []) ++ keys (joining (names ++ u.0 ∷ []) us))
-        ((names ++ u.0 ∷ []) ++ keys us)
-        → Alike (names ++ keys (cond b (joining names us) (u ∷ joining (names ++ u.0 ∷ []) us)))
-        (names ++ u.0 ∷ keys us)
-    by true e here there = λ test.
-        here test
-        ∙ alike-append names (names ++ u.0 ∷ []) (keys us) (keys us) (alike-known names u.0 e)
-        (λ t. refl) test
-        ∙ ap (list_any test) (append_assoc names (u.0 ∷ []) (keys us))
-    by false e here there = λ test.
-        ap (list_any test) (sym (append_assoc names (u.0 ∷ [])
-        (keys (joining (names ++ u.0 ∷ []) us))))
-        ∙ there test
-        ∙ ap (list_any test) (append_assoc names (u.0 ∷ []) (keys us))
+names-joined names (u ∷ us) =
+    by-bool _ (list_any (same_name u.0) names)
+    (λ known. rw known (λ test. names-joined names us test
+    ∙ alike-append names (names ++ u.0 ∷ []) (keys us) (keys us) (alike-known names u.0 known)
+    (λ t. refl) test
+    ∙ ap (list_any test) (append_assoc names (u.0 ∷ []) (keys us))))
+    (λ new. rw new (λ test. ap (list_any test) (sym (append_assoc names (u.0 ∷ [])
+    (keys (joining (names ++ u.0 ∷ []) us))))
+    ∙ names-joined (names ++ u.0 ∷ []) us test
+    ∙ ap (list_any test) (append_assoc names (u.0 ∷ []) (keys us))))
 
 -- more units are joined to the names of those before them, too
 pub joining-append : {X : Type 0} (names : List DwarfObject) (us vs : List (DwarfObject × X))
     → joining names (us ++ vs) ≡ joining names us ++ joining (names ++ keys (joining names us)) vs
 joining-append names [] vs = ap (λ n. joining n vs) (sym (append-nil names))
-joining-append {X} names (u ∷ us) vs = by (list_any (same_name u.0) names) (joining-append names us
-    vs) (joining-append (names ++ u.0 ∷ []) us vs)
-  where
-    by : (b : Bool)
-        → joining names (us ++ vs) ≡ joining names us ++ joining
-        (names ++ keys (joining names us)) vs
-        → joining (names ++ u.0 ∷ []) (us ++ vs) ≡ joining (names ++ u.0 ∷ []) us ++ joining
-        ((names ++ u.0 ∷ []) ++ keys (joining (names ++ u.0 ∷ []) us)) vs
-        → cond b (joining names (us ++ vs)) (u ∷ joining (names ++ u.0 ∷ []) (us ++ vs))
-        ≡ cond b (joining names us) (u ∷ joining (names ++ u.0 ∷ []) us) ++ joining
-        (names ++ keys (cond b (joining names us) (u ∷ joining (names ++ u.0 ∷ []) us))) vs
-    by true here there = here
-    by false here there = ap (λ l. u ∷ l) (there ∙ ap (λ n. joining (names ++ u.0 ∷ []) us ++
-        joining n vs) (append_assoc names (u.0 ∷ []) (keys (joining (names ++ u.0 ∷ []) us))))
+joining-append names (u ∷ us) vs =
+    by-bool _ (list_any (same_name u.0) names)
+    (λ there. rw there (joining-append names us vs))
+    (λ new. rw new (ap (λ l. u ∷ l) (joining-append (names ++ u.0 ∷ []) us vs ∙ ap (λ n.
+    joining (names ++ u.0 ∷ []) us ++ joining n vs) (append_assoc names (u.0 ∷ [])
+    (keys (joining (names ++ u.0 ∷ []) us))))))
+
+and_assoc : (a b c : Bool) → ((a && b) && c) ≡ (a && (b && c))
+and_assoc true b c = refl
+and_assoc false b c = refl
 
 -- a list can be joined where its front can, and then what follows
 pub can_join-append : {X : Type 0} (names : List DwarfObject) (us vs : List (DwarfObject × X))
-    → can_join names (us ++ vs) ≡ (can_join names us && can_join
-    (names ++ keys (joining names us)) vs)
+    → can_join names (us ++ vs) ≡ (can_join names us && can_join (names ++ keys (joining names us)) vs)
 can_join-append names [] vs = ap (λ n. can_join n vs) (sym (append-nil names))
-can_join-append {X} names (u ∷ us) vs = by (list_any (same_name u.0) names)
-    (not (is_compilation u.0)) (can_join-append names us vs)
-    (can_join-append (names ++ u.0 ∷ []) us vs)
-  where
-    by : (b c : Bool)
-        → can_join names (us ++ vs) ≡ (can_join names us && can_join
-        (names ++ keys (joining names us)) vs)
-        → can_join (names ++ u.0 ∷ []) (us ++ vs) ≡ (can_join (names ++ u.0 ∷ []) us && can_join
-        ((names ++ u.0 ∷ []) ++ keys (joining (names ++ u.0 ∷ []) us)) vs)
-        → cond b (c && can_join names (us ++ vs)) (can_join (names ++ u.0 ∷ []) (us ++ vs))
-        ≡ (cond b (c && can_join names us) (can_join (names ++ u.0 ∷ []) us) && can_join
-        (names ++ keys (cond b (joining names us) (u ∷ joining (names ++ u.0 ∷ []) us))) vs)
-    by true true here there = here
-    by true false here there = refl
-    by false c here there = there ∙ ap (λ n. can_join (names ++ u.0 ∷ []) us && can_join n vs)
-        (append_assoc names (u.0 ∷ []) (keys (joining (names ++ u.0 ∷ []) us)))
+can_join-append names (u ∷ us) vs =
+    by-bool _ (list_any (same_name u.0) names)
+    (λ there. rw there (ap (λ b. not (is_compilation u.0) && b) (can_join-append names us vs)
+    ∙ sym (and_assoc (not (is_compilation u.0)) _ _)))
+    (λ new. rw new (can_join-append (names ++ u.0 ∷ []) us vs ∙ ap (λ n.
+    can_join (names ++ u.0 ∷ []) us && can_join n vs) (append_assoc names (u.0 ∷ [])
+    (keys (joining (names ++ u.0 ∷ []) us)))))
 
 -- ---- lists without a name twice
 
 pub joined-distinct : {X : Type 0} (names : List DwarfObject) (us : List (DwarfObject × X))
     → IsDistinct same_name names → IsDistinct same_name (names ++ keys (joining names us))
 joined-distinct names [] h = subst (IsDistinct same_name) (sym (append-nil names)) h
-joined-distinct {X} names (u ∷ us) h = by (list_any (same_name u.0) names) refl
-    (joined-distinct names us h) (joined-distinct (names ++ u.0 ∷ []) us)
-  where
-    by : (b : Bool) → list_any (same_name u.0) names ≡ b
-        → IsDistinct same_name (names ++ keys (joining names us))
-        → (IsDistinct same_name (names ++ u.0 ∷ []) → IsDistinct same_name ((names ++ u.0 ∷ []) ++
-        keys (joining (names ++ u.0 ∷ []) us)))
-        → IsDistinct same_name
-        (names ++ keys (cond b (joining names us) (u ∷ joining (names ++ u.0 ∷ []) us)))
-    by true e here there = here
-    by false e here there =
-        subst (IsDistinct same_name) (append_assoc names (u.0 ∷ [])
-        (keys (joining (names ++ u.0 ∷ []) us)))
-        (there (IsDistinct-push names-equal names u.0 h e))
+joined-distinct names (u ∷ us) h =
+    by-bool _ (list_any (same_name u.0) names)
+    (λ known. rw known (joined-distinct names us h))
+    (λ new. rw new (subst (IsDistinct same_name) (append_assoc names (u.0 ∷ [])
+    (keys (joining (names ++ u.0 ∷ []) us))) (joined-distinct (names ++ u.0 ∷ []) us
+    (IsDistinct-push names-equal names u.0 h new))))
 
 -- a name that comes later isn't among those before
 not-before : (names : List DwarfObject) (name : DwarfObject) (rest : List DwarfObject)

@@ -2,5 +2,6 @@
 pub mod UnitsBySection
 pub mod RowPlaces
 pub mod OneRow
+pub mod RowByRow
 pub mod OneSection
 pub mod Package

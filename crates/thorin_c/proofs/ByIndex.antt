@@ -10,12 +10,12 @@ use Rattle.dwp_index.specs.Index.{Index, Ranges, row_in}
 use Rattle.dwp_index.specs.Package.{Package, as_error, index_for, row_inside, row_found}
 use Rattle.dwp_index.specs.Package.{row_counted, unit_in, unit_found, unit_at_row, found_counted}
 use Rattle.dwp_index.specs.Package.{unit_of_row}
-use Rattle.dwp_index.specs.declared.error.PackageError.TheVariants as faults
+use Rattle.dwp_index.specs.declared.error.PackageError.TheVariants as errors
 use Rattle.thorin_c.specs.ByIndex.{row_numbered, row_named, inside}
 
 row_by_row : (pack : Package) (n count : ℕ) (row : Result Ranges ReadError)
-    → (as_error faults.Index row >>= row_inside pack n count)
-    ≡ ((as_error faults.Index row >>= λ r. Ok (Some (n, r), count)) >>= inside pack)
+    → (as_error errors.Index row >>= row_inside pack n count)
+    ≡ ((as_error errors.Index row >>= λ r. Ok (Some (n, r), count)) >>= inside pack)
 row_by_row pack n count (Ok row) = refl
 row_by_row pack n count (Err e) = refl
 
@@ -38,9 +38,9 @@ pub row_is : (pack : Package) (object : DwarfObject)
 row_is pack object = row_by_index pack object (index_for pack object) refl
 
 unit_by_row : (pack : Package) (object : DwarfObject) (n count : ℕ) (row : Result Ranges ReadError)
-    → (as_error faults.Index row >>= λ r. (unit_in pack object n r >>= λ unit.
+    → (as_error errors.Index row >>= λ r. (unit_in pack object n r >>= λ unit.
     Ok (Some unit, count)))
-    ≡ ((as_error faults.Index row >>= λ r. Ok (Some (n, r), count)) >>= unit_of_row pack object)
+    ≡ ((as_error errors.Index row >>= λ r. Ok (Some (n, r), count)) >>= unit_of_row pack object)
 unit_by_row pack object n count (Ok row) = refl
 unit_by_row pack object n count (Err e) = refl
 

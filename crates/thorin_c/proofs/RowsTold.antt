@@ -10,7 +10,7 @@ use Rattle.dwp_index.specs.Index.{Ranges}
 use Rattle.dwp_index.specs.Package.{Package, index_for, all_inside, first_outside, as_error}
 use Rattle.dwp_index.specs.Package.{unit_of_row, unit_in as unit_of_ranges}
 use Rattle.dwp_index.specs.declared.error.PackageError.{PackageError}
-use Rattle.dwp_index.specs.declared.error.PackageError.TheVariants as faults
+use Rattle.dwp_index.specs.declared.error.PackageError.TheVariants as errors
 use Rattle.thorin_c.specs.ByIndex.{row_named, row_present, inside, row_encoding, row_with}
 use Rattle.thorin_c.specs.Finding.{object_of, as_status, present, row_of, row_found, unit_of}
 use Rattle.thorin_c.specs.Finding.{unit_in, unit_found}
@@ -137,7 +137,7 @@ unit_absent pack kind id object s o n = unit_told pack kind id object o
 abbrev unit_by : Option SectionKind → Result Encoding ReadError → ℕ → Ranges → ℕ
     → Result ThorinUnit ℤ
 unit_by outside encoding number row slots = as_status (all_inside outside) >>= λ all.
-    (as_status (as_error faults.Unit encoding) >>= λ e. Ok (row_with number row slots e))
+    (as_status (as_error errors.Unit encoding) >>= λ e. Ok (row_with number row slots e))
 
 unit_inside_by : (pack : Package) (object : DwarfObject) (number : ℕ) (row : Ranges) (slots : ℕ)
     (o : Option SectionKind) (e : Result Encoding ReadError) → first_outside pack.contents row ≡ o
@@ -191,7 +191,7 @@ encoded encoding number row slots =
 
 unit_kept_by : (o : Option SectionKind) (e : Result Encoding ReadError) (number : ℕ)
     (row : Ranges) (slots : ℕ) → is_some o ≡ false
-    → unit_by o e number row slots ≡ encoded (as_error faults.Unit e) number row slots
+    → unit_by o e number row slots ≡ encoded (as_error errors.Unit e) number row slots
 unit_kept_by None e number row slots kept = refl
 unit_kept_by (Some k) e number row slots kept = absurd cc
 
@@ -199,7 +199,7 @@ pub unit_inside : (pack : Package) (kind id : ℕ) (object : DwarfObject) (numbe
     (row : Ranges) (slots : ℕ) (r : Result Encoding PackageError) → object_of kind id ≡ Ok object
     → row_present pack object ≡ Ok ((number, row), slots)
     → is_some (first_outside pack.contents row) ≡ false
-    → as_error faults.Unit (row_encoding pack object row) ≡ r
+    → as_error errors.Unit (row_encoding pack object row) ≡ r
     → unit_found (Ok pack) kind id ≡ encoded r number row slots
 unit_inside pack kind id object number row slots r named n kept e = unit_present_is pack kind id
     object number row slots (first_outside pack.contents row) (row_encoding pack object row) named n

@@ -10,7 +10,7 @@ use Rattle.thorin_executable.specs.declared.listing.SkeletonList.{SkeletonList}
 use Rattle.thorin_errors.specs.declared.error.Error.{Error}
 use Rattle.thorin_c.specs.Skeletons.{paths_of, skeleton_of, skeleton_named, ListsUnits, TellsOfEnd}
 use Rattle.thorin_c.specs.Skeletons.{IsNoWantOfMemory}
-use Rattle.thorin_c.specs.Packing.{TellsOfFault}
+use Rattle.thorin_c.specs.Packing.{TellsOfError}
 use Rattle.thorin_c.specs.Listing.{written_over}
 use Rattle.thorin_c.specs.declared.types.ThorinReport.{ThorinReport}
 use Rattle.thorin_c.specs.declared.types.ThorinSkeleton.{ThorinSkeleton}
@@ -68,13 +68,13 @@ lists l old new before after text count report names paths is number size = reco
 }
 
 -- what holds unless memory ran out
-pub unless_memory : (fault : Option Error) (P : Type 0) → UnlessMemory fault P
-    → IsNoWantOfMemory fault → P
+pub unless_memory : (error : Option Error) (P : Type 0) → UnlessMemory error P
+    → IsNoWantOfMemory error → P
 unless_memory None P h k = h
 unless_memory (Some e) P h k = h k
 
 -- the fields that are told of an error, behind the size
-pub end_alone : (old new : ThorinReport) (n : ℕ) → TellsOfFault (record old { size = n }) new
+pub end_alone : (old new : ThorinReport) (n : ℕ) → TellsOfError (record old { size = n }) new
     → TellsOfEnd old new
 end_alone old new n told =
     let size : n ≡ new.size = sym (ap (λ (r : ThorinReport). r.size) told) in

@@ -8,7 +8,7 @@ use Rattle.dwp_base.specs.Reading.{◌>>=◌}
 use Rattle.thorin_errors.specs.Errors.{ErrorValue, error_of, NoOutputObjectCreated}
 use Rattle.thorin_errors.specs.Answers.{MemoryAside}
 use Rattle.thorin_errors.specs.declared.error.Error.{Error}
-use Rattle.thorin_errors.specs.declared.error.Error.TheVariants as error
+use Rattle.thorin_errors.specs.declared.error.Error.TheVariants as errors
 use Rattle.thorin.specs.Run.{IsWritten, RefusesToWrite}
 use Rattle.dwp_table.specs.declared.object.DebugTypeSignature.{DebugTypeSignature}
 use Rattle.thorin_c.specs.Listing.{written_over}
@@ -69,10 +69,10 @@ accepts-next inputs i d old middle new h before now joins =
 -- what is told of a refused input
 pub refuses : (inputs : List ThorinBytes) (old : State) (refusal : RefusedInput)
     (report : ThorinReport) → old ≡ start
-    → StopsAt inputs old refusal.number refusal.fault → TellsRefused refusal.number refusal.fault
+    → StopsAt inputs old refusal.number refusal.error → TellsRefused refusal.number refusal.error
     report → Refuses inputs report
 refuses inputs old refusal report is at told =
-    let here : RefusesAt inputs old refusal.number (error_of refusal.fault) =
+    let here : RefusesAt inputs old refusal.number (error_of refusal.error) =
     record {
       within = at.within;
       state = at.state;
@@ -81,16 +81,16 @@ refuses inputs old refusal report is at told =
           at.refused told.not_memory;
     } in
     record {
-      fault = error_of refusal.fault;
-      refused = subst (λ s. RefusesAt inputs s report.input (error_of refusal.fault)) is
-          (subst (λ n. RefusesAt inputs old n (error_of refusal.fault)) (sym told.input) here);
+      error = error_of refusal.error;
+      refused = subst (λ s. RefusesAt inputs s report.input (error_of refusal.error)) is
+          (subst (λ n. RefusesAt inputs old n (error_of refusal.error)) (sym told.input) here);
       told = told.told;
     }
 
 -- and of one at which memory ran out
 pub runs_out_at : (inputs : List ThorinBytes) (old : State) (refusal : RefusedInput)
     (number : ℕ) → old ≡ start
-    → StopsAt inputs old refusal.number refusal.fault → number ≡ refusal.number
+    → StopsAt inputs old refusal.number refusal.error → number ≡ refusal.number
     → RunsOutAt inputs number
 runs_out_at inputs old refusal number is at here =
     subst (λ n. RunsOutAt inputs n) (sym here) (record {
@@ -100,18 +100,18 @@ runs_out_at inputs old refusal number is at here =
     })
 
 -- and of a package that can't be finished
-pub unfinished : (inputs : List ThorinBytes) (fault : Error) (report : ThorinReport)
-    → Leaves inputs fault → TellsLeft fault report → TellsUnfinished inputs report
-unfinished inputs fault report is told = record {
-  fault = error_of fault;
+pub unfinished : (inputs : List ThorinBytes) (error : Error) (report : ThorinReport)
+    → Leaves inputs error → TellsLeft error report → TellsUnfinished inputs report
+unfinished inputs error report is told = record {
+  error = error_of error;
   is = record { state = is.state; accepted = is.accepted; refused = is.refused told.not_memory };
   told = told.told;
 }
 
 -- and of one for which memory ran out
-pub runs_out_after : (inputs : List ThorinBytes) (fault : Error) (number : ℕ) → Leaves inputs fault
-    → (fault ≡ error.Memory) × (number ≡ length inputs) → RunsOutAfter inputs number
-runs_out_after inputs fault number is out = record {
+pub runs_out_after : (inputs : List ThorinBytes) (error : Error) (number : ℕ) → Leaves inputs error
+    → (error ≡ errors.Memory) × (number ≡ length inputs) → RunsOutAfter inputs number
+runs_out_after inputs error number is out = record {
   some = subst (λ n. 0 < n) (sym out.1) (is.memory out.0);
   all = out.1;
   state = is.state;
@@ -175,10 +175,10 @@ handed_over inputs file written rest n same size again =
     (sym ((λ i. take (size i) (same i ++ rest)) ∙ take-append_seam file rest)) again
 
 -- and why it can't be finished
-pub fails : (inputs : List ThorinBytes) (old state : State) (fault : Error) → old ≡ start
+pub fails : (inputs : List ThorinBytes) (old state : State) (error : Error) → old ≡ start
     → 0 < length inputs → Accepts inputs old state
-    → MemoryAside fault (RefusesToWrite state (error_of fault)) → Leaves inputs fault
-fails inputs old state fault is some accepted refused = record {
+    → MemoryAside error (RefusesToWrite state (error_of error)) → Leaves inputs error
+fails inputs old state error is some accepted refused = record {
   state = state;
   accepted = subst (λ s. Accepts inputs s state) is accepted;
   refused = refused;
@@ -191,7 +191,7 @@ none_begun = refl
 
 -- no input makes no package
 pub none_fails : (inputs : List ThorinBytes) → length inputs ≡ 0
-    → Leaves inputs error.NoOutputObjectCreated
+    → Leaves inputs errors.NoOutputObjectCreated
 none_fails [] e = record {
   state = start;
   accepted = record { taken = refl; joined = refl };

@@ -12,7 +12,7 @@ use Rattle.dwp_index.specs.Index.{Index, Ranges, row_in, range_in}
 use Rattle.dwp_index.specs.Package.{Package, as_error, index_for, row_inside, row_bytes, place_of}
 use Rattle.dwp_index.specs.Package.{kind_of, encoding_in}
 use Rattle.dwp_index.specs.declared.error.PackageError.{PackageError}
-use Rattle.dwp_index.specs.declared.error.PackageError.TheVariants as faults
+use Rattle.dwp_index.specs.declared.error.PackageError.TheVariants as errors
 use Rattle.thorin_c.specs.Finding.{as_status, present, row_of}
 use Rattle.thorin_c.specs.declared.types.ThorinUnit.{ThorinUnit}
 
@@ -20,7 +20,7 @@ use Rattle.thorin_c.specs.declared.types.ThorinUnit.{ThorinUnit}
 abbrev pub row_numbered : Index → Option ℕ → ℕ → Result (Option (ℕ × Ranges) × ℕ) PackageError
 row_numbered index None count = Ok (None, count)
 row_numbered index (Some number) count =
-    as_error faults.Index (row_in index number) >>= λ row. Ok (Some (number, row), count)
+    as_error errors.Index (row_in index number) >>= λ row. Ok (Some (number, row), count)
 
 -- the row of an identifier by an index
 abbrev pub row_named : DwarfObject → Option Index → Result (Option (ℕ × Ranges) × ℕ) PackageError

@@ -15,21 +15,21 @@ use Rattle.dwp_index.specs.Index.{Ranges, range_in}
 use Rattle.dwp_index.specs.Package.{Package, FoundUnit, found_counted, row_counted, row_bytes}
 use Rattle.dwp_index.specs.Strings.{string_in}
 use Rattle.dwp_index.specs.declared.error.PackageError.{PackageError}
-use Rattle.dwp_index.specs.declared.error.PackageError.TheVariants as faults
+use Rattle.dwp_index.specs.declared.error.PackageError.TheVariants as errors
 use Rattle.thorin_c.specs.declared.types.ThorinLookup.{ThorinLookup}
 use Rattle.thorin_c.specs.declared.types.ThorinRange.{ThorinRange}
 use Rattle.thorin_c.specs.declared.types.ThorinUnit.{ThorinUnit}
 
 -- the status of a package, or of one of its units, that can't be read
 abbrev pub status_of : PackageError → ℤ
-status_of (faults.Elf cause) = pos 3
-status_of (faults.Index cause) = pos 4
-status_of (faults.Range kind) = pos 5
-status_of (faults.Unit cause) = pos 6
+status_of (errors.Elf cause) = pos 3
+status_of (errors.Index cause) = pos 4
+status_of (errors.Range kind) = pos 5
+status_of (errors.Unit cause) = pos 6
 
 abbrev pub as_status : {A : Type 0} → Result A PackageError → Result A ℤ
 as_status (Ok x) = Ok x
-as_status (Err fault) = Err (status_of fault)
+as_status (Err error) = Err (status_of error)
 
 -- the name of a unit by its kind: 1 for a compilation unit, 2 for a type unit; 2 is also the status
 -- of any other
@@ -120,7 +120,7 @@ content_found read kind id section = do
 abbrev pub string_or_status : Result (Option (List ℕ)) ReadError → Result (List ℕ) ℤ
 string_or_status (Ok (Some string)) = Ok string
 string_or_status (Ok None) = Err (pos 8)
-string_or_status (Err fault) = Err (pos 9)
+string_or_status (Err error) = Err (pos 9)
 
 -- a unit's string of a number
 unfoldable pub string_found : Result Package ℤ → ℕ → ℕ → ℕ → Result (List ℕ) ℤ

@@ -1,5 +1,5 @@
 pub mod ByIndex
-pub mod Faults
+pub mod Errors
 pub mod Finding
 pub mod Headers
 pub mod Listing

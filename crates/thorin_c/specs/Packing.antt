@@ -6,7 +6,7 @@ use Rattle.dwp_base.specs.Reading.{◌>>=◌}
 use Rattle.thorin_errors.specs.Answers.{MemoryAside}
 use Rattle.thorin_errors.specs.Errors.{ErrorValue, error_of}
 use Rattle.thorin_errors.specs.declared.error.Error.{Error}
-use Rattle.thorin_errors.specs.declared.error.Error.TheVariants as error
+use Rattle.thorin_errors.specs.declared.error.Error.TheVariants as errors
 use Rattle.thorin_join.specs.Builder.{State, start, taken, differing_in}
 use Rattle.thorin_join.specs.Join.{JoinAll, IsPackageOf}
 use Rattle.thorin_join.specs.Meaning.{Members}
@@ -14,7 +14,7 @@ use Rattle.thorin_again.specs.Own.{packs_again}
 use Rattle.thorin_join.specs.Represents.{units_in}
 use Rattle.thorin.specs.Again.{IsTakenAgain}
 use Rattle.thorin.specs.Run.{IsWritten, RefusesToWrite}
-use Rattle.thorin_c.specs.Faults.{Tells}
+use Rattle.thorin_c.specs.Errors.{Tells}
 use Rattle.thorin_c.specs.Listing.{written_over}
 use Rattle.thorin_c.specs.declared.packing.Refusal.{Refusal}
 use Rattle.thorin_c.specs.declared.packing.Refusal.TheVariants as refusals
@@ -31,7 +31,7 @@ no_files path (Err cause) = Unit {0}
 abbrev pub bytes_of : List ThorinBytes → List (List ℕ)
 bytes_of inputs = map (λ input. input.bytes.now) inputs
 
--- the state once each input was taken, or the first fault
+-- the state once each input was taken, or the first error
 abbrev pub all_taken : List ThorinBytes → State → Result State ErrorValue
 all_taken [] state = Ok state
 all_taken (input ∷ rest) state = taken input.bytes.now state >>= λ next. all_taken rest next
@@ -41,23 +41,23 @@ pub record Accepts (inputs : List ThorinBytes) (old new : State) : Type 0 where
   pub taken : all_taken inputs old ≡ Ok new
   pub joined : JoinAll (bytes_of inputs) (units_in old) (units_in new)
 
--- the input of this number is refused for this fault, and those before it are accepted
+-- the input of this number is refused for this error, and those before it are accepted
 pub record RefusesAt (inputs : List ThorinBytes) (old : State) (number : ℕ)
-    (fault : ErrorValue) : Type 0 where
+    (error : ErrorValue) : Type 0 where
   pub within : number < length inputs
   pub state : State
   pub before : Accepts (take number inputs) old state
-  pub refused : HoldsAt (λ input. taken input.bytes.now state ≡ Err fault) inputs number
+  pub refused : HoldsAt (λ input. taken input.bytes.now state ≡ Err error) inputs number
 
 -- the input of this number isn't taken, and those before it are accepted: it is refused for this
--- fault, want of memory aside
+-- error, want of memory aside
 pub record StopsAt (inputs : List ThorinBytes) (old : State) (number : ℕ)
-    (fault : Error) : Type 0 where
+    (error : Error) : Type 0 where
   pub within : number < length inputs
   pub state : State
   pub before : Accepts (take number inputs) old state
-  pub refused : MemoryAside fault
-      (HoldsAt (λ input. taken input.bytes.now state ≡ Err (error_of fault)) inputs number)
+  pub refused : MemoryAside error
+      (HoldsAt (λ input. taken input.bytes.now state ≡ Err (error_of error)) inputs number)
 
 -- all inputs are accepted; the bytes are the file of the finished package, a package of their
 -- joined units; so many type units were passed over that differ from those kept; and 1 where it is
@@ -79,34 +79,34 @@ pub record ArePackedAgain (inputs : List ThorinBytes) (bytes : List ℕ) : Type 
   pub joined : JoinAll (bytes_of inputs) [] units
   pub again : IsTakenAgain units bytes
 
--- all inputs are accepted, and the package can't be finished or written for this fault
-pub record IsUnfinished (inputs : List ThorinBytes) (fault : ErrorValue) : Type 0 where
+-- all inputs are accepted, and the package can't be finished or written for this error
+pub record IsUnfinished (inputs : List ThorinBytes) (error : ErrorValue) : Type 0 where
   pub state : State
   pub accepted : Accepts inputs start state
-  pub refused : RefusesToWrite state fault
+  pub refused : RefusesToWrite state error
 
 -- the same, want of memory aside, which there is with no input none of
-pub record Leaves (inputs : List ThorinBytes) (fault : Error) : Type 0 where
+pub record Leaves (inputs : List ThorinBytes) (error : Error) : Type 0 where
   pub state : State
   pub accepted : Accepts inputs start state
-  pub refused : MemoryAside fault (RefusesToWrite state (error_of fault))
-  pub memory : fault ≡ error.Memory → 0 < length inputs
+  pub refused : MemoryAside error (RefusesToWrite state (error_of error))
+  pub memory : error ≡ errors.Memory → 0 < length inputs
 
 -- what stands in a refusal
 abbrev pub IsRefusal : List ThorinBytes → Refusal → Type 0
-IsRefusal inputs (refusals.Input input) = StopsAt inputs start input.number input.fault
-IsRefusal inputs (refusals.Package fault) = Leaves inputs fault
+IsRefusal inputs (refusals.Input input) = StopsAt inputs start input.number input.error
+IsRefusal inputs (refusals.Package error) = Leaves inputs error
 
 -- what is told of a refused input, and of a package that can't be finished or written; never of
 -- want of memory
-pub record TellsRefused (number : ℕ) (fault : Error) (report : ThorinReport) : Type 0 where
+pub record TellsRefused (number : ℕ) (error : Error) (report : ThorinReport) : Type 0 where
   pub input : report.input ≡ number
-  pub told : Tells (error_of fault) report
-  pub not_memory : fault ≢ error.Memory
+  pub told : Tells (error_of error) report
+  pub not_memory : error ≢ errors.Memory
 
-pub record TellsLeft (fault : Error) (report : ThorinReport) : Type 0 where
-  pub told : Tells (error_of fault) report
-  pub not_memory : fault ≢ error.Memory
+pub record TellsLeft (error : Error) (report : ThorinReport) : Type 0 where
+  pub told : Tells (error_of error) report
+  pub not_memory : error ≢ errors.Memory
 
 -- the package stands at the beginning of the room, the rest of which is as it was
 pub record Packs (inputs : List ThorinBytes) (report : ThorinReport)
@@ -122,17 +122,17 @@ pub record Needs (inputs : List ThorinBytes) (report : ThorinReport) (room : ℕ
   pub size : report.size ≡ length bytes
   pub past : room < report.size
 
--- the first input that is refused, and its fault
+-- the first input that is refused, and its error
 pub record Refuses (inputs : List ThorinBytes) (report : ThorinReport) : Type 0 where
-  pub fault : ErrorValue
-  pub refused : RefusesAt inputs start report.input fault
-  pub told : Tells fault report
+  pub error : ErrorValue
+  pub refused : RefusesAt inputs start report.input error
+  pub told : Tells error report
 
 -- why the package can't be finished or written
 pub record TellsUnfinished (inputs : List ThorinBytes) (report : ThorinReport) : Type 0 where
-  pub fault : ErrorValue
-  pub is : IsUnfinished inputs fault
-  pub told : Tells fault report
+  pub error : ErrorValue
+  pub is : IsUnfinished inputs error
+  pub told : Tells error report
 
 -- memory ran out while the input of this number was taken, those before it being accepted
 pub record RunsOutAt (inputs : List ThorinBytes) (number : ℕ) : Type 0 where
@@ -174,8 +174,8 @@ TellsOfInput old new = new ≡ record old {
   text = new.text;
 }
 
-abbrev pub TellsOfFault : ThorinReport → ThorinReport → Type 0
-TellsOfFault old new = new ≡ record old {
+abbrev pub TellsOfError : ThorinReport → ThorinReport → Type 0
+TellsOfError old new = new ≡ record old {
   fault = new.fault;
   text_size = new.text_size;
   text = new.text;
@@ -192,7 +192,7 @@ TellsOfDiffering old new = new ≡ record old { differing = new.differing }
 abbrev pub TellsAlone : (ThorinReport → ThorinReport → Type 0) → ℤ → ThorinReport → ThorinReport
     → Type 0
 TellsAlone Done status old new = ((status ≡ pos 0) ⊎ (status ≡ pos 10) → Done old new)
-    × (status ≡ pos 11 → TellsOfInput old new) × (status ≡ pos 12 → TellsOfFault old new)
+    × (status ≡ pos 11 → TellsOfInput old new) × (status ≡ pos 12 → TellsOfError old new)
     × (status ≡ pos 13 → TellsOfMemory old new)
 
 -- what may be answered

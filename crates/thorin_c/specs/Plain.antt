@@ -4,7 +4,7 @@ use Rattle.std.specs.Prelude.{◌⊎◌}
 use Rattle.dwp_elf_read.specs.Elf.{elf_of}
 use Rattle.dwp_decompress.specs.Result.{decompressed_of}
 use Rattle.dwp_decompress.specs.declared.error.DecompressError.{DecompressError}
-use Rattle.dwp_decompress.specs.declared.error.DecompressError.TheVariants as faults
+use Rattle.dwp_decompress.specs.declared.error.DecompressError.TheVariants as errors
 
 -- the file with plain sections stands at the beginning of the room, the rest of which is as it was
 pub record Decompresses (bytes : List ℕ) (size : ℕ) (old new : List ℕ) : Type 0 where
@@ -22,24 +22,24 @@ pub record NeedsRoom (bytes : List ℕ) (size room : ℕ) : Type 0 where
 -- the status of a file that isn't decompressed: it can't be read; one of its compressed sections is
 -- damaged, or of a type that isn't read; it can't be written, or memory ran out
 abbrev pub status_of : DecompressError → ℤ
-status_of (faults.Read e) = pos 3
-status_of faults.Header = pos 15
-status_of (faults.Stream e) = pos 15
-status_of faults.Zstd = pos 16
-status_of (faults.UnknownType type) = pos 16
-status_of faults.Unrepresentable = pos 17
-status_of faults.Memory = pos 13
+status_of (errors.Read e) = pos 3
+status_of errors.Header = pos 15
+status_of (errors.Stream e) = pos 15
+status_of errors.Zstd = pos 16
+status_of (errors.UnknownType type) = pos 16
+status_of errors.Unrepresentable = pos 17
+status_of errors.Memory = pos 13
 
--- the fault of such a file
-pub record IsFault (bytes : List ℕ) (status : ℤ) : Type 0 where
-  pub fault : DecompressError
-  pub is : decompressed_of bytes ≡ Err fault
-  pub status_is : status ≡ status_of fault
+-- the error of such a file
+pub record IsError (bytes : List ℕ) (status : ℤ) : Type 0 where
+  pub error : DecompressError
+  pub is : decompressed_of bytes ≡ Err error
+  pub status_is : status ≡ status_of error
 
--- the statuses under which a fault is told
-abbrev pub TellsFault : ℤ → Type 0
-TellsFault status = (status ≡ pos 3) ⊎ ((status ≡ pos 15) ⊎ (status ≡ pos 16))
+-- the statuses under which an error is told
+abbrev pub TellsError : ℤ → Type 0
+TellsError status = (status ≡ pos 3) ⊎ ((status ≡ pos 15) ⊎ (status ≡ pos 16))
 
 abbrev pub IsPlainStatus : ℤ → Type 0
 IsPlainStatus status = (status ≡ pos 0) ⊎ ((status ≡ pos 10) ⊎ ((status ≡ pos 14)
-    ⊎ (TellsFault status ⊎ ((status ≡ pos 17) ⊎ (status ≡ pos 13)))))
+    ⊎ (TellsError status ⊎ ((status ≡ pos 17) ⊎ (status ≡ pos 13)))))

@@ -4,9 +4,9 @@ use Rattle.dwp_table.specs.declared.object.DwarfObject.{DwarfObject}
 use Rattle.dwp_table.specs.declared.object.DwarfObject.TheVariants.{Compilation, TypeUnit}
 use Rattle.thorin_errors.specs.Errors.{ErrorValue}
 use Rattle.thorin_errors.specs.declared.error.Error.{Error}
-use Rattle.thorin_errors.specs.declared.error.Error.TheVariants as error
+use Rattle.thorin_errors.specs.declared.error.Error.TheVariants as errors
 use Rattle.thorin_executable.specs.Skeletons.{Named}
-use Rattle.thorin_c.specs.Faults.{Tells}
+use Rattle.thorin_c.specs.Errors.{Tells}
 use Rattle.thorin_c.specs.Listing.{written_over}
 use Rattle.thorin_c.specs.declared.types.ThorinReport.{ThorinReport}
 use Rattle.thorin_c.specs.declared.types.ThorinSkeleton.{ThorinSkeleton}
@@ -32,12 +32,12 @@ pub record ListsUnits (units : List Named) (old new : List ThorinSkeleton) (befo
   pub number : count ≡ length units
   pub size : report.size ≡ length (paths_of units)
 
--- the fault that ended a list is told
+-- the error that ended a list is told
 abbrev pub TellsEnd : Option ErrorValue → ThorinReport → Type 0
 TellsEnd None report = ⊥
-TellsEnd (Some fault) report = Tells fault report
+TellsEnd (Some error) report = Tells error report
 
--- which fields of a report are written: at a whole list, and at one that a fault ends; the others
+-- which fields of a report are written: at a whole list, and at one that an error ends; the others
 -- are as they were
 abbrev pub TellsOfList : ThorinReport → ThorinReport → Type 0
 TellsOfList old new = new ≡ record old { size = new.size }
@@ -53,4 +53,4 @@ TellsOfEnd old new = new ≡ record old {
 -- nothing was lacking
 abbrev pub IsNoWantOfMemory : Option Error → Type 0
 IsNoWantOfMemory None = Unit {0}
-IsNoWantOfMemory (Some fault) = fault ≢ error.Memory
+IsNoWantOfMemory (Some error) = error ≢ errors.Memory

@@ -95,7 +95,7 @@ pub(crate) fn open(bytes: &[u8]) -> Result<PackageFile<'_>, i32>
 {
     match PackageFile::parse(bytes) {
         Ok(file) => Ok(file),
-        Err(fault) => Err(status_of(fault)),
+        Err(error) => Err(status_of(error)),
     }
 }
 
@@ -128,7 +128,7 @@ fn find_in<'a>(
 {
     match file.find_counted(object) {
         Ok(found) => Ok(found),
-        Err(fault) => Err(status_of(fault)),
+        Err(error) => Err(status_of(error)),
     }
 }
 
@@ -188,7 +188,7 @@ fn fill(file: &PackageFile<'_>, kind: u8, id: u64, found: &mut ThorinUnit) -> i3
             DONE
         }
         Ok((None, _)) => ABSENT,
-        Err(fault) => status_of(*fault),
+        Err(error) => status_of(*error),
     }
 }
 

@@ -141,7 +141,7 @@ fn find_unit(places: &ThorinPackage, bytes: &[u8], kind: u8, id: u64, found: &mu
 {
     let pack = match Opened::at(places, bytes, Endianness::Little) {
         Ok(pack) => pack,
-        Err(fault) => return status_of(fault),
+        Err(error) => return status_of(error),
     };
     let object = match object_of(kind, id) {
         Ok(object) => object,
@@ -160,7 +160,7 @@ fn find_unit(places: &ThorinPackage, bytes: &[u8], kind: u8, id: u64, found: &mu
             write_encoding(encoding, found);
             DONE
         }
-        Err(fault) => status_of(fault),
+        Err(error) => status_of(error),
     }
 }
 
@@ -173,7 +173,7 @@ fn find_row(places: &ThorinPackage, bytes: &[u8], kind: u8, id: u64, found: &mut
 {
     let pack = match Opened::at(places, bytes, Endianness::Little) {
         Ok(pack) => pack,
-        Err(fault) => return status_of(fault),
+        Err(error) => return status_of(error),
     };
     let object = match object_of(kind, id) {
         Ok(object) => object,
@@ -196,7 +196,7 @@ fn opened<'p, 'a>(places: &'p ThorinPackage, bytes: &'a [u8]) -> Result<Opened<'
 {
     match Opened::at(places, bytes, order_of(places.big_endian)) {
         Ok(pack) => Ok(pack),
-        Err(fault) => Err(status_of(fault)),
+        Err(error) => Err(status_of(error)),
     }
 }
 
@@ -216,7 +216,7 @@ fn fill(pack: &Opened<'_, '_>, kind: u8, id: u64, found: &mut ThorinUnit) -> i32
             DONE
         }
         Ok((None, _)) => ABSENT,
-        Err(fault) => status_of(*fault),
+        Err(error) => status_of(*error),
     }
 }
 
@@ -235,7 +235,7 @@ fn fill_row(pack: &Opened<'_, '_>, kind: u8, id: u64, found: &mut ThorinUnit) ->
             DONE
         }
         Ok((None, _)) => ABSENT,
-        Err(fault) => status_of(*fault),
+        Err(error) => status_of(*error),
     }
 }
 
@@ -296,7 +296,7 @@ fn find<'p, 'a>(
 {
     match pack.find_counted(object) {
         Ok(found) => Ok(found),
-        Err(fault) => Err(status_of(fault)),
+        Err(error) => Err(status_of(error)),
     }
 }
 

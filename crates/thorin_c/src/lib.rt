@@ -2,7 +2,7 @@
 //! library, and states its clauses again. `include/thorin.h` declares them.
 #![tactic(auto)]
 
-mod faults;
+mod error;
 mod finding;
 mod header;
 mod inside;

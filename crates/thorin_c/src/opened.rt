@@ -8,7 +8,7 @@ ghost use Rattle.dwp_index.specs.Index.{row_in};
 ghost use Rattle.dwp_index.specs.Package.{as_error, index_in_section, index_for, unit_in};
 ghost use Rattle.dwp_index.specs.Package.{encoding_in, found_counted, row_inside, row_counted};
 ghost use Rattle.dwp_index.specs.Package.{first_outside};
-ghost use Rattle.dwp_index.specs.declared.error.PackageError.TheVariants as faults;
+ghost use Rattle.dwp_index.specs.declared.error.PackageError.TheVariants as errors;
 ghost use Rattle.thorin_c.specs.ByIndex.{row_named, row_present, row_encoding};
 ghost use Rattle.thorin_c.specs.Opening.{package_in, order_of};
 
@@ -117,7 +117,7 @@ impl<'p, 'a> Opened<'p, 'a> {
                 None => Err(ABSENT),
                 Some((number, row)) => Ok(((number, row), count)),
             },
-            Err(fault) => Err(status_of(fault)),
+            Err(error) => Err(status_of(error)),
         }
     }
 
@@ -137,7 +137,7 @@ impl<'p, 'a> Opened<'p, 'a> {
         row: &Row<'a>,
     ) -> Result<Encoding, PackageError>
         ensures { Answers (λ x. x) result
-            (as_error faults.Unit (row_encoding self.now object row.now)) }
+            (as_error errors.Unit (row_encoding self.now object row.now)) }
     {
         let place = place_of(object, row.range(SectionKind::Types));
         let bytes = self.sections.row_bytes(row, kind_of(place));
@@ -245,7 +245,7 @@ fn read_index<'a>(bytes: &'a [u8], order: Endianness) -> Result<Option<UnitIndex
 
 #[inline(always)]
 fn read_row<'a>(index: &UnitIndex<'a>, number: u32) -> Result<Row<'a>, PackageError>
-    ensures { Answers (λ x. x) result (as_error faults.Index (row_in index.now number)) }
+    ensures { Answers (λ x. x) result (as_error errors.Index (row_in index.now number)) }
 {
     match index.row(number) {
         Ok(row) => Ok(row),
@@ -259,7 +259,7 @@ fn read_encoding(
     order: Endianness,
     place: UnitSection,
 ) -> Result<Encoding, PackageError>
-    ensures { Answers (λ x. x) result (as_error faults.Unit (encoding_in order place bytes.now)) }
+    ensures { Answers (λ x. x) result (as_error errors.Unit (encoding_in order place bytes.now)) }
 {
     match encoding_in(bytes, order, place) {
         Ok(encoding) => Ok(encoding),

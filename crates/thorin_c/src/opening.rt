@@ -7,7 +7,7 @@ ghost use Rattle.dwp_elf_read.specs.View.{elf, section};
 ghost use Rattle.dwp_index.specs.Contents.{is_of_kind, has_older_name, used_bytes, content_among};
 ghost use Rattle.dwp_index.specs.Contents.{contents_of};
 ghost use Rattle.dwp_index.specs.Package.{as_error, package_of};
-ghost use Rattle.dwp_index.specs.declared.error.PackageError.TheVariants as faults;
+ghost use Rattle.dwp_index.specs.declared.error.PackageError.TheVariants as errors;
 ghost use Rattle.thorin_c.specs.Opening.{bytes_at, order_of, sections_at, package_in, opened};
 ghost use Rattle.thorin_c.specs.Opening.{IsPlaceIn, LieIn};
 ghost use Rattle.thorin_c.specs.Finding.{as_status, Fills};
@@ -38,7 +38,7 @@ pub extern "C" fn thorin_open(bytes: &[u8], places: &mut ThorinPackage) -> i32
             *places = found;
             DONE
         }
-        Err(fault) => status_of(fault),
+        Err(error) => status_of(error),
     }
 }
 
@@ -53,12 +53,12 @@ fn places_of(bytes: &[u8]) -> Result<ThorinPackage, PackageError>
     let places = read_places(&file, bytes)?;
     match Opened::at(&places, bytes, order_of(places.big_endian)) {
         Ok(_) => Ok(places),
-        Err(fault) => Err(fault),
+        Err(error) => Err(error),
     }
 }
 
 fn read_file(bytes: &[u8]) -> Result<ElfFile<'_>, PackageError>
-    ensures exact { Answers elf result (as_error faults.Elf (elf_of bytes.now)) }
+    ensures exact { Answers elf result (as_error errors.Elf (elf_of bytes.now)) }
     ensures whole { IfOk result (λ file. elf_of bytes.now ≡ Ok (elf file)) }
 {
     match ElfFile::parse(bytes) {
@@ -70,7 +70,7 @@ fn read_file(bytes: &[u8]) -> Result<ElfFile<'_>, PackageError>
 fn read_places(file: &ElfFile<'_>, bytes: &[u8]) -> Result<ThorinPackage, PackageError>
     requires { elf_of bytes.now ≡ Ok (elf file.now) }
     ensures contents { Answers (λ places. sections_at places bytes.now) result
-        (as_error faults.Elf (contents_of (elf file.now).sections)) }
+        (as_error errors.Elf (contents_of (elf file.now).sections)) }
     ensures order { IfOk result (λ places. order_of places.big_endian ≡ (elf file.now).order) }
     ensures inside { IfOk result (LieIn bytes.now) }
 {

@@ -10,10 +10,10 @@ ghost use Rattle.thorin_c.specs.Packing.{Accepts, StopsAt, IsPackage, IsRefusal,
 ghost use Rattle.thorin_c.specs.Packing.{ArePackedAgain, TellsLeft, Packs, Needs, Refuses};
 ghost use Rattle.thorin_c.specs.Packing.{TellsUnfinished, RunsOutAt, RunsOutAfter, Differ};
 ghost use Rattle.thorin_c.specs.Packing.{IsPackingStatus, IsDifferingStatus, TellsAlone};
-ghost use Rattle.thorin_c.specs.Packing.{TellsOfPackage, TellsOfInput, TellsOfFault, TellsOfMemory};
+ghost use Rattle.thorin_c.specs.Packing.{TellsOfPackage, TellsOfInput, TellsOfError, TellsOfMemory};
 ghost use Rattle.thorin_c.specs.Packing.{TellsOfDiffering};
 
-use crate::faults::tell;
+use crate::error::tell;
 use crate::session::NoFiles;
 use crate::status::{DONE, NO_MEMORY, REFUSED, TOO_SMALL, UNFINISHED};
 use crate::types::{ThorinBytes, ThorinReport};
@@ -32,11 +32,11 @@ struct Packed {
     packs_again: bool,
 }
 
-/// An input that was refused, or at which memory ran out: its number, and the fault.
+/// An input that was refused, or at which memory ran out: its number, and the error.
 #[derive(Drop)]
 struct RefusedInput {
     number: usize,
-    fault: Error,
+    error: Error,
 }
 
 /// Why inputs weren't packed.
@@ -55,7 +55,7 @@ enum Refusal {
 /// is too small, and `report.size` is the length that is needed; 11 where an input is refused, the
 /// first of them `report.input`; 12 where the package can't be finished or written; 13 where memory
 /// ran out at the input `report.input`, or, at their number, while the package was finished and
-/// written. Under 11 and 12 the fault's number and text stand in `report`. The other fields of
+/// written. Under 11 and 12 the error's number and text stand in `report`. The other fields of
 /// `report` are left as they are.
 #[tactic(auto, using(crate::proofs::Taking::refuses, crate::proofs::Taking::unfinished, crate::proofs::Taking::runs_out_at, crate::proofs::Taking::runs_out_after))]
 #[unsafe(no_mangle)]
@@ -91,7 +91,7 @@ pub extern "C" fn thorin_pack(
         }
         Err(refusal) => match refusal {
             Refusal::Input(input) => refused(input, report),
-            Refusal::Package(fault) => unfinished(fault, inputs.len(), report),
+            Refusal::Package(error) => unfinished(error, inputs.len(), report),
         },
     }
 }
@@ -130,35 +130,35 @@ pub extern "C" fn thorin_differing_types(
 
 // Tells of an input that was refused, or at which memory ran out.
 fn refused(refusal: RefusedInput, report: &mut ThorinReport) -> i32
-    ensures told { result ≡ pos 11 → TellsRefused refusal.number refusal.fault report.new }
+    ensures told { result ≡ pos 11 → TellsRefused refusal.number refusal.error report.new }
     ensures memory { result ≡ pos 13 → report.new.input ≡ refusal.number }
     ensures status { (result ≡ pos 11) ⊎ (result ≡ pos 13) }
     ensures input_alone { result ≡ pos 11 → TellsOfInput report.old report.new }
     ensures memory_alone { result ≡ pos 13 → TellsOfMemory report.old report.new }
 {
-    let RefusedInput { number, fault } = refusal;
-    if matches!(fault, Error::Memory) {
+    let RefusedInput { number, error } = refusal;
+    if matches!(error, Error::Memory) {
         report.input = number as u64;
         return NO_MEMORY;
     }
-    tell(fault, report);
+    tell(error, report);
     report.input = number as u64;
     REFUSED
 }
 
 // Tells of a package that can't be finished or written, of so many inputs.
-fn unfinished(fault: Error, count: usize, report: &mut ThorinReport) -> i32
-    ensures told { result ≡ pos 12 → TellsLeft fault report.new }
-    ensures memory { result ≡ pos 13 → (fault ≡ Error.Memory) × (report.new.input ≡ count) }
+fn unfinished(error: Error, count: usize, report: &mut ThorinReport) -> i32
+    ensures told { result ≡ pos 12 → TellsLeft error report.new }
+    ensures memory { result ≡ pos 13 → (error ≡ Error.Memory) × (report.new.input ≡ count) }
     ensures status { (result ≡ pos 12) ⊎ (result ≡ pos 13) }
-    ensures fault_alone { result ≡ pos 12 → TellsOfFault report.old report.new }
+    ensures error_alone { result ≡ pos 12 → TellsOfError report.old report.new }
     ensures memory_alone { result ≡ pos 13 → TellsOfMemory report.old report.new }
 {
-    if matches!(fault, Error::Memory) {
+    if matches!(error, Error::Memory) {
         report.input = count as u64;
         return NO_MEMORY;
     }
-    tell(fault, report);
+    tell(error, report);
     UNFINISHED
 }
 
@@ -188,22 +188,22 @@ fn package_of(alloc: Global, inputs: &[ThorinBytes<'_>]) -> Result<Packed, Refus
             differing,
             packs_again,
         }),
-        Err(fault) => Err(Refusal::Package(fault)),
+        Err(error) => Err(Refusal::Package(error)),
     }
 }
 
-// Adds inputs in order, up to the first that isn't taken: its number and its fault.
+// Adds inputs in order, up to the first that isn't taken: its number and its error.
 fn add_all<'o, 's: 'o>(
     builder: &mut DwarfPackage<'o, 's, NoFiles>,
     inputs: &[ThorinBytes<'_>],
 ) -> Result<(), RefusedInput>
     ensures accepted { OnOk result (Accepts inputs.now builder.old.state builder.new.state) }
     ensures refused { IfErr result (λ refusal.
-        StopsAt inputs.now builder.old.state refusal.number refusal.fault) }
+        StopsAt inputs.now builder.old.state refusal.number refusal.error) }
 {
     for (number, input) in inputs.iter().enumerate() {
-        if let Err(fault) = builder.add_object_bytes(input.bytes) {
-            return Err(RefusedInput { number, fault });
+        if let Err(error) = builder.add_object_bytes(input.bytes) {
+            return Err(RefusedInput { number, error });
         }
     }
     Ok(())

@@ -5,7 +5,7 @@ ghost use Rattle.std.specs.Prelude.{Some, None};
 ghost use Rattle.dwp_decompress.specs.Result.{decompressed_of};
 ghost use Rattle.dwp_decompress.specs.declared.error.DecompressError.TheVariants.{Memory};
 ghost use Rattle.dwp_decompress.specs.declared.error.DecompressError.TheVariants.{Unrepresentable};
-ghost use Rattle.thorin_c.specs.Plain.{Decompresses, NeedsRoom, IsFault, TellsFault, IsPlainStatus};
+ghost use Rattle.thorin_c.specs.Plain.{Decompresses, NeedsRoom, IsError, TellsError, IsPlainStatus};
 ghost use Rattle.thorin_c.specs.Plain.{status_of};
 
 use crate::status::{
@@ -32,7 +32,7 @@ pub extern "C" fn thorin_decompress(
     ensures plain { result ≡ pos 0 → Decompresses bytes.now size.new out.old out.new }
     ensures small { result ≡ pos 10 → NeedsRoom bytes.now size.new (length out.old) }
     ensures none { result ≡ pos 14 → decompressed_of bytes.now ≡ Ok None }
-    ensures fault { TellsFault result → IsFault bytes.now result }
+    ensures error { TellsError result → IsError bytes.now result }
     ensures status { IsPlainStatus result }
     ensures unchanged { result ≢ pos 0 → out.new ≡ out.old }
     ensures untold { result ≢ pos 0 → result ≢ pos 10 → size.new ≡ size.old }
@@ -40,7 +40,7 @@ pub extern "C" fn thorin_decompress(
     match decompressed(alloc, bytes) {
         Ok(Some(file)) => put(file.as_slice(), out, size),
         Ok(None) => NOT_COMPRESSED,
-        Err(fault) => status_of(fault),
+        Err(error) => status_of(error),
     }
 }
 
@@ -62,10 +62,10 @@ fn put(file: &[u8], out: &mut [u8], size: &mut u64) -> i32
 }
 
 /// The status of a file that isn't decompressed.
-fn status_of(fault: DecompressError) -> i32
-    ensures { result ≡ status_of fault }
+fn status_of(error: DecompressError) -> i32
+    ensures { result ≡ status_of error }
 {
-    match fault {
+    match error {
         DecompressError::Read(_) => MALFORMED_FILE,
         DecompressError::Header | DecompressError::Stream(_) => DAMAGED,
         DecompressError::Zstd | DecompressError::UnknownType(_) => UNKNOWN_COMPRESSION,

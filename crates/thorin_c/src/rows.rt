@@ -56,6 +56,6 @@ fn fill_row(file: &PackageFile<'_>, kind: u8, id: u64, found: &mut ThorinUnit) -
             DONE
         }
         Ok((None, _)) => ABSENT,
-        Err(fault) => status_of(*fault),
+        Err(error) => status_of(*error),
     }
 }

@@ -7,7 +7,7 @@ ghost use Rattle.thorin_c.specs.Listing.{written_over};
 ghost use Rattle.thorin_c.specs.Skeletons.{skeleton_of, skeleton_named, paths_of, ListsUnits};
 ghost use Rattle.thorin_c.specs.Skeletons.{TellsEnd, TellsOfList, TellsOfEnd, IsNoWantOfMemory};
 
-use crate::faults::tell;
+use crate::error::tell;
 use crate::status::{DONE, NO_MEMORY, REFUSED};
 use crate::types::{ThorinReport, ThorinSkeleton};
 use dwp_table::DwarfObject;
@@ -18,8 +18,8 @@ use thorin_executable::{Skeleton, SkeletonList};
 
 /// Lists the split units that an executable names, and the paths of their objects, each with a zero
 /// byte behind it, as far as there is room: 0, how many units there are in `count`, and how many
-/// bytes all paths have in `report.size`. 11 where a fault ends the list: the same of the units
-/// before it, and the fault in `report`. 13 where memory ran out, and then all is left as it is.
+/// bytes all paths have in `report.size`. 11 where an error ends the list: the same of the units
+/// before it, and the error in `report`. 13 where memory ran out, and then all is left as it is.
 #[tactic(auto, using(crate::proofs::SkeletonLists::unless_memory))]
 #[unsafe(no_mangle)]
 pub extern "C" fn thorin_skeletons(
@@ -53,10 +53,10 @@ pub extern "C" fn thorin_skeletons(
 }
 
 /// Whether memory ran out.
-fn lacks_memory(fault: &Option<Error>) -> bool
-    ensures { result ≡ false → IsNoWantOfMemory fault.now }
+fn lacks_memory(error: &Option<Error>) -> bool
+    ensures { result ≡ false → IsNoWantOfMemory error.now }
 {
-    matches!(fault, Some(Error::Memory))
+    matches!(error, Some(Error::Memory))
 }
 
 /// Tells of a list whose paths are this text.
@@ -78,15 +78,15 @@ fn told(
     ensures ended_alone { result ≡ pos 11 → TellsOfEnd report.old report.new }
     ensures status { (result ≡ pos 0) ⊎ (result ≡ pos 11) }
 {
-    let SkeletonList { units, fault } = list;
+    let SkeletonList { units, fault: error } = list;
     write_names(&units, names);
     write_paths(text, paths);
     *count = units.len() as u64;
     report.size = text.len() as u64;
-    match fault {
+    match error {
         None => DONE,
-        Some(fault) => {
-            tell(fault, report);
+        Some(error) => {
+            tell(error, report);
             REFUSED
         }
     }

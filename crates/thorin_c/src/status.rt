@@ -60,10 +60,10 @@ pub(crate) const UNKNOWN_COMPRESSION: i32 = 16;
 pub(crate) const UNWRITABLE: i32 = 17;
 
 /// The status of a package, or of one of its units, that can't be read.
-pub(crate) fn status_of(fault: PackageError) -> i32
-    ensures { result ≡ status_of fault }
+pub(crate) fn status_of(error: PackageError) -> i32
+    ensures { result ≡ status_of error }
 {
-    match fault {
+    match error {
         PackageError::Elf(_) => MALFORMED_FILE,
         PackageError::Index(_) => MALFORMED_INDEX,
         PackageError::Range(_) => RANGE_OUTSIDE,

@@ -96,10 +96,10 @@ pub struct ThorinReport {
     pub differing: u64,
     /// 1 where the package is sure to be taken as an input again, else 0.
     pub packs_again: u32,
-    /// The number of the fault, from 1 on.
+    /// The number of the error, from 1 on.
     pub fault: u32,
-    /// How many bytes the fault's text has.
+    /// How many bytes the error's text has.
     pub text_size: u32,
-    /// The fault's text, with a zero byte behind it.
+    /// The error's text, with a zero byte behind it.
     pub text: [u8; 256],
 }

@@ -5,3 +5,4 @@ pub mod HeadersRead
 pub mod InRows
 pub mod Sorts
 pub mod Whole
+pub mod ReadInTurn

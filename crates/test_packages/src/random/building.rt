@@ -74,7 +74,7 @@ pub fn read_back(file: &[u8], units: &[DwarfObject], tally: &mut Tally) {
                 tally.expect(units.contains(&entry.object));
             }
         }
-        Err(_fault) => tally.expect(false),
+        Err(_error) => tally.expect(false),
     }
 }
 
@@ -100,6 +100,6 @@ fn compare_groups(alloc: Global, built: &Built<'_>, tally: &mut Tally) {
     tally.note(tally::GROUPS, file.is_ok());
     match &file {
         Ok(file) => read_back(file, &built.end.units, tally),
-        Err(fault) => tally.expect(!matches!(fault, Error::Memory)),
+        Err(error) => tally.expect(!matches!(error, Error::Memory)),
     }
 }

@@ -40,7 +40,7 @@ pub fn refer(
     give(alloc, &files, &first, missing, tally);
 }
 
-/// What an executable names, up to its first fault.
+/// What an executable names, up to its first error.
 fn listed(alloc: Global, bytes: &[u8], tally: &mut Tally) -> SkeletonList {
     let arena = Bump::new(alloc);
     let session = BytesSession::new(&arena);
@@ -52,7 +52,7 @@ fn listed(alloc: Global, bytes: &[u8], tally: &mut Tally) -> SkeletonList {
 fn put(alloc: Global, files: &mut Files, path: &str, bytes: Vec<u8>) -> bool {
     match String::from_str(alloc, path) {
         Ok(path) => files.insert(path, bytes).is_ok(),
-        Err(_fault) => false,
+        Err(_error) => false,
     }
 }
 

@@ -56,7 +56,7 @@ fn read_name(section: &Section<'_>, tally: &mut Tally) {
     tally.note(tally::NAME, name.is_ok());
     let kind = match name {
         Ok(name) => SectionKind::of_name(name),
-        Err(_fault) => None,
+        Err(_error) => None,
     };
     tally.expect(kind == section.section_kind());
 }
@@ -198,7 +198,7 @@ fn tag_of<R: Reader>(
     match found {
         Ok(Some(abbreviation)) => Ok(Some(abbreviation.tag())),
         Ok(None) => Ok(None),
-        Err(fault) => Err(fault),
+        Err(error) => Err(error),
     }
 }
 

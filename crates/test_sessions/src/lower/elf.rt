@@ -20,8 +20,8 @@ fn append_each(object: &mut WritableObject, seen: &mut Seen) -> bool {
     for i in 0..SECTIONS.len() {
         let (kind, bytes) = SECTIONS[i];
         let size = object.file_size().unwrap_or(0);
-        if let Err(fault) = object.append(kind, bytes) {
-            seen.expect(MEMORY, matches!(fault, WriteError::Memory));
+        if let Err(error) = object.append(kind, bytes) {
+            seen.expect(MEMORY, matches!(error, WriteError::Memory));
             let is_left = object.file_size().unwrap_or(1) == size;
             seen.expect("the size is as before", is_left);
             return false;
@@ -34,7 +34,7 @@ fn append_each(object: &mut WritableObject, seen: &mut Seen) -> bool {
 fn write(object: &WritableObject, seen: &mut Seen) {
     match object.write() {
         Ok(file) => seen.expect("the file has 408 bytes", file.len() == 408),
-        Err(fault) => seen.expect(MEMORY, matches!(fault, WriteError::Memory)),
+        Err(error) => seen.expect(MEMORY, matches!(error, WriteError::Memory)),
     }
 }
 

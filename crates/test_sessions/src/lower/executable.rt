@@ -20,8 +20,8 @@ fn is_listed(alloc: Global, bytes: &[u8], seen: &mut Seen) -> bool {
             seen.expect("there are two units", list.units.len() == 2);
             true
         }
-        Some(fault) => {
-            seen.expect(MEMORY, matches!(fault, Error::Memory));
+        Some(error) => {
+            seen.expect(MEMORY, matches!(error, Error::Memory));
             false
         }
     }

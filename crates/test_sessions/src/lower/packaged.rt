@@ -66,7 +66,7 @@ fn hold_row(alloc: Global, index: &UnitIndex<'_>, seen: &mut Seen) {
     };
     match RowPlaces::new(alloc, Some(index), SectionKind::Abbrev) {
         Ok(places) => seen.expect("the row is 2", places.find(range) == Some(2)),
-        Err(fault) => seen.expect(MEMORY, matches!(fault, Error::Memory)),
+        Err(error) => seen.expect(MEMORY, matches!(error, Error::Memory)),
     }
 }
 
@@ -77,8 +77,8 @@ fn hold_range(alloc: Global, index: &UnitIndex<'_>, seen: &mut Seen) {
         let range = remap(alloc, &mut strings, index);
         match range {
             Ok(bytes) => seen.expect("`b` is first", bytes.as_slice() == B_A.as_slice()),
-            Err(fault) => {
-                seen.expect(MEMORY, matches!(fault, Error::Memory));
+            Err(error) => {
+                seen.expect(MEMORY, matches!(error, Error::Memory));
                 let is_there = strings.data().starts_with(b"b\0");
                 seen.expect("`b` is still there", is_there);
             }
@@ -119,6 +119,6 @@ fn hold_index(alloc: Global, index: &[u8], seen: &mut Seen) {
 pub fn hold(alloc: Global, seen: &mut Seen) {
     match index(alloc) {
         Ok(index) => hold_index(alloc, &index, seen),
-        Err(fault) => seen.expect(MEMORY, matches!(fault, Error::Memory)),
+        Err(error) => seen.expect(MEMORY, matches!(error, Error::Memory)),
     }
 }

@@ -157,8 +157,8 @@ fn is_answered(alloc: Global, call: Call<'_>, seen: &mut Seen) -> bool {
             seen.expect("the answer is right", is_right);
             true
         }
-        Err(fault) => {
-            seen.expect(MEMORY, matches!(fault, Error::Memory));
+        Err(error) => {
+            seen.expect(MEMORY, matches!(error, Error::Memory));
             false
         }
     }

@@ -83,7 +83,7 @@ fn is_found<R: Files>(files: &R, alloc: Global, path: Path<'_>) -> bool {
 pub fn read(rt: &HostRuntime, seen: &mut Seen) {
     match is_read_there(rt) {
         Ok(is_read) => seen.expect("the file has its bytes", is_read),
-        Err(fault) => seen.expect(MEMORY, fault.kind() == io::ErrorKind::OutOfMemory),
+        Err(error) => seen.expect(MEMORY, error.kind() == io::ErrorKind::OutOfMemory),
     }
 }
 

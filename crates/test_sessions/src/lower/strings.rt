@@ -21,8 +21,8 @@ fn is_inserted(table: &mut PackageStringTable, seen: &mut Seen) -> bool {
             seen.expect("`int` stands first", offset.0 == 0);
             true
         }
-        Err(fault) => {
-            seen.expect(MEMORY, matches!(fault, Error::Memory));
+        Err(error) => {
+            seen.expect(MEMORY, matches!(error, Error::Memory));
             false
         }
     }
@@ -54,8 +54,8 @@ fn is_rewritten(
             );
             true
         }
-        Err(fault) => {
-            seen.expect(MEMORY, matches!(fault, Error::Memory));
+        Err(error) => {
+            seen.expect(MEMORY, matches!(error, Error::Memory));
             false
         }
     }

@@ -52,8 +52,8 @@ use Rattle.thorin_again.proofs.Opened.Parts.{Fresh, fresh-rest, fresh-more, behi
 use Rattle.thorin_again.proofs.Opened.Parts.{past-tests, own-parts}
 use Rattle.thorin_again.proofs.Opened.Sections.{rest-differ, object-written, opened-elf, section_of}
 use Rattle.thorin_again.proofs.Offsets.RangesApart.{then-unless}
-use Rattle.thorin_again.proofs.Taken.ByAnyPackage.{laid-at, own-units}
-use Rattle.thorin_again.proofs.Taken.UnlessThere.{then-foreseen}
+use Rattle.thorin_again.proofs.Taken.ReadAgain.{laid-at}
+use Rattle.thorin_again.proofs.Taken.OwnUnits.{own-units, then-foreseen}
 use Rattle.thorin_join.proofs.Parts.Appended.{is-rewritten}
 use Rattle.thorin_join.proofs.Parts.OffsetLaws.{NamesTheSameLaw, PackagedLaw}
 use Rattle.thorin_again.proofs.Meant.RowPlaces.{FirstLaw, FindLaw}

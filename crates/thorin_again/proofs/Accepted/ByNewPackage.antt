@@ -37,7 +37,7 @@ use Rattle.thorin_again.proofs.Accepted.ByAnyPackage.{abbreviations-tested, part
 use Rattle.thorin_again.proofs.Accepted.ByAnyPackage.{own-written}
 use Rattle.thorin_again.proofs.Accepted.Alone.{apart-distinct, taken-input, alone-units}
 use Rattle.thorin_again.proofs.Accepted.Alone.{alone-finds}
-use Rattle.thorin_again.proofs.Taken.ByNewPackage.{own-units-new}
+use Rattle.thorin_again.proofs.Taken.OwnUnits.{own-units-new}
 use Rattle.thorin_join.proofs.Parts.OffsetLaws.{NamesTheSameLaw, PackagedLaw}
 use Rattle.thorin_again.proofs.Meant.RowPlaces.{FirstLaw, FindLaw}
 use Rattle.thorin_again.proofs.Kept.OneEncoding.{InputsJoined}
@@ -70,10 +70,10 @@ module _ (names : NamesTheSameLaw) (law : PackagedLaw) (reads : UnitsAreTaken)
         let all = own-units-new names law reads first_law find_law is_read has_entries some_index
         none_index state encoding file own made begun plain indexes read before none p.0.0 p.0.1
         table parts_are in (
-          with_all before p.0 all.out,
+          with_all before p.0 all.0,
           bind-ok (parts_of source before.strings) p.0 _ parts_are
               ∙ bind-ok (abbreviations_test (written_object file)) tt _ tested
-              ∙ bind-ok (new_units (adding source before p.0.0)) all.out _ all.is,
+              ∙ bind-ok (new_units (adding source before p.0.0)) all.0 _ all.1,
         )
 
     begun-alone : is_package indexes ≡ true → (now : Option InProgress)

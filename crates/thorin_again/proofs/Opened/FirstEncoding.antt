@@ -25,7 +25,7 @@ use Rattle.thorin_join.specs.State.{InProgress, kind_at, unit_bytes}
 use Rattle.thorin_again.proofs.Offsets.Tiled.{weaker}
 use Rattle.thorin_again.proofs.Opened.Sections.{first-written}
 use Rattle.thorin_again.proofs.Meant.RowPlaces.{place-eq}
-use Rattle.thorin_again.proofs.Meant.OneSection.{part-middle, one-read}
+use Rattle.thorin_again.proofs.Meant.RowByRow.{part-middle, one-read}
 use Rattle.thorin_join.proofs.Moved.Readings.{plain}
 use Rattle.thorin_join.proofs.Moved.Units.{unit-moves}
 use Rattle.thorin_join.proofs.Files.Finished.{finished-order, finished-own}

@@ -1,4 +1,4 @@
-use Rattle.thorin_again.proofs.Taken.ByAnyPackage.{own-units}
+use Rattle.thorin_again.proofs.Taken.OwnUnits.{own-units}
 use Rattle.thorin_again.proofs.plain.own_units_are_taken.Goals as goal
 
 pub returns : goal.returns

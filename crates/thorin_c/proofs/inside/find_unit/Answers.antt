@@ -71,14 +71,14 @@ returns-in-Ok-row_encoding c =
 pub returns-in-Err-row_encoding : goal.returns-in-Err-row_encoding
 returns-in-Err-row_encoding c =
     let x = c.in-Ok-row_present.present in
-    let fault = c.in-Err-row_encoding.fault in
+    let error = c.in-Err-row_encoding.error in
     let s = c.status_of-in-Err-row_encoding.result in
     let named : object_of c.args.kind c.args.id ≡ Ok c.in-Ok-object_of.object =
     sym c.object_of.ensures ∙ c.in-Ok-object_of.is in
     let told : unit_found (as_status (package_in c.args.places.now c.args.bytes.now)) c.args.kind
     c.args.id ≡ Err s = ap (λ r. unit_found (as_status r) c.args.kind c.args.id) c.in-Ok.ensures
     ∙ unit_inside c.in-Ok.pack c.args.kind c.args.id c.in-Ok-object_of.object
-    x.0.0 x.0.1 x.1 (Err fault) named c.in-Ok-row_present.ensures
+    x.0.0 x.0.1 x.1 (Err error) named c.in-Ok-row_present.ensures
     (sym c.is_outside.ensures ∙ c.if-is_outside.false) c.in-Err-row_encoding.ensures
     ∙ ap (λ (z : ℤ). Err z) (sym c.status_of-in-Err-row_encoding.ensures) in
     let same : to_z w32 (of_z w32 s) ≡ s = search rules in

@@ -1,21 +1,21 @@
-//! The numbers of the faults of packing.
+//! The numbers of the errors of packing.
 
 ghost use Rattle.std.specs.Prelude.{◌≡◌};
 ghost use Rattle.thorin_errors.specs.Errors.{error_of};
-ghost use Rattle.thorin_c.specs.Faults.{number_of, Tells};
-ghost use Rattle.thorin_c.specs.Packing.{TellsOfFault};
+ghost use Rattle.thorin_c.specs.Errors.{number_of, Tells};
+ghost use Rattle.thorin_c.specs.Packing.{TellsOfError};
 
 use crate::types::ThorinReport;
 use std::fmt::InlineText;
 use thorin_errors::Error;
 
-/// Writes a fault's number and text, with a zero byte behind it.
-pub(crate) fn tell(fault: Error, report: &mut ThorinReport)
-    ensures told { Tells (error_of fault) report.new }
-    ensures alone { TellsOfFault report.old report.new }
+/// Writes an error's number and text, with a zero byte behind it.
+pub(crate) fn tell(error: Error, report: &mut ThorinReport)
+    ensures told { Tells (error_of error) report.new }
+    ensures alone { TellsOfError report.old report.new }
 {
-    report.fault = number_of(&fault);
-    let text = InlineText::<255>::of(fault);
+    report.fault = number_of(&error);
+    let text = InlineText::<255>::of(error);
     let bytes = text.as_str().as_bytes();
     let len = bytes.len();
     report.text[..len].copy_from_slice(bytes);
@@ -23,11 +23,11 @@ pub(crate) fn tell(fault: Error, report: &mut ThorinReport)
     report.text_size = len as u32;
 }
 
-/// The number of a fault, from 1 on in the order of `Error`.
-fn number_of(fault: &Error) -> u32
-    ensures { result ≡ number_of (error_of fault.now) }
+/// The number of an error, from 1 on in the order of `Error`.
+fn number_of(error: &Error) -> u32
+    ensures { result ≡ number_of (error_of error.now) }
 {
-    match fault {
+    match error {
         Error::ReadInput(_) => 1,
         Error::ParseFileKind(_) => 2,
         Error::ParseObjectFile(_) => 3,

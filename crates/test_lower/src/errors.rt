@@ -1,4 +1,4 @@
-//! Calls of `thorin_errors`: the texts of faults.
+//! Calls of `thorin_errors`: the texts of errors.
 
 use dwp_bytes::{ReadError as DwarfReadError, WriteError as DwarfWriteError};
 use dwp_elf_read::{ReadError as ElfReadError, WriteError as ElfWriteError};
@@ -16,7 +16,7 @@ pub fn call(row: Row<'_>, said: &mut Said) {
     }
 }
 
-/// Faults of inputs and of their sections.
+/// Errors of inputs and of their sections.
 fn of_inputs(name: &str) -> Option<Error> {
     Some(match name {
         "ReadInput" => Error::ReadInput(io::Error::from(io::ErrorKind::NotFound)),
@@ -36,7 +36,7 @@ fn of_inputs(name: &str) -> Option<Error> {
     })
 }
 
-/// Faults of relocations, each with the name of a section.
+/// Errors of relocations, each with the name of a section.
 fn of_relocations(name: &str, section: String) -> Option<Error> {
     match name {
         "RelocationWithInvalidSymbol" => Some(Error::RelocationWithInvalidSymbol(section, 8)),
@@ -46,7 +46,7 @@ fn of_relocations(name: &str, section: String) -> Option<Error> {
     }
 }
 
-/// Faults of units and of their identifiers.
+/// Errors of units and of their identifiers.
 fn of_units(name: &str) -> Option<Error> {
     let cut = DwarfReadError::UnexpectedEof;
     Some(match name {
@@ -65,7 +65,7 @@ fn of_units(name: &str) -> Option<Error> {
     })
 }
 
-/// Faults of indexes, strings, rows and ranges.
+/// Errors of indexes, strings, rows and ranges.
 fn of_indexes(name: &str) -> Option<Error> {
     let cut = DwarfReadError::UnexpectedEof;
     Some(match name {
@@ -84,7 +84,7 @@ fn of_indexes(name: &str) -> Option<Error> {
     })
 }
 
-/// Faults that are made of others.
+/// Errors that are made of others.
 fn of_causes(name: &str) -> Option<Error> {
     Some(match name {
         "io" => Error::from(io::Error::from(io::ErrorKind::NotFound)),
@@ -100,10 +100,10 @@ fn of_causes(name: &str) -> Option<Error> {
     })
 }
 
-/// The name of a fault: how it is printed by `{:?}`, and its text.
+/// The name of an error: how it is printed by `{:?}`, and its text.
 fn text(row: Row<'_>, said: &mut Said) {
     match of_inputs(row.word(1)) {
-        Some(fault) => said.fault(&fault),
+        Some(error) => said.error(&error),
         None => text_of_relocation(row, said),
     }
 }
@@ -114,8 +114,8 @@ fn text_of_relocation(row: Row<'_>, said: &mut Said) {
         String::new(row.alloc),
     );
     match of_relocations(row.word(1), section) {
-        Some(fault) => said.fault(&fault),
-        None => said.word("no such fault"),
+        Some(error) => said.error(&error),
+        None => said.word("no such error"),
     }
 }
 

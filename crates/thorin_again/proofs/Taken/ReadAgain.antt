@@ -1,11 +1,9 @@
--- The units of a written package of plain objects, as those of an input.
-use Rattle.std.proofs.Common.{◌≡◌, ◌∙◌, ℕ, ◌<◌, true, List, length, refl, sym, ap, subst, Ok, Some}
+-- A finished package of plain objects, its written file read as an input: its parts and its rows.
+use Rattle.std.proofs.Common.{◌≡◌, ◌∙◌, ℕ, ◌<◌, true, List, length, sym, ap, subst, Ok, Some}
 use Rattle.std.proofs.Math.Seq.{take-length}
 use Rattle.dwp_base.specs.declared.section.SectionKind.{SectionKind}
 use Rattle.dwp_base.specs.declared.section.SectionKind.TheVariants as kinds
-use Rattle.dwp_bytes.specs.Input.{section}
 use Rattle.dwp_bytes.specs.declared.encoding.Encoding.{Encoding}
-use Rattle.dwp_dwarf.specs.Units.{UnitsAreTaken, units}
 use Rattle.dwp_dwarf.specs.declared.unit.UnitSection.{UnitSection}
 use Rattle.dwp_dwarf.specs.declared.unit.UnitSection.TheVariants as places
 use Rattle.dwp_elf.specs.Contents.{content_of}
@@ -18,25 +16,21 @@ use Rattle.thorin_input.specs.Growing.{Contents, joined_parts}
 use Rattle.thorin_input.specs.Indexes.{Indexes, Source, indexes_of}
 use Rattle.thorin_join.specs.Laid.{Lie, rows_at}
 use Rattle.thorin_join.specs.Meaning.{Meaning}
-use Rattle.thorin_input.specs.NewUnits.{Adding, with_each_read, new_units}
 use Rattle.thorin_again.specs.OwnInput.{written_object, IsOwn, own_source}
-use Rattle.thorin_again.specs.OwnRefusals.{UnlessForeseen}
 use Rattle.thorin_input.specs.Parts.{parts_of}
 use Rattle.thorin_input.specs.Format.{is_shared}
 use Rattle.thorin_again.specs.Plain.{NamesItself, IsPlain}
 use Rattle.thorin_join.specs.Represents.{IsSound, LieInside, AreRowsOf, meaning_at}
 use Rattle.thorin_join.specs.StandApart.{EachRow}
-use Rattle.thorin_join.specs.State.{InProgress, kind_at, adding}
+use Rattle.thorin_join.specs.State.{InProgress, kind_at}
 use Rattle.thorin_join.proofs.Files.Indexes.{IndexIsRead, IndexHasEntries, SomeIndex, NoIndex}
 use Rattle.thorin_join.proofs.Rows.Stay.{Grows, keep-rows, keep-lie}
 use Rattle.thorin_again.proofs.Kept.Names.{keep-names, both-rows}
 use Rattle.thorin_again.proofs.Offsets.Tiled.{weaker}
 use Rattle.thorin_again.proofs.Offsets.OfPackage.{finished-shared, read-of}
-use Rattle.thorin_join.proofs.Rows.OfUnits.{whole-part}
-use Rattle.thorin_again.proofs.Taken.UnlessThere.{section-taken, new-taken}
 use Rattle.thorin_join.proofs.Parts.OfPackages.{parts-first, rows-read}
 use Rattle.thorin_join.proofs.Parts.OffsetLaws.{NamesTheSameLaw, PackagedLaw}
-use Rattle.thorin_again.proofs.Meant.RowPlaces.{FirstLaw, FindLaw, IsAgain}
+use Rattle.thorin_again.proofs.Meant.RowPlaces.{IsAgain}
 use Rattle.thorin_again.proofs.Meant.OneSection.{with_names}
 use Rattle.thorin_join.proofs.Rows.StandApart.{sound-inside}
 use Rattle.thorin_join.proofs.Files.Finished.{finished-order, finished-grows, finished-own}
@@ -56,14 +50,17 @@ part-long names law source contents strings rows again before parts after table 
     ((rows-read names law source again.packed before parts after table h).size ∙ ap length
     (again.held kinds.StrOffsets)) kind shared
 
+-- what the rows of a package mean
+abbrev pub meanings : InProgress → IndexEntry → Meaning
+meanings made row = meaning_at made.file.order made.file.contents made.strings row
+
 -- a finished package, its file read as an input, and its rows there
-pub record IsReadAgain (state : State) (encoding : Encoding) (file : File)
-    (indexes : Indexes) : Type 0 where
+pub record IsReadAgain (encoding : Encoding) (file : File) (indexes : Indexes) : Type 0 where
   pub made : InProgress
   pub sound : IsSound made
   pub again : IsAgain (own_source file encoding indexes) file.contents made.strings made.rows
-  pub rows_are : AreRowsOf file.order file.contents made.strings made.rows (with_names (λ row.
-      meaning_at made.file.order made.file.contents made.strings row) made.rows)
+  pub rows_are : AreRowsOf file.order file.contents made.strings made.rows (with_names
+      (meanings made) made.rows)
   pub lie : EachRow (LieInside file.contents) made.rows
   pub names_are : EachRow (NamesItself file.order encoding file.contents) made.rows
   pub used : (kind : SectionKind) → is_shared kind ≡ true
@@ -82,7 +79,7 @@ pub read-again : IndexIsRead → IndexHasEntries → SomeIndex → NoIndex → (
     (encoding : Encoding) (file : File) → IsOwn state encoding file
     → (made : InProgress) → state.begun ≡ Some made → IsPlain encoding made → (indexes : Indexes)
     → indexes_of (written_object file) encoding ≡ Ok indexes
-    → IsReadAgain state encoding file indexes
+    → IsReadAgain encoding file indexes
 read-again is_read has_entries some_index none_index state encoding file own other begun plain
     indexes read =
     let is = read-of is_read has_entries some_index none_index state encoding file own other begun
@@ -92,8 +89,7 @@ read-again is_read has_entries some_index none_index state encoding file own oth
     let sound = is.sound in
     let is_plain = is.plain in
     let c = file.contents in
-    let mean : IndexEntry → Meaning = λ row. meaning_at made.file.order made.file.contents
-    made.strings row in
+    let mean = meanings made in
     let order : made.file.order ≡ file.order = sym (finished-order made file f) in
     let grows : Grows made.file.contents c = finished-grows made file f in
     let rows_are : AreRowsOf file.order c made.strings made.rows (with_names mean made.rows) =
@@ -124,34 +120,3 @@ read-again is_read has_entries some_index none_index state encoding file own oth
           (subst (Lie made.file.order place 0 (rows_at place made.rows))
           (sym (finished-own made file f place)) (laid-at made sound place));
     }
-
-pub own-units : NamesTheSameLaw → PackagedLaw → UnitsAreTaken → FirstLaw → FindLaw → IndexIsRead
-    → IndexHasEntries → SomeIndex → NoIndex → (state : State) (encoding : Encoding) (file : File)
-    → IsOwn state encoding file
-    → (made : InProgress) → state.begun ≡ Some made → IsPlain encoding made → (indexes : Indexes)
-    → indexes_of (written_object file) encoding ≡ Ok indexes
-    → (before : InProgress) (parts : Contents) (after : List (List ℕ)) → IsTable before.strings
-    → parts_of (own_source file encoding indexes)
-    before.strings ≡ Ok (parts, after)
-    → UnlessForeseen (new_units (adding (own_source file encoding indexes) before parts))
-own-units names law taken first_law find_law is_read has_entries some_index none_index state
-    encoding file own other begun plain indexes read before parts after table parts_are =
-    let is = read-again is_read has_entries some_index none_index state encoding file own other
-    begun plain indexes read in
-    let made = is.made in
-    let source : Source = own_source file encoding indexes in
-    let add : Adding = adding source before parts in
-    let c = file.contents in
-    let mean : IndexEntry → Meaning = λ row. meaning_at made.file.order made.file.contents
-    made.strings row in
-    new-taken add c
-    (λ place from kind address bytes new.
-    subst (λ l. UnlessForeseen (with_each_read add from new (units place (section file.order l))))
-    (sym bytes)
-    (section-taken taken first_law find_law add c made.strings made.rows mean is.again encoding
-    is.lie is.used (λ k. joined_parts k parts) before.file.contents
-    (part-long names law source c made.strings made.rows is.again before.strings parts after
-    table parts_are)
-    (whole-part encoding before.file.contents parts)
-    place from kind address new is.rows_are is.names_are is.sound.laid.once (is.lies place)))
-    refl own.kinds

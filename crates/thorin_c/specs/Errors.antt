@@ -1,4 +1,4 @@
--- How the exports name a fault of packing.
+-- How the exports name an error of packing.
 use Rattle.std.specs.Prelude.{◌≡◌, ◌<◌, ℕ, take, slice_index, IfSome}
 use Rattle.std.specs.Fmt.Cut.{IsTextOrCut}
 use Rattle.thorin_errors.specs.Errors.{ErrorValue, ReadInput, ParseFileKind, ParseObjectFile}
@@ -66,10 +66,10 @@ number_of (RepeatedSection _) = 42
 number_of (BadStringOffsets _) = 43
 number_of (OverlappingStringOffsets _) = 44
 
--- a report has the fault's number, and its text, cut to 255 bytes, with a zero byte behind it
-pub record Tells (fault : ErrorValue) (report : ThorinReport) : Type 0 where
-  pub number : report.fault ≡ number_of fault
-  pub text : IfSome (error_text fault) (λ text.
+-- a report has the error's number, and its text, cut to 255 bytes, with a zero byte behind it
+pub record Tells (error : ErrorValue) (report : ThorinReport) : Type 0 where
+  pub number : report.fault ≡ number_of error
+  pub text : IfSome (error_text error) (λ text.
       IsTextOrCut 255 text (take report.text_size report.text))
   pub within : report.text_size < 256
   pub ends : slice_index report.text report.text_size ≡ 0
