@@ -34,7 +34,9 @@ use Rattle.thorin_input.specs.Growing.{Contents, with_parts}
 use Rattle.thorin_input.specs.Parts.{parts_of}
 use Rattle.thorin_index.specs.declared.entry.IndexEntry.{IndexEntry}
 use Rattle.std.specs.List.{list_any}
+use Rattle.dwp_base.proofs.Bools.{by-bool}
 use Rattle.dwp_base.proofs.Steps.{bind-was, same-ok}
+use Rattle.thorin_join.proofs.Steps.{kept}
 use Rattle.thorin_join.proofs.Units.ReadInTurn.{Steps, units-read}
 use Rattle.thorin.proofs.RunTaken.{begun-then}
 
@@ -48,14 +50,9 @@ lookup-bytes : (name : DwarfObject) (us : List (DwarfObject × NewUnit)) (held :
     → or_held (lookup (same_name name) us) held
     ≡ or_there (lookup (same_name name) (new_bytes us)) held
 lookup-bytes name [] held = refl
-lookup-bytes name (u ∷ us) held = by (same_name name u.0) (lookup-bytes name us held)
-  where
-    by : (b : Bool) → or_held (lookup (same_name name) us) held
-        ≡ or_there (lookup (same_name name) (new_bytes us)) held
-        → or_held (cond b (Some u.1) (lookup (same_name name) us)) held
-        ≡ or_there (cond b (Some u.1.bytes) (lookup (same_name name) (new_bytes us))) held
-    by true h = refl
-    by false h = h
+lookup-bytes name (u ∷ us) held = by-bool _ (same_name name u.0)
+    (λ e. rw e refl)
+    (λ e. rw e (lookup-bytes name us held))
 
 module _ (adding : Adding) where
   abbrev held : Bytes
@@ -70,20 +67,17 @@ module _ (adding : Adding) where
   unfolding with_unit
   kept-pass kept from (Compilation id) unit before after h = absurd cc
   kept-pass kept from (TypeUnit signature) unit before after h =
-      by (bytes_eq kept unit.whole.bytes) (same-ok _ after h)
-    where
-      by : (b : Bool) → cond b before (record before {
-        differing = before.differing ++ signature.0 ∷ [];
-      }) ≡ after → (after.units ≡ before.units) × (after.differing ≡ before.differing ++ cond b []
-          (signature.0 ∷ []))
-      by true k = (
+      let is = same-ok _ after h in
+      by-bool _ (bytes_eq kept unit.whole.bytes)
+      (λ e. let k : before ≡ after = rw e at is in (
         ap (λ (n : New). n.units) (sym k),
-        ap (λ (n : New). n.differing) (sym k) ∙ sym (append-nil before.differing),
-      )
-      by false k = (
+        rw e (ap (λ (n : New). n.differing) (sym k) ∙ sym (append-nil before.differing)),
+      ))
+      (λ e. let k : record before { differing = before.differing ++ signature.0 ∷ [] } ≡ after =
+      rw e at is in (
         ap (λ (n : New). n.units) (sym k),
-        ap (λ (n : New). n.differing) (sym k),
-      )
+        rw e (ap (λ (n : New). n.differing) (sym k)),
+      ))
 
   -- a new one
   first-pass : (from : Used) (name : DwarfObject) (unit : Header) (before after : New)
@@ -91,29 +85,16 @@ module _ (adding : Adding) where
       → (new_bytes after.units ≡ new_bytes before.units ++ (name, unit.whole.bytes) ∷ [])
       × (after.differing ≡ before.differing)
   unfolding with_first
-  first-pass from name unit before after h = by (from.address == 0) h
-    where
-      by : (b : Bool) → cond {A = Result New ErrorValue} b
-          (row_test adding.source.indexes from.kind name unit >>= λ _.
-          unit_row adding.source.indexes adding.whole name >>= λ row.
-          Ok (record before {
-            units = before.units ++ (
-              name,
-              record { place = place_for name from.kind; bytes = unit.whole.bytes; row = row },
-            ) ∷ [];
-          })) (Err (EmptyUnit (identifier_of name))) ≡ Ok after
-          → (new_bytes after.units ≡ new_bytes before.units ++ (name, unit.whole.bytes) ∷ [])
-          × (after.differing ≡ before.differing)
-      by true k =
-          let s1 = bind-was (row_test adding.source.indexes from.kind name unit) _ after k in
-          let s2 = bind-was (unit_row adding.source.indexes adding.whole name) _ after s1.2 in
-          let is = same-ok _ after s2.2 in (
-            ap (λ (n : New). new_bytes n.units) (sym is) ∙ map-append
-                {B = DwarfObject × List ℕ} (λ (u : DwarfObject × NewUnit). (u.0, u.1.bytes))
-                before.units _,
-            ap (λ (n : New). n.differing) (sym is),
-          )
-      by false k = absurd cc
+  first-pass from name unit before after h =
+      let at = kept (from.address == 0) _ _ after h in
+      let s1 = bind-was (row_test adding.source.indexes from.kind name unit) _ after at.1 in
+      let s2 = bind-was (unit_row adding.source.indexes adding.whole name) _ after s1.2 in
+      let is = same-ok _ after s2.2 in (
+        ap (λ (n : New). new_bytes n.units) (sym is) ∙ map-append
+            {B = DwarfObject × List ℕ} (λ (u : DwarfObject × NewUnit). (u.0, u.1.bytes))
+            before.units _,
+        ap (λ (n : New). n.differing) (sym is),
+      )
 
   -- what is found to differ, unit by unit
   steps-differ : (before after : New) (us : List (DwarfObject × UnitRead))
@@ -166,14 +147,9 @@ units-keep : (made : InProgress) (us : List (DwarfObject × NewUnit))
     → (with_new_units made us).differing ≡ made.differing
 unfolding with_new_units with_new_unit
 units-keep made [] = refl
-units-keep made (u ∷ us) = by (list_any (same_name u.0) (names_of made)) (units-keep made us)
-    (units-keep (with_unit_added made u) us)
-  where
-    by : (b : Bool) → (with_new_units made us).differing ≡ made.differing
-        → (with_new_units (with_unit_added made u) us).differing ≡ made.differing
-        → (with_new_units (cond b made (with_unit_added made u)) us).differing ≡ made.differing
-    by true one two = one
-    by false one two = two
+units-keep made (u ∷ us) = by-bool _ (list_any (same_name u.0) (names_of made))
+    (λ e. rw e (units-keep made us))
+    (λ e. rw e (units-keep (with_unit_added made u) us))
 
 all-keep : (made : InProgress) (parts : Contents × List (List ℕ)) (new : New)
     → (with_all made parts new).differing ≡ made.differing ++ new.differing

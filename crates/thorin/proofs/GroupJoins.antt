@@ -60,28 +60,17 @@ or-false false = refl
 passed-there : (names : List DwarfObject) (name : DwarfObject) (test : DwarfObject → Bool)
     → list_any (same_name name) names ≡ true → test name ≡ true → list_any test names ≡ true
 passed-there [] name test h k = absurd (true≢false (sym h))
-passed-there (n ∷ ns) name test h k = by (same_name name n) refl h (λ later.
-    passed-there ns name test later k)
-  where
-    by : (b : Bool) → same_name name n ≡ b → (b || list_any (same_name name) ns) ≡ true
-        → (list_any (same_name name) ns ≡ true → list_any test ns ≡ true)
-        → (test n || list_any test ns) ≡ true
-    by true e h later = ap (λ t. t || list_any test ns)
-        (ap test (sym (same_name-true name n e)) ∙ k)
-    by false e h later = ap (λ t. test n || t) (later h) ∙ or-true (test n)
+passed-there (n ∷ ns) name test h k = by-bool _ (same_name name n)
+    (λ e. rw (← same_name-true name n e, k) refl)
+    (λ e. rw (passed-there ns name test (rw e at h) k) (or-true (test n)))
 
 -- a name that is there changes nothing
 alike-known : (names : List DwarfObject) (name : DwarfObject) → list_any (same_name name) names ≡
     true → Alike names (names ++ name ∷ [])
-alike-known names name h = λ test. by test (test name) refl ∙ sym
-    (list_any-append test names (name ∷ []))
-  where
-    by : (test : DwarfObject → Bool) (b : Bool) → test name ≡ b → list_any test names ≡
-        (list_any test names || (test name || false))
-    by test true e = passed-there names name test h e ∙ sym
-        (ap (λ t. list_any test names || (t || false)) e ∙ or-true (list_any test names))
-    by test false e = sym (ap (λ t. list_any test names || (t || false)) e ∙ or-false
-        (list_any test names))
+alike-known names name h = λ test. by-bool _ (test name)
+    (λ e. passed-there names name test h e ∙ sym (list_any-append test names (name ∷ [])
+    ∙ rw e (or-true (list_any test names))))
+    (λ e. sym (list_any-append test names (name ∷ []) ∙ rw e (or-false (list_any test names))))
 
 -- nor behind others
 alike-behind : (names more : List DwarfObject) (name : DwarfObject)

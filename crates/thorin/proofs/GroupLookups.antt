@@ -12,6 +12,7 @@ use Rattle.dwp_table.specs.declared.object.DwarfObject.{DwarfObject}
 use Rattle.thorin_join.specs.Meaning.{keys}
 use Rattle.thorin_input.specs.Names.{same_name}
 use Rattle.thorin.proofs.Shuffled.{IsPermutation-filter}
+use Rattle.dwp_base.proofs.Bools.{by-bool}
 use Rattle.thorin_join.proofs.Units.NamesApart.{same_name-true}
 
 -- a list of one element has one order
@@ -34,15 +35,9 @@ is_named name unit = same_name name unit.0
 lookup-named : {X : Type 0} (name : DwarfObject) (us : List (DwarfObject × X))
     → lookup (same_name name) us ≡ lookup (same_name name) (filter (is_named name) us)
 lookup-named name [] = refl
-lookup-named {X} name (u ∷ us) = by (same_name name u.0) refl (lookup-named name us)
-  where
-    by : (b : Bool) → same_name name u.0 ≡ b → lookup (same_name name) us ≡ lookup (same_name name)
-        (filter (is_named name) us)
-        → cond b (Some u.1) (lookup (same_name name) us) ≡ lookup (same_name name)
-        (cond b (u ∷ filter (is_named name) us) (filter (is_named name) us))
-    by true e later = sym
-        (ap (λ b. cond b (Some u.1) (lookup (same_name name) (filter (is_named name) us))) e)
-    by false e later = later
+lookup-named name (u ∷ us) = by-bool _ (same_name name u.0)
+    (λ e. rw e (rw e refl))
+    (λ e. rw e (lookup-named name us))
 
 none-named : {X : Type 0} (name : DwarfObject) (us : List (DwarfObject × X))
     → AllByRecursion (λ other. same_name name other ≡ false) (keys us)
@@ -55,17 +50,11 @@ one-named : {X : Type 0} (name : DwarfObject) (us : List (DwarfObject × X)) →
     (keys us) → length (filter (is_named name) us) ≤ 1
 unfolding IsDistinct
 one-named name [] h = omega arith
-one-named {X} name (u ∷ us) h = by (same_name name u.0) refl (one-named name us h.1)
-  where
-    by : (b : Bool) → same_name name u.0 ≡ b → length (filter (is_named name) us) ≤ 1
-        → length (cond b (u ∷ filter (is_named name) us) (filter (is_named name) us)) ≤ 1
-    by true e later =
-        let none : filter (is_named name) us ≡ [] =
-        none-named name us (subst (λ n. AllByRecursion (λ other. same_name n other ≡ false)
-        (keys us)) (sym (same_name-true name u.0 e)) h.0) in
-        let zero_left = ap length none in
-        omega arith
-    by false e later = later
+one-named name (u ∷ us) h = by-bool _ (same_name name u.0)
+    (λ e. let none = ap length (none-named name us (subst (λ n. AllByRecursion (λ other.
+    same_name n other ≡ false) (keys us)) (sym (same_name-true name u.0 e)) h.0)) in
+    rw e (omega arith))
+    (λ e. rw e (one-named name us h.1))
 
 -- units of distinct names are found alike in any order
 pub units-found : {X : Type 0} (us vs : List (DwarfObject × X)) → IsDistinct same_name (keys us)

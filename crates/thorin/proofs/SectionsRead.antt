@@ -1,7 +1,7 @@
 -- The sections of an input are those that a reader of packages has.
 use Rattle.std.proofs.Common.{◌≡◌, ◌∙◌, ℕ, zero, suc, Bool, true, false, cond, ◌&&◌, ◌||◌, List, []}
 use Rattle.std.proofs.Common.{◌∷◌, ◌++◌, refl, sym, ap, subst, Option, Some, None, Result, Ok, Err}
-use Rattle.std.proofs.Common.{is_some, find, slice_get, bytes_eq, not}
+use Rattle.std.proofs.Common.{is_some, find, slice_get, bytes_eq, not, ◌⊎◌, inl, inr, ⊎_elim}
 use Rattle.std.proofs.lemmas.Option.{same_Some}
 use Rattle.std.proofs.lemmas.Slice.Eq.{bytes_eq-Decides}
 use Rattle.std.specs.List.{list_all}
@@ -9,9 +9,9 @@ use Rattle.dwp_base.specs.Reading.{◌>>=◌}
 use Rattle.dwp_base.specs.Sections.{name_of, compressed_name_of, is_named, all_kinds, rank_of}
 use Rattle.dwp_base.specs.Sections.{same_kind}
 use Rattle.dwp_base.specs.declared.section.SectionKind.{SectionKind}
-use Rattle.dwp_base.proofs.Bools.{both}
+use Rattle.dwp_base.proofs.Bools.{both, by-bool}
 use Rattle.dwp_base.proofs.EveryKind.{at-rank, every-two, is-same, same-self}
-use Rattle.dwp_base.proofs.Steps.{bind-was, same-ok}
+use Rattle.dwp_base.proofs.Steps.{bind-was, by-choice, same-ok}
 use Rattle.dwp_elf_read.specs.Elf.{SectionMeaning}
 use Rattle.dwp_index.specs.Contents as reader
 use Rattle.dwp_index.specs.Contents.{has_name, is_of_kind, content_among}
@@ -35,12 +35,9 @@ no-other spelling all name j k e g =
 
 one-kind : (name : List ℕ) (j k : SectionKind) → is_named name j ≡ true → is_named name k ≡ true
     → k ≡ j
-one-kind name j k h g = by (bytes_eq name (name_of j)) refl
-  where
-    by : (b : Bool) → bytes_eq name (name_of j) ≡ b → k ≡ j
-    by true e = no-other name_of refl name j k e g
-    by false e = no-other compressed_name_of refl name j k
-        (sym (ap (λ b. b || bytes_eq name (compressed_name_of j)) e) ∙ h) g
+one-kind name j k h g = by-bool _ (bytes_eq name (name_of j))
+    (λ own. no-other name_of refl name j k own g)
+    (λ other. no-other compressed_name_of refl name j k (rw other at h) g)
 
 kinds-of : (name : Option (List ℕ)) (j k : SectionKind) → has_name j name ≡ true
     → has_name k name ≡ true → k ≡ j
@@ -55,85 +52,67 @@ one-of s j k h g = kinds-of s.name j k (both _ (has_name j s.name) h).1
 
 not-both : (s : SectionMeaning) (j k : SectionKind) → is_of_kind j s ≡ true
     → same_kind j k ≡ false → is_of_kind k s ≡ false
-not-both s j k h e = by (is_of_kind k s) refl
-  where
-    by : (b : Bool) → is_of_kind k s ≡ b → is_of_kind k s ≡ false
-    by false g = g
-    by true g =
-        let same : k ≡ j = one-of s j k h g in
-        let wrong : true ≡ false = sym (ap (same_kind j) same ∙ same-self j) ∙ e in
-        absurd cc
+not-both s j k h e = by-bool _ (is_of_kind k s)
+    (λ g. let wrong : true ≡ false = sym (ap (same_kind j) (one-of s j k h g) ∙ same-self j) ∙ e in
+    absurd cc)
+    (λ g. g)
 
 -- ---- what is found
 
 found-is : {X : Type 0} (p : X → Bool) (xs : List X) (x : X) → find p xs ≡ Some x → p x ≡ true
 found-is p [] x h = absurd cc
-found-is {X} p (y ∷ ys) x h = by (p y) refl h (found-is p ys x)
-  where
-    by : (b : Bool) → p y ≡ b → ◌≡◌ {A = Option X} (cond b (Some y) (find p ys)) (Some x)
-        → (find p ys ≡ Some x → p x ≡ true) → p x ≡ true
-    by true e k later = ap p (sym (same_Some y x k)) ∙ e
-    by false e k later = later k
+found-is p (y ∷ ys) x h = by-bool _ (p y)
+    (λ e. ap p (sym (same_Some y x (rw e at h))) ∙ e)
+    (λ e. found-is p ys x (rw e at h))
 
 none-is : {X : Type 0} (p : X → Bool) (xs : List X) (r : ℕ) (x : X) → find p xs ≡ None
     → slice_get xs r ≡ Some x → p x ≡ false
 none-is p [] r x h g = absurd cc
-none-is {X} p (y ∷ ys) zero x h g = by (p y) refl h
+none-is {X} p (y ∷ ys) r x h g = by-bool _ (p y)
+    (λ e. let wrong : ◌≡◌ {A = Option X} (Some y) None = rw e at h in absurd cc)
+    (λ e. later r g e (rw e at h))
   where
-    by : (b : Bool) → p y ≡ b → ◌≡◌ {A = Option X} (cond b (Some y) (find p ys)) None
-        → p x ≡ false
-    by true e k = absurd cc
-    by false e k = ap p (sym (same_Some y x g)) ∙ e
-none-is {X} p (y ∷ ys) (suc r) x h g = by (p y) h (λ k. none-is p ys r x k g)
-  where
-    by : (b : Bool) → ◌≡◌ {A = Option X} (cond b (Some y) (find p ys)) None
-        → (find p ys ≡ None → p x ≡ false) → p x ≡ false
-    by true k later = absurd cc
-    by false k later = later k
+    later : (r : ℕ) → slice_get (y ∷ ys) r ≡ Some x → p y ≡ false → find p ys ≡ None → p x ≡ false
+    later zero g e k = ap p (sym (same_Some y x g)) ∙ e
+    later (suc r) g e k = none-is p ys r x k g
 
 find-more : {X : Type 0} (p : X → Bool) (xs ys : List X) (x : X) → find p xs ≡ Some x
     → find p (xs ++ ys) ≡ Some x
 find-more p [] ys x h = absurd cc
-find-more {X} p (y ∷ xs) ys x h = by (p y) h (find-more p xs ys x)
-  where
-    by : (b : Bool) → ◌≡◌ {A = Option X} (cond b (Some y) (find p xs)) (Some x)
-        → (find p xs ≡ Some x → find p (xs ++ ys) ≡ Some x)
-        → ◌≡◌ {A = Option X} (cond b (Some y) (find p (xs ++ ys))) (Some x)
-    by true k later = k
-    by false k later = later k
+find-more p (y ∷ xs) ys x h = by-bool _ (p y)
+    (λ e. rw e (rw e at h))
+    (λ e. rw e (find-more p xs ys x (rw e at h)))
 
 find-last : {X : Type 0} (p : X → Bool) (xs : List X) (x : X) → find p xs ≡ None
     → find p (xs ++ x ∷ []) ≡ cond (p x) (Some x) None
 find-last p [] x h = refl
-find-last {X} p (y ∷ xs) x h = by (p y) h (find-last p xs x)
-  where
-    by : (b : Bool) → ◌≡◌ {A = Option X} (cond b (Some y) (find p xs)) None
-        → (find p xs ≡ None → find p (xs ++ x ∷ []) ≡ cond (p x) (Some x) None)
-        → ◌≡◌ {A = Option X} (cond b (Some y) (find p (xs ++ x ∷ []))) (cond (p x) (Some x) None)
-    by true k later = absurd cc
-    by false k later = later k
+find-last {X} p (y ∷ xs) x h = by-bool _ (p y)
+    (λ e. let wrong : ◌≡◌ {A = Option X} (Some y) None = rw e at h in absurd cc)
+    (λ e. rw e (find-last p xs x (rw e at h)))
 
 -- ---- the used sections
 
 abbrev used-one : SectionKind → SectionMeaning → List ℕ → Used
 used-one j s bytes = record { kind = j; bytes = bytes; address = s.address }
 
+-- what was used once a section of a kind was seen
+used-by : (k : SectionKind) (s : SectionMeaning) (before after : List Used)
+    → with_used before s (Some k) ≡ Ok after
+    → (before ≡ after) ⊎ ((bytes : List ℕ) × (before ++ used-one k s bytes ∷ [] ≡ after))
+used-by k s before after h = by-choice _ (counts_once k && is_some (find (has_kind k) before)) _ _ _
+    h (λ e. inl (same-ok before after e))
+    (λ e. let t = bind-was (used_bytes k s) _ after e in inr (t.0, same-ok _ after t.2))
+
 with-stays : (k : SectionKind) (u : Used) (s : SectionMeaning) (before after : List Used)
     (o : Option SectionKind) → find (has_kind k) before ≡ Some u
     → with_used before s o ≡ Ok after → find (has_kind k) after ≡ Some u
 with-stays k u s before after None f h =
     subst (λ l. find (has_kind k) l ≡ Some u) (same-ok before after h) f
-with-stays k u s before after (Some j) f h =
-    by (counts_once j && is_some (find (has_kind j) before)) h
-  where
-    by : (b : Bool) → cond {A = Result (List Used) ErrorValue} b (Ok before)
-        (used_bytes j s >>= λ bytes. Ok (before ++ used-one j s bytes ∷ [])) ≡ Ok after
-        → find (has_kind k) after ≡ Some u
-    by true e = subst (λ l. find (has_kind k) l ≡ Some u) (same-ok before after e) f
-    by false e =
-        let t = bind-was (used_bytes j s) _ after e in
-        subst (λ l. find (has_kind k) l ≡ Some u) (same-ok _ after t.2)
-        (find-more (has_kind k) before (used-one j s t.0 ∷ []) u f)
+with-stays k u s before after (Some j) f h = ⊎_elim
+    (λ e. subst (λ l. find (has_kind k) l ≡ Some u) e f)
+    (λ t. subst (λ l. find (has_kind k) l ≡ Some u) t.1
+    (find-more (has_kind k) before (used-one j s t.0 ∷ []) u f))
+    (used-by j s before after h)
 
 stays : (k : SectionKind) (u : Used) (ss : List SectionMeaning) (before after : List Used)
     → find (has_kind k) before ≡ Some u → used_from before ss ≡ Ok after
@@ -147,18 +126,11 @@ stays k u (s ∷ ss) before after f h =
 with-other : (k j : SectionKind) (s : SectionMeaning) (before after : List Used)
     → same_kind j k ≡ false → find (has_kind k) before ≡ None
     → with_used before s (Some j) ≡ Ok after → find (has_kind k) after ≡ None
-with-other k j s before after other f h =
-    by (counts_once j && is_some (find (has_kind j) before)) h
-  where
-    by : (b : Bool) → cond {A = Result (List Used) ErrorValue} b (Ok before)
-        (used_bytes j s >>= λ bytes. Ok (before ++ used-one j s bytes ∷ [])) ≡ Ok after
-        → find (has_kind k) after ≡ None
-    by true e = subst (λ l. find (has_kind k) l ≡ None) (same-ok before after e) f
-    by false e =
-        let t = bind-was (used_bytes j s) _ after e in
-        let one = used-one j s t.0 in
-        subst (λ l. find (has_kind k) l ≡ None) (same-ok _ after t.2)
-        (find-last (has_kind k) before one f ∙ ap (λ b. cond b (Some one) None) other)
+with-other k j s before after other f h = ⊎_elim
+    (λ e. subst (λ l. find (has_kind k) l ≡ None) e f)
+    (λ t. subst (λ l. find (has_kind k) l ≡ None) t.1
+    (find-last (has_kind k) before (used-one j s t.0) f ∙ rw other refl))
+    (used-by j s before after h)
 
 as-given : {X E : Type 0} (f : E → ErrorValue) (r : Result X E) (x y : X) → as_error f r ≡ Ok x
     → r ≡ Ok y → x ≡ y

@@ -1,4 +1,5 @@
 -- What passes a test, of a list and of the same elements in another order.
+use Rattle.dwp_base.proofs.Bools.{by-bool}
 use Rattle.std.proofs.Common.{◌≡◌, ℕ, zero, suc, ◌<◌, Bool, true, false, cond, List, [], ◌∷◌, ◌++◌}
 use Rattle.std.proofs.Common.{length, filter, get_or, sym, subst, refl, arith, append_assoc}
 use Rattle.std.proofs.Math.ListN.{set}
@@ -15,12 +16,7 @@ kept test x = cond (test x) (x ∷ []) []
 
 filter-cons : {X : Type 0} (test : X → Bool) (x : X) (xs : List X) → filter test (x ∷ xs) ≡ kept
     test x ++ filter test xs
-filter-cons test x xs = by (test x)
-  where
-    by : (b : Bool) → cond b (x ∷ filter test xs) (filter test xs) ≡ cond b (x ∷ []) []
-        ++ filter test xs
-    by true = refl
-    by false = refl
+filter-cons test x xs = by-bool _ (test x) (λ e. rw e refl) (λ e. rw e refl)
 
 -- two fronts change places
 fronts : {X : Type 0} (a b c : List X) → IsPermutation (a ++ (b ++ c)) (b ++ (a ++ c))
