@@ -6,6 +6,7 @@ use Rattle.std.proofs.lemmas.Bool.{eqb-false}
 use Rattle.dwp_base.specs.Reading.{◌>>=◌}
 use Rattle.dwp_base.specs.Sections.{same_kind}
 use Rattle.dwp_base.specs.declared.section.SectionKind.{SectionKind}
+use Rattle.dwp_base.proofs.Bools.{by-bool}
 use Rattle.dwp_base.proofs.EveryKind.{same-self}
 use Rattle.dwp_bytes.specs.Input.{section}
 use Rattle.dwp_dwarf.specs.Units.{units}
@@ -42,22 +43,19 @@ NotAgain met cs = (place : UnitSection) → is_met place met ≡ true → count_
 once-passed : (add : Adding) (place : UnitSection) (met : Met) → is_met place met ≡ false
     → once_test add place met ≡ Ok tt
 unfolding once_test
-once-passed add place met h = by (is_package add.source.indexes) (is_met place met) h
+once-passed add place met h = rw h (neither (is_package add.source.indexes))
   where
-    by : (a b : Bool) → b ≡ false → ◌≡◌ {A = Result (Unit {0}) ErrorValue}
-        (cond (a && b) (Err (second_section place)) (Ok tt)) (Ok tt)
-    by true true e = absurd (true≢false e)
-    by true false e = refl
-    by false b e = refl
+    neither : (a : Bool) → ◌≡◌ {A = Result (Unit {0}) ErrorValue}
+        (cond (a && false) (Err (second_section place)) (Ok tt)) (Ok tt)
+    neither true = refl
+    neither false = refl
 
 not-met : (met : Met) (place : UnitSection) (c : SectionKind × List ℕ) (cs : Contents)
     → NotAgain met (c ∷ cs) → c.0 ≡ kind_at place → is_met place met ≡ false
-not-met met place c cs free kind = by (is_met place met) (free place)
-  where
-    by : (b : Bool) → (b ≡ true → count_of (kind_at place) (c ∷ cs) ≡ 0) → b ≡ false
-    by true h = absurd (one-there (same_kind c.0 (kind_at place)) (count_of (kind_at place) cs)
-        (ap (λ k. same_kind k (kind_at place)) kind ∙ same-self (kind_at place)) (h refl))
-    by false h = refl
+not-met met place c cs free kind = by-bool _ (is_met place met)
+    (λ e. absurd (one-there (same_kind c.0 (kind_at place)) (count_of (kind_at place) cs)
+    (ap (λ k. same_kind k (kind_at place)) kind ∙ same-self (kind_at place)) (free place e)))
+    (λ e. e)
 
 -- what was met after a section
 met-after : (met : Met) (place other : UnitSection) → is_met other (with_met place met) ≡ true
@@ -70,15 +68,12 @@ met-after met places.Types places.Types h e = absurd (true≢false e)
 free-after : (met : Met) (place : UnitSection) (c : SectionKind × List ℕ) (cs : Contents)
     → KindsDiffer (c ∷ cs) → c.0 ≡ kind_at place → NotAgain met (c ∷ cs)
     → NotAgain (with_met place met) cs
-free-after met place c cs differ kind free other h = by (same_place other place) refl
-  where
-    by : (b : Bool) → same_place other place ≡ b → count_of (kind_at other) cs ≡ 0
-    by true e =
-        let same : kind_at other ≡ c.0 = ap kind_at (place-eq other place e) ∙ sym kind in
-        last-counts (same_kind c.0 (kind_at other)) (count_of (kind_at other) cs)
-        (ap (same_kind c.0) same ∙ same-self c.0) (differ (kind_at other))
-    by false e = fewer (same_kind c.0 (kind_at other)) (count_of (kind_at other) cs)
-        (free other (met-after met place other h e))
+free-after met place c cs differ kind free other h = by-bool _ (same_place other place)
+    (λ e. let same : kind_at other ≡ c.0 = ap kind_at (place-eq other place e) ∙ sym kind in
+    last-counts (same_kind c.0 (kind_at other)) (count_of (kind_at other) cs)
+    (ap (same_kind c.0) same ∙ same-self c.0) (differ (kind_at other)))
+    (λ e. fewer (same_kind c.0 (kind_at other)) (count_of (kind_at other) cs)
+    (free other (met-after met place other h e)))
 
 -- ---- the names of rows whose sections are still to come are free
 

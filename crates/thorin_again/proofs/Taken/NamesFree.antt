@@ -1,8 +1,9 @@
 -- Names of units that none of those so far has.
-use Rattle.std.proofs.Common.{◌≡◌, ◌∙◌, suc, Bool, true, false, cond, List, [], ◌∷◌, ◌++◌, map, All}
-use Rattle.std.proofs.Common.{refl, sym, ap, subst, Option, Some, None, arith, true≢false}
+use Rattle.std.proofs.Common.{◌≡◌, ◌∙◌, suc, true, false, List, [], ◌∷◌, ◌++◌, map, All}
+use Rattle.std.proofs.Common.{refl, sym, ap, subst, None, arith, true≢false}
 use Rattle.std.specs.Map.{lookup}
 use Rattle.std.proofs.lemmas.Option.{none-some}
+use Rattle.dwp_base.proofs.Bools.{by-bool}
 use Rattle.dwp_table.specs.declared.object.DwarfObject.{DwarfObject}
 use Rattle.thorin_index.specs.declared.entry.IndexEntry.{IndexEntry}
 use Rattle.thorin_input.specs.Names.{same_name}
@@ -29,16 +30,10 @@ pub record IsMore (name : DwarfObject) (new next : New) : Type 0 where
 lookup-more : (name other : DwarfObject) (units : List (DwarfObject × NewUnit)) (u : NewUnit)
     → lookup (same_name name) units ≡ None → same_name name other ≡ false → lookup (same_name name)
     (units ++ (other, u) ∷ []) ≡ None
-lookup-more name other [] u h e = ap (λ b. cond {A = Option NewUnit} b (Some u) None) e
-lookup-more name other (x ∷ xs) u h e = by (same_name name x.0) h (λ k.
-    lookup-more name other xs u k e)
-  where
-    by : (b : Bool) → cond b (Some x.1) (lookup (same_name name) xs) ≡ None
-        → (lookup (same_name name) xs ≡ None → lookup (same_name name)
-        (xs ++ (other, u) ∷ []) ≡ None)
-        → cond b (Some x.1) (lookup (same_name name) (xs ++ (other, u) ∷ [])) ≡ None
-    by true k later = absurd (none-some x.1 (sym k))
-    by false k later = later k
+lookup-more name other [] u h e = rw e refl
+lookup-more name other (x ∷ xs) u h e = by-bool _ (same_name name x.0)
+    (λ same. absurd (none-some x.1 (sym (rw same at h))))
+    (λ others. rw others (lookup-more name other xs u (rw others at h) e))
 
 pub avoids-more : (Q : IndexEntry → Type 0) (rows : List IndexEntry) (name : DwarfObject)
     (new next : New) → IsMore name new next → EachRow (λ row. Q row → same_name row.id name ≡ false)
@@ -82,11 +77,9 @@ names-apart (r ∷ rs) h = (
 )
 
 pub different-sym : (a b : DwarfObject) → same_name a b ≡ false → same_name b a ≡ false
-different-sym a b h = by (same_name b a) refl
-  where
-    by : (t : Bool) → same_name b a ≡ t → t ≡ false
-    by true e = absurd (true≢false (sym (same_name-sym b a e) ∙ h))
-    by false e = refl
+different-sym a b h = by-bool _ (same_name b a)
+    (λ e. absurd (true≢false (sym (same_name-sym b a e) ∙ h)))
+    (λ e. e)
 
 at-middle : (P : IndexEntry → Type 0) (before : List IndexEntry) (r : IndexEntry)
     (rs : List IndexEntry) → EachRow P (before ++ r ∷ rs) → P r

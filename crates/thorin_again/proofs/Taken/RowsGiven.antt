@@ -1,5 +1,5 @@
 -- A unit of a written package gets a row, whatever package it is added to.
-use Rattle.std.proofs.Common.{◌≡◌, ◌∙◌, ℕ, suc, ◌+◌, ◌<◌, ◌≤◌, Bool, true, false, cond, not, ◌||◌}
+use Rattle.std.proofs.Common.{◌≡◌, ◌∙◌, ℕ, suc, ◌+◌, ◌<◌, ◌≤◌, Bool, true, false, cond, ◌||◌}
 use Rattle.std.proofs.Common.{◌⊎◌, inl, inr, ⊎_elim, List, [], ◌∷◌, map, length, refl, sym, ap}
 use Rattle.std.proofs.Common.{subst, Result, Ok, Err, Option, Some, None, arith, true≢false}
 use Rattle.std.specs.Prelude.{slice_get, is_some}
@@ -8,11 +8,12 @@ use Rattle.std.proofs.lemmas.Option.{none-some, same_Some}
 use Rattle.dwp_base.specs.ByKind.{value_of}
 use Rattle.dwp_base.specs.Reading.{◌>>=◌, read_each}
 use Rattle.dwp_base.specs.Sections.{name_of, all_kinds}
+use Rattle.dwp_base.proofs.Bools.{by-bool}
 use Rattle.dwp_base.proofs.Steps.{each-read, bind-ok}
 use Rattle.dwp_base.specs.declared.section.Contribution.{Contribution}
 use Rattle.dwp_base.specs.declared.section.SectionKind.{SectionKind}
 use Rattle.dwp_elf.specs.Contents.{content_of}
-use Rattle.dwp_index.specs.Index.{Index, Ranges, row_in, range_in, column_place}
+use Rattle.dwp_index.specs.Index.{Index, Ranges, range_in, column_place}
 use Rattle.dwp_table.specs.Objects.{identifier_of}
 use Rattle.dwp_table.specs.declared.object.DwarfObject.{DwarfObject}
 use Rattle.dwp_table.specs.declared.object.DwarfObject.TheVariants.{Compilation, TypeUnit}
@@ -75,37 +76,20 @@ naming kind c (r ∷ rs) lie h = by (contribution_to kind r) refl h (naming kind
 each-chosen : (P : IndexEntry → Type 0) (b : Bool) (rows : List IndexEntry) → EachRow P rows
     → EachRow P (rows_of b rows)
 each-chosen P b [] h = tt
-each-chosen P b (r ∷ rs) h = by (is_chosen b r) (each-chosen P b rs h.1)
-  where
-    by : (c : Bool) → EachRow P (rows_of b rs)
-        → EachRow P (cond c (r ∷ rows_of b rs) (rows_of b rs))
-    by true later = (h.0, later)
-    by false later = later
-
-used-cond : (kind : SectionKind) (r : IndexEntry) (rows : List IndexEntry) (b : Bool)
-    → is_used (cond b (r ∷ rows) rows) kind ≡ cond b (is_some (contribution_to kind r) || is_used
-    rows kind) (is_used rows kind)
-used-cond kind r rows true = refl
-used-cond kind r rows false = refl
+each-chosen P b (r ∷ rs) h = by-bool _ (is_chosen b r)
+    (λ e. rw e (h.0, each-chosen P b rs h.1))
+    (λ e. rw e (each-chosen P b rs h.1))
 
 pub used-chosen : (kind : SectionKind) (rows : List IndexEntry) → is_used rows kind ≡ true
     → (is_used (rows_of true rows) kind ≡ true) ⊎ (is_used (rows_of false rows) kind ≡ true)
 used-chosen kind [] h = inl h
-used-chosen kind (r ∷ rs) h =
-    ⊎_elim
-    (λ u. inl (used-cond kind r (rows_of true rs) (is_chosen true r) ∙ u))
-    (λ u. inr (used-cond kind r (rows_of false rs) (is_chosen false r) ∙ u))
-    (by (is_compilation r.id) (is_some (contribution_to kind r)) h (used-chosen kind rs))
-  where
-    by : (b e : Bool) → (e || is_used rs kind) ≡ true → (is_used rs kind ≡ true
-        → (is_used (rows_of true rs) kind ≡ true) ⊎ (is_used (rows_of false rs) kind ≡ true))
-        → (cond b (e || is_used (rows_of true rs) kind) (is_used (rows_of true rs) kind) ≡ true)
-        ⊎ (cond (not b) (e || is_used (rows_of false rs) kind)
-        (is_used (rows_of false rs) kind) ≡ true)
-    by true true k later = inl refl
-    by false true k later = inr refl
-    by true false k later = later k
-    by false false k later = later k
+used-chosen kind (r ∷ rs) h = by-bool _ (is_compilation r.id)
+    (λ e. rw e (by-bool _ (is_some (contribution_to kind r))
+    (λ own. rw own (inl refl))
+    (λ none. rw none (used-chosen kind rs (rw none at h)))))
+    (λ e. rw e (by-bool _ (is_some (contribution_to kind r))
+    (λ own. rw own (inr refl))
+    (λ none. rw none (used-chosen kind rs (rw none at h)))))
 
 no-index-used : (kind : SectionKind) (rows : List IndexEntry) → rows ≡ []
     → is_used rows kind ≡ true → ⊥
@@ -122,15 +106,10 @@ column-by kind c (Some index) rows has lie h =
     parts.parts kind ∙ part-there (contribution_to kind n.row) (λ range e.
     subst (λ (r : Contribution). 0 < r.size) (same_Some n.range range (sym n.is ∙ e))
     n.some) ∙ n.is in
-    by (is_some (column_place index.version index.columns kind)) refl (n.number + 1) parts.row
-    n.range parts.there there
-  where
-    by : (b : Bool) → is_some (column_place index.version index.columns kind) ≡ b
-        → (number : ℕ) (row : Ranges) (range : Contribution) → row_in index number ≡ Ok row
-        → range_in row kind ≡ Some range → b ≡ true
-    by true e number row range there k = refl
-    by false e number row range there k =
-        absurd (none-some range (sym (range-none index number row kind there e) ∙ k))
+    by-bool _ (is_some (column_place index.version index.columns kind))
+    (λ e. e)
+    (λ e. absurd (none-some n.range (sym (range-none index (n.number + 1) parts.row kind parts.there
+    e) ∙ there)))
 
 -- either index has it
 either-column : (kind : SectionKind) (c : Contents) (compilations types : Option Index)
