@@ -83,92 +83,79 @@ nothing kind (c ∷ cs) h =
     (λ same. let one = rw same at h in absurd (omega (arith, one)))
     (λ other. let none = rw other at h in rw other (nothing kind cs (omega (arith, none))))
 
--- a content of the kind: the section has it, or it has no bytes and nothing follows
-here : NoBytes → (kind : SectionKind) (number : ℕ) (names : List ℕ) (k : SectionKind)
-    (bytes : List ℕ) (cs : List (SectionKind × List ℕ))
-    → k ≡ kind → count_of kind cs ≡ 0
-    → HasContent (written_sections (number + 1) names cs) kind (content_of kind cs)
-    → HasContent (plain_section number 1 (name_of k) bytes ∷ written_sections (number + 1)
-    names cs) kind bytes
-here empty kind number names k [] cs same none rest =
-    inr (empty (plain_section number 1 (name_of k) []) kind refl, rw (nothing kind cs none) at rest)
-here empty kind number names k (b ∷ bs) cs same none rest =
-    inl (record {
-      name_is = ap (λ x. Some (name_of x)) same;
-      size_is = refl;
-      content_is = refl;
-      some = omega arith;
-      has_bytes = λ e. absurd (omega (arith, e));
-      stored = refl;
-    })
-
 pub fewer-one : (b : Bool) (n : ℕ) → cond b 1 0 + n ≤ 1 → n ≤ 1
 fewer-one true n h = omega (arith, h)
 fewer-one false n h = omega (arith, h)
 
-held_from : OtherKind → ForeignName → NoBytes → (kind : SectionKind) (number : ℕ) (names : List ℕ)
-    (cs : List (SectionKind × List ℕ)) → count_of kind cs ≤ 1
-    → HasContent (written_sections number names cs) kind (content_of kind cs)
-held_from other foreign empty kind number names [] h =
-    inr (
-      foreign (plain_section number 3 (codes ".shstrtab") names) kind (codes ".shstrtab")
-          refl refl,
-      refl,
-    )
-held_from other foreign empty kind number names (c ∷ cs) h =
-    let rest = held_from other foreign empty kind (number + 1) names cs
-    (fewer-one (same_kind c.0 kind) (count_of kind cs) h) in
-    by-bool _ (same_kind c.0 kind)
-    (λ same. let one = rw same at h in rw same (here empty kind number names c.0 c.1 cs
-    (is-same c.0 kind same) (omega (arith, one)) rest))
-    (λ apart. rw apart (
-    inr (other (plain_section number 1 (name_of c.0) c.1) kind c.0 refl apart, rest)
-    ))
+module _ (other : OtherKind) (foreign : ForeignName) (empty : NoBytes) where
+  -- a content of the kind: the section has it, or it has no bytes and nothing follows
+  here : (kind : SectionKind) (number : ℕ) (names : List ℕ) (k : SectionKind) (bytes : List ℕ)
+      (cs : List (SectionKind × List ℕ)) → k ≡ kind → count_of kind cs ≡ 0
+      → HasContent (written_sections (number + 1) names cs) kind (content_of kind cs)
+      → HasContent (plain_section number 1 (name_of k) bytes ∷ written_sections (number + 1)
+      names cs) kind bytes
+  here kind number names k [] cs same none rest = inr
+      (empty (plain_section number 1 (name_of k) []) kind refl, rw (nothing kind cs none) at rest)
+  here kind number names k (b ∷ bs) cs same none rest = inl (record {
+    name_is = ap (λ x. Some (name_of x)) same;
+    size_is = refl;
+    content_is = refl;
+    some = omega arith;
+    has_bytes = λ e. absurd (omega (arith, e));
+    stored = refl;
+  })
 
--- each kind has its content
-held : OtherKind → ForeignName → NoBytes → (o : Object) → KindsDiffer o.contents
-    → (kind : SectionKind)
-    → HasContent (written_elf o).sections kind (content_of kind o.contents)
-held other foreign empty o h kind =
-    inr (
-      empty (plain_section 0 0 [] []) kind refl,
-      held_from other foreign empty kind 1
-          (name_table o.contents) o.contents (h kind),
-    )
+  held_from : (kind : SectionKind) (number : ℕ) (names : List ℕ)
+      (cs : List (SectionKind × List ℕ)) → count_of kind cs ≤ 1
+      → HasContent (written_sections number names cs) kind (content_of kind cs)
+  held_from kind number names [] h = inr (
+    foreign (plain_section number 3 (codes ".shstrtab") names)
+        kind (codes ".shstrtab") refl refl,
+    refl,
+  )
+  held_from kind number names (c ∷ cs) h =
+      let rest = held_from kind (number + 1) names cs
+      (fewer-one (same_kind c.0 kind) (count_of kind cs) h) in
+      by-bool _ (same_kind c.0 kind)
+      (λ same. let one = rw same at h in rw same (here kind number names c.0 c.1 cs
+      (is-same c.0 kind same) (omega (arith, one)) rest))
+      (λ apart. rw apart
+      (inr (other (plain_section number 1 (name_of c.0) c.1) kind c.0 refl apart, rest)))
+
+  -- each kind has its content
+  held : (o : Object) → KindsDiffer o.contents → (kind : SectionKind)
+      → HasContent (written_elf o).sections kind (content_of kind o.contents)
+  held o h kind = inr (
+    empty (plain_section 0 0 [] []) kind refl,
+    held_from kind 1 (name_table o.contents) o.contents (h kind),
+  )
 
 -- ---- the package
 
-pub package_read : ReadBack → FewContents → ContentsRead → OtherKind → ForeignName → NoBytes
-    → (o : Object) → KindsDiffer o.contents → o.machine < 256 ^ 2 → Fits o
-    → (compilations types : Option Index)
-    → index_in_section o.order (content_of CuIndex o.contents) ≡ Ok compilations
-    → index_in_section o.order (content_of TuIndex o.contents) ≡ Ok types
-    → package_of (file_text o) ≡ Ok (record {
-      order = o.order;
-      contents =
-          sections_of (λ kind. content_of kind o.contents);
-      compilations = compilations;
-      types = types;
-    })
-package_read back most read other foreign empty o h machine fits compilations types c t =
-    let few : length o.contents < 60000 = omega (arith, most o.contents h) in
-    read (file_text o) (written_elf o) (λ kind. content_of kind o.contents) compilations types
-    (back o machine (fitting o.class o.machine o.order o.contents fits) few)
-    (held other foreign empty o h) c t
-
--- the same of any bytes that mean the written file
-pub package_held : ContentsRead → OtherKind → ForeignName → NoBytes
-    → (bytes : List ℕ) (o : Object) → KindsDiffer o.contents → elf_of bytes ≡ Ok (written_elf o)
-    → (compilations types : Option Index)
+-- these bytes are read as the package of a file's contents
+abbrev pub IsReadAs : List ℕ → Object → Type 0
+IsReadAs bytes o = (compilations types : Option Index)
     → index_in_section o.order (content_of CuIndex o.contents) ≡ Ok compilations
     → index_in_section o.order (content_of TuIndex o.contents) ≡ Ok types
     → package_of bytes ≡ Ok (record {
       order = o.order;
-      contents =
-          sections_of (λ kind. content_of kind o.contents);
+      contents = sections_of (λ kind. content_of kind o.contents);
       compilations = compilations;
       types = types;
     })
+
+-- so are any bytes that mean the written file
+pub package_held : ContentsRead → OtherKind → ForeignName → NoBytes
+    → (bytes : List ℕ) (o : Object) → KindsDiffer o.contents → elf_of bytes ≡ Ok (written_elf o)
+    → IsReadAs bytes o
 package_held read other foreign empty bytes o h back compilations types c t =
     read bytes (written_elf o) (λ kind. content_of kind o.contents) compilations types back
     (held other foreign empty o h) c t
+
+pub package_read : ReadBack → FewContents → ContentsRead → OtherKind → ForeignName → NoBytes
+    → (o : Object) → KindsDiffer o.contents → o.machine < 256 ^ 2 → Fits o
+    → IsReadAs (file_text o) o
+package_read back most read other foreign empty o h machine fits =
+    package_held read other foreign empty (file_text o) o h
+    (back o machine (fitting o.class o.machine o.order o.contents fits)
+    (omega (arith, most o.contents h)))

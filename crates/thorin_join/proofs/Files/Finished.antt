@@ -1,6 +1,6 @@
 -- The file of a finished package means the units that stand in the ranges of its rows.
 use Rattle.std.proofs.Common.{◌≡◌, ◌∙◌, ℕ, true, false, List, [], ◌++◌, ap, sym, refl, subst, Ok}
-use Rattle.std.proofs.Common.{Option, Some, None}
+use Rattle.std.proofs.Common.{Option, Some, None, Bool, cond, not}
 use Rattle.std.proofs.Math.Seq.{take-length}
 use Rattle.std.specs.Option.{ok_or}
 use Rattle.std.specs.List.Sorted.{IsPermutation}
@@ -13,30 +13,33 @@ use Rattle.dwp_index.specs.Entries.{entries_from}
 use Rattle.dwp_index.specs.Holding.{sections_of}
 use Rattle.dwp_index.specs.Index.{Index}
 use Rattle.dwp_index.specs.Naming.{IsIndexOfIds, entries_of}
-use Rattle.dwp_index.specs.Package.{Package as Pack, index_in_section}
+use Rattle.dwp_index.specs.Package.{index_in_section}
 use Rattle.thorin_strings.specs.Strings.{data_of}
 use Rattle.thorin_index.specs.declared.entry.IndexEntry.{IndexEntry}
 use Rattle.thorin_index.specs.EntryTests.{index_tests}
-use Rattle.thorin_index.specs.IndexText.{entry_ids}
+use Rattle.thorin_index.specs.IndexText.{entry_ids, IsIndexOf}
 use Rattle.thorin_errors.specs.Errors.{NoOutputObjectCreated}
 use Rattle.thorin_join.specs.Builder.{State, IdentifiersFit, IsFinished, IsFinishedState}
 use Rattle.thorin_join.specs.Builder.{finish_test, targets_test, indexes_test, names_in, rows_of}
 use Rattle.thorin_join.specs.Builder.{compilations}
 use Rattle.thorin_input.specs.Growing.{Contents, with_bytes}
 use Rattle.thorin_join.specs.Join.{IsPackageOnceWritten}
-use Rattle.thorin_join.specs.Represents.{IsSound, IsSoundBegun, units_of, units_in, units_begun}
+use Rattle.thorin_join.specs.Represents.{IsSound, IsSoundBegun, units_of, units_in}
 use Rattle.thorin_join.specs.State.{InProgress, kind_at, names_of}
 use Rattle.thorin_join.proofs.Files.Indexes.{HasRows, IndexIsRead, IndexHasEntries, SomeIndex}
 use Rattle.thorin_join.proofs.Files.Indexes.{NoIndex, index-read, chosen-fit}
 use Rattle.thorin_join.proofs.Units.NamesApart.{distinct_chosen}
 use Rattle.thorin_join.proofs.Rows.Stay.{Grows, grows-trans, grows-with_bytes, keep-rows}
-use Rattle.thorin_join.proofs.Files.UnitsFound.{PresentLaw, AbsentLaw, NoIndexLaw, IsRead}
-use Rattle.thorin_join.proofs.Files.UnitsFound.{package-finds}
+use Rattle.thorin_join.proofs.Files.UnitsFound.{PresentLaw, AbsentLaw, NoIndexLaw, package-finds}
 use Rattle.thorin_join.proofs.Parts.Appended.{content-with_bytes}
 use Rattle.thorin_join.proofs.Files.Contents.{ContentsRead, OtherKind, ForeignName, NoBytes}
 use Rattle.thorin_join.proofs.Files.Contents.{package_held}
-use Rattle.thorin_join.proofs.Files.RowsFound.{chosen-compilations, chosen-types}
+use Rattle.thorin_join.proofs.Files.RowsFound.{ids-chosen}
 use Rattle.dwp_base.proofs.Steps.{bind-was, same-ok}
+use Rattle.dwp_base.specs.declared.section.SectionKind.{SectionKind}
+use Rattle.dwp_table.specs.declared.object.DwarfObject.{DwarfObject}
+use Rattle.dwp_base.specs.Sections.{same_kind}
+use Rattle.thorin_input.specs.Names.{is_compilation}
 
 -- the tests of finishing
 pub record Tested (made : InProgress) : Type 0 where
@@ -76,41 +79,39 @@ module _ (made : InProgress) (file : File) (f : IsFinished made file) where
       with_compilations) (grows-with_bytes kinds.CuIndex f.compilation_index with_strings)
       (grows-with_bytes kinds.TuIndex f.type_index with_compilations)))
 
+  -- the content of a kind, with what was added to it
+  abbrev put : SectionKind → SectionKind → List ℕ → List ℕ → List ℕ
+  put kind k bytes old = cond (same_kind k kind) (old ++ bytes) old
+
+  finished-content : (kind : SectionKind) → content_of kind file.contents
+      ≡ put kind kinds.TuIndex f.type_index (put kind kinds.CuIndex f.compilation_index
+      (put kind kinds.Str (data_of made.strings) (content_of kind made.file.contents)))
+  finished-content kind = rw (
+    contents-are,
+    content-with_bytes kind kinds.TuIndex f.type_index with_compilations,
+    content-with_bytes kind kinds.CuIndex f.compilation_index with_strings,
+    content-with_bytes kind kinds.Str (data_of made.strings) made.file.contents,
+  )
+
   pub finished-strings : content_of kinds.Str made.file.contents ≡ [] → content_of kinds.Str
       file.contents ≡ data_of made.strings
-  finished-strings none = ap (content_of kinds.Str) contents-are
-      ∙ content-with_bytes kinds.Str kinds.TuIndex f.type_index with_compilations
-      ∙ content-with_bytes kinds.Str kinds.CuIndex f.compilation_index with_strings
-      ∙ content-with_bytes kinds.Str kinds.Str (data_of made.strings) made.file.contents
-      ∙ ap (λ l. l ++ data_of made.strings) none
+  finished-strings none =
+      finished-content kinds.Str ∙ ap (λ l. l ++ data_of made.strings) none
 
   pub finished-compilations : content_of kinds.CuIndex made.file.contents ≡ []
       → content_of kinds.CuIndex file.contents ≡ f.compilation_index
-  finished-compilations none = ap (content_of kinds.CuIndex) contents-are
-      ∙ content-with_bytes kinds.CuIndex kinds.TuIndex f.type_index with_compilations
-      ∙ content-with_bytes kinds.CuIndex kinds.CuIndex f.compilation_index with_strings
-      ∙ ap (λ l. l ++ f.compilation_index) (content-with_bytes kinds.CuIndex kinds.Str
-      (data_of made.strings) made.file.contents ∙ none)
+  finished-compilations none =
+      finished-content kinds.CuIndex ∙ ap (λ l. l ++ f.compilation_index) none
 
   pub finished-types : content_of kinds.TuIndex made.file.contents ≡ [] → content_of kinds.TuIndex
       file.contents ≡ f.type_index
-  finished-types none = ap (content_of kinds.TuIndex) contents-are
-      ∙ content-with_bytes kinds.TuIndex kinds.TuIndex f.type_index with_compilations
-      ∙ ap (λ l. l ++ f.type_index) (content-with_bytes kinds.TuIndex kinds.CuIndex
-      f.compilation_index with_strings ∙ content-with_bytes kinds.TuIndex kinds.Str
-      (data_of made.strings) made.file.contents ∙ none)
+  finished-types none = finished-content kinds.TuIndex ∙ ap (λ l. l ++ f.type_index) none
 
   -- the units' own bytes
   pub finished-own : (place : UnitSection) → content_of (kind_at place) file.contents ≡ content_of
       (kind_at place) made.file.contents
-  finished-own places.Info = ap (content_of kinds.Info) contents-are
-      ∙ content-with_bytes kinds.Info kinds.TuIndex f.type_index with_compilations
-      ∙ content-with_bytes kinds.Info kinds.CuIndex f.compilation_index with_strings
-      ∙ content-with_bytes kinds.Info kinds.Str (data_of made.strings) made.file.contents
-  finished-own places.Types = ap (content_of kinds.Types) contents-are
-      ∙ content-with_bytes kinds.Types kinds.TuIndex f.type_index with_compilations
-      ∙ content-with_bytes kinds.Types kinds.CuIndex f.compilation_index with_strings
-      ∙ content-with_bytes kinds.Types kinds.Str (data_of made.strings) made.file.contents
+  finished-own places.Info = finished-content kinds.Info
+  finished-own places.Types = finished-content kinds.Types
 
 -- the law of the names in a package
 abbrev pub NamedOnce : Type 0
@@ -135,55 +136,45 @@ module _ (is_read : IndexIsRead) (has_entries : IndexHasEntries) (some_index : S
   package-is made file sound tested fits f differ back =
       let ms = units_of made in
       let units = sound.units in
-      let c = index-read is_read has_entries some_index none_index made.file.order
-      (rows_of true made.rows) f.compilation_index f.compilations tested.compilation_rows
-      (distinct_chosen true made.rows (names_of made) refl sound.apart)
-      (chosen-fit true made.rows fits) in
-      let t = index-read is_read has_entries some_index none_index made.file.order
-      (rows_of false made.rows) f.type_index f.types tested.type_rows
-      (distinct_chosen false made.rows (names_of made) refl sound.apart)
-      (chosen-fit false made.rows fits) in
+      let indexed = λ (b : Bool) (bytes : List ℕ)
+      (is : IsIndexOf made.file.order (rows_of b made.rows) bytes)
+      (passes : index_tests (rows_of b made.rows) ≡ Ok tt).
+      index-read is_read has_entries some_index none_index made.file.order (rows_of b made.rows)
+      bytes is passes (distinct_chosen b made.rows (names_of made) refl sound.apart)
+      (chosen-fit b made.rows fits) in
+      let c = indexed true f.compilation_index f.compilations tested.compilation_rows in
+      let t = indexed false f.type_index f.types tested.type_rows in
       let order = finished-order made file f in
       let c_read : index_in_section file.order (content_of kinds.CuIndex file.contents) ≡ Ok
-      c.index =
-      (λ i. index_in_section (order i) (finished-compilations made file f units.no_compilations i))
-      ∙
-      c.read in
+      c.index = rw (order, finished-compilations made file f units.no_compilations) c.read in
       let t_read : index_in_section file.order (content_of kinds.TuIndex file.contents) ≡ Ok
-      t.index =
-      (λ i. index_in_section (order i) (finished-types made file f units.no_types i)) ∙ t.read in
-      let pack : Pack = record {
-        order = file.order;
-        contents =
-            sections_of (λ kind. content_of kind file.contents);
-        compilations = c.index;
-        types = t.index;
-      } in
-      let read : IsRead pack made.file.order file.contents made.rows made.strings = record {
-        order_is = order;
-        contents_are = refl;
-        strings_are = finished-strings made file f units.no_strings;
-        compilations = c.has;
-        types = t.has;
-      } in
+      t.index = rw (order, finished-types made file f units.no_types) t.read in
       let rows = keep-rows made.file.order made.file.contents file.contents
       made.strings made.strings
       made.rows ms (finished-grows made file f) (take-length made.strings) units.rows in
+      let ids = λ (passes : DwarfObject → Bool). ids-chosen made.file.order made.file.contents
+      made.strings passes made.rows ms units.rows in
       record {
-        pack = pack;
+        pack = record {
+          order = file.order;
+          contents = sections_of (λ kind. content_of kind file.contents);
+          compilations = c.index;
+          types = t.index;
+        };
         parsed = package_held contents other foreign empty (file_text file) file differ back c.index
             t.index c_read t_read;
-        named = rw (
-          ← chosen-compilations made.file.order made.file.contents made.strings made.rows ms
-              units.rows,
-          ← chosen-types made.file.order made.file.contents made.strings
-              made.rows ms units.rows,
-        )
+        named = rw (← ids is_compilation, ← ids (λ name. not (is_compilation name)))
             (once c.index t.index (entry_ids (rows_of true made.rows))
             (entry_ids (rows_of false made.rows)) (index-ids c.index (rows_of true made.rows)
             c.has) (index-ids t.index (rows_of false made.rows) t.has));
-        finds = package-finds present absent none pack made.file.order file.contents made.rows
-            made.strings ms read units.table rows;
+        finds = package-finds present absent none _ made.file.order file.contents made.rows
+            made.strings ms (record {
+              order_is = order;
+              contents_are = refl;
+              strings_are = finished-strings made file f units.no_strings;
+              compilations = c.has;
+              types = t.has;
+            }) units.table rows;
       }
 
   -- so is that of a finished state
@@ -192,6 +183,5 @@ module _ (is_read : IndexIsRead) (has_entries : IndexHasEntries) (some_index : S
       → IsFinishedState state file → IsPackageOnceWritten (units_in state) file
   finished-is state file sound tested f =
       let is_sound : IsSound f.made = subst IsSoundBegun f.begun sound in
-      let is = package-is f.made file is_sound (tested-state state f.made f.begun tested)
-      f.identifiers f.finished in
-      subst (λ begun. IsPackageOnceWritten (units_begun begun) file) (sym f.begun) is
+      rw f.begun (package-is f.made file is_sound (tested-state state f.made f.begun tested)
+      f.identifiers f.finished)

@@ -15,7 +15,7 @@ use Rattle.thorin_index.specs.declared.entry.IndexEntry.{IndexEntry}
 use Rattle.thorin_index.specs.IndexText.{entry_ids}
 use Rattle.thorin_join.specs.Builder.{is_chosen, rows_of}
 use Rattle.thorin_input.specs.Growing.{Contents}
-use Rattle.thorin_join.specs.Join.{same_sort, identifiers, signatures}
+use Rattle.thorin_join.specs.Join.{same_sort}
 use Rattle.thorin_join.specs.Meaning.{Meaning, Members}
 use Rattle.thorin_input.specs.Names.{same_name, is_compilation}
 use Rattle.thorin_join.specs.Represents.{IsRowOf, AreRowsOf}
@@ -26,66 +26,16 @@ use Rattle.std.proofs.lemmas.List.{length-map}
 -- a row is among those of its sort
 sort-chosen : (name : DwarfObject) (row : IndexEntry) → is_chosen (is_compilation name) row ≡
     same_sort name row.id
-sort-chosen (Compilation a) row = by row.id
-  where
-    by : (id : DwarfObject) → is_compilation id ≡ same_sort (Compilation a) id
-    by (Compilation b) = refl
-    by (TypeUnit b) = refl
-sort-chosen (TypeUnit a) row = by row.id
-  where
-    by : (id : DwarfObject) → not (is_compilation id) ≡ same_sort (TypeUnit a) id
-    by (Compilation b) = refl
-    by (TypeUnit b) = refl
+sort-chosen (Compilation a) row = elim row.id as
+    (λ id. is_compilation id ≡ same_sort (Compilation a) id)
+    [ Compilation b ↦ refl | TypeUnit b ↦ refl ]
+sort-chosen (TypeUnit a) row = elim row.id as
+    (λ id. not (is_compilation id) ≡ same_sort (TypeUnit a) id)
+    [ Compilation b ↦ refl | TypeUnit b ↦ refl ]
 
 sort-self : (name : DwarfObject) → same_sort name name ≡ true
 sort-self (Compilation a) = refl
 sort-self (TypeUnit a) = refl
-
--- where a row stands among those of its name's sort
-pub record RowFound (order : Endianness) (contents : Contents) (strings : List (List ℕ))
-    (rows : List IndexEntry) (name : DwarfObject) (unit : Meaning) : Type 0 where
-  pub place : ℕ
-  pub row : IndexEntry
-  pub at : slice_get (rows_of (is_compilation name) rows) place ≡ Some row
-  pub is : IsRowOf order contents strings row (name, unit)
-
-found-here : (order : Endianness) (contents : Contents) (strings : List (List ℕ)) (row : IndexEntry)
-    (rows : List IndexEntry) (name : DwarfObject) (unit : Meaning)
-    → is_chosen (is_compilation name) row ≡ true → IsRowOf order contents strings row (name, unit)
-    → RowFound order contents strings (row ∷ rows) name unit
-found-here order contents strings row rows name unit chosen is = record {
-  place = 0;
-  row = row;
-  at = rw chosen refl;
-  is = is;
-}
-
-found-later : (order : Endianness) (contents : Contents) (strings : List (List ℕ))
-    (row : IndexEntry) (rows : List IndexEntry) (name : DwarfObject) (unit : Meaning)
-    → RowFound order contents strings rows name unit
-    → RowFound order contents strings (row ∷ rows) name unit
-found-later order contents strings row rows name unit f =
-    by-bool _ (is_chosen (is_compilation name) row)
-    (λ chosen. record { place = suc f.place; row = f.row; at = rw chosen f.at; is = f.is })
-    (λ other. record { place = f.place; row = f.row; at = rw other f.at; is = f.is })
-
-pub find-row : (order : Endianness) (contents : Contents) (strings : List (List ℕ))
-    (rows : List IndexEntry) (ms : Members) (name : DwarfObject) (unit : Meaning)
-    → AreRowsOf order contents strings rows ms → lookup (same_name name) ms ≡ Some unit
-    → RowFound order contents strings rows name unit
-find-row order contents strings [] [] name unit are h = absurd (none-some unit h)
-find-row order contents strings [] (m ∷ ms) name unit are h = absurd are
-find-row order contents strings (r ∷ rs) [] name unit are h = absurd are
-find-row order contents strings (r ∷ rs) (m ∷ ms) name unit are h =
-    by-bool _ (same_name name m.0)
-    (λ same. let name_is : name ≡ m.0 = same_name-true name m.0 same in
-    let unit_is : m.1 ≡ unit = same_Some _ _ (rw same at h) in
-    let is : IsRowOf order contents strings r (name, unit) =
-    subst₂ (λ n u. IsRowOf order contents strings r (n, u)) (sym name_is) unit_is are.0 in
-    found-here order contents strings r rs name unit (sort-chosen name r ∙ ap (same_sort name)
-    is.name ∙ sort-self name) is)
-    (λ other. found-later order contents strings r rs name unit
-    (find-row order contents strings rs ms name unit are.1 (rw other at h)))
 
 -- the identifier at the place of a row
 pub id-at : (rows : List IndexEntry) (place : ℕ) (row : IndexEntry) → slice_get rows place ≡ Some
@@ -107,7 +57,6 @@ one-name (TypeUnit a) (TypeUnit b) sort same = eq-eqb a.0 b.0 (sym same)
 one-name (Compilation a) (TypeUnit b) sort same = absurd (true≢false (sym sort))
 one-name (TypeUnit a) (Compilation b) sort same = absurd (true≢false (sym sort))
 
--- a name that isn't looked up has no row
 absent-cond : (name : DwarfObject) (row : IndexEntry) (rows : List IndexEntry) (e : Bool)
     → is_chosen (is_compilation name) row ≡ e → same_name name row.id ≡ false
     → IsNotNamed name (entry_ids (rows_of (is_compilation name) rows))
@@ -118,67 +67,71 @@ absent-cond name row rows true chosen other rest zero within same =
 absent-cond name row rows true chosen other rest (suc r) within same = rest r (omega arith) same
 absent-cond name row rows false chosen other rest r within same = rest r within same
 
-pub no-row : (order : Endianness) (contents : Contents) (strings : List (List ℕ))
-    (rows : List IndexEntry) (ms : Members) (name : DwarfObject)
-    → AreRowsOf order contents strings rows ms → lookup (same_name name) ms ≡ None
-    → IsNotNamed name (entry_ids (rows_of (is_compilation name) rows))
-no-row order contents strings [] [] name are h = λ r within same. absurd (omega arith)
-no-row order contents strings [] (m ∷ ms) name are h = absurd are
-no-row order contents strings (r ∷ rs) [] name are h = absurd are
-no-row order contents strings (r ∷ rs) (m ∷ ms) name are h =
-    by-bool _ (same_name name m.0)
-    (λ same. absurd (none-some m.1 (sym (rw same at h))))
-    (λ other. absent-cond name r rs (is_chosen (is_compilation name) r) refl
-    (ap (same_name name) are.0.name ∙ other)
-    (no-row order contents strings rs ms name are.1 (rw other at h)))
-
 pub ids-counted : (rows : List IndexEntry) → length (entry_ids rows) ≡ length rows
 ids-counted [] = refl
 ids-counted (r ∷ rs) = ap suc (ids-counted rs)
 
--- the identifiers of the rows of a sort are those of the units
-chosen-by : (row : IndexEntry) (m : DwarfObject × Meaning) (rows : List IndexEntry) (ms : Members)
-    (e : Bool) → row.id ≡ m.0
-    → entry_ids rows ≡ map (λ u. identifier_of u.0) ms → entry_ids (cond e (row ∷ rows) rows) ≡ map
-    (λ u. identifier_of u.0) (cond e (m ∷ ms) ms)
-chosen-by row m rows ms true same h = λ i. identifier_of (same i) ∷ h i
-chosen-by row m rows ms false same h = h
+-- what is known of rows that are those of units
+module _ (order : Endianness) (contents : Contents) (strings : List (List ℕ)) where
+  -- where a row stands among those of its name's sort
+  pub record RowFound (rows : List IndexEntry) (name : DwarfObject) (unit : Meaning) : Type 0 where
+    pub place : ℕ
+    pub row : IndexEntry
+    pub at : slice_get (rows_of (is_compilation name) rows) place ≡ Some row
+    pub is : IsRowOf order contents strings row (name, unit)
 
-ids-chosen : (passes : DwarfObject → Bool) (order : Endianness) (contents : Contents)
-    (strings : List (List ℕ)) (rows : List IndexEntry) (ms : Members)
-    → AreRowsOf order contents strings rows ms → entry_ids (filter (λ r. passes r.id) rows) ≡ map
-    (λ u. identifier_of u.0) (filter (λ u. passes u.0) ms)
-ids-chosen passes order contents strings [] [] are = refl
-ids-chosen passes order contents strings [] (m ∷ ms) are = absurd are
-ids-chosen passes order contents strings (r ∷ rs) [] are = absurd are
-ids-chosen passes order contents strings (r ∷ rs) (m ∷ ms) are =
-    let others = filter (λ x. passes x.id) rs in
-    ap (λ e. entry_ids (cond e (r ∷ others) others)) (ap passes are.0.name)
-    ∙ chosen-by r m others (filter (λ u. passes u.0) ms) (passes m.0) are.0.name
-    (ids-chosen passes order contents strings rs ms are.1)
+  pub find-row : (rows : List IndexEntry) (ms : Members) (name : DwarfObject) (unit : Meaning)
+      → AreRowsOf order contents strings rows ms → lookup (same_name name) ms ≡ Some unit
+      → RowFound rows name unit
+  find-row [] [] name unit are h = absurd (none-some unit h)
+  find-row [] (m ∷ ms) name unit are h = absurd are
+  find-row (r ∷ rs) [] name unit are h = absurd are
+  find-row (r ∷ rs) (m ∷ ms) name unit are h =
+      by-bool _ (same_name name m.0)
+      (λ same. let is : IsRowOf order contents strings r (name, unit) =
+      subst₂ (λ n u. IsRowOf order contents strings r (n, u))
+      (sym (same_name-true name m.0 same)) (same_Some _ _ (rw same at h)) are.0 in
+      let chosen = sort-chosen name r ∙ ap (same_sort name) is.name ∙ sort-self name in
+      record { place = 0; row = r; at = rw chosen; is = is })
+      (λ other. let f = find-row rs ms name unit are.1 (rw other at h) in
+      by-bool _ (is_chosen (is_compilation name) r)
+      (λ chosen. record { place = suc f.place; row = f.row; at = rw chosen f.at; is = f.is })
+      (λ passed. record { place = f.place; row = f.row; at = rw passed f.at; is = f.is }))
 
-pub chosen-compilations : (order : Endianness) (contents : Contents) (strings : List (List ℕ))
-    (rows : List IndexEntry) (ms : Members)
-    → AreRowsOf order contents strings rows ms → entry_ids (rows_of true rows) ≡ identifiers ms
-chosen-compilations order contents strings rows ms are = ids-chosen is_compilation order contents
-    strings rows ms are
+  -- a name that isn't looked up has no row
+  pub no-row : (rows : List IndexEntry) (ms : Members) (name : DwarfObject)
+      → AreRowsOf order contents strings rows ms → lookup (same_name name) ms ≡ None
+      → IsNotNamed name (entry_ids (rows_of (is_compilation name) rows))
+  no-row [] [] name are h = λ r within same. absurd (omega arith)
+  no-row [] (m ∷ ms) name are h = absurd are
+  no-row (r ∷ rs) [] name are h = absurd are
+  no-row (r ∷ rs) (m ∷ ms) name are h =
+      by-bool _ (same_name name m.0)
+      (λ same. absurd (none-some m.1 (sym (rw same at h))))
+      (λ other. absent-cond name r rs (is_chosen (is_compilation name) r) refl
+      (ap (same_name name) are.0.name ∙ other) (no-row rs ms name are.1 (rw other at h)))
 
-pub chosen-types : (order : Endianness) (contents : Contents) (strings : List (List ℕ))
-    (rows : List IndexEntry) (ms : Members)
-    → AreRowsOf order contents strings rows ms → entry_ids (rows_of false rows) ≡ signatures ms
-chosen-types order contents strings rows ms are =
-    ids-chosen (λ name. not (is_compilation name)) order
-    contents strings rows ms are
+  -- the identifiers of the rows of a sort are those of the units
+  pub ids-chosen : (passes : DwarfObject → Bool) (rows : List IndexEntry) (ms : Members)
+      → AreRowsOf order contents strings rows ms → entry_ids (filter (λ r. passes r.id) rows)
+      ≡ map (λ u. identifier_of u.0) (filter (λ u. passes u.0) ms)
+  ids-chosen passes [] [] are = refl
+  ids-chosen passes [] (m ∷ ms) are = absurd are
+  ids-chosen passes (r ∷ rs) [] are = absurd are
+  ids-chosen passes (r ∷ rs) (m ∷ ms) are =
+      let rest = ids-chosen passes rs ms are.1 in
+      rw are.0.name (by-bool _ (passes m.0)
+      (λ chosen. rw chosen (ap (λ l. identifier_of m.0 ∷ l) rest))
+      (λ other. rw other rest))
 
--- there are as many rows of a sort as units
-pub rows-counted : (order : Endianness) (contents : Contents) (strings : List (List ℕ))
-    (rows : List IndexEntry) (ms : Members) (name : DwarfObject)
-    → AreRowsOf order contents strings rows ms → length (rows_of (is_compilation name) rows) ≡
-    length (filter (λ u. same_sort name u.0) ms)
-rows-counted order contents strings rows ms name are =
-    let same : is_chosen (is_compilation name) ≡ (λ (row : IndexEntry). same_sort name row.id) =
-    λ i row. sort-chosen name row i in
-    ap (λ p. length (filter p rows)) same
-    ∙ sym (ids-counted (filter (λ row. same_sort name row.id) rows))
-    ∙ ap length (ids-chosen (same_sort name) order contents strings rows ms are)
-    ∙ length-map (filter (λ u. same_sort name u.0) ms) (λ u. identifier_of u.0)
+  -- there are as many rows of a sort as units
+  pub rows-counted : (rows : List IndexEntry) (ms : Members) (name : DwarfObject)
+      → AreRowsOf order contents strings rows ms → length (rows_of (is_compilation name) rows)
+      ≡ length (filter (λ u. same_sort name u.0) ms)
+  rows-counted rows ms name are =
+      let same : is_chosen (is_compilation name) ≡ (λ (row : IndexEntry). same_sort name row.id) =
+      λ i row. sort-chosen name row i in
+      ap (λ p. length (filter p rows)) same
+      ∙ sym (ids-counted (filter (λ row. same_sort name row.id) rows))
+      ∙ ap length (ids-chosen (same_sort name) rows ms are)
+      ∙ length-map (filter (λ u. same_sort name u.0) ms) (λ u. identifier_of u.0)

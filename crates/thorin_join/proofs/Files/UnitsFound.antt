@@ -32,7 +32,7 @@ use Rattle.thorin_index.specs.IndexText.{entry_ids}
 use Rattle.thorin_index.specs.ReadRows.{HasEntries, HasParts, non_empty}
 use Rattle.thorin_join.specs.Builder.{rows_of}
 use Rattle.thorin_input.specs.Growing.{Contents}
-use Rattle.thorin_join.specs.Join.{IsUnit, GivesUnit, GivesNone, look_limit, limit_of, same_sort}
+use Rattle.thorin_join.specs.Join.{IsUnit, GivesUnit, GivesNone, limit_of, same_sort}
 use Rattle.thorin_join.specs.Meaning.{Meaning, Members}
 use Rattle.thorin_input.specs.Names.{same_name, is_compilation}
 use Rattle.thorin_join.specs.Represents.{AreRowsOf}
@@ -68,14 +68,6 @@ pub record IsRead (pack : Package) (order : Endianness) (contents : Contents)
   pub strings_are : content_of kinds.Str contents ≡ data_of strings
   pub compilations : HasRows pack.compilations (rows_of true rows)
   pub types : HasRows pack.types (rows_of false rows)
-
--- the index of a name's sort
-sort-rows : (pack : Package) (order : Endianness) (contents : Contents) (rows : List IndexEntry)
-    (strings : List (List ℕ)) (name : DwarfObject)
-    → IsRead pack order contents rows strings → HasRows (index_for pack name)
-    (rows_of (is_compilation name) rows)
-sort-rows pack order contents rows strings (Compilation id) read = read.compilations
-sort-rows pack order contents rows strings (TypeUnit signature) read = read.types
 
 kind-same : (place : UnitSection) → kind_of place ≡ kind_at place
 kind-same places.Info = refl
@@ -152,96 +144,68 @@ module _ (pack : Package) (order : Endianness) (contents : Contents) (rows : Lis
         ∙ f.is.shares.string strings table (take-length strings) i;
   }
 
--- the limit is above each row that there is
-row-limit : (n place count : ℕ) → place < n → count ≤ place + 1 → count ≤ limit_of n
-row-limit zero place count h k = absurd (omega arith)
-row-limit (suc n) place count h k = omega arith
-
+-- the limit is one more than there are units, where there are any
 some-limit : (n count : ℕ) → 0 < n → count ≤ n + 1 → count ≤ limit_of n
 some-limit zero count h k = absurd (omega arith)
 some-limit (suc n) count h k = k
 
-none-limit : (n count : ℕ) → count ≤ 0 → count ≤ limit_of n
-none-limit n count h = omega arith
+module _ (present : PresentLaw) (absent : AbsentLaw) (none : NoIndexLaw) (pack : Package)
+    (order : Endianness) (contents : Contents) (rows : List IndexEntry) (strings : List (List ℕ))
+    (ms : Members) (read : IsRead pack order contents rows strings) (table : IsTable strings)
+    (are : AreRowsOf order contents strings rows ms) (name : DwarfObject) where
+  abbrev own : List IndexEntry
+  own = rows_of (is_compilation name) rows
 
-no-rows : {X : Type 0} (index : Option Index) (rows : List IndexEntry) (place : ℕ)
-    (row : IndexEntry) → HasRows index rows → slice_get rows place ≡ Some row
-    → ((i : Index) → index ≡ Some i → (version : ℕ) × HasEntries version rows i
-    × (0 < length rows) → X) → X
-no-rows None rows place row has at then =
-    absurd (none-some row (ap (λ l. slice_get l place) (sym has) ∙ at))
-no-rows (Some i) rows place row has at then = then i refl has
+  abbrev units : ℕ
+  units = length (filter (λ u. same_sort name u.0) ms)
 
-by-row : PresentLaw → (pack : Package) (order : Endianness) (contents : Contents)
-    (rows : List IndexEntry) (strings : List (List ℕ)) (ms : Members) (name : DwarfObject)
-    (unit : Meaning)
-    → IsRead pack order contents rows strings → IsTable strings → AreRowsOf order contents strings
-    rows ms → RowFound order contents strings rows name unit
-    → GivesUnit pack name (look_limit ms name) unit
-by-row present pack order contents rows strings ms name unit read table are f =
-    no-rows (index_for pack name) (rows_of (is_compilation name) rows) f.place f.row
-    (sort-rows pack order contents rows strings name read) f.at (λ i there has.
-    let gives = present pack name (entry_ids (rows_of (is_compilation name) rows)) i f.place _
-    f.is.owns.encoding
-    (record { index_is = there; slots = has.1.slots })
-    (found-unit pack order contents rows strings name unit read table f i has.0 has.1) in
-    let units = filter (λ u. same_sort name u.0) ms in
-    let counted : length (entry_ids (rows_of (is_compilation name) rows)) ≡ length units =
-    ids-counted (rows_of (is_compilation name) rows) ∙ rows-counted order contents strings
-    rows ms name are in
-    let within : f.place < length units = subst (λ n. f.place < n) counted
-    (id-at (rows_of (is_compilation name) rows) f.place f.row f.at).0 in
-    record {
-      found = _;
-      count = gives.count;
-      few = row-limit (length units) f.place gives.count within gives.few;
-      counted = gives.counted;
-      is = found-is pack order contents rows strings name unit read table f i has.0 has.1;
-    })
+  abbrev Gives : Option Meaning → Type 0
+  Gives found = MatchOption found (GivesNone pack name (limit_of units))
+      (GivesUnit pack name (limit_of units))
 
--- a name that no unit has
-absent-by : AbsentLaw → NoIndexLaw → (pack : Package) (name : DwarfObject) (rows : List IndexEntry)
-    (n : ℕ) (index : Option Index) → index_for pack name ≡ index → HasRows index rows
-    → length rows ≡ n → IsNotNamed name (entry_ids rows) → GivesNone pack name (limit_of n)
-absent-by absent none pack name rows n None there has counted not_there =
-    let gives = none pack name there in
-    record {
-      count = gives.count;
-      few = none-limit n gives.count gives.few;
-      counted = gives.counted;
-    }
-absent-by absent none pack name rows n (Some i) there has counted not_there =
-    let gives = absent pack name (entry_ids rows) i (record {
-      index_is = there;
-      slots =
-          has.1.slots;
-    }) not_there in
-    let few : gives.count ≤ n + 1 = subst (λ m. gives.count ≤ m + 1)
-    (ids-counted rows ∙ counted) gives.few in
-    record {
-      count = gives.count;
-      few = some-limit n gives.count (subst (λ m. 0 < m) counted has.2)
-          few;
-      counted = gives.counted;
-    }
+  -- by the index of the name's sort, and by what the units have under it
+  gives : (index : Option Index) → index_for pack name ≡ index → HasRows index own
+      → (found : Option Meaning) → lookup (same_name name) ms ≡ found → Gives found
+  gives None there has None h =
+      let g = none pack name there in
+      record { count = g.count; few = omega (arith, g.few); counted = g.counted }
+  gives None there has (Some unit) h =
+      let f = find-row order contents strings rows ms name unit are h in
+      absurd (none-some f.row (ap (λ l. slice_get l f.place) (sym has) ∙ f.at))
+  gives (Some i) there has None h =
+      let g = absent pack name (entry_ids own) i
+      (record { index_is = there; slots = has.1.slots })
+      (no-row order contents strings rows ms name are h) in
+      let counted = rows-counted order contents strings rows ms name are in
+      let many = ids-counted own in
+      let some : 0 < units = omega (arith, counted, has.2) in
+      let few : g.count ≤ units + 1 = omega (arith, counted, many, g.few) in
+      record {
+        count = g.count;
+        few = some-limit units g.count some few;
+        counted = g.counted;
+      }
+  gives (Some i) there has (Some unit) h =
+      let f = find-row order contents strings rows ms name unit are h in
+      let g = present pack name (entry_ids own) i f.place _ f.is.owns.encoding
+      (record { index_is = there; slots = has.1.slots })
+      (found-unit pack order contents rows strings name unit read table f i has.0 has.1) in
+      let counted = rows-counted order contents strings rows ms name are in
+      let place = (id-at own f.place f.row f.at).0 in
+      let within : f.place < units = omega (arith, counted, ids-counted own, place) in
+      let few : g.count ≤ units + 1 = omega (arith, within, g.few) in
+      record {
+        found = _;
+        count = g.count;
+        few = some-limit units g.count (omega (arith, within)) few;
+        counted = g.counted;
+        is = found-is pack order contents rows strings name unit read table f i has.0 has.1;
+      }
 
-pub package-finds : PresentLaw → AbsentLaw → NoIndexLaw → (pack : Package) (order : Endianness)
-    (contents : Contents) (rows : List IndexEntry) (strings : List (List ℕ)) (ms : Members)
-    → IsRead pack order contents rows strings → IsTable strings
-    → AreRowsOf order contents strings rows ms
-    → (name : DwarfObject) → MatchOption (lookup (same_name name) ms)
-    (GivesNone pack name (look_limit ms name)) (GivesUnit pack name (look_limit ms name))
-package-finds present absent none pack order contents rows strings ms read table are name =
-    by (lookup (same_name name) ms) refl
-  where
-    by : (found : Option Meaning) → lookup (same_name name) ms ≡ found
-        → MatchOption found (GivesNone pack name (look_limit ms name))
-        (GivesUnit pack name (look_limit ms name))
-    by (Some unit) h = by-row present pack order contents rows strings ms name unit read table are
-        (find-row order contents strings rows ms name unit are h)
-    by None h =
-        absent-by absent none pack name (rows_of (is_compilation name) rows)
-        (length (filter (λ u. same_sort name u.0) ms)) (index_for pack name) refl
-        (sort-rows pack order contents rows strings name read)
-        (rows-counted order contents strings rows ms name are) (no-row order contents strings
-        rows ms name are h)
+  pub package-finds : Gives (lookup (same_name name) ms)
+  package-finds =
+      let has = elim name as (λ n. HasRows (index_for pack n) (rows_of (is_compilation n) rows)) [
+        | Compilation id ↦ read.compilations
+        | TypeUnit signature ↦ read.types
+      ] in
+      gives (index_for pack name) refl has (lookup (same_name name) ms) refl

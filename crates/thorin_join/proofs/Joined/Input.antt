@@ -15,7 +15,7 @@ use Rattle.thorin_strings.specs.Strings.{IsTable}
 use Rattle.thorin_errors.specs.Errors.{MixedInputEncodings}
 use Rattle.thorin_join.specs.Builder.{package_or_new, order_of, same_order, order_test, with_input}
 use Rattle.thorin_input.specs.Encodings.{encoding_of}
-use Rattle.thorin_input.specs.Indexes.{Indexes, Source, indexes_of}
+use Rattle.thorin_input.specs.Indexes.{Indexes, indexes_of}
 use Rattle.thorin_join.specs.Join.{Joins}
 use Rattle.thorin_join.specs.Laid.{IsLaid}
 use Rattle.thorin_join.specs.Meaning.{Meaning, Members, source_meaning, object_meaning}
@@ -129,49 +129,42 @@ units-keep : PartsLaw → RowsLaw → ReadAlone → UnitsAreTaken
     → IsSoundBegun begun → opened bytes ≡ Ok file → has_info file ≡ true
     → TakesUnits file begun now → InputKeeps bytes begun now
 units-keep parts_law rows_law alone reads bytes file begun now sound opens info u =
-    let source : Source = record {
-      object = u.object;
-      encoding = u.encoding;
-      indexes = u.indexes;
-    } in
     let before = package_or_new file begun in
     let fine = new-sound file begun sound in
     let ms = units_of before in
-    let j = source-joins parts_law rows_law alone reads source before u.made ms fine.units
-    (sym (keys-units before)) fine.apart fine.laid (made-order file u.object begun
-    u.object_is u.order_is) u.with in
-    let was : ms ≡ units_begun begun = new-units file begun in
-    record {
-      sound = subst IsSoundBegun u.is (sound-of u.made (ms ++ j.added) j.has j.apart j.laid);
-      joins = subst (λ n. Joins bytes (units_begun begun) (units_begun n)) u.is
-          (subst (λ m. Joins bytes m (units_of u.made)) was (record {
-            units = j.units;
-            meaning = meaning-at bytes file true opens info ∙ bind-ok
-                (input_file_of file) u.object _
-                u.object_is ∙ object-means u.object u.encoding u.indexes j.units u.encoding_is
-                u.indexes_are j.meaning;
-            defined = j.defined;
-            added = j.added;
-            joined = j.joined;
-            is = sym (units-are u.made (ms ++ j.added) j.has);
-          }));
-    }
+    let object = u.source.object in
+    let j = source-joins parts_law rows_law alone reads u.source before u.made ms fine.units
+    (sym (keys-units before)) fine.apart fine.laid
+    (made-order file object begun u.object_is u.order_is) u.with in
+    rw (← u.is) (record {
+      sound = sound-of u.made (ms ++ j.added) j.has j.apart j.laid;
+      joins = rw (← new-units file begun) (record {
+        units = j.units;
+        meaning = meaning-at bytes file true opens info
+            ∙ bind-ok (input_file_of file) object _ u.object_is
+            ∙ object-means object u.source.encoding u.source.indexes j.units u.encoding_is
+            u.indexes_are j.meaning;
+        defined = j.defined;
+        added = j.added;
+        joined = j.joined;
+        is = sym (units-are u.made (ms ++ j.added) j.has);
+      });
+    })
 
 none-keep : (bytes : List ℕ) (file : Elf) (begun now : Option InProgress)
     → IsSoundBegun begun → opened bytes ≡ Ok file → has_info file ≡ false
     → Some (package_or_new file begun) ≡ now → InputKeeps bytes begun now
-none-keep bytes file begun now sound opens info is =
-    record {
-      sound = subst IsSoundBegun is (new-sound file begun sound);
-      joins = subst (λ n. Joins bytes (units_begun begun) (units_begun n)) is (record {
-        units = [];
-        meaning = meaning-at bytes file false opens info;
-        defined = refl;
-        added = [];
-        joined = refl;
-        is = new-units file begun ∙ sym (append-nil (units_begun begun));
-      });
-    }
+none-keep bytes file begun now sound opens info is = rw (← is) (record {
+  sound = new-sound file begun sound;
+  joins = record {
+    units = [];
+    meaning = meaning-at bytes file false opens info;
+    defined = refl;
+    added = [];
+    joined = refl;
+    is = new-units file begun ∙ sym (append-nil (units_begun begun));
+  };
+})
 
 pub input-keeps : PartsLaw → RowsLaw → ReadAlone → UnitsAreTaken
     → (bytes : List ℕ) (begun now : Option InProgress) → IsSoundBegun begun → with_input bytes begun

@@ -1,6 +1,6 @@
 -- A package with the units of an input has them beside its own.
 use Rattle.std.proofs.Common.{◌≡◌, ◌∙◌, ℕ, true, cond, not, ◌&&◌, List, [], ◌∷◌, ◌++◌, map, ap, ap₂}
-use Rattle.std.proofs.Common.{sym, subst, refl, Option, Some, Ok}
+use Rattle.std.proofs.Common.{sym, subst, refl, Option, Some, Ok, false}
 use Rattle.std.specs.List.{list_any}
 use Rattle.std.proofs.lemmas.List.{append-nil}
 use Rattle.dwp_base.specs.declared.section.SectionKind.{SectionKind}
@@ -21,23 +21,29 @@ use Rattle.thorin_join.specs.Meaning.{source_meaning, joining, can_join}
 use Rattle.thorin_input.specs.Names.{same_name, is_compilation}
 use Rattle.thorin_input.specs.NewUnits.{New, NewUnit, new_units}
 use Rattle.thorin_input.specs.Parts.{parts_of}
-use Rattle.thorin_join.specs.Represents.{Represents, AreApart, AreRowsOf}
+use Rattle.thorin_join.specs.Represents.{Represents, AreApart}
 use Rattle.thorin_join.specs.State.{InProgress, names_of, held_units, unit_bytes, adding}
 use Rattle.thorin_join.specs.State.{abbreviations_test, with_all, with_source, with_new_units}
+use Rattle.thorin_join.specs.State.{kind_at}
 use Rattle.thorin_join.proofs.Units.NamesApart.{joined_distinct}
 use Rattle.thorin_join.proofs.Units.JoinedByName.{IsAdded, AreAdded, units-joined, added-keys}
 use Rattle.thorin_join.proofs.Rows.Stay.{Grows, keep-rows}
 use Rattle.thorin_join.proofs.Rows.LieInTurn.{AllCanLie, units-lie, can-lie, all-can-lie, parts-lie}
+use Rattle.thorin_join.proofs.Rows.LieInTurn.{laid-lies}
 use Rattle.thorin_join.proofs.Parts.Appended.{content-with_parts, parts-none}
 use Rattle.thorin_join.proofs.Parts.Strings.{PartsKept, PartsLaw}
 use Rattle.thorin_join.proofs.Rows.Shares.{RowShares, RowsLaw}
-use Rattle.thorin_join.proofs.Rows.AllAdded.{AllNew, joined-new, new-by-keys, CanBeAdded}
-use Rattle.thorin_join.proofs.Rows.AllAdded.{AllCanBeAdded, Added, units-added, other-kind}
+use Rattle.thorin_join.proofs.Rows.AllAdded.{AllNew, joined-new, new-by-keys, units-added}
+use Rattle.thorin_join.proofs.Rows.AllAdded.{other-kind, Added, AllCanBeAdded}
 use Rattle.thorin_join.proofs.Units.Whole.{Goes, AllGo, go-joining, units-go}
 use Rattle.dwp_base.proofs.Steps.{bind-was, bind-ok, same-ok}
 use Rattle.thorin_join.proofs.Units.HeadersRead.{ReadAlone}
 use Rattle.dwp_base.proofs.Bools.{by-bool}
 use Rattle.thorin_join.proofs.Units.InRows.{rows-keys}
+use Rattle.thorin_errors.specs.Errors.{ErrorValue}
+use Rattle.dwp_base.specs.Sections.{same_kind}
+use Rattle.thorin_join.proofs.Rows.OneAdded.{CanBeAdded, not-copied, not-offsets}
+use Rattle.dwp_dwarf.specs.declared.unit.UnitSection.TheVariants as places
 
 -- ---- joining keeps what belongs to units
 
@@ -138,6 +144,32 @@ pub all-is : (p : InProgress) (parts : Contents) (after : List (List ℕ)) (new 
 unfolding with_all
 all-is p parts after new = refl
 
+-- the steps by which the units of an input are added
+pub record Made (source : Source) (before now : InProgress) : Type 0 where
+  pub parts : Contents
+  pub after : List (List ℕ)
+  pub new : New
+  pub parts_are : parts_of source before.strings ≡ Ok (parts, after)
+  pub new_are : new_units (adding source before parts) ≡ Ok new
+  pub is : with_new_units (with_all_parts before parts after (before.differing ++ new.differing))
+      new.units ≡ now
+
+pub source-made : (source : Source) (before now : InProgress) → with_source source before ≡ Ok now
+    → Made source before now
+unfolding with_source with_all
+source-made source before now h =
+    let s1 = bind-was (parts_of source before.strings) _ now h in
+    let s2 = bind-was (abbreviations_test source.object) _ now s1.2 in
+    let s3 = bind-was (new_units (adding source before s1.0.0)) _ now s2.2 in
+    record {
+      parts = s1.0.0;
+      after = s1.0.1;
+      new = s3.0;
+      parts_are = s1.1;
+      new_are = s3.1;
+      is = same-ok {E = ErrorValue} _ now s3.2;
+    }
+
 -- an input joins its units to those of a package
 pub record SourceJoins (source : Source) (now : InProgress) (ms : Members) : Type 0 where
   pub units : List (DwarfObject × Option Meaning)
@@ -155,21 +187,17 @@ represents-added : (p : InProgress) (parts : Contents) (after : List (List ℕ))
     → Added (with_all_parts p parts after differing) us all
     → Represents (with_new_units (with_all_parts p parts after differing) us) all
 represents-added p parts after differing us ms all rep kept a =
-    let q = with_all_parts p parts after differing in
-    let r = with_new_units q us in
     let c = p.file.contents in
+    let none = λ (kind : SectionKind) (info : same_kind kinds.Info kind ≡ false)
+    (types : same_kind kinds.Types kind ≡ false) (new : joined_parts kind parts ≡ [])
+    (old : content_of kind c ≡ []).
+    a.other kind (other-kind kind info types) ∙ none-added kind parts c new old in
     record {
-      table = subst IsTable (sym a.strings) kept.table;
-      no_strings = a.other kinds.Str (other-kind kinds.Str refl refl) ∙ none-added kinds.Str parts c
-          kept.no_strings rep.no_strings;
-      no_compilations = a.other kinds.CuIndex (other-kind kinds.CuIndex refl refl) ∙ none-added
-          kinds.CuIndex parts c
-          kept.no_compilations rep.no_compilations;
-      no_types = a.other kinds.TuIndex (other-kind kinds.TuIndex refl refl) ∙ none-added
-          kinds.TuIndex parts c
-          kept.no_types rep.no_types;
-      rows = subst (λ o. AreRowsOf o r.file.contents r.strings r.rows all) (sym a.order)
-          (subst (λ s. AreRowsOf q.file.order r.file.contents s r.rows all) (sym a.strings) a.rows);
+      table = rw a.strings kept.table;
+      no_strings = none kinds.Str refl refl kept.no_strings rep.no_strings;
+      no_compilations = none kinds.CuIndex refl refl kept.no_compilations rep.no_compilations;
+      no_types = none kinds.TuIndex refl refl kept.no_types rep.no_types;
+      rows = rw (a.order, a.strings) a.rows;
     }
 
 pub grows-with_parts : (parts c : Contents) → Grows c (with_parts parts c)
@@ -184,40 +212,35 @@ pub source-joins : PartsLaw → RowsLaw → ReadAlone → UnitsAreTaken
     → Represents before ms → names_of before ≡ keys ms → AreApart (names_of before) → IsLaid before
     → source.object.order ≡ before.file.order → with_source source before ≡ Ok now
     → SourceJoins source now ms
-unfolding with_source source_meaning
+unfolding source_meaning
 source-joins parts_law rows_law alone taken source before now ms rep named apart laid same h =
-    let s1 = bind-was (parts_of source before.strings) _ now h in
-    let s2 = bind-was (abbreviations_test source.object) _ now s1.2 in
-    let s3 = bind-was (new_units (adding source before s1.0.0)) _ now s2.2 in
-    let parts = s1.0.0 in
-    let after = s1.0.1 in
-    let new = s3.0 in
-    let j = units-joined (adding source before parts) new s3.1 in
+    let m = source-made source before now h in
+    let parts = m.parts in
+    let after = m.after in
+    let new = m.new in
+    let j = units-joined (adding source before parts) new m.new_are in
     let held = keys (held_units before) in
-    let kept = parts_law source before.strings parts after rep.table s1.1 in
+    let kept = parts_law source before.strings parts after rep.table m.parts_are in
     let go = go-joining source.object.order held j.all (units-go taken alone source j.all j.is) in
-    let r = ready rows_law source before parts after new.units (joining held j.all) rep.table s1.1
-    j.are go in
+    let r = ready rows_law source before parts after new.units (joining held j.all) rep.table
+    m.parts_are j.are go in
     let c = with_parts parts before.file.contents in
     let q = with_all_parts before parts after (before.differing ++ new.differing) in
     let can : AllCanBeAdded q.file.order q.file.contents q.strings new.units r.members =
     subst (λ o. AllCanBeAdded o c after new.units r.members) same r.can in
+    let added = added-keys (adding source before parts) new.units (joining held j.all) j.are in
     let fresh : AllNew (names_of q) new.units = subst (λ n. AllNew n new.units) (keys-held before)
-    (new-by-keys held (joining held j.all) new.units
-    (sym (added-keys (adding source before parts) new.units (joining held j.all) j.are))
-    (joined-new held j.all)) in
+    (new-by-keys held (joining held j.all) new.units (sym added) (joined-new held j.all)) in
     let rows = keep-rows before.file.order before.file.contents c before.strings after before.rows
     ms (grows-with_parts parts before.file.contents) kept.longer rep.rows in
     let a = units-added q new.units ms r.members fresh can rows in
-    let can_lie : AllCanLie q.file.order new.units = subst (λ o. AllCanLie o new.units) same
-    (all-can-lie source before parts new.units (joining held j.all) j.are go) in
-    let parted = parts-lie before.file.order before.rows parts before.file.contents
-    (parts-none source before.strings parts after s1.1 kinds.Info refl refl)
-    (parts-none source before.strings parts after s1.1 kinds.Types refl refl)
-    (record { info = laid.info; types = laid.types; once = laid.once }) in
-    let lie = units-lie q new.units fresh can_lie parted in
-    let is : with_new_units q new.units ≡ now = sym (all-is before parts after new) ∙
-    same-ok _ now s3.2 in
+    let can_lie : AllCanLie q.file.order new.units =
+    subst (λ o. AllCanLie o new.units) same (all-can-lie source before parts new.units (joining held j.all) j.are go) in
+    let none : (place : UnitSection) → joined_parts (kind_at place) parts ≡ [] = λ place.
+    parts-none source before.strings parts after m.parts_are (kind_at place) (not-copied place)
+    (not-offsets place).1 in
+    let lie = units-lie q new.units fresh can_lie (parts-lie before.file.order before.rows parts
+    before.file.contents none (laid-lies before laid)) in
     let names : held ≡ keys ms = keys-held before ∙ named in
     record {
       units = map {B = DwarfObject × Option Meaning} (meant source) j.all;
@@ -228,12 +251,15 @@ source-joins parts_law rows_law alone taken source before now ms rep named apart
       joined = joining-meant source (keys ms) j.all ∙ ap (λ n.
           map {B = DwarfObject × Option Meaning} (meant source) (joining n j.all))
           (sym names) ∙ r.are;
-      has = subst (λ m. Represents m (ms ++ r.members)) is (represents-added before parts after
+      has = subst (λ p. Represents p (ms ++ r.members)) m.is (represents-added before parts after
           (before.differing ++ new.differing) new.units ms (ms ++ r.members) rep kept a);
-      apart = subst (λ (m : InProgress). AreApart (names_of m)) is
-          (subst AreApart (sym (a.names ∙ ap (λ k. names_of before ++ k)
-          (added-keys (adding source before parts) new.units (joining held j.all) j.are)))
+      apart = subst (λ (p : InProgress). AreApart (names_of p)) m.is (subst AreApart
+          (sym (a.names ∙ ap (λ k. names_of before ++ k) added))
           (subst (λ n. AreApart (names_of before ++ keys (joining n j.all)))
           (sym (keys-held before)) (joined_distinct (names_of before) j.all apart)));
-      laid = subst IsLaid is (record { info = lie.info; types = lie.types; once = lie.once });
+      laid = subst IsLaid m.is (record {
+        info = lie.lies places.Info;
+        types = lie.lies places.Types;
+        once = lie.once;
+      });
     }

@@ -1,28 +1,24 @@
 -- What an input that is taken makes of a package; without an info section it only begins one.
 use Rattle.std.proofs.Common.{◌≡◌, ◌⊎◌, inl, inr, ℕ, true, false, List, Option, Some, Ok}
 use Rattle.dwp_base.proofs.Steps.{bind-was, same-ok, chosen}
-use Rattle.dwp_bytes.specs.declared.encoding.Encoding.{Encoding}
 use Rattle.dwp_elf_read.specs.Elf.{Elf}
 use Rattle.thorin_errors.specs.Errors.{ErrorValue}
 use Rattle.thorin_input.specs.Encodings.{encoding_of}
-use Rattle.thorin_input.specs.Indexes.{Indexes, indexes_of}
-use Rattle.thorin_input.specs.Used.{InputFile, opened, has_info, input_file_of}
+use Rattle.thorin_input.specs.Indexes.{Source, indexes_of}
+use Rattle.thorin_input.specs.Used.{opened, has_info, input_file_of}
 use Rattle.thorin_join.specs.Builder.{package_or_new, order_test, with_source_or_new, with_units}
 use Rattle.thorin_join.specs.Builder.{with_input}
 use Rattle.thorin_join.specs.State.{InProgress, with_source}
 
 -- what is read of an input with units, and the package with them
 pub record TakesUnits (file : Elf) (begun now : Option InProgress) : Type 0 where
-  pub object : InputFile
-  pub encoding : Encoding
-  pub indexes : Indexes
+  pub source : Source
   pub made : InProgress
-  pub object_is : input_file_of file ≡ Ok object
-  pub encoding_is : encoding_of object ≡ Ok encoding
-  pub order_is : order_test object.order begun ≡ Ok tt
-  pub indexes_are : indexes_of object encoding ≡ Ok indexes
-  pub with : with_source (record { object = object; encoding = encoding; indexes = indexes })
-      (package_or_new file begun) ≡ Ok made
+  pub object_is : input_file_of file ≡ Ok source.object
+  pub encoding_is : encoding_of source.object ≡ Ok source.encoding
+  pub order_is : order_test source.object.order begun ≡ Ok tt
+  pub indexes_are : indexes_of source.object source.encoding ≡ Ok source.indexes
+  pub with : with_source source (package_or_new file begun) ≡ Ok made
   pub is : Some made ≡ now
 
 pub record Takes (bytes : List ℕ) (begun now : Option InProgress) : Type 0 where
@@ -49,9 +45,7 @@ takes bytes begun now h =
             inl (
               units.0,
               record {
-                object = s1.0;
-                encoding = s2.0;
-                indexes = s4.0;
+                source = record { object = s1.0; encoding = s2.0; indexes = s4.0 };
                 made = s5.0;
                 object_is = s1.1;
                 encoding_is = s2.1;

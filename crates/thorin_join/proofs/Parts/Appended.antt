@@ -1,7 +1,7 @@
 -- What the parts of an input are for the contents that they are added to.
 use Rattle.std.proofs.Common.{◌≡◌, ◌∙◌, ℕ, Bool, true, false, cond, eqb, List, [], ◌∷◌, ◌++◌}
 use Rattle.std.proofs.Common.{length, not, ◌&&◌, Ok, refl, sym, ap, if◌then◌else◌, ◌⊎◌, inl, inr}
-use Rattle.std.proofs.Common.{⊎_elim, true≢false, arith}
+use Rattle.std.proofs.Common.{⊎_elim, true≢false, arith, subst}
 use Rattle.std.proofs.lemmas.List.{append_assoc, append-nil}
 use Rattle.std.proofs.lemmas.Bool.{eqb-true, eqb-false, ne_eqb}
 use Rattle.dwp_base.specs.declared.section.SectionKind.{SectionKind}
@@ -26,43 +26,24 @@ pub either : (b : Bool) → (b ≡ true) ⊎ (b ≡ false)
 either true = inl refl
 either false = inr refl
 
--- ---- kinds are compared by their ranks
-pub kind-like : (a b c : SectionKind) → same_kind a b ≡ true → same_kind a c ≡ same_kind b c
-kind-like a b c h = ap (λ n. eqb n (rank_of c)) (eqb-true (rank_of a) (rank_of b) h)
-
+-- kinds are compared by their ranks
 pub kind-unlike : (a b c : SectionKind) → same_kind a b ≡ false → same_kind a c ≡ true
     → same_kind b c ≡ false
 kind-unlike a b c h i = ne_eqb (rank_of b) (rank_of c) (λ e. eqb-false (rank_of a) (rank_of b) h
     (eqb-true (rank_of a) (rank_of c) i ∙ sym e))
 
 -- ---- bytes that are added to a section
-pub content-here : (same : Bool) (x y rest : List ℕ) → cond same (x ++ y) rest ≡ cond same
-    (cond same x rest ++ y) (cond same x rest)
-content-here true x y rest = refl
-content-here false x y rest = refl
-
-pub content-later : (here same : Bool) (x y rest : List ℕ) → (here ≡ true → same ≡ false)
-    → cond here x (cond same (rest ++ y) rest) ≡ cond same (cond here x rest ++ y)
-    (cond here x rest)
-content-later true true x y rest h = absurd (true≢false (h refl))
-content-later true false x y rest h = refl
-content-later false true x y rest h = refl
-content-later false false x y rest h = refl
-
 pub content-appended : (kind k : SectionKind) (bytes : List ℕ) (c : Contents)
     → content_of kind (appended k bytes c) ≡ cond (same_kind k kind) (content_of kind c ++ bytes)
     (content_of kind c)
-content-appended kind k bytes [] =
-    by-bool _ (same_kind k kind) (λ same. rw same refl) (λ other. rw other refl)
+content-appended kind k bytes [] = by-bool _ (same_kind k kind) (λ same. rw same) (λ other. rw other)
 content-appended kind k bytes (d ∷ ds) =
     by-bool _ (same_kind d.0 k)
-    (λ same. rw same (content-here (same_kind d.0 kind) d.1 bytes (content_of kind ds)
-    ∙ ap (λ b. cond b (content_of kind (d ∷ ds) ++ bytes) (content_of kind (d ∷ ds)))
-    (kind-like d.0 k kind same)))
-    (λ other. rw other (ap (λ v. cond (same_kind d.0 kind) d.1 v)
-    (content-appended kind k bytes ds)
-    ∙ content-later (same_kind d.0 kind) (same_kind k kind) d.1 bytes (content_of kind ds)
-    (kind-unlike d.0 k kind other)))
+    (λ same. rw (same, ← is-same d.0 k same)
+    (by-bool _ (same_kind d.0 kind) (λ here. rw here) (λ later. rw later)))
+    (λ other. rw other (by-bool _ (same_kind d.0 kind)
+    (λ here. rw (here, kind-unlike d.0 k kind other here))
+    (λ later. rw (later, content-appended kind k bytes ds))))
 
 pub no-bytes : (bytes : List ℕ) → length bytes ≡ 0 → bytes ≡ []
 no-bytes [] h = refl
@@ -173,78 +154,73 @@ module _ (source : Source) where
         ];
       }
 
-  -- ---- sections that are copied
-  pub step-copied : (kind : SectionKind) (before : Parts) (s : Used) (next : Parts)
-      → is_copied kind ≡ true → Adds before s next
-      → joined_parts kind next.0 ≡ joined_parts kind before.0 ++ cond
-      (same_kind s.kind kind) s.bytes []
-  step-copied kind before s next copied (inl (o, w)) =
-      let other : same_kind s.kind kind ≡ false = copied-differ kind s.kind copied
-      (ap is_copied (is-same s.kind StrOffsets o)) in
-      rw (w.is, other) (joined_parts-other kind before.0 StrOffsets w.written.0
-      (copied-differ kind StrOffsets copied refl) ∙ sym (append-nil (joined_parts kind before.0)))
-  step-copied kind before s next copied (inr (inl (o, c, is))) =
-      rw is (joined_parts-more kind before.0 s.kind s.bytes)
-  step-copied kind before s next copied (inr (inr (o, c, is))) =
-      let other : same_kind s.kind kind ≡ false = copied-differ kind s.kind copied c in
-      rw (is, other) (sym (append-nil (joined_parts kind before.0)))
-
-  pub each-copied : (kind : SectionKind) (sections : List Used) (before after : Parts)
-      → is_copied kind ≡ true → with_each_part source before sections ≡ Ok after
-      → joined_parts kind after.0 ≡ joined_parts kind before.0 ++ joined_content kind sections
+  -- ---- all sections
+  -- what holds of no sections, and with one more before others, holds of those of an input
+  pub each-part : (P : Parts → List Used → Parts → Type 0) → ((parts : Parts) → P parts [] parts)
+      → ((before : Parts) (s : Used) (next : Parts) (ss : List Used) (after : Parts)
+      → Step before s next → with_each_part source next ss ≡ Ok after → P next ss after
+      → P before (s ∷ ss) after)
+      → (sections : List Used) (before after : Parts)
+      → with_each_part source before sections ≡ Ok after → P before sections after
   unfolding with_each_part
-  each-copied kind [] before after copied h =
-      let same : before ≡ after = cc in
-      ap (λ (n : Parts). joined_parts kind n.0) (sym same) ∙ sym
-      (append-nil (joined_parts kind before.0))
-  each-copied kind (s ∷ ss) before after copied h =
+  each-part P none more [] before after h =
+      subst (P before []) (same-ok {E = ErrorValue} before after h) (none before)
+  each-part P none more (s ∷ ss) before after h =
       let next = bind-was (with_part source before s) _ after h in
-      each-copied kind ss next.0 after copied next.2
-      ∙ ap (λ v. v ++ joined_content kind ss) (step-copied kind before s next.0 copied
-      (step before s next.0 next.1).adds)
-      ∙ append_assoc (joined_parts kind before.0) (cond (same_kind s.kind kind) s.bytes [])
-      (joined_content kind ss)
-      ∙ ap (λ v. joined_parts kind before.0 ++ v) (joined-front (same_kind s.kind kind) s.bytes
-      (joined_content kind ss))
+      more before s next.0 ss after (step before s next.0 next.1) next.2
+      (each-part P none more ss next.0 after next.2)
 
-  -- ---- sections of which no part is made
-  pub step-other : (kind : SectionKind) (before : Parts) (s : Used) (next : Parts)
+  -- sections that are copied
+  step-copied : (kind : SectionKind) (before : Parts) (s : Used) (next : Parts) (rest : List ℕ)
+      → is_copied kind ≡ true → Adds before s next → joined_parts kind next.0 ++ rest
+      ≡ joined_parts kind before.0 ++ cond (same_kind s.kind kind) (s.bytes ++ rest) rest
+  step-copied kind before s next rest copied (inl (o, w)) =
+      let other = copied-differ kind s.kind copied (ap is_copied (is-same s.kind StrOffsets o)) in
+      let apart = copied-differ kind StrOffsets copied refl in
+      rw (w.is, other, joined_parts-other kind before.0 StrOffsets w.written.0 apart)
+  step-copied kind before s next rest copied (inr (inl (o, c, is))) =
+      rw (is, joined_parts-more kind before.0 s.kind s.bytes)
+      (append_assoc (joined_parts kind before.0) (cond (same_kind s.kind kind) s.bytes []) rest
+      ∙ ap (λ v. joined_parts kind before.0 ++ v)
+      (joined-front (same_kind s.kind kind) s.bytes rest))
+  step-copied kind before s next rest copied (inr (inr (o, c, is))) =
+      rw (is, copied-differ kind s.kind copied c)
+
+  each-copied : (kind : SectionKind) → is_copied kind ≡ true → (sections : List Used)
+      (before after : Parts) → with_each_part source before sections ≡ Ok after
+      → joined_parts kind after.0 ≡ joined_parts kind before.0 ++ joined_content kind sections
+  each-copied kind copied = each-part (λ before ss after. joined_parts kind after.0
+      ≡ joined_parts kind before.0 ++ joined_content kind ss)
+      (λ parts. sym (append-nil (joined_parts kind parts.0)))
+      (λ before s next ss after made rest later.
+      later ∙ step-copied kind before s next (joined_content kind ss) copied made.adds)
+
+  -- sections of which no part is made
+  step-other : (kind : SectionKind) (before : Parts) (s : Used) (next : Parts)
       → is_copied kind ≡ false → same_kind StrOffsets kind ≡ false → Adds before s next
       → joined_parts kind next.0 ≡ joined_parts kind before.0
-  step-other kind before s next none apart (inl (o, w)) = ap (λ (n : Parts). joined_parts kind n.0)
-      w.is ∙ joined_parts-other kind before.0 StrOffsets w.written.0 apart
+  step-other kind before s next none apart (inl (o, w)) =
+      rw w.is (joined_parts-other kind before.0 StrOffsets w.written.0 apart)
   step-other kind before s next none apart (inr (inl (o, c, is))) =
-      ap (λ (n : Parts). joined_parts kind n.0) is
-      ∙ joined_parts-other kind before.0 s.kind s.bytes
-      (differ s.kind kind (λ e. true≢false (sym c ∙ ap is_copied e ∙ none)))
-  step-other kind before s next none apart (inr (inr (o, c, is))) =
-      ap (λ (n : Parts). joined_parts kind n.0) is
-
-  pub each-other : (kind : SectionKind) (sections : List Used) (before after : Parts)
-      → is_copied kind ≡ false → same_kind StrOffsets kind ≡ false
-      → with_each_part source before sections ≡ Ok after → joined_parts kind after.0 ≡
-      joined_parts kind before.0
-  unfolding with_each_part
-  each-other kind [] before after none apart h =
-      let same : before ≡ after = cc in
-      ap (λ (n : Parts). joined_parts kind n.0) (sym same)
-  each-other kind (s ∷ ss) before after none apart h =
-      let next = bind-was (with_part source before s) _ after h in
-      each-other kind ss next.0 after none apart next.2 ∙ step-other kind before s next.0 none apart
-      (step before s next.0 next.1).adds
+      rw is (joined_parts-other kind before.0 s.kind s.bytes
+      (differ s.kind kind (λ e. true≢false (sym c ∙ ap is_copied e ∙ none))))
+  step-other kind before s next none apart (inr (inr (o, c, is))) = rw is
 
 -- sections that are copied, joined
 pub parts-copied : (source : Source) (strings : List (List ℕ)) (parts : Contents)
     (after : List (List ℕ)) → parts_of source strings ≡ Ok (parts, after)
     → (kind : SectionKind) → is_copied kind ≡ true → joined_parts kind parts ≡ joined_content kind
     source.object.sections
-parts-copied source strings parts after h kind copied = each-copied source kind
-    source.object.sections ([], strings) (parts, after) copied h
+parts-copied source strings parts after h kind copied =
+    each-copied source kind copied source.object.sections ([], strings) (parts, after) h
 
 -- of units, strings and indexes there is no part
 pub parts-none : (source : Source) (strings : List (List ℕ)) (parts : Contents)
     (after : List (List ℕ)) → parts_of source strings ≡ Ok (parts, after)
     → (kind : SectionKind) → is_copied kind ≡ false → same_kind StrOffsets kind ≡ false
     → joined_parts kind parts ≡ []
-parts-none source strings parts after h kind none apart = each-other source kind
-    source.object.sections ([], strings) (parts, after) none apart h
+parts-none source strings parts after h kind none apart =
+    each-part source (λ before ss next. joined_parts kind next.0 ≡ joined_parts kind before.0)
+    (λ parts. refl) (λ before s next ss last made rest later.
+    later ∙ step-other source kind before s next none apart made.adds)
+    source.object.sections ([], strings) (parts, after) h

@@ -1,10 +1,10 @@
 -- What is read of ranges of string offsets: of their whole entries alone, of none, and of joined
 -- ones.
-use Rattle.std.proofs.Common.{◌⊎◌, inl, inr, ◌≡◌, ◌∙◌, ℕ, ◌+◌, ◌-◌, ◌<◌, ◌≤◌, Bool, true, false}
-use Rattle.std.proofs.Common.{cond, eqb, ltb, List, [], ◌++◌, length, take, drop, subst, ◌*◌, ◌/◌}
-use Rattle.std.proofs.Common.{IsOk, zero-mul, add-mul, Ok, Some, None, refl, sym, ap, ⊎_elim, arith}
-use Rattle.std.proofs.lemmas.List.{length-append, length-take, length-drop, take_all}
-use Rattle.std.proofs.lemmas.List.{take-append-drop, drop-append-le}
+use Rattle.std.proofs.Common.{◌⊎◌, inl, inr, ◌≡◌, ◌∙◌, ℕ, ◌+◌, ◌-◌, ◌<◌, ◌≤◌, true, false, eqb, ltb}
+use Rattle.std.proofs.Common.{List, [], ◌++◌, length, take, drop, ◌*◌, ◌/◌, zero-mul, Ok, Some}
+use Rattle.std.proofs.Common.{None, refl, sym, ap, ⊎_elim, arith}
+use Rattle.std.proofs.lemmas.List.{length-take, length-drop, take_all, take-append-drop}
+use Rattle.std.proofs.lemmas.List.{drop-append-le}
 use Rattle.std.proofs.lemmas.Bool.{cases_lt, lt-ltb, le-ltb, eqb-true, eqb-false, ltb-false}
 use Rattle.std.proofs.lemmas.Nat.{row_fits}
 use Rattle.dwp_base.specs.declared.endian.Endianness.{Endianness}
@@ -36,7 +36,7 @@ pub count-fits : (format : Format) (l h : ℕ) → h ≤ l → h + (l - h) / off
 count-fits Dwarf32 l h e = omega arith
 count-fits Dwarf64 l h e = omega arith
 
-count-none : (format : Format) (l h : ℕ) → l ≤ h → (l - h) / offset_size format ≡ 0
+pub count-none : (format : Format) (l h : ℕ) → l ≤ h → (l - h) / offset_size format ≡ 0
 count-none Dwarf32 l h e = omega arith
 count-none Dwarf64 l h e = omega arith
 
@@ -106,11 +106,15 @@ pub empty-read : (order : Endianness) (encoding : Encoding) (strings : List ℕ)
     → string_in order encoding strings [] i ≡ Ok None
 unfolding string_in entry_in
 empty-read order encoding strings i =
-    let none : entry_count encoding (length {A = ℕ} []) ≡ 0 = count-none encoding.format 0
-    (header_size encoding) (omega arith) in
-    let past : ltb i (entry_count encoding (length {A = ℕ} [])) ≡ false =
-    le-ltb i (entry_count encoding (length {A = ℕ} [])) (omega (arith, none)) in
-    rw past refl
+    let n = entry_count encoding (length {A = ℕ} []) in
+    let none : n ≡ 0 = count-none encoding.format 0 (header_size encoding) (omega arith) in
+    rw (le-ltb i n (omega (arith, none)))
+
+pub empty-alike : (order : Endianness) (encoding : Encoding) (section final : List ℕ) (i : ℕ)
+    → ReadsAlike order encoding section [] final [] i
+empty-alike order encoding section final i =
+    let none = empty-read order encoding section i in
+    record { readable = rw none refl; same = empty-read order encoding final i ∙ sym none }
 
 -- ---- rewritten ranges
 -- what a range of some bytes is rewritten to: a header, and its entries
@@ -175,50 +179,8 @@ rewritten-long names order encoding section bytes strings written old table h =
           omega (arith, long, header)
     ]
 
-pub alike-by : (order : Endianness) (encoding : Encoding) (section final : List ℕ)
-    (old first_old second_old new first_new second_new : List ℕ) (i j : ℕ) (b : Bool)
-    → string_in order encoding section old i ≡ cond b (string_in order encoding section first_old i)
-    (string_in order encoding section second_old j)
-    → string_in order encoding final new i ≡ cond b (string_in order encoding final first_new i)
-    (string_in order encoding final second_new j)
-    → ReadsAlike order encoding section first_old final first_new i → ReadsAlike order encoding
-    section second_old final second_new j
-    → ReadsAlike order encoding section old final new i
-alike-by order encoding section final old first_old second_old new first_new second_new i j true
-    olds news one two = record {
-      readable = subst IsOk (sym olds) one.readable;
-      same =
-          news ∙ one.same ∙ sym olds;
-    }
-alike-by order encoding section final old first_old second_old new first_new second_new i j false
-    olds news one two = record {
-      readable = subst IsOk (sym olds) two.readable;
-      same =
-          news ∙ two.same ∙ sym olds;
-    }
-
 -- both have so many whole entries, and nothing else
 pub record IsWhole (width : ℕ) (old new : List ℕ) : Type 0 where
   pub count : ℕ
   pub old_long : length old ≡ count * width
   pub new_long : length new ≡ count * width
-
-pub whole-more : (width n : ℕ) (old new a b : List ℕ) → IsWhole width old new → length a ≡ n * width
-    → length b ≡ n * width → IsWhole width (old ++ a) (new ++ b)
-whole-more width n old new a b whole a_long b_long =
-    let more : (whole.count + n) * width ≡ whole.count * width + n * width =
-    add-mul whole.count n width in
-    let old_long = whole.old_long in
-    let new_long = whole.new_long in
-    record {
-      count = whole.count + n;
-      old_long = omega (
-        arith,
-        more,
-        old_long,
-        a_long,
-        length-append
-            old a,
-      );
-      new_long = omega (arith, more, new_long, b_long, length-append new b);
-    }

@@ -1,8 +1,7 @@
 -- The string offsets of the parts of a plain input read alike.
 use Rattle.std.proofs.Common.{◌≡◌, ◌∙◌, ℕ, ◌+◌, ◌-◌, ◌<◌, Bool, true, false, cond, leb, List, []}
-use Rattle.std.proofs.Common.{◌∷◌, ◌++◌, length, take, subst, ◌*◌, ◌&&◌, ◌||◌, IsOk, zero-mul}
-use Rattle.std.proofs.Common.{zero-add, nat_lt, Ok, refl, sym, ap, inl, inr, ⊎_elim, true≢false}
-use Rattle.std.proofs.Common.{arith}
+use Rattle.std.proofs.Common.{◌∷◌, ◌++◌, length, take, subst, ◌*◌, ◌&&◌, ◌||◌, IsOk, nat_lt, Ok}
+use Rattle.std.proofs.Common.{refl, sym, ap, inl, inr, ⊎_elim, true≢false, arith, length-append}
 use Rattle.std.proofs.lemmas.List.{append_assoc, append-nil}
 use Rattle.std.proofs.lemmas.Bool.{leb-true, leb-false}
 use Rattle.dwp_base.specs.declared.section.SectionKind.{SectionKind}
@@ -12,25 +11,23 @@ use Rattle.dwp_base.proofs.EveryKind.{is-same}
 use Rattle.dwp_bytes.specs.declared.encoding.Encoding.{Encoding}
 use Rattle.dwp_bytes.specs.Encoding.{offset_size}
 use Rattle.dwp_bytes.specs.StringOffsets.{entry_count}
-use Rattle.dwp_index.specs.Strings.{string_in}
 use Rattle.thorin_packaged.specs.ReadStrings.{ReadsAlike}
 use Rattle.thorin_strings.specs.Strings.{IsTable, data_of}
 use Rattle.thorin_strings.specs.StringOffsets.{remapped}
 use Rattle.thorin_input.specs.Growing.{Contents, joined_parts}
 use Rattle.thorin_input.specs.Indexes.{Source, is_package}
 use Rattle.thorin_join.specs.Meaning.{whole_entries, joined_offsets}
-use Rattle.thorin_input.specs.Parts.{Parts, has_part, stands_once, with_part, with_each_part}
-use Rattle.thorin_input.specs.Parts.{parts_of}
+use Rattle.thorin_input.specs.Parts.{Parts, has_part, stands_once, with_each_part, parts_of}
 use Rattle.thorin_input.specs.Used.{Used, InputFile, first}
-use Rattle.thorin_join.proofs.Parts.OffsetRanges.{whole-long, whole-read, empty-read}
-use Rattle.thorin_join.proofs.Parts.OffsetRanges.{rewritten-long, alike-by, IsWhole, whole-more}
-use Rattle.thorin_join.proofs.Parts.Appended.{either, joined-front, joined_parts-more}
-use Rattle.thorin_join.proofs.Parts.Appended.{joined_parts-other, Rewritten, Adds, step}
+use Rattle.thorin_join.proofs.Parts.OffsetRanges.{whole-long, whole-read, empty-alike}
+use Rattle.thorin_join.proofs.Parts.OffsetRanges.{rewritten-long, IsWhole}
+use Rattle.thorin_join.proofs.Parts.Appended.{either, each-part, joined-front, joined_parts-more}
+use Rattle.thorin_join.proofs.Parts.Appended.{joined_parts-other, Rewritten, Adds}
 use Rattle.thorin_join.proofs.Parts.OffsetLaws.{NamesTheSameLaw, ReadsAlikeLaw, ReadInTurnLaw}
 use Rattle.thorin_join.proofs.Parts.Strings.{front-front, rewritten-plain}
-use Rattle.dwp_base.proofs.Steps.{bind-was}
 use Rattle.thorin_packaged.proofs.OffsetsJoined.{no_header}
 use Rattle.thorin_join.proofs.Parts.OfPackages.{has-last, has-other as part-other}
+use Rattle.dwp_base.proofs.Bools.{by-bool}
 
 pub has-more : (a : Contents) (bytes : List ℕ) → has_part StrOffsets
     (a ++ (StrOffsets, bytes) ∷ []) ≡ true
@@ -73,19 +70,12 @@ module _ (names : NamesTheSameLaw) (alike : ReadsAlikeLaw) (in_turn : ReadInTurn
 
   reads-none : (strings : List (List ℕ)) → IsTable strings → Reads [] strings false []
   reads-none strings table =
-      let none = empty-read object.order encoding in
+      let no : 0 * offset_size encoding.format ≡ 0 = omega arith in
       record {
         table = table;
-        read = λ final final_table kept i. record {
-          readable = subst IsOk (sym (none section i))
-              refl;
-          same = none (data_of final) i ∙ sym (none section i);
-        };
-        whole = λ old. record {
-          count = 0;
-          old_long = sym (zero-mul (offset_size encoding.format));
-          new_long = sym (zero-mul (offset_size encoding.format));
-        };
+        read = λ final final_table kept i. empty-alike object.order encoding section
+            (data_of final) i;
+        whole = λ old. record { count = 0; old_long = sym no; new_long = sym no };
         fresh = λ standard has. (refl, refl);
       }
 
@@ -125,27 +115,37 @@ module _ (names : NamesTheSameLaw) (alike : ReadsAlikeLaw) (in_turn : ReadInTurn
   reads-joined new old bytes strings has written gnu before h =
       let law = names object.order encoding section bytes (length bytes) strings written.0 written.1
       before.table h in
-      let width = offset_size encoding.format in
       let header = no_header encoding gnu in
       let whole = before.whole gnu in
-      let long : length (whole_entries encoding bytes) ≡ entry_count encoding (length bytes) *
-      width = whole-long encoding bytes (omega (arith, header)) ∙ ap (λ n.
-      n + entry_count encoding (length bytes) * width) header ∙ zero-add
-      (entry_count encoding (length bytes) * width) in
+      let own = whole_entries encoding bytes in
+      let long = whole-long encoding bytes (omega (arith, header)) in
+      let many = rewritten-long names object.order encoding section bytes strings written gnu
+      before.table h in
       record {
         table = law.table;
-        read = λ final final_table kept i. alike-by object.order encoding section (data_of final)
-            (old ++ whole_entries encoding bytes) old (whole_entries encoding bytes)
-            (new ++ written.0) new written.0 i (i - whole.count) (nat_lt i whole.count)
-            (in_turn object.order encoding section old (whole_entries encoding bytes) whole.count i
-            gnu whole.old_long)
-            (in_turn object.order encoding (data_of final) new written.0 whole.count i
-            gnu whole.new_long)
-            (before.read final final_table (front-front strings written.1 final law.kept kept) i)
-            (alone bytes strings written before.table h final final_table kept (i - whole.count));
-        whole = λ again. whole-more width (entry_count encoding (length bytes)) old new
-            (whole_entries encoding bytes) written.0 whole long (rewritten-long names object.order
-            encoding section bytes strings written gnu before.table h);
+        read = λ final final_table kept i.
+            let first = before.read final final_table
+            (front-front strings written.1 final law.kept kept) i in
+            let second = alone bytes strings written before.table h final final_table kept
+            (i - whole.count) in
+            let olds = in_turn object.order encoding section old own whole.count i gnu
+            whole.old_long in
+            let news = in_turn object.order encoding (data_of final) new written.0 whole.count i gnu
+            whole.new_long in
+            by-bool _ (nat_lt i whole.count)
+            (λ less. record {
+              readable = rw (olds, less) first.readable;
+              same = rw (olds, news, less) first.same;
+            })
+            (λ more. record {
+              readable = rw (olds, more) second.readable;
+              same = rw (olds, news, more) second.same;
+            });
+        whole = λ again. record {
+          count = whole.count + entry_count encoding (length bytes);
+          old_long = omega (arith, header, long, whole.old_long, length-append old own);
+          new_long = omega (arith, many, whole.new_long, length-append new written.0);
+        };
         fresh = λ standard has. absurd (true≢false has);
       }
 
@@ -188,35 +188,25 @@ module _ (names : NamesTheSameLaw) (alike : ReadsAlikeLaw) (in_turn : ReadInTurn
       let ends = append-nil old in
       rw (is, o) (rw ends so_far)
 
-  each-reads : (sections : List Used) (before after : Parts) (old : List ℕ) → ReadsBy before old
-      → with_each_part source before sections ≡ Ok after
+  each-reads : (sections : List Used) (before after : Parts)
+      → with_each_part source before sections ≡ Ok after → (old : List ℕ) → ReadsBy before old
       → ReadsBy after (old ++ joined_offsets encoding sections)
-  unfolding with_each_part
-  each-reads [] before after old so_far h =
-      let same : before ≡ after = cc in
-      subst (λ (n : Parts). ReadsBy n (old ++ [])) same (subst (ReadsBy before)
-      (sym (append-nil old)) so_far)
-  each-reads (s ∷ ss) before after old so_far h =
-      let next = bind-was (with_part source before s) _ after h in
-      let made = step source before s next.0 next.1 in
-      let here = old ++ cond (same_kind s.kind StrOffsets) (whole_entries encoding s.bytes) [] in
-      let together : here ++ joined_offsets encoding ss ≡ old ++ joined_offsets encoding (s ∷ ss) =
-      append_assoc old (cond (same_kind s.kind StrOffsets) (whole_entries encoding s.bytes) [])
-      (joined_offsets encoding ss)
-      ∙ ap (λ v. old ++ v) (joined-front (same_kind s.kind StrOffsets) (whole_entries encoding
-      s.bytes) (joined_offsets encoding ss)) in
-      subst (ReadsBy after) together (each-reads ss next.0 after here (step-reads before s next.0
-      old so_far made.once made.adds) next.2)
+  each-reads = each-part source (λ before ss after. (old : List ℕ) → ReadsBy before old
+      → ReadsBy after (old ++ joined_offsets encoding ss))
+      (λ parts old so_far. rw (append-nil old) so_far)
+      (λ before s next ss after made rest later old so_far.
+      let own = whole_entries encoding s.bytes in
+      let others = joined_offsets encoding ss in
+      subst (ReadsBy after)
+      (append_assoc old (cond (same_kind s.kind StrOffsets) own []) others
+      ∙ ap (λ v. old ++ v) (joined-front (same_kind s.kind StrOffsets) own others))
+      (later _ (step-reads before s next old so_far made.once made.adds)))
 
   -- the strings that the part of string offsets names are those that the object's name
   pub parts-read : (strings : List (List ℕ)) (parts : Contents) (after : List (List ℕ))
       → IsTable strings → parts_of source strings ≡ Ok (parts, after)
       → (final : List (List ℕ)) → IsTable final → take (length after) final ≡ after → (i : ℕ)
-      → (string_in object.order encoding (data_of final) (joined_parts StrOffsets parts) i ≡
-      string_in object.order encoding section (joined_offsets encoding object.sections) i)
-      × IsOk (string_in object.order encoding section (joined_offsets encoding object.sections) i)
-  parts-read strings parts after table h final final_table kept i =
-      let all = each-reads object.sections ([], strings) (parts, after) []
-      (reads-none strings table) h in
-      let one = all.read final final_table kept i in
-      (one.same, one.readable)
+      → ReadsAlike object.order encoding section (joined_offsets encoding object.sections)
+      (data_of final) (joined_parts StrOffsets parts) i
+  parts-read strings parts after table h = (each-reads object.sections ([], strings) (parts, after) h
+      [] (reads-none strings table)).read

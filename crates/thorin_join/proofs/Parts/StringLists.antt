@@ -1,7 +1,6 @@
 -- The list of strings that a range names, and its strings one by one.
-use Rattle.std.proofs.Common.{◌≡◌, ◌∙◌, ℕ, zero, suc, ◌+◌, ◌<◌, ◌≤◌, Bool, true, false, cond, List}
-use Rattle.std.proofs.Common.{[], ◌∷◌, length, ap, sym, refl, subst, Result, Ok, Err, Option, Some}
-use Rattle.std.proofs.Common.{None, arith}
+use Rattle.std.proofs.Common.{◌≡◌, ◌∙◌, ℕ, zero, suc, ◌+◌, ◌<◌, ◌≤◌, List, [], ◌∷◌, length, ap, sym}
+use Rattle.std.proofs.Common.{refl, Result, Ok, Err, Some, None, arith}
 use Rattle.std.specs.Prelude.{slice_get, nat_lt, IsOk}
 use Rattle.std.proofs.lemmas.Bool.{ltb-true, ltb-false}
 use Rattle.std.proofs.lemmas.Option.{none-some, same_Some}
@@ -14,66 +13,38 @@ use Rattle.dwp_index.specs.Strings.{entry_in, string_for, string_in}
 use Rattle.thorin_join.specs.Strings.{each_from, offset_of_entry, offsets_in, strings_at}
 use Rattle.thorin_join.specs.Strings.{strings_of}
 use Rattle.dwp_base.proofs.Steps.{bind-was, same-ok, bind-ok}
+use Rattle.dwp_base.proofs.Bools.{by-bool}
 
 -- ---- the offsets
 
-each-within : (f : ℕ → ℕ) (i n k : ℕ) → k < n → slice_get (each_from f i n) k ≡ Some (f (i + k))
-each-within f i zero k h = absurd (omega arith)
-each-within f i (suc n) zero h = ap (λ m. Some (f m)) (let e : i ≡ i + 0 = omega arith in e)
-each-within f i (suc n) (suc k) h = each-within f (i + 1) n k (omega arith) ∙ ap (λ m. Some (f m))
-    (let e : i + 1 + k ≡ i + suc k = omega arith in e)
+each-within : (f : ℕ → ℕ) (i n k j : ℕ) → j ≡ i + k → k < n
+    → slice_get (each_from f i n) k ≡ Some (f j)
+each-within f i zero k j at h = absurd (omega arith)
+each-within f i (suc n) zero j at h = let e : i ≡ j = omega arith in ap (λ m. Some (f m)) e
+each-within f i (suc n) (suc k) j at h = each-within f (i + 1) n k j (omega arith) (omega arith)
 
 each-past : (f : ℕ → ℕ) (i n k : ℕ) → n ≤ k → slice_get (each_from f i n) k ≡ None
 each-past f i zero k h = refl
 each-past f i (suc n) zero h = absurd (omega arith)
 each-past f i (suc n) (suc k) h = each-past f (i + 1) n k (omega arith)
 
-each-at : (f : ℕ → ℕ) (n k : ℕ) (b : Bool) → nat_lt k n ≡ b → slice_get (each_from f 0 n) k ≡ cond b
-    (Some (f k)) None
-each-at f n k true h = each-within f 0 n k (ltb-true k n h) ∙ ap (λ m. Some (f m))
-    (let e : 0 + k ≡ k = omega arith in e)
-each-at f n k false h = each-past f 0 n k (ltb-false k n h)
-
-offsets-entry : (order : Endianness) (encoding : Encoding) (range : List ℕ) (i : ℕ)
-    → slice_get (offsets_in order encoding range) i ≡ entry_in order encoding range i
-unfolding entry_in
-offsets-entry order encoding range i =
-    each-at (offset_of_entry order encoding range) (entry_count encoding (length range)) i
-    (nat_lt i (entry_count encoding (length range))) refl
-
 -- ---- the strings at offsets
-
--- a string that was read, as one that is there
-abbrev read_as : Result (List ℕ) ReadError → Result (Option (List ℕ)) ReadError
-read_as r = r >>= λ string. Ok (Some string)
 
 all-read : (section offsets : List ℕ) (l : List (List ℕ)) → strings_at section offsets ≡ Ok l
     → (i : ℕ) → string_for section (slice_get offsets i) ≡ Ok (slice_get l i)
 unfolding strings_at
-all-read section [] l h i = ap (λ x. Ok (slice_get x i)) (same-ok [] l h)
+all-read section [] l h i = rw (← same-ok {E = ReadError} [] l h)
 all-read section (o ∷ os) l h i =
-    let s1 = bind-was (string_at section o) (λ string. strings_at section os >>= λ others.
-    Ok (string ∷ others)) l h in
-    let s2 = bind-was (strings_at section os) (λ others. Ok (s1.0 ∷ others)) l s1.2 in
-    at i s1.0 s2.0 s1.1 (all-read section os s2.0 s2.1) (same-ok (s1.0 ∷ s2.0) l s2.2)
-  where
-    at : (i : ℕ) (string : List ℕ) (others : List (List ℕ)) → string_at section o ≡ Ok string
-        → ((k : ℕ) → string_for section (slice_get os k) ≡ Ok (slice_get others k))
-        → string ∷ others ≡ l → string_for section (slice_get (o ∷ os) i) ≡ Ok (slice_get l i)
-    at zero string others here there all = ap read_as here ∙ ap (λ x. Ok (slice_get x 0)) all
-    at (suc i) string others here there all = there i ∙ ap (λ x. Ok (slice_get x (suc i))) all
-
-pub strings-read : (order : Endianness) (encoding : Encoding) (section range : List ℕ)
-    (l : List (List ℕ)) → strings_of order encoding section range ≡ Ok l
-    → (i : ℕ) → string_in order encoding section range i ≡ Ok (slice_get l i)
-unfolding string_in
-strings-read order encoding section range l h i =
-    ap (string_for section) (sym (offsets-entry order encoding range i)) ∙ all-read section
-    (offsets_in order encoding range) l h i
+    let s1 = bind-was (string_at section o) _ l h in
+    let s2 = bind-was (strings_at section os) _ l s1.2 in
+    let later = all-read section os s2.0 s2.1 in
+    rw (← same-ok {E = ReadError} _ l s2.2)
+    (elim i as (λ k. string_for section (slice_get (o ∷ os) k)
+    ≡ Ok (slice_get (s1.0 ∷ s2.0) k)) [ zero ↦ bind-ok _ s1.0 _ s1.1 | suc k ↦ later k ])
 
 -- one by one
-
-is-there : (r : Result (List ℕ) ReadError) → IsOk (read_as r) → (string : List ℕ) × (r ≡ Ok string)
+is-there : (r : Result (List ℕ) ReadError) → IsOk (r >>= λ string. Ok (Some string))
+    → (string : List ℕ) × (r ≡ Ok string)
 is-there (Ok string) h = (string, refl)
 is-there (Err e) h = absurd cc
 
@@ -88,14 +59,6 @@ all-there section (o ∷ os) h =
       bind-ok (string_at section o) here.0 _ here.1 ∙ bind-ok _ there.0 _ there.1,
     )
 
-pub strings-there : (order : Endianness) (encoding : Encoding) (section range : List ℕ)
-    → ((i : ℕ) → IsOk (string_in order encoding section range i))
-    → (l : List (List ℕ)) × (strings_of order encoding section range ≡ Ok l)
-unfolding string_in
-strings-there order encoding section range h =
-    all-there section (offsets_in order encoding range) (λ i.
-    subst (λ o. IsOk (string_for section o)) (sym (offsets-entry order encoding range i)) (h i))
-
 -- two lists with the same elements are the same
 same-list : (l m : List (List ℕ)) → ((i : ℕ) → slice_get l i ≡ slice_get m i) → l ≡ m
 same-list [] [] h = refl
@@ -103,11 +66,35 @@ same-list [] (y ∷ ys) h = absurd (none-some y (h 0))
 same-list (x ∷ xs) [] h = absurd (none-some x (sym (h 0)))
 same-list (x ∷ xs) (y ∷ ys) h = λ i. same_Some x y (h 0) i ∷ same-list xs ys (λ k. h (suc k)) i
 
-pub strings-are : (order : Endianness) (encoding : Encoding) (section range : List ℕ)
-    (l : List (List ℕ))
-    → ((i : ℕ) → string_in order encoding section range i ≡ Ok (slice_get l i))
-    → strings_of order encoding section range ≡ Ok l
-strings-are order encoding section range l h =
-    let there = strings-there order encoding section range (λ i. subst IsOk (sym (h i)) refl) in
-    there.1 ∙ ap Ok (same-list there.0 l (λ i. same-ok (slice_get there.0 i) (slice_get l i)
-    (sym (strings-read order encoding section range there.0 there.1 i) ∙ h i)))
+-- ---- the strings of a range
+
+module _ (order : Endianness) (encoding : Encoding) (section range : List ℕ) where
+  offsets-entry : (i : ℕ)
+      → entry_in order encoding range i ≡ slice_get (offsets_in order encoding range) i
+  unfolding entry_in
+  offsets-entry i =
+      let f = offset_of_entry order encoding range in
+      let n = entry_count encoding (length range) in
+      by-bool _ (nat_lt i n)
+      (λ less. rw less (sym (each-within f 0 n i i (omega arith) (ltb-true i n less))))
+      (λ past. rw past (sym (each-past f 0 n i (ltb-false i n past))))
+
+  pub strings-read : (l : List (List ℕ)) → strings_of order encoding section range ≡ Ok l
+      → (i : ℕ) → string_in order encoding section range i ≡ Ok (slice_get l i)
+  unfolding string_in
+  strings-read l h i =
+      rw (offsets-entry i) (all-read section (offsets_in order encoding range) l h i)
+
+  pub strings-there : ((i : ℕ) → IsOk (string_in order encoding section range i))
+      → (l : List (List ℕ)) × (strings_of order encoding section range ≡ Ok l)
+  unfolding string_in
+  strings-there h =
+      all-there section (offsets_in order encoding range) (λ i. rw (offsets-entry i) at (h i))
+
+  pub strings-are : (l : List (List ℕ))
+      → ((i : ℕ) → string_in order encoding section range i ≡ Ok (slice_get l i))
+      → strings_of order encoding section range ≡ Ok l
+  strings-are l h =
+      let there = strings-there (λ i. rw (h i) refl) in
+      there.1 ∙ ap Ok (same-list there.0 l (λ i. same-ok {E = ReadError} _ _
+      (sym (strings-read there.0 there.1 i) ∙ h i)))

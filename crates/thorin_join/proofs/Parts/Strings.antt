@@ -1,6 +1,6 @@
 -- What the parts of an input are, beside their bytes.
-use Rattle.std.proofs.Common.{◌≡◌, ◌∙◌, ℕ, ◌≤◌, true, false, List, [], ◌∷◌, length, take, min}
-use Rattle.std.proofs.Common.{subst, refl, sym, ap, inl, inr, Result, Ok, arith}
+use Rattle.std.proofs.Common.{◌≡◌, ◌∙◌, ℕ, ◌≤◌, true, false, List, [], length, take, min, refl, sym}
+use Rattle.std.proofs.Common.{ap, inl, inr, Result, Ok, arith}
 use Rattle.std.proofs.lemmas.List.{length-take, take-take}
 use Rattle.std.proofs.Math.Seq.{take-length}
 use Rattle.dwp_base.specs.declared.section.SectionKind.TheVariants.{Str, CuIndex, TuIndex}
@@ -11,11 +11,11 @@ use Rattle.thorin_strings.specs.StringOffsets.{remapped}
 use Rattle.thorin_input.specs.Growing.{Contents, joined_parts}
 use Rattle.thorin_input.specs.Indexes.{Source, is_package}
 use Rattle.thorin_input.specs.InputStrings.{rewritten}
-use Rattle.thorin_input.specs.Parts.{Parts, with_part, with_each_part, parts_of}
+use Rattle.thorin_input.specs.Parts.{Parts, with_each_part, parts_of}
 use Rattle.thorin_input.specs.Used.{Used, first}
-use Rattle.thorin_join.proofs.Parts.Appended.{Adds, step, parts-none}
+use Rattle.thorin_join.proofs.Parts.Appended.{Adds, parts-none, each-part}
 use Rattle.thorin_join.proofs.Parts.OffsetLaws.{NamesTheSameLaw, PackagedLaw}
-use Rattle.dwp_base.proofs.Steps.{bind-was, chosen}
+use Rattle.dwp_base.proofs.Steps.{chosen}
 
 -- what stands in front of what stands in front
 pub front-front : {A : Type 0} (a b c : List A) → take (length a) b ≡ a → take (length b) c ≡ b
@@ -63,13 +63,10 @@ module _ (names : NamesTheSameLaw) (law : PackagedLaw) (source : Source) where
   rewritten-follows bytes strings written table h =
       elim (chosen (is_package source.indexes) _ _ (Ok written) h) [
         | inl packed ↦
-            let reads = law source.object.order source.encoding source.indexes.compilations
-            source.indexes.types (first Str source.object.sections) bytes strings written.0
-            written.1 table packed.1 in
+            let reads = law _ _ _ _ _ _ _ written.0 written.1 table packed.1 in
             record { table = reads.table; kept = reads.kept }
         | inr plain ↦
-            let same = names source.object.order source.encoding (first Str source.object.sections)
-            bytes (length bytes) strings written.0 written.1 table plain.1 in
+            let same = names _ _ _ _ _ _ written.0 written.1 table plain.1 in
             record { table = same.table; kept = same.kept }
       ]
 
@@ -80,21 +77,18 @@ module _ (names : NamesTheSameLaw) (law : PackagedLaw) (source : Source) where
   step-strings before s next table (inr (inl (o, c, is))) = rw is (follows-refl before.1 table)
   step-strings before s next table (inr (inr (o, c, is))) = rw is (follows-refl before.1 table)
 
-  pub each-strings : (sections : List Used) (before after : Parts) → IsTable before.1
-      → with_each_part source before sections ≡ Ok after → Follows before.1 after.1
-  unfolding with_each_part
-  each-strings [] before after table h =
-      let same : before ≡ after = cc in
-      subst (λ (n : Parts). Follows before.1 n.1) same (follows-refl before.1 table)
-  each-strings (s ∷ ss) before after table h =
-      let next = bind-was (with_part source before s) _ after h in
-      let here = step-strings before s next.0 table (step source before s next.0 next.1).adds in
-      let later = each-strings ss next.0 after here.table next.2 in
+  pub each-strings : (sections : List Used) (before after : Parts)
+      → with_each_part source before sections ≡ Ok after → IsTable before.1
+      → Follows before.1 after.1
+  each-strings = each-part source (λ before ss after. IsTable before.1 → Follows before.1 after.1)
+      (λ parts. follows-refl parts.1)
+      (λ before s next ss after made rest later table.
+      let here = step-strings before s next table made.adds in
+      let more = later here.table in
       record {
-        table = later.table;
-        kept = front-front before.1 next.0.1 after.1
-            here.kept later.kept;
-      }
+        table = more.table;
+        kept = front-front before.1 next.1 after.1 here.kept more.kept;
+      })
 
 -- no part is of strings or of indexes, and the distinct strings go on from those before
 pub record PartsKept (strings : List (List ℕ)) (parts : Contents)
@@ -112,7 +106,7 @@ PartsLaw = (source : Source) (strings : List (List ℕ)) (parts : Contents) (aft
 pub parts-kept : NamesTheSameLaw → PackagedLaw → PartsLaw
 parts-kept names law source strings parts after table h =
     let follows = each-strings names law source source.object.sections ([], strings)
-    (parts, after) table h in
+    (parts, after) h table in
     record {
       no_strings = parts-none source strings parts after h Str refl refl;
       no_compilations = parts-none source strings parts after h CuIndex refl refl;

@@ -1,5 +1,5 @@
 -- The units of an input that are added stand in their rows.
-use Rattle.std.proofs.Common.{◌≡◌, ◌∙◌, ℕ, false, List, [], ◌∷◌, ◌++◌, ap, sym, subst, refl, Ok}
+use Rattle.std.proofs.Common.{◌≡◌, ◌∙◌, ℕ, false, List, [], ◌∷◌, ◌++◌, ap, sym, subst, refl}
 use Rattle.std.specs.List.{list_any}
 use Rattle.std.proofs.lemmas.List.{append_assoc, append-nil, map-append}
 use Rattle.std.proofs.Math.Seq.{take-length}
@@ -7,22 +7,20 @@ use Rattle.dwp_base.specs.declared.section.SectionKind.{SectionKind}
 use Rattle.dwp_base.specs.declared.endian.Endianness.{Endianness}
 use Rattle.dwp_base.specs.Sections.{same_kind}
 use Rattle.dwp_elf.specs.Contents.{content_of}
-use Rattle.dwp_bytes.specs.declared.encoding.Encoding.{Encoding}
 use Rattle.dwp_dwarf.specs.declared.unit.UnitSection.{UnitSection}
 use Rattle.dwp_dwarf.specs.declared.unit.UnitSection.TheVariants as places
-use Rattle.dwp_index.specs.Package.{encoding_in}
 use Rattle.dwp_table.specs.declared.object.DwarfObject.{DwarfObject}
 use Rattle.thorin_input.specs.Growing.{Contents}
-use Rattle.thorin_join.specs.Meaning.{Meaning, Members, keys, joining}
+use Rattle.thorin_join.specs.Meaning.{Members, keys, joining}
 use Rattle.thorin_input.specs.Names.{same_name}
 use Rattle.thorin_input.specs.NewUnits.{NewUnit}
-use Rattle.thorin_join.specs.Represents.{LieInside, Shares, AreRowsOf}
+use Rattle.thorin_join.specs.Represents.{AreRowsOf}
 use Rattle.thorin_join.specs.State.{InProgress, kind_at, names_of, row_at, with_unit_added}
 use Rattle.thorin_join.specs.State.{with_new_unit, with_new_units}
 use Rattle.thorin_join.proofs.Rows.Stay.{Grows, grows-with_bytes, keep-lie, keep-shares, keep-rows}
 use Rattle.thorin_join.proofs.Rows.Stay.{rows-next}
 use Rattle.thorin_join.proofs.Parts.Appended.{content-with_bytes}
-use Rattle.thorin_join.proofs.Rows.OneAdded.{Fits, unit-added, row-name}
+use Rattle.thorin_join.proofs.Rows.OneAdded.{CanBeAdded, unit-added, row-name}
 use Rattle.dwp_base.proofs.Bools.{by-bool}
 
 -- ---- units whose names are new
@@ -67,18 +65,6 @@ names-added p u =
 
 -- ---- units that can be added
 
--- a unit has its place in what its row shares, and its header can be read
-pub record CanBeAdded (order : Endianness) (c : Contents) (strings : List (List ℕ)) (u : DwarfObject
-    × NewUnit) (m : DwarfObject × Meaning) : Type 0 where
-  pub name : u.0 ≡ m.0
-  pub bytes : u.1.bytes ≡ m.1.bytes
-  pub encoded : u.1.row.encoding ≡ m.1.encoding
-  pub lie : LieInside c u.1.row
-  pub shares : Shares order c strings u.1.row m.1
-  pub fits : Fits u.1.row u.0 u.1.bytes u.1.place
-  pub encoding : Encoding
-  pub header : encoding_in order u.1.place u.1.bytes ≡ Ok encoding
-
 abbrev pub AllCanBeAdded : Endianness → Contents → List (List ℕ) → List (DwarfObject × NewUnit)
     → Members → Type 0
 AllCanBeAdded order c strings [] [] = Unit {0}
@@ -99,12 +85,12 @@ keep-can order c d strings (u ∷ us) (m ∷ ms) grows can = (
     name = can.0.name;
     bytes = can.0.bytes;
     encoded = can.0.encoded;
-    lie = keep-lie c d u.1.row grows can.0.lie;
-    shares = keep-shares order c d strings strings u.1.row m.1 grows (take-length strings)
-        can.0.lie can.0.shares;
     fits = can.0.fits;
     encoding = can.0.encoding;
     header = can.0.header;
+    lie = keep-lie c d u.1.row grows can.0.lie;
+    shares = keep-shares order c d strings strings u.1.row m.1 grows (take-length strings)
+        can.0.lie can.0.shares;
   },
   keep-can order c d strings us ms grows can.1,
 )
@@ -138,26 +124,23 @@ units-added p (u ∷ us) ms (m ∷ added) new can rows =
     let q = with_unit_added p u in
     let d = q.file.contents in
     let grows = grows-with_bytes k u.1.bytes c in
-    let row = unit-added p.file.order c p.strings u.1.row u.0 u.1.bytes u.1.place m can.0.encoding
-    can.0.name can.0.bytes can.0.encoded can.0.lie can.0.shares can.0.fits can.0.header in
+    let row = unit-added u.1.row c u.0 u.1.bytes u.1.place p.file.order p.strings m can.0 in
     let before = keep-rows p.file.order c d p.strings p.strings p.rows ms grows
     (take-length p.strings) rows in
     let here = rows-next p.file.order d p.strings p.rows ms _ m before row in
     let names = names-added p u in
-    let is = is-new p u new.0 in
-    let a = units-added q us (ms ++ m ∷ []) added (subst (λ n. AllNew n us) (sym names) new.1)
+    let a = units-added q us (ms ++ m ∷ []) added (rw names new.1)
     (keep-can p.file.order c d p.strings us added grows can.1) here in
+    let is : with_new_units p (u ∷ us) ≡ with_new_units q us =
+    ap (λ r. with_new_units r us) (is-new p u new.0) in
     record {
-      strings = (λ i. (with_new_units (is i) us).strings) ∙ a.strings;
-      order = (λ i. (with_new_units (is i) us).file.order) ∙ a.order;
-      rows = subst (λ r. AreRowsOf p.file.order (with_new_units r us).file.contents p.strings
-          (with_new_units r us).rows (ms ++ m ∷ added)) (sym is)
-          (subst (λ l. AreRowsOf p.file.order (with_new_units q us).file.contents p.strings
-          (with_new_units q us).rows l) (append_assoc ms (m ∷ []) added) a.rows);
-      other = λ kind h. (λ i. content_of kind (with_new_units (is i) us).file.contents) ∙ a.other
-          kind h ∙ content-with_bytes kind k u.1.bytes c ∙ rw (h u.1.place) refl;
-      names = (λ i. names_of (with_new_units (is i) us)) ∙ a.names ∙ ap (λ n. n ++ keys us) names ∙
-          append_assoc (names_of p) (u.0 ∷ []) (keys us);
+      strings = ap (λ (r : InProgress). r.strings) is ∙ a.strings;
+      order = ap (λ (r : InProgress). r.file.order) is ∙ a.order;
+      rows = rw is (rw append_assoc at a.rows);
+      other = λ kind h. ap (λ (r : InProgress). content_of kind r.file.contents) is
+          ∙ a.other kind h ∙ content-with_bytes kind k u.1.bytes c ∙ rw (h u.1.place);
+      names = ap names_of is ∙ a.names ∙ ap (λ n. n ++ keys us) names
+          ∙ append_assoc (names_of p) (u.0 ∷ []) (keys us);
     }
 
 -- a kind that is of neither section of units

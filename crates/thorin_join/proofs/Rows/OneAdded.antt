@@ -1,9 +1,8 @@
 -- A unit that is added stands in its row.
-use Rattle.std.proofs.Common.{◌≡◌, ◌∙◌, ℕ, ◌+◌, ◌-◌, ◌≤◌, ◌<◌, Bool, true, false, cond, List, []}
-use Rattle.std.proofs.Common.{◌∷◌, ◌++◌, length, take, drop, ap, sym, refl, arith, length-append}
-use Rattle.std.proofs.Common.{Some, None, Option, Ok, nat_eq, subst, ◌⊎◌, inl, inr}
+use Rattle.std.proofs.Common.{◌≡◌, ◌∙◌, ℕ, ◌+◌, ◌-◌, ◌≤◌, ◌<◌, false, cond, List, [], ◌∷◌, ◌++◌}
+use Rattle.std.proofs.Common.{length, take, drop, ap, sym, refl, arith, Some, None, Option, Ok}
+use Rattle.std.proofs.Common.{nat_eq, ◌⊎◌, inl, inr}
 use Rattle.std.specs.Prelude.{slice_range}
-use Rattle.std.proofs.lemmas.Option.{same_Some}
 use Rattle.std.proofs.Math.Dec.{eqb-suc-zero}
 use Rattle.std.proofs.Math.Seq.{drop-append_seam, take-length}
 use Rattle.dwp_base.specs.declared.section.SectionKind.{SectionKind}
@@ -18,10 +17,8 @@ use Rattle.dwp_dwarf.specs.declared.unit.UnitSection.{UnitSection}
 use Rattle.dwp_dwarf.specs.declared.unit.UnitSection.TheVariants as places
 use Rattle.dwp_index.specs.Package.{part_of, encoding_in}
 use Rattle.dwp_index.specs.Package as index
-use Rattle.dwp_index.specs.Strings.{string_in}
 use Rattle.dwp_table.specs.declared.object.DwarfObject.{DwarfObject}
 use Rattle.dwp_table.specs.declared.object.DwarfObject.TheVariants.{Compilation, TypeUnit}
-use Rattle.thorin_strings.specs.Strings.{data_of}
 use Rattle.thorin_index.specs.Entries.{contribution_to}
 use Rattle.thorin_index.specs.declared.entry.IndexEntry.{IndexEntry}
 use Rattle.thorin_input.specs.Growing.{Contents, with_bytes, range_put}
@@ -29,8 +26,11 @@ use Rattle.thorin_join.specs.Meaning.{Meaning}
 use Rattle.thorin_input.specs.Format.{is_copied}
 use Rattle.thorin_join.specs.Represents.{LieInside, Shares, IsRowOf}
 use Rattle.thorin_join.specs.State.{kind_at, row_at}
-use Rattle.thorin_join.proofs.Rows.Stay.{grows-with_bytes, keep-lie, keep-shares, part-inside}
+use Rattle.thorin_join.proofs.Rows.Stay.{grows-with_bytes, keep-lie, keep-shares}
 use Rattle.thorin_join.proofs.Parts.Appended.{content-with_bytes, copied-differ}
+use Rattle.thorin_input.specs.NewUnits.{NewUnit}
+use Rattle.dwp_base.proofs.Bools.{by-bool}
+use Rattle.thorin_join.proofs.Rows.Ranges.{lies-whole}
 
 not_empty : (x : List ℕ) → 0 < length x → nat_eq (length x) 0 ≡ false
 not_empty [] h = absurd (omega arith)
@@ -58,13 +58,7 @@ own-bytes a x =
 
 pub part-put : (k : SectionKind) (x : List ℕ) (c : Contents) → 0 < length x
     → part_of (content_of k (with_bytes k x c)) (range_put k x c) ≡ x
-part-put k x c h =
-    let long : length (content_of k c) + length x ≤ length (content_of k c ++ x) = let e =
-    length-append (content_of k c) x in omega arith in
-    ap (λ p. part_of (content_of k (with_bytes k x c)) p) (place-put k x c h)
-    ∙ ap (λ l. part_of l (Some (range_for k x c))) (content-put k x c)
-    ∙ part-inside (content_of k c ++ x) (range_for k x c) long
-    ∙ own-bytes (content_of k c) x
+part-put k x c h = rw (content-put k x c) (lies-whole (content_of k c) x).part_is
 
 -- a unit's row has its own part, and those that it shares
 row-parts : (shared : IndexEntry) (c : Contents) (name : DwarfObject) (x : List ℕ)
@@ -78,58 +72,14 @@ row-parts shared c name x places.Types =
     same-each (λ k. contribution_to k (row_at shared c name x places.Types)) (λ k.
     cond (same_kind kinds.Types k) (range_put kinds.Types x c) (contribution_to k shared)) refl
 
-pub row-other : (shared : IndexEntry) (c : Contents) (name : DwarfObject) (x : List ℕ)
-    (place : UnitSection) (kind : SectionKind) → same_kind (kind_at place) kind ≡ false
-    → contribution_to kind (row_at shared c name x place) ≡ contribution_to kind shared
-row-other shared c name x place kind other =
-    row-parts shared c name x place kind ∙ ap (λ b. cond b (range_put (kind_at place) x c)
-    (contribution_to kind shared)) other
-
-not-copied : (place : UnitSection) → is_copied (kind_at place) ≡ false
+pub not-copied : (place : UnitSection) → is_copied (kind_at place) ≡ false
 not-copied places.Info = refl
 not-copied places.Types = refl
 
-not-offsets : (place : UnitSection) → same_kind (kind_at place) kinds.StrOffsets ≡ false
-not-offsets places.Info = refl
-not-offsets places.Types = refl
-
-pub row-shared : (shared : IndexEntry) (c : Contents) (name : DwarfObject) (x : List ℕ)
-    (place : UnitSection) (kind : SectionKind) → is_copied kind ≡ true
-    → contribution_to kind (row_at shared c name x place) ≡ contribution_to kind shared
-row-shared shared c name x place kind copied = row-other shared c name x place kind
-    (copied-differ kind (kind_at place) copied (not-copied place))
-
-pub row-name : (shared : IndexEntry) (c : Contents) (name : DwarfObject) (x : List ℕ)
-    (place : UnitSection) → (row_at shared c name x place).id ≡ name
-row-name shared c name x places.Info = refl
-row-name shared c name x places.Types = refl
-
-pub row-own : (shared : IndexEntry) (c : Contents) (name : DwarfObject) (x : List ℕ)
-    (place : UnitSection) → contribution_to (kind_at place) (row_at shared c name x place) ≡
-    range_put (kind_at place) x c
-row-own shared c name x place =
-    row-parts shared c name x place (kind_at place) ∙ ap (λ b.
-    cond b (range_put (kind_at place) x c)
-    (contribution_to (kind_at place) shared)) (same-self (kind_at place))
-
--- its other parts are those that it shares, and its own
-pub row-part : (shared : IndexEntry) (c : Contents) (name : DwarfObject) (x : List ℕ)
-    (place : UnitSection) (kind : SectionKind)
-    → (contribution_to kind (row_at shared c name x place) ≡ contribution_to kind shared)
-    ⊎ ((kind ≡ kind_at place) × (contribution_to kind (row_at shared c name x place) ≡ range_put
-    (kind_at place) x c))
-row-part shared c name x place kind = by (same_kind (kind_at place) kind) refl
-  where
-    by : (b : Bool) → same_kind (kind_at place) kind ≡ b
-        → (contribution_to kind (row_at shared c name x place) ≡ contribution_to kind shared)
-        ⊎ ((kind ≡ kind_at place) × (contribution_to kind (row_at shared c name x place)
-        ≡ range_put (kind_at place) x c))
-    by true same = inr (
-      sym (is-same (kind_at place) kind same),
-      row-parts shared c name x place kind ∙ ap (λ b. cond b (range_put (kind_at place) x c)
-          (contribution_to kind shared)) same,
-    )
-    by false other = inl (row-other shared c name x place kind other)
+pub not-offsets : (place : UnitSection) → (same_kind (kind_at place) kinds.StrOffsets ≡ false)
+    × (same_kind kinds.StrOffsets (kind_at place) ≡ false)
+not-offsets places.Info = (refl, refl)
+not-offsets places.Types = (refl, refl)
 
 -- the place of a unit is that of its name and its range in types
 pub record Fits (shared : IndexEntry) (name : DwarfObject) (x : List ℕ)
@@ -150,19 +100,17 @@ own-place shared c name x places.Info fits = info-place name ∙ ap (index.place
     (sym fits.no_types)
 own-place shared c name x places.Types fits =
     let t = fits.types_only refl in
-    sym (ap (λ n. index.place_of n (range_put kinds.Types x c)) t.1 ∙ ap
-    (index.place_of (TypeUnit (record { 0 = t.0 }))) (place-put kinds.Types x c fits.some))
+    rw (t.1, place-put kinds.Types x c fits.some)
 
-own-inside : (k : SectionKind) (x : List ℕ) (c : Contents) (range : Contribution) → 0 < length x
-    → range_put k x c ≡ Some range
-    → (range.offset.0 + range.size ≤ length (content_of k (with_bytes k x c))) × (0 < range.size)
-own-inside k x c range some is =
-    let same : range_for k x c ≡ range = same_Some _ _ (sym (place-put k x c some) ∙ is) in
-    let long : length (content_of k (with_bytes k x c)) ≡ length (content_of k c) + length x =
-    ap length (content-put k x c) ∙ length-append (content_of k c) x in
-    let offset : length (content_of k c) ≡ range.offset.0 = ap (λ r. r.offset.0) same in
-    let size : length x ≡ range.size = ap (λ r. r.size) same in
-    (omega arith, omega arith)
+pub row-name : (shared : IndexEntry) (c : Contents) (name : DwarfObject) (x : List ℕ)
+    (place : UnitSection) → (row_at shared c name x place).id ≡ name
+row-name shared c name x places.Info = refl
+row-name shared c name x places.Types = refl
+
+row-encoding : (shared : IndexEntry) (c : Contents) (name : DwarfObject) (x : List ℕ)
+    (place : UnitSection) → (row_at shared c name x place).encoding ≡ shared.encoding
+row-encoding shared c name x places.Info = refl
+row-encoding shared c name x places.Types = refl
 
 pub lie-by : (shared : IndexEntry) (c : Contents) (k : SectionKind) (x : List ℕ)
     (kind : SectionKind) (part : Option Contribution) (range : Contribution)
@@ -173,55 +121,74 @@ lie-by shared c k x kind part range some lie is (inl h) =
     let there = keep-lie c (with_bytes k x c) shared (grows-with_bytes k x c) lie in
     (there.inside kind range (sym h ∙ is), there.some kind range (sym h ∙ is))
 lie-by shared c k x kind part range some lie is (inr h) =
-    let own = own-inside k x c range some (sym h.1 ∙ is) in (
-      subst (λ j. range.offset.0 + range.size ≤ length (content_of j (with_bytes k x c)))
-          (sym h.0) own.0,
-      own.1,
-    )
+    let own = lies-whole (content_of k c) x in
+    let there = sym h.1 ∙ is in
+    (rw (h.0, content-put k x c) (own.inside range there), own.some range there)
 
-row-encoding : (shared : IndexEntry) (c : Contents) (name : DwarfObject) (x : List ℕ)
-    (place : UnitSection) → (row_at shared c name x place).encoding ≡ shared.encoding
-row-encoding shared c name x places.Info = refl
-row-encoding shared c name x places.Types = refl
+-- a unit that can be added: it has its place in what its row shares, and its header can be read
+pub record CanBeAdded (order : Endianness) (c : Contents) (strings : List (List ℕ)) (u : DwarfObject
+    × NewUnit) (m : DwarfObject × Meaning) : Type 0 where
+  pub name : u.0 ≡ m.0
+  pub bytes : u.1.bytes ≡ m.1.bytes
+  pub encoded : u.1.row.encoding ≡ m.1.encoding
+  pub lie : LieInside c u.1.row
+  pub shares : Shares order c strings u.1.row m.1
+  pub fits : Fits u.1.row u.0 u.1.bytes u.1.place
+  pub encoding : Encoding
+  pub header : encoding_in order u.1.place u.1.bytes ≡ Ok encoding
 
--- a unit whose row shares what belongs to it is the one of its row, once its bytes are added
-pub unit-added : (order : Endianness) (c : Contents) (s : List (List ℕ)) (shared : IndexEntry)
-    (name : DwarfObject) (x : List ℕ) (place : UnitSection) (member : DwarfObject × Meaning)
-    (encoding : Encoding)
-    → name ≡ member.0 → x ≡ member.1.bytes → shared.encoding ≡ member.1.encoding
-    → LieInside c shared → Shares order c s shared member.1 → Fits shared name x place
-    → encoding_in order place x ≡ Ok encoding
-    → IsRowOf order (with_bytes (kind_at place) x c) s (row_at shared c name x place) member
-unit-added order c s shared name x place member encoding named own encoded lie shares fits header =
-    let unit = member.1 in
-    let d = with_bytes (kind_at place) x c in
-    let row = row_at shared c name x place in
-    let kept = keep-shares order c d s s shared unit (grows-with_bytes (kind_at place) x c)
-    (take-length s) lie shares in
-    record {
-      name = row-name shared c name x place ∙ named;
-      encoding = row-encoding shared c name x place ∙ encoded;
-      lie = record {
-        inside = λ kind range is. (lie-by shared c (kind_at place) x kind (contribution_to kind row)
-            range fits.some lie is (row-part shared c name x place kind)).0;
-        some = λ kind range is. (lie-by shared c (kind_at place) x kind (contribution_to kind row)
-            range fits.some lie is (row-part shared c name x place kind)).1;
-      };
-      shares = record {
-        content = λ kind copied. ap (part_of (content_of kind d)) (row-shared shared c name x place
-            kind copied) ∙ kept.content kind copied;
-        string = λ final table begins i. ap (λ p. string_in order unit.encoding (data_of final)
-            (part_of (content_of kinds.StrOffsets d) p) i) (row-other shared c name x place
-            kinds.StrOffsets (not-offsets place)) ∙
-            kept.string final table begins i;
-      };
-      owns = record {
-        place = place;
-        place_is = own-place shared c name x place fits ∙ ap (λ n.
-            index.place_of n (contribution_to kinds.Types row)) named;
-        bytes = ap (part_of (content_of (kind_at place) d)) (row-own shared c name x place) ∙
-            part-put (kind_at place) x c fits.some ∙ own;
-        encoding = encoding;
-        header = ap (encoding_in order place) (sym own) ∙ header;
-      };
-    }
+module _ (shared : IndexEntry) (c : Contents) (name : DwarfObject) (x : List ℕ)
+    (place : UnitSection) where
+  abbrev row : IndexEntry
+  row = row_at shared c name x place
+
+  pub row-other : (kind : SectionKind) → same_kind (kind_at place) kind ≡ false
+      → contribution_to kind row ≡ contribution_to kind shared
+  row-other kind other = rw (row-parts shared c name x place kind, other)
+
+  pub row-own : contribution_to (kind_at place) row ≡ range_put (kind_at place) x c
+  row-own = rw (row-parts shared c name x place (kind_at place), same-self (kind_at place))
+
+  -- its other parts are those that it shares, and its own
+  pub row-part : (kind : SectionKind) → (contribution_to kind row ≡ contribution_to kind shared)
+      ⊎ ((kind ≡ kind_at place) × (contribution_to kind row ≡ range_put (kind_at place) x c))
+  row-part kind =
+      by-bool _ (same_kind (kind_at place) kind)
+      (λ same. inr (
+        sym (is-same (kind_at place) kind same),
+        rw (row-parts shared c name x place kind, same),
+      ))
+      (λ other. inl (row-other kind other))
+
+  -- a unit whose row shares what belongs to it is the one of its row, once its bytes are added
+  pub unit-added : (order : Endianness) (s : List (List ℕ)) (m : DwarfObject × Meaning)
+      → CanBeAdded order c s (name, record { place = place; bytes = x; row = shared }) m
+      → IsRowOf order (with_bytes (kind_at place) x c) s row m
+  unit-added order s m can =
+      let kept = keep-shares order c (with_bytes (kind_at place) x c) s s shared m.1
+      (grows-with_bytes (kind_at place) x c) (take-length s) can.lie can.shares in
+      let lies = λ (kind : SectionKind) (range : Contribution)
+      (is : contribution_to kind row ≡ Some range). lie-by shared c (kind_at place) x kind
+      (contribution_to kind row) range can.fits.some can.lie is (row-part kind) in
+      record {
+        name = row-name shared c name x place ∙ can.name;
+        encoding = row-encoding shared c name x place ∙ can.encoded;
+        lie = record {
+          inside = λ kind range is. (lies kind range is).0;
+          some = λ kind range is. (lies kind range is).1;
+        };
+        shares = record {
+          content = λ kind copied. rw
+              (row-other kind (copied-differ kind (kind_at place) copied (not-copied place)))
+              (kept.content kind copied);
+          string = λ final table begins i. rw (row-other kinds.StrOffsets (not-offsets place).0)
+              (kept.string final table begins i);
+        };
+        owns = record {
+          place = place;
+          place_is = rw (← can.name) (own-place shared c name x place can.fits);
+          bytes = rw row-own (part-put (kind_at place) x c can.fits.some ∙ can.bytes);
+          encoding = can.encoding;
+          header = rw (← can.bytes) can.header;
+        };
+      }

@@ -1,7 +1,7 @@
 -- The ranges that a unit's row gets: where they lie, and what stands there.
-use Rattle.std.proofs.Common.{subst, subst₂, ◌≡◌, ◌∙◌, ℕ, ◌+◌, ◌-◌, ◌<◌, ◌≤◌, Bool, true, false}
-use Rattle.std.proofs.Common.{cond, eqb, leb, List, [], ◌++◌, length, take, drop, slice_range, not}
-use Rattle.std.proofs.Common.{is_some, Ok, Option, Some, None, refl, sym, ap, if◌then◌else◌, arith}
+use Rattle.std.proofs.Common.{subst₂, ◌≡◌, ◌∙◌, ℕ, ◌+◌, ◌-◌, ◌<◌, ◌≤◌, Bool, true, false, cond, eqb}
+use Rattle.std.proofs.Common.{leb, List, [], ◌++◌, length, take, drop, slice_range, not, is_some}
+use Rattle.std.proofs.Common.{Ok, Option, Some, None, refl, sym, ap, if◌then◌else◌, arith}
 use Rattle.std.specs.Option.{option_and_then}
 use Rattle.std.proofs.lemmas.List.{length-append}
 use Rattle.std.proofs.Math.Seq.{take-length, drop-append-add}
@@ -13,24 +13,28 @@ use Rattle.dwp_index.specs.Index.{Index, Ranges, row_in, column_place, contribut
 use Rattle.dwp_index.specs.Package.{part_of, is_outside}
 use Rattle.dwp_bytes.specs.declared.error.ReadError.{ReadError}
 use Rattle.thorin_errors.specs.Errors.{ErrorValue}
-use Rattle.thorin_packaged.specs.PackagedReading.{range_bytes}
 use Rattle.thorin_input.specs.Adjusting.{moved, moved_range, without_column}
 use Rattle.thorin_join.proofs.Parts.Appended.{no-bytes}
 use Rattle.dwp_base.proofs.Steps.{same-ok}
 use Rattle.thorin_join.proofs.Steps.{kept}
 use Rattle.thorin_join.proofs.Rows.Stay.{part-inside}
+use Rattle.dwp_base.proofs.Bools.{by-bool}
 
--- a range, where there is one, lies inside bytes and has some, and these bytes stand there
-pub record Lies (bytes : List ℕ) (range : Option Contribution) (part : List ℕ) : Type 0 where
-  pub inside : (r : Contribution) → range ≡ Some r → r.offset.0 + r.size ≤ length bytes
+-- a range, where there is one, lies inside bytes that were put behind others, and has some, and
+-- these bytes stand there
+pub record Lies (front bytes : List ℕ) (range : Option Contribution)
+    (part : List ℕ) : Type 0 where
+  pub behind : (r : Contribution) → range ≡ Some r → length front ≤ r.offset.0
+  pub inside : (r : Contribution) → range ≡ Some r
+      → r.offset.0 + r.size ≤ length (front ++ bytes)
   pub some : (r : Contribution) → range ≡ Some r → 0 < r.size
-  pub part_is : part_of bytes range ≡ part
+  pub part_is : part_of (front ++ bytes) range ≡ part
 
-pub lies-none : (bytes : List ℕ) → Lies bytes None []
-lies-none bytes = record {
+pub lies-none : (front bytes : List ℕ) → Lies front bytes None []
+lies-none front bytes = record {
+  behind = λ r h. absurd (none-some r h);
   inside = λ r h. absurd (none-some r h);
-  some = λ r h.
-      absurd (none-some r h);
+  some = λ r h. absurd (none-some r h);
   part_is = refl;
 }
 
@@ -39,20 +43,15 @@ range_at at size = record { offset = record { 0 = at }; size = size }
 
 -- a range of some bytes inside those behind others
 pub lies-at : (front bytes : List ℕ) (at size : ℕ) → 0 < size → at + size ≤ length bytes
-    → Lies (front ++ bytes) (Some (range_at (length front + at) size))
-    (slice_range bytes at (at + size))
+    → Lies front bytes (Some (range_at (length front + at) size)) (slice_range bytes at (at + size))
 lies-at front bytes at size some within =
     let end = length front + at + size in
-    let long = length-append front bytes in
-    let fits : end ≤ length (front ++ bytes) = omega (arith, long) in
+    let fits : end ≤ length (front ++ bytes) = omega (arith, length-append front bytes) in
     let count : end - (length front + at) ≡ at + size - at = omega arith in
     record {
-      inside = λ r h. let start : length front + at ≡ r.offset.0 = ap (λ (c : Contribution).
-          c.offset.0) (same_Some _ _ h) in
-          let many : size ≡ r.size = ap (λ (c : Contribution). c.size) (same_Some _ _ h) in
-          omega (arith, fits, start, many);
-      some = λ r h. let many : size ≡ r.size = ap (λ (c : Contribution). c.size)
-          (same_Some _ _ h) in omega (arith, some, many);
+      behind = λ r h. rw (← same_Some _ _ h) (omega arith);
+      inside = λ r h. rw (← same_Some _ _ h) fits;
+      some = λ r h. rw (← same_Some _ _ h) some;
       part_is = part-inside (front ++ bytes) (range_at (length front + at) size) fits
           ∙ ap (λ n. take n (drop (length front + at) (front ++ bytes))) count
           ∙ ap (take (at + size - at)) (drop-append-add front bytes at);
@@ -63,27 +62,23 @@ abbrev pub whole_behind : List ℕ → List ℕ → Option Contribution
 whole_behind front bytes = if eqb (length bytes) 0 then None else Some
     (range_at (length front) (length bytes))
 
-lies-by : (front bytes : List ℕ) (none : Bool) → eqb (length bytes) 0 ≡ none → Lies (front ++ bytes)
-    (cond none None (Some (range_at (length front) (length bytes)))) bytes
-lies-by front bytes true h = subst (Lies (front ++ bytes) None)
-    (sym (no-bytes bytes (eqb-true (length bytes) 0 h))) (lies-none (front ++ bytes))
-lies-by front bytes false h =
-    let several = eqb-false (length bytes) 0 h in
+pub lies-whole : (front bytes : List ℕ) → Lies front bytes (whole_behind front bytes) bytes
+lies-whole front bytes =
+    by-bool _ (eqb (length bytes) 0)
+    (λ none. rw (none, no-bytes bytes (eqb-true (length bytes) 0 none)) (lies-none front []))
+    (λ some. let several = eqb-false (length bytes) 0 some in
     let start : length front + 0 ≡ length front = omega arith in
     let count : 0 + length bytes - 0 ≡ length bytes = omega arith in
-    subst₂ (λ at part. Lies (front ++ bytes) (Some (range_at at (length bytes))) part) start
+    rw some (subst₂ (λ at part. Lies front bytes (Some (range_at at (length bytes))) part) start
     (ap (λ n. take n bytes) count ∙ take-length bytes)
-    (lies-at front bytes 0 (length bytes) (omega (arith, several)) (omega arith))
-
-pub lies-whole : (front bytes : List ℕ) → Lies (front ++ bytes) (whole_behind front bytes) bytes
-lies-whole front bytes = lies-by front bytes (eqb (length bytes) 0) refl
+    (lies-at front bytes 0 (length bytes) (omega arith) (omega arith))))
 
 -- ---- ranges of rows, moved
 -- a unit's part of bytes that were put behind others: its range lies inside them, and the same
 -- stands there
 pub record Placed (front bytes : List ℕ) (range moved : Option Contribution) : Type 0 where
   pub within : (r : Contribution) → range ≡ Some r → r.offset.0 + r.size ≤ length bytes
-  pub lies : Lies (front ++ bytes) moved (part_of bytes range)
+  pub lies : Lies front bytes moved (part_of bytes range)
 
 moved-by : (kind : SectionKind) (id : ℕ) (front bytes : List ℕ) (range : Contribution)
     (result : Option Contribution) (none : Bool) → 0 < range.size
@@ -95,16 +90,10 @@ moved-by kind id front bytes range result false some h =
     let end = range.offset.0 + range.size in
     let fits = kept (leb end (length bytes)) _ _ result h in
     let inside : end ≤ length bytes = leb-true end (length bytes) fits.0 in
-    let same : Some (range_at (length front + range.offset.0) range.size) ≡ result =
-    same-ok {E = ErrorValue} _ _ fits.1 in
-    let there : part_of bytes (Some range) ≡ range_bytes bytes range =
-    part-inside bytes range inside in
     record {
-      within = λ r e. let is : range ≡ r = same_Some _ _ e in
-          let at : range.offset.0 ≡ r.offset.0 = ap (λ (c : Contribution). c.offset.0) is in
-          let many : range.size ≡ r.size = ap (λ (c : Contribution). c.size) is in
-          omega (arith, inside, at, many);
-      lies = rw (← same) (rw there (lies-at front bytes range.offset.0 range.size some inside));
+      within = λ r e. rw (← same_Some _ _ e) inside;
+      lies = rw (← same-ok {E = ErrorValue} _ _ fits.1, part-inside bytes range inside)
+          (lies-at front bytes range.offset.0 range.size some inside);
     }
 
 placed-none : (front bytes : List ℕ) (range result : Option Contribution) → range ≡ None
@@ -112,8 +101,7 @@ placed-none : (front bytes : List ℕ) (range result : Option Contribution) → 
 placed-none front bytes range result none nothing =
     rw (none, nothing) (record {
       within = λ r h. absurd (none-some r h);
-      lies =
-          lies-none (front ++ bytes);
+      lies = lies-none front bytes;
     })
 
 pub placed-range : (kind : SectionKind) (id : ℕ) (front bytes : List ℕ)
@@ -145,16 +133,12 @@ placed-by kind id front bytes range result false false some none h = placed-none
     result (none refl) (without-none (whole_behind front bytes) result h)
 
 -- ---- ranges of an index's rows
-some-by : (at size : ℕ) (r : Contribution) (none : Bool) → eqb size 0 ≡ none
-    → cond none None (Some (range_at at size)) ≡ Some r → 0 < r.size
-some-by at size r true h is = absurd (none-some r is)
-some-by at size r false h is =
-    let many : size ≡ r.size = ap (λ (c : Contribution). c.size) (same_Some _ _ is) in
-    let several = eqb-false size 0 h in
-    omega (arith, many, several)
-
 contribution-some : (at size : ℕ) (r : Contribution) → contribution at size ≡ Some r → 0 < r.size
-contribution-some at size r h = some-by at size r (eqb size 0) refl h
+contribution-some at size r h =
+    by-bool _ (eqb size 0)
+    (λ none. absurd (none-some r (rw none at h)))
+    (λ some. let several = eqb-false size 0 some in
+    rw (← same_Some _ _ (rw some at h)) (omega arith))
 
 ranged : (f : ℕ → Option Contribution) (column : Option ℕ) (r : Contribution)
     → option_and_then f column ≡ Some r → (i : ℕ) × (f i ≡ Some r)

@@ -1,7 +1,6 @@
 -- A unit that passed the tests stands in its row.
-use Rattle.std.proofs.Common.{◌≡◌, ◌∙◌, ℕ, ◌+◌, ◌≤◌, true, false, cond, List, [], ◌++◌, length, Ok}
+use Rattle.std.proofs.Common.{◌≡◌, ◌∙◌, ℕ, ◌+◌, ◌≤◌, true, false, cond, List, [], length, Ok}
 use Rattle.std.proofs.Common.{Option, Some, None, refl, sym, ap, subst, arith, Bool, ◌∷◌, is_none}
-use Rattle.std.specs.Prelude.{IsOk}
 use Rattle.std.specs.Option.{option_and_then}
 use Rattle.std.specs.List.{list_all, find}
 use Rattle.dwp_base.specs.declared.section.Contribution.{Contribution}
@@ -17,7 +16,7 @@ use Rattle.thorin_index.specs.Entries.{contribution_to}
 use Rattle.thorin_packaged.specs.ReadStrings.{ReadsAlike}
 use Rattle.thorin_index.specs.declared.entry.IndexEntry.{IndexEntry}
 use Rattle.thorin_strings.specs.Strings.{IsTable, data_of}
-use Rattle.thorin_input.specs.Growing.{Contents, with_parts, joined_parts}
+use Rattle.thorin_input.specs.Growing.{Contents, joined_parts}
 use Rattle.thorin_input.specs.Indexes.{Source, is_package, index_for}
 use Rattle.thorin_join.specs.Meaning.{UnitRead, lie_inside, meaning_by, placed_row, unit_meaning}
 use Rattle.thorin_join.specs.Meaning.{shared_kinds, part_by}
@@ -25,22 +24,23 @@ use Rattle.thorin_input.specs.Format.{is_copied, is_shared}
 use Rattle.thorin_input.specs.Parts.{parts_of}
 use Rattle.thorin_input.specs.Rows.{whole_row, adjusted_part, unit_row, own_range, row_test}
 use Rattle.thorin_input.specs.Used.{first}
-use Rattle.thorin_join.proofs.Parts.OffsetRanges.{empty-read}
+use Rattle.thorin_join.proofs.Parts.OffsetRanges.{empty-alike}
 use Rattle.thorin_join.proofs.Rows.OfUnits.{OwnRow, one-of, adjusted-plain, placed-part, IsUnitRow}
 use Rattle.thorin_join.proofs.Rows.OfUnits.{is-unit_row, whole-part, whole-else, own-row}
 use Rattle.thorin_join.proofs.Parts.OfPackages.{RowsRead, parts-first, rows-read}
-use Rattle.thorin_join.proofs.Parts.Appended.{content-with_parts, parts-copied}
+use Rattle.thorin_join.proofs.Parts.Appended.{parts-copied}
 use Rattle.thorin_join.proofs.Parts.OffsetLaws.{NamesTheSameLaw, ReadsAlikeLaw, ReadInTurnLaw}
 use Rattle.thorin_join.proofs.Parts.OffsetLaws.{PackagedLaw}
 use Rattle.thorin_join.proofs.Parts.PlainOffsets.{parts-read}
 use Rattle.thorin_join.proofs.Parts.Strings.{parts-kept}
-use Rattle.thorin_join.proofs.Rows.Meaning.{RowMeans, SharedLie, OffsetsRead, row-means}
-use Rattle.thorin_join.proofs.Rows.Ranges.{Lies, Placed, whole_behind, lies-whole, not-outside}
-use Rattle.thorin_join.proofs.Rows.Ranges.{range-some}
+use Rattle.thorin_join.proofs.Rows.Meaning.{RowMeans, SharedLie, OffsetsRead, row-means, unshared}
+use Rattle.thorin_join.proofs.Rows.Ranges.{Placed, lies-whole, not-outside, range-some}
 use Rattle.thorin_join.proofs.EachKind.{copied-or-offsets}
 use Rattle.thorin_errors.specs.Errors.{ErrorValue}
 use Rattle.dwp_base.proofs.Steps.{same-ok}
 use Rattle.thorin_join.proofs.Rows.Stay.{part-inside}
+use Rattle.thorin_join.specs.StandApart.{LieBehind}
+use Rattle.std.proofs.lemmas.Option.{none-some}
 
 -- a unit that passed the tests stands in its row
 abbrev pub RowShares : Source → (before parts : Contents) → List (List ℕ) → DwarfObject × UnitRead
@@ -66,12 +66,6 @@ none-found test fails (kind ∷ kinds) shared =
     rw (fails kind each.0) (none-found test fails kinds each.1)
 
 -- ---- a plain input
-lies-in : (before parts : Contents) (kind : SectionKind) (range : Option Contribution)
-    (part : List ℕ) → Lies (content_of kind before ++ joined_parts kind parts) range part
-    → Lies (content_of kind (with_parts parts before)) range part
-lies-in before parts kind range part lies = subst (λ v. Lies v range part)
-    (sym (content-with_parts kind parts before)) lies
-
 module _ (source : Source) (before parts : Contents) (read : DwarfObject × UnitRead)
     (row : IndexEntry) (made : IsUnitRow source.indexes (whole_row source.encoding before parts)
     read.0 row) where
@@ -91,18 +85,14 @@ module _ (source : Source) (before parts : Contents) (read : DwarfObject × Unit
   row-types : row.debug_types ≡ None
   row-types = made.types ∙ (whole-else source.encoding before parts).2
 
-  plain-lies : is_package source.indexes ≡ false → SharedLie (with_parts parts before) row (λ kind.
-      joined_parts kind parts)
+  plain-lies : is_package source.indexes ≡ false
+      → SharedLie before parts row (λ kind. joined_parts kind parts)
   plain-lies plain kind shared =
       let is : contribution_to kind whole ≡ contribution_to kind row = same-ok {E = ErrorValue} _ _
       (sym (adjusted-plain source.indexes name kind (contribution_to kind whole) plain) ∙
       made.parts kind shared) in
-      let range : whole_behind (content_of kind before) (joined_parts kind parts) ≡ contribution_to
-      kind row = sym (whole-part source.encoding before parts kind shared) ∙ is in
-      lies-in before parts kind (contribution_to kind row) (joined_parts kind parts)
-      (subst (λ r. Lies (content_of kind before ++ joined_parts kind parts) r
-      (joined_parts kind parts)) range (lies-whole (content_of kind before)
-      (joined_parts kind parts)))
+      rw (← is, whole-part source.encoding before parts kind shared)
+      (lies-whole (content_of kind before) (joined_parts kind parts))
 
   -- ---- a package
   module _ (packed : is_package source.indexes ≡ true)
@@ -116,10 +106,9 @@ module _ (source : Source) (before parts : Contents) (read : DwarfObject × Unit
         (ap (adjusted_part source.indexes name kind)
         (sym (whole-part source.encoding before parts kind shared)) ∙ made.parts kind shared)
 
-    packed-lies : SharedLie (with_parts parts before) row (λ kind. part_of (joined_parts kind parts)
+    packed-lies : SharedLie before parts row (λ kind. part_of (joined_parts kind parts)
         (range_in own.row kind))
-    packed-lies kind shared = lies-in before parts kind (contribution_to kind row)
-        (part_of (joined_parts kind parts) (range_in own.row kind)) (each-placed kind shared).lies
+    packed-lies kind shared = (each-placed kind shared).lies
 
     -- its ranges lie inside the sections of the input
     packed-inside : ((kind : SectionKind) → is_shared kind ≡ true
@@ -142,12 +131,8 @@ module _ (source : Source) (before parts : Contents) (read : DwarfObject × Unit
             → ReadsAlike source.object.order source.encoding (first Str source.object.sections)
             (part_of (first StrOffsets source.object.sections) range) (data_of final)
             (part_of (joined_parts StrOffsets parts) range) i
-        by-range None is =
-            let none = empty-read source.object.order source.encoding in
-            record {
-              readable = subst IsOk (sym (none (first Str source.object.sections) i)) refl;
-              same = none (data_of final) i ∙ sym (none (first Str source.object.sections) i);
-            }
+        by-range None is = empty-alike source.object.order source.encoding
+            (first Str source.object.sections) (data_of final) i
         by-range (Some range) is =
             let old = first StrOffsets source.object.sections in
             let new = joined_parts StrOffsets parts in
@@ -162,6 +147,18 @@ module _ (source : Source) (before parts : Contents) (read : DwarfObject × Unit
               part-inside new
                   range inside,
             ) one
+
+  -- the ranges of a unit that passed the tests lie behind the contents before
+  pub row-behind : row_test source.indexes read.1.from read.0 read.1.unit ≡ Ok tt
+      → LieBehind before row
+  row-behind test kind range is =
+      by-bool _ (is_shared kind)
+      (λ shared. by-bool _ (is_package source.indexes)
+      (λ packed. (packed-lies packed
+      (own-row source.indexes whole read.1.from name read.1.unit row packed test made)
+      kind shared).behind range is)
+      (λ plain. (plain-lies plain kind shared).behind range is))
+      (λ other. absurd (none-some range (sym (unshared row row-info row-types kind other) ∙ is)))
 
 -- ---- both
 unit-plain : (source : Source) (read : DwarfObject × UnitRead) → is_package source.indexes ≡ false
@@ -190,7 +187,7 @@ module _ (names : NamesTheSameLaw) (alike : ReadsAlikeLaw) (in_turn : ReadInTurn
   -- the unit by these ranges, which has these parts
   shares-by : Made → (ranges : Option Ranges) (part : SectionKind → List ℕ)
       → unit_meaning source read ≡ meaning_by source read.1.unit.whole.bytes ranges
-      → SharedLie (with_parts parts before) row part → ((kind : SectionKind)
+      → SharedLie before parts row part → ((kind : SectionKind)
       → is_copied kind ≡ true → part kind ≡ part_by source ranges kind)
       → lie_inside source ranges ≡ true → OffsetsRead source ranges after (part StrOffsets)
       → RowShares source before parts after read row
@@ -208,9 +205,7 @@ module _ (names : NamesTheSameLaw) (alike : ReadsAlikeLaw) (in_turn : ReadInTurn
       (plain-lies source before parts read row made plain)
       (parts-copied source strings parts after h)
       refl
-      (λ final final_table longer i. let one = parts-read names alike in_turn source plain strings
-      parts after table h final final_table longer i in
-      record { readable = one.1; same = one.0 })
+      (parts-read names alike in_turn source plain strings parts after table h)
 
   shares-packed : Made → row_test source.indexes read.1.from read.0 read.1.unit ≡ Ok tt
       → is_package source.indexes ≡ true → RowShares source before parts after read row

@@ -1,6 +1,5 @@
 -- How many bytes contents have once bytes, parts or units were added.
-use Rattle.std.proofs.Common.{◌∙◌, ◌≡◌, ℕ, ◌+◌, ◌≤◌, cond, eqb, List, [], ◌∷◌, ◌++◌, length, refl}
-use Rattle.std.proofs.Common.{ap, inl, inr, Ok, arith}
+use Rattle.std.proofs.Common.{◌≡◌, ℕ, ◌+◌, ◌≤◌, cond, eqb, List, [], ◌∷◌, ◌++◌, length, arith}
 use Rattle.std.specs.List.{sum_by, list_any}
 use Rattle.std.proofs.lemmas.List.{length-append}
 use Rattle.std.proofs.lemmas.List.Sums.{sum_by-cons, sum_by-append}
@@ -11,17 +10,12 @@ use Rattle.dwp_base.specs.Sections.{same_kind}
 use Rattle.dwp_elf.specs.Contents.{appended}
 use Rattle.dwp_table.specs.declared.object.DwarfObject.{DwarfObject}
 use Rattle.thorin_input.specs.Growing.{Contents, with_bytes, with_parts}
-use Rattle.thorin_input.specs.Indexes.{Source}
 use Rattle.thorin_input.specs.Names.{same_name}
 use Rattle.thorin_input.specs.NewUnits.{NewUnit}
 use Rattle.thorin_input.specs.Format.{is_copied}
-use Rattle.thorin_input.specs.Parts.{Parts, with_part, with_each_part, parts_of}
 use Rattle.thorin_input.specs.Used.{Used}
 use Rattle.thorin_join.specs.Sizes.{bytes_of_contents}
 use Rattle.thorin_join.specs.State.{InProgress, names_of, kind_at, with_new_unit, with_new_units}
-use Rattle.thorin_join.proofs.Parts.Appended.{Adds, step}
-use Rattle.thorin_join.proofs.Sizes.Offsets.{rewritten-within}
-use Rattle.dwp_base.proofs.Steps.{bind-was, same-ok}
 use Rattle.dwp_base.proofs.Bools.{by-bool}
 
 -- the bytes of one of the contents
@@ -39,18 +33,10 @@ appended-long k bytes [] = omega (arith, cons-long (k, bytes) [])
 appended-long k bytes (c ∷ cs) =
     let own = cons-long c cs in
     by-bool _ (same_kind c.0 k)
-    (λ same. rw same (omega (
-      arith,
-      own,
-      cons-long (c.0, c.1 ++ bytes) cs,
-      length-append c.1 bytes,
-    )))
-    (λ other. rw other (omega (
-      arith,
-      own,
-      cons-long c (appended k bytes cs),
-      appended-long k bytes cs,
-    )))
+    (λ same. rw same
+    (omega (arith, own, cons-long (c.0, c.1 ++ bytes) cs, length-append c.1 bytes)))
+    (λ other. rw other
+    (omega (arith, own, cons-long c (appended k bytes cs), appended-long k bytes cs)))
 
 pub with_bytes-long : (k : SectionKind) (bytes : List ℕ) (c : Contents)
     → bytes_of_contents (with_bytes k bytes c) ≡ bytes_of_contents c + length bytes
@@ -63,12 +49,9 @@ pub with_parts-long : (parts c : Contents) → bytes_of_contents (with_parts par
     bytes_of_contents c + bytes_of_contents parts
 unfolding with_parts
 with_parts-long [] c = omega arith
-with_parts-long (p ∷ ps) c = omega (
-  arith,
-  with_parts-long ps (with_bytes p.0 p.1 c),
-  with_bytes-long p.0 p.1 c,
-  cons-long p ps,
-)
+with_parts-long (p ∷ ps) c =
+    let later = with_parts-long ps (with_bytes p.0 p.1 c) in
+    omega (arith, later, with_bytes-long p.0 p.1 c, cons-long p ps)
 
 -- ---- units
 abbrev pub unit_long : DwarfObject × NewUnit → ℕ
@@ -81,64 +64,23 @@ unfolding with_new_unit
 unit-within made unit =
     by-bool _ (list_any (same_name unit.0) (names_of made))
     (λ there. rw there (omega arith))
-    (λ new. rw new (omega (
-      arith,
-      with_bytes-long (kind_at unit.1.place) unit.1.bytes made.file.contents,
-    )))
+    (λ new. rw new
+    (omega (arith, with_bytes-long (kind_at unit.1.place) unit.1.bytes made.file.contents)))
 
 pub units-within : (made : InProgress) (units : List (DwarfObject × NewUnit))
     → bytes_of_contents (with_new_units made units).file.contents ≤
     bytes_of_contents made.file.contents + sum_by unit_long units
 unfolding with_new_units
 units-within made [] = omega arith
-units-within made (unit ∷ units) = omega (
-  arith,
-  units-within (with_new_unit made unit) units,
-  unit-within made unit,
-  sum_by-cons unit_long unit units,
-)
+units-within made (unit ∷ units) =
+    let later = units-within (with_new_unit made unit) units in
+    omega (arith, later, unit-within made unit, sum_by-cons unit_long unit units)
 
 -- ---- the parts of an input: its string offsets, and the sections that are copied
 abbrev pub part_bytes : Used → ℕ
 part_bytes s = cond (same_kind s.kind StrOffsets) (length s.bytes)
     (cond (is_copied s.kind) (length s.bytes) 0)
 
-more-long : (a : Contents) (k : SectionKind) (bytes : List ℕ)
+pub more-long : (a : Contents) (k : SectionKind) (bytes : List ℕ)
     → bytes_of_contents (a ++ (k, bytes) ∷ []) ≡ bytes_of_contents a + length bytes
 more-long a k bytes = omega (arith, sum_by-append long a ((k, bytes) ∷ []), cons-long (k, bytes) [])
-
-part-within : (source : Source) (before : Parts) (s : Used) (next : Parts)
-    → Adds source before s next
-    → bytes_of_contents next.0 ≤ bytes_of_contents before.0 + part_bytes s
-part-within source before s next (inl (o, w)) =
-    let is = ap (λ (n : Parts). bytes_of_contents n.0) w.is in
-    let most = rewritten-within source s.bytes before.1 w.written w.rewrites in
-    let own : part_bytes s ≡ length s.bytes = rw o refl in
-    omega (arith, is, most, own, more-long before.0 StrOffsets w.written.0)
-part-within source before s next (inr (inl (o, c, is))) =
-    let whole = ap (λ (n : Parts). bytes_of_contents n.0) is in
-    let own : part_bytes s ≡ length s.bytes =
-    ap (λ b. cond b (length s.bytes) (cond (is_copied s.kind) (length s.bytes) 0)) o
-    ∙ ap (λ b. cond b (length s.bytes) 0) c in
-    omega (arith, whole, own, more-long before.0 s.kind s.bytes)
-part-within source before s next (inr (inr (o, c, is))) =
-    let same = ap (λ (n : Parts). bytes_of_contents n.0) is in
-    omega (arith, same)
-
-each-within : (source : Source) (sections : List Used) (before after : Parts)
-    → with_each_part source before sections ≡ Ok after
-    → bytes_of_contents after.0 ≤ bytes_of_contents before.0 + sum_by part_bytes sections
-unfolding with_each_part
-each-within source [] before after h =
-    let same = ap (λ (n : Parts). bytes_of_contents n.0) (same-ok before after h) in
-    omega (arith, same)
-each-within source (s ∷ ss) before after h =
-    let next = bind-was (with_part source before s) _ after h in
-    let one = part-within source before s next.0 (step source before s next.0 next.1).adds in
-    omega (arith, one, each-within source ss next.0 after next.2, sum_by-cons part_bytes s ss)
-
-pub parts-within : (source : Source) (strings : List (List ℕ)) (parts : Parts)
-    → parts_of source strings ≡ Ok parts
-    → bytes_of_contents parts.0 ≤ sum_by part_bytes source.object.sections
-parts-within source strings parts h =
-    omega (arith, each-within source source.object.sections ([], strings) parts h)

@@ -1,37 +1,33 @@
 -- Inputs add to the contents of a package at most the bytes of their used sections.
-use Rattle.std.proofs.Common.{◌≡◌, ◌∙◌, ℕ, suc, ◌+◌, ◌*◌, ◌≤◌, Bool, true, false, cond, List, []}
-use Rattle.std.proofs.Common.{◌∷◌, ◌++◌, length, refl, sym, ap, Ok, Option, Some, None, inl, inr}
-use Rattle.std.proofs.Common.{arith, is_some}
+use Rattle.std.proofs.Common.{◌≡◌, ℕ, suc, ◌+◌, ◌*◌, ◌≤◌, Bool, true, false, cond, List, [], ◌∷◌}
+use Rattle.std.proofs.Common.{◌++◌, length, refl, ap, Ok, Option, Some, None, inl, inr, arith}
+use Rattle.std.proofs.Common.{is_some}
 use Rattle.std.specs.Prelude.{All}
 use Rattle.std.specs.List.{sum_by}
 use Rattle.std.proofs.lemmas.List.Sums.{sum_by-cons}
 use Rattle.dwp_base.specs.declared.section.SectionKind.{SectionKind}
 use Rattle.dwp_base.specs.declared.section.SectionKind.TheVariants.{StrOffsets, Str}
-use Rattle.dwp_base.specs.Reading.{◌>>=◌}
 use Rattle.dwp_base.specs.Sections.{same_kind}
 use Rattle.dwp_elf_read.specs.Elf.{Elf}
 use Rattle.dwp_dwarf.specs.Units.{UnitsAreTaken}
 use Rattle.thorin_input.specs.Indexes.{Source}
-use Rattle.thorin_input.specs.NewUnits.{new_units, unit_section}
+use Rattle.thorin_input.specs.NewUnits.{unit_section}
 use Rattle.thorin_input.specs.Format.{is_copied}
-use Rattle.thorin_input.specs.Parts.{parts_of}
-use Rattle.thorin_input.specs.Used.{Used, opened, has_info, counts_once, input_file_of, first}
-use Rattle.thorin_join.specs.Builder.{package_or_new, with_input}
-use Rattle.thorin_join.specs.Sizes.{bytes_of_contents, bytes_begun, sections_in, or_none}
-use Rattle.thorin_join.specs.Sizes.{sections_of_input, used_size, carried, carried_size}
-use Rattle.thorin_join.specs.Sizes.{with_inputs, bytes_of_strings, offsets_used, offsets_size}
-use Rattle.thorin_join.specs.Sizes.{strings_size}
-use Rattle.thorin_join.specs.FirstUse.{strings_begun}
-use Rattle.thorin_join.specs.State.{InProgress, adding, abbreviations_test, with_source}
-use Rattle.thorin_join.proofs.Joined.Source.{with_all_parts, all-is}
+use Rattle.thorin_input.specs.Used.{Used, counts_once, first}
+use Rattle.thorin_join.specs.Builder.{package_or_new, begun_by, with_input}
+use Rattle.thorin_join.specs.Sizes.{bytes_of_contents, bytes_begun, sections_in, sections_of_input}
+use Rattle.thorin_join.specs.Sizes.{used_size, carried, carried_size, with_inputs, bytes_of_strings}
+use Rattle.thorin_join.specs.Sizes.{offsets_used, offsets_size, strings_size}
+use Rattle.thorin_join.specs.FirstUse.{strings_begun, named_in}
+use Rattle.dwp_base.proofs.Bools.{by-bool}
+use Rattle.thorin_join.specs.State.{InProgress, adding, with_source}
+use Rattle.thorin_join.proofs.Joined.Source.{with_all_parts, source-made}
 use Rattle.thorin_join.proofs.Sizes.Contents.{with_parts-long, units-within, part_bytes}
-use Rattle.thorin_join.proofs.Sizes.Contents.{parts-within}
 use Rattle.thorin_join.proofs.Sizes.Units.{placed_bytes, unit_bytes, new-within}
-use Rattle.thorin_join.proofs.Sizes.Strings.{parts-most}
-use Rattle.thorin_join.proofs.Parts.FirstUses.{units-strings}
-use Rattle.dwp_base.proofs.Steps.{bind-was, bind-ok, same-ok}
+use Rattle.thorin_join.proofs.Parts.FirstUses.{source-named, each-brings, used-most}
+use Rattle.dwp_base.proofs.Steps.{bind-was, same-ok}
 use Rattle.dwp_base.proofs.EveryKind.{same-each}
-use Rattle.thorin_join.proofs.Joined.Taken.{TakesUnits, takes}
+use Rattle.thorin_join.proofs.Joined.Taken.{takes}
 
 -- ---- a section goes to one place at most
 one-place : (s : Used) (kind : SectionKind)
@@ -56,120 +52,80 @@ places-within : (sections : List Used) → sum_by part_bytes sections + sum_by u
 places-within [] = omega arith
 places-within (s ∷ ss) =
     let one : part_bytes s + unit_bytes s ≤ carried s = one-place s s.kind in
-    omega (
-      arith,
-      one,
-      places-within ss,
-      sum_by-cons part_bytes s ss,
-      sum_by-cons unit_bytes s ss,
-      sum_by-cons carried s ss,
-    )
+    let parts = sum_by-cons part_bytes s ss in
+    let units = sum_by-cons unit_bytes s ss in
+    omega (arith, one, places-within ss, parts, units, sum_by-cons carried s ss)
 
 -- ---- an input with units
 source-within : UnitsAreTaken → (source : Source) (before now : InProgress)
     → with_source source before ≡ Ok now
     → bytes_of_contents now.file.contents ≤ bytes_of_contents before.file.contents + sum_by carried
     source.object.sections
-unfolding with_source
 source-within taken source before now h =
-    let s1 = bind-was (parts_of source before.strings) _ now h in
-    let s2 = bind-was (abbreviations_test source.object) _ now s1.2 in
-    let s3 = bind-was (new_units (adding source before s1.0.0)) _ now s2.2 in
-    let parts = s1.0.0 in
-    let new = s3.0 in
-    let q = with_all_parts before parts s1.0.1 (before.differing ++ new.differing) in
-    let is = ap (λ (m : InProgress). bytes_of_contents m.file.contents)
-    (sym (all-is before parts s1.0.1 new) ∙ same-ok _ now s3.2) in
+    let m = source-made source before now h in
+    let is = ap (λ (n : InProgress). bytes_of_contents n.file.contents) m.is in
+    let brought = each-brings source source.object.sections ([], before.strings)
+    (m.parts, m.after) m.parts_are in
+    let q = with_all_parts before m.parts m.after (before.differing ++ m.new.differing) in
     omega (
       arith,
       is,
-      units-within q new.units,
-      with_parts-long parts before.file.contents,
-      parts-within source before.strings s1.0 s1.1,
-      new-within taken (adding source before parts) new
-          s3.1,
+      units-within q m.new.units,
+      with_parts-long m.parts before.file.contents,
+      brought.long,
+      new-within taken (adding source before m.parts) m.new m.new_are,
       places-within source.object.sections,
     )
 
 -- the strings are those that its string offsets name
+abbrev strings_most : List Used → ℕ
+strings_most sections = sum_by offsets_used sections * length (first Str sections)
+
 source-strings : (source : Source) (before now : InProgress) → with_source source before ≡ Ok now
     → 4 * bytes_of_strings now.strings ≤ 4 * bytes_of_strings before.strings
-    + sum_by offsets_used source.object.sections * length (first Str source.object.sections)
-unfolding with_source
+    + strings_most source.object.sections
 source-strings source before now h =
-    let s1 = bind-was (parts_of source before.strings) _ now h in
-    let s2 = bind-was (abbreviations_test source.object) _ now s1.2 in
-    let s3 = bind-was (new_units (adding source before s1.0.0)) _ now s2.2 in
-    let new = s3.0 in
-    let q = with_all_parts before s1.0.0 s1.0.1 (before.differing ++ new.differing) in
-    let is : bytes_of_strings s1.0.1 ≡ bytes_of_strings now.strings = ap bytes_of_strings
-    (sym (units-strings q new.units) ∙ ap (λ (m : InProgress). m.strings)
-    (sym (all-is before s1.0.0 s1.0.1 new) ∙ same-ok _ now s3.2)) in
-    omega (arith, is, parts-most source before.strings s1.0 s1.1)
+    let m = source-made source before now h in
+    let named = named_in source source.object.sections in
+    let is = ap bytes_of_strings (source-named source before now m) in
+    let brought = each-brings source source.object.sections ([], before.strings)
+    (m.parts, m.after) m.parts_are in
+    omega (arith, is, brought.most, used-most before.strings named)
 
 -- ---- an input begins a package at most, or its units are added
-sections-are : (bytes : List ℕ) (file : Elf) (begun now : Option InProgress)
-    → opened bytes ≡ Ok file → has_info file ≡ true → (u : TakesUnits file begun now)
-    → sections_of_input bytes ≡ u.object.sections
+input-most : (measure : Option InProgress → ℕ) (most : List Used → ℕ)
+    → ((file : Elf) → measure (Some (begun_by file)) ≡ measure None)
+    → ((source : Source) (before now : InProgress) → with_source source before ≡ Ok now
+    → measure (Some now) ≤ measure (Some before) + most source.object.sections)
+    → (bytes : List ℕ) (begun now : Option InProgress) → with_input bytes begun ≡ Ok now
+    → measure now ≤ measure begun + most (sections_of_input bytes)
 unfolding sections_of_input sections_in
-sections-are bytes file begun now opens info u =
-    ap or_none (bind-ok (opened bytes) file _ opens ∙ ap (λ b.
-    cond b (input_file_of file >>= λ object. Ok object.sections) (Ok [])) info ∙ bind-ok
-    (input_file_of file) u.object _ u.object_is)
-
-begun-bytes : (file : Elf) (begun : Option InProgress)
-    → bytes_of_contents (package_or_new file begun).file.contents ≡ bytes_begun begun
-begun-bytes file None = refl
-begun-bytes file (Some made) = refl
-
-begun-strings : (file : Elf) (begun : Option InProgress)
-    → bytes_of_strings (package_or_new file begun).strings ≡ bytes_of_strings (strings_begun begun)
-begun-strings file None = refl
-begun-strings file (Some made) = refl
+input-most measure most none one bytes begun now h =
+    let t = takes bytes begun now h in
+    let start = begins begun t.file in
+    elim t.does [
+      | inl u ↦
+          let is = ap measure u.1.is in
+          let own = one u.1.source _ u.1.made u.1.with in
+          rw (t.opens, u.0, u.1.object_is) (omega (arith, is, own, start))
+      | inr n ↦ let is = ap measure n.1 in omega (arith, is, start)
+    ]
+  where
+    begins : (begun : Option InProgress) (file : Elf)
+        → measure (Some (package_or_new file begun)) ≡ measure begun
+    begins None file = none file
+    begins (Some made) file = refl
 
 pub input-within : UnitsAreTaken → (bytes : List ℕ) (begun now : Option InProgress)
     → with_input bytes begun ≡ Ok now → bytes_begun now ≤ bytes_begun begun + carried_size bytes
-input-within taken bytes begun now h =
-    let t = takes bytes begun now h in
-    elim t.does [
-      | inl u ↦
-          let is = ap bytes_begun u.1.is in
-          let own : carried_size bytes ≡ sum_by carried u.1.object.sections =
-          ap (sum_by carried) (sections-are bytes t.file begun now t.opens u.0 u.1) in
-          omega (
-            arith,
-            is,
-            own,
-            begun-bytes t.file begun,
-            source-within taken _ (package_or_new t.file begun) u.1.made u.1.with,
-          )
-      | inr n ↦ let is = ap bytes_begun n.1 in omega (arith, is, begun-bytes t.file begun)
-    ]
+input-within taken = input-most bytes_begun (sum_by carried) (λ file. refl) (source-within taken)
 
 -- the same of its strings
 pub input-strings : (bytes : List ℕ) (begun now : Option InProgress) → with_input bytes begun ≡
     Ok now → 4 * bytes_of_strings (strings_begun now) ≤ 4 * bytes_of_strings (strings_begun begun)
     + offsets_size bytes * strings_size bytes
-input-strings bytes begun now h =
-    let t = takes bytes begun now h in
-    elim t.does [
-      | inl u ↦
-          let is = ap (λ m. bytes_of_strings (strings_begun m)) u.1.is in
-          let own : offsets_size bytes * strings_size bytes ≡ sum_by offsets_used
-          u.1.object.sections * length (first Str u.1.object.sections) =
-          ap (λ sections. sum_by offsets_used sections * length (first Str sections))
-          (sections-are bytes t.file begun now t.opens u.0 u.1) in
-          omega (
-            arith,
-            is,
-            own,
-            begun-strings t.file begun,
-            source-strings _ (package_or_new t.file begun) u.1.made u.1.with,
-          )
-      | inr n ↦
-          let is = ap (λ m. bytes_of_strings (strings_begun m)) n.1 in
-          omega (arith, is, begun-strings t.file begun)
-    ]
+input-strings = input-most (λ begun. 4 * bytes_of_strings (strings_begun begun)) strings_most
+    (λ file. refl) source-strings
 
 -- ---- inputs one after another
 inputs-most : (measure : Option InProgress → ℕ) (most : List ℕ → ℕ)
@@ -183,12 +139,8 @@ inputs-most measure most one [] begun now h =
     omega (arith, is)
 inputs-most measure most one (bytes ∷ inputs) begun now h =
     let s = bind-was (with_input bytes begun) _ now h in
-    omega (
-      arith,
-      one bytes begun s.0 s.1,
-      inputs-most measure most one inputs s.0 now s.2,
-      sum_by-cons most bytes inputs,
-    )
+    let later = inputs-most measure most one inputs s.0 now s.2 in
+    omega (arith, one bytes begun s.0 s.1, later, sum_by-cons most bytes inputs)
 
 pub inputs-within : UnitsAreTaken → (inputs : List (List ℕ)) (begun now : Option InProgress)
     → with_inputs inputs begun ≡ Ok now
@@ -203,21 +155,14 @@ inputs-strings = inputs-most (λ begun. 4 * bytes_of_strings (strings_begun begu
     (λ bytes. offsets_size bytes * strings_size bytes) input-strings
 
 -- ---- where used sections don't overlap
-carried-by : (once : Bool) (n : ℕ) → cond once 0 n ≤ n
-carried-by true n = omega arith
-carried-by false n = omega arith
-
 carried-sections : (sections : List Used) → sum_by carried sections ≤ sum_by (λ used.
     length used.bytes) sections
 carried-sections [] = omega arith
 carried-sections (s ∷ ss) =
-    omega (
-      arith,
-      carried-by (counts_once s.kind) (length s.bytes),
-      carried-sections ss,
-      sum_by-cons carried s ss,
-      sum_by-cons (λ (used : Used). length used.bytes) s ss,
-    )
+    let all = sum_by-cons (λ (used : Used). length used.bytes) s ss in
+    let own : carried s ≤ length s.bytes =
+    by-bool _ (counts_once s.kind) (λ once. rw once (omega arith)) (λ other. rw other (omega arith)) in
+    omega (arith, own, carried-sections ss, sum_by-cons carried s ss, all)
 
 pub carried-used : (bytes : List ℕ) → carried_size bytes ≤ used_size bytes
 carried-used bytes = carried-sections (sections_of_input bytes)
@@ -227,15 +172,10 @@ lengths-within : (inputs : List (List ℕ)) → All (λ bytes. used_size bytes �
 lengths-within [] h = omega arith
 lengths-within (bytes ∷ inputs) h =
     let one : used_size bytes ≤ length bytes = h 0 [] (omega arith) in
-    omega (
-      arith,
-      one,
-      carried-used bytes,
-      lengths-within inputs (λ k d within. h (suc k) d
-          (omega arith)),
-      sum_by-cons carried_size bytes inputs,
-      sum_by-cons (length {A = ℕ}) bytes inputs,
-    )
+    let later = lengths-within inputs (λ k d within. h (suc k) d (omega arith)) in
+    let most = sum_by-cons carried_size bytes inputs in
+    let all = sum_by-cons (length {A = ℕ}) bytes inputs in
+    omega (arith, one, carried-used bytes, later, most, all)
 
 pub files-within : UnitsAreTaken → (inputs : List (List ℕ)) (begun now : Option InProgress)
     → All (λ bytes. used_size bytes ≤ length bytes) inputs → with_inputs inputs begun ≡ Ok now
