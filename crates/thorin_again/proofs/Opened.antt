@@ -1,5 +1,5 @@
 -- A written package as an input: its sections, encoding and indexes.
-pub mod SectionsWritten
+pub mod Unless
 pub mod Sections
 pub mod ContentsByName
 pub mod Parts
