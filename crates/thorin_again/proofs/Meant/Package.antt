@@ -46,8 +46,7 @@ use Rattle.thorin_join.proofs.Files.Finished.{Tested, tested-state, finished-ord
 use Rattle.thorin_join.proofs.Files.Finished.{finished-own, finished-strings}
 use Rattle.thorin_join.proofs.Units.HeadersRead.{Reads}
 use Rattle.thorin_join.proofs.Units.NamesApart.{distinct_chosen}
-use Rattle.thorin_again.proofs.Opened.ContentsByName.{no-info}
-use Rattle.thorin_again.proofs.Opened.Sections.{object-written, first-written, opened-elf}
+use Rattle.thorin_again.proofs.Opened.Sections.{no-info, object-written, first-written, opened-elf}
 use Rattle.thorin_again.specs.OwnInput.{written_object, own_source}
 use Rattle.dwp_base.proofs.Steps.{bind-was, same-ok}
 use Rattle.dwp_base.proofs.Bools.{by-bool}

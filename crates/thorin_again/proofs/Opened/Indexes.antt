@@ -1,6 +1,6 @@
 -- The indexes of a written package are taken, where its rows have the version of the input.
 use Rattle.std.proofs.Common.{◌||◌, ◌≡◌, ◌∙◌, ℕ, suc, ◌<◌, ◌^◌, Bool, true, false, leb, List, []}
-use Rattle.std.proofs.Common.{◌∷◌, length, refl, sym, ap, Ok, Option, Some, None, arith, subst}
+use Rattle.std.proofs.Common.{◌∷◌, length, refl, sym, ap, Ok, Option, Some, None, arith}
 use Rattle.std.specs.Prelude.{slice_index, is_some}
 use Rattle.std.proofs.lemmas.Bool.{cond_both}
 use Rattle.std.proofs.lemmas.List.{length-map}
@@ -36,8 +36,8 @@ use Rattle.thorin_join.specs.State.{InProgress}
 use Rattle.thorin_input.specs.Used.{first}
 use Rattle.thorin_join.proofs.Files.Indexes.{IndexIsRead, IndexHasEntries, HasRows, chosen-fit}
 use Rattle.thorin_join.proofs.Files.Indexes.{no-bytes}
-use Rattle.thorin_again.proofs.Opened.ContentsByName.{info-written}
-use Rattle.thorin_again.proofs.Opened.Sections.{first-written, object-written, opened-elf}
+use Rattle.thorin_again.proofs.Opened.Sections.{info-written, first-written, object-written}
+use Rattle.thorin_again.proofs.Opened.Sections.{opened-elf}
 use Rattle.thorin_join.proofs.Steps.{err-ok}
 use Rattle.thorin_join.proofs.Files.Finished.{Tested, tested-state, finished-order}
 use Rattle.thorin_join.proofs.Files.Finished.{finished-compilations, finished-types}

@@ -1,18 +1,20 @@
--- A written file is opened as an input, and its sections are taken.
+-- A written file is opened as an input, its sections are taken, and what is not empty is there
+-- under its name.
 use Rattle.std.proofs.Common.{◌||◌, ◌≡◌, ◌∙◌, ℕ, ◌+◌, ◌≤◌, Bool, true, false, cond, eqb, List, []}
-use Rattle.std.proofs.Common.{◌∷◌, ◌++◌, length, Result, Ok, Some, None, refl, sym, ap, arith}
+use Rattle.std.proofs.Common.{◌∷◌, ◌++◌, length, Result, Ok, Some, None, refl, sym, ap, arith, ◌<◌}
+use Rattle.std.proofs.Common.{true≢false}
 use Rattle.std.specs.Prelude.{find, is_some, codes}
-use Rattle.std.proofs.lemmas.Bool.{eqb-true}
+use Rattle.std.proofs.lemmas.Bool.{eqb-true, or_left, or_right}
 use Rattle.std.proofs.lemmas.List.{append_assoc, append-nil}
 use Rattle.dwp_base.specs.declared.class.Class.{Class}
 use Rattle.dwp_base.specs.declared.section.SectionKind.{SectionKind}
 use Rattle.dwp_base.specs.Reading.{◌>>=◌}
 use Rattle.dwp_base.specs.Sections.{name_of, same_kind}
-use Rattle.dwp_base.proofs.EveryKind.{not-older, same-self, kind-named}
+use Rattle.dwp_base.proofs.EveryKind.{not-older, same-self, kind-named, is-same, every}
 use Rattle.dwp_elf.specs.Contents.{count_of, KindsDiffer, content_of}
 use Rattle.dwp_elf.specs.FileText.{Object as File, name_table}
 use Rattle.dwp_elf.specs.Written.{plain_section, written_sections, written_elf}
-use Rattle.dwp_elf_read.specs.Elf.{Elf, elf_of}
+use Rattle.dwp_elf_read.specs.Elf.{Elf, elf_of, SectionMeaning, is_named}
 use Rattle.dwp_elf_read.specs.Identification.{kind_of, class_of, identity_of}
 use Rattle.dwp_elf_read.specs.declared.error.ReadError.{ReadError}
 use Rattle.dwp_elf_read.specs.declared.error.ReadError.TheVariants.{NotElf}
@@ -25,7 +27,7 @@ use Rattle.thorin_errors.specs.Answers.{as_error}
 use Rattle.thorin_input.specs.Growing.{Contents}
 use Rattle.thorin_again.specs.OwnInput.{written_used, written_object}
 use Rattle.thorin_input.specs.Used.{Used, elf_in, opened, used_kind, used_bytes, has_kind}
-use Rattle.thorin_input.specs.Used.{used_from, input_file_of, first}
+use Rattle.thorin_input.specs.Used.{used_from, input_file_of, first, has_info, is_of, is_present}
 use Rattle.thorin_join.proofs.Steps.{err-ok}
 use Rattle.thorin_join.proofs.Files.Contents.{fewer-one, nothing}
 use Rattle.dwp_base.proofs.Steps.{bind-was}
@@ -33,6 +35,8 @@ use Rattle.std.proofs.Math.Bool.{and-false}
 use Rattle.dwp_base.proofs.Bools.{by-bool}
 use Rattle.std.specs.List.{list_any}
 use Rattle.std.proofs.lemmas.List.Folds.{list_any-append}
+use Rattle.dwp_base.specs.declared.section.SectionKind.TheVariants.{Info}
+use Rattle.std.specs.Str.{bytes_eq}
 
 -- ---- the file is opened
 
@@ -184,3 +188,42 @@ first-written kind (c ∷ cs) differ =
     (λ some. by-bool _ (same_kind c.0 kind)
     (λ same. rw (some, same) refl)
     (λ other. rw (some, other) later))
+
+-- ---- what is there by name
+
+-- a test that each section of the kind's name meets
+module _ (kind : SectionKind) (test : SectionMeaning → Bool)
+    (meets : (n : ℕ) (bytes : List ℕ) → test (plain_section n 1 (name_of kind) bytes) ≡ true) where
+  is-among : (n : ℕ) (names : List ℕ) (cs : Contents) → 0 < length (content_of kind cs)
+      → list_any test (written_sections n names cs) ≡ true
+  is-among n names [] h = absurd (omega (arith, h))
+  is-among n names (c ∷ cs) h =
+      by-bool _ (same_kind c.0 kind)
+      (λ same. or_left (test (plain_section n 1 (name_of c.0) c.1)) _ (rw (is-same c.0 kind same) (meets n c.1)))
+      (λ other. or_right (test (plain_section n 1 (name_of c.0) c.1)) _ (is-among (n + 1) names cs (rw other at h)))
+
+  in-file : (file : File) → 0 < length (content_of kind file.contents)
+      → list_any test (written_elf file).sections ≡ true
+  in-file file h = or_right (test (plain_section 0 0 [] [])) _
+      (is-among 1 (name_table file.contents) file.contents h)
+
+-- it is present
+pub present-written : (kind : SectionKind) (file : File)
+    → 0 < length (content_of kind file.contents) → is_present kind (written_elf file) ≡ true
+present-written kind file h =
+    found-any (is_named (name_of kind)) (written_elf file).sections
+    ∙ in-file kind (is_named (name_of kind)) (λ n bytes. every (λ k. bytes_eq (name_of k)
+    (name_of k)) refl kind) file h
+
+-- and units are
+pub info-written : (file : File) → 0 < length (content_of Info file.contents)
+    → has_info (written_elf file) ≡ true
+info-written file h = in-file Info (is_of Info) (λ n bytes. refl) file h
+
+-- where none are, there is no content of info
+pub no-info : (o : File) → has_info (written_elf o) ≡ false → content_of Info o.contents ≡ []
+no-info o h = empty (content_of Info o.contents) (info-written o)
+  where
+    empty : (l : List ℕ) → (0 < length l → has_info (written_elf o) ≡ true) → l ≡ []
+    empty [] there = refl
+    empty (b ∷ bs) there = absurd (true≢false (sym (there (omega arith)) ∙ h))
