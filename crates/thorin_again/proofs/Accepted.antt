@@ -1,4 +1,3 @@
 -- A written package is accepted.
 pub mod Alone
-pub mod ByNewPackage
-pub mod ByAnyPackage
+pub mod Written

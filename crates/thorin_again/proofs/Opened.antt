@@ -1,7 +1,6 @@
 -- A written package as an input: its sections, encoding and indexes.
-pub mod SectionsWritten
+pub mod Unless
 pub mod Sections
-pub mod ContentsByName
 pub mod Parts
 pub mod Indexes
 pub mod Format

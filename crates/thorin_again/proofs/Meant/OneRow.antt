@@ -1,9 +1,8 @@
 -- What a unit of a written package means as an input: just what was joined.
 use Rattle.std.proofs.Common.{◌≡◌, ◌∙◌, inl, inr, ℕ, zero, suc, ◌+◌, ◌<◌, ◌≢◌, Bool, true, false}
-use Rattle.std.proofs.Common.{cond, List, ◌∷◌, ◌++◌, length, ap, ap₂, sym, refl, subst, Result, Ok}
-use Rattle.std.proofs.Common.{Err, Some, None, is_none, arith, length-append, ◌&&◌}
+use Rattle.std.proofs.Common.{cond, List, ◌∷◌, ◌++◌, length, ap, ap₂, sym, refl, Ok, Some, None}
+use Rattle.std.proofs.Common.{is_none, arith, length-append}
 use Rattle.std.specs.Prelude.{slice_get, slice_index}
-use Rattle.std.specs.Option.{option_and_then, ok_or}
 use Rattle.std.proofs.lemmas.Bool.{eq-eqb}
 use Rattle.std.proofs.lemmas.List.Elements.{filter-append}
 use Rattle.std.proofs.lemmas.Option.{none-some, same_Some}
@@ -11,8 +10,6 @@ use Rattle.std.proofs.Math.Seq.{take-length}
 use Rattle.dwp_base.specs.declared.section.Contribution.{Contribution}
 use Rattle.dwp_base.specs.declared.section.SectionKind.{SectionKind}
 use Rattle.dwp_base.specs.declared.section.SectionKind.TheVariants as kinds
-use Rattle.dwp_base.specs.Reading.{◌>>=◌}
-use Rattle.dwp_base.specs.Sections.{name_of}
 use Rattle.dwp_bytes.specs.Input.{section}
 use Rattle.dwp_dwarf.specs.Units.{Unit as Header}
 use Rattle.dwp_dwarf.specs.declared.unit.UnitSection.{UnitSection}
@@ -20,14 +17,11 @@ use Rattle.dwp_elf.specs.Contents.{content_of}
 use Rattle.dwp_index.specs.Index.{Index, Ranges, row_in, range_in}
 use Rattle.dwp_index.specs.Package.{part_of, is_outside, place_of}
 use Rattle.dwp_table.specs.Objects.{identifier_of}
-use Rattle.dwp_table.specs.Probing.{found_row}
+use Rattle.dwp_table.specs.Probing.{found_row, look_count}
 use Rattle.dwp_table.specs.declared.object.DwarfObject.{DwarfObject}
-use Rattle.thorin_errors.specs.Errors.{ErrorValue, UnitNotInIndex, RowNotInIndex, BadContribution}
-use Rattle.thorin_errors.specs.Errors.{NotSplitUnit}
-use Rattle.thorin_errors.specs.Answers.{as_error}
 use Rattle.thorin_identity.specs.Identity.{identity}
 use Rattle.thorin_packaged.specs.RowPlaces.{row_by_place, IsFirstWith}
-use Rattle.thorin_input.specs.Adjusting.{row_found, row_of}
+use Rattle.thorin_input.specs.Adjusting.{row_of}
 use Rattle.thorin_index.specs.Entries.{contribution_to}
 use Rattle.thorin_index.specs.IndexText.{entry_ids}
 use Rattle.thorin_index.specs.ReadRows.{HasEntries, HasParts}
@@ -35,15 +29,15 @@ use Rattle.thorin_index.specs.declared.entry.IndexEntry.{IndexEntry}
 use Rattle.thorin_strings.specs.Strings.{data_of}
 use Rattle.thorin_join.specs.Builder.{is_chosen, rows_of}
 use Rattle.thorin_input.specs.Growing.{Contents}
-use Rattle.thorin_input.specs.Indexes.{Source, is_package, index_for, looked_up}
+use Rattle.thorin_input.specs.Indexes.{Source, index_for, looked_up}
 use Rattle.thorin_join.specs.Laid.{type_signature, name_signature, is_at}
-use Rattle.thorin_join.specs.Meaning.{Meaning, pieces_by, part_by, lie_inside, shared_kinds}
-use Rattle.thorin_join.specs.Meaning.{meaning_with, meaning_by, read_of, placed_row, unit_meaning}
+use Rattle.thorin_join.specs.Meaning.{Meaning, lie_inside, shared_kinds, meaning_with, meaning_by}
+use Rattle.thorin_join.specs.Meaning.{placed_row, unit_meaning}
 use Rattle.thorin_input.specs.Names.{is_compilation}
 use Rattle.thorin_input.specs.NewUnits.{name_for}
 use Rattle.thorin_join.specs.Represents.{IsRowOf}
-use Rattle.thorin_input.specs.Rows.{own_range, number_by_place, is_same_row, row_test, is_compile}
-use Rattle.thorin_input.specs.Rows.{row_abbreviations, numbered_abbreviations, abbreviations_for}
+use Rattle.thorin_input.specs.Rows.{own_range, row_test, is_compile, row_abbreviations}
+use Rattle.thorin_input.specs.Rows.{numbered_abbreviations, abbreviations_for}
 use Rattle.thorin_join.specs.State.{kind_at}
 use Rattle.thorin_join.specs.Strings.{strings_of}
 use Rattle.thorin_input.specs.Used.{first}
@@ -53,15 +47,18 @@ use Rattle.thorin_join.proofs.Files.UnitsFound.{part-there}
 use Rattle.thorin_again.proofs.Meant.RowPlaces.{FirstLaw, FindLaw, IsAgain, Below, below-chosen}
 use Rattle.thorin_again.proofs.Meant.RowPlaces.{below-at, get-seam, get-left, get-there, among}
 use Rattle.thorin_again.proofs.Meant.RowPlaces.{non_empty-some, first-row, chosen-self, place-eq}
-use Rattle.thorin_again.proofs.Meant.RowPlaces.{sort-rows, some-index, same-number, test-inv}
-use Rattle.thorin_again.proofs.Meant.RowPlaces.{test-ok, compile-sort, identity-any, find-none}
-use Rattle.thorin_again.proofs.Meant.RowPlaces.{inside-by, signature-name, index-alike}
+use Rattle.thorin_again.proofs.Meant.RowPlaces.{sort-rows, some-index, same-number, compile-sort}
+use Rattle.thorin_again.proofs.Meant.RowPlaces.{identity-any, find-none, inside-by, signature-name}
+use Rattle.thorin_again.proofs.Meant.RowPlaces.{index-alike}
 use Rattle.thorin_join.proofs.Files.RowsFound.{id-at}
 use Rattle.thorin_join.proofs.Parts.StringLists.{strings-are}
 use Rattle.thorin_join.proofs.Moved.Readings.{plain}
 use Rattle.thorin_join.proofs.Units.InRows.{pieces-same}
 use Rattle.thorin_again.proofs.Meant.UnitsBySection.{IsTested}
 use Rattle.dwp_base.proofs.Steps.{same-ok}
+use Rattle.dwp_table.specs.Table.{FindsExactly}
+use Rattle.dwp_base.proofs.Bools.{by-bool}
+use Rattle.thorin_join.proofs.Steps.{kept}
 
 module _ (first_law : FirstLaw) (find_law : FindLaw) (source : Source) (contents : Contents)
     (strings : List (List ℕ)) (rows : List IndexEntry) (again : IsAgain source
@@ -89,13 +86,10 @@ module _ (first_law : FirstLaw) (find_law : FindLaw) (source : Source) (contents
   number = length (rows_of sort before)
 
   rows-are : rows_of sort rows ≡ rows_of sort before ++ row ∷ rows_of sort later
-  rows-are = ap (rows_of sort) split ∙ filter-append (is_chosen sort) before (row ∷ later) ∙ ap
-      (λ b. rows_of sort before ++ cond b (row ∷ rows_of sort later) (rows_of sort later))
-      (chosen-self row)
+  rows-are = rw (split, filter-append (is_chosen sort) before (row ∷ later), chosen-self row) refl
 
   pub at : slice_get (rows_of sort rows) number ≡ Some row
-  at = ap (λ l. slice_get l number) rows-are ∙ get-seam (rows_of sort before)
-      (rows_of sort later) row
+  at = rw rows-are (get-seam (rows_of sort before) (rows_of sort later) row)
 
   pub there : (i : Index) × (index_for source.indexes row.id ≡ Some i)
       × ((version : ℕ) × HasEntries version (rows_of sort rows) i)
@@ -111,59 +105,64 @@ module _ (first_law : FirstLaw) (find_law : FindLaw) (source : Source) (contents
   pub parts : HasParts index (number + 1) row
   parts = has.each number row at
 
-  range-of : (k : SectionKind) → range_in parts.row k ≡ contribution_to k row
-  range-of k = parts.parts k ∙ part-there (contribution_to k row) (is.lie.some k)
+  -- the row's part of a section
+  pub found-range : (k : SectionKind) → range_in parts.row k ≡ contribution_to k row
+  found-range k = parts.parts k ∙ part-there (contribution_to k row) (is.lie.some k)
+
+  -- ---- its row by place
 
   none-before : (lower : ℕ) (other : Ranges) → lower < number + 1 → row_in index lower ≡ Ok other
       → range_in other kind ≢ Some range
   none-before zero other less h e = first-row index other h
   none-before (suc l) other less h e =
-      let within : l < length (rows_of sort before) = omega arith in
-      let r = get-there (rows_of sort before) l within in
-      let get : slice_get (rows_of sort rows) l ≡ Some r.0 = ap (λ x. slice_get x l) rows-are ∙
-      get-left (rows_of sort before) (row ∷ rows_of sort later) l within ∙ r.1 in
+      let r = get-there (rows_of sort before) l (omega arith) in
+      let get : slice_get (rows_of sort rows) l ≡ Some r.0 = rw rows-are
+      (get-left (rows_of sort before) _ l r.0 r.1) in
       let ps = has.each l r.0 get in
       let next : suc l ≡ l + 1 = omega arith in
       let same : other ≡ ps.row = same-ok _ _ (sym h ∙ ap (row_in index) next ∙ ps.there) in
-      let has_range : contribution_to kind r.0 ≡ Some range =
-      non_empty-some (contribution_to kind r.0) range (sym (ps.parts kind) ∙ ap (λ x.
-      range_in x kind) (sym same) ∙ e) in
-      let less_offset : offset < offset = below-at kind offset (rows_of sort before) l r.0
-      (below-chosen kind offset sort before below) r.1 range has_range in
-      omega arith
+      let has_range = non_empty-some (contribution_to kind r.0) range
+      (sym (ps.parts kind) ∙ ap (λ x. range_in x kind) (sym same) ∙ e) in
+      omega (
+        arith,
+        below-at kind offset (rows_of sort before) l r.0
+            (below-chosen kind offset sort before below) r.1 range has_range,
+      )
 
   is-first : IsFirstWith index kind range (number + 1)
   is-first = record {
     row = parts.row;
     there = parts.there;
-    has = range-of kind ∙ range_is;
+    has = found-range kind ∙ range_is;
     low = omega arith;
-    high = let within : number < length (rows_of sort rows) =
-        (let e = ap length rows-are ∙ length-append (rows_of sort before)
-        (row ∷ rows_of sort later) in omega arith) in let count = has.count in omega arith;
+    high = omega (
+      arith,
+      has.count,
+      ap length rows-are,
+      length-append (rows_of sort before) (row ∷ rows_of sort later),
+    );
     first = none-before;
   }
 
+  row-first : row_by_place (Some index) kind range ≡ Some (number + 1)
+  row-first = first_law index kind range (number + 1) is-first
+
   by-place : row_by_place (index_for source.indexes row.id) kind range ≡ Some (number + 1)
-  by-place = ap (λ i. row_by_place i kind range) there.1 ∙ first_law index kind range
-      (number + 1) is-first
+  by-place = rw there.1 row-first
 
   placed : placed_row (index_for source.indexes row.id) kind range ≡ Some parts.row
-  placed =
-      ap (λ i. placed_row i kind range) there.1
-      ∙ ap (option_and_then (λ n. read_of (row_in index n))) (first_law index kind range
-      (number + 1) is-first)
-      ∙ ap read_of parts.there
+  placed = rw (there.1, row-first, parts.there) refl
+
+  -- ---- what belongs to it
 
   bytes-are : (k : SectionKind) → part_of (first k source.object.sections) (range_in parts.row k) ≡
       part_of (content_of k contents) (contribution_to k row)
-  bytes-are k = ap₂ part_of (again.held k) (range-of k)
+  bytes-are k = ap₂ part_of (again.held k) (found-range k)
 
-  inside : lie_inside source (Some parts.row) ≡ true
-  inside = ap is_none (find-none (λ k. is_outside (first k source.object.sections)
-      (range_in parts.row k)) (λ k.
-      ap₂ is_outside (again.held k) (range-of k) ∙ inside-by (content_of k contents)
-      (contribution_to k row) (is.lie.inside k)) shared_kinds)
+  outside : (k : SectionKind) → is_outside (first k source.object.sections) (range_in parts.row k) ≡
+      false
+  outside k = ap₂ is_outside (again.held k) (found-range k) ∙ inside-by (content_of k contents)
+      (contribution_to k row) (is.lie.inside k)
 
   own-is : own ≡ unit.bytes
   own-is =
@@ -173,55 +172,59 @@ module _ (first_law : FirstLaw) (find_law : FindLaw) (source : Source) (contents
       part_of (content_of (kind_at p) contents) (contribution_to (kind_at p) row))
       same ∙ is.owns.bytes
 
-  pieces-are : pieces_by (part_by source (Some parts.row)) ≡ unit.pieces
-  pieces-are = pieces-same _ unit.pieces (λ kind copied.
-      bytes-are kind ∙ is.shares.content kind copied)
+  means : source.encoding ≡ unit.encoding → meaning_by source own (Some parts.row) ≡ Some unit
+  unfolding meaning_by
+  means same_encoding =
+      let inside : lie_inside source (Some parts.row) ≡ true = ap is_none (find-none _ outside
+      shared_kinds) in
+      let strings_are =
+      (λ i. strings_of source.object.order (same_encoding i)
+      ((again.held kinds.Str ∙ again.strings_are) i) (bytes-are kinds.StrOffsets i))
+      ∙ strings-are source.object.order unit.encoding (data_of strings)
+      (part_of (content_of kinds.StrOffsets contents) (contribution_to kinds.StrOffsets row))
+      unit.strings (is.shares.string strings again.table (take-length strings)) in
+      ap (λ b. cond b (meaning_with source own (Some parts.row) (strings_of source.object.order
+      source.encoding (first kinds.Str source.object.sections)
+      (part_of (first kinds.StrOffsets source.object.sections)
+      (range_in parts.row kinds.StrOffsets)))) None) inside
+      ∙ ap (meaning_with source own (Some parts.row)) strings_are
+      ∙ (λ i. Some (record {
+        bytes = own-is i;
+        pieces = pieces-same _ unit.pieces (λ k copied. bytes-are k ∙ is.shares.content k copied) i;
+        strings = unit.strings;
+        encoding = same_encoding i;
+      }))
 
-  module _ (same_encoding : source.encoding ≡ unit.encoding) where
-    strings-there : strings_of source.object.order source.encoding
-        (first kinds.Str source.object.sections)
-        (part_of (first kinds.StrOffsets source.object.sections)
-        (range_in parts.row kinds.StrOffsets)) ≡ Ok unit.strings
-    strings-there =
-        (λ i. strings_of source.object.order (same_encoding i)
-        ((again.held kinds.Str ∙ again.strings_are) i) (bytes-are kinds.StrOffsets i))
-        ∙ strings-are source.object.order unit.encoding (data_of strings)
-        (part_of (content_of kinds.StrOffsets contents) (contribution_to kinds.StrOffsets row))
-        unit.strings
-        (is.shares.string strings again.table (take-length strings))
+  -- ---- the row of its identifier
 
-    means : meaning_by source own (Some parts.row) ≡ Some unit
-    unfolding meaning_by
-    means =
-        ap (λ b. cond b (meaning_with source own (Some parts.row) (strings_of source.object.order
-        source.encoding (first kinds.Str source.object.sections)
-        (part_of (first kinds.StrOffsets source.object.sections)
-        (range_in parts.row kinds.StrOffsets)))) None) inside
-        ∙ ap (meaning_with source own (Some parts.row)) strings-there
-        ∙ (λ i. Some (record {
-          bytes = own-is i;
-          pieces = pieces-are i;
-          strings = unit.strings;
-          encoding = same_encoding i;
-        }))
+  finds : (name : DwarfObject) → FindsExactly (entry_ids (rows_of sort rows)) (identifier_of name)
+      (found_row index.signatures index.rows (identifier_of name))
+      (look_count index.signatures index.rows (identifier_of name))
+  finds name = find_law (entry_ids (rows_of sort rows)) index.signatures index.rows
+      (identifier_of name) has.slots
 
-  -- looking its identifier up gives its row
-  row_is : found_row index.signatures index.rows (identifier_of row.id) ≡ Some (number + 1)
-  row_is =
-      let finds = find_law (entry_ids (rows_of sort rows)) index.signatures index.rows
-      (identifier_of row.id) has.slots in
-      let id = id-at (rows_of sort rows) number row at in
-      finds.present_row number id.0 id.1
+  looked : looked_up (index_for source.indexes row.id) (identifier_of row.id) ≡ Some (number + 1)
+  looked = let id = id-at (rows_of sort rows) number row at in
+      rw there.1 ((finds row.id).present_row number id.0 id.1)
 
   pub found-row : row_of (index_for source.indexes row.id) (identifier_of row.id) ≡ Ok parts.row
   unfolding row_of
-  found-row = ap (λ i. row_of i (identifier_of row.id)) there.1 ∙ ap
-      (row_found index (identifier_of row.id)) row_is ∙ ap
-      (as_error (λ error. RowNotInIndex error (number + 1))) parts.there
+  found-row = let number_is = rw there.1 at looked in rw (there.1, number_is, parts.there) refl
 
-  -- the row's part of a section
-  pub found-range : (k : SectionKind) → range_in parts.row k ≡ contribution_to k row
-  found-range = range-of
+  -- what has that row has that identifier
+  same-id : (name : DwarfObject) → looked_up (index_for source.indexes row.id) (identifier_of name)
+      ≡ Some (number + 1) → identifier_of row.id ≡ identifier_of name
+  same-id name found =
+      let id = (id-at (rows_of sort rows) number row at).1 in
+      let row_is = rw there.1 at found in
+      elim (among (entry_ids (rows_of sort rows)) (identifier_of name)) [
+        | inl r ↦
+            let n : r.0 + 1 ≡ number + 1 =
+            same_Some _ _ (sym ((finds name).present_row r.0 r.1 r.2) ∙ row_is) in
+            let same : r.0 ≡ number = omega arith in
+            sym id ∙ ap (slice_index (entry_ids (rows_of sort rows))) (sym same) ∙ r.2
+        | inr none ↦ absurd (none-some (number + 1) (sym ((finds name).absent_row none) ∙ row_is))
+      ]
 
   module _ (h : Header) (whole : h.whole ≡ plain source.object.order offset own) where
     own-range : own_range h ≡ range
@@ -231,51 +234,14 @@ module _ (first_law : FirstLaw) (find_law : FindLaw) (source : Source) (contents
           length ((whole i).bytes);
     }
 
-    -- its identifier is that of its row
+    -- what passes the test of its row has its identifier
     identifier-is : (name : DwarfObject) → is_compilation name ≡ true → is_compilation row.id ≡ true
         → row_test source.indexes kind name h ≡ Ok tt → identifier_of row.id ≡ identifier_of name
     unfolding row_test
     identifier-is name c d tested =
         let alike = index-alike source name row.id c d in
-        let found = test-inv (is_package source.indexes)
-        (is_same_row (number_by_place source.indexes kind name h)
-        (looked_up (index_for source.indexes name) (identifier_of name)))
-        (UnitNotInIndex (identifier_of name)) again.packed tested in
-        let number_is : number_by_place source.indexes kind name h ≡ Some (number + 1) =
-        (λ i. row_by_place (alike i) kind (own-range i)) ∙ by-place in
-        let looked : looked_up (index_for source.indexes name) (identifier_of name) ≡
-        Some (number + 1) =
-        same-number (looked_up (index_for source.indexes name) (identifier_of name)) (number + 1)
-        (subst (λ n. is_same_row n (looked_up (index_for source.indexes name) (identifier_of name))
-        ≡ true) number_is found) in
-        let row_is : found_row index.signatures index.rows (identifier_of name) ≡ Some
-        (number + 1) = ap (λ i. looked_up i (identifier_of name))
-        (sym (alike ∙ there.1)) ∙ looked in
-        let finds = find_law (entry_ids (rows_of sort rows)) index.signatures index.rows
-        (identifier_of name) has.slots in
-        let id = (id-at (rows_of sort rows) number row at).1 in
-        elim (among (entry_ids (rows_of sort rows)) (identifier_of name)) [
-          | inl r ↦
-              let n : r.0 + 1 ≡ number + 1 =
-              same_Some _ _ (sym (finds.present_row r.0 r.1 r.2) ∙ row_is) in
-              let same : r.0 ≡ number = omega arith in
-              sym id ∙ ap (slice_index (entry_ids (rows_of sort rows))) (sym same) ∙ r.2
-          | inr none ↦ absurd (none-some (number + 1) (sym (finds.absent_row none) ∙ row_is))
-        ]
-
-    name-is : (name : DwarfObject) → type_signature h.unit_type ≡ name_signature row.id
-        → name_for source kind h ≡ Ok name → IsTested source (
-          name,
-          record {
-            from = kind;
-            unit =
-                h;
-          },
-        ) → name ≡ row.id
-    name-is name agrees named tested =
-        let id = name-identity source kind h name named in
-        signature-name row.id name (sym (identity-sort id.0 h name id.1) ∙ agrees) (λ c d.
-        identifier-is name c d (tested c))
+        let found = (kept _ _ _ _ (rw (again.packed, alike, own-range, by-place) at tested)).0 in
+        same-id name (same-number _ (number + 1) found)
 
     -- the unit has the name of its row, and means what was joined
     pub row-means-again : (name : DwarfObject) → source.encoding ≡ unit.encoding
@@ -291,29 +257,25 @@ module _ (first_law : FirstLaw) (find_law : FindLaw) (source : Source) (contents
         ) ≡ Some unit)
     unfolding unit_meaning
     row-means-again name same_encoding agrees named tested =
-        let is_name = name-is name agrees named tested in (
+        let id = name-identity source kind h name named in
+        let is_name : name ≡ row.id = signature-name row.id name
+        (sym (identity-sort id.0 h name id.1) ∙ agrees) (λ c d.
+        identifier-is name c d (tested c)) in (
           is_name,
-          ap (λ b. cond b (option_and_then (λ r. meaning_by source h.whole.bytes (Some r))
-              (placed_row (index_for source.indexes name) kind (own_range h)))
-              (meaning_by source h.whole.bytes None)) again.packed
-              ∙ (λ i. option_and_then (λ r. meaning_by source ((whole i).bytes) (Some r))
-              (placed_row (index_for source.indexes (is_name i)) kind (own-range i)))
-              ∙ ap (option_and_then (λ r. meaning_by source own (Some r))) placed
-              ∙ means same_encoding,
+          rw (again.packed, is_name, own-range, placed, whole) (means same_encoding),
         )
 
     -- it passes the test of its row
     pub row-tested : row_test source.indexes kind row.id h ≡ Ok tt
     unfolding row_test
-    row-tested =
-        let number_is : number_by_place source.indexes kind row.id h ≡ Some (number + 1) =
-        ap (row_by_place (index_for source.indexes row.id) kind) own-range ∙ by-place in
-        let looked : looked_up (index_for source.indexes row.id) (identifier_of row.id) ≡ Some
-        (number + 1) = ap (λ i. looked_up i (identifier_of row.id)) there.1 ∙ row_is in
-        test-ok (is_package source.indexes) (is_same_row (number_by_place source.indexes kind row.id
-        h) (looked_up (index_for source.indexes row.id) (identifier_of row.id)))
-        (UnitNotInIndex (identifier_of row.id)) again.packed
-        ((λ i. is_same_row (number_is i) (looked i)) ∙ eq-eqb (number + 1) (number + 1) refl)
+    row-tested = rw (
+      again.packed,
+      own-range,
+      by-place,
+      looked,
+      eq-eqb (number + 1) (number + 1)
+          refl,
+    ) refl
 
     abbrev abbreviations : List ℕ
     abbreviations = part_of (content_of kinds.Abbrev contents) row.debug_abbrev
@@ -323,55 +285,26 @@ module _ (first_law : FirstLaw) (find_law : FindLaw) (source : Source) (contents
         source.indexes.compilations (row_by_place source.indexes.compilations kind
         (own_range h)) ≡ Ok abbreviations
     unfolding row_abbreviations numbered_abbreviations
-    by-number same =
-        let bytes = first kinds.Abbrev source.object.sections in
-        let index_is : source.indexes.compilations ≡ Some index = same ∙ there.1 in
-        let number_is : row_by_place source.indexes.compilations kind (own_range h) ≡ Some
-        (number + 1) = (λ i. row_by_place (same i) kind (own-range i)) ∙ by-place in
-        let outside : is_outside bytes (range_in parts.row kinds.Abbrev) ≡ false =
-        ap₂ is_outside (again.held kinds.Abbrev) (range-of kinds.Abbrev) ∙ inside-by
-        (content_of kinds.Abbrev contents) (contribution_to kinds.Abbrev row)
-        (is.lie.inside kinds.Abbrev) in
-        (λ i. numbered_abbreviations bytes (index_is i) (number_is i))
-        ∙ ap (λ r. as_error (λ e. RowNotInIndex e (number + 1)) r >>= row_abbreviations
-        bytes) parts.there
-        ∙ ap (λ b. cond {A = Result (List ℕ) ErrorValue} b
-        (Err (BadContribution (name_of kinds.Abbrev) 0))
-        (Ok (part_of bytes (range_in parts.row kinds.Abbrev)))) outside
-        ∙ ap Ok (bytes-are kinds.Abbrev)
+    by-number same = rw (same, there.1, own-range, row-first, parts.there, outside kinds.Abbrev)
+        (ap Ok (bytes-are kinds.Abbrev))
 
     -- it has the name of its row
     pub named-again : type_signature h.unit_type ≡ name_signature row.id
         → identity (section source.object.order abbreviations) h ≡ Ok (Some row.id)
         → name_for source kind h ≡ Ok row.id
     unfolding name_for abbreviations_for
-    named-again agrees named = by (is_compile h.unit_type) refl
-      where
-        by : (b : Bool) → is_compile h.unit_type ≡ b
-            → (cond (is_package source.indexes && b) (numbered_abbreviations
-            (first kinds.Abbrev source.object.sections) source.indexes.compilations
-            (row_by_place source.indexes.compilations kind (own_range h)))
-            (Ok (first kinds.Abbrev source.object.sections)) >>= λ table.
-            identity (section source.object.order table) h >>= λ found.
-            ok_or found NotSplitUnit) ≡ Ok row.id
-        by true e =
-            ap (λ p. cond (p && true) (numbered_abbreviations
-            (first kinds.Abbrev source.object.sections) source.indexes.compilations
-            (row_by_place source.indexes.compilations kind (own_range h)))
-            (Ok (first kinds.Abbrev source.object.sections)) >>= λ table.
-            identity (section source.object.order table) h >>= λ found.
-            ok_or found NotSplitUnit) again.packed
-            ∙ ap (λ r. r >>= λ table. identity (section source.object.order table) h >>= λ found.
-            ok_or found NotSplitUnit)
-            (by-number (compile-sort source h.unit_type row.id e agrees))
-            ∙ ap (λ r. r >>= λ found. ok_or found NotSplitUnit) named
-        by false e =
-            ap (λ p. cond (p && false) (numbered_abbreviations
-            (first kinds.Abbrev source.object.sections) source.indexes.compilations
-            (row_by_place source.indexes.compilations kind (own_range h)))
-            (Ok (first kinds.Abbrev source.object.sections)) >>= λ table.
-            identity (section source.object.order table) h >>= λ found.
-            ok_or found NotSplitUnit) again.packed
-            ∙ ap (λ r. r >>= λ found. ok_or found NotSplitUnit)
-            (identity-any (section source.object.order (first kinds.Abbrev source.object.sections))
-            (section source.object.order abbreviations) h e ∙ named)
+    named-again agrees named =
+        by-bool _ (is_compile h.unit_type)
+        (λ compiled. rw (
+          again.packed,
+          compiled,
+          by-number (compile-sort source h.unit_type row.id compiled agrees),
+          named,
+        ) refl)
+        (λ other. rw (
+          again.packed,
+          other,
+          identity-any (section source.object.order (first kinds.Abbrev source.object.sections))
+              (section source.object.order abbreviations) h other,
+          named,
+        ) refl)

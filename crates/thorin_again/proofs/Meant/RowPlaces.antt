@@ -1,10 +1,10 @@
 -- What the rows of a written package are for an input: which begin before a place, and what they
 -- name.
 use Rattle.std.proofs.Common.{◌≡◌, ◌∙◌, ◌⊎◌, inl, inr, ℕ, zero, suc, ◌+◌, ◌<◌, ◌≤◌, ◌≢◌, Bool, true}
-use Rattle.std.proofs.Common.{false, true≢false, cond, not, nat_eq, List, [], ◌∷◌, ◌++◌, length, ap}
-use Rattle.std.proofs.Common.{sym, refl, Result, Ok, Err, Option, Some, None, arith}
+use Rattle.std.proofs.Common.{false, true≢false, not, nat_eq, List, [], ◌∷◌, ◌++◌, length, ap, sym}
+use Rattle.std.proofs.Common.{refl, Ok, Option, Some, None, arith}
 use Rattle.std.specs.Prelude.{slice_get, slice_index, find}
-use Rattle.std.proofs.lemmas.Bool.{eqb-true, eq-eqb, le-leb}
+use Rattle.std.proofs.lemmas.Bool.{eqb-true, eq-eqb, le-leb, cond_both}
 use Rattle.std.proofs.lemmas.Option.{none-some, same_Some}
 use Rattle.dwp_base.specs.declared.section.Contribution.{Contribution}
 use Rattle.dwp_base.specs.declared.section.SectionKind.{SectionKind}
@@ -23,7 +23,6 @@ use Rattle.dwp_table.specs.Probing.{found_row, look_count}
 use Rattle.dwp_table.specs.Table.{IsIndex, FindsExactly}
 use Rattle.dwp_table.specs.declared.object.DwarfObject.{DwarfObject}
 use Rattle.dwp_table.specs.declared.object.DwarfObject.TheVariants.{Compilation, TypeUnit}
-use Rattle.thorin_errors.specs.Errors.{ErrorValue}
 use Rattle.thorin_identity.specs.Identity.{identity_by, identity}
 use Rattle.thorin_packaged.specs.RowPlaces.{row_by_place, IsFirstWith}
 use Rattle.thorin_index.specs.Entries.{contribution_to}
@@ -38,6 +37,7 @@ use Rattle.thorin_input.specs.Names.{is_compilation}
 use Rattle.thorin_input.specs.Rows.{is_same_row, is_compile}
 use Rattle.thorin_input.specs.Used.{first}
 use Rattle.thorin_join.proofs.Files.Indexes.{HasRows}
+use Rattle.dwp_base.proofs.Bools.{by-bool}
 
 -- the laws of rows by place and of look-ups
 abbrev pub FirstLaw : Type 0
@@ -64,22 +64,17 @@ Below kind n [] = Unit {0}
 Below kind n (r ∷ rs) = ((c : Contribution) → contribution_to kind r ≡ Some c → c.offset.0 < n)
     × Below kind n rs
 
-below-cond : (kind : SectionKind) (n : ℕ) (r : IndexEntry) (rs : List IndexEntry) (b : Bool)
-    → ((c : Contribution) → contribution_to kind r ≡ Some c → c.offset.0 < n) → Below kind n rs
-    → Below kind n (cond b (r ∷ rs) rs)
-below-cond kind n r rs true h k = (h, k)
-below-cond kind n r rs false h k = k
-
 pub below-chosen : (kind : SectionKind) (n : ℕ) (b : Bool) (rs : List IndexEntry) → Below kind n rs
     → Below kind n (rows_of b rs)
 below-chosen kind n b [] h = tt
-below-chosen kind n b (r ∷ rs) h = below-cond kind n r (rows_of b rs) (is_chosen b r) h.0
-    (below-chosen kind n b rs h.1)
+below-chosen kind n b (r ∷ rs) h =
+    cond_both (is_chosen b r) (r ∷ rows_of b rs) (rows_of b rs) (Below kind n)
+    (λ chosen. (h.0, below-chosen kind n b rs h.1)) (λ other. below-chosen kind n b rs h.1)
 
 pub below-at : (kind : SectionKind) (n : ℕ) (rs : List IndexEntry) (l : ℕ) (r : IndexEntry)
     → Below kind n rs → slice_get rs l ≡ Some r → (c : Contribution) → contribution_to kind r ≡ Some
     c → c.offset.0 < n
-below-at kind n [] l r h e c k = absurd (none-some r e)
+below-at kind n [] l r h e c k = absurd cc
 below-at kind n (x ∷ rs) zero r h e c k = h.0 c (ap (contribution_to kind) (same_Some _ _ e) ∙ k)
 below-at kind n (x ∷ rs) (suc l) r h e c k = below-at kind n rs l r h.1 e c k
 
@@ -89,61 +84,53 @@ pub get-seam : {X : Type 0} (xs ys : List X) (y : X) → slice_get (xs ++ y ∷ 
 get-seam [] ys y = refl
 get-seam (x ∷ xs) ys y = get-seam xs ys y
 
-pub get-left : {X : Type 0} (xs ys : List X) (l : ℕ) → l < length xs → slice_get (xs ++ ys) l
-    ≡ slice_get xs l
-get-left [] ys l h = absurd (omega arith)
-get-left (x ∷ xs) ys zero h = refl
-get-left (x ∷ xs) ys (suc l) h = get-left xs ys l (omega arith)
-
 pub get-there : {X : Type 0} (xs : List X) (l : ℕ) → l < length xs → (y : X)
     × (slice_get xs l ≡ Some y)
 get-there [] l h = absurd (omega arith)
 get-there (x ∷ xs) zero h = (x, refl)
 get-there (x ∷ xs) (suc l) h = get-there xs l (omega arith)
 
+pub get-left : {X : Type 0} (xs ys : List X) (l : ℕ) (y : X) → slice_get xs l ≡ Some y
+    → slice_get (xs ++ ys) l ≡ Some y
+get-left [] ys l y h = absurd cc
+get-left (x ∷ xs) ys zero y h = h
+get-left (x ∷ xs) ys (suc l) y h = get-left xs ys l y h
+
 -- a number is among others, or isn't
 pub among : (ids : List ℕ) (x : ℕ) → ((r : ℕ) × (r < length ids) × (slice_index ids r ≡ x))
     ⊎ ((r : ℕ) → r < length ids → slice_index ids r ≢ x)
 among [] x = inr (λ r within same. absurd (omega arith))
-among (i ∷ ids) x = by (nat_eq i x) refl (among ids x)
+among (i ∷ ids) x =
+    by-bool _ (nat_eq i x)
+    (λ e. inl (0, omega arith, eqb-true i x e))
+    (λ e. elim (among ids x) [
+      | inl rest ↦ inl (suc rest.0, omega (arith, rest.1), rest.2)
+      | inr rest ↦ inr (λ r. none e rest r)
+    ])
   where
-    by : (b : Bool) → nat_eq i x ≡ b → ((r : ℕ) × (r < length ids) × (slice_index ids r ≡ x))
-        ⊎ ((r : ℕ) → r < length ids → slice_index ids r ≢ x)
-        → ((r : ℕ) × (r < length (i ∷ ids)) × (slice_index (i ∷ ids) r ≡ x))
-        ⊎ ((r : ℕ) → r < length (i ∷ ids) → slice_index (i ∷ ids) r ≢ x)
-    by true e rest = inl (0, omega arith, eqb-true i x e)
-    by false e (inl rest) = inl (suc rest.0, omega (arith, rest.1), rest.2)
-    by false e (inr rest) = inr none
-      where
-        none : (r : ℕ) → r < length (i ∷ ids) → slice_index (i ∷ ids) r ≢ x
-        none zero within same = true≢false (sym (eq-eqb i x same) ∙ e)
-        none (suc r) within same = rest r (omega arith) same
+    none : nat_eq i x ≡ false → ((r : ℕ) → r < length ids → slice_index ids r ≢ x)
+        → (r : ℕ) → r < length (i ∷ ids) → slice_index (i ∷ ids) r ≢ x
+    none e rest zero within same = true≢false (sym (eq-eqb i x same) ∙ e)
+    none e rest (suc r) within same = rest r (omega arith) same
 
 pub non_empty-some : (part : Option Contribution) (range : Contribution) → non_empty part ≡ Some
     range → part ≡ Some range
 non_empty-some None range h = h
-non_empty-some (Some c) range h = by (nat_eq c.size 0) h
-  where
-    by : (b : Bool) → cond b None (Some c) ≡ Some range → Some c ≡ Some range
-    by true k = absurd (none-some range k)
-    by false k = k
+non_empty-some (Some c) range h =
+    by-bool _ (nat_eq c.size 0) (λ e. absurd (none-some range (rw e at h))) (λ e. rw e at h)
 
 pub first-row : (index : Index) (other : Ranges) → row_in index 0 ≡ Ok other → ⊥
 unfolding row_in
 first-row index other h = cc
 
 pub chosen-self : (row : IndexEntry) → is_chosen (is_compilation row.id) row ≡ true
-chosen-self row = by (is_compilation row.id) refl
-  where
-    by : (c : Bool) → is_compilation row.id ≡ c → is_chosen c row ≡ true
-    by true h = h
-    by false h = ap not h
+chosen-self row = by-bool _ (is_compilation row.id) (λ e. rw e e) (λ e. rw e (ap not e))
 
 pub place-eq : (a b : UnitSection) → same_place a b ≡ true → a ≡ b
 place-eq places.Info places.Info h = refl
 place-eq places.Types places.Types h = refl
-place-eq places.Info places.Types h = absurd (true≢false (sym h))
-place-eq places.Types places.Info h = absurd (true≢false (sym h))
+place-eq places.Info places.Types h = absurd cc
+place-eq places.Types places.Info h = absurd cc
 
 pub sort-rows : (source : Source) (contents : Contents) (strings : List (List ℕ))
     (rows : List IndexEntry) (name : DwarfObject)
@@ -155,50 +142,26 @@ sort-rows source contents strings rows (TypeUnit signature) again = again.types
 pub some-index : (index : Option Index) (rows : List IndexEntry) (row : IndexEntry) (n : ℕ)
     → HasRows index rows → slice_get rows n ≡ Some row → (i : Index) × (index ≡ Some i)
     × ((version : ℕ) × HasEntries version rows i)
-some-index None rows row n has at = absurd (none-some row (ap (λ l. slice_get l n) (sym has) ∙ at))
+some-index None rows row n has at = absurd (none-some row (rw has at at))
 some-index (Some i) rows row n has at = (i, refl, (has.0, has.1))
 
 pub same-number : (looked : Option ℕ) (n : ℕ) → is_same_row (Some n) looked ≡ true → looked ≡ Some n
-same-number None n h = absurd (true≢false (sym h))
+same-number None n h = absurd cc
 same-number (Some m) n h = ap Some (sym (eqb-true n m h))
-
-pub test-inv : (packed same : Bool) (error : ErrorValue) → packed ≡ true
-    → ◌≡◌ {A = Result (Unit {0}) ErrorValue}
-    (cond (not packed) (Ok tt) (cond same (Ok tt) (Err error))) (Ok tt) → same ≡ true
-test-inv true true error p h = refl
-test-inv true false error p h = absurd cc
-test-inv false same error p h = absurd (true≢false (sym p))
-
-pub test-ok : (packed same : Bool) (error : ErrorValue) → packed ≡ true → same ≡ true
-    → ◌≡◌ {A = Result (Unit {0}) ErrorValue} (cond (not packed) (Ok tt)
-    (cond same (Ok tt) (Err error)))
-    (Ok tt)
-test-ok true true error p h = refl
-test-ok true false error p h = absurd (true≢false (sym h))
-test-ok false same error p h = absurd (true≢false (sym p))
 
 -- a compile unit's name is looked for among compilations
 pub compile-sort : (source : Source) (type : UnitType) (name : DwarfObject) → is_compile type ≡ true
     → type_signature type ≡ name_signature name → source.indexes.compilations ≡ index_for
     source.indexes name
 compile-sort source unit_types.Compilation (Compilation id) c h = refl
-compile-sort source unit_types.Compilation (TypeUnit signature) c h =
-    absurd (none-some signature.0 h)
-compile-sort source unit_types.Partial name c h = absurd (true≢false (sym c))
-compile-sort source (unit_types.Skeleton id) name c h = absurd (true≢false (sym c))
-compile-sort source (unit_types.SplitCompilation id) name c h = absurd (true≢false (sym c))
-compile-sort source (unit_types.TypeUnit signature offset) name c h = absurd (true≢false (sym c))
-compile-sort source (unit_types.SplitType signature offset) name c h = absurd (true≢false (sym c))
+compile-sort source unit_types.Compilation (TypeUnit signature) c h = absurd cc
+compile-sort source type name c h = absurd cc
 
 -- every other unit is named by its header
 identity-by : (a b : Input) (h : Header) (type : UnitType) → is_compile type ≡ false
     → identity_by a h type ≡ identity_by b h type
-identity-by a b h unit_types.Compilation c = absurd (true≢false c)
-identity-by a b h unit_types.Partial c = refl
-identity-by a b h (unit_types.Skeleton id) c = refl
-identity-by a b h (unit_types.SplitCompilation id) c = refl
-identity-by a b h (unit_types.TypeUnit signature offset) c = refl
-identity-by a b h (unit_types.SplitType signature offset) c = refl
+identity-by a b h unit_types.Compilation c = absurd cc
+identity-by a b h type c = refl
 
 pub identity-any : (a b : Input) (h : Header) → is_compile h.unit_type ≡ false
     → identity a h ≡ identity b h
@@ -208,7 +171,7 @@ identity-any a b h c = identity-by a b h h.unit_type c
 pub find-none : (p : SectionKind → Bool) → ((kind : SectionKind) → p kind ≡ false)
     → (ks : List SectionKind) → find p ks ≡ None
 find-none p h [] = refl
-find-none p h (k ∷ ks) = ap (λ b. cond b (Some k) (find p ks)) (h k) ∙ find-none p h ks
+find-none p h (k ∷ ks) = rw (h k) (find-none p h ks)
 
 pub inside-by : (bytes : List ℕ) (part : Option Contribution) → ((range : Contribution)
     → part ≡ Some range → range.offset.0 + range.size ≤ length bytes)
@@ -223,12 +186,12 @@ signature-name (Compilation a) (Compilation b) h same = ap (λ n. Compilation (r
     (sym (same refl refl))
 signature-name (TypeUnit a) (TypeUnit b) h same = ap (λ n. TypeUnit (record { 0 = n }))
     (same_Some _ _ h)
-signature-name (Compilation a) (TypeUnit b) h same = absurd (none-some b.0 (sym h))
-signature-name (TypeUnit a) (Compilation b) h same = absurd (none-some a.0 h)
+signature-name (Compilation a) (TypeUnit b) h same = absurd cc
+signature-name (TypeUnit a) (Compilation b) h same = absurd cc
 
 pub index-alike : (source : Source) (a b : DwarfObject) → is_compilation a ≡ true
     → is_compilation b ≡
     true → index_for source.indexes a ≡ index_for source.indexes b
 index-alike source (Compilation a) (Compilation b) h k = refl
-index-alike source (TypeUnit a) b h k = absurd (true≢false (sym h))
-index-alike source (Compilation a) (TypeUnit b) h k = absurd (true≢false (sym k))
+index-alike source (TypeUnit a) b h k = absurd cc
+index-alike source (Compilation a) (TypeUnit b) h k = absurd cc

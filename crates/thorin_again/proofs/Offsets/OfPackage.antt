@@ -151,7 +151,7 @@ read-of is_read has_entries some_index none_index state encoding file own other 
       sound = sound;
       plain = subst (IsPlain encoding) same plain;
       all = subst (λ b. AllOf encoding (units_begun b)) fin.begun own.all;
-      again = own-again is_read has_entries some_index none_index made file sound
+      again = own-again is_read has_entries made file sound
           (tested-state state made fin.begun own.tested) fin.identifiers fin.finished own.kinds
           encoding indexes read (λ none. let e : length made.rows ≡ 0 = ap length none in
           omega (arith, e, count, long));

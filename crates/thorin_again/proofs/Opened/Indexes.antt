@@ -1,52 +1,46 @@
 -- The indexes of a written package are taken, where its rows have the version of the input.
-use Rattle.std.proofs.Common.{◌≡◌, ◌∙◌, ℕ, suc, subst, ◌<◌, ◌^◌, Bool, true, false, cond, eqb, leb}
-use Rattle.std.proofs.Common.{not, ◌||◌, List, [], ◌∷◌, length, refl, sym, ap, Result, Ok, Err}
-use Rattle.std.proofs.Common.{Option, Some, None, arith}
+use Rattle.std.proofs.Common.{◌||◌, ◌≡◌, ◌∙◌, ℕ, suc, ◌<◌, ◌^◌, Bool, true, false, leb, List, []}
+use Rattle.std.proofs.Common.{◌∷◌, length, refl, sym, ap, Ok, Option, Some, None, arith}
 use Rattle.std.specs.Prelude.{slice_index, is_some}
+use Rattle.std.proofs.lemmas.Bool.{cond_both}
 use Rattle.std.proofs.lemmas.List.{length-map}
 use Rattle.std.proofs.Math.Dec.{eqb-suc-zero}
 use Rattle.dwp_base.specs.declared.endian.Endianness.{Endianness}
 use Rattle.dwp_base.specs.declared.endian.Endianness.TheVariants.{Little, Big}
 use Rattle.dwp_base.specs.declared.section.SectionKind.{SectionKind}
 use Rattle.dwp_base.specs.declared.section.SectionKind.TheVariants.{CuIndex, TuIndex}
-use Rattle.dwp_base.specs.Reading.{◌>>=◌}
-use Rattle.dwp_base.specs.Sections.{name_of}
+use Rattle.dwp_base.proofs.Bools.{by-bool}
 use Rattle.dwp_bytes.specs.Encoding.{index_version_of, is_compatible}
 use Rattle.dwp_bytes.specs.declared.encoding.Encoding.{Encoding}
 use Rattle.dwp_bytes.specs.declared.error.ReadError.TheVariants.{UnexpectedEof}
-use Rattle.dwp_elf.specs.Contents.{KindsDiffer}
+use Rattle.dwp_elf.specs.Contents.{KindsDiffer, content_of}
 use Rattle.dwp_elf.specs.FileText.{Object as File, file_text}
 use Rattle.dwp_elf.specs.Written.{written_elf}
-use Rattle.dwp_elf_read.specs.Elf.{Elf}
 use Rattle.dwp_index.specs.Index.{Index}
 use Rattle.dwp_index.specs.IndexBytes.{index_of}
+use Rattle.dwp_table.specs.Table.{AreDistinct}
 use Rattle.thorin_index.specs.declared.entry.IndexEntry.{IndexEntry}
 use Rattle.thorin_index.specs.EntryTests.{index_tests}
 use Rattle.thorin_index.specs.IndexText.{IsIndexOf, entry_ids, used_sections}
 use Rattle.thorin_index.specs.ReadBack.{index_with}
-use Rattle.thorin_errors.specs.Errors.{ErrorValue, ParseIndex, IncompatibleIndexVersion}
-use Rattle.thorin_errors.specs.Errors.{MixedInputEncodings}
-use Rattle.thorin_errors.specs.Answers.{as_error}
 use Rattle.thorin_join.specs.Builder.{State, IdentifiersFit, IsFinished, rows_of, is_chosen}
-use Rattle.thorin_join.specs.Builder.{order_of, same_order, order_test, package_or_new}
-use Rattle.thorin_join.specs.Builder.{with_source_or_new, with_units, with_input}
-use Rattle.thorin_input.specs.Encodings.{encoding_of}
+use Rattle.thorin_join.specs.Builder.{order_of, same_order, order_test, with_units, with_input}
 use Rattle.thorin_input.specs.Growing.{Contents}
 use Rattle.thorin_join.specs.Meaning.{Members}
 use Rattle.thorin_input.specs.Indexes.{Indexes, is_package, index_in, version_test, indexes_of}
 use Rattle.thorin_input.specs.Names.{is_compilation}
-use Rattle.thorin_again.specs.OwnInput.{written_object, IsOwn, TakesUpToParts, own_source}
+use Rattle.thorin_again.specs.OwnInput.{written_object, IsOwn, TakesUpToParts}
 use Rattle.thorin_again.specs.OwnUnits.{AllOf}
-use Rattle.thorin_join.specs.Represents.{IsSound, IsSoundBegun, AreRowsOf, units_of, units_begun}
+use Rattle.thorin_join.specs.Represents.{IsSound, AreRowsOf, units_of}
 use Rattle.thorin_join.specs.State.{InProgress}
-use Rattle.thorin_input.specs.Used.{first, opened, has_info}
-use Rattle.thorin_join.proofs.Files.Indexes.{IndexIsRead, chosen-fit, no-bytes}
-use Rattle.thorin_again.proofs.Opened.ContentsByName.{info-written}
-use Rattle.thorin_again.proofs.Opened.Sections.{first-written, object-written, opened-elf}
+use Rattle.thorin_input.specs.Used.{first}
+use Rattle.thorin_join.proofs.Files.Indexes.{IndexIsRead, IndexHasEntries, HasRows, chosen-fit}
+use Rattle.thorin_join.proofs.Files.Indexes.{no-bytes}
+use Rattle.thorin_again.proofs.Opened.Sections.{info-written, first-written, object-written}
+use Rattle.thorin_again.proofs.Opened.Sections.{opened-elf}
 use Rattle.thorin_join.proofs.Steps.{err-ok}
 use Rattle.thorin_join.proofs.Files.Finished.{Tested, tested-state, finished-order}
 use Rattle.thorin_join.proofs.Files.Finished.{finished-compilations, finished-types}
-use Rattle.dwp_base.proofs.Steps.{bind-ok}
 
 -- rows come from inputs of this version
 abbrev pub HaveVersion : ℕ → List IndexEntry → Type 0
@@ -55,113 +49,66 @@ HaveVersion version (row ∷ rows) = (row.encoding.version ≡ version) × HaveV
 
 -- ---- an index is read again
 
--- it is read from these bytes, and its version is that of the rows
-pub record IndexTaken (order : Endianness) (rows : List IndexEntry) (bytes : List ℕ)
-    (version : ℕ) : Type 0 where
+-- it is read from these bytes, has these rows, and goes with inputs of their version
+pub record IndexTaken (order : Endianness) (rows : List IndexEntry) (bytes : List ℕ) : Type 0 where
   pub index : Option Index
   pub taken : (kind : SectionKind) → index_in order kind bytes ≡ Ok index
-  pub fits : (encoding : Encoding) (kind : SectionKind) → encoding.version ≡ version
+  pub fits : (encoding : Encoding) (kind : SectionKind) → HaveVersion encoding.version rows
       → version_test encoding kind index ≡ Ok tt
-  pub there : 0 < length rows → is_some index ≡ true
-
-own-version : (b : Bool) → cond b (leb 5 (cond b 5 2)) (eqb (cond b 5 2) 2) ≡ true
-own-version true = refl
-own-version false = refl
+  pub none : index ≡ None → rows ≡ []
+  pub has : IndexHasEntries → AreDistinct (entry_ids rows) → HasRows index rows
 
 -- an index of the version that goes with units of a version may stand beside them
 compatible : (version : ℕ) → is_compatible version (index_version_of version) ≡ true
-compatible version = own-version (leb 5 version)
+compatible version = by-bool _ (leb 5 version) (λ e. rw e refl) (λ e. rw e refl)
 
 pub none-taken : (order : Endianness) (kind : SectionKind) (bytes : List ℕ) → bytes ≡ []
     → index_in order kind bytes ≡ Ok None
 unfolding index_in
-none-taken order kind bytes none = ap (λ l. cond {A = Result (Option Index) ErrorValue}
-    (eqb (length l) 0) (Ok None) (as_error (λ e. ParseIndex e (name_of kind)) (index_of order l) >>=
-    λ index. Ok (Some index))) none
+none-taken order kind bytes none = rw none refl
 
 some-taken : (order : Endianness) (kind : SectionKind) (bytes : List ℕ) (index : Index)
     → index_of order bytes ≡ Ok index → index_in order kind bytes ≡ Ok (Some index)
 unfolding index_in
 some-taken order kind [] index read =
     absurd (err-ok UnexpectedEof index (sym (no-bytes order) ∙ read))
-some-taken order kind (b ∷ bs) index read =
-    ap (λ v. cond {A = Result (Option Index) ErrorValue} v (Ok None)
-    (as_error (λ e. ParseIndex e (name_of kind)) (index_of order (b ∷ bs)) >>= λ index.
-    Ok (Some index))) (eqb-suc-zero (length bs))
-    ∙ ap (λ r. as_error (λ e. ParseIndex e (name_of kind)) r >>= λ index. Ok (Some index)) read
+some-taken order kind (b ∷ bs) index read = rw (eqb-suc-zero, read) refl
 
-index-taken : IndexIsRead → (order : Endianness) (rows : List IndexEntry)
-    (bytes : List ℕ) (version : ℕ)
+index-taken : IndexIsRead → (order : Endianness) (rows : List IndexEntry) (bytes : List ℕ)
     → IsIndexOf order rows bytes → index_tests rows ≡ Ok tt
-    → ((r : ℕ) → slice_index (entry_ids rows) r < 2 ^ 64) → HaveVersion version rows
-    → IndexTaken order rows bytes version
-index-taken is_read order [] bytes version text tested fit have = record {
+    → ((r : ℕ) → slice_index (entry_ids rows) r < 2 ^ 64) → IndexTaken order rows bytes
+index-taken is_read order [] bytes text tested fit = record {
   index = None;
   taken = λ kind. none-taken order kind bytes text;
-  fits = λ encoding kind same. refl;
-  there = λ some. absurd (omega (arith, some));
+  fits = λ encoding kind have. refl;
+  none = λ e. refl;
+  has = λ law distinct. refl;
 }
-index-taken is_read order (row ∷ rows) bytes version text tested fit have =
-    let index = index_with (index_version_of row.encoding.version) (used_sections (row ∷ rows))
-    (row ∷ rows) text.rows in
+index-taken is_read order (row ∷ rows) bytes text tested fit =
+    let version = index_version_of row.encoding.version in
+    let index = index_with version (used_sections (row ∷ rows)) (row ∷ rows) text.rows in
+    let read = is_read order row.encoding (row ∷ rows) bytes tested fit text in
     record {
       index = Some index;
-      taken = λ kind. some-taken order kind bytes index (is_read order row.encoding (row ∷ rows)
-          bytes tested fit text);
-      fits = λ encoding kind same. ap (λ b. cond {A = Result (Unit {0}) ErrorValue} b (Ok tt)
-          (Err (IncompatibleIndexVersion (name_of kind) (index_version_of encoding.version)
-          index.version)))
-          (ap (λ v. is_compatible encoding.version (index_version_of v)) (have.0 ∙ sym same) ∙
-          compatible encoding.version);
-      there = λ some. refl;
+      taken = λ kind. some-taken order kind bytes index read;
+      fits = λ encoding kind have. rw (have.0, compatible encoding.version) refl;
+      none = λ e. absurd cc;
+      has = λ law distinct. (
+        version,
+        law order row.encoding (row ∷ rows) bytes tested distinct fit text index read,
+        omega arith,
+      );
     }
 
 -- ---- the rows of either index
 
-version-cond : (version : ℕ) (row : IndexEntry) (rows : List IndexEntry) (b : Bool)
-    → row.encoding.version ≡ version → HaveVersion version rows → HaveVersion version
-    (cond b (row ∷ rows) rows)
-version-cond version row rows true h k = (h, k)
-version-cond version row rows false h k = k
-
 pub version-chosen : (b : Bool) (version : ℕ) (rows : List IndexEntry) → HaveVersion version rows
     → HaveVersion version (rows_of b rows)
 version-chosen b version [] h = tt
-version-chosen b version (row ∷ rows) h = version-cond version row (rows_of b rows)
-    (is_chosen b row) h.0 (version-chosen b version rows h.1)
-
--- where there is a row, one of the indexes is there
-or-true : (c t : Bool) → t ≡ true → (c || t) ≡ true
-or-true true t h = refl
-or-true false t h = h
-
-one-of : (row : IndexEntry) (rows more : List IndexEntry) (c t e : Bool)
-    → (0 < length (cond e (row ∷ rows) rows) → c ≡ true)
-    → (0 < length (cond (not e) (row ∷ more) more) → t ≡ true) → (c || t) ≡ true
-one-of row rows more c t true left right = ap (λ b. b || t) (left (omega arith))
-one-of row rows more c t false left right = or-true c t (right (omega arith))
-
-one-is-there : (rows : List IndexEntry) (c t : Bool) → 0 < length rows
-    → (0 < length (rows_of true rows) → c ≡ true) → (0 < length (rows_of false rows) → t ≡ true)
-    → (c || t) ≡ true
-one-is-there [] c t some left right = absurd (omega (arith, some))
-one-is-there (row ∷ rows) c t some left right = one-of row (rows_of true rows) (rows_of false rows)
-    c t (is_compilation row.id) left right
-
--- ---- both indexes
-
-taken-both : (file : File) (encoding : Encoding) (compilations types : Option Index)
-    → index_in file.order CuIndex (first CuIndex (written_object file).sections) ≡ Ok compilations
-    → index_in file.order TuIndex (first TuIndex (written_object file).sections) ≡ Ok types
-    → version_test encoding CuIndex compilations ≡ Ok tt
-    → version_test encoding TuIndex types ≡ Ok tt
-    → indexes_of (written_object file) encoding ≡ Ok (record {
-      compilations = compilations;
-      types = types;
-    })
-unfolding indexes_of
-taken-both file encoding compilations types c t cv tv =
-    bind-ok _ compilations _ c ∙ bind-ok _ types _ t ∙ bind-ok _ tt _ cv ∙ bind-ok _ tt _ tv
+version-chosen b version (row ∷ rows) h =
+    cond_both (is_chosen b row) (row ∷ rows_of b rows) (rows_of b rows) (HaveVersion version)
+    (λ chosen. (h.0, version-chosen b version rows h.1))
+    (λ other. version-chosen b version rows h.1)
 
 -- a row has the encoding of its unit
 pub rows-version : (order : Endianness) (c : Contents) (strings : List (List ℕ))
@@ -176,42 +123,90 @@ rows-version order c strings (row ∷ rows) (unit ∷ units) encoding are all = 
       all (suc k) d (omega (arith, within))),
 )
 
--- the indexes of a written package
-pub record Taken (file : File) (encoding : Encoding) : Type 0 where
-  pub indexes : Indexes
-  pub read : indexes_of (written_object file) encoding ≡ Ok indexes
-  pub finished : is_package indexes ≡ true
+no-rows : (rows : List IndexEntry) → rows_of true rows ≡ [] → rows_of false rows ≡ [] → rows ≡ []
+no-rows [] h k = refl
+no-rows (row ∷ rows) h k =
+    by-bool _ (is_compilation row.id)
+    (λ compilation. let some = rw compilation at h in absurd cc)
+    (λ type. let some = rw type at k in absurd cc)
 
-made-indexes : IndexIsRead → (made : InProgress) (file : File) (encoding : Encoding) → IsSound made
-    → Tested made → IdentifiersFit made.rows → IsFinished made file → KindsDiffer file.contents
-    → AllOf encoding (units_of made) → 0 < length (units_of made) → Taken file encoding
-made-indexes is_read made file encoding sound tested fits f differ all some =
-    let have = rows-version made.file.order made.file.contents made.strings made.rows
-    (units_of made) encoding sound.units.rows all in
-    let rows : 0 < length made.rows = subst (λ n. 0 < n) (length-map made.rows _) some in
-    let c = index-taken is_read made.file.order (rows_of true made.rows) f.compilation_index
-    encoding.version f.compilations tested.compilation_rows (chosen-fit true made.rows fits)
-    (version-chosen true encoding.version made.rows have) in
-    let t = index-taken is_read made.file.order (rows_of false made.rows) f.type_index
-    encoding.version f.types tested.type_rows (chosen-fit false made.rows fits)
-    (version-chosen false encoding.version made.rows have) in
-    let order = finished-order made file f in
-    let c_bytes : first CuIndex (written_object file).sections ≡ f.compilation_index =
-    first-written CuIndex file.contents differ ∙ finished-compilations made file f
-    sound.units.no_compilations in
-    let t_bytes : first TuIndex (written_object file).sections ≡ f.type_index =
-    first-written TuIndex file.contents differ ∙ finished-types made file f
-    sound.units.no_types in
-    record {
-      indexes = record { compilations = c.index; types = t.index };
-      read = taken-both file encoding c.index t.index
-          ((λ i. index_in (order i) CuIndex (c_bytes i)) ∙ c.taken CuIndex)
-          ((λ i. index_in (order i) TuIndex (t_bytes i)) ∙ t.taken TuIndex)
-          (c.fits encoding CuIndex refl) (t.fits encoding TuIndex refl);
-      finished = one-is-there made.rows (is_some c.index) (is_some t.index) rows c.there t.there;
-    }
+-- where there is a row, one of the indexes is there
+one-is-there : (rows : List IndexEntry) (c t : Option Index) → (rows ≡ [] → ⊥)
+    → (c ≡ None → rows_of true rows ≡ []) → (t ≡ None → rows_of false rows ≡ [])
+    → (is_some c || is_some t) ≡ true
+one-is-there rows (Some i) t some left right = refl
+one-is-there rows None (Some i) some left right = refl
+one-is-there rows None None some left right =
+    absurd (some (no-rows rows (left refl) (right refl)))
+
+-- ---- the indexes of a finished package
+
+module _ (is_read : IndexIsRead) (made : InProgress) (file : File) (sound : IsSound made)
+    (tests : Tested made) (fits : IdentifiersFit made.rows) (f : IsFinished made file)
+    (differ : KindsDiffer file.contents) where
+  one-taken : (b : Bool) (kind : SectionKind) (bytes : List ℕ)
+      → IsIndexOf made.file.order (rows_of b made.rows) bytes
+      → index_tests (rows_of b made.rows) ≡ Ok tt → content_of kind file.contents ≡ bytes
+      → IndexTaken file.order (rows_of b made.rows) (first kind (written_object file).sections)
+  one-taken b kind bytes text tested is =
+      rw (finished-order made file f, first-written kind file.contents differ, is)
+      (index-taken is_read made.file.order (rows_of b made.rows) bytes text tested
+      (chosen-fit b made.rows fits))
+
+  pub compilations-taken : IndexTaken file.order (rows_of true made.rows)
+      (first CuIndex (written_object file).sections)
+  compilations-taken = one-taken true CuIndex f.compilation_index f.compilations
+      tests.compilation_rows (finished-compilations made file f sound.units.no_compilations)
+
+  pub types-taken : IndexTaken file.order (rows_of false made.rows)
+      (first TuIndex (written_object file).sections)
+  types-taken = one-taken false TuIndex f.type_index f.types tests.type_rows
+      (finished-types made file f sound.units.no_types)
+
+  abbrev pub indexes-taken : Indexes
+  indexes-taken = record { compilations = compilations-taken.index; types = types-taken.index }
+
+  pub indexes-packed : (made.rows ≡ [] → ⊥) → is_package indexes-taken ≡ true
+  indexes-packed some = one-is-there made.rows compilations-taken.index types-taken.index some
+      compilations-taken.none types-taken.none
+
+  indexes-read : (encoding : Encoding) → HaveVersion encoding.version made.rows
+      → indexes_of (written_object file) encoding ≡ Ok indexes-taken
+  unfolding indexes_of
+  indexes-read encoding have = rw (
+    compilations-taken.taken CuIndex,
+    types-taken.taken TuIndex,
+    compilations-taken.fits encoding CuIndex (version-chosen true encoding.version made.rows have),
+    types-taken.fits encoding TuIndex (version-chosen false encoding.version made.rows have),
+  ) refl
 
 -- ---- up to the parts
+
+-- what the package of an own file has
+pub record OwnMade (encoding : Encoding) (made : InProgress) : Type 0 where
+  pub sound : IsSound made
+  pub tests : Tested made
+  pub all : AllOf encoding (units_of made)
+  pub some : made.rows ≡ [] → ⊥
+  pub version : HaveVersion encoding.version made.rows
+
+pub own-made : (state : State) (encoding : Encoding) (file : File)
+    → (own : IsOwn state encoding file) → OwnMade encoding own.finished.made
+own-made state encoding file own =
+    let made = own.finished.made in
+    let begun = own.finished.begun in
+    let sound : IsSound made = rw begun at own.sound in
+    let all : AllOf encoding (units_of made) = rw begun at own.all in
+    let some : 0 < length (units_of made) = rw begun at own.some in
+    let long : length (units_of made) ≡ length made.rows = length-map made.rows _ in
+    record {
+      sound = sound;
+      tests = tested-state state made begun own.tested;
+      all = all;
+      some = λ none. omega (arith, some, long, ap length none);
+      version = rows-version made.file.order made.file.contents made.strings made.rows
+          (units_of made) encoding sound.units.rows all;
+    }
 
 same-itself : (order : Endianness) → same_order order order ≡ true
 same-itself Little = refl
@@ -220,44 +215,28 @@ same-itself Big = refl
 order-tested : (order : Endianness) (before : Option InProgress) → order_of before order ≡ order
     → order_test order before ≡ Ok tt
 unfolding order_test
-order-tested order before same = ap (λ b. cond {A = Result (Unit {0}) ErrorValue} b (Ok tt)
-    (Err MixedInputEncodings)) (ap (λ o. same_order o order) same ∙ same-itself order)
-
-units-tested : (file : File) (encoding : Encoding) (indexes : Indexes) (before : Option InProgress)
-    → KindsDiffer file.contents → encoding_of (written_object file) ≡ Ok encoding
-    → order_of before file.order ≡ file.order
-    → indexes_of (written_object file) encoding ≡ Ok indexes
-    → with_units (written_elf file) before ≡ with_source_or_new (written_elf file)
-    (own_source file encoding indexes) before
-unfolding with_units
-units-tested file encoding indexes before differ found same read =
-    bind-ok _ (written_object file) _ (object-written file differ)
-    ∙ bind-ok _ encoding _ found
-    ∙ bind-ok _ tt _ (order-tested file.order before same)
-    ∙ bind-ok _ indexes _ read
-
-input-tested : (bytes : List ℕ) (file : Elf) (before : Option InProgress) → opened bytes ≡ Ok file
-    → has_info file ≡ true → with_input bytes before ≡ with_units file before
-unfolding with_input
-input-tested bytes file before opens info =
-    bind-ok _ file _ opens ∙ ap (λ b. cond {A = Result (Option InProgress) ErrorValue} b
-    (with_units file before) (Ok (Some (package_or_new file before)))) info
+order-tested order before same = rw (same, same-itself order) refl
 
 pub up-to-parts : IndexIsRead → (state : State) (encoding : Encoding) (file : File)
     → IsOwn state encoding file → (before : Option InProgress) → order_of before file.order ≡
     file.order → TakesUpToParts file encoding before
+unfolding with_input with_units
 up-to-parts is_read state encoding file own before same =
     let f = own.finished in
-    let sound : IsSound f.made = subst IsSoundBegun f.begun own.sound in
-    let t = made-indexes is_read f.made file encoding sound (tested-state state f.made f.begun
-    own.tested) f.identifiers f.finished own.kinds
-    (subst (λ b. AllOf encoding (units_begun b)) f.begun own.all)
-    (subst (λ b. 0 < length (units_begun b)) f.begun own.some) in
+    let m = own-made state encoding file own in
+    let read = indexes-read is_read f.made file m.sound m.tests f.identifiers f.finished own.kinds
+    encoding m.version in
     record {
-      indexes = t.indexes;
-      read = t.read;
-      finished = t.finished;
-      is = input-tested (file_text file) (written_elf file) before (opened-elf (file_text file)
-          (written_elf file) own.read_back) (info-written file own.info)
-          ∙ units-tested file encoding t.indexes before own.kinds own.first same t.read;
+      indexes = indexes-taken is_read f.made file m.sound m.tests f.identifiers f.finished own.kinds;
+      read = read;
+      finished = indexes-packed is_read f.made file m.sound m.tests f.identifiers f.finished
+          own.kinds m.some;
+      is = rw (
+        opened-elf (file_text file) (written_elf file) own.read_back,
+        info-written file own.info,
+        object-written file own.kinds,
+        own.first,
+        order-tested file.order before same,
+        read,
+      ) refl;
     }

@@ -1,7 +1,6 @@
 -- The units of a written package of plain objects, as those of an input.
 use Rattle.std.proofs.Common.{◌≡◌, Bool, true, false, List, ℕ, [], refl, sym, subst, Result, Ok}
 use Rattle.std.proofs.Common.{Err, Some, true≢false}
-use Rattle.dwp_base.specs.Reading.{◌>>=◌}
 use Rattle.dwp_bytes.specs.Input.{section}
 use Rattle.dwp_bytes.specs.declared.encoding.Encoding.{Encoding}
 use Rattle.dwp_dwarf.specs.Units.{UnitsAreTaken, units}
@@ -73,10 +72,3 @@ module _ (names : NamesTheSameLaw) (law : PackagedLaw) (taken : UnitsAreTaken)
           → (new : New) × (r ≡ Ok new)
       answer (Ok new) h = (new, refl)
       answer (Err error) h = absurd h
-
--- a step, and then another
-pub then-foreseen : {X Y : Type 0} (r : Result X ErrorValue) (f : X → Result Y ErrorValue)
-    → UnlessForeseen r
-    → ((x : X) → r ≡ Ok x → UnlessForeseen (f x)) → UnlessForeseen (r >>= f)
-then-foreseen (Ok x) f h k = k x refl
-then-foreseen (Err e) f h k = h
