@@ -1,6 +1,6 @@
 -- The type units that an input's steps pass over and find to differ are those of its list of units.
 use Rattle.std.proofs.Common.{◌≡◌, ◌∙◌, ℕ, Bool, true, false, cond, ◌==◌, List, [], ◌∷◌, ◌++◌, map}
-use Rattle.std.proofs.Common.{refl, sym, ap, subst, Result, Ok, Err, Option, Some, None}
+use Rattle.std.proofs.Common.{refl, sym, ap, subst, Result, Ok, Option, Some, None}
 use Rattle.std.proofs.Common.{append_assoc, append-nil}
 use Rattle.std.specs.Map.{lookup}
 use Rattle.std.specs.Str.{bytes_eq}
@@ -8,14 +8,13 @@ use Rattle.std.proofs.lemmas.List.{map-append}
 use Rattle.dwp_base.specs.Reading.{◌>>=◌}
 use Rattle.dwp_dwarf.specs.Units.{Unit as Header, units}
 use Rattle.dwp_elf_read.specs.Elf.{Elf}
-use Rattle.dwp_table.specs.Objects.{identifier_of}
 use Rattle.dwp_table.specs.declared.object.DwarfObject.{DwarfObject}
 use Rattle.dwp_table.specs.declared.object.DwarfObject.TheVariants.{Compilation, TypeUnit}
-use Rattle.thorin_errors.specs.Errors.{ErrorValue, EmptyUnit}
+use Rattle.thorin_errors.specs.Errors.{ErrorValue}
 use Rattle.thorin_input.specs.Encodings.{encoding_of}
 use Rattle.thorin_input.specs.Indexes.{Source, indexes_of}
 use Rattle.thorin_input.specs.Names.{same_name}
-use Rattle.thorin_input.specs.NewUnits.{NewUnit, New, Adding, or_held, kept_bytes, place_for}
+use Rattle.thorin_input.specs.NewUnits.{NewUnit, New, Adding, or_held, kept_bytes}
 use Rattle.thorin_input.specs.NewUnits.{with_first, with_unit}
 use Rattle.thorin_input.specs.NewUnits.{new_units}
 use Rattle.thorin_input.specs.Rows.{unit_row, row_test}

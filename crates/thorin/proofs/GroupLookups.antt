@@ -1,6 +1,6 @@
 -- Lists in another order: look-ups by name, and swaps.
-use Rattle.std.proofs.Common.{◌≡◌, ◌∙◌, ℕ, zero, suc, ◌<◌, ◌≤◌, Bool, true, false, cond, List, []}
-use Rattle.std.proofs.Common.{◌∷◌, length, map, filter, get_or, Some, refl, sym, ap, subst, arith}
+use Rattle.std.proofs.Common.{◌≡◌, ◌∙◌, ℕ, zero, suc, ◌<◌, ◌≤◌, Bool, false, cond, List, []}
+use Rattle.std.proofs.Common.{◌∷◌, length, map, filter, get_or, refl, sym, ap, subst, arith}
 use Rattle.std.proofs.Math.ListN.{set, get_or-map}
 use Rattle.std.specs.List.{swap, IsDistinct, AllByRecursion}
 use Rattle.std.specs.List.Sorted.{IsPermutation}

@@ -1,6 +1,6 @@
 -- What passes a test, of a list and of the same elements in another order.
 use Rattle.dwp_base.proofs.Bools.{by-bool}
-use Rattle.std.proofs.Common.{◌≡◌, ℕ, zero, suc, ◌<◌, Bool, true, false, cond, List, [], ◌∷◌, ◌++◌}
+use Rattle.std.proofs.Common.{◌≡◌, ℕ, zero, suc, ◌<◌, Bool, cond, List, [], ◌∷◌, ◌++◌}
 use Rattle.std.proofs.Common.{length, filter, get_or, sym, subst, refl, arith, append_assoc}
 use Rattle.std.proofs.Math.ListN.{set}
 use Rattle.std.specs.List.{swap}
