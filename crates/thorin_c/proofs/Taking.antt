@@ -25,7 +25,7 @@ use Rattle.thorin_c.specs.Packing.{bytes_of, all_taken, Accepts, RefusesAt, Stop
 use Rattle.thorin_c.specs.Packing.{TellsRefused, TellsLeft, TellsUnfinished, Refuses, RunsOutAt}
 use Rattle.thorin_c.specs.Packing.{RunsOutAfter, IsPackage, ArePackedAgain, Differ}
 use Rattle.thorin_c.specs.declared.types.ThorinBytes.{ThorinBytes}
-use Rattle.thorin.proofs.RunTaken.{state-eq}
+use Rattle.dwp_base.proofs.Steps.{bind-was, same-ok}
 
 abbrev value : Result State ErrorValue → State → State
 value (Ok s) other = s
@@ -137,16 +137,10 @@ packs inputs old state signatures bytes is accepted written joined differ = reco
 
 each-taken : (inputs : List ThorinBytes) (old new : State) → all_taken inputs old ≡ Ok new
     → AreTaken (bytes_of inputs) old new
-each-taken [] old new h = (old.targets, sym (state-eq old new h))
+each-taken [] old new h = (old.targets, sym (same-ok old new h))
 each-taken (x ∷ rest) old new h =
-    by (taken x.bytes.now old) refl (λ next k. each-taken rest next new k) h
-  where
-    by : (first : Result State ErrorValue) → taken x.bytes.now old ≡ first
-        → ((next : State) → all_taken rest next ≡ Ok new → AreTaken (bytes_of rest) next new)
-        → (first >>= λ next. all_taken rest next) ≡ Ok new
-        → AreTaken (bytes_of (x ∷ rest)) old new
-    by (Ok next) is later k = (old.targets, next, is, later next k)
-    by (Err e) is later k = absurd cc
+    let s = bind-was (taken x.bytes.now old) _ new h in
+    (old.targets, s.0, s.1, each-taken rest s.0 new s.2)
 
 abbrev pub AgainLaw : Type 0
 AgainLaw = (accepted : List (List ℕ)) (state : State) (bytes : List ℕ)
