@@ -2,4 +2,3 @@ pub mod Contents
 pub mod Units
 pub mod Input
 pub mod Finished
-pub mod Container

@@ -1,7 +1,7 @@
--- How many bytes the contents of a finished file have.
+-- How many bytes the contents of a finished file have, and the ELF file beside them.
 use Rattle.std.proofs.Common.{◌≡◌, ◌∙◌, ℕ, ◌+◌, ◌*◌, Bool, true, false, cond, eqb, List, [], ◌∷◌}
-use Rattle.std.proofs.Common.{◌++◌, length, refl, ap, Option, Some, None, suc-mul, zero-mul, arith}
-use Rattle.std.specs.Prelude.{MatchOption, slice_get}
+use Rattle.std.proofs.Common.{◌++◌, length, refl, ap, Option, arith}
+use Rattle.std.proofs.Common.{◌≤◌, nat_le}
 use Rattle.std.proofs.lemmas.List.{length-append, length-map}
 use Rattle.std.proofs.lemmas.List.Sums.{sum_by-cons}
 use Rattle.dwp_base.specs.declared.endian.Endianness.{Endianness}
@@ -11,32 +11,35 @@ use Rattle.dwp_base.specs.declared.section.SectionKind.{SectionKind}
 use Rattle.dwp_base.specs.declared.section.SectionKind.TheVariants as kinds
 use Rattle.dwp_base.specs.Numbers.{number_bytes}
 use Rattle.dwp_bytes.specs.Encoding.{index_version_of}
-use Rattle.dwp_elf.specs.FileText.{Object as File}
-use Rattle.dwp_table.specs.Table.{HasSlots, signature_of}
-use Rattle.thorin_strings.specs.Strings.{terminated, data_of}
+use Rattle.dwp_elf.specs.FileText.{Object as File, Object, content_bytes, names_of, name_table}
+use Rattle.dwp_elf.specs.FileText.{file_text}
+use Rattle.dwp_table.specs.Table.{signature_of}
+use Rattle.thorin_strings.specs.Strings.{data_of}
 use Rattle.thorin_index.specs.declared.entry.IndexEntry.{IndexEntry}
 use Rattle.thorin_index.specs.Entries.{offset_or_0, size_or_0}
-use Rattle.thorin_index.specs.IndexText.{numbers_bytes, version_bytes, used_sections}
+use Rattle.thorin_index.specs.IndexText.{numbers_bytes, used_sections}
 use Rattle.thorin_index.specs.IndexText.{column_numbers, row_numbers, rows_bytes, signatures_bytes}
-use Rattle.thorin_index.specs.IndexText.{entry_ids, index_bytes, IsIndexText, IsIndexOf}
-use Rattle.thorin_input.specs.Growing.{with_bytes}
+use Rattle.thorin_index.specs.IndexText.{entry_ids, index_bytes, IsIndexOf}
+use Rattle.thorin_input.specs.Growing.{with_bytes, Contents}
 use Rattle.thorin_join.specs.Builder.{IsFinished}
 use Rattle.thorin_join.specs.Sizes.{bytes_of_contents, bytes_of_strings, bytes_of_index}
-use Rattle.thorin_join.specs.Sizes.{IsSizeOfIndex, IsSizeFinished}
+use Rattle.thorin_join.specs.Sizes.{IsSizeOfIndex, IsSizeFinished, container_most}
 use Rattle.thorin_join.specs.State.{InProgress}
-use Rattle.thorin_join.proofs.Sizes.Contents.{with_bytes-long}
+use Rattle.thorin_join.proofs.Sizes.Contents.{with_bytes-long, cons-long}
+use Rattle.std.proofs.lemmas.Bool.{leb-true}
+use Rattle.dwp_base.specs.declared.class.Class.{Class}
+use Rattle.dwp_base.specs.declared.class.Class.TheVariants.{Elf32, Elf64}
+use Rattle.dwp_base.specs.Sections.{name_of}
+use Rattle.dwp_base.proofs.EveryKind.{every}
+use Rattle.dwp_elf.specs.Contents.{KindsDiffer}
+use Rattle.dwp_elf.specs.Places.{file_length}
 
 -- ---- strings
 strings-long : (strings : List (List ℕ)) → length (data_of strings) ≡ bytes_of_strings strings
 strings-long [] = refl
-strings-long (s ∷ ss) = omega (
-  arith,
-  length-append (terminated s) (data_of ss),
-  length-append s
-      (0 ∷ []),
-  strings-long ss,
-  sum_by-cons (λ (string : List ℕ). length string + 1) s ss,
-)
+strings-long (s ∷ ss) =
+    let most = sum_by-cons (λ (string : List ℕ). length string + 1) s ss in
+    omega (arith, most, length-append {A = ℕ}, strings-long ss)
 
 -- ---- numbers
 four-long : (order : Endianness) (n : ℕ) → length (number_bytes order 4 n) ≡ 4
@@ -57,41 +60,25 @@ version-by Big false = refl
 numbers-long : (order : Endianness) (numbers : List ℕ) → length (numbers_bytes order numbers) ≡ 4
     * length numbers
 numbers-long order [] = refl
-numbers-long order (n ∷ ns) = omega (
-  arith,
-  length-append (number_bytes order 4 n)
-      (numbers_bytes order ns),
-  four-long order n,
-  numbers-long order ns,
-)
+numbers-long order (n ∷ ns) =
+    omega (arith, length-append {A = ℕ}, four-long order n, numbers-long order ns)
 
 signatures-long : (order : Endianness) (ids rows : List ℕ)
     → length (signatures_bytes order ids rows) ≡ 8 * length rows
 signatures-long order ids [] = refl
-signatures-long order ids (row ∷ rows) = omega (
-  arith,
-  length-append (number_bytes order 8
-      (signature_of ids row)) (signatures_bytes order ids rows),
-  eight-long order
-      (signature_of ids row),
-  signatures-long order ids rows,
-)
+signatures-long order ids (row ∷ rows) =
+    let one = eight-long order (signature_of ids row) in
+    omega (arith, one, length-append {A = ℕ}, signatures-long order ids rows)
 
 rows-long : (order : Endianness) (measure : Option Contribution → ℕ) (columns : List SectionKind)
     (entries : List IndexEntry) → length (rows_bytes order measure columns entries) ≡ 4
     * (length entries * length columns)
-rows-long order measure columns [] = omega (arith, zero-mul (length columns))
+rows-long order measure columns [] = omega arith
 rows-long order measure columns (e ∷ es) =
     let row = row_numbers measure columns e in
     let many : length row ≡ length columns = length-map columns _ in
-    omega (
-      arith,
-      length-append (numbers_bytes order row) (rows_bytes order measure columns es),
-      numbers-long order row,
-      many,
-      rows-long order measure columns es,
-      suc-mul (length es) (length columns),
-    )
+    let rest = rows-long order measure columns es in
+    omega (arith, length-append {A = ℕ}, numbers-long order row, many, rest)
 
 -- ---- an index
 index-long : (order : Endianness) (version : ℕ) (columns : List SectionKind)
@@ -102,21 +89,11 @@ unfolding index_bytes
 index-long order version columns entries rows =
     let numbers = column_numbers version columns in
     let counts = length columns ∷ length entries ∷ length rows ∷ [] in
-    let front = version_bytes order version ++ numbers_bytes order counts in
-    let ids = signatures_bytes order (entry_ids entries) rows in
-    let slots = front ++ ids ++ numbers_bytes order rows in
-    let headed = slots ++ numbers_bytes order numbers in
-    let offsets = rows_bytes order offset_or_0 columns entries in
     let many : length numbers ≡ length columns = length-map columns _ in
     omega (
       arith,
       many,
-      length-append (version_bytes order version) (numbers_bytes order counts),
-      length-append front ids,
-      length-append (front ++ ids) (numbers_bytes order rows),
-      length-append slots (numbers_bytes order numbers),
-      length-append headed offsets,
-      length-append (headed ++ offsets) (rows_bytes order size_or_0 columns entries),
+      length-append {A = ℕ},
       version-by order (eqb version 5),
       numbers-long order counts,
       signatures-long order (entry_ids entries) rows,
@@ -126,22 +103,15 @@ index-long order version columns entries rows =
       rows-long order size_or_0 columns entries,
     )
 
-index-by : (order : Endianness) (first : Option IndexEntry) (entries : List IndexEntry)
-    (bytes : List ℕ) → MatchOption first (bytes ≡ []) (λ first. IsIndexText order
-    (index_version_of first.encoding.version) entries bytes)
-    → MatchOption first (length bytes ≡ 0) (λ first. (slots : ℕ) × HasSlots (length entries) slots
-    × (length bytes ≡ bytes_of_index slots (length (used_sections entries)) (length entries)))
-index-by order None entries bytes h = ap length h
-index-by order (Some first) entries bytes h = (
+index-size : (order : Endianness) (entries : List IndexEntry) (bytes : List ℕ)
+    → IsIndexOf order entries bytes → IsSizeOfIndex entries (length bytes)
+index-size order [] bytes h = ap length h
+index-size order (first ∷ entries) bytes h = (
   length h.rows,
   h.slots,
   ap length h.text ∙ index-long order (index_version_of first.encoding.version)
-      (used_sections entries) entries h.rows,
+      (used_sections (first ∷ entries)) (first ∷ entries) h.rows,
 )
-
-index-size : (order : Endianness) (entries : List IndexEntry) (bytes : List ℕ)
-    → IsIndexOf order entries bytes → IsSizeOfIndex entries (length bytes)
-index-size order entries bytes h = index-by order (slice_get entries 0) entries bytes h
 
 -- ---- the file
 pub finished-size : (made : InProgress) (file : File) → IsFinished made file
@@ -164,3 +134,35 @@ finished-size made file f =
         strings-long made.strings,
       );
     }
+
+-- ---- an ELF file has few bytes beside its contents
+contents-long : (cs : Contents) → length (content_bytes cs) ≡ bytes_of_contents cs
+unfolding content_bytes
+contents-long [] = refl
+contents-long (c ∷ cs) =
+    omega (arith, length-append {A = ℕ}, contents-long cs, cons-long c cs)
+
+name-within : (kind : SectionKind) → length (name_of kind) ≤ 22
+name-within kind = leb-true _ 22 (every (λ k. nat_le (length (name_of k)) 22) refl kind)
+
+names-within : (cs : Contents) → length (names_of cs) ≤ 23 * length cs
+unfolding names_of
+names-within [] = omega arith
+names-within (c ∷ cs) =
+    omega (arith, length-append {A = ℕ}, name-within c.0, names-within cs)
+
+table-within : (cs : Contents) → length (name_table cs) ≤ 11 + 23 * length cs
+table-within cs = omega (arith, length-append {A = ℕ}, names-within cs)
+
+length-within : (class : Class) (cs : Contents) → length cs ≤ 13 → file_length class cs ≤
+    bytes_of_contents cs + container_most
+length-within Elf32 cs few = omega (arith, contents-long cs, table-within cs)
+length-within Elf64 cs few = omega (arith, contents-long cs, table-within cs)
+
+pub file-within : ((o : Object) → length (file_text o) ≡ file_length o.class o.contents)
+    → ((contents : Contents) → KindsDiffer contents → length contents ≤ 13)
+    → (file : Object) → KindsDiffer file.contents
+    → length (file_text file) ≤ bytes_of_contents file.contents + container_most
+file-within size sections file differ =
+    let few = length-within file.class file.contents (sections file.contents differ) in
+    omega (arith, size file, few)

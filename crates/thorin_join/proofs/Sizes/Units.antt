@@ -85,14 +85,9 @@ each-long source kind (read ∷ rest) us h =
     let a = bind-was (named_unit source kind read) _ us h in
     let b = bind-was (named_each source kind rest) _ us a.2 in
     let is = ap (sum_by read_bytes) (same-ok {E = ErrorValue} (a.0 ∷ b.0) us b.2) in
-    omega (
-      arith,
-      is,
-      named-long source kind read a.0 a.1,
-      each-long source kind rest b.0 b.1,
-      sum_by-cons read_bytes a.0 b.0,
-      sum_by-cons read_long read rest,
-    )
+    let one = named-long source kind read a.0 a.1 in
+    let later = each-long source kind rest b.0 b.1 in
+    omega (arith, is, one, later, sum_by-cons read_bytes a.0 b.0, sum_by-cons read_long read rest)
 
 -- ---- by sections
 abbrev pub placed_bytes : Option UnitSection → Used → ℕ
@@ -123,14 +118,10 @@ sections-within taken source (from ∷ rest) us h =
     let a = bind-was (named_at source from (unit_section from.kind)) _ us h in
     let b = bind-was (named_sections source rest) _ us a.2 in
     let is = ap (sum_by read_bytes) (same-ok {E = ErrorValue} (a.0 ++ b.0) us b.2) in
-    omega (
-      arith,
-      is,
-      section-within taken source from (unit_section from.kind) a.0 a.1,
-      sections-within taken source rest b.0 b.1,
-      sum_by-append read_bytes a.0 b.0,
-      sum_by-cons unit_bytes from rest,
-    )
+    let here = section-within taken source from (unit_section from.kind) a.0 a.1 in
+    let later = sections-within taken source rest b.0 b.1 in
+    let both = sum_by-append read_bytes a.0 b.0 in
+    omega (arith, is, here, later, both, sum_by-cons unit_bytes from rest)
 
 -- ---- what is added of them
 joining-within : (names : List DwarfObject) (us : List (DwarfObject × UnitRead))
@@ -140,12 +131,9 @@ joining-within names (u ∷ us) =
     let all = sum_by-cons read_bytes u us in
     by-bool _ (list_any (same_name u.0) names)
     (λ there. rw there (omega (arith, all, joining-within names us)))
-    (λ new. rw new (omega (
-      arith,
-      all,
-      joining-within (names ++ u.0 ∷ []) us,
-      sum_by-cons read_bytes u (joining (names ++ u.0 ∷ []) us),
-    )))
+    (λ new. let later = joining (names ++ u.0 ∷ []) us in
+    rw new
+    (omega (arith, all, joining-within (names ++ u.0 ∷ []) us, sum_by-cons read_bytes u later)))
 
 added-long : (adding : Adding) (ns : List (DwarfObject × NewUnit))
     (rs : List (DwarfObject × UnitRead)) → AreAdded adding ns rs
@@ -155,13 +143,8 @@ added-long adding [] (r ∷ rs) are = absurd are
 added-long adding (n ∷ ns) [] are = absurd are
 added-long adding (n ∷ ns) (r ∷ rs) are =
     let own = ap (λ (l : List ℕ). length l) are.0.bytes in
-    omega (
-      arith,
-      own,
-      added-long adding ns rs are.1,
-      sum_by-cons unit_long n ns,
-      sum_by-cons read_bytes r rs,
-    )
+    let later = added-long adding ns rs are.1 in
+    omega (arith, own, later, sum_by-cons unit_long n ns, sum_by-cons read_bytes r rs)
 
 pub new-within : UnitsAreTaken → (adding : Adding) (new : New) → new_units adding ≡ Ok new
     → sum_by unit_long new.units ≤ sum_by unit_bytes adding.source.object.sections

@@ -1,6 +1,6 @@
 -- The units of an input are whole units of their names, wherever their bytes come to stand.
 use Rattle.std.proofs.Common.{◌≡◌, ◌∙◌, inl, inr, ℕ, zero, suc, ◌+◌, Bool, true, false, cond}
-use Rattle.std.proofs.Common.{nat_eq, List, [], ◌∷◌, ◌++◌, length, take, drop, ap, sym, refl, subst}
+use Rattle.std.proofs.Common.{nat_eq, List, [], ◌∷◌, ◌++◌, length, drop, ap, sym, refl, subst}
 use Rattle.std.proofs.Common.{Result, Ok, Err, Option, Some, None, arith}
 use Rattle.std.specs.Prelude.{slice_get}
 use Rattle.std.specs.List.{list_any}
@@ -56,65 +56,6 @@ record ReadAt (order : Endianness) (place : UnitSection) (unit : Header) : Type 
   rest : Input
   read : unit_at place (plain order d left) ≡ Ok (unit, rest)
 
-within-at : UnitsAreTaken → (n : ℕ) (order : Endianness) (place : UnitSection) (d : ℕ)
-    (left : List ℕ) (k : ℕ) (u : Header)
-    → slice_get (units_within n place (plain order d left)) k ≡ Some (Ok u) → ReadAt order place u
-unfolding units_within
-within-at taken zero order place d left k u h = absurd cc
-within-at taken (suc n) order place d left k u h =
-    by (nat_eq (length left) 0) (unit_at place (plain order d left)) k refl h (λ e m j g.
-    within-at taken n order place e m j u g)
-  where
-    by : (e : Bool) (r : Result (Header × Input) ReadError) (k : ℕ)
-        → unit_at place (plain order d left) ≡ r
-        → slice_get (cond e [] (listed r (units_within n place))) k ≡ Some (Ok u)
-        → ((e : ℕ) (m : List ℕ) (j : ℕ) → slice_get (units_within n place (plain order e m)) j ≡
-        Some (Ok u) → ReadAt order place u) → ReadAt order place u
-    by true r k e h' go = absurd cc
-    by false (Ok x) zero e h' go =
-        let same : x.0 ≡ u = cc in
-        record { d = d; left = left; rest = x.1; read = e ∙ ap (λ (v : Header). Ok (v, x.1)) same }
-    by false (Ok x) (suc k) e h' go =
-        let t = taken place (plain order d left) x.1 x.0 e in
-        go (d + t.0.taken) (drop t.0.taken left) k (ap (λ i. slice_get (units_within n place i) k)
-        (sym t.0.is) ∙ h')
-    by false (Err f) zero e h' go = absurd cc
-    by false (Err f) (suc k) e h' go = absurd cc
-
-alone-of : UnitsAreTaken → (order : Endianness) (place : UnitSection) (unit : Header)
-    → ReadAt order place unit → encoding_in order place (unit_bytes unit) ≡ Ok unit.encoding
-    → ReadsAlone order place unit
-unfolding encoding_in
-alone-of taken order place unit at enc =
-    let t = taken place (plain order at.d at.left) at.rest unit at.read in
-    let own = unit.whole.bytes in
-    let more = drop t.0.taken at.left in
-    let own_is : own ≡ take t.0.taken at.left = ap (λ (i : Input). i.bytes) t.1 in
-    let whole_is : own ++ more ≡ at.left = ap (λ l. l ++ more) own_is ∙ take-append-drop
-    t.0.taken at.left in
-    let s = bind-was (unit_at place (section order own)) _ unit.encoding enc in
-    let moved = unit-moves taken order place own more at.d s.0.0 s.0.1 s.1 in
-    let same : moved.unit ≡ unit = ap (λ (x : Header × Input). x.0)
-    (same-ok _ _ (sym moved.read ∙ ap (λ l. unit_at place (plain order at.d l))
-    whole_is ∙ at.read)) in
-    record {
-      alone = s.0.0;
-      rest = s.0.1;
-      read = s.1;
-      whole = sym (ap (λ (i : Input). i.bytes) moved.whole) ∙ ap (λ (v : Header).
-          v.whole.bytes) same;
-      type = moved.type ∙ ap (λ (v : Header). v.unit_type) same;
-      encoding = same-ok _ _ s.2;
-      behind = at.d;
-      shifted = subst (IsShifted at.d s.0.0) same (record {
-        type = sym moved.type;
-        encoding =
-            sym moved.encoding;
-        offset = moved.offset;
-        entries = moved.entries;
-      });
-    }
-
 -- what is known of a unit that was read in a section of that place
 abbrev pub IsKnown : Endianness → UnitSection → Header → Type 0
 IsKnown order place unit = ReadsAlone order place unit × (place ≡ places.Types → FiveOrType unit)
@@ -122,31 +63,6 @@ IsKnown order place unit = ReadsAlone order place unit × (place ≡ places.Type
 abbrev pub AreKnown : Endianness → UnitSection → Listed → Type 0
 AreKnown order place reads = (k : ℕ) (unit : Header) → slice_get reads k ≡ Some (Ok unit)
     → IsKnown order place unit
-
-pub known-in : UnitsAreTaken → ReadAlone → (order : Endianness) (place : UnitSection)
-    (bytes : List ℕ) → AreKnown order place (units place (section order bytes))
-unfolding units
-known-in taken alone order place bytes k unit h =
-    let at = within-at taken (length bytes) order place 0 bytes k unit h in (
-      alone-of taken order place unit at (alone order place bytes k unit h),
-      λ is. unit-five (plain order at.d at.left) (unit, at.rest)
-          (ap (λ p. unit_at p (plain order at.d at.left)) (sym is) ∙ at.read),
-    )
-
-whole-by : UnitsAreTaken → (order : Endianness) (place : UnitSection) (name : DwarfObject)
-    (unit : Header) → ReadsAlone order place unit → type_signature unit.unit_type ≡
-    name_signature name
-    → IsWhole order place name unit.whole.bytes
-whole-by taken order place name unit a sort =
-    let t = taken place (section order unit.whole.bytes) a.rest a.alone a.read in
-    record {
-      unit = a.alone;
-      rest = a.rest;
-      read = a.read;
-      whole = a.whole;
-      some = let least = t.0.some in let most = t.0.enough in omega arith;
-      sort = ap type_signature a.type ∙ sort;
-    }
 
 -- in the other section
 pub other-alone : (order : Endianness) (place other : UnitSection) (unit : Header)
@@ -172,19 +88,6 @@ pub five-named : (unit : Header) (sort : type_signature unit.unit_type ≡ None)
 five-named unit sort (inl five) = five
 five-named unit sort (inr t) = absurd (none-some t.0 (sym sort ∙ ap type_signature t.2))
 
-unit-goes : UnitsAreTaken → (order : Endianness) (place : UnitSection) (name : DwarfObject)
-    (unit : Header) → IsKnown order place unit → type_signature unit.unit_type ≡ name_signature name
-    → Goes order (name, record { from = kind_at place; unit = unit })
-unit-goes taken order places.Info (Compilation id) unit known sort = whole-by taken order
-    places.Info (Compilation id) unit known.0 sort
-unit-goes taken order places.Info (TypeUnit signature) unit known sort = whole-by taken order
-    places.Info (TypeUnit signature) unit known.0 sort
-unit-goes taken order places.Types (Compilation id) unit known sort =
-    whole-by taken order places.Info (Compilation id) unit (other-alone order places.Types
-    places.Info unit (five-named unit sort (known.1 refl)) known.0) sort
-unit-goes taken order places.Types (TypeUnit signature) unit known sort = whole-by taken order
-    places.Types (TypeUnit signature) unit known.0 sort
-
 abbrev pub AllGo : Endianness → List (DwarfObject × UnitRead) → Type 0
 AllGo order [] = Unit {0}
 AllGo order (u ∷ us) = Goes order u × AllGo order us
@@ -207,63 +110,140 @@ pub error-ok : (f : ReadError → ErrorValue) (r : Result Header ReadError) (x :
     → as_error f r ≡ Ok x → r ≡ Ok x
 error-ok = as_error_ok
 
-named-goes : UnitsAreTaken → (source : Source) (kind : SectionKind) (place : UnitSection)
-    (read : Result Header ReadError) (u : DwarfObject × UnitRead)
-    → unit_section kind ≡ Some place → ((unit : Header) → read ≡ Ok unit
-    → IsKnown source.object.order place unit) → named_unit source kind read ≡ Ok u
-    → Goes source.object.order u
-unfolding named_unit
-named-goes taken source kind place read u at known h =
-    let a = bind-was (as_error ParseUnitHeader read) _ u h in
-    let b = bind-was (name_for source kind a.0) _ u a.2 in
-    let id = name-identity source kind a.0 b.0 b.1 in
-    let goes = unit-goes taken source.object.order place b.0 a.0
-    (known a.0 (error-ok ParseUnitHeader read a.0 a.1)) (identity-sort id.0 a.0 b.0 id.1) in
-    subst (Goes source.object.order) (same-ok _ u b.2)
-    (subst (λ k. Goes source.object.order (b.0, record { from = k; unit = a.0 }))
-    (sym (kind-place kind place at)) goes)
+module _ (taken : UnitsAreTaken) (alone : ReadAlone) where
+  within-at : (n : ℕ) (order : Endianness) (place : UnitSection) (d : ℕ) (left : List ℕ) (k : ℕ)
+      (u : Header) → slice_get (units_within n place (plain order d left)) k ≡ Some (Ok u)
+      → ReadAt order place u
+  unfolding units_within
+  within-at zero order place d left k u h = absurd cc
+  within-at (suc n) order place d left k u h =
+      by (nat_eq (length left) 0) (unit_at place (plain order d left)) k refl h (λ e m j g.
+      within-at n order place e m j u g)
+    where
+      by : (e : Bool) (r : Result (Header × Input) ReadError) (k : ℕ)
+          → unit_at place (plain order d left) ≡ r
+          → slice_get (cond e [] (listed r (units_within n place))) k ≡ Some (Ok u)
+          → ((e : ℕ) (m : List ℕ) (j : ℕ) → slice_get (units_within n place (plain order e m)) j ≡
+          Some (Ok u) → ReadAt order place u) → ReadAt order place u
+      by true r k e h' go = absurd cc
+      by false (Ok x) zero e h' go =
+          let same : x.0 ≡ u = cc in
+          record { d = d; left = left; rest = x.1; read = e ∙ ap (λ (v : Header). Ok (v, x.1)) same }
+      by false (Ok x) (suc k) e h' go =
+          let t = taken place (plain order d left) x.1 x.0 e in
+          go (d + t.0.taken) (drop t.0.taken left) k (rw t.0.is at h')
+      by false (Err f) zero e h' go = absurd cc
+      by false (Err f) (suc k) e h' go = absurd cc
 
-each-goes : UnitsAreTaken → (source : Source) (kind : SectionKind) (place : UnitSection)
-    (reads : Listed) (us : List (DwarfObject × UnitRead))
-    → unit_section kind ≡ Some place → AreKnown source.object.order place reads
-    → named_each source kind reads ≡ Ok us → AllGo source.object.order us
-unfolding named_each
-each-goes taken source kind place [] us at known h = subst (AllGo source.object.order)
-    (same-ok [] us h) tt
-each-goes taken source kind place (read ∷ rest) us at known h =
-    let a = bind-was (named_unit source kind read) _ us h in
-    let b = bind-was (named_each source kind rest) _ us a.2 in
-    let one = named-goes taken source kind place read a.0 at (λ unit is.
-    known 0 unit (ap Some is)) a.1 in
-    let others = each-goes taken source kind place rest b.0 at (λ k unit is.
-    known (suc k) unit is) b.1 in
-    subst (AllGo source.object.order) (same-ok (a.0 ∷ b.0) us b.2) (one, others)
+  alone-of : (order : Endianness) (place : UnitSection) (unit : Header) → ReadAt order place unit
+      → encoding_in order place (unit_bytes unit) ≡ Ok unit.encoding → ReadsAlone order place unit
+  unfolding encoding_in
+  alone-of order place unit at enc =
+      let t = taken place (plain order at.d at.left) at.rest unit at.read in
+      let own = unit.whole.bytes in
+      let more = drop t.0.taken at.left in
+      let whole_is : own ++ more ≡ at.left = ap (λ (i : Input). i.bytes ++ more) t.1
+      ∙ take-append-drop t.0.taken at.left in
+      let s = bind-was (unit_at place (section order own)) _ unit.encoding enc in
+      let moved = unit-moves taken order place own more at.d s.0.0 s.0.1 s.1 in
+      let same : moved.unit ≡ unit = ap (λ (x : Header × Input). x.0)
+      (same-ok _ _ (sym moved.read ∙ ap (λ l. unit_at place (plain order at.d l))
+      whole_is ∙ at.read)) in
+      record {
+        alone = s.0.0;
+        rest = s.0.1;
+        read = s.1;
+        whole = sym (ap (λ (i : Input). i.bytes) moved.whole) ∙ ap (λ (v : Header).
+            v.whole.bytes) same;
+        type = moved.type ∙ ap (λ (v : Header). v.unit_type) same;
+        encoding = same-ok _ _ s.2;
+        behind = at.d;
+        shifted = subst (IsShifted at.d s.0.0) same (record {
+          type = sym moved.type;
+          encoding = sym moved.encoding;
+          offset = moved.offset;
+          entries = moved.entries;
+        });
+      }
 
-at-goes : UnitsAreTaken → ReadAlone → (source : Source) (from : Used) (place : Option UnitSection)
-    (us : List (DwarfObject × UnitRead))
-    → unit_section from.kind ≡ place → named_at source from place ≡ Ok us
-    → AllGo source.object.order us
-at-goes taken alone source from None us at h = subst (AllGo source.object.order)
-    (same-ok [] us h) tt
-at-goes taken alone source from (Some place) us at h =
-    each-goes taken source from.kind place (units place (section source.object.order from.bytes)) us
-    at (known-in taken alone source.object.order place from.bytes) h
+  pub known-in : (order : Endianness) (place : UnitSection) (bytes : List ℕ)
+      → AreKnown order place (units place (section order bytes))
+  unfolding units
+  known-in order place bytes k unit h =
+      let at = within-at (length bytes) order place 0 bytes k unit h in (
+        alone-of order place unit at (alone order place bytes k unit h),
+        λ is. unit-five (plain order at.d at.left) (unit, at.rest)
+            (ap (λ p. unit_at p (plain order at.d at.left)) (sym is) ∙ at.read),
+      )
 
-sections-go : UnitsAreTaken → ReadAlone → (source : Source) (sections : List Used)
-    (us : List (DwarfObject × UnitRead)) → named_sections source sections ≡ Ok us
-    → AllGo source.object.order us
-unfolding named_sections
-sections-go taken alone source [] us h = subst (AllGo source.object.order) (same-ok [] us h) tt
-sections-go taken alone source (from ∷ rest) us h =
-    let a = bind-was (named_at source from (unit_section from.kind)) _ us h in
-    let b = bind-was (named_sections source rest) _ us a.2 in
-    let here = at-goes taken alone source from (unit_section from.kind) a.0 refl a.1 in
-    let others = sections-go taken alone source rest b.0 b.1 in
-    subst (AllGo source.object.order) (same-ok (a.0 ++ b.0) us b.2)
-    (go-append source.object.order a.0
-    b.0 here others)
+  whole-by : (order : Endianness) (place : UnitSection) (name : DwarfObject) (unit : Header)
+      → ReadsAlone order place unit → type_signature unit.unit_type ≡ name_signature name
+      → IsWhole order place name unit.whole.bytes
+  whole-by order place name unit a sort =
+      let t = taken place (section order unit.whole.bytes) a.rest a.alone a.read in
+      record {
+        unit = a.alone;
+        rest = a.rest;
+        read = a.read;
+        whole = a.whole;
+        some = let least = t.0.some in let most = t.0.enough in omega arith;
+        sort = ap type_signature a.type ∙ sort;
+      }
 
--- all units of an input do so
-pub units-go : UnitsAreTaken → ReadAlone → (source : Source) (all : List (DwarfObject × UnitRead))
-    → source_units source ≡ Ok all → AllGo source.object.order all
-units-go taken alone source all h = sections-go taken alone source source.object.sections all h
+  unit-goes : (order : Endianness) (place : UnitSection) (name : DwarfObject) (unit : Header)
+      → IsKnown order place unit → type_signature unit.unit_type ≡ name_signature name
+      → Goes order (name, record { from = kind_at place; unit = unit })
+  unit-goes order places.Info (Compilation id) unit known sort =
+      whole-by order places.Info (Compilation id) unit known.0 sort
+  unit-goes order places.Info (TypeUnit signature) unit known sort =
+      whole-by order places.Info (TypeUnit signature) unit known.0 sort
+  unit-goes order places.Types (Compilation id) unit known sort =
+      whole-by order places.Info (Compilation id) unit (other-alone order places.Types places.Info
+      unit (five-named unit sort (known.1 refl)) known.0) sort
+  unit-goes order places.Types (TypeUnit signature) unit known sort =
+      whole-by order places.Types (TypeUnit signature) unit known.0 sort
+
+  module _ (source : Source) where
+    abbrev order : Endianness
+    order = source.object.order
+
+    each-goes : (kind : SectionKind) (place : UnitSection) (reads : Listed)
+        (us : List (DwarfObject × UnitRead)) → unit_section kind ≡ Some place
+        → AreKnown order place reads → named_each source kind reads ≡ Ok us → AllGo order us
+    unfolding named_each named_unit
+    each-goes kind place [] us at known h = subst (AllGo order) (same-ok {E = ErrorValue} [] us h) tt
+    each-goes kind place (read ∷ rest) us at known h =
+        let a = bind-was (named_unit source kind read) _ us h in
+        let b = bind-was (named_each source kind rest) _ us a.2 in
+        let unit = bind-was (as_error ParseUnitHeader read) _ a.0 a.1 in
+        let name = bind-was (name_for source kind unit.0) _ a.0 unit.2 in
+        let id = name-identity source kind unit.0 name.0 name.1 in
+        let goes = unit-goes order place name.0 unit.0
+        (known 0 unit.0 (ap Some (error-ok ParseUnitHeader read unit.0 unit.1)))
+        (identity-sort id.0 unit.0 name.0 id.1) in
+        let one = subst (Goes order) (same-ok {E = ErrorValue} _ a.0 name.2)
+        (subst (λ k. Goes order (name.0, record { from = k; unit = unit.0 }))
+        (sym (kind-place kind place at)) goes) in
+        subst (AllGo order) (same-ok {E = ErrorValue} (a.0 ∷ b.0) us b.2)
+        (one, each-goes kind place rest b.0 at (λ k unit is. known (suc k) unit is) b.1)
+
+    at-goes : (from : Used) (place : Option UnitSection) (us : List (DwarfObject × UnitRead))
+        → unit_section from.kind ≡ place → named_at source from place ≡ Ok us → AllGo order us
+    at-goes from None us at h = subst (AllGo order) (same-ok {E = ErrorValue} [] us h) tt
+    at-goes from (Some place) us at h = each-goes from.kind place
+        (units place (section order from.bytes)) us at (known-in order place from.bytes) h
+
+    sections-go : (sections : List Used) (us : List (DwarfObject × UnitRead))
+        → named_sections source sections ≡ Ok us → AllGo order us
+    unfolding named_sections
+    sections-go [] us h = subst (AllGo order) (same-ok {E = ErrorValue} [] us h) tt
+    sections-go (from ∷ rest) us h =
+        let a = bind-was (named_at source from (unit_section from.kind)) _ us h in
+        let b = bind-was (named_sections source rest) _ us a.2 in
+        subst (AllGo order) (same-ok {E = ErrorValue} (a.0 ++ b.0) us b.2) (go-append order a.0 b.0
+        (at-goes from (unit_section from.kind) a.0 refl a.1) (sections-go rest b.0 b.1))
+
+    -- all units of an input do so
+    pub units-go : (all : List (DwarfObject × UnitRead)) → source_units source ≡ Ok all
+        → AllGo order all
+    units-go all h = sections-go source.object.sections all h

@@ -1,5 +1,4 @@
-use Rattle.thorin_join.proofs.Sizes.Container.{file-within}
-use Rattle.thorin_join.proofs.Sizes.Finished.{finished-size}
+use Rattle.thorin_join.proofs.Sizes.Finished.{finished-size, file-within}
 use Rattle.thorin_join.proofs.laws.finished_packages_have_their_sizes.Goals as goal
 
 pub returns-clause-contents : goal.returns-clause-contents
