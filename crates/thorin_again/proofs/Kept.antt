@@ -1,7 +1,8 @@
 -- What plain objects of one encoding keep of a package.
+pub mod Encodings
+pub mod EachUnit
 pub mod OneEncoding
 pub mod LongerTables
-pub mod PlainObject
 pub mod SharedParts
 pub mod ObjectNames
 pub mod Names

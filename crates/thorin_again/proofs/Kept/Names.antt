@@ -4,7 +4,7 @@ use Rattle.std.proofs.Common.{◌≡◌, ◌∙◌, ℕ, ◌+◌, ◌<◌, ◌�
 use Rattle.std.proofs.Common.{◌++◌, length, refl, sym, ap, subst, Ok, Some, arith, length-append}
 use Rattle.std.proofs.Common.{⊎_elim}
 use Rattle.std.specs.Prelude.{find}
-use Rattle.std.specs.List.{list_any, list_all}
+use Rattle.std.specs.List.{list_all}
 use Rattle.std.proofs.lemmas.Option.{none-some, same_Some}
 use Rattle.dwp_base.specs.declared.endian.Endianness.{Endianness}
 use Rattle.dwp_base.specs.declared.section.Contribution.{Contribution}
@@ -24,7 +24,6 @@ use Rattle.thorin_input.specs.Encodings.{section_has}
 use Rattle.thorin_input.specs.Growing.{Contents, with_bytes, with_parts, joined_parts, range_put}
 use Rattle.thorin_input.specs.Indexes.{Source, is_package}
 use Rattle.thorin_join.specs.Meaning.{UnitRead, keys, joining, joined_content}
-use Rattle.thorin_input.specs.Names.{same_name}
 use Rattle.thorin_input.specs.NewUnits.{NewUnit}
 use Rattle.thorin_input.specs.Parts.{parts_of}
 use Rattle.thorin_input.specs.Format.{is_shared}
@@ -32,24 +31,27 @@ use Rattle.thorin_again.specs.Plain.{NamesItself, HasNamedUnits}
 use Rattle.thorin_join.specs.Represents.{IsSound, LieInside}
 use Rattle.thorin_input.specs.Rows.{whole_row}
 use Rattle.thorin_join.specs.StandApart.{EachRow}
-use Rattle.thorin_join.specs.State.{InProgress, kind_at, names_of, row_at, unit_bytes, adding}
-use Rattle.thorin_join.specs.State.{with_unit_added, with_new_unit, with_new_units, with_source}
+use Rattle.thorin_join.specs.State.{InProgress, kind_at, row_at, unit_bytes, adding}
+use Rattle.thorin_join.specs.State.{with_new_units, with_source}
 use Rattle.thorin_input.specs.Used.{Used, first, has_kind, bytes_of}
 use Rattle.thorin_join.proofs.Units.HeadersRead.{ReadAlone}
-use Rattle.thorin_join.proofs.Units.JoinedByName.{IsAdded, AreAdded}
+use Rattle.thorin_join.proofs.Units.JoinedByName.{IsAdded}
 use Rattle.thorin_join.proofs.Rows.Stay.{Grows, grows-with_bytes, keep-part, keep-lie}
 use Rattle.thorin_join.proofs.Rows.LieInTurn.{types-only}
 use Rattle.thorin_again.proofs.Kept.LongerTables.{identity-stays}
-use Rattle.thorin_again.proofs.Offsets.Tiled.{row-append, weaker, order-kept}
+use Rattle.thorin_again.proofs.Offsets.Tiled.{row-append, weaker}
 use Rattle.thorin_join.proofs.Rows.OfUnits.{is-unit_row, whole-else}
 use Rattle.thorin_join.proofs.Parts.Appended.{content-with_parts, parts-copied, either}
-use Rattle.thorin_again.proofs.Kept.ObjectNames.{NamedAlone, AllNamed, named-joining, units-named}
-use Rattle.thorin_again.proofs.Kept.SharedParts.{shared-row, plain-part, plain-added}
-use Rattle.thorin_join.proofs.Joined.Source.{with_all_parts, grows-with_parts}
+use Rattle.thorin_again.proofs.Kept.EachUnit.{Each, each-both, each-go, each-joining, each-new}
+use Rattle.thorin_again.proofs.Kept.EachUnit.{each-passed, each-weaker, in-turn, units-are, WasRead, Has}
+use Rattle.thorin_again.proofs.Kept.ObjectNames.{NamedAlone, named-alone}
+use Rattle.thorin_again.proofs.Kept.SharedParts.{shared-row, plain-part, plain-added, order-added}
+use Rattle.thorin_again.proofs.Kept.SharedParts.{parted}
+use Rattle.thorin_join.proofs.Joined.Source.{grows-with_parts}
 use Rattle.thorin_join.proofs.Rows.StandApart.{sound-inside}
 use Rattle.thorin_join.proofs.Rows.OneAdded.{Fits, content-put, place-put, part-put, range_for}
 use Rattle.thorin_join.proofs.Rows.OneAdded.{row-name, row-own, own-place, row-part, lie-by}
-use Rattle.thorin_join.proofs.Units.Whole.{Goes, AllGo, go-joining, units-go}
+use Rattle.thorin_join.proofs.Units.Whole.{Goes, units-go}
 use Rattle.thorin_join.proofs.Rows.Meaning.{unshared}
 
 -- ---- the abbreviations of a row begin with those of the first section
@@ -89,10 +91,6 @@ record CanName (order : Endianness) (encoding : Encoding) (c : Contents) (u : Dw
       × (identity (section order (part_of (content_of kinds.Abbrev c) u.1.row.debug_abbrev)) alone
       ≡ Ok (Some u.0))
 
-abbrev AllCanName : Endianness → Encoding → Contents → List (DwarfObject × NewUnit) → Type 0
-AllCanName order encoding c [] = Unit {0}
-AllCanName order encoding c (u ∷ us) = CanName order encoding c u × AllCanName order encoding c us
-
 -- a row that lies inside, and whose unit names itself
 abbrev Stands : Endianness → Encoding → Contents → IndexEntry → Type 0
 Stands order encoding c row = LieInside c row × NamesItself order encoding c row
@@ -116,22 +114,14 @@ keep-stands order encoding c d rows grows h =
     weaker (Stands order encoding c) (Stands order encoding d) (λ row s.
     (keep-lie c d row grows s.0, keep-names order encoding c d row grows s.0 s.1)) rows h
 
-keep-can : (order : Endianness) (encoding : Encoding) (c d : Contents)
-    (us : List (DwarfObject × NewUnit)) → Grows c d → AllCanName order encoding c us
-    → AllCanName order encoding d us
-keep-can order encoding c d [] grows h = tt
-keep-can order encoding c d (u ∷ us) grows h = (
-  record {
-    fits = h.0.fits;
-    lie = keep-lie c d u.1.row grows h.0.lie;
-    named = λ alone rest read. let there = h.0.named alone rest read in (
-      there.0,
-      ap (λ l. identity (section order l) alone) (keep-part c d u.1.row grows h.0.lie
-          kinds.Abbrev) ∙ there.1,
-    );
-  },
-  keep-can order encoding c d us grows h.1,
-)
+keep-can : (order : Endianness) (encoding : Encoding) (c d : Contents) → Grows c d
+    → (u : DwarfObject × NewUnit) → CanName order encoding c u → CanName order encoding d u
+keep-can order encoding c d grows u h = record {
+  fits = h.fits;
+  lie = keep-lie c d u.1.row grows h.lie;
+  named = λ alone rest read. let there = h.named alone rest read in
+      (there.0, rw (keep-part c d u.1.row grows h.lie kinds.Abbrev) there.1);
+}
 
 new-stands : (order : Endianness) (encoding : Encoding) (c : Contents) (u : DwarfObject × NewUnit)
     → CanName order encoding c u
@@ -170,28 +160,23 @@ new-stands order encoding c u can =
           ),
     )
 
-either-one : (P : InProgress → Type 0) (b : Bool) (p q : InProgress) → P p → P q → P (cond b p q)
-either-one P true p q h k = h
-either-one P false p q h k = k
-
 units-stand : (order : Endianness) (encoding : Encoding) (p : InProgress)
-    (us : List (DwarfObject × NewUnit)) → AllCanName order encoding p.file.contents us
+    (us : List (DwarfObject × NewUnit)) → Each (CanName order encoding p.file.contents) us
     → EachRow (Stands order encoding p.file.contents) p.rows
     → EachRow (Stands order encoding (with_new_units p us).file.contents) (with_new_units p us).rows
-unfolding with_new_units with_new_unit
-units-stand order encoding p [] can h = h
-units-stand order encoding p (u ∷ us) can h =
-    let d : Contents = with_bytes (kind_at u.1.place) u.1.bytes p.file.contents in
-    let grows : Grows p.file.contents d = grows-with_bytes (kind_at u.1.place) u.1.bytes
-    p.file.contents in
-    either-one (λ r. EachRow (Stands order encoding (with_new_units r us).file.contents)
-    (with_new_units r us).rows) (list_any (same_name u.0) (names_of p)) p (with_unit_added p u)
-    (units-stand order encoding p us can.1 h)
-    (units-stand order encoding (with_unit_added p u) us (keep-can order encoding p.file.contents
-    d us grows can.1)
-    (row-append (Stands order encoding d) p.rows (row_at u.1.row p.file.contents u.0 u.1.bytes
-    u.1.place) (keep-stands order encoding p.file.contents d p.rows grows h)
-    (new-stands order encoding p.file.contents u can.0)))
+units-stand order encoding p us can h =
+    (in-turn (λ q vs. Each (CanName order encoding q.file.contents) vs
+    × EachRow (Stands order encoding q.file.contents) q.rows)
+    (λ q v vs there k. (k.0.1, k.1))
+    (λ q v vs k.
+    let c = q.file.contents in
+    let d : Contents = with_bytes (kind_at v.1.place) v.1.bytes c in
+    let grows : Grows c d = grows-with_bytes (kind_at v.1.place) v.1.bytes c in (
+      each-weaker (CanName order encoding c) (CanName order encoding d) (keep-can order encoding c d
+          grows) vs k.0.1,
+      row-append (Stands order encoding d) q.rows (row_at v.1.row c v.0 v.1.bytes v.1.place)
+          (keep-stands order encoding c d q.rows grows k.1) (new-stands order encoding c v k.0.0),
+    )) p us (can, h)).1
 
 -- ---- those of a plain object
 
@@ -302,21 +287,6 @@ can-name source made parts after n r plain parts_are is goes named =
           );
     }
 
-all-can-name : (source : Source) (made : InProgress) (parts : Contents) (after : List (List ℕ))
-    → is_package source.indexes ≡ false → parts_of source made.strings ≡ Ok (parts, after)
-    → (ns : List (DwarfObject × NewUnit)) (rs : List (DwarfObject × UnitRead))
-    → AreAdded (adding source made parts) ns rs → AllGo source.object.order rs
-    → AllNamed source.object.order source.encoding (first kinds.Abbrev source.object.sections) rs
-    → AllCanName source.object.order source.encoding (with_parts parts made.file.contents) ns
-all-can-name source made parts after plain parts_are [] [] are go named = tt
-all-can-name source made parts after plain parts_are [] (r ∷ rs) are go named = absurd are
-all-can-name source made parts after plain parts_are (n ∷ ns) [] are go named = absurd are
-all-can-name source made parts after plain parts_are (n ∷ ns) (r ∷ rs) are go named = (
-  can-name source made parts after n r plain parts_are are.0 go.0 named.0,
-  all-can-name source
-      made parts after plain parts_are ns rs are.1 go.1 named.1,
-)
-
 pub both-rows : (P Q : IndexEntry → Type 0) (rows : List IndexEntry) → EachRow P rows
     → EachRow Q rows → EachRow (λ row. P row × Q row) rows
 both-rows P Q [] h k = tt
@@ -332,21 +302,23 @@ names-kept taken alone source before now plain has sound same h named =
     let order = source.object.order in
     let encoding = source.encoding in
     let table = first kinds.Abbrev source.object.sections in
-    let q = with_all_parts before a.parts a.after (before.differing ++ a.new.differing) in
+    let q = parted source before now a in
     let held = keys (adding source before a.parts).held in
-    let go = go-joining order held a.all (units-go taken alone source a.all a.all_are) in
-    let all = named-joining taken alone source plain held a.all (units-named taken alone source
-    plain a.all has a.all_are) in
-    let can = all-can-name source before a.parts a.after plain a.parts_are a.new.units
-    (joining held a.all) a.are go all in
+    let can = each-new (adding source before a.parts) (CanName order encoding
+    (with_parts a.parts before.file.contents)) (λ r. Goes order r × NamedAlone order encoding
+    table r) (λ n r is k. can-name source before a.parts a.after n r plain a.parts_are is k.0 k.1)
+    a.new.units (joining held a.all) a.are (each-joining _ held a.all (each-both (Goes order)
+    (NamedAlone order encoding table) a.all (each-go order a.all (units-go taken alone source a.all
+    a.all_are)) (each-weaker (WasRead source (Has source)) (NamedAlone order encoding table)
+    (named-alone taken alone source plain) a.all (units-are source (Has source) a.all
+    (each-passed (section_has encoding order) source.object.sections has) a.all_are)))) in
     let c = before.file.contents in
     let old : EachRow (Stands order encoding c) before.rows =
     both-rows (LieInside c) (NamesItself order encoding c) before.rows (sound-inside before sound)
     (subst (λ o. EachRow (NamesItself o encoding c) before.rows) (sym same) named) in
     let stand = units-stand order encoding q a.new.units can (keep-stands order encoding c
     q.file.contents before.rows (grows-with_parts a.parts c) old) in
-    let order_is : order ≡ now.file.order = same ∙ sym (ap (λ (p : InProgress). p.file.order) a.is ∙
-    order-kept q a.new.units) in
+    let order_is : order ≡ now.file.order = same ∙ sym (order-added source before now a) in
     subst (λ o. EachRow (NamesItself o encoding now.file.contents) now.rows) order_is
     (subst (λ (p : InProgress). EachRow (NamesItself order encoding p.file.contents)
     p.rows) (sym a.is)

@@ -1,26 +1,67 @@
 -- A builder's package stays one of plain objects of one encoding.
-use Rattle.std.proofs.Common.{◌≡◌, ◌∙◌, ℕ, true, List, [], refl, sym, ap, subst, Ok, arith}
-use Rattle.std.specs.List.{list_all}
+use Rattle.std.proofs.Common.{◌≡◌, ◌∙◌, ℕ, ◌<◌, true, false, ◌||◌, List, [], ◌∷◌, length}
+use Rattle.std.proofs.Common.{refl, sym, ap, subst, Ok, Option, Some, None, arith}
+use Rattle.std.specs.Prelude.{is_some}
+use Rattle.std.specs.List.{list_any}
+use Rattle.std.proofs.lemmas.List.{length-map}
 use Rattle.std.proofs.lemmas.Option.{same_Some}
 use Rattle.dwp_base.specs.declared.class.Class.{Class}
 use Rattle.dwp_base.specs.declared.endian.Endianness.{Endianness}
+use Rattle.dwp_base.specs.declared.section.SectionKind.{SectionKind}
+use Rattle.dwp_base.specs.declared.section.SectionKind.TheVariants.{CuIndex, TuIndex}
+use Rattle.dwp_base.specs.Sections.{same_kind}
+use Rattle.dwp_base.proofs.Bools.{is-false, neither}
+use Rattle.dwp_base.proofs.Steps.{same-ok}
+use Rattle.dwp_elf_read.specs.Elf.{Elf}
 use Rattle.dwp_bytes.specs.declared.encoding.Encoding.{Encoding}
 use Rattle.dwp_dwarf.specs.Units.{UnitsAreTaken}
+use Rattle.thorin_errors.specs.Errors.{ErrorValue}
+use Rattle.thorin_index.specs.declared.entry.IndexEntry.{IndexEntry}
 use Rattle.thorin_strings.specs.Strings.{data_of}
-use Rattle.thorin_join.specs.Builder.{State, taken}
-use Rattle.thorin_input.specs.Encodings.{section_has}
-use Rattle.thorin_again.specs.Plain.{HasTiledOffsets, HasNamedUnits, IsPlain, HoldsPlain}
-use Rattle.thorin_join.specs.Represents.{IsSound, IsSoundBegun}
-use Rattle.thorin_join.specs.State.{empty}
+use Rattle.thorin_join.specs.Builder.{State, taken, package_or_new, names_in}
+use Rattle.thorin_input.specs.Encodings.{is_index, is_plain}
+use Rattle.thorin_input.specs.Indexes.{Indexes, is_package, indexes_of}
+use Rattle.thorin_input.specs.Used.{Used, InputFile, first}
+use Rattle.thorin_again.specs.Plain.{IsPlain, HoldsPlain}
+use Rattle.thorin_join.specs.Represents.{IsSoundBegun}
+use Rattle.thorin_join.specs.State.{InProgress, empty}
 use Rattle.thorin_join.proofs.Units.HeadersRead.{ReadAlone}
+use Rattle.thorin_join.proofs.Joined.Input.{made-order, new-sound}
+use Rattle.thorin_join.proofs.Parts.OffsetLaws.{NamesTheSameLaw}
 use Rattle.thorin_again.proofs.Kept.InfoThere.{info-there}
-use Rattle.thorin_join.proofs.Joined.Input.{empty-sound}
 use Rattle.thorin_again.proofs.Kept.Names.{names-kept}
+use Rattle.thorin_again.proofs.Kept.OneEncoding.{Before, begun-now, own-adds, own-units, takes-units}
+use Rattle.thorin_again.proofs.Kept.OneEncoding.{source_of}
+use Rattle.thorin_again.proofs.Kept.SharedParts.{named-kept}
+use Rattle.thorin_again.proofs.Meant.Package.{are-indexes}
 use Rattle.thorin_again.proofs.Offsets.RewrittenAgain.{no-turn}
 use Rattle.thorin_again.proofs.Offsets.Tiled.{tiled-kept}
-use Rattle.thorin_join.proofs.Parts.OffsetLaws.{NamesTheSameLaw}
-use Rattle.thorin_again.proofs.Kept.PlainObject.{PlainStep, plain-step, kept-so}
-use Rattle.thorin_again.proofs.Kept.SharedParts.{named-kept}
+use Rattle.thorin_again.proofs.Opened.Indexes.{none-taken}
+
+-- ---- a plain object has no index
+
+none-found : (kind : SectionKind) → ((s : Used) → is_index s ≡ false → same_kind s.kind kind ≡
+    false) → (ss : List Used) → list_any is_index ss ≡ false → first kind ss ≡ []
+none-found kind other [] h = refl
+none-found kind other (s ∷ ss) h =
+    let both = neither (is_index s) (list_any is_index ss) h in
+    rw (other s both.0) (none-found kind other ss both.1)
+
+plain-indexes : (object : InputFile) (encoding : Encoding) (indexes : Indexes)
+    → is_plain object.sections ≡ true → indexes_of object encoding ≡ Ok indexes
+    → is_package indexes ≡ false
+plain-indexes object encoding indexes plain h =
+    let are = are-indexes object encoding indexes h in
+    let none = is-false (list_any is_index object.sections) plain in
+    let c = same-ok {E = ErrorValue} _ _ (sym are.compilations ∙ none-taken object.order CuIndex
+    (first CuIndex object.sections) (none-found CuIndex (λ s other. (neither
+    (same_kind s.kind CuIndex) (same_kind s.kind TuIndex) other).0) object.sections none)) in
+    let t = same-ok {E = ErrorValue} _ _ (sym are.types ∙ none-taken object.order TuIndex
+    (first TuIndex object.sections) (none-found TuIndex (λ s other. (neither
+    (same_kind s.kind CuIndex) (same_kind s.kind TuIndex) other).1) object.sections none)) in
+    λ i. is_some (c i) || is_some (t i)
+
+-- ---- the package before it: of such objects, or a new one
 
 new-plain : (encoding : Encoding) (class : Class) (machine : ℕ) (order : Endianness)
     → IsPlain encoding (empty class machine order)
@@ -37,32 +78,52 @@ new-plain encoding class machine order = record {
   info = λ some. absurd (omega (arith, some));
 }
 
-step-plain : NamesTheSameLaw → UnitsAreTaken → ReadAlone → (old new : State) (encoding : Encoding)
-    (s : PlainStep old new encoding) → IsSound s.before → IsPlain encoding s.before
-    → IsPlain encoding s.now
-step-plain names reads alone old new encoding s sound before = record {
-  named = named-kept s.source s.before s.now s.plain s.is s.more before.named;
-  offsets = subst (λ e. HasTiledOffsets e s.now) s.encoding_is
-      (tiled-kept names s.source s.before s.now s.plain sound.units.table s.order s.is s.more
-      (subst (λ e. HasTiledOffsets e s.before) (sym s.encoding_is) before.offsets));
-  units = subst (λ e. HasNamedUnits e s.now) s.encoding_is
-      (names-kept reads alone s.source s.before s.now s.plain
-      (subst (λ e. list_all (section_has e s.source.object.order) s.source.object.sections ≡
-      true) (sym s.encoding_is) s.all) sound s.order s.is
-      (subst (λ e. HasNamedUnits e s.before) (sym s.encoding_is) before.units));
-  info = λ some. info-there reads alone s.source s.before s.now
-      (s.first ∙ ap Ok (sym s.encoding_is)) s.is before.info;
-}
+plain-before : (encoding : Encoding) (file : Elf) (begun : Option InProgress)
+    (own : Option Encoding) → Before begun own encoding
+    → ((made : InProgress) → own ≡ Some encoding → begun ≡ Some made → IsPlain encoding made)
+    → IsPlain encoding (package_or_new file begun)
+plain-before encoding file None own before holds =
+    new-plain encoding file.class file.machine file.order
+plain-before encoding file (Some made) own before holds = holds made before refl
+
+names-before : (file : Elf) (begun : Option InProgress) → length (names_in begun) ≡ length
+    (package_or_new file begun).rows
+names-before file None = refl
+names-before file (Some made) = length-map made.rows _
+
+-- ---- an input that is taken
 
 pub taken-plain : NamesTheSameLaw → UnitsAreTaken → ReadAlone → (bytes : List ℕ) (old new : State)
     → IsSoundBegun old.begun → HoldsPlain old → taken bytes old ≡ Ok new → HoldsPlain new
 taken-plain names reads alone bytes old new sound holds h = record {
   made = λ encoding made own begun.
-      let s = plain-step bytes old new encoding h own in
-      let before_sound = kept-so IsSound old new encoding s empty-sound (λ m o b.
-      subst IsSoundBegun b sound) in
-      let before = kept-so (IsPlain encoding) old new encoding s (new-plain encoding)
-      (holds.made encoding) in
-      subst (IsPlain encoding) (same_Some s.now made (sym s.begun ∙ begun)) (step-plain names reads
-      alone old new encoding s before_sound before);
+      let a = own-adds bytes old new encoding h own in
+      let w = takes-units bytes encoding a.found old.begun new.begun (begun-now bytes old new h) in
+      let u = w.3 in
+      let is = own-units bytes encoding a.found w.0 old.begun new.begun u w.1 in
+      let before = package_or_new w.0 old.begun in
+      let source = source_of u in
+      let plain = plain-indexes u.object u.encoding u.indexes is.plain u.indexes_are in
+      let order = made-order w.0 u.object old.begun u.object_is u.order_is in
+      let before_sound = new-sound w.0 old.begun sound in
+      let now : names_in new.begun ≡ names_in (Some u.made) = ap names_in (sym u.is) in
+      let more : length before.rows < length u.made.rows = omega (
+        arith,
+        a.more,
+        names-before w.0
+            old.begun,
+        ap length now,
+        length-map u.made.rows (λ (row : IndexEntry). row.id),
+      ) in
+      let was : IsPlain u.encoding before = subst (λ e. IsPlain e before) (sym is.is)
+      (plain-before encoding w.0 old.begun old.own a.before (holds.made encoding)) in
+      let same : u.made ≡ made = same_Some u.made made (u.is ∙ begun) in
+      subst (IsPlain encoding) same (subst (λ e. IsPlain e u.made) is.is (record {
+        named = named-kept source before u.made plain u.with more was.named;
+        offsets = tiled-kept names source before u.made plain before_sound.units.table order u.with
+            more was.offsets;
+        units = names-kept reads alone source before u.made plain is.all before_sound order u.with
+            was.units;
+        info = λ some. info-there reads alone source before u.made u.encoding_is u.with was.info;
+      }));
 }

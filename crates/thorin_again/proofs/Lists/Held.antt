@@ -1,21 +1,57 @@
--- What a new builder holds once it took some inputs.
-use Rattle.std.proofs.Common.{◌≡◌, ℕ, List, [], ◌∷◌, sym, subst, Ok}
+-- What a new builder holds once it took some inputs, and what stays so as they are taken in order.
+use Rattle.std.proofs.Common.{◌≡◌, ℕ, List, [], ◌∷◌, sym, subst, Ok, Option, None}
+use Rattle.std.specs.Prelude.{All}
+use Rattle.std.proofs.lemmas.List.Elements.{All-head, All-tail}
 use Rattle.dwp_table.specs.declared.object.DwarfObject.{DwarfObject}
-use Rattle.thorin_join.specs.Builder.{State, start, taken}
+use Rattle.thorin_join.specs.Builder.{State, start, taken, with_input}
+use Rattle.thorin_join.specs.Join.{Joins}
 use Rattle.thorin_again.specs.OwnUnits.{HoldsOwn}
 use Rattle.thorin_again.specs.Plain.{HoldsPlain}
 use Rattle.thorin_again.specs.PlainInputs.{AreTaken}
-use Rattle.thorin_join.specs.Represents.{IsSoundBegun}
-use Rattle.thorin_again.proofs.Kept.OneEncoding.{begun-now, own-start}
-use Rattle.thorin_again.proofs.Lists.PlainInputs.{InputsSound}
+use Rattle.thorin_join.specs.Represents.{IsSoundBegun, units_begun}
+use Rattle.thorin_join.specs.State.{InProgress}
+use Rattle.thorin_again.proofs.Kept.OneEncoding.{InputsJoined, begun-now, own-start}
 
-abbrev pub OwnKept : Type 0
+-- what stays so of a builder, whatever executables refer to, as inputs of this kind are taken
+in-order : (Q : List ℕ → Type 0) (P : State → Type 0)
+    → ((state : State) (targets : List DwarfObject) → P state
+    → P (record state { targets = targets }))
+    → ((bytes : List ℕ) (old new : State) → Q bytes → P old → taken bytes old ≡ Ok new → P new)
+    → (accepted : List (List ℕ)) (old new : State) → AreTaken accepted old new → All Q accepted
+    → P old → P new
+in-order Q P free step [] old new are all h = subst P (sym are.1) (free old are.0 h)
+in-order Q P free step (bytes ∷ rest) old new are all h =
+    in-order Q P free step rest are.1 new are.3 (All-tail Q bytes rest all)
+    (step bytes (record old { targets = are.0 }) are.1 (All-head Q bytes rest all)
+    (free old are.0 h) are.2)
+
+-- the laws of an input that is taken
+abbrev pub InputsSound : Type 0
+InputsSound = (bytes : List ℕ) (begun now : Option InProgress) → IsSoundBegun begun
+    → with_input bytes begun ≡ Ok now → IsSoundBegun now
+
+abbrev OwnKept : Type 0
 OwnKept = (bytes : List ℕ) (old new : State) → IsSoundBegun old.begun → HoldsOwn old
     → taken bytes old ≡ Ok new → HoldsOwn new
 
-abbrev pub PlainKept : Type 0
+abbrev PlainKept : Type 0
 PlainKept = (bytes : List ℕ) (old new : State) → IsSoundBegun old.begun → HoldsPlain old
     → taken bytes old ≡ Ok new → HoldsPlain new
+
+-- what stays so of a sound package
+pub packages-in-order : InputsSound → InputsJoined → (Q : List ℕ → Type 0)
+    (P : Option InProgress → Type 0) → ((bytes : List ℕ) (begun now : Option InProgress) → Q bytes
+    → Joins bytes (units_begun begun) (units_begun now) → with_input bytes begun ≡ Ok now
+    → P begun → P now)
+    → (accepted : List (List ℕ)) (state : State) → AreTaken accepted start state
+    → All Q accepted → P None → IsSoundBegun state.begun × P state.begun
+packages-in-order sound joins Q P step accepted state are all none =
+    in-order Q (λ s. IsSoundBegun s.begun × P s.begun) (λ s targets h. h)
+    (λ bytes old new q h took.
+    let now = begun-now bytes old new took in (
+      sound bytes old.begun new.begun h.0 now,
+      step bytes old.begun new.begun q (joins bytes old.begun new.begun h.0 now) now h.1,
+    )) accepted start state are all (tt, none)
 
 -- what a builder holds
 pub record Holds (state : State) : Type 0 where
@@ -23,32 +59,21 @@ pub record Holds (state : State) : Type 0 where
   pub own : HoldsOwn state
   pub plain : HoldsPlain state
 
-with-targets : (state : State) (targets : List DwarfObject) → Holds state
-    → Holds (record state { targets = targets })
-with-targets state targets h = record {
-  sound = h.sound;
-  own = record { some = h.own.some; all = h.own.all };
-  plain = record { made = h.plain.made };
-}
-
-module _ (sound : InputsSound) (own : OwnKept) (plain : PlainKept) where
-  each-holds : (accepted : List (List ℕ)) (old new : State) → Holds old → AreTaken accepted old new
-      → Holds new
-  each-holds [] old new h are = subst Holds (sym are.1) (with-targets old are.0 h)
-  each-holds (bytes ∷ rest) old new h are =
-      let from : State = record old { targets = are.0 } in
-      let was = with-targets old are.0 h in
-      let next = are.1 in
-      each-holds rest next new (record {
-        sound = sound bytes old.begun next.begun h.sound (begun-now bytes from next are.2);
-        own = own bytes from next was.sound was.own are.2;
-        plain = plain bytes from next was.sound was.plain are.2;
-      }) are.3
-
-  pub inputs-hold : (accepted : List (List ℕ)) (state : State) → AreTaken accepted start state
-      → Holds state
-  inputs-hold accepted state are = each-holds accepted start state (record {
-    sound = tt;
-    own = own-start;
-    plain = record { made = λ e made k b. absurd cc };
-  }) are
+pub inputs-hold : InputsSound → OwnKept → PlainKept → (accepted : List (List ℕ)) (state : State)
+    → AreTaken accepted start state → Holds state
+inputs-hold sound own plain accepted state are =
+    in-order (λ bytes. Unit {0}) Holds
+    (λ s targets h. record {
+      sound = h.sound;
+      own = record { some = h.own.some; all = h.own.all };
+      plain = record { made = h.plain.made };
+    })
+    (λ bytes old new q h took. record {
+      sound = sound bytes old.begun new.begun h.sound (begun-now bytes old new took);
+      own = own bytes old new h.sound h.own took;
+      plain = plain bytes old new h.sound h.plain took;
+    }) accepted start state are (λ k d within. tt) (record {
+      sound = tt;
+      own = own-start;
+      plain = record { made = λ e made k b. absurd cc };
+    })

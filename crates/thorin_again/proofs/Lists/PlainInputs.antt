@@ -1,81 +1,58 @@
 -- The one encoding of a builder, by the inputs that it took.
-use Rattle.std.proofs.Common.{◌≡◌, ◌∙◌, ◌↔◌, ℕ, ◌<◌, Bool, true, false, cond, ltb, ◌&&◌, List, []}
-use Rattle.std.proofs.Common.{◌∷◌, ◌++◌, length, map, refl, sym, ap, subst, Result, Ok, Option}
-use Rattle.std.proofs.Common.{Some, None, ◌+◌, eqb, arith, true≢false, length-append}
+use Rattle.std.specs.List.{list_all}
+use Rattle.std.proofs.Common.{inl, inr}
+use Rattle.std.proofs.Common.{◌≡◌, ◌∙◌, ◌↔◌, ℕ, true, cond, ◌&&◌, List, []}
+use Rattle.std.proofs.Common.{◌∷◌, ◌++◌, length, map, refl, sym, ap, subst, Ok, Option}
+use Rattle.std.proofs.Common.{Some, None, ◌+◌, arith, true≢false, length-append}
 use Rattle.std.specs.Prelude.{All, is_some}
-use Rattle.std.proofs.lemmas.Bool.{ltb-true, lt-ltb, eq-eqb}
+use Rattle.std.proofs.lemmas.Bool.{lt-ltb}
 use Rattle.std.proofs.lemmas.List.Elements.{All-nil, All-cons, All-head, All-tail}
 use Rattle.std.proofs.lemmas.Option.{same_Some}
 use Rattle.dwp_base.proofs.Bools.{both}
-use Rattle.dwp_elf_read.specs.Elf.{Elf}
 use Rattle.dwp_bytes.specs.declared.encoding.Encoding.{Encoding}
-use Rattle.dwp_bytes.specs.declared.encoding.Format.{Format}
-use Rattle.dwp_bytes.specs.declared.encoding.Format.TheVariants.{Dwarf32, Dwarf64}
 use Rattle.dwp_table.specs.declared.object.DwarfObject.{DwarfObject}
-use Rattle.thorin_index.specs.EntryTests.{same_encoding, same_format}
 use Rattle.thorin_errors.specs.Errors.{ErrorValue}
-use Rattle.thorin_input.specs.Encodings.{encoding_of, own_encoding, file_encoding, common}
-use Rattle.thorin_input.specs.Used.{opened, has_info, input_file_of}
-use Rattle.thorin_join.specs.Builder.{State, start, taken, with_input, with_units, names_in}
-use Rattle.thorin_join.specs.Builder.{with_own, own_after, package_or_new, with_source_or_new}
-use Rattle.thorin_join.specs.Builder.{order_test}
-use Rattle.thorin_input.specs.Indexes.{indexes_of}
+use Rattle.thorin_input.specs.Encodings.{own_encoding, file_encoding, common, section_has}
+use Rattle.thorin_join.specs.Builder.{State, start, taken, names_in}
+use Rattle.thorin_join.specs.Builder.{with_own, package_or_new}
 use Rattle.thorin_join.specs.Join.{Joins}
 use Rattle.thorin_join.specs.Meaning.{Meaning, Members, keys, joining}
 use Rattle.thorin_again.specs.Own.{has_sections, packs_again}
 use Rattle.thorin_again.specs.PlainInputs.{AreTaken, IsPlainOf, EachAdds, IsOfPlainObjects}
 use Rattle.thorin_join.specs.Represents.{IsSoundBegun, units_in}
-use Rattle.thorin_join.specs.State.{InProgress, with_source}
-use Rattle.thorin_again.proofs.Kept.OneEncoding.{InputsJoined, own-or-none, common-are, begun-now}
-use Rattle.thorin_again.proofs.Kept.OneEncoding.{units-names}
-use Rattle.thorin_again.proofs.Kept.PlainObject.{own-file}
-use Rattle.dwp_base.proofs.Steps.{bind-was, bind-ok, same-ok}
+use Rattle.thorin_join.specs.State.{InProgress}
+use Rattle.thorin_join.proofs.Joined.Taken.{takes}
+use Rattle.thorin_again.proofs.Kept.Encodings.{common-self}
+use Rattle.thorin_again.proofs.Kept.OneEncoding.{InputsJoined, begun-now, own-now, Before, AddsOwn}
+use Rattle.thorin_again.proofs.Kept.OneEncoding.{own-adds, own-units, takes-units, units-names}
+use Rattle.thorin_again.proofs.Lists.Held.{InputsSound}
+use Rattle.dwp_base.proofs.Steps.{same-ok}
 
 -- ---- plain objects of one encoding
 
-plain-of : (bytes : List ℕ) (e : Encoding) → own_encoding bytes ≡ Ok (Some e) → IsPlainOf e bytes
-plain-of bytes e h =
-    let f = own-file bytes e h in
+plain-of : (bytes : List ℕ) (old new : State) (e : Encoding) → taken bytes old ≡ Ok new
+    → own_encoding bytes ≡ Ok (Some e) → IsPlainOf e bytes
+plain-of bytes old new e h found =
+    let w = takes-units bytes e found old.begun new.begun (begun-now bytes old new h) in
+    let u = w.3 in
+    let is = own-units bytes e found w.0 old.begun new.begun u w.1 in
     record {
-      file = f.file;
-      opens = f.opens;
-      info = f.info;
-      object = f.object;
-      used = f.object_is;
-      plain = f.plain;
-      first = f.encoding;
-      all = f.all;
+      file = w.0;
+      opens = w.1;
+      info = w.2;
+      object = u.object;
+      used = u.object_is;
+      plain = is.plain;
+      first = u.encoding_is ∙ ap Ok is.is;
+      all = subst (λ x. list_all (section_has x u.object.order) u.object.sections ≡ true) is.is
+          is.all;
     }
 
 own-of : (bytes : List ℕ) (e : Encoding) → IsPlainOf e bytes → own_encoding bytes ≡ Ok (Some e)
 unfolding own_encoding file_encoding
-own-of bytes e p =
-    bind-ok (opened bytes) p.file _ p.opens
-    ∙ ap (λ b. cond {A = Result (Option Encoding) ErrorValue} b (file_encoding p.file)
-    (Ok None)) p.info
-    ∙ bind-ok (input_file_of p.file) p.object _ p.used
-    ∙ bind-ok (encoding_of p.object) e _ p.first
-    ∙ ap (λ b. Ok (cond {A = Option Encoding} b (Some e) None))
-    ((λ i. p.plain i && p.all i))
-
--- ---- an encoding is itself
-
-eqb-self : (n : ℕ) → eqb n n ≡ true
-eqb-self n = eq-eqb n n refl
-
-format-self : (f : Format) → same_format f f ≡ true
-format-self Dwarf32 = refl
-format-self Dwarf64 = refl
-
-encoding-self : (e : Encoding) → same_encoding e e ≡ true
-encoding-self e = λ i. eqb-self e.version i && (format-self e.format i && eqb-self e.address_size i)
+own-of bytes e p = rw (p.opens, p.info, p.used, p.first, p.plain, p.all) refl
 
 -- ---- what a builder has of an encoding before an input of it
-
--- nothing has begun, or the builder's inputs have this encoding
-abbrev Before : Option InProgress → Option Encoding → Encoding → Type 0
-Before None own e = Unit {0}
-Before (Some made) own e = own ≡ Some e
 
 before-own : (begun : Option InProgress) (own : Option Encoding) (e : Encoding) → own ≡ Some e
     → Before begun own e
@@ -87,99 +64,30 @@ own-before : (begun : Option InProgress) (made : InProgress) (own : Option Encod
 own-before None made own e there h = absurd cc
 own-before (Some m) made own e there h = h
 
-with-before : (begun : Option InProgress) (own found : Option Encoding) (e : Encoding)
-    → with_own begun own found ≡ Some e → Before begun own e × (found ≡ Some e)
-with-before None own found e h = (tt, h)
-with-before (Some made) own found e h = common-are own found e h
-
-common-self : (e : Encoding) → common (Some e) (Some e) ≡ Some e
-common-self e = ap (λ b. cond {A = Option Encoding} b (Some e) None) (encoding-self e)
-
 before-with : (begun : Option InProgress) (own found : Option Encoding) (e : Encoding)
     → Before begun own e → found ≡ Some e → with_own begun own found ≡ Some e
 before-with None own found e h k = k
 before-with (Some made) own found e h k = (λ i. common (h i) (k i)) ∙ common-self e
 
 -- an input that was taken has begun a package
-begun-some : (bytes : List ℕ) (begun now : Option InProgress) → with_input bytes begun ≡ Ok now
-    → (made : InProgress) × (now ≡ Some made)
-unfolding with_input with_units with_source_or_new
-begun-some bytes begun now h =
-    let f = bind-was (opened bytes) _ now h in
-    by f.0 (has_info f.0) f.2
-  where
-    units : (file : Elf) → with_units file begun ≡ Ok now → (made : InProgress) × (now ≡ Some made)
-    units file k =
-        let o = bind-was (input_file_of file) _ now k in
-        let e = bind-was (encoding_of o.0) _ now o.2 in
-        let t = bind-was (order_test o.0.order begun) _ now e.2 in
-        let x = bind-was (indexes_of o.0 e.0) _ now t.2 in
-        let m = bind-was (with_source (record {
-          object = o.0;
-          encoding = e.0;
-          indexes = x.0;
-        }) (package_or_new file begun)) _ now x.2 in
-        (m.0, sym (same-ok {E = ErrorValue} _ now m.2))
-
-    by : (file : Elf) (b : Bool) → cond {A = Result (Option InProgress) ErrorValue} b
-        (with_units file begun) (Ok (Some (package_or_new file begun))) ≡ Ok now
-        → (made : InProgress) × (now ≡ Some made)
-    by file true k = units file k
-    by file false k = (package_or_new file begun, sym (same-ok {E = ErrorValue} _ now k))
-
--- ---- one input
-
--- what an input that was taken did to the encoding
-record Step (bytes : List ℕ) (old new : State) : Type 0 where
-  found : Option Encoding
-  is : own_encoding bytes ≡ Ok found
-  after : own_after old new.begun found ≡ new.own
-  made : InProgress
-  begun : new.begun ≡ Some made
-
-step-of : (bytes : List ℕ) (old new : State) → taken bytes old ≡ Ok new → Step bytes old new
-unfolding taken
-step-of bytes old new h =
-    let s = bind-was (with_input bytes old.begun) _ new h in
-    let t = bind-was (own_encoding bytes) _ new s.2 in
-    let is = same-ok {E = ErrorValue} _ new t.2 in
-    let begun : s.0 ≡ new.begun = ap (λ (x : State). x.begun) is in
-    let some = begun-some bytes old.begun s.0 s.1 in
-    record {
-      found = t.0;
-      is = t.1;
-      after = ap (λ b. own_after old b t.0) (sym begun) ∙ ap (λ (x : State). x.own) is;
-      made = some.0;
-      begun = sym begun ∙ some.1;
-    }
-
-record Adds (bytes : List ℕ) (old new : State) (e : Encoding) : Type 0 where
-  plain : own_encoding bytes ≡ Ok (Some e)
-  more : length (names_in old.begun) < length (names_in new.begun)
-  before : Before old.begun old.own e
-
-own-adds : (bytes : List ℕ) (old new : State) (e : Encoding) → taken bytes old ≡ Ok new
-    → new.own ≡ Some e → Adds bytes old new e
-own-adds bytes old new e h k =
-    let s = step-of bytes old new h in
-    let more = ltb (length (names_in old.begun)) (length (names_in new.begun)) in
-    let split = own-or-none (with_own old.begun old.own s.found) e more (s.after ∙ k) in
-    let found = with-before old.begun old.own s.found e split.1 in
-    record {
-      plain = s.is ∙ ap Ok found.1;
-      more = ltb-true (length (names_in old.begun)) (length (names_in new.begun)) split.0;
-      before = found.0;
-    }
+begun-some : (bytes : List ℕ) (old new : State) → taken bytes old ≡ Ok new
+    → (made : InProgress) × (new.begun ≡ Some made)
+begun-some bytes old new h =
+    let t = takes bytes old.begun new.begun (begun-now bytes old new h) in
+    elim t.does [
+      | inl w ↦ (w.1.made, sym w.1.is)
+      | inr none ↦ (package_or_new t.file old.begun, sym none.1)
+    ]
 
 adds-own : (bytes : List ℕ) (old new : State) (e : Encoding) → taken bytes old ≡ Ok new
-    → Adds bytes old new e → new.own ≡ Some e
+    → AddsOwn bytes old new e → new.own ≡ Some e
 adds-own bytes old new e h a =
-    let s = step-of bytes old new h in
-    let found : s.found ≡ Some e = same-ok {E = ErrorValue} s.found (Some e) (sym s.is ∙ a.plain) in
-    sym s.after
-    ∙ ap (λ b. cond {A = Option Encoding} b (with_own old.begun old.own s.found) None)
+    let own = own-now bytes old new h in
+    let found : own.0 ≡ Some e = same-ok {E = ErrorValue} own.0 (Some e) (sym own.1 ∙ a.found) in
+    sym own.2
+    ∙ ap (λ b. cond {A = Option Encoding} b (with_own old.begun old.own own.0) None)
     (lt-ltb (length (names_in old.begun)) (length (names_in new.begun)) a.more)
-    ∙ before-with old.begun old.own s.found e a.before found
+    ∙ before-with old.begun old.own own.0 e a.before found
 
 -- ---- joins are one
 
@@ -227,10 +135,6 @@ joins-more bytes old new j =
 
 -- ---- inputs in order
 
-abbrev pub InputsSound : Type 0
-InputsSound = (bytes : List ℕ) (begun now : Option InProgress) → IsSoundBegun begun
-    → with_input bytes begun ≡ Ok now → IsSoundBegun now
-
 record Each (e : Encoding) (accepted : List (List ℕ)) (old new : State) : Type 0 where
   plain : All (IsPlainOf e) accepted
   adds : EachAdds accepted (units_in old) (units_in new)
@@ -254,14 +158,14 @@ module _ (sound : InputsSound) (joins : InputsJoined) (e : Encoding) where
       let took : taken bytes from ≡ Ok next = are.2 in
       let later = each-of rest next new (sound bytes old.begun next.begun fine
       (begun-now bytes from next took)) are.3 h in
-      let s = step-of bytes from next took in
-      let own = own-before next.begun s.made next.own e s.begun later.before in
+      let begun = begun-some bytes from next took in
+      let own = own-before next.begun begun.0 next.own e begun.1 later.before in
       let a = own-adds bytes from next e took own in
       let j = joined bytes from next fine took in
       let long = joins-more bytes from next j in
       let more = a.more in
       record {
-        plain = All-cons (IsPlainOf e) bytes rest (plain-of bytes e a.plain) later.plain;
+        plain = All-cons (IsPlainOf e) bytes rest (plain-of bytes from next e took a.found) later.plain;
         adds = (units_in next, j, omega (arith, long, more), later.adds);
         before = a.before;
       }
@@ -285,7 +189,7 @@ module _ (sound : InputsSound) (joins : InputsJoined) (e : Encoding) where
       let was = units-names old.begun in
       let now = units-names next.begun in
       let own = adds-own bytes from next e took (record {
-        plain = own-of bytes e (All-head (IsPlainOf e) bytes rest each.plain);
+        found = own-of bytes e (All-head (IsPlainOf e) bytes rest each.plain);
         more = omega (arith, long, are_same, was, now, some);
         before = each.before;
       }) in

@@ -1,12 +1,11 @@
 -- Where each input has one encoding, each unit of a package has its strings.
-use Rattle.std.proofs.Common.{◌≡◌, ◌∙◌, ℕ, Bool, true, false, cond, List, [], ◌∷◌, ◌++◌, map, refl}
+use Rattle.std.proofs.Common.{inl, inr}
+use Rattle.std.proofs.Common.{◌≡◌, ◌∙◌, ℕ, Bool, true, false, cond, List, [], ◌∷◌, map, refl}
 use Rattle.std.proofs.Common.{sym, ap, subst, Result, Ok, Err, Option, Some, None}
 use Rattle.std.specs.Prelude.{All, MatchOption}
-use Rattle.std.specs.List.{list_all}
 use Rattle.std.specs.Map.{lookup}
-use Rattle.std.proofs.lemmas.List.Elements.{All-nil, All-cons, All-append, All-head, All-tail}
+use Rattle.std.proofs.lemmas.List.Elements.{All-nil, All-cons, All-head, All-tail}
 use Rattle.std.proofs.lemmas.Option.{same_Some, none-some}
-use Rattle.dwp_base.specs.Reading.{◌>>=◌}
 use Rattle.dwp_base.specs.declared.endian.Endianness.{Endianness}
 use Rattle.dwp_base.specs.declared.section.SectionKind.TheVariants as kinds
 use Rattle.dwp_bytes.specs.declared.encoding.Encoding.{Encoding}
@@ -29,18 +28,13 @@ use Rattle.dwp_table.specs.Probing.{found_row, look_count}
 use Rattle.dwp_table.specs.Objects.{identifier_of}
 use Rattle.dwp_table.specs.declared.object.DwarfObject.{DwarfObject}
 use Rattle.thorin_errors.specs.Errors.{ErrorValue}
-use Rattle.thorin_input.specs.Encodings.{encoding_of, section_has}
-use Rattle.thorin_input.specs.Indexes.{Source, indexes_of}
 use Rattle.thorin_input.specs.Names.{same_name}
-use Rattle.thorin_input.specs.NewUnits.{new_units}
-use Rattle.thorin_input.specs.Parts.{parts_of}
-use Rattle.thorin_input.specs.Used.{InputFile, opened, has_info, input_file_of}
-use Rattle.thorin_join.specs.Builder.{State, start, taken, with_input, with_units, package_or_new}
-use Rattle.thorin_join.specs.Builder.{with_source_or_new, order_test, order_of, finish_test}
+use Rattle.thorin_input.specs.Used.{opened}
+use Rattle.thorin_join.specs.Builder.{State, start, taken, with_input, package_or_new}
+use Rattle.thorin_join.specs.Builder.{order_of, finish_test}
 use Rattle.thorin_join.specs.Builder.{IsFinishedState}
 use Rattle.thorin_join.specs.Join.{Joins, IsPackageOnceWritten, GivesUnit, GivesNone, look_limit}
-use Rattle.thorin_join.specs.Meaning.{Meaning, Members, keys, input_meaning, object_meaning}
-use Rattle.thorin_join.specs.Meaning.{source_meaning}
+use Rattle.thorin_join.specs.Meaning.{Meaning, Members}
 use Rattle.thorin_again.specs.OneEncoding.{IsOfOneEncoding, GivesWhole, AnswersAs}
 use Rattle.thorin_again.specs.OneEncoding.{AnswersOnceWritten}
 use Rattle.thorin_again.specs.PlainInputs.{AreTaken}
@@ -50,158 +44,80 @@ use Rattle.thorin_again.specs.Plain.{IsPlain, NamesItself}
 use Rattle.thorin_join.specs.Represents.{IsSound, IsSoundBegun, Owns, AreRowsOf, meaning_at}
 use Rattle.thorin_join.specs.Represents.{units_of, units_in, units_begun}
 use Rattle.thorin_join.specs.StandApart.{EachRow}
-use Rattle.thorin_join.specs.State.{InProgress, with_source, adding, abbreviations_test, unit_bytes}
+use Rattle.thorin_join.specs.State.{InProgress, unit_bytes}
 use Rattle.thorin_index.specs.declared.entry.IndexEntry.{IndexEntry}
-use Rattle.thorin_again.proofs.Lists.HeadersEncoded.{AreEncoded, IsEncoded, MeantAre, Meant}
-use Rattle.thorin_again.proofs.Lists.HeadersEncoded.{source-fine, joined-fine, there-fine}
-use Rattle.thorin_again.proofs.Lists.HeadersEncoded.{header-has, in-of}
+use Rattle.thorin_again.proofs.Lists.Held.{InputsSound, packages-in-order}
+use Rattle.thorin_again.proofs.Lists.HeadersEncoded.{AreEncoded, IsEncoded, header-has, in-of}
+use Rattle.thorin_again.proofs.Lists.HeadersEncoded.{read-encoded}
 use Rattle.thorin_join.proofs.Units.HeadersRead.{ReadAlone}
-use Rattle.thorin_join.proofs.Joined.Input.{made-order, new-units}
-use Rattle.thorin_again.proofs.Offsets.Tiled.{order-kept}
-use Rattle.thorin_again.proofs.Kept.OneEncoding.{InputsJoined, begun-now}
+use Rattle.thorin_join.proofs.Joined.Input.{made-order}
+use Rattle.thorin_again.proofs.Kept.OneEncoding.{InputsJoined, begun-now, source_of, units-hold}
+use Rattle.thorin_again.proofs.Kept.OneEncoding.{CanMean}
+use Rattle.thorin_again.proofs.Kept.SharedParts.{plain-added, order-added}
 use Rattle.thorin_again.proofs.Opened.Sections.{opened-elf}
-use Rattle.thorin_again.proofs.Lists.PlainInputs.{InputsSound}
-use Rattle.thorin_join.proofs.Joined.Source.{with_all_parts, all-is}
+use Rattle.thorin_join.proofs.Joined.Taken.{takes}
 use Rattle.thorin_join.proofs.Files.Finished.{finished-order}
 use Rattle.dwp_base.proofs.Steps.{bind-was, same-ok}
 
--- ---- an input's units
-
-info-means : (file : Elf) (units : Meant) (b : Bool) → has_info file ≡ b
-    → cond {A = Result Meant ErrorValue} (has_info file) (input_file_of file >>=
-    object_meaning) (Ok [])
-    ≡ Ok units → cond {A = Result Meant ErrorValue} b (input_file_of file >>=
-    object_meaning) (Ok [])
-    ≡ Ok units
-info-means file units b is h = ap (λ x. cond {A = Result Meant ErrorValue} x
-    (input_file_of file >>= object_meaning) (Ok [])) (sym is) ∙ h
-
--- what an input with units means is what its source means
-pub means-source : (bytes : List ℕ) (file : Elf) (object : InputFile) (encoding : Encoding)
-    (units : Meant) → opened bytes ≡ Ok file → has_info file ≡ true
-    → input_file_of file ≡ Ok object → encoding_of object ≡ Ok encoding
-    → input_meaning bytes ≡ Ok units → (source : Source) × (source.object ≡ object)
-    × (source.encoding ≡ encoding) × (source_meaning source ≡ Ok units)
-unfolding input_meaning object_meaning
-means-source bytes file object encoding units opens info is first h =
-    let f = bind-was (opened bytes) _ units h in
-    let same : f.0 ≡ file = same-ok {E = ErrorValue} f.0 file (sym f.1 ∙ opens) in
-    let here = info-means file units true info (subst (λ x. cond {A = Result Meant ErrorValue}
-    (has_info x) (input_file_of x >>= object_meaning) (Ok []) ≡ Ok units) same f.2) in
-    let o = bind-was (input_file_of file) object_meaning units here in
-    let e = bind-was (encoding_of o.0) _ units o.2 in
-    let i = bind-was (indexes_of o.0 e.0) _ units e.2 in
-    let object_is : o.0 ≡ object = same-ok {E = ErrorValue} o.0 object (sym o.1 ∙ is) in
-    let encoding_is : e.0 ≡ encoding = same-ok {E = ErrorValue} e.0 encoding
-    (sym e.1 ∙ ap encoding_of object_is ∙ first) in (
-      record { object = o.0; encoding = e.0; indexes = i.0 },
-      object_is,
-      encoding_is,
-      i.2,
-    )
-
 -- ---- a package keeps its byte order
 
-source-order : (source : Source) (before now : InProgress) → with_source source before ≡ Ok now
-    → now.file.order ≡ before.file.order
-unfolding with_source
-source-order source before now h =
-    let s1 = bind-was (parts_of source before.strings) _ now h in
-    let s2 = bind-was (abbreviations_test source.object) _ now s1.2 in
-    let s3 = bind-was (new_units (adding source before s1.0.0)) _ now s2.2 in
-    let q = with_all_parts before s1.0.0 s1.0.1 (before.differing ++ s3.0.differing) in
-    ap (λ (p : InProgress). p.file.order) (sym (same-ok {E = ErrorValue} _ now s3.2)
-    ∙ all-is before s1.0.0 s1.0.1 s3.0) ∙ order-kept q s3.0.units
+new-order : (file : Elf) (begun : Option InProgress) → (package_or_new file begun).file.order
+    ≡ order_of begun file.order
+new-order file None = refl
+new-order file (Some made) = refl
+
+-- the byte order of a package after an input: that before, or the input's own
+input-order : (bytes : List ℕ) (file : Elf) (begun now : Option InProgress) (order : Endianness)
+    → opened bytes ≡ Ok file → with_input bytes begun ≡ Ok now
+    → order_of now order ≡ order_of begun file.order
+input-order bytes file begun now order opens h =
+    let t = takes bytes begun now h in
+    let same : t.file ≡ file = same-ok {E = ErrorValue} t.file file (sym t.opens ∙ opens) in
+    let before = package_or_new t.file begun in
+    elim t.does [
+      | inl w ↦
+          let source = source_of w.1 in
+          ap (λ b. order_of b order) (sym w.1.is)
+          ∙ order-added source before w.1.made (plain-added source before w.1.made w.1.with)
+          ∙ new-order t.file begun
+      | inr none ↦ ap (λ b. order_of b order) (sym none.1) ∙ new-order t.file begun
+    ] ∙ ap (λ (e : Elf). order_of begun e.order) same
+
+pub taken-order : (bytes : List ℕ) (file : Elf) (old new : State) (order : Endianness)
+    → elf_of bytes ≡ Ok file → taken bytes old ≡ Ok new
+    → order_of new.begun order ≡ order_of old.begun file.order
+taken-order bytes file old new order is h = input-order bytes file old.begun new.begun order
+    (opened-elf bytes file is) (begun-now bytes old new h)
 
 -- ---- one input
 
--- the header of each unit has the encoding that is recorded of it
+-- the header of each unit has the encoding that is recorded of it, in the package's byte order
 abbrev pub Encoded : Option InProgress → Type 0
-Encoded None = Unit {0}
-Encoded (Some made) = AreEncoded made.file.order (units_of made)
+Encoded begun = (order : Endianness) → order_of begun order ≡ order
+    → AreEncoded order (units_begun begun)
 
-new-encoded : (file : Elf) (begun : Option InProgress) → Encoded begun
-    → Encoded (Some (package_or_new file begun))
-new-encoded file None h = All-nil (λ (u : DwarfObject × Meaning). IsEncoded file.order u.1)
-new-encoded file (Some made) h = h
+order-before : (begun : Option InProgress) (order own : Endianness) → order_of begun own ≡ order
+    → order_of begun order ≡ order
+order-before None order own is = refl
+order-before (Some made) order own is = is
 
-with-encoded : UnitsAreTaken → ReadAlone → (bytes : List ℕ) (file : Elf)
-    (begun now : Option InProgress) → IsOfOneEncoding bytes → opened bytes ≡ Ok file
-    → has_info file ≡ true → Joins bytes (units_begun begun) (units_begun now)
-    → with_units file begun ≡ Ok now → Encoded begun → Encoded now
-unfolding with_units with_source_or_new
-with-encoded reads alone bytes file begun now one opens info j h before =
-    let s1 = bind-was (input_file_of file) _ now h in
-    let s2 = bind-was (encoding_of s1.0) _ now s1.2 in
-    let s3 = bind-was (order_test s1.0.order begun) _ now s2.2 in
-    let s4 = bind-was (indexes_of s1.0 s2.0) _ now s3.2 in
-    let old = package_or_new file begun in
-    let s5 = bind-was (with_source (record {
-      object = s1.0;
-      encoding = s2.0;
-      indexes = s4.0;
-    }) old) _ now s4.2 in
-    let made = s5.0 in
-    let is : Some made ≡ now = same-ok {E = ErrorValue} _ now s5.2 in
-    let same : s1.0.order ≡ old.file.order = made-order file s1.0 begun s1.1 s3.1 in
-    let kept = source-order (record {
-      object = s1.0;
-      encoding = s2.0;
-      indexes = s4.0;
-    }) old made s5.1 in
-    let all = one file s1.0 s2.0 opens s1.1 s2.1 in
-    let m = means-source bytes file s1.0 s2.0 j.units opens info s1.1 s2.1 j.meaning in
-    let source = m.0 in
-    let have : list_all (section_has source.encoding source.object.order) source.object.sections ≡
-    true = (λ i. list_all (section_has (m.2 i) (m.1 i).order) (m.1 i).sections) ∙ all in
-    let fine = source-fine reads alone source j.units have m.3 in
-    let order : source.object.order ≡ made.file.order = ap (λ (o : InputFile). o.order) m.1 ∙ same ∙
-    sym kept in
-    let added : AreEncoded made.file.order j.added =
-    there-fine made.file.order j.added (subst (MeantAre made.file.order) j.joined
-    (joined-fine made.file.order (keys (units_begun begun)) j.units
-    (subst (λ o. MeantAre o j.units) order fine))) in
-    let there : AreEncoded made.file.order (units_begun begun) =
-    subst (AreEncoded made.file.order) (new-units file begun)
-    (subst (λ o. AreEncoded o (units_of old)) (sym kept) (new-encoded file begun before)) in
-    let whole = All-append (λ (u : DwarfObject × Meaning). IsEncoded made.file.order u.1)
-    (units_begun begun) j.added there added in
-    subst Encoded is (subst (AreEncoded made.file.order)
-    (sym (ap units_begun is ∙ j.is)) whole)
+pub none-encoded : Encoded None
+none-encoded order is = All-nil (λ (u : DwarfObject × Meaning). IsEncoded order u.1)
 
-input-encoded : UnitsAreTaken → ReadAlone → (bytes : List ℕ) (begun now : Option InProgress)
+pub input-encoded : UnitsAreTaken → ReadAlone → (bytes : List ℕ) (begun now : Option InProgress)
     → IsOfOneEncoding bytes → Joins bytes (units_begun begun) (units_begun now)
     → with_input bytes begun ≡ Ok now → Encoded begun → Encoded now
-unfolding with_input
-input-encoded reads alone bytes begun now one j h before =
-    let f = bind-was (opened bytes) _ now h in
-    by f.0 f.1 (has_info f.0) refl f.2
-  where
-    by : (file : Elf) → opened bytes ≡ Ok file → (b : Bool) → has_info file ≡ b
-        → cond {A = Result (Option InProgress) ErrorValue} b (with_units file begun)
-        (Ok (Some (package_or_new file begun))) ≡ Ok now → Encoded now
-    by file opens true info k =
-        with-encoded reads alone bytes file begun now one opens info j k before
-    by file opens false info k =
-        subst Encoded (same-ok {E = ErrorValue} _ now k) (new-encoded file begun before)
-
--- ---- inputs in order
-
-module _ (reads : UnitsAreTaken) (alone : ReadAlone) (sound : InputsSound)
-    (joins : InputsJoined) where
-  pub each-encoded : (accepted : List (List ℕ)) (old new : State) → IsSoundBegun old.begun
-      → AreTaken accepted old new → All IsOfOneEncoding accepted → Encoded old.begun
-      → Encoded new.begun
-  each-encoded [] old new fine are one h = subst (λ (s : State). Encoded s.begun) (sym are.1) h
-  each-encoded (bytes ∷ rest) old new fine are one h =
-      let from : State = record old { targets = are.0 } in
-      let next = are.1 in
-      let took = begun-now bytes from next are.2 in
-      let j = joins bytes old.begun next.begun fine took in
-      each-encoded rest next new (sound bytes old.begun next.begun fine took) are.3
-      (All-tail IsOfOneEncoding bytes rest one)
-      (input-encoded reads alone bytes old.begun next.begun
-      (All-head IsOfOneEncoding bytes rest one) j took h)
+input-encoded reads alone bytes begun now one j h before order is =
+    let from = λ (file : Elf) (opens : opened bytes ≡ Ok file).
+    sym (input-order bytes file begun now order opens h) ∙ is in
+    let t = takes bytes begun now h in
+    units-hold (IsEncoded order) bytes begun now j h (λ file u opens info all read.
+    subst (λ o. CanMean (IsEncoded o) (source_of u) all)
+    (made-order file u.object begun u.object_is u.order_is ∙ new-order file begun
+    ∙ from file opens)
+    (read-encoded reads alone (source_of u) all
+    (one file u.object u.encoding opens u.object_is u.encoding_is) read))
+    (before order (order-before begun order t.file.order (from t.file t.opens)))
 
 -- ---- look-ups
 
@@ -337,14 +253,12 @@ abbrev pub FinishedLaw : Type 0
 FinishedLaw = (state : State) (file : File) → IsSoundBegun state.begun → finish_test state ≡ Ok tt
     → IsFinishedState state file → IsPackageOnceWritten (units_in state) file
 
--- the order and the headers of a package that was begun
 pub encoded-made : (begun : Option InProgress) (made : InProgress)
-    → begun ≡ Some made → Encoded begun
-    → AreEncoded made.file.order (units_begun begun)
+    → begun ≡ Some made → Encoded begun → AreEncoded made.file.order (units_begun begun)
 encoded-made begun made is h =
-    subst (λ b. AreEncoded made.file.order (units_begun b)) (sym is) (subst Encoded is h)
+    h made.file.order (ap (λ b. order_of b made.file.order) is)
 
-pub state-whole : FinishedLaw → (state : State) (file : File) → IsSoundBegun state.begun
+state-whole : FinishedLaw → (state : State) (file : File) → IsSoundBegun state.begun
     → Encoded state.begun → finish_test state ≡ Ok tt → IsFinishedState state file
     → AnswersOnceWritten (units_in state) file
 state-whole finishes state file sound encoded tested f differ back =
@@ -353,66 +267,17 @@ state-whole finishes state file sound encoded tested f differ back =
     (finished-order f.made file f.finished) (encoded-made state.begun f.made f.begun encoded) p.pack
     p.parsed p.finds
 
-module _ (reads : UnitsAreTaken) (alone : ReadAlone) (sound : InputsSound)
-    (joins : InputsJoined) where
-  pub each-sound : (accepted : List (List ℕ)) (old new : State) → IsSoundBegun old.begun
-      → AreTaken accepted old new → IsSoundBegun new.begun
-  each-sound [] old new fine are =
-      subst (λ (s : State). IsSoundBegun s.begun) (sym are.1) fine
-  each-sound (bytes ∷ rest) old new fine are =
-      let from : State = record old { targets = are.0 } in
-      let took = begun-now bytes from are.1 are.2 in
-      each-sound rest are.1 new (sound bytes old.begun are.1.begun fine took) are.3
-
-  pub inputs-whole : FinishedLaw → (accepted : List (List ℕ)) (state : State)
-      → AreTaken accepted start state → All IsOfOneEncoding accepted → (file : File)
-      → finish_test state ≡ Ok tt → IsFinishedState state file
-      → AnswersOnceWritten (units_in state) file
-  inputs-whole finishes accepted state are one file tested f =
-      state-whole finishes state file (each-sound accepted start state tt are)
-      (each-encoded reads alone sound joins accepted start state tt are one tt) tested f
+pub inputs-whole : UnitsAreTaken → ReadAlone → InputsSound → InputsJoined → FinishedLaw
+    → (accepted : List (List ℕ)) (state : State)
+    → AreTaken accepted start state → All IsOfOneEncoding accepted → (file : File)
+    → finish_test state ≡ Ok tt → IsFinishedState state file
+    → AnswersOnceWritten (units_in state) file
+inputs-whole reads alone sound joins finishes accepted state are one file tested f =
+    let is = packages-in-order sound joins IsOfOneEncoding Encoded (input-encoded reads alone)
+    accepted state are one none-encoded in
+    state-whole finishes state file is.0 is.1 tested f
 
 -- ---- own packages
-
--- the byte order of a package after an input: that before, or the input's own
-pub input-order : (bytes : List ℕ) (file : Elf) (begun now : Option InProgress) (order : Endianness)
-    → opened bytes ≡ Ok file → with_input bytes begun ≡ Ok now
-    → order_of now order ≡ order_of begun file.order
-unfolding with_input with_units with_source_or_new
-input-order bytes file begun now order opens h =
-    let f = bind-was (opened bytes) _ now h in
-    let same : f.0 ≡ file = same-ok {E = ErrorValue} f.0 file (sym f.1 ∙ opens) in
-    by f.0 (has_info f.0) f.2 ∙ ap (λ (e : Elf). order_of begun e.order) same
-  where
-    new : (e : Elf) → (package_or_new e begun).file.order ≡ order_of begun e.order
-    new e = at begun
-      where
-        at : (b : Option InProgress) → (package_or_new e b).file.order ≡ order_of b e.order
-        at None = refl
-        at (Some made) = refl
-
-    units : (e : Elf) → with_units e begun ≡ Ok now → order_of now order ≡ order_of begun e.order
-    units e k =
-        let s1 = bind-was (input_file_of e) _ now k in
-        let s2 = bind-was (encoding_of s1.0) _ now s1.2 in
-        let s3 = bind-was (order_test s1.0.order begun) _ now s2.2 in
-        let s4 = bind-was (indexes_of s1.0 s2.0) _ now s3.2 in
-        let source : Source = record { object = s1.0; encoding = s2.0; indexes = s4.0 } in
-        let s5 = bind-was (with_source source (package_or_new e begun)) _ now s4.2 in
-        ap (λ b. order_of b order) (sym (same-ok {E = ErrorValue} _ now s5.2))
-        ∙ source-order source (package_or_new e begun) s5.0 s5.1 ∙ new e
-
-    by : (e : Elf) (b : Bool) → cond {A = Result (Option InProgress) ErrorValue} b
-        (with_units e begun)
-        (Ok (Some (package_or_new e begun))) ≡ Ok now → order_of now order ≡ order_of begun e.order
-    by e true k = units e k
-    by e false k = ap (λ b. order_of b order) (sym (same-ok {E = ErrorValue} _ now k)) ∙ new e
-
-pub taken-order : (bytes : List ℕ) (file : Elf) (old new : State) (order : Endianness)
-    → elf_of bytes ≡ Ok file → taken bytes old ≡ Ok new
-    → order_of new.begun order ≡ order_of old.begun file.order
-taken-order bytes file old new order is h = input-order bytes file old.begun new.begun order
-    (opened-elf bytes file is) (begun-now bytes old new h)
 
 row-encoded : (order : Endianness) (encoding : Encoding) (contents : Contents)
     (strings : List (List ℕ)) (row : IndexEntry)

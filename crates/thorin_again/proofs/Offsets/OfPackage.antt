@@ -1,8 +1,9 @@
 -- A written package of plain objects as an input: its indexes, and its string offsets.
-use Rattle.std.proofs.Common.{◌≡◌, ◌∙◌, ℕ, suc, ◌+◌, ◌<◌, true, false, cond, List, [], ◌∷◌, ◌++◌}
+use Rattle.std.proofs.Common.{◌≡◌, ◌∙◌, ℕ, ◌+◌, ◌<◌, true, false, cond, List, [], ◌∷◌, ◌++◌}
 use Rattle.std.proofs.Common.{length, refl, sym, ap, subst, Ok, Some, arith, inl, inr, true≢false}
 use Rattle.std.specs.Prelude.{slice_get}
 use Rattle.std.proofs.lemmas.List.{length-map}
+use Rattle.std.proofs.lemmas.List.Elements.{All-tail}
 use Rattle.std.proofs.lemmas.Option.{same_Some}
 use Rattle.std.proofs.Math.Seq.{take-length}
 use Rattle.dwp_base.specs.declared.endian.Endianness.{Endianness}
@@ -20,27 +21,26 @@ use Rattle.thorin_index.specs.declared.entry.IndexEntry.{IndexEntry}
 use Rattle.thorin_strings.specs.Strings.{IsTable, data_of}
 use Rattle.thorin_join.specs.Builder.{State, IsFinished}
 use Rattle.thorin_input.specs.Growing.{Contents, with_bytes}
-use Rattle.thorin_input.specs.Indexes.{Indexes, Source, indexes_of}
+use Rattle.thorin_input.specs.Indexes.{Indexes, indexes_of}
 use Rattle.thorin_join.specs.Meaning.{Meaning, Members}
 use Rattle.thorin_again.specs.OwnInput.{written_object, IsOwn, own_source}
 use Rattle.thorin_again.specs.OwnRefusals.{UnlessStringOffset}
 use Rattle.thorin_again.specs.OwnUnits.{AllOf}
 use Rattle.thorin_input.specs.InputStrings.{rewritten}
 use Rattle.thorin_input.specs.Format.{is_shared}
-use Rattle.thorin_again.specs.Plain.{IsWholeRange, Tile, IsAmong, HasOneOf, IsPlain}
+use Rattle.thorin_again.specs.Plain.{IsWholeRange, IsOfSome, IsPlain}
 use Rattle.thorin_join.specs.Represents.{IsSound, IsSoundBegun, IsRowOf, AreRowsOf, units_of}
 use Rattle.thorin_join.specs.Represents.{units_begun}
-use Rattle.thorin_join.specs.StandApart.{EachRow}
 use Rattle.thorin_join.specs.State.{InProgress}
 use Rattle.thorin_input.specs.Used.{first}
-use Rattle.thorin_packaged.specs.PackagedOffsets.{packaged_offsets}
+use Rattle.thorin_packaged.specs.PackagedOffsets.{packaged_offsets, rewritten_from}
 use Rattle.thorin_packaged.specs.PackagedReading.{range_bytes}
 use Rattle.thorin_join.proofs.Parts.FirstUses.{slice-long}
 use Rattle.thorin_join.proofs.Files.Indexes.{IndexIsRead, IndexHasEntries, SomeIndex, NoIndex}
 use Rattle.thorin_join.proofs.Rows.Stay.{part-inside}
-use Rattle.thorin_again.proofs.Offsets.RangesApart.{AreNamed, CanRewrite, offsets-rewritten}
-use Rattle.thorin_again.proofs.Offsets.RangesApart.{are-named}
-use Rattle.thorin_again.proofs.Offsets.RangesFill.{offsets-alone}
+use Rattle.thorin_again.proofs.Offsets.RangesApart.{AreNamed, CanRewrite, are-named, all-rewritten}
+use Rattle.thorin_again.proofs.Offsets.RangesApart.{packaged-are}
+use Rattle.thorin_again.proofs.Offsets.RangesFill.{tile-lies}
 use Rattle.thorin_again.proofs.Meant.Package.{own-again}
 use Rattle.thorin_join.proofs.Parts.Appended.{content-with_bytes, differ}
 use Rattle.thorin_join.proofs.Parts.Strings.{rewritten-package}
@@ -67,60 +67,40 @@ finished-shared made file f kind shared =
 
 -- ---- string offsets
 
-tile-whole : (order : Endianness) (encoding : Encoding) (at end : ℕ) (ys : List Contribution)
-    (r : Contribution) → Tile order encoding at ys end → IsAmong r ys
-    → IsWholeRange order encoding r.size
-tile-whole order encoding at end [] r tile h = absurd h
-tile-whole order encoding at end (y ∷ ys) r tile (inl e) = subst (λ (c : Contribution).
-    IsWholeRange order encoding c.size) (sym e) tile.1
-tile-whole order encoding at end (y ∷ ys) r tile (inr h) = tile-whole order encoding (at + y.size)
-    end ys r tile.2 h
+module _ (order : Endianness) (encoding : Encoding) (c : Contents) (strings : List (List ℕ))
+    (table : IsTable strings) (range : Contribution)
+    (whole : IsWholeRange order encoding range.size) where
+  abbrev CanBe : Type 0
+  CanBe = CanRewrite order encoding (data_of strings) (content_of kinds.StrOffsets c) range
 
--- the range of a row can be rewritten
-row-can : (order : Endianness) (encoding : Encoding) (c : Contents) (strings : List (List ℕ))
-    (ranges : List Contribution) (row : IndexEntry) (member : DwarfObject × Meaning)
-    → Tile order encoding 0 ranges (length (content_of kinds.StrOffsets c)) → IsTable strings
-    → IsRowOf order c strings row member → member.1.encoding ≡ encoding → HasOneOf ranges row
-    → (range : Contribution) → row.debug_str_offsets ≡ Some range → IsAmong range ranges
-    × CanRewrite order encoding (data_of strings) (content_of kinds.StrOffsets c) range
-row-can order encoding c strings ranges row member tile table is same has range e =
-    let bytes = content_of kinds.StrOffsets c in
-    let among = has range e in
-    let whole = tile-whole order encoding 0 (length bytes) ranges range tile among in
-    let inside = is.lie.inside kinds.StrOffsets range e in
-    let long : range.size ≡ length (range_bytes bytes range) = slice-long bytes range.offset.0
-    range.size inside in
-    let reads : (k : ℕ) → string_in order encoding (data_of strings) (range_bytes bytes range) k ≡
-    Ok (slice_get member.1.strings k) =
-    λ k. ap (λ en. string_in order en (data_of strings) (range_bytes bytes range) k) (sym same)
-    ∙ ap (λ l. string_in order member.1.encoding (data_of strings) l k)
-    (sym (ap (part_of bytes) e ∙ part-inside bytes range inside))
-    ∙ is.shares.string strings table (take-length strings) k in (
-      among,
-      (
+  -- the range of a row can be rewritten
+  row-can : (row : IndexEntry) (member : DwarfObject × Meaning)
+      → IsRowOf order c strings row member → member.1.encoding ≡ encoding
+      → row.debug_str_offsets ≡ Some range → CanBe
+  row-can row member is same e =
+      let bytes = content_of kinds.StrOffsets c in
+      let own = range_bytes bytes range in
+      let inside = is.lie.inside kinds.StrOffsets range e in
+      let long : range.size ≡ length own = slice-long bytes range.offset.0 range.size inside in
+      let own_is : own ≡ part_of bytes row.debug_str_offsets =
+      sym (ap (part_of bytes) e ∙ part-inside bytes range inside) in
+      let reads : (k : ℕ) → string_in order encoding (data_of strings) own k ≡
+      Ok (slice_get member.1.strings k) =
+      λ k. (λ i. string_in order (sym same i) (data_of strings) (own_is i) k)
+      ∙ is.shares.string strings table (take-length strings) k in (
         whole,
-        subst (λ n. AreNamed order encoding (data_of strings) (range_bytes bytes range)
-            (entry_count encoding n)) (sym long)
-            (are-named order encoding (data_of strings) (range_bytes bytes range)
-            (slice_get member.1.strings) (subst (IsWholeRange order encoding)
-            long whole) reads),
-      ),
-    )
+        subst (λ n. AreNamed order encoding (data_of strings) own (entry_count encoding n))
+            (sym long) (are-named order encoding (data_of strings) own (slice_get member.1.strings)
+            (subst (IsWholeRange order encoding) long whole) reads),
+      )
 
-rows-can : (order : Endianness) (encoding : Encoding) (c : Contents) (strings : List (List ℕ))
-    (ranges : List Contribution) (rows : List IndexEntry) (ms : Members)
-    → Tile order encoding 0 ranges (length (content_of kinds.StrOffsets c)) → IsTable strings
-    → AreRowsOf order c strings rows ms → AllOf encoding ms → EachRow (HasOneOf ranges) rows
-    → EachRow (λ row. (range : Contribution) → row.debug_str_offsets ≡ Some range
-    → IsAmong range ranges × CanRewrite order encoding (data_of strings)
-    (content_of kinds.StrOffsets c) range) rows
-rows-can order encoding c strings ranges [] ms tile table are all has = tt
-rows-can order encoding c strings ranges (row ∷ rows) [] tile table are all has = absurd are
-rows-can order encoding c strings ranges (row ∷ rows) (m ∷ ms) tile table are all has = (
-  row-can order encoding c strings ranges row m tile table are.0 (all 0 m (omega arith)) has.0,
-  rows-can order encoding c strings ranges rows ms tile table are.1 (λ k d within.
-      all (suc k) d (omega (arith, within))) has.1,
-)
+  some-can : (rows : List IndexEntry) (ms : Members) → AreRowsOf order c strings rows ms
+      → AllOf encoding ms → IsOfSome range rows → CanBe
+  some-can [] ms are all h = absurd h
+  some-can (row ∷ rows) [] are all h = absurd are
+  some-can (row ∷ rows) (m ∷ ms) are all (inl e) = row-can row m are.0 (all 0 m (omega arith)) e
+  some-can (row ∷ rows) (m ∷ ms) are all (inr h) = some-can rows ms are.1
+      (All-tail (λ (u : DwarfObject × Meaning). u.1.encoding ≡ encoding) m ms all) h
 
 -- a finished package of plain objects, read again of its file
 pub record IsReadOf (state : State) (encoding : Encoding) (file : File)
@@ -132,94 +112,72 @@ pub record IsReadOf (state : State) (encoding : Encoding) (file : File)
   pub all : AllOf encoding (units_of made)
   pub again : IsAgain (own_source file encoding indexes) file.contents made.strings made.rows
 
-pub read-of : IndexIsRead → IndexHasEntries → SomeIndex → NoIndex → (state : State)
-    (encoding : Encoding) (file : File) → IsOwn state encoding file
-    → (made : InProgress) → state.begun ≡ Some made → IsPlain encoding made → (indexes : Indexes)
-    → indexes_of (written_object file) encoding ≡ Ok indexes → IsReadOf state encoding file indexes
-read-of is_read has_entries some_index none_index state encoding file own other begun plain indexes
-    read =
-    let fin = own.finished in
-    let made = fin.made in
-    let same : other ≡ made = same_Some other made (sym begun ∙ fin.begun) in
-    let sound : IsSound made = subst IsSoundBegun fin.begun own.sound in
-    let count : 0 < length (units_of made) = subst (λ b. 0 < length (units_begun b))
-    fin.begun own.some in
-    let long : length (units_of made) ≡ length made.rows = length-map made.rows _ in
-    record {
-      made = made;
-      finished = fin.finished;
-      sound = sound;
-      plain = subst (IsPlain encoding) same plain;
-      all = subst (λ b. AllOf encoding (units_begun b)) fin.begun own.all;
-      again = own-again is_read has_entries made file sound
-          (tested-state state made fin.begun own.tested) fin.identifiers fin.finished own.kinds
-          encoding indexes read (λ none. let e : length made.rows ≡ 0 = ap length none in
-          omega (arith, e, count, long));
-    }
+module _ (is_read : IndexIsRead) (has_entries : IndexHasEntries) (some_index : SomeIndex)
+    (none_index : NoIndex) (state : State) (encoding : Encoding) (file : File)
+    (own : IsOwn state encoding file) (other : InProgress) (begun : state.begun ≡ Some other)
+    (plain : IsPlain encoding other) (indexes : Indexes)
+    (read : indexes_of (written_object file) encoding ≡ Ok indexes) where
+  pub read-of : IsReadOf state encoding file indexes
+  read-of =
+      let fin = own.finished in
+      let made = fin.made in
+      let same : other ≡ made = same_Some other made (sym begun ∙ fin.begun) in
+      let sound : IsSound made = subst IsSoundBegun fin.begun own.sound in
+      let count : 0 < length (units_of made) = subst (λ b. 0 < length (units_begun b))
+      fin.begun own.some in
+      let long : length (units_of made) ≡ length made.rows = length-map made.rows _ in
+      record {
+        made = made;
+        finished = fin.finished;
+        sound = sound;
+        plain = subst (IsPlain encoding) same plain;
+        all = subst (λ b. AllOf encoding (units_begun b)) fin.begun own.all;
+        again = own-again is_read has_entries made file sound
+            (tested-state state made fin.begun own.tested) fin.identifiers fin.finished own.kinds
+            encoding indexes read (λ none. let e : length made.rows ≡ 0 = ap length none in
+            omega (arith, e, count, long));
+      }
 
--- the string offsets of a written package are rewritten, unless an offset doesn't fit
-pub own-offsets : IndexIsRead → IndexHasEntries → SomeIndex → NoIndex
-    → (state : State) (encoding : Encoding) (file : File) → IsOwn state encoding file
-    → (made : InProgress) → state.begun ≡ Some made → IsPlain encoding made → (indexes : Indexes)
-    → indexes_of (written_object file) encoding ≡ Ok indexes → (strings : List (List ℕ))
-    → UnlessStringOffset (rewritten (own_source file encoding indexes) (content_of kinds.StrOffsets
-    file.contents) strings)
-own-offsets is_read has_entries some_index none_index state encoding file own other begun plain
-    indexes read strings =
-    let is = read-of is_read has_entries some_index none_index state encoding file own other begun
-    plain indexes read in
-    let made = is.made in
-    let f = is.finished in
-    let source : Source = own_source file encoding indexes in
-    let order : file.order ≡ made.file.order = finished-order made file f in
-    let content = finished-shared made file f kinds.StrOffsets refl in
-    let old = content_of kinds.StrOffsets made.file.contents in
-    let rows = rows-can made.file.order encoding made.file.contents made.strings
-    is.plain.offsets.ranges made.rows (units_of made) is.plain.offsets.tile is.sound.units.table
-    is.sound.units.rows is.all is.plain.offsets.rows in
-    let here = offsets-rewritten made.file.order encoding indexes.compilations indexes.types
-    (data_of made.strings) old strings made.rows is.plain.offsets.ranges is.plain.offsets.tile
-    is.again.compilations is.again.types rows in
-    let strings_are : first kinds.Str (written_object file).sections ≡ data_of made.strings =
-    is.again.held kinds.Str ∙ is.again.strings_are in
-    subst UnlessStringOffset
-    (sym (rewritten-package source (content_of kinds.StrOffsets file.contents)
-    strings is.again.packed))
-    (subst (λ b. UnlessStringOffset (packaged_offsets file.order encoding indexes.compilations
-    indexes.types (first kinds.Str (written_object file).sections) b strings)) (sym content)
-    (subst (λ s. UnlessStringOffset (packaged_offsets file.order encoding indexes.compilations
-    indexes.types s old strings)) (sym strings_are)
-    (subst (λ o. UnlessStringOffset (packaged_offsets o encoding indexes.compilations indexes.types
-    (data_of made.strings) old strings)) (sym order) here)))
+  abbrev made : InProgress
+  made = read-of.made
 
--- where there are no strings they are, with the package's strings
-pub own-offsets-alone : IndexIsRead → IndexHasEntries → SomeIndex → NoIndex
-    → (state : State) (encoding : Encoding) (file : File) → IsOwn state encoding file
-    → (made : InProgress) → state.begun ≡ Some made → IsPlain encoding made → (indexes : Indexes)
-    → indexes_of (written_object file) encoding ≡ Ok indexes
-    → (w : List ℕ × List (List ℕ))
-    × (rewritten (own_source file encoding indexes)
-    (content_of kinds.StrOffsets file.contents) [] ≡ Ok w)
-own-offsets-alone is_read has_entries some_index none_index state encoding file own other begun
-    plain indexes read =
-    let is = read-of is_read has_entries some_index none_index state encoding file own other begun
-    plain indexes read in
-    let made = is.made in
-    let f = is.finished in
-    let source : Source = own_source file encoding indexes in
-    let order : file.order ≡ made.file.order = finished-order made file f in
-    let content = finished-shared made file f kinds.StrOffsets refl in
-    let old = content_of kinds.StrOffsets made.file.contents in
-    let tiled = is.plain.offsets in
-    let here = offsets-alone made.file.order encoding indexes.compilations indexes.types
-    (data_of made.strings) old made.rows tiled.ranges made.strings tiled.tile is.again.compilations
-    is.again.types tiled.rows tiled.named
-    (tiled.strings made.strings is.sound.units.table (take-length made.strings)) in
-    let strings_are : first kinds.Str (written_object file).sections ≡ data_of made.strings =
-    is.again.held kinds.Str ∙ is.again.strings_are in (
-      here.0,
-      rewritten-package source (content_of kinds.StrOffsets file.contents) [] is.again.packed
-          ∙ (λ i. packaged_offsets (order i) encoding indexes.compilations indexes.types
-          (strings_are i) (content i) [])
-          ∙ here.1,
-    )
+  -- its string offsets are rewritten range by range
+  offsets-are : (strings : List (List ℕ)) → rewritten (own_source file encoding indexes)
+      (content_of kinds.StrOffsets file.contents) strings
+      ≡ rewritten_from made.file.order encoding (data_of made.strings)
+      (content_of kinds.StrOffsets made.file.contents) 0 read-of.plain.offsets.ranges strings
+  offsets-are strings =
+      let f = read-of.finished in
+      let again = read-of.again in
+      let tiled = read-of.plain.offsets in
+      let strings_are : first kinds.Str (written_object file).sections ≡ data_of made.strings =
+      again.held kinds.Str ∙ again.strings_are in
+      rewritten-package (own_source file encoding indexes)
+      (content_of kinds.StrOffsets file.contents) strings again.packed
+      ∙ (λ i. packaged_offsets (finished-order made file f i) encoding indexes.compilations
+      indexes.types (strings_are i) (finished-shared made file f kinds.StrOffsets refl i) strings)
+      ∙ packaged-are made.file.order encoding (data_of made.strings)
+      (content_of kinds.StrOffsets made.file.contents) indexes.compilations indexes.types made.rows
+      tiled.ranges strings tiled.tile again.compilations again.types tiled.rows tiled.named
+
+  -- unless an offset doesn't fit
+  pub own-offsets : (strings : List (List ℕ)) → UnlessStringOffset
+      (rewritten (own_source file encoding indexes) (content_of kinds.StrOffsets file.contents)
+      strings)
+  own-offsets strings =
+      let tiled = read-of.plain.offsets in
+      let units = read-of.sound.units in
+      let bytes = content_of kinds.StrOffsets made.file.contents in
+      subst UnlessStringOffset (sym (offsets-are strings)) (all-rewritten made.file.order encoding
+      (data_of made.strings) bytes 0 tiled.ranges strings (λ r h. some-can made.file.order encoding
+      made.file.contents made.strings units.table r (tile-lies made.file.order encoding 0
+      (length bytes) tiled.ranges r tiled.tile h).1 made.rows (units_of made) units.rows
+      read-of.all (tiled.named r h)))
+
+  -- where there are no strings they are, with the package's strings
+  pub own-offsets-alone : (w : List ℕ × List (List ℕ)) × (rewritten
+      (own_source file encoding indexes) (content_of kinds.StrOffsets file.contents) [] ≡ Ok w)
+  own-offsets-alone =
+      let given = read-of.plain.offsets.strings made.strings read-of.sound.units.table
+      (take-length made.strings) in
+      ((given.0, made.strings), offsets-are [] ∙ given.1)

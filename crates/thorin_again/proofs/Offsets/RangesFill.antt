@@ -1,104 +1,214 @@
 -- The ranges of string offsets that the rows of a written package have are all that fill its
 -- section, in their order.
-use Rattle.std.proofs.Common.{◌≡◌, ◌∙◌, ℕ, zero, suc, ◌+◌, ◌<◌, Bool, true, false, cond, eqb, not}
-use Rattle.std.proofs.Common.{◌⊎◌, inl, inr, ⊎_elim, List, [], ◌∷◌, length, map, refl, sym, ap}
-use Rattle.std.proofs.Common.{subst, Ok, Option, Some, None, arith, true≢false}
+use Rattle.std.proofs.Common.{◌≡◌, ◌∙◌, ℕ, suc, ◌+◌, ◌<◌, ◌≤◌, Bool, true, false, cond, ◌⊎◌, inl, inr}
+use Rattle.std.proofs.Common.{List, [], ◌∷◌, length, map, refl, sym, ap, subst, Option, Some}
+use Rattle.std.proofs.Common.{None, arith}
 use Rattle.std.specs.Prelude.{slice_get}
 use Rattle.std.specs.List.{range_with_len}
 use Rattle.std.specs.Option.{option_and_then}
 use Rattle.std.specs.Result.{result_ok}
 use Rattle.std.specs.BTreeSet.{insert_key}
+use Rattle.std.specs.Cmp.{nat_cmp_is}
+use Rattle.std.specs.Ordering.{is_eq, match_ordering, nat_cmp, ordering_then}
 use Rattle.std.specs.declared.cmp.Ordering.{Ordering}
 use Rattle.std.specs.declared.cmp.Ordering.TheVariants.{Less, Equal, Greater}
-use Rattle.std.proofs.lemmas.Option.{none-some, same_Some}
-use Rattle.std.proofs.Math.Dec.{eqb-suc-zero}
+use Rattle.std.proofs.lemmas.Bool.{ne_eqb}
+use Rattle.std.proofs.lemmas.Option.{same_Some}
 use Rattle.dwp_base.specs.declared.endian.Endianness.{Endianness}
 use Rattle.dwp_base.specs.declared.section.Contribution.{Contribution}
 use Rattle.dwp_base.specs.declared.section.SectionKind.TheVariants.{StrOffsets}
+use Rattle.dwp_base.proofs.Bools.{by-bool}
 use Rattle.dwp_bytes.specs.declared.encoding.Encoding.{Encoding}
 use Rattle.dwp_index.specs.Index.{Index, range_in}
 use Rattle.thorin_packaged.specs.PackagedOffsets.{place_cmp, with_ranges, with_rows, offset_ranges}
-use Rattle.thorin_packaged.specs.PackagedOffsets.{ranges_test, rewritten_from, packaged_offsets}
 use Rattle.thorin_packaged.specs.RowPlaces.{range_of_row, ranges_of}
-use Rattle.thorin_index.specs.Entries.{contribution_to}
-use Rattle.thorin_index.specs.ReadRows.{non_empty, HasEntries}
+use Rattle.thorin_packaged.proofs.FirstRow.{range_is}
+use Rattle.thorin_packaged.proofs.RowSteps.{key_test}
+use Rattle.thorin_index.specs.ReadRows.{non_empty}
 use Rattle.thorin_index.specs.declared.entry.IndexEntry.{IndexEntry}
 use Rattle.thorin_join.specs.Builder.{is_chosen, rows_of}
-use Rattle.thorin_input.specs.Names.{is_compilation}
-use Rattle.thorin_again.specs.Plain.{Tile, IsAmong, HasOneOf, IsOfSome}
 use Rattle.thorin_join.specs.StandApart.{EachRow}
 use Rattle.thorin_join.proofs.Files.Indexes.{HasRows}
-use Rattle.thorin_again.proofs.Offsets.RewrittenAgain.{InTurn}
-use Rattle.thorin_again.proofs.Offsets.Tiled.{weaker}
-use Rattle.thorin_again.proofs.Offsets.RangesApart.{EachSome, index-holds, each-chosen, rows-some}
-use Rattle.thorin_again.proofs.Offsets.RangesApart.{all-some, inserted, ranges-tested, IsPartOf}
-use Rattle.thorin_again.proofs.Offsets.RangesApart.{part-later, first-among, tile-apart, cmp-less}
-use Rattle.thorin_again.proofs.Offsets.RangesApart.{cmp-greater, cmp-equal, Put}
-use Rattle.dwp_base.proofs.Steps.{bind-ok}
+use Rattle.thorin_input.specs.Names.{is_compilation}
+use Rattle.thorin_again.specs.Plain.{IsWholeRange, Tile, IsAmong, HasOneOf, IsOfSome}
+use Rattle.thorin_again.proofs.Meant.RowPlaces.{non_empty-some}
 
--- ---- parts of a list
+-- ---- ranges in the order of others, of which some may be left out
 
-part-rest : (x : Contribution) (xs ys : List Contribution) → IsPartOf (x ∷ xs) ys → IsPartOf xs ys
-part-rest x xs [] h = absurd h
-part-rest x xs (y ∷ ys) (inl p) = part-later xs ys y p.1
-part-rest x xs (y ∷ ys) (inr h) = part-later xs ys y (part-rest x xs ys h)
+abbrev IsPartOf : List Contribution → List Contribution → Type 0
+IsPartOf [] ys = Unit {0}
+IsPartOf (x ∷ xs) [] = ⊥
+IsPartOf (x ∷ xs) (y ∷ ys) = ((x ≡ y) × IsPartOf xs ys) ⊎ IsPartOf (x ∷ xs) ys
 
-part-among : (xs ys : List Contribution) (r : Contribution) → IsPartOf xs ys
-    → IsAmong r xs → IsAmong r ys
+part-later : (xs ys : List Contribution) (y : Contribution) → IsPartOf xs ys → IsPartOf xs (y ∷ ys)
+part-later [] ys y h = tt
+part-later (x ∷ xs) ys y h = inr h
+
+part-among : (xs ys : List Contribution) (r : Contribution) → IsPartOf xs ys → IsAmong r xs
+    → IsAmong r ys
 part-among [] ys r part h = absurd h
-part-among (x ∷ xs) ys r part (inl e) = subst (λ c. IsAmong c ys) (sym e) (first-among x xs ys part)
-part-among (x ∷ xs) ys r part (inr h) = part-among xs ys r (part-rest x xs ys part) h
+part-among (x ∷ xs) [] r part h = absurd part
+part-among (x ∷ xs) (y ∷ ys) r (inl p) (inl e) = inl (e ∙ p.0)
+part-among (x ∷ xs) (y ∷ ys) r (inl p) (inr h) = inr (part-among xs ys r p.1 h)
+part-among (x ∷ xs) (y ∷ ys) r (inr p) h = inr (part-among (x ∷ xs) ys r p h)
+
+-- ---- a range that is put among others
+
+cmp-less : (r x : Contribution) → r.offset.0 < x.offset.0 → place_cmp r x ≡ Less
+cmp-less r x h = ap (λ o. ordering_then o (nat_cmp r.size x.size))
+    (sym (nat_cmp_is r.offset.0 x.offset.0 Less h))
+
+cmp-greater : (r x : Contribution) → x.offset.0 < r.offset.0 → place_cmp r x ≡ Greater
+cmp-greater r x h = ap (λ o. ordering_then o (nat_cmp r.size x.size))
+    (sym (nat_cmp_is r.offset.0 x.offset.0 Greater h))
+
+cmp-self : (x : Contribution) → place_cmp x x ≡ Equal
+cmp-self x = λ i. ordering_then (sym (nat_cmp_is x.offset.0 x.offset.0 Equal refl) i)
+    (sym (nat_cmp_is x.size x.size Equal refl) i)
+
+cmp-equal : (r x : Contribution) → place_cmp r x ≡ Equal → r ≡ x
+cmp-equal r x h = same_Some r x (range_is x (Some r) (sym (key_test r x) ∙ ap is_eq h))
+
+put-there : (xs : List Contribution) (r : Contribution) → IsAmong r (insert_key place_cmp xs r)
+put-there [] r = inl refl
+put-there (x ∷ xs) r = by (place_cmp r x) refl (put-there xs r)
+  where
+    by : (o : Ordering) → place_cmp r x ≡ o → IsAmong r (insert_key place_cmp xs r) → IsAmong r
+        (match_ordering o (r ∷ x ∷ xs) (x ∷ xs) (x ∷ insert_key place_cmp xs r))
+    by Less e later = inl refl
+    by Equal e later = inl (cmp-equal r x e)
+    by Greater e later = inr later
+
+put-kept : (xs : List Contribution) (r z : Contribution) → IsAmong z xs
+    → IsAmong z (insert_key place_cmp xs r)
+put-kept [] r z h = absurd h
+put-kept (x ∷ xs) r z h = by (place_cmp r x) h (put-kept xs r z)
+  where
+    by : (o : Ordering) → IsAmong z (x ∷ xs)
+        → (IsAmong z xs → IsAmong z (insert_key place_cmp xs r)) → IsAmong z
+        (match_ordering o (r ∷ x ∷ xs) (x ∷ xs) (x ∷ insert_key place_cmp xs r))
+    by Less k later = inr k
+    by Equal k later = k
+    by Greater (inl e) later = inl e
+    by Greater (inr k) later = inr (later k)
+
+ranges-kept : (ranges : List (Option Contribution)) (xs : List Contribution) (z : Contribution)
+    → IsAmong z xs → IsAmong z (with_ranges ranges xs)
+ranges-kept [] xs z h = h
+ranges-kept (None ∷ ranges) xs z h = ranges-kept ranges xs z h
+ranges-kept (Some r ∷ ranges) xs z h =
+    ranges-kept ranges (insert_key place_cmp xs r) z (put-kept xs r z h)
+
+-- ---- the ranges of an index are those of its rows
+
+abbrev own : IndexEntry → Option Contribution
+own row = non_empty row.debug_str_offsets
+
+numbers-are : (f : ℕ → Option Contribution) (from : ℕ) (rows : List IndexEntry)
+    → ((l : ℕ) (row : IndexEntry) → slice_get rows l ≡ Some row → f (from + l) ≡ own row)
+    → map f (range_with_len from (length rows)) ≡ map own rows
+numbers-are f from [] each = refl
+numbers-are f from (row ∷ rows) each =
+    let here : from ≡ from + 0 = omega arith in
+    let next : (l : ℕ) → from + 1 + l ≡ from + suc l = λ l. omega arith in
+    λ i. (ap f here ∙ each 0 row refl) i ∷ numbers-are f (from + 1) rows (λ l r at. ap f (next l) ∙
+    each (suc l) r at) i
+
+rows-are : (index : Option Index) (rows : List IndexEntry) (xs : List Contribution)
+    → HasRows index rows → with_rows index xs ≡ with_ranges (map own rows) xs
+unfolding ranges_of
+rows-are None rows xs has = ap (λ l. with_ranges (map own l) xs) (sym has)
+rows-are (Some index) rows xs has =
+    let read = range_of_row index StrOffsets in
+    let next : (l : ℕ) → 1 + l ≡ l + 1 = λ l. omega arith in
+    ap (λ l. with_ranges l xs) (ap (λ n. map read (range_with_len 1 n)) has.1.count
+    ∙ numbers-are read 1 rows (λ l row at. let parts = has.1.each l row at in
+    ap read (next l) ∙ ap (λ r. option_and_then (λ found. range_in found StrOffsets) (result_ok r))
+    parts.there ∙ parts.parts StrOffsets))
+
+some-own : (row : IndexEntry) (range : Contribution) → row.debug_str_offsets ≡ Some range
+    → 0 < range.size → own row ≡ Some range
+some-own row range e some =
+    ap non_empty e ∙ ap (λ b. cond b None (Some range)) (ne_eqb range.size 0 (λ none. omega arith))
+
+ranges-there : (rows : List IndexEntry) (xs : List Contribution) (z : Contribution) → 0 < z.size
+    → IsOfSome z rows → IsAmong z (with_ranges (map own rows) xs)
+ranges-there [] xs z some h = absurd h
+ranges-there (row ∷ rows) xs z some (inl e) =
+    rw (some-own row z e some) (ranges-kept (map own rows) (insert_key place_cmp xs z) z
+    (put-there xs z))
+ranges-there (row ∷ rows) xs z some (inr h) = by (own row) (λ l. ranges-there rows l z some h)
+  where
+    by : (o : Option Contribution)
+        → ((l : List Contribution) → IsAmong z (with_ranges (map own rows) l))
+        → IsAmong z (with_ranges (o ∷ map own rows) xs)
+    by None later = later xs
+    by (Some r) later = later (insert_key place_cmp xs r)
+
+-- ---- compilation units and type units
+
+each-chosen : (P : IndexEntry → Type 0) (b : Bool) (rows : List IndexEntry) → EachRow P rows
+    → EachRow P (rows_of b rows)
+each-chosen P b [] h = tt
+each-chosen P b (row ∷ rows) h =
+    by-bool _ (is_chosen b row) (λ is. rw is (h.0, each-chosen P b rows h.1))
+    (λ other. rw other (each-chosen P b rows h.1))
+
+chosen-later : (z : Contribution) (b : Bool) (row : IndexEntry) (rows : List IndexEntry)
+    → IsOfSome z (rows_of b rows) → IsOfSome z (rows_of b (row ∷ rows))
+chosen-later z b row rows h =
+    by-bool _ (is_chosen b row) (λ is. rw is (inr h)) (λ other. rw other h)
+
+either-chosen : (z : Contribution) (rows : List IndexEntry) → IsOfSome z rows
+    → IsOfSome z (rows_of true rows) ⊎ IsOfSome z (rows_of false rows)
+either-chosen z [] h = absurd h
+either-chosen z (row ∷ rows) (inl e) =
+    by-bool _ (is_compilation row.id) (λ is. inl (rw is (inl e))) (λ other. inr (rw other (inl e)))
+either-chosen z (row ∷ rows) (inr h) = elim (either-chosen z rows h) [
+  | inl k ↦ inl (chosen-later z true row rows k)
+  | inr k ↦ inr (chosen-later z false row rows k)
+]
+
+-- ---- ranges that lie one directly behind the other
 
 module _ (order : Endianness) (encoding : Encoding) where
-  -- two of the ranges are one, or one begins before the other
-  apart-or : (at end : ℕ) (ys : List Contribution) (a b : Contribution) → Tile order encoding at ys
-      end → IsAmong a ys → IsAmong b ys
-      → (a ≡ b) ⊎ ((a.offset.0 < b.offset.0) ⊎ (b.offset.0 < a.offset.0))
-  apart-or at end [] a b tile h k = absurd h
-  apart-or at end (y ∷ ys) a b tile (inl e) (inl f) = inl (e ∙ sym f)
-  apart-or at end (y ∷ ys) a b tile (inl e) (inr k) =
-      inr (inl (subst (λ (c : Contribution). c.offset.0 < b.offset.0) (sym e)
-      (tile-apart order encoding at end y ys b tile k)))
-  apart-or at end (y ∷ ys) a b tile (inr h) (inl f) =
-      inr (inr (subst (λ (c : Contribution). c.offset.0 < a.offset.0) (sym f)
-      (tile-apart order encoding at end y ys a tile h)))
-  apart-or at end (y ∷ ys) a b tile (inr h) (inr k) = apart-or (at + y.size) end ys a b tile.2 h k
+  pub tile-lies : (at end : ℕ) (ys : List Contribution) (r : Contribution) → Tile order encoding at
+      ys end → IsAmong r ys → (at ≤ r.offset.0) × IsWholeRange order encoding r.size
+  tile-lies at end [] r tile h = absurd h
+  tile-lies at end (y ∷ ys) r tile (inl e) =
+      subst (λ (c : Contribution). (at ≤ c.offset.0) × IsWholeRange order encoding c.size) (sym e)
+      (omega (arith, tile.0), tile.1)
+  tile-lies at end (y ∷ ys) r tile (inr h) =
+      let later = tile-lies (at + y.size) end ys r tile.2 h in (omega (arith, later.0), later.1)
 
-  tile-some : (at end : ℕ) (ys : List Contribution) (r : Contribution) → Tile order encoding at ys
-      end → IsAmong r ys → 0 < r.size
-  tile-some at end [] r tile h = absurd h
-  tile-some at end (y ∷ ys) r tile (inl e) = subst (λ (c : Contribution). 0 < c.size)
-      (sym e) tile.1.some
-  tile-some at end (y ∷ ys) r tile (inr h) = tile-some (at + y.size) end ys r tile.2 h
+  tile-apart : (at end : ℕ) (y : Contribution) (ys : List Contribution) (r : Contribution)
+      → Tile order encoding at (y ∷ ys) end → IsAmong r ys → y.offset.0 < r.offset.0
+  tile-apart at end y ys r tile h =
+      let later = tile-lies (at + y.size) end ys r tile.2 h in
+      omega (arith, later.0, tile.0, tile.1.some)
 
-  -- a range that is put among them is there
-  put-there : (at end : ℕ) (ys xs : List Contribution) (r : Contribution) → Tile order encoding at
-      ys end → IsPartOf xs ys → IsAmong r ys → IsAmong r (insert_key place_cmp xs r)
-  put-there at end ys [] r tile part h = inl refl
-  put-there at end ys (x ∷ xs) r tile part h =
-      ⊎_elim
-      (λ e. subst (λ o. IsAmong r (Put order encoding o r x xs))
-      (cmp-equal order encoding r x e) (inl e))
-      (λ other. ⊎_elim
-      (λ less. subst (λ o. IsAmong r (Put order encoding o r x xs)) (cmp-less order encoding r x
-      less) (inl refl))
-      (λ more. subst (λ o. IsAmong r (Put order encoding o r x xs)) (cmp-greater order encoding r x
-      more) (inr (put-there at end ys xs r tile (part-rest x xs ys part) h)))
-      other)
-      (apart-or at end ys r x tile h (first-among x xs ys part))
+  pub tile-end : (at end : ℕ) (ys : List Contribution) → Tile order encoding at ys end → at ≤ end
+  tile-end at end [] tile = omega (arith, tile)
+  tile-end at end (y ∷ ys) tile = omega (arith, tile-end (at + y.size) end ys tile.2)
 
-  put-kept : (xs : List Contribution) (r z : Contribution) → IsAmong z xs
-      → IsAmong z (insert_key place_cmp xs r)
-  put-kept [] r z h = absurd h
-  put-kept (x ∷ xs) r z h = by (place_cmp r x) h (λ k. put-kept xs r z k)
-    where
-      by : (o : Ordering) → IsAmong z (x ∷ xs)
-          → (IsAmong z xs → IsAmong z (insert_key place_cmp xs r))
-          → IsAmong z (Put order encoding o r x xs)
-      by Less k later = inr k
-      by Equal k later = k
-      by Greater (inl e) later = inl e
-      by Greater (inr k) later = inr (later k)
+  put-part : (at end : ℕ) (ys xs : List Contribution) (r : Contribution) → Tile order encoding at ys
+      end → IsPartOf xs ys → IsAmong r ys → IsPartOf (insert_key place_cmp xs r) ys
+  put-part at end [] xs r tile part h = absurd h
+  put-part at end (y ∷ ys) [] r tile part (inl e) = inl (e, tt)
+  put-part at end (y ∷ ys) [] r tile part (inr h) =
+      inr (put-part (at + y.size) end ys [] r tile.2 tt h)
+  put-part at end (y ∷ ys) (x ∷ xs) r tile (inl p) (inl e) =
+      rw (ap (place_cmp r) (p.0 ∙ sym e) ∙ cmp-self r) (inl p)
+  put-part at end (y ∷ ys) (x ∷ xs) r tile (inl p) (inr h) =
+      let less : x.offset.0 < r.offset.0 = rw p.0 (tile-apart at end y ys r tile h) in
+      rw (cmp-greater r x less) (inl (p.0, put-part (at + y.size) end ys xs r tile.2 p.1 h))
+  put-part at end (y ∷ ys) (x ∷ xs) r tile (inr p) (inl e) =
+      let less : r.offset.0 < x.offset.0 = rw e (tile-apart at end y ys x tile
+      (part-among (x ∷ xs) ys x p (inl refl))) in
+      rw (cmp-less r x less) (inl (e, p))
+  put-part at end (y ∷ ys) (x ∷ xs) r tile (inr p) (inr h) =
+      part-later (insert_key place_cmp (x ∷ xs) r) ys y
+      (put-part (at + y.size) end ys (x ∷ xs) r tile.2 p h)
 
   -- part of them, in their order, and each of them: all
   all-same : (at end : ℕ) (ys xs : List Contribution) → Tile order encoding at ys end
@@ -106,220 +216,53 @@ module _ (order : Endianness) (encoding : Encoding) where
   all-same at end [] [] tile part all = refl
   all-same at end [] (x ∷ xs) tile part all = absurd part
   all-same at end (y ∷ ys) [] tile part all = absurd (all y (inl refl))
-  all-same at end (y ∷ ys) (x ∷ xs) tile (inl p) all = λ i. p.0 i ∷ all-same (at + y.size) end ys xs
-      tile.2 p.1 (λ r h. later r h (all r (inr h))) i
+  all-same at end (y ∷ ys) (x ∷ xs) tile (inl p) all =
+      λ i. p.0 i ∷ all-same (at + y.size) end ys xs tile.2 p.1 (λ r h. later r h (all r (inr h))) i
     where
       later : (r : Contribution) → IsAmong r ys → IsAmong r (x ∷ xs) → IsAmong r xs
       later r h (inl e) =
-          let less = tile-apart order encoding at end y ys r tile h in
           let same : r.offset.0 ≡ y.offset.0 = ap (λ (c : Contribution). c.offset.0) (e ∙ p.0) in
-          absurd (omega (arith, less, same))
+          absurd (omega (arith, tile-apart at end y ys r tile h, same))
       later r h (inr k) = k
   all-same at end (y ∷ ys) (x ∷ xs) tile (inr p) all =
-      let less = tile-apart order encoding at end y ys y tile (part-among (x ∷ xs) ys y p
-      (all y (inl refl))) in
-      absurd (omega (arith, less))
+      absurd (omega (
+        arith,
+        tile-apart at end y ys y tile
+            (part-among (x ∷ xs) ys y p (all y (inl refl))),
+      ))
 
--- ---- what rows have
+  module _ (end : ℕ) (ys : List Contribution) (tile : Tile order encoding 0 ys end) where
+    ranges-part : (rows : List IndexEntry) (xs : List Contribution) → EachRow (HasOneOf ys) rows
+        → IsPartOf xs ys → IsPartOf (with_ranges (map own rows) xs) ys
+    ranges-part [] xs has part = part
+    ranges-part (row ∷ rows) xs has part =
+        by (own row) refl (λ l some. ranges-part rows l has.1 some)
+      where
+        by : (o : Option Contribution) → own row ≡ o → ((l : List Contribution) → IsPartOf l ys
+            → IsPartOf (with_ranges (map own rows) l) ys)
+            → IsPartOf (with_ranges (o ∷ map own rows) xs) ys
+        by None e later = later xs part
+        by (Some r) e later = later (insert_key place_cmp xs r) (put-part 0 end ys xs r tile part
+            (has.0 r (non_empty-some row.debug_str_offsets r e)))
 
--- a range is one of these
-abbrev IsOne : Contribution → List (Option Contribution) → Type 0
-IsOne range [] = ⊥
-IsOne range (part ∷ parts) = (part ≡ Some range) ⊎ IsOne range parts
-
-one-number : (f : ℕ → Option Contribution) (range : Contribution) (a n l : ℕ) → l < n
-    → f (a + l) ≡ Some range → IsOne range (map f (range_with_len a n))
-one-number f range a zero l less h = absurd (omega (arith, less))
-one-number f range a (suc n) zero less h = let same : a + 0 ≡ a = omega arith in
-    inl (ap f (sym same) ∙ h)
-one-number f range a (suc n) (suc l) less h = let same : a + suc l ≡ a + 1 + l = omega arith in
-    inr (one-number f range (a + 1) n l (omega (arith, less)) (ap f (sym same) ∙ h))
-
--- the row with a range
-record RowWith (range : Contribution) (rows : List IndexEntry) : Type 0 where
-  number : ℕ
-  within : number < length rows
-  row : IndexEntry
-  there : slice_get rows number ≡ Some row
-  has : row.debug_str_offsets ≡ Some range
-
-row-with : (range : Contribution) (rows : List IndexEntry) → IsOfSome range rows
-    → RowWith range rows
-row-with range [] h = absurd h
-row-with range (row ∷ rows) (inl e) = record {
-  number = 0;
-  within = omega arith;
-  row = row;
-  there = refl;
-  has = e;
-}
-row-with range (row ∷ rows) (inr h) =
-    let w = row-with range rows h in
-    let less = w.within in
-    record {
-      number = suc w.number;
-      within = omega (arith, less);
-      row = w.row;
-      there =
-          w.there;
-      has = w.has;
-    }
-
-some-bytes : (part : Option Contribution) (range : Contribution) → part ≡ Some range
-    → 0 < range.size → non_empty part ≡ Some range
-some-bytes None range e some = absurd (none-some range e)
-some-bytes (Some r) range e some =
-    let same = same_Some r range e in
-    ap (λ (c : Contribution). cond (eqb c.size 0) None (Some c)) same ∙ ap (λ b.
-    cond b None (Some range)) (there range.size some)
-  where
-    there : (n : ℕ) → 0 < n → eqb n 0 ≡ false
-    there zero h = absurd (omega (arith, h))
-    there (suc n) h = eqb-suc-zero n
-
-index-one : (version : ℕ) (rows : List IndexEntry) (index : Index) (range : Contribution)
-    → HasEntries version rows index → 0 < range.size → IsOfSome range rows
-    → IsOne range (ranges_of index StrOffsets)
-unfolding ranges_of
-index-one version rows index range has some h =
-    let w = row-with range rows h in
-    let parts = has.each w.number w.row w.there in
-    let count = has.count in
-    let less = w.within in
-    let next : w.number + 1 ≡ 1 + w.number = omega arith in
-    let is : range_of_row index StrOffsets (w.number + 1) ≡ Some range =
-    ap (λ r. option_and_then (λ row. range_in row StrOffsets) (result_ok r)) parts.there
-    ∙ parts.parts StrOffsets
-    ∙ some-bytes (contribution_to StrOffsets w.row) range w.has some in
-    one-number (range_of_row index StrOffsets) range 1 (length index.offsets) w.number
-    (omega (arith, count, less)) (ap (range_of_row index StrOffsets) (sym next) ∙ is)
-
--- ---- compilation units and type units
-
-chosen-head : (b : Bool) (range : Contribution) (row : IndexEntry) (rows : List IndexEntry)
-    (c : Bool) → c ≡ true → row.debug_str_offsets ≡ Some range
-    → IsOfSome range (cond c (row ∷ rows) rows)
-chosen-head b range row rows true e h = inl h
-chosen-head b range row rows false e h = absurd (true≢false (sym e))
-
-chosen-tail : (range : Contribution) (row : IndexEntry) (rows : List IndexEntry) (c : Bool)
-    → IsOfSome range rows → IsOfSome range (cond c (row ∷ rows) rows)
-chosen-tail range row rows true h = inr h
-chosen-tail range row rows false h = h
-
-either-one : (range : Contribution) (rows : List IndexEntry) → IsOfSome range rows
-    → IsOfSome range (rows_of true rows) ⊎ IsOfSome range (rows_of false rows)
-either-one range [] h = absurd h
-either-one range (row ∷ rows) (inl e) = by (is_compilation row.id) refl
-  where
-    by : (b : Bool) → is_compilation row.id ≡ b → IsOfSome range (rows_of true (row ∷ rows))
-        ⊎ IsOfSome range (rows_of false (row ∷ rows))
-    by true is = inl (chosen-head true range row (rows_of true rows) (is_chosen true row) is e)
-    by false is = inr (chosen-head false range row (rows_of false rows)
-        (is_chosen false row) (ap not is) e)
-either-one range (row ∷ rows) (inr h) =
-    ⊎_elim
-    (λ k. inl (chosen-tail range row (rows_of true rows) (is_chosen true row) k))
-    (λ k. inr (chosen-tail range row (rows_of false rows) (is_chosen false row) k))
-    (either-one range rows h)
-
--- ---- the ranges that are read
-
-module _ (order : Endianness) (encoding : Encoding) (end : ℕ) (ys : List Contribution)
-    (tile : Tile order encoding 0 ys end) where
-  abbrev Any : Contribution → Type 0
-  Any r = Unit {0}
-
-  -- each row has one of the ranges, or none
-  abbrev HasRange : IndexEntry → Type 0
-  HasRange row = (range : Contribution) → row.debug_str_offsets ≡ Some range
-      → IsAmong range ys × Any range
-
-  ranges-kept : (rows : List (Option Contribution)) (xs : List Contribution) (z : Contribution)
-      → IsAmong z xs → IsAmong z (with_ranges rows xs)
-  ranges-kept [] xs z h = h
-  ranges-kept (None ∷ rows) xs z h = ranges-kept rows xs z h
-  ranges-kept (Some r ∷ rows) xs z h = ranges-kept rows (insert_key place_cmp xs r) z
-      (put-kept order encoding xs r z h)
-
-  ranges-there : (rows : List (Option Contribution)) (xs : List Contribution) (z : Contribution)
-      → EachSome (λ r. IsAmong r ys × Any r) rows → IsPartOf xs ys → IsOne z rows
-      → IsAmong z (with_ranges rows xs)
-  ranges-there [] xs z each part h = absurd h
-  ranges-there (None ∷ rows) xs z each part (inl e) = absurd (none-some z e)
-  ranges-there (None ∷ rows) xs z each part (inr h) = ranges-there rows xs z each part h
-  ranges-there (Some r ∷ rows) xs z each part (inl e) =
-      ranges-kept rows (insert_key place_cmp xs r) z
-      (subst (λ c. IsAmong c (insert_key place_cmp xs r)) (same_Some r z e)
-      (put-there order encoding 0 end ys xs r tile part each.0.0))
-  ranges-there (Some r ∷ rows) xs z each part (inr h) =
-      ranges-there rows (insert_key place_cmp xs r) z each.1 (inserted order encoding 0 end ys xs r
-      tile part each.0.0) h
-
-  rows-kept : (index : Option Index) (xs : List Contribution) (z : Contribution) → IsAmong z xs
-      → IsAmong z (with_rows index xs)
-  rows-kept None xs z h = h
-  rows-kept (Some index) xs z h = ranges-kept (ranges_of index StrOffsets) xs z h
-
-  rows-there : (index : Option Index) (rows : List IndexEntry) (xs : List Contribution)
-      (z : Contribution) → HasRows index rows → EachRow HasRange rows → IsPartOf xs ys → 0 < z.size
-      → IsOfSome z rows
-      → IsAmong z (with_rows index xs)
-  rows-there None rows xs z has each part some h = absurd (subst (IsOfSome z) has h)
-  rows-there (Some index) rows xs z has each part some h =
-      ranges-there (ranges_of index StrOffsets) xs z (index-holds order encoding end ys tile Any
-      has.0 rows index has.1 each) part (index-one has.0 rows index z has.1 some h)
-
-  module _ (compilations types : Option Index) (rows : List IndexEntry) (c : HasRows compilations
-      (rows_of true rows)) (t : HasRows types (rows_of false rows))
-      (each : EachRow HasRange rows) where
-    all-there : (z : Contribution) → 0 < z.size → IsOfSome z rows
-        → IsAmong z (offset_ranges compilations types)
-    unfolding offset_ranges
-    all-there z some h =
-        let chosen = λ (b : Bool). each-chosen order encoding end ys tile Any b rows each in
-        let first = rows-some order encoding end ys tile Any compilations (rows_of true rows) [] c
-        (chosen true) (tt, tt) in
-        ⊎_elim
-        (λ k. rows-kept types (with_rows compilations []) z (rows-there compilations
-        (rows_of true rows) [] z c (chosen true) tt some k))
-        (λ k. rows-there types (rows_of false rows) (with_rows compilations []) z t
-        (chosen false) first.0 some k)
-        (either-one z rows h)
-
-    -- all of them, in their order
-    pub ranges-are : ((range : Contribution) → IsAmong range ys → IsOfSome range rows)
+    -- those of the rows of both indexes are all of them
+    pub ranges-are : (compilations types : Option Index) (rows : List IndexEntry)
+        → HasRows compilations (rows_of true rows) → HasRows types (rows_of false rows)
+        → EachRow (HasOneOf ys) rows → ((r : Contribution) → IsAmong r ys → IsOfSome r rows)
         → offset_ranges compilations types ≡ ys
-    ranges-are named =
-        let part = all-some order encoding end ys tile Any compilations types rows c t each in
-        all-same order encoding 0 end ys (offset_ranges compilations types) tile part.0 (λ r h.
-        all-there r (tile-some order encoding 0 end ys r tile h) (named r h))
-
--- ---- string offsets that give the strings of their package
-
-pub offsets-alone : (order : Endianness) (encoding : Encoding) (compilations types : Option Index)
-    (section bytes : List ℕ) (rows : List IndexEntry) (ranges : List Contribution)
-    (strings : List (List ℕ))
-    → Tile order encoding 0 ranges (length bytes)
-    → HasRows compilations (rows_of true rows) → HasRows types (rows_of false rows)
-    → EachRow (HasOneOf ranges) rows → ((range : Contribution) → IsAmong range ranges
-    → IsOfSome range rows)
-    → InTurn order encoding section bytes 0 ranges [] strings
-    → (written : List ℕ × List (List ℕ)) × (packaged_offsets order encoding compilations types
-    section bytes [] ≡ Ok written)
-unfolding packaged_offsets
-offsets-alone order encoding compilations types section bytes rows ranges strings tile c t
-    has named given =
-    let each = weaker (HasOneOf ranges) (HasRange order encoding (length bytes) ranges tile)
-    (λ row one range e. (one range e, tt)) rows has in
-    let are = ranges-are order encoding (length bytes) ranges tile compilations types rows
-    c t each named in
-    let part = all-some order encoding (length bytes) ranges tile (Any order encoding (length bytes)
-    ranges tile) compilations types rows c t each in
-    let tested = ranges-tested order encoding (length bytes) 0 0 (length bytes) ranges
-    (offset_ranges compilations types) tile part.0 (omega arith) (omega arith) in (
-      (given.0, strings),
-      bind-ok (ranges_test encoding (length bytes) 0 (offset_ranges compilations types)) tt _ tested
-          ∙ ap (λ rs. rewritten_from order encoding section bytes 0 rs []) are
-          ∙ given.1,
-    )
+    unfolding offset_ranges
+    ranges-are compilations types rows c t has named =
+        let first = with_ranges (map own (rows_of true rows)) [] in
+        let others = rows_of false rows in
+        let chosen = λ (b : Bool). each-chosen (HasOneOf ys) b rows has in
+        ap (with_rows types) (rows-are compilations (rows_of true rows) [] c)
+        ∙ rows-are types others first t
+        ∙ all-same 0 end ys (with_ranges (map own others) first) tile
+        (ranges-part others first (chosen false)
+        (ranges-part (rows_of true rows) [] (chosen true) tt))
+        (λ r h. let some = (tile-lies 0 end ys r tile h).1.some in
+        elim (either-chosen r rows (named r h)) [
+          | inl k ↦ ranges-kept (map own others) first r (ranges-there (rows_of true rows) [] r some
+              k)
+          | inr k ↦ ranges-there others first r some k
+        ])

@@ -1,0 +1,206 @@
+-- What holds of each unit: of those that are read of an input, that are joined, and that are added
+-- to a package in turn.
+use Rattle.std.proofs.Common.{◌≡◌, ℕ, zero, suc, Bool, true, List, [], ◌∷◌, ◌++◌, refl, ap, subst}
+use Rattle.std.proofs.Common.{Ok, Option, Some, None, sym, ◌∙◌}
+use Rattle.std.specs.Prelude.{slice_get}
+use Rattle.std.specs.List.{list_any, list_all}
+use Rattle.std.proofs.lemmas.Option.{none-some, same_Some}
+use Rattle.dwp_base.proofs.Bools.{both, by-bool}
+use Rattle.dwp_base.proofs.Steps.{bind-was, same-ok}
+use Rattle.dwp_base.specs.declared.endian.Endianness.{Endianness}
+use Rattle.dwp_bytes.specs.Input.{section}
+use Rattle.dwp_dwarf.specs.Units.{Unit as Header, units}
+use Rattle.dwp_dwarf.specs.declared.unit.UnitSection.{UnitSection}
+use Rattle.dwp_table.specs.declared.object.DwarfObject.{DwarfObject}
+use Rattle.thorin_errors.specs.Answers.{as_error}
+use Rattle.thorin_errors.specs.Errors.{ErrorValue, ParseUnitHeader}
+use Rattle.thorin_input.specs.Encodings.{has_encoding, section_has, all_have}
+use Rattle.thorin_input.specs.Indexes.{Source}
+use Rattle.thorin_input.specs.Names.{same_name}
+use Rattle.thorin_input.specs.NewUnits.{Adding, NewUnit, name_for, unit_section}
+use Rattle.thorin_input.specs.Used.{Used}
+use Rattle.thorin_join.specs.Meaning.{UnitRead, named_unit, named_each, named_at, named_sections}
+use Rattle.thorin_join.specs.Meaning.{source_units, joining}
+use Rattle.thorin_join.specs.State.{InProgress, names_of, with_unit_added, with_new_unit}
+use Rattle.thorin_join.specs.State.{with_new_units}
+use Rattle.thorin_join.proofs.Units.HeadersRead.{Listed, Reads}
+use Rattle.thorin_join.proofs.Units.JoinedByName.{IsAdded, AreAdded}
+use Rattle.thorin_join.proofs.Units.Whole.{Goes, AllGo, error-ok}
+use Rattle.thorin_again.proofs.Kept.Encodings.{encoding-eq}
+
+-- ---- lists
+
+abbrev pub Each : {X : Type 0} → (X → Type 0) → List X → Type 0
+Each P [] = Unit {0}
+Each P (x ∷ xs) = P x × Each P xs
+
+pub each-weaker : {X : Type 0} (P Q : X → Type 0) → ((x : X) → P x → Q x) → (xs : List X)
+    → Each P xs → Each Q xs
+each-weaker P Q f [] h = tt
+each-weaker P Q f (x ∷ xs) h = (f x h.0, each-weaker P Q f xs h.1)
+
+pub each-all : {X : Type 0} (P : X → Type 0) → ((x : X) → P x) → (xs : List X) → Each P xs
+each-all P f [] = tt
+each-all P f (x ∷ xs) = (f x, each-all P f xs)
+
+pub each-both : {X : Type 0} (P Q : X → Type 0) (xs : List X) → Each P xs → Each Q xs
+    → Each (λ x. P x × Q x) xs
+each-both P Q [] h k = tt
+each-both P Q (x ∷ xs) h k = ((h.0, k.0), each-both P Q xs h.1 k.1)
+
+pub each-append : {X : Type 0} (P : X → Type 0) (xs ys : List X) → Each P xs → Each P ys
+    → Each P (xs ++ ys)
+each-append P [] ys h k = k
+each-append P (x ∷ xs) ys h k = (h.0, each-append P xs ys h.1 k)
+
+each-at : {X : Type 0} (P : X → Type 0) (xs : List X) (k : ℕ) (x : X) → Each P xs
+    → slice_get xs k ≡ Some x → P x
+each-at P [] k x h e = absurd (none-some x e)
+each-at P (y ∷ ys) zero x h e = subst P (same_Some y x e) h.0
+each-at P (y ∷ ys) (suc k) x h e = each-at P ys k x h.1 e
+
+-- what passes a test
+pub each-passed : {X : Type 0} (test : X → Bool) (xs : List X) → list_all test xs ≡ true
+    → Each (λ x. test x ≡ true) xs
+each-passed test [] h = tt
+each-passed test (x ∷ xs) h =
+    let two = both (test x) (list_all test xs) h in (two.0, each-passed test xs two.1)
+
+pub each-joining : {X : Type 0} (P : DwarfObject × X → Type 0) (names : List DwarfObject)
+    (us : List (DwarfObject × X)) → Each P us → Each P (joining names us)
+each-joining P names [] h = tt
+each-joining P names (u ∷ us) h =
+    by-bool _ (list_any (same_name u.0) names)
+    (λ there. rw there (each-joining P names us h.1))
+    (λ new. rw new (h.0, each-joining P (names ++ u.0 ∷ []) us h.1))
+
+-- ---- units that are read
+
+-- a unit was read, under its name, of a section of which it holds
+pub record WasRead (source : Source) (S : Used → Type 0) (r : DwarfObject × UnitRead) : Type 0 where
+  pub used : Used
+  pub so : S used
+  pub from : used.kind ≡ r.1.from
+  pub place : UnitSection
+  pub at : unit_section used.kind ≡ Some place
+  pub number : ℕ
+  pub there : slice_get (units place (section source.object.order used.bytes)) number
+      ≡ Some (Ok r.1.unit)
+  pub named : name_for source used.kind r.1.unit ≡ Ok r.0
+
+module _ (source : Source) (S : Used → Type 0) where
+  abbrev Are : Reads → Type 0
+  Are us = Each (WasRead source S) us
+
+  reads-are : (used : Used) → S used → (place : UnitSection) → unit_section used.kind ≡ Some place
+      → (reads : Listed) → ((k : ℕ) (unit : Header) → slice_get reads k ≡ Some (Ok unit)
+      → (n : ℕ) × (slice_get (units place (section source.object.order used.bytes)) n
+      ≡ Some (Ok unit)))
+      → (us : Reads) → named_each source used.kind reads ≡ Ok us → Are us
+  unfolding named_each named_unit
+  reads-are used so place at [] among us h = subst Are (same-ok {E = ErrorValue} [] us h) tt
+  reads-are used so place at (read ∷ rest) among us h =
+      let a = bind-was (named_unit source used.kind read) _ us h in
+      let b = bind-was (named_each source used.kind rest) _ us a.2 in
+      let c = bind-was (as_error ParseUnitHeader read) _ a.0 a.1 in
+      let d = bind-was (name_for source used.kind c.0) _ a.0 c.2 in
+      let n = among 0 c.0 (ap Some (error-ok ParseUnitHeader read c.0 c.1)) in
+      subst Are (same-ok {E = ErrorValue} (a.0 ∷ b.0) us b.2) (
+        subst (WasRead source S) (same-ok {E = ErrorValue} _ a.0 d.2) (record {
+          used = used;
+          so = so;
+          from = refl;
+          place = place;
+          at = at;
+          number = n.0;
+          there = n.1;
+          named = d.1;
+        }),
+        reads-are used so place at rest (λ k unit e. among (suc k) unit e) b.0 b.1,
+      )
+
+  section-are : (used : Used) → S used → (place : Option UnitSection)
+      → unit_section used.kind ≡ place → (us : Reads) → named_at source used place ≡ Ok us → Are us
+  section-are used so None at us h = subst Are (same-ok {E = ErrorValue} [] us h) tt
+  section-are used so (Some place) at us h =
+      reads-are used so place at (units place (section source.object.order used.bytes))
+      (λ k unit e. (k, e)) us h
+
+  sections-are : (sections : List Used) (us : Reads) → Each S sections
+      → named_sections source sections ≡ Ok us → Are us
+  unfolding named_sections
+  sections-are [] us so h = subst Are (same-ok {E = ErrorValue} [] us h) tt
+  sections-are (used ∷ rest) us so h =
+      let a = bind-was (named_at source used (unit_section used.kind)) _ us h in
+      let b = bind-was (named_sections source rest) _ us a.2 in
+      subst Are (same-ok {E = ErrorValue} (a.0 ++ b.0) us b.2) (each-append (WasRead source S) a.0
+      b.0 (section-are used so.0 (unit_section used.kind) refl a.0 a.1)
+      (sections-are rest b.0 so.1 b.1))
+
+  pub units-are : (all : Reads) → Each S source.object.sections → source_units source ≡ Ok all
+      → Are all
+  units-are all so h = sections-are source.object.sections all so h
+
+-- all units of a section have an encoding
+abbrev pub Has : Source → Used → Type 0
+Has source used = section_has source.encoding source.object.order used ≡ true
+
+pub read-encoding : (source : Source) (r : DwarfObject × UnitRead) → WasRead source (Has source) r
+    → r.1.unit.encoding ≡ source.encoding
+read-encoding source r w =
+    let reads = units w.place (section source.object.order w.used.bytes) in
+    let all : list_all (has_encoding source.encoding) reads ≡ true =
+    ap (all_have source.encoding source.object.order w.used.bytes) (sym w.at) ∙ w.so in
+    encoding-eq r.1.unit.encoding source.encoding (each-at (λ read.
+    has_encoding source.encoding read ≡ true) reads w.number (Ok r.1.unit)
+    (each-passed (has_encoding source.encoding) reads all) w.there)
+
+-- they are whole ones where they go to
+pub each-go : (order : Endianness) (rs : Reads) → AllGo order rs → Each (Goes order) rs
+each-go order [] go = tt
+each-go order (r ∷ rs) go = (go.0, each-go order rs go.1)
+
+-- ---- units that are added
+
+abbrev pub News : Type 0
+News = List (DwarfObject × NewUnit)
+
+-- what holds of a unit for one that was read
+pub each-new : (add : Adding) (P : DwarfObject × NewUnit → Type 0)
+    (Q : DwarfObject × UnitRead → Type 0) → ((n : DwarfObject × NewUnit)
+    (r : DwarfObject × UnitRead) → IsAdded add n r → Q r → P n) → (ns : News) (rs : Reads)
+    → AreAdded add ns rs → Each Q rs → Each P ns
+each-new add P Q f [] rs are h = tt
+each-new add P Q f (n ∷ ns) [] are h = absurd are
+each-new add P Q f (n ∷ ns) (r ∷ rs) are h =
+    (f n r are.0 h.0, each-new add P Q f ns rs are.1 h.1)
+
+-- what holds of a package and the units to come, as these are added in turn, or passed over
+pub in-turn : (P : InProgress → News → Type 0)
+    → ((p : InProgress) (u : DwarfObject × NewUnit) (us : News)
+    → list_any (same_name u.0) (names_of p) ≡ true → P p (u ∷ us) → P p us)
+    → ((p : InProgress) (u : DwarfObject × NewUnit) (us : News) → P p (u ∷ us)
+    → P (with_unit_added p u) us)
+    → (p : InProgress) (us : News) → P p us → P (with_new_units p us) []
+unfolding with_new_units with_new_unit
+in-turn P over added p [] h = h
+in-turn P over added p (u ∷ us) h =
+    by-bool _ (list_any (same_name u.0) (names_of p))
+    (λ there. rw (there, with_new_units) (in-turn P over added p us (over p u us there h)))
+    (λ new. rw (new, with_new_units) (in-turn P over added (with_unit_added p u) us
+    (added p u us h)))
+
+-- what stays so of a package with one more of such units
+pub each-added : (P : InProgress → Type 0) (Q : DwarfObject × NewUnit → Type 0)
+    → ((p : InProgress) (u : DwarfObject × NewUnit) → Q u → P p → P (with_unit_added p u))
+    → (p : InProgress) (us : News) → Each Q us → P p → P (with_new_units p us)
+each-added P Q keeps p us new h =
+    (in-turn (λ q vs. Each Q vs × P q) (λ q v vs there k. (k.0.1, k.1))
+    (λ q v vs k. (k.0.1, keeps q v k.0.0 k.1)) p us (new, h)).1
+
+-- and with one more of any
+pub each-unit : (P : InProgress → Type 0)
+    → ((p : InProgress) (u : DwarfObject × NewUnit) → P p → P (with_unit_added p u))
+    → (p : InProgress) (us : News) → P p → P (with_new_units p us)
+each-unit P keeps p us h =
+    in-turn (λ q vs. P q) (λ q v vs there k. k) (λ q v vs k. keeps q v k) p us h
