@@ -21,13 +21,14 @@ use Rattle.thorin_index.specs.declared.entry.IndexEntry.{IndexEntry}
 use Rattle.thorin_input.specs.Growing.{Contents}
 use Rattle.thorin_input.specs.Indexes.{Source}
 use Rattle.thorin_join.specs.Laid.{type_signature, Heads, Lie, HaveOneRange, is_at, rows_at}
+use Rattle.thorin_again.specs.Again.{all_meant}
 use Rattle.thorin_join.specs.Meaning.{Meaning, named_unit, named_each, meant}
 use Rattle.thorin_input.specs.NewUnits.{name_for}
 use Rattle.thorin_join.specs.Represents.{AreRowsOf}
 use Rattle.thorin_join.specs.State.{kind_at}
 use Rattle.thorin_join.proofs.Rows.Stay.{part-inside}
 use Rattle.thorin_again.proofs.Meant.OneRow.{row-means-again}
-use Rattle.thorin_again.proofs.Meant.RowPlaces.{FirstLaw, FindLaw, IsAgain, Below}
+use Rattle.thorin_again.proofs.Meant.RowPlaces.{FirstLaw, FindLaw, IsAgain, Below, range_at}
 use Rattle.thorin_join.proofs.Moved.Readings.{plain}
 use Rattle.thorin_join.proofs.Moved.Units.{Moved, unit-moves}
 use Rattle.thorin_join.proofs.Units.HeadersRead.{Reads}
@@ -39,11 +40,7 @@ abbrev pub Encoded : Source → (IndexEntry → Meaning) → List IndexEntry →
 Encoded source mean [] = Unit {0}
 Encoded source mean (r ∷ rs) = (source.encoding ≡ (mean r).encoding) × Encoded source mean rs
 
--- rows as units that are meant
-abbrev pub meant_rows : (IndexEntry → Meaning) → List IndexEntry
-    → List (DwarfObject × Option Meaning)
-meant_rows mean rows = map {B = DwarfObject × Option Meaning} (λ r. (r.id, Some (mean r))) rows
-
+-- rows as units, by their names
 abbrev pub with_names : (IndexEntry → Meaning) → List IndexEntry → List (DwarfObject × Meaning)
 with_names mean rows = map {B = DwarfObject × Meaning} (λ r. (r.id, mean r)) rows
 
@@ -58,20 +55,12 @@ below-more kind n m (x ∷ rs) r h below own = (
 
 -- the part in the middle
 pub part-middle : (pre own rest whole : List ℕ) (offset : ℕ) → whole ≡ pre ++ (own ++ rest)
-    → length pre ≡ offset → part_of whole (Some (record {
-      offset = record { 0 = offset };
-      size =
-          length own;
-    })) ≡ own
+    → length pre ≡ offset → part_of whole (Some (range_at offset own)) ≡ own
 part-middle pre own rest whole offset is at =
-    let range : Contribution = record { offset = record { 0 = offset }; size = length own } in
     let size : offset + length own - offset ≡ length own = omega arith in
-    part-inside whole range (omega (
-      arith,
-      ap length is,
-      length-append pre (own ++ rest),
-      length-append own rest,
-    ))
+    let long = length-append pre (own ++ rest) in
+    part-inside whole (range_at offset own)
+    (omega (arith, ap length is, long, length-append own rest))
     ∙ rw (is, size, ← at, drop-append_seam pre (own ++ rest)) (take-append_seam own rest)
 
 pub no-reads : (n : ℕ) (place : UnitSection) (i : Input) → i.bytes ≡ []
@@ -168,8 +157,8 @@ module _ (taken : UnitsAreTaken) (first_law : FirstLaw) (find_law : FindLaw) (so
   abbrev order : Endianness
   order = source.object.order
 
-  abbrev all_meant : Reads → List (DwarfObject × Option Meaning)
-  all_meant us = map {B = DwarfObject × Option Meaning} (meant source) us
+  abbrev pub units_meant : Reads → List (DwarfObject × Option Meaning)
+  units_meant us = map {B = DwarfObject × Option Meaning} (meant source) us
 
   rows-again : (before todo : List IndexEntry) (offset : ℕ) (pre bytes : List ℕ)
       (n : ℕ) (us : Reads)
@@ -184,10 +173,10 @@ module _ (taken : UnitsAreTaken) (first_law : FirstLaw) (find_law : FindLaw) (so
       → length bytes ≤ n
       → named_each source kind (units_within n place (plain order offset bytes)) ≡ Ok us
       → AreTested source us
-      → all_meant us ≡ meant_rows mean (rows_at place todo)
+      → units_meant us ≡ all_meant (with_names mean (rows_at place todo))
   rows-again before [] offset pre bytes n us split are encoded once below lie content at
       fuel named tested =
-      ap all_meant (no-named source kind us (ap (named_each source kind)
+      ap units_meant (no-named source kind us (ap (named_each source kind)
       (sym (no-reads n place (plain order offset bytes) lie)) ∙ named))
   rows-again before (r ∷ rs) offset pre bytes n us split are encoded once below lie content at
       fuel named tested =
@@ -222,7 +211,7 @@ module _ (taken : UnitsAreTaken) (first_law : FirstLaw) (find_law : FindLaw) (so
       l.1 (now ∙ sym (append_assoc pre own rest))
       (length-append pre own ∙ ap (λ k. k + length own) at)
       (omega (arith, read.long, m.1)) found.rest both.1 in
-      rw here (ap all_meant found.are ∙ (λ i. (means.0 i, means.1 i) ∷ others i)))
+      rw here (ap units_meant found.are ∙ (λ i. (means.0 i, means.1 i) ∷ others i)))
       (λ other. rw other (rows-again (before ++ r ∷ []) rs offset pre bytes n us next are.1
       encoded.1 once.1
       (below-more kind offset offset before r (omega arith) below (λ c e.
@@ -237,7 +226,7 @@ module _ (taken : UnitsAreTaken) (first_law : FirstLaw) (find_law : FindLaw) (so
       → Lie order place 0 (rows_at place rows) (content_of kind contents)
       → named_each source kind (units place (section order (content_of kind contents))) ≡ Ok us
       → AreTested source us
-      → all_meant us ≡ meant_rows mean (rows_at place rows)
+      → units_meant us ≡ all_meant (with_names mean (rows_at place rows))
   unfolding units
   section-again us are encoded once lie named tested =
       rows-again [] rows 0 [] (content_of kind contents) (length (content_of kind contents)) us refl
