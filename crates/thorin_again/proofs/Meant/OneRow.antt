@@ -1,16 +1,16 @@
 -- What a unit of a written package means as an input: just what was joined.
 use Rattle.std.proofs.Common.{◌≡◌, ◌∙◌, inl, inr, ℕ, zero, suc, ◌+◌, ◌<◌, ◌≢◌, Bool, true, false}
 use Rattle.std.proofs.Common.{cond, List, ◌∷◌, ◌++◌, length, ap, ap₂, sym, refl, Ok, Some, None}
-use Rattle.std.proofs.Common.{is_none, arith, length-append}
+use Rattle.std.proofs.Common.{is_none, arith}
 use Rattle.std.specs.Prelude.{slice_get, slice_index}
 use Rattle.std.proofs.lemmas.Bool.{eq-eqb}
 use Rattle.std.proofs.lemmas.List.Elements.{filter-append}
-use Rattle.std.proofs.lemmas.Option.{none-some, same_Some}
+use Rattle.std.proofs.lemmas.Option.{none-some, same_Some, slice_get_within}
 use Rattle.std.proofs.Math.Seq.{take-length}
 use Rattle.dwp_base.specs.declared.section.Contribution.{Contribution}
 use Rattle.dwp_base.specs.declared.section.SectionKind.{SectionKind}
 use Rattle.dwp_base.specs.declared.section.SectionKind.TheVariants as kinds
-use Rattle.dwp_bytes.specs.Input.{section}
+use Rattle.dwp_bytes.specs.Input.{section, Input}
 use Rattle.dwp_dwarf.specs.Units.{Unit as Header}
 use Rattle.dwp_dwarf.specs.declared.unit.UnitSection.{UnitSection}
 use Rattle.dwp_elf.specs.Contents.{content_of}
@@ -32,7 +32,7 @@ use Rattle.thorin_input.specs.Growing.{Contents}
 use Rattle.thorin_input.specs.Indexes.{Source, index_for, looked_up}
 use Rattle.thorin_join.specs.Laid.{type_signature, name_signature, is_at}
 use Rattle.thorin_join.specs.Meaning.{Meaning, lie_inside, shared_kinds, meaning_with, meaning_by}
-use Rattle.thorin_join.specs.Meaning.{placed_row, unit_meaning}
+use Rattle.thorin_join.specs.Meaning.{placed_row, unit_meaning, UnitRead}
 use Rattle.thorin_input.specs.Names.{is_compilation}
 use Rattle.thorin_input.specs.NewUnits.{name_for}
 use Rattle.thorin_join.specs.Represents.{IsRowOf}
@@ -49,7 +49,7 @@ use Rattle.thorin_again.proofs.Meant.RowPlaces.{below-at, get-seam, get-left, ge
 use Rattle.thorin_again.proofs.Meant.RowPlaces.{non_empty-some, first-row, chosen-self, place-eq}
 use Rattle.thorin_again.proofs.Meant.RowPlaces.{sort-rows, some-index, same-number, compile-sort}
 use Rattle.thorin_again.proofs.Meant.RowPlaces.{identity-any, find-none, inside-by, signature-name}
-use Rattle.thorin_again.proofs.Meant.RowPlaces.{index-alike}
+use Rattle.thorin_again.proofs.Meant.RowPlaces.{index-alike, range_at}
 use Rattle.thorin_join.proofs.Files.RowsFound.{id-at}
 use Rattle.thorin_join.proofs.Parts.StringLists.{strings-are}
 use Rattle.thorin_join.proofs.Moved.Readings.{plain}
@@ -67,12 +67,8 @@ module _ (first_law : FirstLaw) (find_law : FindLaw) (source : Source) (contents
     (unit : Meaning) (is : IsRowOf source.object.order contents strings row (row.id, unit))
     (place : UnitSection) (offset : ℕ) (own : List ℕ)
     (below : Below (kind_at place) offset before) (here : is_at place row ≡ true)
-    (range_is : contribution_to (kind_at place) row ≡ Some (record {
-      offset = record { 0 = offset };
-      size = length own;
-    }))
-    (part : part_of (content_of (kind_at place) contents)
-    (Some (record { offset = record { 0 = offset }; size = length own })) ≡ own) where
+    (range_is : contribution_to (kind_at place) row ≡ Some (range_at offset own))
+    (part : part_of (content_of (kind_at place) contents) (Some (range_at offset own)) ≡ own) where
   abbrev pub kind : SectionKind
   kind = kind_at place
 
@@ -80,7 +76,7 @@ module _ (first_law : FirstLaw) (find_law : FindLaw) (source : Source) (contents
   sort = is_compilation row.id
 
   abbrev pub range : Contribution
-  range = record { offset = record { 0 = offset }; size = length own }
+  range = range_at offset own
 
   abbrev pub number : ℕ
   number = length (rows_of sort before)
@@ -123,11 +119,9 @@ module _ (first_law : FirstLaw) (find_law : FindLaw) (source : Source) (contents
       let same : other ≡ ps.row = same-ok _ _ (sym h ∙ ap (row_in index) next ∙ ps.there) in
       let has_range = non_empty-some (contribution_to kind r.0) range
       (sym (ps.parts kind) ∙ ap (λ x. range_in x kind) (sym same) ∙ e) in
-      omega (
-        arith,
-        below-at kind offset (rows_of sort before) l r.0
-            (below-chosen kind offset sort before below) r.1 range has_range,
-      )
+      let low = below-at kind offset (rows_of sort before) l r.0
+      (below-chosen kind offset sort before below) r.1 range has_range in
+      omega arith
 
   is-first : IsFirstWith index kind range (number + 1)
   is-first = record {
@@ -135,12 +129,7 @@ module _ (first_law : FirstLaw) (find_law : FindLaw) (source : Source) (contents
     there = parts.there;
     has = found-range kind ∙ range_is;
     low = omega arith;
-    high = omega (
-      arith,
-      has.count,
-      ap length rows-are,
-      length-append (rows_of sort before) (row ∷ rows_of sort later),
-    );
+    high = omega (arith, has.count, slice_get_within (rows_of sort rows) number row at);
     first = none-before;
   }
 
@@ -228,11 +217,10 @@ module _ (first_law : FirstLaw) (find_law : FindLaw) (source : Source) (contents
 
   module _ (h : Header) (whole : h.whole ≡ plain source.object.order offset own) where
     own-range : own_range h ≡ range
-    own-range = λ i. record {
-      offset = record { 0 = (whole i).place };
-      size =
-          length ((whole i).bytes);
-    }
+    own-range = ap (λ (i : Input). range_at i.place i.bytes) whole
+
+    abbrev read : UnitRead
+    read = record { from = kind; unit = h }
 
     -- what passes the test of its row has its identifier
     identifier-is : (name : DwarfObject) → is_compilation name ≡ true → is_compilation row.id ≡ true
@@ -246,15 +234,8 @@ module _ (first_law : FirstLaw) (find_law : FindLaw) (source : Source) (contents
     -- the unit has the name of its row, and means what was joined
     pub row-means-again : (name : DwarfObject) → source.encoding ≡ unit.encoding
         → type_signature h.unit_type ≡ name_signature row.id → name_for source kind h ≡ Ok name
-        → IsTested source (name, record { from = kind; unit = h })
-        → (name ≡ row.id) × (unit_meaning source (
-          name,
-          record {
-            from = kind;
-            unit =
-                h;
-          },
-        ) ≡ Some unit)
+        → IsTested source (name, read)
+        → (name ≡ row.id) × (unit_meaning source (name, read) ≡ Some unit)
     unfolding unit_meaning
     row-means-again name same_encoding agrees named tested =
         let id = name-identity source kind h name named in
@@ -268,14 +249,8 @@ module _ (first_law : FirstLaw) (find_law : FindLaw) (source : Source) (contents
     -- it passes the test of its row
     pub row-tested : row_test source.indexes kind row.id h ≡ Ok tt
     unfolding row_test
-    row-tested = rw (
-      again.packed,
-      own-range,
-      by-place,
-      looked,
-      eq-eqb (number + 1) (number + 1)
-          refl,
-    ) refl
+    row-tested = rw (again.packed, own-range, by-place, looked)
+        (rw (eq-eqb (number + 1) (number + 1) refl) refl)
 
     abbrev abbreviations : List ℕ
     abbreviations = part_of (content_of kinds.Abbrev contents) row.debug_abbrev
@@ -295,16 +270,9 @@ module _ (first_law : FirstLaw) (find_law : FindLaw) (source : Source) (contents
     unfolding name_for abbreviations_for
     named-again agrees named =
         by-bool _ (is_compile h.unit_type)
-        (λ compiled. rw (
-          again.packed,
-          compiled,
-          by-number (compile-sort source h.unit_type row.id compiled agrees),
-          named,
-        ) refl)
-        (λ other. rw (
-          again.packed,
-          other,
-          identity-any (section source.object.order (first kinds.Abbrev source.object.sections))
-              (section source.object.order abbreviations) h other,
-          named,
-        ) refl)
+        (λ compiled. let table = by-number (compile-sort source h.unit_type row.id compiled agrees)
+        in rw (again.packed, compiled, table, named) refl)
+        (λ other. let same = identity-any
+        (section source.object.order (first kinds.Abbrev source.object.sections))
+        (section source.object.order abbreviations) h other in
+        rw (again.packed, other, same, named) refl)

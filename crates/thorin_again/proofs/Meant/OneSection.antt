@@ -11,6 +11,7 @@ use Rattle.thorin_index.specs.declared.entry.IndexEntry.{IndexEntry}
 use Rattle.thorin_input.specs.Growing.{Contents}
 use Rattle.thorin_input.specs.Indexes.{Source}
 use Rattle.thorin_join.specs.Laid.{Lie, HaveOneRange, is_at, rows_at}
+use Rattle.thorin_again.specs.Again.{all_meant}
 use Rattle.thorin_join.specs.Meaning.{Meaning, named_unit, named_each, meant}
 use Rattle.thorin_input.specs.NewUnits.{name_for}
 use Rattle.thorin_join.specs.Represents.{AreRowsOf}
@@ -26,11 +27,6 @@ use Rattle.dwp_base.proofs.Steps.{bind-was, same-ok}
 abbrev pub Encoded : Source → (IndexEntry → Meaning) → List IndexEntry → Type 0
 Encoded source mean [] = Unit {0}
 Encoded source mean (r ∷ rs) = (source.encoding ≡ (mean r).encoding) × Encoded source mean rs
-
--- rows as units that are meant
-abbrev pub meant_rows : (IndexEntry → Meaning) → List IndexEntry
-    → List (DwarfObject × Option Meaning)
-meant_rows mean rows = map {B = DwarfObject × Option Meaning} (λ r. (r.id, Some (mean r))) rows
 
 abbrev pub with_names : (IndexEntry → Meaning) → List IndexEntry → List (DwarfObject × Meaning)
 with_names mean rows = map {B = DwarfObject × Meaning} (λ r. (r.id, mean r)) rows
@@ -76,8 +72,8 @@ module _ (taken : UnitsAreTaken) (first_law : FirstLaw) (find_law : FindLaw) (so
       → Encoded source mean todo
       → named_each source (kind_at place) reads ≡ Ok us
       → AreTested source us
-      → map {B = DwarfObject × Option Meaning} (meant source) us ≡ meant_rows mean
-      (rows_at place todo)
+      → map {B = DwarfObject × Option Meaning} (meant source) us ≡ all_meant (with_names mean
+      (rows_at place todo))
 
   -- all of a section
   pub section-again : (us : Reads)
@@ -88,8 +84,8 @@ module _ (taken : UnitsAreTaken) (first_law : FirstLaw) (find_law : FindLaw) (so
       → named_each source (kind_at place) (units place (section source.object.order
       (content_of (kind_at place) contents))) ≡ Ok us
       → AreTested source us
-      → map {B = DwarfObject × Option Meaning} (meant source) us ≡ meant_rows mean
-      (rows_at place rows)
+      → map {B = DwarfObject × Option Meaning} (meant source) us ≡ all_meant (with_names mean
+      (rows_at place rows))
   section-again us are encoded once lie named tested = of-section taken source.object.order contents
       place rows MeansRows end-means elsewhere-means one-means once lie us are encoded named tested
     where
@@ -101,8 +97,8 @@ module _ (taken : UnitsAreTaken) (first_law : FirstLaw) (find_law : FindLaw) (so
           (reads : List (Result Header ReadError)) → is_at place r ≡ false → MeansRows rs reads
           → MeansRows (r ∷ rs) reads
       elsewhere-means r rs reads not_here later us are encoded named tested =
-          later us are.1 encoded.1 named tested ∙ ap (λ b. meant_rows mean
-          (cond b (r ∷ rows_at place rs) (rows_at place rs))) (sym not_here)
+          later us are.1 encoded.1 named tested ∙ ap (λ b. all_meant (with_names mean
+          (cond b (r ∷ rows_at place rs) (rows_at place rs)))) (sym not_here)
 
       one-means : (before : List IndexEntry) (r : IndexEntry) (rs : List IndexEntry) (h : Header)
           (reads : List (Result Header ReadError)) → rows ≡ before ++ r ∷ rs
@@ -116,5 +112,6 @@ module _ (taken : UnitsAreTaken) (first_law : FirstLaw) (find_law : FindLaw) (so
           found.name encoded.0 u.sort found.named both.0 in
           ap (map {B = DwarfObject × Option Meaning} (meant source)) found.are
           ∙ (λ i. (means.0 i, means.1 i) ∷ later found.others are.1 encoded.1 found.rest both.1 i)
-          ∙ ap (λ b. meant_rows mean (cond b (r ∷ rows_at place rs) (rows_at place rs)))
+          ∙ ap (λ b. all_meant (with_names mean (cond b (r ∷ rows_at place rs)
+          (rows_at place rs))))
           (sym u.here)

@@ -1,6 +1,6 @@
 -- A finished package, taken as an input, means the units that were joined in it.
 use Rattle.std.proofs.Common.{◌≡◌, ◌∙◌, ℕ, suc, true, false, not, List, [], ◌∷◌, ◌++◌, map, ap, ap₂}
-use Rattle.std.proofs.Common.{sym, refl, subst, Ok, Option, Some, arith}
+use Rattle.std.proofs.Common.{sym, refl, subst, Ok, Option, arith}
 use Rattle.std.specs.List.Sorted.{IsPermutation}
 use Rattle.std.proofs.lemmas.List.{map-append}
 use Rattle.std.proofs.lemmas.List.Sorted.{IsPermutation-refl, IsPermutation-trans}
@@ -39,7 +39,7 @@ use Rattle.thorin_join.proofs.Files.Indexes.{IndexIsRead, IndexHasEntries}
 use Rattle.thorin_join.proofs.Units.JoinedByName.{units-joined}
 use Rattle.thorin_join.proofs.Rows.Stay.{keep-rows}
 use Rattle.thorin_again.proofs.Meant.RowPlaces.{FirstLaw, FindLaw, IsAgain}
-use Rattle.thorin_again.proofs.Meant.OneSection.{Encoded, meant_rows, with_names, section-again}
+use Rattle.thorin_again.proofs.Meant.OneSection.{Encoded, with_names, section-again}
 use Rattle.thorin_again.proofs.Meant.UnitsBySection.{AreTested, Split, joined-tested}
 use Rattle.thorin_again.proofs.Meant.UnitsBySection.{sections-split}
 use Rattle.thorin_join.proofs.Files.Finished.{Tested, tested-state, finished-order, finished-grows}
@@ -147,19 +147,12 @@ pub record Taken (file : File) : Type 0 where
   pub indexes_are : indexes_of (written_object file) encoding ≡ Ok indexes
   pub units_are : source_units (own_source file encoding indexes) ≡ Ok all
   pub tested : AreTested (own_source file encoding indexes) all
-  pub meaning : input_meaning (file_text file) ≡ Ok (map {B = DwarfObject × Option Meaning}
-      (meant (own_source file encoding indexes)) all)
 
 -- rows in the order of the sections
 types-rest : (place : UnitSection) → same_place places.Types place ≡ not
     (same_place places.Info place)
 types-rest places.Info = refl
 types-rest places.Types = refl
-
-meant-rows : (mean : IndexEntry → Meaning) (rows : List IndexEntry)
-    → all_meant (with_names mean rows) ≡ meant_rows mean rows
-meant-rows mean [] = refl
-meant-rows mean (r ∷ rs) = ap (λ l. (r.id, Some (mean r)) ∷ l) (meant-rows mean rs)
 
 module _ (reads : UnitsAreTaken) (first_law : FirstLaw) (find_law : FindLaw) (is_read : IndexIsRead)
     (has_entries : IndexHasEntries)
@@ -173,22 +166,13 @@ module _ (reads : UnitsAreTaken) (first_law : FirstLaw) (find_law : FindLaw) (is
   opens : opened (file_text file) ≡ Ok (written_elf file)
   opens = opened-elf (file_text file) (written_elf file) back
 
-  meaning-is : (encoding : Encoding) (indexes : Indexes) (all : Reads)
-      → has_info (written_elf file) ≡ true → encoding_of (written_object file) ≡ Ok encoding
-      → indexes_of (written_object file) encoding ≡ Ok indexes
-      → source_units (own_source file encoding indexes) ≡ Ok all
-      → input_meaning (file_text file) ≡ Ok (map {B = DwarfObject × Option Meaning}
-      (meant (own_source file encoding indexes)) all)
-  unfolding input_meaning object_meaning source_meaning
-  meaning-is encoding indexes all info e i u =
-      rw (opens, info, object-written file differ, e, i, u) refl
-
   units-taken : (begun now : Option InProgress) → has_info (written_elf file) ≡ true
-      → with_units (written_elf file) begun ≡ Ok now → Taken file
-  unfolding with_units with_source_or_new with_source
+      → with_input (file_text file) begun ≡ Ok now → Taken file
+  unfolding with_input with_units with_source_or_new with_source
   units-taken begun now info h =
       let object = written_object file in
-      let s1 = bind-was (encoding_of object) _ now (rw (object-written file differ) at h) in
+      let s1 = bind-was (encoding_of object) _ now
+      (rw (opens, info, object-written file differ) at h) in
       let s2 = bind-was (order_test object.order begun) _ now s1.2 in
       let s3 = bind-was (indexes_of object s1.0) _ now s2.2 in
       let source = own_source file s1.0 s3.0 in
@@ -207,13 +191,7 @@ module _ (reads : UnitsAreTaken) (first_law : FirstLaw) (find_law : FindLaw) (is
         units_are = j.is;
         tested = joined-tested (adding source before t1.0.0)
             (keys (adding source before t1.0.0).held) j.all t3.0.units j.defined j.are;
-        meaning = meaning-is s1.0 s3.0 j.all info s1.1 s3.1 j.is;
       }
-
-  input-by : (begun : Option InProgress) → has_info (written_elf file) ≡ true
-      → with_input (file_text file) begun ≡ with_units (written_elf file) begun
-  unfolding with_input
-  input-by begun info = rw (opens, info) refl
 
   -- without content of info nothing was joined
   no-units : (rows : List IndexEntry) → HaveEncodingOf (file_text file) (with_names mean rows)
@@ -230,6 +208,12 @@ module _ (reads : UnitsAreTaken) (first_law : FirstLaw) (find_law : FindLaw) (is
     abbrev units_meant : Reads → List (DwarfObject × Option Meaning)
     units_meant us = map {B = DwarfObject × Option Meaning} (meant source) us
 
+    meaning-is : has_info (written_elf file) ≡ true
+        → input_meaning (file_text file) ≡ Ok (units_meant t.all)
+    unfolding input_meaning object_meaning source_meaning
+    meaning-is info = rw (opens, info, object-written file differ, t.encoding_is, t.indexes_are)
+        (rw t.units_are refl)
+
     -- an input with units has rows
     some-rows : made.rows ≡ [] → ⊥
     some-rows none = encoding-none (written_object file) t.encoding
@@ -245,8 +229,8 @@ module _ (reads : UnitsAreTaken) (first_law : FirstLaw) (find_law : FindLaw) (is
     split : Split source file.contents t.all
     split = sections-split source file.contents t.all differ t.units_are t.tested
 
-    units-are : (place : UnitSection) → units_meant (split.of place) ≡ meant_rows mean
-        (rows_at place made.rows)
+    units-are : (place : UnitSection) → units_meant (split.of place) ≡ all_meant
+        (with_names mean (rows_at place made.rows))
     units-are place = section-again reads first_law find_law source file.contents made.strings
         made.rows mean again place (split.of place) (rows-again made file sound f)
         (encoded-rows (file_text file) source mean (input-encoding file differ back
@@ -256,20 +240,19 @@ module _ (reads : UnitsAreTaken) (first_law : FirstLaw) (find_law : FindLaw) (is
 
     rows-meant : IsPermutation (all_meant (units_of made)) (units_meant t.all)
     rows-meant =
-        let g : IndexEntry → DwarfObject × Option Meaning = λ r. (r.id, Some (mean r)) in
         let infos = rows_at places.Info made.rows in
         let types = rows_at places.Types made.rows in
         let apart = IsPermutation-filter_both (is_at places.Info) (is_at places.Types)
         (λ row. types-rest (place_of row.id row.debug_types)) made.rows in
-        let joined : map g (infos ++ types) ≡ units_meant (split.of places.Info
-        ++ split.of places.Types) =
-        map-append g infos types
+        let joined : all_meant (with_names mean (infos ++ types)) ≡ units_meant (split.of
+        places.Info ++ split.of places.Types) =
+        ap all_meant (map-append _ infos types) ∙ map-append _ (with_names mean infos) _
         ∙ ap₂ (λ a b. a ++ b) (sym (units-are places.Info)) (sym (units-are places.Types))
         ∙ sym (map-append {B = DwarfObject × Option Meaning} (meant source)
         (split.of places.Info) (split.of places.Types)) in
-        rw (meant-rows mean made.rows) (IsPermutation-trans _ _ _
-        (IsPermutation-map g made.rows _ apart)
-        (rw joined (IsPermutation-map (meant source) _ t.all split.are)))
+        IsPermutation-trans _ _ _
+        (IsPermutation-map _ _ _ (IsPermutation-map _ made.rows _ apart))
+        (rw joined (IsPermutation-map (meant source) _ t.all split.are))
 
   pub made-again : MeansWhereTaken (units_of made) (file_text file)
   unfolding taken input_meaning
@@ -277,8 +260,8 @@ module _ (reads : UnitsAreTaken) (first_law : FirstLaw) (find_law : FindLaw) (is
       let s = bind-was (with_input (file_text file) before.begun) _ after took in
       by-bool _ (has_info (written_elf file))
       (λ info.
-      let t = units-taken before.begun s.0 info (sym (input-by before.begun info) ∙ s.1) in
-      rw (same-ok _ _ (sym meaning ∙ t.meaning)) (rows-meant t))
+      let t = units-taken before.begun s.0 info s.1 in
+      rw (same-ok _ _ (sym meaning ∙ meaning-is t info)) (rows-meant t))
       (λ none.
       let no_units : units ≡ [] = same-ok _ _ (sym meaning ∙ rw (opens, none) refl) in
       rw (no_units, no-units made.rows one (no-info file none)) (IsPermutation-refl []))

@@ -26,7 +26,7 @@ use Rattle.thorin_join.proofs.Moved.RootEntries.{IsShifted}
 use Rattle.thorin_join.proofs.Moved.Units.{Moved, unit-moves}
 use Rattle.dwp_base.proofs.Bools.{by-bool}
 use Rattle.thorin_join.proofs.Rows.Stay.{part-inside}
-use Rattle.thorin_again.proofs.Meant.RowPlaces.{Below}
+use Rattle.thorin_again.proofs.Meant.RowPlaces.{Below, range_at}
 
 below-more : (kind : SectionKind) (n m : ℕ) (rs : List IndexEntry) (r : IndexEntry) → n ≤ m
     → Below kind n rs → ((c : Contribution) → contribution_to kind r ≡ Some c → c.offset.0 < m)
@@ -39,15 +39,10 @@ below-more kind n m (x ∷ rs) r h below own = (
 
 -- the part in the middle
 pub part-middle : (pre own rest whole : List ℕ) (offset : ℕ) → whole ≡ pre ++ (own ++ rest)
-    → length pre ≡ offset → part_of whole (Some (record {
-      offset = record { 0 = offset };
-      size =
-          length own;
-    })) ≡ own
+    → length pre ≡ offset → part_of whole (Some (range_at offset own)) ≡ own
 part-middle pre own rest whole offset is at =
-    let range : Contribution = record { offset = record { 0 = offset }; size = length own } in
     let size : offset + length own - offset ≡ length own = omega arith in
-    part-inside whole range (omega (
+    part-inside whole (range_at offset own) (omega (
       arith,
       ap length is,
       length-append pre (own ++ rest),
@@ -118,9 +113,9 @@ pub record IsUnitOf (order : Endianness) (contents : Contents) (place : UnitSect
   pub own : List ℕ
   pub below : Below (kind_at place) offset before
   pub range : contribution_to (kind_at place) row
-      ≡ Some (record { offset = record { 0 = offset }; size = length own })
+      ≡ Some (range_at offset own)
   pub part : part_of (content_of (kind_at place) contents)
-      (Some (record { offset = record { 0 = offset }; size = length own })) ≡ own
+      (Some (range_at offset own)) ≡ own
   pub whole : unit.whole ≡ plain order offset own
   pub sort : type_signature unit.unit_type ≡ name_signature row.id
   pub alone : Header

@@ -58,6 +58,10 @@ pub record IsAgain (source : Source) (contents : Contents) (strings : List (List
   pub compilations : HasRows source.indexes.compilations (rows_of true rows)
   pub types : HasRows source.indexes.types (rows_of false rows)
 
+-- where these bytes lie, which begin at this offset
+abbrev pub range_at : ℕ → List ℕ → Contribution
+range_at offset own = record { offset = record { 0 = offset }; size = length own }
+
 -- the rows before begin before this offset
 abbrev pub Below : SectionKind → ℕ → List IndexEntry → Type 0
 Below kind n [] = Unit {0}
