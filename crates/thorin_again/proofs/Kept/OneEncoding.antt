@@ -110,33 +110,28 @@ module _ (P : Meaning → Type 0) where
       (subst (Each IfMeant) (same-ok {E = ErrorValue} _ units s.2)
       (each-meant source s.0 (can s.0 s.1)))))
 
--- an input with units that was taken, as a source
-abbrev pub source_of : {file : Elf} {begun now : Option InProgress} → TakesUnits file begun now
-    → Source
-source_of u = record { object = u.object; encoding = u.encoding; indexes = u.indexes }
-
 source-means : (bytes : List ℕ) (file : Elf) (begun now : Option InProgress)
     (u : TakesUnits file begun now) → opened bytes ≡ Ok file → has_info file ≡ true
-    → input_meaning bytes ≡ source_meaning (source_of u)
+    → input_meaning bytes ≡ source_meaning u.source
 unfolding object_meaning
 source-means bytes file begun now u opens info =
     meaning-at bytes file true opens info
-    ∙ bind-ok (input_file_of file) u.object object_meaning u.object_is
-    ∙ bind-ok (encoding_of u.object) u.encoding _ u.encoding_is
-    ∙ bind-ok (indexes_of u.object u.encoding) u.indexes _ u.indexes_are
+    ∙ bind-ok (input_file_of file) u.source.object object_meaning u.object_is
+    ∙ bind-ok (encoding_of u.source.object) u.source.encoding _ u.encoding_is
+    ∙ bind-ok (indexes_of u.source.object u.source.encoding) u.source.indexes _ u.indexes_are
 
 -- what holds of the units before an input, and of those that it adds
 pub units-hold : (P : Meaning → Type 0) (bytes : List ℕ) (begun now : Option InProgress)
     → Joins bytes (units_begun begun) (units_begun now) → with_input bytes begun ≡ Ok now
     → ((file : Elf) (u : TakesUnits file begun now) → opened bytes ≡ Ok file
-    → has_info file ≡ true → (all : Reads) → source_units (source_of u) ≡ Ok all
-    → CanMean P (source_of u) all)
+    → has_info file ≡ true → (all : Reads) → source_units u.source ≡ Ok all
+    → CanMean P u.source all)
     → HoldsOf P (units_begun begun) → HoldsOf P (units_begun now)
 units-hold P bytes begun now j h can before =
     let t = takes bytes begun now h in
     elim t.does [
       | inl w ↦ subst (HoldsOf P) (sym j.is) (All-append (λ (u : DwarfObject × Meaning). P u.1)
-          (units_begun begun) j.added before (added-hold P (source_of w.1)
+          (units_begun begun) j.added before (added-hold P w.1.source
           (keys (units_begun begun)) j.units j.added
           (sym (source-means bytes t.file begun now w.1 t.opens w.0) ∙ j.meaning) j.joined
           (can t.file w.1 t.opens w.0)))
@@ -200,15 +195,15 @@ module _ (bytes : List ℕ) (e : Encoding) (found : own_encoding bytes ≡ Ok (S
       (sym (bind-ok (opened bytes) file _ opens) ∙ found)
 
   pub own-units : (file : Elf) (begun now : Option InProgress) (u : TakesUnits file begun now)
-      → opened bytes ≡ Ok file → OwnUnits u.object u.encoding e
+      → opened bytes ≡ Ok file → OwnUnits u.source.object u.source.encoding e
   unfolding file_encoding
   own-units file begun now u opens =
-      let one = some-or-none (is_plain u.object.sections && list_all (section_has u.encoding
-      u.object.order) u.object.sections) (Some u.encoding) e (same-ok {E = ErrorValue} _ (Some e)
-      (sym (bind-ok (input_file_of file) u.object _ u.object_is ∙ bind-ok (encoding_of u.object)
-      u.encoding _ u.encoding_is) ∙ (info-read file opens).1)) in
-      let two = both (is_plain u.object.sections) _ one.0 in
-      record { is = same_Some u.encoding e one.1; plain = two.0; all = two.1 }
+      let one = some-or-none (is_plain u.source.object.sections && list_all (section_has u.source.encoding
+      u.source.object.order) u.source.object.sections) (Some u.source.encoding) e (same-ok {E = ErrorValue} _ (Some e)
+      (sym (bind-ok (input_file_of file) u.source.object _ u.object_is ∙ bind-ok (encoding_of u.source.object)
+      u.source.encoding _ u.encoding_is) ∙ (info-read file opens).1)) in
+      let two = both (is_plain u.source.object.sections) _ one.0 in
+      record { is = same_Some u.source.encoding e one.1; plain = two.0; all = two.1 }
 
   -- such an object has units
   pub takes-units : (begun now : Option InProgress) → with_input bytes begun ≡ Ok now

@@ -31,7 +31,6 @@ use Rattle.thorin_join.proofs.Parts.OffsetLaws.{NamesTheSameLaw}
 use Rattle.thorin_again.proofs.Kept.InfoThere.{info-there}
 use Rattle.thorin_again.proofs.Kept.Names.{names-kept}
 use Rattle.thorin_again.proofs.Kept.OneEncoding.{Before, begun-now, own-adds, own-units, takes-units}
-use Rattle.thorin_again.proofs.Kept.OneEncoding.{source_of}
 use Rattle.thorin_again.proofs.Kept.SharedParts.{named-kept}
 use Rattle.thorin_again.proofs.Meant.Package.{are-indexes}
 use Rattle.thorin_again.proofs.Offsets.RewrittenAgain.{no-turn}
@@ -102,9 +101,9 @@ taken-plain names reads alone bytes old new sound holds h = record {
       let u = w.3 in
       let is = own-units bytes encoding a.found w.0 old.begun new.begun u w.1 in
       let before = package_or_new w.0 old.begun in
-      let source = source_of u in
-      let plain = plain-indexes u.object u.encoding u.indexes is.plain u.indexes_are in
-      let order = made-order w.0 u.object old.begun u.object_is u.order_is in
+      let source = u.source in
+      let plain = plain-indexes u.source.object u.source.encoding u.source.indexes is.plain u.indexes_are in
+      let order = made-order w.0 u.source.object old.begun u.object_is u.order_is in
       let before_sound = new-sound w.0 old.begun sound in
       let now : names_in new.begun ≡ names_in (Some u.made) = ap names_in (sym u.is) in
       let more : length before.rows < length u.made.rows = omega (
@@ -115,7 +114,7 @@ taken-plain names reads alone bytes old new sound holds h = record {
         ap length now,
         length-map u.made.rows (λ (row : IndexEntry). row.id),
       ) in
-      let was : IsPlain u.encoding before = subst (λ e. IsPlain e before) (sym is.is)
+      let was : IsPlain u.source.encoding before = subst (λ e. IsPlain e before) (sym is.is)
       (plain-before encoding w.0 old.begun old.own a.before (holds.made encoding)) in
       let same : u.made ≡ made = same_Some u.made made (u.is ∙ begun) in
       subst (IsPlain encoding) same (subst (λ e. IsPlain e u.made) is.is (record {

@@ -40,7 +40,7 @@ use Rattle.thorin_again.proofs.Lists.HeadersEncoded.{AreEncoded, IsEncoded, in-o
 use Rattle.thorin_join.proofs.Units.HeadersRead.{ReadAlone}
 use Rattle.thorin_again.proofs.Kept.InfoThere.{info-there}
 use Rattle.thorin_again.proofs.Kept.EachUnit.{each-all}
-use Rattle.thorin_again.proofs.Kept.OneEncoding.{InputsJoined, source_of, units-hold}
+use Rattle.thorin_again.proofs.Kept.OneEncoding.{InputsJoined, units-hold}
 use Rattle.thorin_again.proofs.Opened.FirstEncoding.{EncodesItself, first-of}
 use Rattle.thorin_again.proofs.Opened.Sections.{object-written, opened-elf}
 use Rattle.thorin_join.proofs.Files.Finished.{finished-own}
@@ -76,13 +76,13 @@ input-filled : UnitsAreTaken → ReadAlone → (e : Encoding) (bytes : List ℕ)
 input-filled reads alone e bytes begun now one j h before =
     let t = takes bytes begun now h in (
       units-hold (λ unit. unit.encoding ≡ e) bytes begun now j h
-          (λ file u opens info all read. each-all _ (λ r unit made. made.0 ∙ one.1 u.encoding
-          (encoding-read bytes file u.object u.encoding opens u.object_is u.encoding_is)) all)
+          (λ file u opens info all read. each-all _ (λ r unit made. made.0 ∙ one.1 u.source.encoding
+          (encoding-read bytes file u.source.object u.source.encoding opens u.object_is u.encoding_is)) all)
           before.0,
       elim t.does [
         | inl w ↦
             let u = w.1 in
-            subst HasInfo u.is (λ some. info-there reads alone (source_of u)
+            subst HasInfo u.is (λ some. info-there reads alone u.source
             (package_or_new t.file begun) u.made u.encoding_is u.with
             (new-info t.file begun before.1))
         | inr none ↦ subst HasInfo none.1 (new-info t.file begun before.1)

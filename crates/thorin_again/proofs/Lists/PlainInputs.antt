@@ -40,11 +40,11 @@ plain-of bytes old new e h found =
       file = w.0;
       opens = w.1;
       info = w.2;
-      object = u.object;
+      object = u.source.object;
       used = u.object_is;
       plain = is.plain;
       first = u.encoding_is ∙ ap Ok is.is;
-      all = subst (λ x. list_all (section_has x u.object.order) u.object.sections ≡ true) is.is
+      all = subst (λ x. list_all (section_has x u.source.object.order) u.source.object.sections ≡ true) is.is
           is.all;
     }
 

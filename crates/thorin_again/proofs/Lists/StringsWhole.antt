@@ -51,7 +51,7 @@ use Rattle.thorin_again.proofs.Lists.HeadersEncoded.{AreEncoded, IsEncoded, head
 use Rattle.thorin_again.proofs.Lists.HeadersEncoded.{read-encoded}
 use Rattle.thorin_join.proofs.Units.HeadersRead.{ReadAlone}
 use Rattle.thorin_join.proofs.Joined.Input.{made-order}
-use Rattle.thorin_again.proofs.Kept.OneEncoding.{InputsJoined, begun-now, source_of, units-hold}
+use Rattle.thorin_again.proofs.Kept.OneEncoding.{InputsJoined, begun-now, units-hold}
 use Rattle.thorin_again.proofs.Kept.OneEncoding.{CanMean}
 use Rattle.thorin_again.proofs.Kept.SharedParts.{plain-added, order-added}
 use Rattle.thorin_again.proofs.Opened.Sections.{opened-elf}
@@ -76,7 +76,7 @@ input-order bytes file begun now order opens h =
     let before = package_or_new t.file begun in
     elim t.does [
       | inl w ↦
-          let source = source_of w.1 in
+          let source = w.1.source in
           ap (λ b. order_of b order) (sym w.1.is)
           ∙ order-added source before w.1.made (plain-added source before w.1.made w.1.with)
           ∙ new-order t.file begun
@@ -112,11 +112,11 @@ input-encoded reads alone bytes begun now one j h before order is =
     sym (input-order bytes file begun now order opens h) ∙ is in
     let t = takes bytes begun now h in
     units-hold (IsEncoded order) bytes begun now j h (λ file u opens info all read.
-    subst (λ o. CanMean (IsEncoded o) (source_of u) all)
-    (made-order file u.object begun u.object_is u.order_is ∙ new-order file begun
+    subst (λ o. CanMean (IsEncoded o) u.source all)
+    (made-order file u.source.object begun u.object_is u.order_is ∙ new-order file begun
     ∙ from file opens)
-    (read-encoded reads alone (source_of u) all
-    (one file u.object u.encoding opens u.object_is u.encoding_is) read))
+    (read-encoded reads alone u.source all
+    (one file u.source.object u.source.encoding opens u.object_is u.encoding_is) read))
     (before order (order-before begun order t.file.order (from t.file t.opens)))
 
 -- ---- look-ups
