@@ -147,8 +147,11 @@ units-keep : (made : InProgress) (us : List (DwarfObject × NewUnit))
 unfolding with_new_units with_new_unit
 units-keep made [] = refl
 units-keep made (u ∷ us) = by-bool _ (list_any (same_name u.0) (names_of made))
-    (λ e. rw e (units-keep made us))
-    (λ e. rw e (units-keep (with_unit_added made u) us))
+    (λ e. ap added e ∙ units-keep made us)
+    (λ e. ap added e ∙ units-keep (with_unit_added made u) us)
+  where
+    added : Bool → List ℕ
+    added b = (with_new_units (cond b made (with_unit_added made u)) us).differing
 
 all-keep : (made : InProgress) (parts : Contents × List (List ℕ)) (new : New)
     → (with_all made parts new).differing ≡ made.differing ++ new.differing

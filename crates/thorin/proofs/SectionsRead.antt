@@ -68,13 +68,12 @@ found-is p (y ∷ ys) x h = by-bool _ (p y)
 none-is : {X : Type 0} (p : X → Bool) (xs : List X) (r : ℕ) (x : X) → find p xs ≡ None
     → slice_get xs r ≡ Some x → p x ≡ false
 none-is p [] r x h g = absurd cc
-none-is {X} p (y ∷ ys) r x h g = by-bool _ (p y)
+none-is {X} p (y ∷ ys) zero x h g = by-bool _ (p y)
     (λ e. let wrong : ◌≡◌ {A = Option X} (Some y) None = rw e at h in absurd cc)
-    (λ e. later r g e (rw e at h))
-  where
-    later : (r : ℕ) → slice_get (y ∷ ys) r ≡ Some x → p y ≡ false → find p ys ≡ None → p x ≡ false
-    later zero g e k = ap p (sym (same_Some y x g)) ∙ e
-    later (suc r) g e k = none-is p ys r x k g
+    (λ e. ap p (sym (same_Some y x g)) ∙ e)
+none-is {X} p (y ∷ ys) (suc r) x h g = by-bool _ (p y)
+    (λ e. let wrong : ◌≡◌ {A = Option X} (Some y) None = rw e at h in absurd cc)
+    (λ e. none-is p ys r x (rw e at h) g)
 
 find-more : {X : Type 0} (p : X → Bool) (xs ys : List X) (x : X) → find p xs ≡ Some x
     → find p (xs ++ ys) ≡ Some x
