@@ -36,6 +36,11 @@ pub if_map : {A : Type 0} (o : Option A) {P Q : A → Type 0} → ((x : A) → P
 if_map (Some x) f h = f x h
 if_map None f h = tt
 
+pub if_both : {A : Type 0} (o : Option A) {P Q R : A → Type 0} → ((x : A) → P x → Q x → R x)
+    → IfSome o P → IfSome o Q → IfSome o R
+if_both (Some x) f p q = f x p q
+if_both None f p q = tt
+
 -- an insertion that succeeded has the key's new value, and the others as they were
 pub on_ok : {A E : Type 0} (P : Type 0) (r : Result A E) → is_ok r ≡ true → OnOk r P → P
 on_ok P (Ok x) e p = p

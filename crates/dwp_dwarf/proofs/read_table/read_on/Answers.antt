@@ -1,7 +1,5 @@
-use Rattle.std.proofs.Common.{◌≡◌, sym, ◌∙◌, Ok, Some, None}
+use Rattle.std.proofs.Common.{sym, ◌∙◌}
 use Rattle.std.proofs.lemmas.Result.{err_from_is_err_and}
-use Rattle.dwp_dwarf.specs.Declarations.{declaration_of}
-use Rattle.dwp_dwarf.specs.Grammar.{next_at}
 use Rattle.dwp_dwarf.proofs.Tables.{next_shorter, look_up-end, look_up-error, look_up-here}
 use Rattle.dwp_dwarf.proofs.read_table.read_on.Goals as goal
 
@@ -17,26 +15,17 @@ pub returns-then-found-code-clause-declared : goal.returns-then-found-code-claus
 returns-then-found-code-clause-declared g c =
     let same = rw (c.loop-found.invariant.none, c.requires) at
     (c.loop-found.invariant.said c.args.code) in
-    let read : next_at (g.R.Reader.input c.loop-found.rest) ≡ Ok
-    (Some (
-      (c.in-Some.found, declaration_of g.R.Reader.input c.in-Some.abbreviation),
-      g.R.Reader.input c.in-Some.behind,
-    )) = rw c.in-Some.is at c.in_ok-found.ensures in
+    let read = rw c.in-Some.is at c.in_ok-found.ensures in
     sym same ∙ rw c.if-found-code.true at (look_up-here _ _ read)
 
 pub loop-found-smaller : goal.loop-found-smaller
 loop-found-smaller g c =
-    let read : next_at (g.R.Reader.input c.loop-found.rest) ≡ Ok
-    (Some (
-      (c.in-Some.found, declaration_of g.R.Reader.input c.in-Some.abbreviation),
-      g.R.Reader.input c.in-Some.behind,
-    )) = rw c.in-Some.is at c.in_ok-found.ensures in
+    let read = rw c.in-Some.is at c.in_ok-found.ensures in
     next_shorter _ _ read
 
 pub returns-clause-declared : goal.returns-clause-declared
 returns-clause-declared g c =
     let same = rw (c.loop-found.invariant.none, c.requires) at
     (c.loop-found.invariant.said c.args.code) in
-    let end : next_at (g.R.Reader.input c.loop-found.rest) ≡ Ok None = rw c.in_default.is at
-    c.in_ok-found.ensures in
+    let end = rw c.in_default.is at c.in_ok-found.ensures in
     sym same ∙ look_up-end c.args.code _ end

@@ -1,7 +1,5 @@
-use Rattle.std.proofs.Common.{◌≡◌, sym, ◌∙◌, Ok, Some, None}
+use Rattle.std.proofs.Common.{sym, ◌∙◌}
 use Rattle.std.proofs.lemmas.Result.{err_from_is_err_and}
-use Rattle.dwp_dwarf.specs.Declarations.{declaration_of}
-use Rattle.dwp_dwarf.specs.Grammar.{next_at}
 use Rattle.dwp_dwarf.proofs.Tables.{next_shorter, look_up-end, look_up-error, look_up-here}
 use Rattle.dwp_dwarf.proofs.Tables.{look_up-other}
 use Rattle.dwp_dwarf.proofs.seen.read_to.Goals as goal
@@ -13,33 +11,20 @@ returns-in_err-found g c =
 
 pub returns-then-code-found : goal.returns-then-code-found
 returns-then-code-found g c =
-    let read : next_at (g.R.Reader.input c.loop-found.rest) ≡ Ok
-    (Some (
-      (c.in-Some.found, declaration_of g.R.Reader.input c.in-Some.abbreviation),
-      g.R.Reader.input c.in-Some.behind,
-    )) = rw c.in-Some.is at c.in_ok-found.ensures in
+    let read = rw c.in-Some.is at c.in_ok-found.ensures in
     sym c.loop-found.invariant ∙ rw (sym c.if-code-found.true) at (look_up-here _ _ read)
 
 pub loop-found-smaller : goal.loop-found-smaller
 loop-found-smaller g c =
-    let read : next_at (g.R.Reader.input c.loop-found.rest) ≡ Ok
-    (Some (
-      (c.in-Some.found, declaration_of g.R.Reader.input c.in-Some.abbreviation),
-      g.R.Reader.input c.in-Some.behind,
-    )) = rw c.in-Some.is at c.in_ok-found.ensures in
+    let read = rw c.in-Some.is at c.in_ok-found.ensures in
     next_shorter _ _ read
 
 pub loop-found-preserved : goal.loop-found-preserved
 loop-found-preserved g c =
-    let read : next_at (g.R.Reader.input c.loop-found.rest) ≡ Ok
-    (Some (
-      (c.in-Some.found, declaration_of g.R.Reader.input c.in-Some.abbreviation),
-      g.R.Reader.input c.in-Some.behind,
-    )) = rw c.in-Some.is at c.in_ok-found.ensures in
+    let read = rw c.in-Some.is at c.in_ok-found.ensures in
     sym (look_up-other c.args.code _ _ read (λ e. c.if-code-found.false (sym e))) ∙ c.loop-found.invariant
 
 pub returns : goal.returns
 returns g c =
-    let end : next_at (g.R.Reader.input c.loop-found.rest) ≡ Ok None = rw c.in_default.is at
-    c.in_ok-found.ensures in
+    let end = rw c.in_default.is at c.in_ok-found.ensures in
     sym c.loop-found.invariant ∙ look_up-end c.args.code _ end

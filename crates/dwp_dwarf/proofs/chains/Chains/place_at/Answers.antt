@@ -1,9 +1,8 @@
-use Rattle.std.proofs.Common.{◌≡◌, ℕ, length, Some, None, Ok, refl, ap, ◌∙◌}
+use Rattle.std.proofs.Common.{◌≡◌, ℕ, length, Some, refl, ap, ◌∙◌}
 use Rattle.std.specs.Ordering.{nat_cmp}
 use Rattle.std.specs.BTreeMap.{get}
 use Rattle.dwp_dwarf.specs.Chains.{RemembersPlace}
 use Rattle.dwp_dwarf.specs.Declarations.{declaration_of}
-use Rattle.dwp_dwarf.specs.Grammar.{next_at}
 use Rattle.dwp_dwarf.proofs.Places.{place_stays, place_end, place_next}
 use Rattle.dwp_dwarf.proofs.Keys.{if_there}
 use Rattle.dwp_dwarf.proofs.NewVersions.{grows_none}
@@ -17,10 +16,7 @@ returns-in_ok-version-in-Ok-Some-clause-place g c = λ section all is.
     let left = length (g.R.Reader.input c.in-Ok-Some.behind).bytes in
     let next : get nat_cmp c.args.self.now.places (length (g.R.Reader.input
     c.in-Ok-Some.behind).bytes) ≡ Some c.in_ok-next-in-Ok-Some.next = cc in
-    let read : next_at (g.R.Reader.input c.args.at) ≡ Ok (Some (
-      (c.in-Ok-Some.code, declaration_of g.R.Reader.input c.in-Ok-Some.field-0-0-1),
-      g.R.Reader.input c.in-Ok-Some.behind,
-    )) = rw c.in-Ok-Some.field-0-is at c.in-Ok-Some.ensures in
+    let read = rw c.in-Ok-Some.field-0-is at c.in-Ok-Some.ensures in
     let first : value_in c.insert.new.self.nodes.items c.in_ok-version-in-Ok-Some.version
     c.in_ok-number-in-Ok-Some.number ≡ Some c.args.left =
     c.in_ok-version-in-Ok-Some.ensures.value
@@ -43,10 +39,9 @@ returns-in_ok-version-in-Ok-Some-clause-place g c = λ section all is.
 
 pub returns-in-Ok-None-clause-place : goal.returns-in-Ok-None-clause-place
 returns-in-Ok-None-clause-place g c = λ section all is.
-    let end : next_at (g.R.Reader.input c.args.at) ≡ Ok None = rw c.in-Ok-None.field-0-is at
-    c.in-Ok-None.ensures in
     place_end section (g.R.Reader.input c.args.at) c.args.self.now.codes
-    c.args.self.now.firsts.nodes.items c.args.left _ is end refl
+    c.args.self.now.firsts.nodes.items c.args.left _ is
+    (rw c.in-Ok-None.field-0-is at c.in-Ok-None.ensures) refl
 
 pub returns-in-Err-clause-place : goal.returns-in-Err-clause-place
 returns-in-Err-clause-place g c = λ section all is. place_end section (g.R.Reader.input c.args.at)
