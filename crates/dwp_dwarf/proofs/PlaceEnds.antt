@@ -1,32 +1,38 @@
 -- Where the declaration of a code ends: what a table says of the code doesn't need the bytes
 -- behind.
-use Rattle.std.proofs.Common.{◌≡◌, ℕ, ◌+◌, ◌-◌, ◌≤◌, false, List, length, take, drop, Option, Some}
-use Rattle.std.proofs.Common.{Result, Ok, eqb, refl, ap, sym, subst, ◌∙◌, eq-eqb, ltb, arith}
-use Rattle.std.proofs.Common.{length-append}
+use Rattle.std.proofs.Common.{◌≡◌, ◌≢◌, ℕ, ◌+◌, ◌-◌, ◌≤◌, List, length, take, drop, Some, Ok, ap, sym}
+use Rattle.std.proofs.Common.{subst, ◌∙◌, ltb, arith, length-append}
 use Rattle.std.proofs.lemmas.Bool.{ltb-true, ltb-false}
 use Rattle.std.proofs.lemmas.List.{take-append-drop, take-append-le, take_all, drop-take}
 use Rattle.std.proofs.lemmas.List.{length-take, length-drop}
-use Rattle.dwp_bytes.specs.Input.{Input, front, after}
-use Rattle.dwp_bytes.specs.Leb.{LebsTakeBytes}
-use Rattle.dwp_bytes.specs.declared.error.ReadError.{ReadError}
-use Rattle.dwp_dwarf.specs.Abbreviations.{Declaration, declaration}
+use Rattle.dwp_base.proofs.Bools.{by-bool}
+use Rattle.dwp_bytes.specs.Input.{Input, Goes, front, after}
+use Rattle.dwp_dwarf.specs.Abbreviations.{declaration}
 use Rattle.dwp_dwarf.specs.Chains.{from_end, StaysBefore, StaysBehind}
 use Rattle.dwp_dwarf.specs.Grammar.{next_at}
 use Rattle.dwp_dwarf.specs.Offsets.{from_at}
-use Rattle.dwp_dwarf.proofs.Cut.{more, next_cut}
-use Rattle.dwp_dwarf.proofs.Goes.{from_is}
-use Rattle.dwp_dwarf.proofs.Grammar.{look_up-here, look_up-other, next_shorter}
-use Rattle.dwp_base.proofs.Bools.{by-bool}
+use Rattle.dwp_dwarf.proofs.Readings.{more, goes_then, one_answer}
+use Rattle.dwp_dwarf.proofs.Offsets.{from_is, from_within}
+use Rattle.dwp_dwarf.proofs.Tables.{Next, next_goes, next_shorter, next_cut, look_up-here}
+use Rattle.dwp_dwarf.proofs.Tables.{look_up-other}
 
-abbrev pub Next : Type 0
-Next = (ℕ × Declaration) × Input
-
-pub one_input : (r : Result Input ReadError) (i j : Input) → r ≡ Ok i → r ≡ Ok j → i ≡ j
-one_input r i j p q = cc
-
-pub one_next : (r : Result (Option Next) ReadError) (x y : Next) → r ≡ Ok (Some x)
-    → r ≡ Ok (Some y) → x ≡ y
-one_next r x y p q = cc
+-- what comes behind a declaration is what the section has from there on
+pub end_behind : (section i : Input) (left : ℕ) (x : Next) → from_end left section ≡ Ok i
+    → next_at i ≡ Ok (Some x) → from_end (length x.1.bytes) section ≡ Ok x.1
+end_behind section i left x is h =
+    let offset : ℕ = length section.bytes - left in
+    let from = from_is offset section i is in
+    let start : Goes 0 section i = record {
+      taken = offset;
+      some = omega arith;
+      enough = from.0;
+      is = from.1;
+    } in
+    let g = goes_then start (next_goes i x h) in
+    let left : length x.1.bytes ≡ length section.bytes - g.taken =
+    ap (λ (j : Input). length j.bytes) g.is ∙ length-drop g.taken section.bytes in
+    let place : length section.bytes - length x.1.bytes ≡ g.taken = omega (arith, left, g.enough) in
+    rw place (from_within g.taken section g.enough ∙ ap (λ j. Ok j) (sym g.is))
 
 -- the first bytes with the others behind are the whole
 front_more : (n : ℕ) (i : Input) → more (front n i) (drop n i.bytes) ≡ i
@@ -44,83 +50,57 @@ record Shortened (i : Input) (n : ℕ) (x : Next) : Type 0 where
   is : next_at (front n i) ≡ Ok (Some (x.0, front left x.1))
   missing : length x.1.bytes + n ≡ left + length i.bytes
 
-module _ (lebs : LebsTakeBytes) where
-  shortened : (i : Input) (n : ℕ) (x : Next) → next_at i ≡ Ok (Some x) → n ≤ length i.bytes
-      → length i.bytes ≤ n + length x.1.bytes → Shortened i n x
-  shortened i n x h few enough =
-      let rest = drop n i.bytes in
-      let size : length rest ≡ length i.bytes - n = length-drop n i.bytes in
-      let cut = next_cut lebs (front n i) rest x
-      (subst (λ (j : Input). next_at j ≡ Ok (Some x)) (sym (front_more n i)) h)
-      (omega (arith, size, enough)) in
-      let y = cut.0 in
-      let whole : length x.1.bytes ≡ length y.bytes + length rest =
-      ap (λ (j : Input). length j.bytes) cut.1 ∙ length-append y.bytes rest in
-      let is : y ≡ front (length y.bytes) x.1 = sym (more_front y rest)
-      ∙ ap (front (length y.bytes)) (sym cut.1) in
-      record {
-        left = length y.bytes;
-        is = subst (λ (j : Input). next_at (front n i) ≡ Ok (Some (x.0, j))) is cut.2;
-        missing = omega (arith, whole, size, few);
-      }
+shortened : (i : Input) (n : ℕ) (x : Next) → next_at i ≡ Ok (Some x) → n ≤ length i.bytes
+    → length i.bytes ≤ n + length x.1.bytes → Shortened i n x
+shortened i n x h few enough =
+    let rest = drop n i.bytes in
+    let size : length rest ≡ length i.bytes - n = length-drop n i.bytes in
+    let cut = next_cut (front n i) rest x (rw (front_more n i) h) (omega (arith, size, enough)) in
+    let y = cut.0 in
+    let whole : length x.1.bytes ≡ length y.bytes + length rest =
+    ap (λ (j : Input). length j.bytes) cut.1 ∙ length-append y.bytes rest in
+    let is : y ≡ front (length y.bytes) x.1 = sym (more_front y rest)
+    ∙ ap (front (length y.bytes)) (sym cut.1) in
+    record {
+      left = length y.bytes;
+      is = subst (λ (j : Input). next_at (front n i) ≡ Ok (Some (x.0, j))) is cut.2;
+      missing = omega (arith, whole, size, few);
+    }
 
-  -- the first bytes of a table are all where it has no more
-  all_front : (n : ℕ) (i : Input) → length i.bytes ≤ n → front n i ≡ i
-  all_front n i few = ap (λ (l : List ℕ). record i { bytes = l }) (take_all n i.bytes few)
+-- where all bytes are there, and where some are missing
+by_missing : (n wanted : ℕ) (i : Input) (x : Next) → next_at i ≡ Ok (Some x)
+    → length i.bytes ≤ n + length x.1.bytes
+    → (Shortened i n x → declaration wanted (front n i) ≡ declaration wanted i)
+    → declaration wanted (front n i) ≡ declaration wanted i
+by_missing n wanted i x h enough fewer =
+    by-bool (declaration wanted (front n i) ≡ declaration wanted i) (ltb n (length i.bytes))
+    (λ less. fewer (shortened i n x h (omega (arith, ltb-true _ _ less)) enough))
+    (λ all. ap (λ (l : List ℕ). declaration wanted (record i { bytes = l }))
+    (take_all n i.bytes (ltb-false _ _ all)))
 
-  here_ends : (n : ℕ) (i behind : Input) (code : ℕ) (declared : Declaration)
-      → next_at i ≡ Ok (Some ((code, declared), behind))
-      → length i.bytes ≤ n + length behind.bytes
-      → declaration code (front n i) ≡ declaration code i
-  here_ends n i behind code declared h enough =
-      by-bool (declaration code (front n i) ≡ declaration code i) (ltb n (length i.bytes))
-      (λ less.
-      let s = shortened i n ((code, declared), behind) h
-      (omega (arith, ltb-true _ _ less)) enough in
-      look_up-here lebs code (front n i) ((code, declared), front s.left behind) s.is
-      (eq-eqb code code refl)
-      ∙ sym (look_up-here lebs code i ((code, declared), behind) h (eq-eqb code code refl)))
-      (λ all. ap (declaration code) (all_front n i (ltb-false _ _ all)))
+-- of the code of the declaration at a place
+pub ends_here : (section i : Input) (left : ℕ) (x : Next) → from_end left section ≡ Ok i
+    → next_at i ≡ Ok (Some x) → StaysBehind section i x.0.0 left
+ends_here section i left x is h = λ d stands.
+    let next = rw (one_answer _ stands.is is) at stands.next in
+    let same : stands.behind ≡ x.1 = cc in
+    rw same (
+      omega (arith, next_shorter i x h),
+      λ n enough. by_missing n x.0.0 i x h enough (λ s. look_up-here (front n i)
+          (x.0, front s.left x.1) s.is ∙ sym (look_up-here i x h)),
+    )
 
-  further_ends : (n : ℕ) (i behind : Input) (wanted code left : ℕ) (declared : Declaration)
-      → next_at i ≡ Ok (Some ((code, declared), behind)) → eqb code wanted ≡ false
-      → left ≤ length behind.bytes → StaysBefore behind wanted left
-      → length i.bytes ≤ n + left → declaration wanted (front n i) ≡ declaration wanted i
-  further_ends n i behind wanted code left declared h apart fits ends enough =
-      by-bool (declaration wanted (front n i) ≡ declaration wanted i) (ltb n (length i.bytes))
-      (λ less.
-      let s = shortened i n ((code, declared), behind) h (omega (arith, ltb-true _ _ less))
-      (omega (arith, enough, fits)) in
-      look_up-other lebs wanted (front n i) ((code, declared), front s.left behind) s.is apart
-      ∙ ends s.left (omega (arith, s.missing, enough))
-      ∙ sym (look_up-other lebs wanted i ((code, declared), behind) h apart))
-      (λ all. ap (declaration wanted) (all_front n i (ltb-false _ _ all)))
-
-  -- of the code of the declaration at a place
-  pub ends_here : (section i behind : Input) (left code : ℕ) (declared : Declaration)
-      → from_end left section ≡ Ok i → next_at i ≡ Ok (Some ((code, declared), behind))
-      → StaysBehind section i code left
-  ends_here section i behind left code declared is h = λ d stands.
-      let same : stands.behind ≡ behind = ap (λ (x : Next). x.1) (one_next (next_at i)
-      ((stands.code, d), stands.behind) ((code, declared), behind)
-      (subst (λ (j : Input). next_at j ≡ Ok (Some ((stands.code, d), stands.behind)))
-      (one_input (from_end left section) stands.start i stands.is is) stands.next) h) in
-      subst (λ (b : Input). (length b.bytes ≤ length i.bytes)
-      × StaysBefore i code (length b.bytes)) (sym same) (
-        omega (arith, next_shorter lebs i ((code, declared), behind) h),
-        λ n enough. here_ends n i behind code declared h enough,
-      )
-
-  -- of another code, by the table behind the declaration at a place
-  pub ends_further : (section i behind : Input) (wanted code first : ℕ) (declared : Declaration)
-      → next_at i ≡ Ok (Some ((code, declared), behind)) → eqb code wanted ≡ false
-      → StaysBehind section behind wanted first → StaysBehind section i wanted first
-  ends_further section i behind wanted code first declared h apart inside = λ d stands.
-      let ends = inside d stands in (
-        omega (arith, next_shorter lebs i ((code, declared), behind) h, ends.0),
-        λ n enough. further_ends n i behind wanted code (length stands.behind.bytes) declared h
-            apart ends.0 ends.1 enough,
-      )
+-- of another code, by the table behind the declaration at a place
+pub ends_further : (section i : Input) (wanted first : ℕ) (x : Next) → next_at i ≡ Ok (Some x)
+    → x.0.0 ≢ wanted → StaysBehind section x.1 wanted first → StaysBehind section i wanted first
+ends_further section i wanted first x h apart inside = λ d stands.
+    let ends = inside d stands in (
+      omega (arith, next_shorter i x h, ends.0),
+      λ n enough. by_missing n wanted i x h (omega (arith, enough, ends.0)) (λ s.
+          look_up-other wanted (front n i) (x.0, front s.left x.1) s.is apart
+          ∙ ends.1 s.left (omega (arith, s.missing, enough))
+          ∙ sym (look_up-other wanted i x h apart)),
+    )
 
 -- what stands from an offset on in the first bytes of a section
 part_within : (section part whole : Input) (offset end : ℕ)

@@ -2,26 +2,26 @@
 -- is among those that are needed.
 use Rattle.std.proofs.Common.{◌≡◌, ◌∙◌, ℕ, Bool, true, false, cond, List, [], ◌∷◌, Option, Some}
 use Rattle.std.proofs.Common.{None, Result, Ok, Err, eqb, refl, ap, sym}
-use Rattle.std.specs.Prelude.{find, ◌&&◌, ◌||◌, if◌then◌else◌}
+use Rattle.std.specs.Prelude.{find, ◌&&◌, if◌then◌else◌}
 use Rattle.std.specs.Option.{option_or, is_none}
 use Rattle.dwp_base.specs.Reading.{◌>>=◌}
-use Rattle.dwp_bytes.specs.Input.{Input, front}
+use Rattle.dwp_bytes.specs.Input.{Input}
 use Rattle.dwp_bytes.specs.declared.encoding.Encoding.{Encoding}
 use Rattle.dwp_bytes.specs.declared.encoding.Format.{Format}
 use Rattle.dwp_bytes.specs.declared.error.ReadError.{ReadError}
 use Rattle.dwp_dwarf.specs.Abbreviations.{Specification}
 use Rattle.dwp_dwarf.specs.Entries.{DebugAttribute, attribute_at, attributes, place_of}
-use Rattle.dwp_dwarf.specs.Forms.{value_at, named_form_at}
 use Rattle.dwp_dwarf.specs.Needed.{is_needed, is_unmet, met, needed, none_met}
 use Rattle.dwp_dwarf.specs.Split.{SplitAttributes, split_attributes, split_in, with_attribute}
 use Rattle.dwp_dwarf.specs.Split.{all_read, base_in, first_base, is_attribute, none_found}
 use Rattle.dwp_dwarf.specs.Split.{DW_AT_dwo_name, DW_AT_GNU_dwo_name, DW_AT_comp_dir}
 use Rattle.dwp_dwarf.specs.Split.{DW_AT_str_offsets_base}
 use Rattle.dwp_dwarf.specs.declared.needed.UnmetNames.{UnmetNames}
-use Rattle.dwp_dwarf.proofs.Grammar.{by_answer}
-use Rattle.dwp_dwarf.proofs.Numbers.{is_empty, or_left}
-use Rattle.dwp_base.proofs.Steps.{bind-was}
-use Rattle.dwp_base.proofs.Bools.{by-bool}
+use Rattle.dwp_dwarf.proofs.Numbers.{is_empty, empty}
+use Rattle.dwp_dwarf.proofs.Values.{attribute_lies}
+use Rattle.dwp_dwarf.specs.Units.{listed}
+use Rattle.dwp_dwarf.specs.Numbers.{has_bytes}
+use Rattle.dwp_base.proofs.Bools.{by-bool, neither}
 
 -- the first of each name, before and among others
 abbrev pub joined : SplitAttributes → SplitAttributes → SplitAttributes
@@ -104,10 +104,6 @@ unmet_of before = record {
   comp_dir = is_none before.comp_dir;
 }
 
-or_right : (a b : Bool) → (a || b) ≡ false → b ≡ false
-or_right false b e = e
-or_right true b e = absurd cc
-
 none_or : {T : Type 0} (x : Option T) (b : Bool) (a : T) → is_none (option_or x
     (cond b (Some a) None)) ≡ (if b then false else is_none x)
 none_or None true a = refl
@@ -140,29 +136,26 @@ passed_over : (format : Format) (before : SplitAttributes) (a : DebugAttribute)
     → place_of format a ≡ None → is_unmet (unmet_of before) a.name ≡ false
     → with_attribute format before a ≡ before
 passed_over format before a none known =
-    let others = or_right (eqb a.name DW_AT_dwo_name && is_none before.dwo_name) _ known in
+    let first = neither (eqb a.name DW_AT_dwo_name && is_none before.dwo_name) _ known in
+    let second = neither (eqb a.name DW_AT_GNU_dwo_name && is_none before.gnu_dwo_name) _ first.1 in
     rw (
-      not_first before.dwo_name (eqb a.name DW_AT_dwo_name) a (or_left _ _ known),
-      not_first before.gnu_dwo_name (eqb a.name DW_AT_GNU_dwo_name) a (or_left _ _ others),
-      not_first before.comp_dir (eqb a.name DW_AT_comp_dir) a
-          (or_right (eqb a.name DW_AT_GNU_dwo_name && is_none before.gnu_dwo_name) _ others),
+      not_first before.dwo_name (eqb a.name DW_AT_dwo_name) a first.0,
+      not_first before.gnu_dwo_name (eqb a.name DW_AT_GNU_dwo_name) a second.0,
+      not_first before.comp_dir (eqb a.name DW_AT_comp_dir) a second.1,
       no_place (eqb a.name DW_AT_str_offsets_base) (place_of format a) none,
       or-none before.str_offsets_base,
     ) refl
 
--- an attribute has the name that its abbreviation lists
-has_name : (encoding : Encoding) (s : Specification) (i : Input) (x : DebugAttribute × Input)
-    → attribute_at encoding s i ≡ Ok x → x.0.name ≡ s.name
-unfolding attribute_at
-has_name encoding s i x is =
-    let form = bind-was (named_form_at s.form i) _ x is in
-    let value = bind-was (value_at encoding form.0.0 form.0.1) _ x form.2 in
-    let made : DebugAttribute × Input = (
-      record { name = s.name; form = form.0.0; value = value.0.0 },
-      value.0.1,
-    ) in
-    let same : made ≡ x = cc in
-    ap (λ (y : DebugAttribute × Input). y.0.name) (sym same)
+-- what is found behind one that was read
+with_read : (format : Format) (before : SplitAttributes)
+    (r : Result (DebugAttribute × Input) ReadError)
+    (f g : Input → List (Result DebugAttribute ReadError))
+    → ((x : DebugAttribute × Input) → r ≡ Ok x → after format (with_attribute format before x.0)
+    (f x.1) ≡ after format (with_attribute format before x.0) (g x.1))
+    → after format before (listed r f) ≡ after format before (listed r g)
+with_read format before (Ok x) f g same = after-first format before x.0 (f x.1) ∙ same x refl
+    ∙ sym (after-first format before x.0 (g x.1))
+with_read format before (Err e) f g same = refl
 
 -- what is found is found among those that are needed
 after_needed : (format : Format) (encoding : Encoding) (before : SplitAttributes)
@@ -173,27 +166,18 @@ after_needed format encoding before [] i = refl
 after_needed format encoding before (s ∷ ss) i = by-bool
     (after format before (attributes encoding (needed (unmet_of before) (s ∷ ss)) i)
     ≡ after format before (attributes encoding (s ∷ ss) i)) (is_needed (unmet_of before) s)
-    (λ some. by_answer
-    (after format before (attributes encoding (needed (unmet_of before) (s ∷ ss)) i)
-    ≡ after format before (attributes encoding (s ∷ ss) i)) (attribute_at encoding s i)
+    (λ some. rw some (with_read format before (attribute_at encoding s i)
+    (attributes encoding (needed (met (unmet_of before) s.name) ss)) (attributes encoding ss)
     (λ x is.
-    let next : unmet_of (with_attribute format before x.0) ≡ met (unmet_of before) s.name =
-    unmet_behind format before x.0 ∙ ap (met (unmet_of before)) (has_name encoding s i x is) in
-    rw (some, is) (after-first format before x.0
-    (attributes encoding (needed (met (unmet_of before) s.name) ss) x.1)
-    ∙ ap (λ (u : UnmetNames). after format (with_attribute format before x.0)
-    (attributes encoding (needed u ss) x.1)) (sym next)
-    ∙ after_needed format encoding (with_attribute format before x.0) ss x.1
-    ∙ sym (after-first format before x.0 (attributes encoding ss x.1))))
-    (λ e is. rw (some, is) refl))
-    (λ none. let empty = is_empty encoding s i (or_left _ _ none) in
-    let same = passed_over format before
-    (record { name = s.name; form = s.form; value = front 0 i }) (empty.placeless format)
-    (or_right _ _ none) in
-    rw (none, empty.read) (after_needed format encoding before ss i
-    ∙ sym (after-first format before
-    (record { name = s.name; form = s.form; value = front 0 i }) (attributes encoding ss i)
-    ∙ ap (λ (b : SplitAttributes). after format b (attributes encoding ss i)) same)))
+    let name = ((attribute_lies encoding s i).gives x is).name in
+    rw (← name, ← unmet_behind format before x.0)
+    (after_needed format encoding (with_attribute format before x.0) ss x.1))))
+    (λ none. let needless = neither (has_bytes s) _ none in
+    let is = is_empty encoding s i needless.0 in
+    rw (none, is.read) (after_needed format encoding before ss i
+    ∙ sym (after-first format before (empty s i) (attributes encoding ss i)
+    ∙ ap (λ (b : SplitAttributes). after format b (attributes encoding ss i))
+    (passed_over format before (empty s i) (is.placeless format) needless.1))))
 
 -- what names the split object is found among the attributes that are needed
 pub split_needed : (format : Format) (encoding : Encoding) (ss : List Specification) (i : Input)

@@ -1,10 +1,10 @@
 -- The units of a section one after the other.
-use Rattle.std.proofs.Common.{◌≡◌, ◌↔◌, ℕ, zero, suc, ◌+◌, ◌<◌, ◌≤◌, Bool, true, false, cond, List}
-use Rattle.std.proofs.Common.{[], ◌∷◌, ◌++◌, length, take, drop, Result, Ok, Err, eqb, map}
-use Rattle.std.proofs.Common.{append_assoc, length-append, refl, ap, sym, subst, ◌∙◌, arith}
+use Rattle.std.proofs.Common.{◌≡◌, ◌↔◌, ℕ, ◌<◌, Bool, true, false, cond, List}
+use Rattle.std.proofs.Common.{[], ◌∷◌, ◌++◌, length, drop, Result, Ok, Err, eqb, map}
+use Rattle.std.proofs.Common.{append_assoc, length-append, refl, ap, sym, ◌∙◌, arith}
 use Rattle.std.specs.Result.{is_err}
 use Rattle.std.specs.List.{flat_map}
-use Rattle.std.proofs.lemmas.List.{length-drop, length-take-le, take-append-drop, append-nil}
+use Rattle.std.proofs.lemmas.List.{length-take-le, take-append-drop, append-nil}
 use Rattle.std.proofs.lemmas.List.{nil_from_length}
 use Rattle.std.proofs.lemmas.List.Concat.{flat_map-cons}
 use Rattle.std.proofs.lemmas.Bool.{eqb-true, ne_eqb}
@@ -16,66 +16,39 @@ use Rattle.dwp_dwarf.specs.declared.unit.UnitHeader.{UnitHeader}
 use Rattle.dwp_dwarf.specs.declared.unit.UnitHeaders.{UnitHeaders}
 use Rattle.dwp_dwarf.specs.Units.{Unit, unit_at, unit_of, unit_seen, units_left, units}
 use Rattle.dwp_dwarf.specs.Units.{units_within, listed, unit_bytes, UnitsLie}
-use Rattle.dwp_dwarf.proofs.Forward.{by_test, IsBehind, IsBehind-then}
-use Rattle.dwp_dwarf.proofs.UnitsForward.{unit_is}
+use Rattle.dwp_dwarf.proofs.Enough.{Steps, by_step}
+use Rattle.dwp_dwarf.proofs.Readings.{size, goes_length, after-zero, after-after}
+use Rattle.dwp_dwarf.proofs.Units.{unit_takes, listed_ok, listed_error, listed_alike}
+use Rattle.dwp_base.proofs.Steps.{chosen}
+use Rattle.std.proofs.Common.{inl, inr}
 
 pub unit_taken : (section : UnitSection) (i rest : Input) (u : Unit) → unit_at section i ≡ Ok
     (u, rest) → (goes : Goes 1 i rest) × (u.whole ≡ front goes.taken i)
-unit_taken section i rest u e = let read = unit_is section i (u, rest) e in (
-  record {
-    taken = read.0;
-    some = omega (arith, read.1);
-    enough = read.3.fits;
-    is =
-        read.3.is;
-  },
-  read.2,
-)
+unit_taken section i rest u e = let takes = (unit_takes section i).gives (u, rest) e in
+    (takes.goes, takes.whole)
 
 -- a unit leaves less
 unit_shorter : (section : UnitSection) (i : Input) (p : Unit × Input) → unit_at section i ≡ Ok p
     → length p.1.bytes < length i.bytes
-unit_shorter section i p e =
-    let u = unit_is section i p e in
-    let left : p.1.bytes ≡ drop u.0 i.bytes = ap (λ (x : Input). x.bytes) u.3.is in
-    omega (arith, u.1, u.3.fits, ap length left, length-drop u.0 i.bytes)
+unit_shorter section i p e = let left = goes_length ((unit_takes section i).gives p e).goes in
+    omega arith
 
--- lists that go on alike are alike
-listed_alike : {A E : Type 0} (r : Result (A × Input) E) (f g : Input → List (Result A E))
-    → ((x : A × Input) → r ≡ Ok x → f x.1 ≡ g x.1) → listed r f ≡ listed r g
-listed_alike {A} {E} (Ok x) f g same = ap (λ (l : List (Result A E)). Ok x.0 ∷ l) (same x refl)
-listed_alike (Err e) f g same = refl
-
--- more room than there are bytes gives the same units
-within_enough : (m n : ℕ) (section : UnitSection) (i : Input) → length i.bytes ≤ m
-    → length i.bytes ≤ n → units_within m section i ≡ units_within n section i
+unit_steps : (section : UnitSection) → Steps size (λ n i. units_within n section i)
+    (λ others i. cond (eqb (length i.bytes) 0) [] (listed (unit_at section i) others))
 unfolding units_within
-within_enough zero zero section i p q = refl
-within_enough zero (suc n) section i p q = let none : length i.bytes ≡ 0 =
-    omega arith in rw none refl
-within_enough (suc m) zero section i p q = let none : length i.bytes ≡ 0 =
-    omega arith in rw none refl
-within_enough (suc m) (suc n) section i p q =
-    ap (cond (eqb (length i.bytes) 0) [])
-    (listed_alike (unit_at section i) (units_within m section) (units_within n section)
-    (λ x e. let shorter = unit_shorter section i x e in within_enough m n section x.1
-    (omega arith) (omega arith)))
-
-cases_of : (m : ℕ) (section : UnitSection) (i : Input) → length i.bytes ≡ m → units_within m section
-    i ≡ (cond (eqb (length i.bytes) 0) [] (listed (unit_at section i) (units section)))
-unfolding units units_within
-cases_of zero section i e = rw e refl
-cases_of (suc m) section i e = ap (cond (eqb (length i.bytes) 0) [])
-    (listed_alike (unit_at section i) (units_within m section) (units section)
-    (λ x r. let shorter = unit_shorter section i x r in within_enough m (length x.1.bytes) section
-    x.1 (omega arith) (omega arith)))
+unit_steps section = record {
+  none = λ others i e. rw e refl;
+  next = λ n i. refl;
+  alike = λ f g i same. ap (cond (eqb (length i.bytes) 0) []) (listed_alike (unit_at section i) f g
+      (λ x e. same x.1 (unit_shorter section i x e)));
+}
 
 -- the units by cases: the end, the first error, a unit and those after it
 pub units-cases : (section : UnitSection) (i : Input)
     → units section i ≡ (cond (eqb (length i.bytes) 0) [] (listed (unit_at section i)
     (units section)))
 unfolding units
-units-cases section i = cases_of (length i.bytes) section i refl
+units-cases section i = by_step (unit_steps section) i
 
 -- what an iterator gives first, and what is left after it
 pub first_unit : {R : Type 0} (input : R → Input) (section : UnitSection) (i j : Input)
@@ -104,90 +77,55 @@ nothing_left input h e = rw (no_unit h.section (input h.reader) e) (both_ways h.
 
 -- ---- the bytes of the units, joined
 
--- what stands first in a list that goes on
-listed_ok : (r : Result (Unit × Input) ReadError) (others : Input → List (Result Unit ReadError))
-    (u : Unit) (l : List (Result Unit ReadError)) → listed r others ≡ Ok u ∷ l → (x : Unit × Input)
-    × (r ≡ Ok x) × (x.0 ≡ u) × (others x.1 ≡ l)
-listed_ok (Ok x) others u l e = (x, refl, cc, cc)
-listed_ok (Err f) others u l e = absurd cc
-
-listed_error : (r : Result (Unit × Input) ReadError) (others : Input → List (Result Unit ReadError))
-    (f : ReadError) (l : List (Result Unit ReadError)) → listed r others ≡ Err f ∷ l → r ≡ Err f
-listed_error (Ok x) others f l e = absurd cc
-listed_error (Err g) others f l e = cc
-
-listed_none : (r : Result (Unit × Input) ReadError) (others : Input → List (Result Unit ReadError))
-    → listed r others ≡ [] → ⊥
-listed_none (Ok x) others e = absurd cc
-listed_none (Err f) others e = absurd cc
-
 -- a list that isn't empty stands where a byte is left
 some_listed : (section : UnitSection) (i : Input) (x : Result Unit ReadError)
     (l : List (Result Unit ReadError)) → units section i ≡ x ∷ l → listed (unit_at section i)
     (units section) ≡ x ∷ l
-some_listed section i x l e =
-    by_test (listed (unit_at section i) (units section) ≡ x ∷ l) (eqb (length i.bytes) 0) []
-    (listed (unit_at section i) (units section)) (x ∷ l) (sym (units-cases section i) ∙ e)
-    (λ none bad. absurd cc)
-    (λ some given. given)
+some_listed section i x l e = elim (chosen (eqb (length i.bytes) 0) [] (listed (unit_at section i)
+    (units section)) (x ∷ l) (sym (units-cases section i) ∙ e)) [
+      | inl none ↦ let never = none.1 in absurd cc
+      | inr some ↦ some.1
+    ]
 
-unit_joined : (section : UnitSection) (i : Input) (x : Unit × Input) → unit_at section i ≡ Ok x
-    → x.0.whole.bytes ++ x.1.bytes ≡ i.bytes
-unit_joined section i x e =
-    let u = unit_is section i x e in
-    ap (λ (w : Input). w.bytes ++ x.1.bytes) u.2 ∙ ap (λ (r : Input). take u.0 i.bytes ++ r.bytes)
-    u.3.is ∙ take-append-drop u.0 i.bytes
-
--- nothing was read
-after-none : (i : Input) → i ≡ after 0 i
-after-none i = let e : i.place + 0 ≡ i.place = omega arith in rw e refl
-
--- a unit has as many bytes as were taken for it
-unit_size : (section : UnitSection) (i : Input) (x : Unit × Input) → unit_at section i ≡ Ok x
-    → IsBehind (length x.0.whole.bytes) i x.1
-unit_size section i x e =
-    let u = unit_is section i x e in
-    let size : length x.0.whole.bytes ≡ u.0 = ap (λ (w : Input). length w.bytes) u.2 ∙
-    length-take-le u.0 i.bytes u.3.fits in
-    subst (λ (n : ℕ). IsBehind n i x.1) (sym size) u.3
+-- what was taken and the rest are all that was there
+taken_bytes : (i rest whole : Input) (goes : Goes 1 i rest) → whole ≡ front goes.taken i
+    → (whole.bytes ++ rest.bytes ≡ i.bytes) × (rest ≡ after (length whole.bytes) i)
+taken_bytes i rest whole goes is = (
+  rw (is, goes.is) (take-append-drop goes.taken i.bytes),
+  rw (is, length-take-le goes.taken i.bytes goes.enough) goes.is,
+)
 
 -- behind the units that were read stands what the others are read from
 pub units_behind : (section : UnitSection) (read : List Unit)
     (others : List (Result Unit ReadError)) (i : Input) → units section i ≡ map Ok read ++ others
     → (rest : Input) × (flat_map unit_bytes read ++ rest.bytes ≡ i.bytes)
-    × (units section rest ≡ others) × IsBehind (length (flat_map unit_bytes read)) i rest
-units_behind section [] others i e = (i, refl, e, record { fits = omega arith; is = after-none i })
+    × (units section rest ≡ others) × (rest ≡ after (length (flat_map unit_bytes read)) i)
+units_behind section [] others i e = (i, refl, e, sym (after-zero i))
 units_behind section (u ∷ us) others i e =
     let x = listed_ok (unit_at section i) (units section) u (map Ok us ++ others)
     (some_listed section i (Ok u) (map Ok us ++ others) e) in
-    let r = units_behind section us others x.0.1 x.3 in
-    let front : u.whole.bytes ++ x.0.1.bytes ≡ i.bytes =
-    subst (λ (w : Unit). w.whole.bytes ++ x.0.1.bytes ≡ i.bytes) x.2
-    (unit_joined section i x.0 x.1) in
-    let first : IsBehind (length u.whole.bytes) i x.0.1 =
-    subst (λ (w : Unit). IsBehind (length w.whole.bytes) i x.0.1) x.2
-    (unit_size section i x.0 x.1) in
-    let both : IsBehind (length u.whole.bytes + length (flat_map unit_bytes us)) i r.0 =
-    IsBehind-then _ _ i x.0.1 r.0 first r.3 in
-    let size : length u.whole.bytes + length (flat_map unit_bytes us) ≡ length
-    (flat_map unit_bytes (u ∷ us)) =
-    sym (ap length (flat_map-cons unit_bytes u us) ∙ length-append u.whole.bytes
-    (flat_map unit_bytes us)) in (
+    let takes = (unit_takes section i).gives (u, x.0) x.1 in
+    let first = taken_bytes i x.0 u.whole takes.goes takes.whole in
+    let r = units_behind section us others x.0 x.2 in (
       r.0,
-      ap (λ (l : List ℕ). l ++ r.0.bytes) (flat_map-cons unit_bytes u us) ∙ append_assoc
-          u.whole.bytes (flat_map unit_bytes us) r.0.bytes ∙ ap (λ (l : List ℕ).
-          u.whole.bytes ++ l) r.1 ∙ front,
+      rw (flat_map-cons unit_bytes u us, append_assoc) (rw (← r.1) at first.0),
       r.2,
-      subst (λ (n : ℕ). IsBehind n i r.0) size both,
+      rw (flat_map-cons unit_bytes u us, length-append) (r.3 ∙ ap (after
+          (length (flat_map unit_bytes us))) first.1 ∙ after-after (length u.whole.bytes)
+          (length (flat_map unit_bytes us)) i),
     )
 
 -- no unit stands where no byte is left
 no_byte : (section : UnitSection) (i : Input) → units section i ≡ [] → i.bytes ≡ []
-no_byte section i e =
-    by_test (i.bytes ≡ []) (eqb (length i.bytes) 0) [] (listed (unit_at section i) (units section))
-    [] (sym (units-cases section i) ∙ e)
-    (λ none empty. nil_from_length i.bytes (eqb-true _ _ none))
-    (λ some bad. absurd (listed_none (unit_at section i) (units section) bad))
+no_byte section i e = elim (chosen (eqb (length i.bytes) 0) [] (listed (unit_at section i)
+    (units section)) [] (sym (units-cases section i) ∙ e)) [
+      | inl none ↦ nil_from_length i.bytes (eqb-true _ _ none.0)
+      | inr some ↦ absurd (never (unit_at section i) some.1)
+    ]
+  where
+    never : (r : Result (Unit × Input) ReadError) → listed r (units section) ≡ [] → ⊥
+    never (Ok x) e = absurd cc
+    never (Err f) e = absurd cc
 
 pub units_whole : (section : UnitSection) (i : Input) (read : List Unit) → units section i ≡ map Ok
     read → flat_map unit_bytes read ≡ i.bytes
@@ -204,9 +142,8 @@ units_error section i read f e =
     let r = units_behind section read (Err f ∷ []) i e in
     let error = listed_error (unit_at section r.0) (units section) f [] (some_listed section r.0
     (Err f) [] r.2) in (
-      ap (λ (x : Input). flat_map unit_bytes read ++ x.bytes) (sym r.3.is) ∙ r.1,
-      ap
-          (unit_at section) (sym r.3.is) ∙ error,
+      rw r.3 at r.1,
+      rw r.3 at error,
     )
 
 -- ---- the one list
@@ -230,7 +167,7 @@ read_lie section [] i e = no_byte section i e
 read_lie section (u ∷ us) i e =
     let x = listed_ok (unit_at section i) (units section) u (map Ok us)
     (some_listed section i (Ok u) (map Ok us) e) in
-    (x.0.1, x.1 ∙ ap (λ (w : Unit). Ok (w, x.0.1)) x.2, read_lie section us x.0.1 x.3)
+    (x.0, x.1, read_lie section us x.0 x.2)
 
 pub units_one : (section : UnitSection) (i : Input) (us : List Unit) → UnitsLie section i us ↔
     (units section i ≡ map Ok us)

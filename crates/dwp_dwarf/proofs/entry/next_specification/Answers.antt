@@ -1,14 +1,14 @@
-use Rattle.std.proofs.Common.{sym, ◌∙◌}
-use Rattle.dwp_dwarf.proofs.TableForward.{pairs-more, pairs-last, pairs-error}
+use Rattle.std.proofs.Common.{sym, refl, ◌∙◌}
+use Rattle.dwp_dwarf.proofs.Tables.{pairs-cases}
 use Rattle.dwp_dwarf.proofs.entry.next_specification.Goals as goal
 
 pub returns-in-Ok : goal.returns-in-Ok
-returns-in-Ok g c = pairs-more c.lebs_take_bytes.ensures _ _ c.in-Ok.ensures
-    (sym c.is_last.ensures ∙ c.if-not-is_last.true)
+returns-in-Ok g c =
+    rw (pairs-cases _, c.in-Ok.ensures, sym c.is_last.ensures ∙ c.if-not-is_last.true) refl
 
 pub returns-in-Ok-2 : goal.returns-in-Ok-2
-returns-in-Ok-2 g c = pairs-last c.lebs_take_bytes.ensures _ _ c.in-Ok.ensures
-    (sym c.is_last.ensures ∙ c.if-not-is_last.false)
+returns-in-Ok-2 g c =
+    rw (pairs-cases _, c.in-Ok.ensures, sym c.is_last.ensures ∙ c.if-not-is_last.false) refl
 
 pub returns-in-Err : goal.returns-in-Err
-returns-in-Err g c = pairs-error c.lebs_take_bytes.ensures _ _ c.in-Err.ensures.0
+returns-in-Err g c = rw (pairs-cases _, c.in-Err.ensures.0) refl

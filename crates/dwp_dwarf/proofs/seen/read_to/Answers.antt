@@ -1,49 +1,30 @@
-use Rattle.std.proofs.Common.{◌≡◌, sym, ◌∙◌, Ok, Some, None, eq-eqb}
-use Rattle.std.proofs.lemmas.Bool.{ne_eqb}
+use Rattle.std.proofs.Common.{sym, ◌∙◌}
 use Rattle.std.proofs.lemmas.Result.{err_from_is_err_and}
-use Rattle.dwp_dwarf.specs.Declarations.{declaration_of}
-use Rattle.dwp_dwarf.specs.Grammar.{next_at}
-use Rattle.dwp_dwarf.proofs.Grammar.{next_shorter, look_up-end, look_up-error, look_up-here}
-use Rattle.dwp_dwarf.proofs.Grammar.{look_up-other}
+use Rattle.dwp_dwarf.proofs.Tables.{next_shorter, look_up-end, look_up-error, look_up-here}
+use Rattle.dwp_dwarf.proofs.Tables.{look_up-other}
 use Rattle.dwp_dwarf.proofs.seen.read_to.Goals as goal
 
 pub returns-in_err-found : goal.returns-in_err-found
 returns-in_err-found g c =
     let p = err_from_is_err_and c.from_residual.result c.from_residual.ensures.1 in
-    rw (p.1, p.2) (sym c.loop-found.invariant ∙ look_up-error c.lebs_take_bytes.ensures c.args.code
-    _ _ c.in_err-found.ensures)
+    rw (p.1, p.2) (sym c.loop-found.invariant ∙ look_up-error c.args.code _ _ c.in_err-found.ensures)
 
 pub returns-then-code-found : goal.returns-then-code-found
 returns-then-code-found g c =
-    let read : next_at (g.R.Reader.input c.loop-found.rest) ≡ Ok
-    (Some (
-      (c.in-Some.found, declaration_of g.R.Reader.input c.in-Some.abbreviation),
-      g.R.Reader.input c.in-Some.behind,
-    )) = rw c.in-Some.is at c.in_ok-found.ensures in
-    sym c.loop-found.invariant ∙ look_up-here c.lebs_take_bytes.ensures c.args.code _ _ read
-    (eq-eqb _ _ (sym c.if-code-found.true))
+    let read = rw c.in-Some.is at c.in_ok-found.ensures in
+    sym c.loop-found.invariant ∙ rw (sym c.if-code-found.true) at (look_up-here _ _ read)
 
 pub loop-found-smaller : goal.loop-found-smaller
 loop-found-smaller g c =
-    let read : next_at (g.R.Reader.input c.loop-found.rest) ≡ Ok
-    (Some (
-      (c.in-Some.found, declaration_of g.R.Reader.input c.in-Some.abbreviation),
-      g.R.Reader.input c.in-Some.behind,
-    )) = rw c.in-Some.is at c.in_ok-found.ensures in
-    next_shorter c.lebs_take_bytes.ensures _ _ read
+    let read = rw c.in-Some.is at c.in_ok-found.ensures in
+    next_shorter _ _ read
 
 pub loop-found-preserved : goal.loop-found-preserved
 loop-found-preserved g c =
-    let read : next_at (g.R.Reader.input c.loop-found.rest) ≡ Ok
-    (Some (
-      (c.in-Some.found, declaration_of g.R.Reader.input c.in-Some.abbreviation),
-      g.R.Reader.input c.in-Some.behind,
-    )) = rw c.in-Some.is at c.in_ok-found.ensures in
-    sym (look_up-other c.lebs_take_bytes.ensures c.args.code _ _ read
-    (ne_eqb _ _ (λ e. c.if-code-found.false (sym e)))) ∙ c.loop-found.invariant
+    let read = rw c.in-Some.is at c.in_ok-found.ensures in
+    sym (look_up-other c.args.code _ _ read (λ e. c.if-code-found.false (sym e))) ∙ c.loop-found.invariant
 
 pub returns : goal.returns
 returns g c =
-    let end : next_at (g.R.Reader.input c.loop-found.rest) ≡ Ok None = rw c.in_default.is at
-    c.in_ok-found.ensures in
-    sym c.loop-found.invariant ∙ look_up-end c.lebs_take_bytes.ensures c.args.code _ end
+    let end = rw c.in_default.is at c.in_ok-found.ensures in
+    sym c.loop-found.invariant ∙ look_up-end c.args.code _ end

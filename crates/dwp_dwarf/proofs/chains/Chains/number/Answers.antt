@@ -1,15 +1,8 @@
-use Rattle.std.proofs.Common.{◌≡◌, List, map, Option, Some, Vec, ap, sym, subst, ◌∙◌}
-use Rattle.std.specs.Option.{IfSome}
-use Rattle.std.specs.Ordering.{nat_cmp}
-use Rattle.std.specs.BTreeMap.{get}
-use Rattle.std.specs.declared.alloc.Global.{Global}
-use Rattle.dwp_dwarf.specs.Abbreviations.{Declaration, Specification}
+use Rattle.std.proofs.Common.{sym, ◌∙◌}
 use Rattle.dwp_dwarf.specs.Chains.{ListedAt}
-use Rattle.dwp_dwarf.specs.Declarations.{specification_of, declaration_of}
-use Rattle.dwp_dwarf.specs.Entries.{attributes}
-use Rattle.dwp_dwarf.specs.Needed.{needed, none_met}
-use Rattle.dwp_dwarf.specs.Numbers.{first_number}
-use Rattle.dwp_dwarf.specs.declared.abbrev.AttributeSpecification.{AttributeSpecification}
+use Rattle.dwp_dwarf.specs.Declarations.{declaration_of}
+use Rattle.dwp_dwarf.specs.Needed.{none_met}
+use Rattle.dwp_dwarf.proofs.Keys.{if_there}
 use Rattle.dwp_dwarf.proofs.Numbers.{first_needed}
 use Rattle.dwp_dwarf.proofs.Places.{one_stands}
 use Rattle.dwp_dwarf.proofs.PlaceLists.{chains_listed}
@@ -17,22 +10,14 @@ use Rattle.dwp_dwarf.proofs.chains.Chains.number.Goals as goal
 
 pub returns-in-Some-clause-number : goal.returns-in-Some-clause-number
 returns-in-Some-clause-number g c = λ section stands all.
-    let values = g.R.Reader.input c.args.values in
     let d = declaration_of g.R.Reader.input c.args.abbreviation in
-    let found : get nat_cmp c.list.new.self.lists c.args.first ≡ Some c.in-Some.list.now =
-    rw c.in-Some.is at (sym c.get.ensures.value) in
-    let has : ListedAt section c.args.first c.in-Some.list.now =
-    subst (λ (o : Option (Vec AttributeSpecification Global)).
-    IfSome o (ListedAt section c.args.first)) found (c.list.ensures.lists section stands
+    let found = rw c.in-Some.is at (sym c.get.ensures.value) in
+    let has = if_there (ListedAt section c.args.first) found (c.list.ensures.lists section stands
     all.lists c.args.first) in
-    let same : has.declared ≡ d = one_stands section c.args.first has.declared d has.stands stands
-    in
-    c.number_listed.ensures
-    ∙ ap (λ (ss : List Specification). first_number c.args.name
-    (attributes c.args.encoding ss values))
-    (ap (map specification_of) c.deref.ensures.value ∙ has.listed
-    ∙ ap (λ (x : Declaration). needed none_met x.specifications) same)
-    ∙ first_needed c.args.name c.args.encoding none_met d.specifications values
+    let same = one_stands section c.args.first has.declared d has.stands stands in
+    c.number_listed.ensures ∙ rw (c.deref.ensures.value, has.listed, same)
+    (first_needed c.args.name c.args.encoding none_met d.specifications
+    (g.R.Reader.input c.args.values))
 
 pub returns-in-Some-clause-kept : goal.returns-in-Some-clause-kept
 returns-in-Some-clause-kept g c = λ section stands.

@@ -1,10 +1,10 @@
-use Rattle.std.proofs.Common.{◌≡◌, ℕ, length, Some, None, Ok, refl, ap, ◌∙◌}
+use Rattle.std.proofs.Common.{◌≡◌, ℕ, length, Some, refl, ap, ◌∙◌}
 use Rattle.std.specs.Ordering.{nat_cmp}
 use Rattle.std.specs.BTreeMap.{get}
 use Rattle.dwp_dwarf.specs.Chains.{RemembersPlace}
 use Rattle.dwp_dwarf.specs.Declarations.{declaration_of}
-use Rattle.dwp_dwarf.specs.Grammar.{next_at}
-use Rattle.dwp_dwarf.proofs.Places.{if_there, place_stays, place_end, place_error, place_next}
+use Rattle.dwp_dwarf.proofs.Places.{place_stays, place_end, place_next}
+use Rattle.dwp_dwarf.proofs.Keys.{if_there}
 use Rattle.dwp_dwarf.proofs.NewVersions.{grows_none}
 use Rattle.dwp_dwarf.specs.Versions.{value_in}
 use Rattle.dwp_dwarf.proofs.chains.Chains.place_at.Goals as goal
@@ -16,15 +16,12 @@ returns-in_ok-version-in-Ok-Some-clause-place g c = λ section all is.
     let left = length (g.R.Reader.input c.in-Ok-Some.behind).bytes in
     let next : get nat_cmp c.args.self.now.places (length (g.R.Reader.input
     c.in-Ok-Some.behind).bytes) ≡ Some c.in_ok-next-in-Ok-Some.next = cc in
-    let read : next_at (g.R.Reader.input c.args.at) ≡ Ok (Some (
-      (c.in-Ok-Some.code, declaration_of g.R.Reader.input c.in-Ok-Some.field-0-0-1),
-      g.R.Reader.input c.in-Ok-Some.behind,
-    )) = rw c.in-Ok-Some.field-0-is at c.in-Ok-Some.ensures in
+    let read = rw c.in-Ok-Some.field-0-is at c.in-Ok-Some.ensures in
     let first : value_in c.insert.new.self.nodes.items c.in_ok-version-in-Ok-Some.version
     c.in_ok-number-in-Ok-Some.number ≡ Some c.args.left =
     c.in_ok-version-in-Ok-Some.ensures.value
     ∙ ap (λ (k : ℕ). Some k) c.in_ok-first-in-Ok-Some.ensures in
-    place_next c.lebs_take_bytes.ensures section (g.R.Reader.input c.args.at)
+    place_next section (g.R.Reader.input c.args.at)
     (g.R.Reader.input c.in-Ok-Some.behind) c.number_or_next.new.self
     c.args.self.now.firsts.nodes.items c.insert.new.self.nodes.items c.args.left c.in-Ok-Some.code
     c.in_ok-number-in-Ok-Some.number (declaration_of g.R.Reader.input c.in-Ok-Some.field-0-0-1)
@@ -35,21 +32,17 @@ returns-in_ok-version-in-Ok-Some-clause-place g c = λ section all is.
     c.in_ok-next-in-Ok-Some.next c.number_or_next.ensures.grows
     (grows_none c.args.self.now.firsts.nodes.items)
     (if_there (RemembersPlace section c.args.self.now.codes c.args.self.now.firsts.nodes.items left)
-    (get nat_cmp c.args.self.now.places left) c.in_ok-next-in-Ok-Some.next next (all.each left)))
+    next (all.each left)))
     refl (c.in_ok-end-in-Ok-Some.ensures ∙ c.len.ensures)
     c.in_ok-version-in-Ok-Some.ensures.fits first
     c.in_ok-version-in-Ok-Some.ensures.others
 
 pub returns-in-Ok-None-clause-place : goal.returns-in-Ok-None-clause-place
 returns-in-Ok-None-clause-place g c = λ section all is.
-    let end : next_at (g.R.Reader.input c.args.at) ≡ Ok None = rw c.in-Ok-None.field-0-is at
-    c.in-Ok-None.ensures in
-    place_end c.lebs_take_bytes.ensures section (g.R.Reader.input c.args.at)
-    c.args.self.now.codes c.args.self.now.firsts.nodes.items c.args.left _ is end refl refl
+    place_end section (g.R.Reader.input c.args.at) c.args.self.now.codes
+    c.args.self.now.firsts.nodes.items c.args.left _ is
+    (rw c.in-Ok-None.field-0-is at c.in-Ok-None.ensures) refl
 
 pub returns-in-Err-clause-place : goal.returns-in-Err-clause-place
-returns-in-Err-clause-place g c = λ section all is.
-    place_error c.lebs_take_bytes.ensures section (g.R.Reader.input c.args.at)
-    c.args.self.now.codes c.args.self.now.firsts.nodes.items c.args.left _ c.in-Err.error is
-    c.in-Err.ensures refl
-    refl
+returns-in-Err-clause-place g c = λ section all is. place_end section (g.R.Reader.input c.args.at)
+    c.args.self.now.codes c.args.self.now.firsts.nodes.items c.args.left _ is c.in-Err.ensures refl

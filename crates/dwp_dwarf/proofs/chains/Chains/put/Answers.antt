@@ -1,5 +1,5 @@
 use Rattle.std.proofs.Common.{sym, ◌∙◌}
-use Rattle.dwp_dwarf.proofs.Remembered.{on_ok}
+use Rattle.dwp_dwarf.proofs.Keys.{on_ok}
 use Rattle.dwp_dwarf.proofs.chains.Chains.put.Goals as goal
 
 pub returns-clause-added : goal.returns-clause-added

@@ -1,38 +1,23 @@
-use Rattle.std.proofs.Common.{◌≡◌, List, map, Option, Some, Vec, Result, ap, sym, subst, ◌∙◌}
-use Rattle.std.specs.Option.{IfSome}
-use Rattle.std.specs.Ordering.{nat_cmp}
-use Rattle.std.specs.BTreeMap.{get}
-use Rattle.std.specs.declared.alloc.Global.{Global}
-use Rattle.dwp_base.specs.Reading.{Answers}
-use Rattle.dwp_bytes.specs.declared.error.ReadError.{ReadError}
-use Rattle.dwp_dwarf.specs.Abbreviations.{Declaration, Specification, declaration}
-use Rattle.dwp_dwarf.specs.Declarations.{specification_of, declaration_of}
-use Rattle.dwp_dwarf.specs.Entries.{attributes}
-use Rattle.dwp_dwarf.specs.Needed.{needed, none_met}
+use Rattle.std.proofs.Common.{◌≡◌, sym}
+use Rattle.dwp_dwarf.specs.Declarations.{declaration_of}
 use Rattle.dwp_dwarf.specs.Remembered.{ListsNeeded}
-use Rattle.dwp_dwarf.specs.Split.{SplitAttributes, attributes_of, split_in}
-use Rattle.dwp_dwarf.specs.declared.abbrev.AttributeSpecification.{AttributeSpecification}
-use Rattle.dwp_dwarf.proofs.Remembered.{same_declared}
+use Rattle.dwp_dwarf.proofs.Keys.{if_there}
 use Rattle.dwp_dwarf.proofs.SplitNames.{split_needed}
+use Rattle.dwp_dwarf.proofs.Readings.{one_answer}
 use Rattle.dwp_dwarf.proofs.read_table.ReadTable.split.Goals as goal
 
 pub returns-in-Some-clause-split : goal.returns-in-Some-clause-split
 returns-in-Some-clause-split g c = λ table is old.
-    let values = g.R.Reader.input c.args.values in
     let d = declaration_of g.R.Reader.input c.args.abbreviation in
-    let found : get nat_cmp c.list.new.self.lists c.args.code ≡ Some c.in-Some.list.now =
-    rw c.in-Some.is at (sym c.get.ensures.value) in
-    let has : ListsNeeded c.args.code table c.in-Some.list.now =
-    subst (λ (o : Option (Vec AttributeSpecification Global)).
-    IfSome o (ListsNeeded c.args.code table)) found (c.list.ensures.lists table is
-    old c.args.code) in
-    let same : has.declared ≡ d = same_declared (declaration c.args.code table) has.declared d
-    has.is is in
-    subst (λ (m : Result SplitAttributes ReadError).
-    Answers (attributes_of g.R.Reader.input) c.split_listed.result m)
-    (ap (λ (ss : List Specification). split_in c.args.encoding.format
-    (attributes c.args.encoding ss values))
-    (ap (map specification_of) c.deref.ensures.value ∙ has.listed
-    ∙ ap (λ (x : Declaration). needed none_met x.specifications) same)
-    ∙ split_needed c.args.encoding.format c.args.encoding d.specifications values)
-    c.split_listed.ensures
+    let found = rw c.in-Some.is at (sym c.get.ensures.value) in
+    let has = if_there (ListsNeeded c.args.code table) found (c.list.ensures.lists table is old
+    c.args.code) in
+    let one = one_answer _ has.is is in
+    let same : has.declared ≡ d = cc in
+    rw (
+      c.deref.ensures.value,
+      has.listed,
+      same,
+      split_needed c.args.encoding.format c.args.encoding d.specifications
+          (g.R.Reader.input c.args.values),
+    ) at c.split_listed.ensures
