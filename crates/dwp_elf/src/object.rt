@@ -225,6 +225,7 @@ impl WritableObject {
     }
 
     /// Where the parts of the file lie.
+    #[tactic(auto, using(crate::proofs::KindCounts::few_sections))]
     fn places(&self) -> Result<Places, WriteError>
         ensures ok { IfOk result (ArePlaces self.now.class self.now.contents) }
         ensures fits { OnOk result (Fits self.now) }
