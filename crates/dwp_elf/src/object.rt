@@ -237,6 +237,7 @@ impl WritableObject {
     }
 
     /// Hands the parts of the file to a writer, one after the other.
+    #[tactic(auto, using(crate::proofs::KindCounts::few_sections))]
     fn write_parts<O: Output>(&self, places: &Places, out: &mut O) -> io::Result<()>
         requires { ArePlaces self.now.class self.now.contents places.now }
         ensures text { Writes result (O.contents out.old) (O.contents out.new)

@@ -4,28 +4,6 @@ use Rattle.dwp_elf.proofs.SoFar.{part_after, part_before, Writes-after, failed}
 use Rattle.dwp_elf.proofs.Whole.{text_parts}
 use Rattle.dwp_elf.proofs.object.WritableObject.write_parts.Goals as goal
 
-pub overflow_cast-count : goal.overflow_cast-count
-overflow_cast-count g c =
-    omega (
-      arith,
-      few_sections c.self.inside.sections.items c.self.invariant,
-      c.self.inside.sections.ok.0,
-      c.len.ensures,
-    )
-
-pub overflow_add-count : goal.overflow_add-count
-overflow_add-count g c =
-    omega (
-      arith,
-      few_sections c.self.inside.sections.items c.self.invariant,
-      c.self.inside.sections.ok.0,
-      c.len.ensures,
-    )
-
-pub write_section_headers-requires-clause-few : goal.write_section_headers-requires-clause-few
-write_section_headers-requires-clause-few g c =
-    rw c.deref-3.ensures.value (few_sections c.self.inside.sections.items c.self.invariant)
-
 pub returns-in_err-write_whole-clause-text : goal.returns-in_err-write_whole-clause-text
 returns-in_err-write_whole-clause-text g c =
     rw (text_parts c.self.inside c.args.self.now c.args.places.now _ c.len.result _ c.self.view_is
