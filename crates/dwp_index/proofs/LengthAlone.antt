@@ -23,25 +23,56 @@ Reads order n k bytes = number order n (take k bytes) ≡ number order n bytes
 
 four : (order : Endianness) (k : ℕ) (bytes : List ℕ) → 4 ≤ k → Reads order 4 k bytes
 four Little k bytes h = let at = get_or-take k bytes in
-    rw (at 0 0 (omega arith), at 1 0 (omega arith), at 2 0 (omega arith), at 3 0
-    (omega arith)) refl
+    rw (
+      at 0 0 (omega arith),
+      at 1 0 (omega arith),
+      at 2 0 (omega arith),
+      at 3 0
+          (omega arith),
+    ) refl
 four Big k bytes h = let at = get_or-take k bytes in
-    rw (at 0 0 (omega arith), at 1 0 (omega arith), at 2 0 (omega arith), at 3 0
-    (omega arith)) refl
+    rw (
+      at 0 0 (omega arith),
+      at 1 0 (omega arith),
+      at 2 0 (omega arith),
+      at 3 0
+          (omega arith),
+    ) refl
 
 eight : (order : Endianness) (k : ℕ) (bytes : List ℕ) → 8 ≤ k → Reads order 8 k bytes
 eight Little k bytes h = let at = get_or-take k bytes in
-    rw (at 0 0 (omega arith), at 1 0 (omega arith), at 2 0 (omega arith), at 3 0
-    (omega arith), at 4 0 (omega arith), at 5 0 (omega arith), at 6 0 (omega arith), at 7 0
-    (omega arith)) refl
+    rw (
+      at 0 0 (omega arith),
+      at 1 0 (omega arith),
+      at 2 0 (omega arith),
+      at 3 0
+          (omega arith),
+      at 4 0 (omega arith),
+      at 5 0 (omega arith),
+      at 6 0 (omega arith),
+      at 7 0
+          (omega arith),
+    ) refl
 eight Big k bytes h = let at = get_or-take k bytes in
-    rw (at 0 0 (omega arith), at 1 0 (omega arith), at 2 0 (omega arith), at 3 0
-    (omega arith), at 4 0 (omega arith), at 5 0 (omega arith), at 6 0 (omega arith), at 7 0
-    (omega arith)) refl
+    rw (
+      at 0 0 (omega arith),
+      at 1 0 (omega arith),
+      at 2 0 (omega arith),
+      at 3 0
+          (omega arith),
+      at 4 0 (omega arith),
+      at 5 0 (omega arith),
+      at 6 0 (omega arith),
+      at 7 0
+          (omega arith),
+    ) refl
 
 number_goes : (order : Endianness) (n p : ℕ) (bytes : List ℕ) → n ≤ length bytes
-    → number_at n (plain order p bytes) ≡ Ok (number order n bytes, plain order (p + n)
-    (drop n bytes))
+    → number_at n (plain order p bytes) ≡ Ok (
+      number order n bytes,
+      plain order (p + n)
+          (drop n bytes),
+    )
 unfolding number_at
 number_goes order n p bytes h = rw (le-ltb (length bytes) n h) refl
 
@@ -100,8 +131,12 @@ module _ (order : Endianness) (p : ℕ) (bytes : List ℕ) (x : (Format × ℕ) 
     fits = fits;
     left = ap (λ (y : (Format × ℕ) × Input). y.1) (sym same);
     alone = λ k h within.
-        rw (number_goes order 4 0 (take k bytes) (omega (arith, length-take-le k bytes within)),
-        four order k bytes h, narrow, ← same) refl;
+        rw (
+          number_goes order 4 0 (take k bytes) (omega (arith, length-take-le k bytes within)),
+          four order k bytes h,
+          narrow,
+          ← same,
+        ) refl;
   }
 
   wide_length : 4 ≤ length bytes → ltb (number order 4 bytes) 0xfffffff0 ≡ false
@@ -125,10 +160,18 @@ module _ (order : Endianness) (p : ℕ) (bytes : List ℕ) (x : (Format × ℕ) 
             drop 4 (take n bytes)) more ∙ drop-take 4 (k - 4) bytes in
             let same : number order 8 (drop 4 (take k bytes)) ≡ number order 8 (drop 4 bytes) =
             ap (number order 8) begins ∙ eight order (k - 4) (drop 4 bytes) (omega arith) in
-            rw (number_goes order 4 0 (take k bytes) (omega (arith, len)),
-            four order k bytes (omega arith), narrow, long, number_goes order 8 4
-            (drop 4 (take k bytes)) (omega (arith, length-drop 4 (take k bytes), len)), same,
-            ← given, ← inverse.1, drop-drop 8 4 (take k bytes)) refl;
+            rw (
+              number_goes order 4 0 (take k bytes) (omega (arith, len)),
+              four order k bytes (omega arith),
+              narrow,
+              long,
+              number_goes order 8 4
+                  (drop 4 (take k bytes)) (omega (arith, length-drop 4 (take k bytes), len)),
+              same,
+              ← given,
+              ← inverse.1,
+              drop-drop 8 4 (take k bytes),
+            ) refl;
       }
 
   pub length_is : initial_length_at (plain order p bytes) ≡ Ok x → IsLength order p bytes x

@@ -171,7 +171,7 @@ module _ (pack : Package) (object : DwarfObject) (index : Index) (number count :
   within_slots (Ok y) h within =
       let tells = row-tells pack object index number count y.0 y.1 h in
       let slots : slots_for pack object ≡ length index.rows =
-        rw there refl in
+      rw there refl in
       omega (arith, tells.count_is, slots)
   within_slots (Err e) h within = tt
 

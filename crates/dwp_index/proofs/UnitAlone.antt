@@ -70,8 +70,12 @@ unit_alone order place p bytes taken u rest e =
     let fits : m + n ≤ length bytes =
     omega (arith, inverse.0, first.fits, length-drop m bytes) in
     let total = taken place i rest u e in
-    let count : total.0.taken ≡ m + n = omega (arith, ap (λ (x : Input). x.place) total.0.is,
-    ap (λ (x : Unit × Input). x.1.place) same, ap (λ (x : Input × Input). x.1.place) inverse.1) in
+    let count : total.0.taken ≡ m + n = omega (
+      arith,
+      ap (λ (x : Input). x.place) total.0.is,
+      ap (λ (x : Unit × Input). x.1.place) same,
+      ap (λ (x : Input × Input). x.1.place) inverse.1,
+    ) in
     let own : u.whole.bytes ≡ take (m + n) bytes = ap (λ (x : Input). x.bytes) total.1 ∙
     ap (λ k. take k bytes) count in
     let front' = take (m + n) bytes in
@@ -79,9 +83,14 @@ unit_alone order place p bytes taken u rest e =
     let begins : drop m front' ≡ take n (drop m bytes) = drop-take m n bytes in
     let body : take n (drop m front') ≡ take n (drop m bytes) = ap (take n) begins ∙ take-take n n (drop m bytes) (omega arith) in
     let whole : (m + n) - 0 ≡ m + n = omega arith in
-    rw (own, first.alone (m + n) (omega arith) fits,
-    split_goes order n m (drop m front') (omega (arith, all, length-drop m front')), whole,
-    split_goes order (m + n) 0 front' (omega (arith, all)), body)
+    rw (
+      own,
+      first.alone (m + n) (omega arith) fits,
+      split_goes order n m (drop m front') (omega (arith, all, length-drop m front')),
+      whole,
+      split_goes order (m + n) 0 front' (omega (arith, all)),
+      body,
+    )
     (same_ok (header_at place format c.0.0 (plain order (p + m) (take n (drop m bytes)))) _ _ u
     (header_agrees order place format c.0.0 (plain order 0 (take (m + n) front'))
     (take n (drop m bytes)) (p + m) m)

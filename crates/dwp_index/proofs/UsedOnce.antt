@@ -189,14 +189,20 @@ numbered-from before [] r e = refl
 numbered-from before (x ∷ ids) r e =
     let longer : r + 1 ≡ suc (length (before ++ x ∷ [])) =
     omega (arith, length-append before (x ∷ [])) in
-    rw (numbered-from (before ++ x ∷ []) ids (r + 1) longer, append_assoc, ← named-at before ids x
-    r e) refl
+    rw (
+      numbered-from (before ++ x ∷ []) ids (r + 1) longer,
+      append_assoc,
+      ← named-at before ids x
+          r e,
+    ) refl
 
 pub slots_once : (ids : List ℕ) (index : Index) → IsIndex ids index.signatures index.rows
     → IsPermutation (numbered 1 ids) (used_in index 0)
 slots_once ids index is =
-    rw (numbered-from [] ids 1 (omega arith),
-    used-from ids index is (length index.rows) 0 (omega arith))
+    rw (
+      numbered-from [] ids 1 (omega arith),
+      used-from ids index is (length index.rows) 0 (omega arith),
+    )
     (IsPermutation-map (named ids) (range_with_len 1 (length ids)) (filter used index.rows)
     (each_once (length ids) index.rows (rows_have_each ids index.rows is.table)))
 
