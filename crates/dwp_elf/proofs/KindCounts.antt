@@ -6,7 +6,9 @@ use Rattle.std.proofs.lemmas.Bool.{eqb-true, eqb-false}
 use Rattle.dwp_base.specs.declared.section.SectionKind.{SectionKind}
 use Rattle.dwp_base.specs.Sections.{rank_of, same_kind, all_kinds}
 use Rattle.dwp_base.proofs.EveryKind.{every}
-use Rattle.dwp_elf.specs.Contents.{count_of, KindsDiffer, appended, truncated}
+use Rattle.dwp_elf.specs.Contents.{count_of, KindsDiffer, appended, truncated, contents_of}
+use Rattle.dwp_elf.proofs.Changes.{length-contents_of}
+use Rattle.std.specs.Global.{Vec}
 
 -- 1 for true
 abbrev one_if : Bool → ℕ
@@ -116,6 +118,11 @@ length-KindsDiffer cs h = omega (
   total-le (λ k.
       count_of k cs) all_kinds h,
 )
+
+pub few_sections : (sections : List (SectionKind × Vec ℕ)) → KindsDiffer (contents_of sections)
+    → length sections ≤ 13
+few_sections sections h =
+    omega (arith, length-KindsDiffer (contents_of sections) h, length-contents_of sections)
 
 -- what holds at `Ok`
 pub at_ok : {T E : Type 0} (r : Result T E) (P : Type 0) → is_ok r ≡ true → OnOk r P → P

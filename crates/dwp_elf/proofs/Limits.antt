@@ -18,7 +18,7 @@ use Rattle.dwp_elf_read.specs.Layout.{word_size, header_size, entry_size}
 use Rattle.dwp_elf.specs.FileText.{Object, file_header, section_header, content_bytes, name_table}
 use Rattle.dwp_elf.specs.FileText.{headers_from, null_header, section_count, names_end, zeros_after}
 use Rattle.dwp_elf.specs.FileText.{headers_place, file_text}
-use Rattle.dwp_elf.specs.Numbers.{places_from, offsets_and_sizes, Fits}
+use Rattle.dwp_elf.specs.Numbers.{places_from, offsets_and_sizes, limited_by, Fits}
 use Rattle.dwp_elf_read.specs.declared.error.WriteError.{WriteError}
 use Rattle.dwp_elf.specs.declared.places.Places.{Places}
 use Rattle.dwp_elf.specs.Places.{file_length, PassesLimit, ArePlaces}
@@ -51,24 +51,11 @@ pub length-headers_from : (class : Class) (order : Endianness) (size name place 
     (cs : List (SectionKind × List ℕ))
     → length (headers_from class order size name place cs) ≡ entry_size class * (length cs + 1)
 unfolding headers_from
-length-headers_from class order size name place [] = omega (
-  arith,
-  length-section_header class order
-      name 3 place size,
-)
+length-headers_from class order size name place [] =
+    omega (arith, length-section_header class order name 3 place size)
 length-headers_from class order size name place (c ∷ cs) =
-    let header = section_header class order name 1 place (length c.1) in
-    let after = headers_from class order size (name + length (name_of c.0) + 1)
-    (place + length c.1) cs in
-    let rest = length-headers_from class order size (name + length (name_of c.0) + 1)
-    (place + length c.1) cs in
-    omega (
-      arith,
-      length-append header after,
-      length-section_header class order name 1 place
-          (length c.1),
-      rest,
-    )
+    simp (length-append, length-section_header, length-headers_from class order size
+    (name + length (name_of c.0) + 1) (place + length c.1) cs) (omega arith)
 
 pub length-null_header : (class : Class) → length (null_header class) ≡ entry_size class
 length-null_header Elf32 = refl
@@ -77,27 +64,15 @@ length-null_header Elf64 = refl
 pub length-file_text : (o : Object) → length (file_text o) ≡ file_length o.class o.contents
 unfolding file_text
 length-file_text o =
-    let header = file_header o.class o.order o.machine (headers_place o.class o.contents)
-    (section_count o.contents) in
-    let names = name_table o.contents in
-    let zeros : List ℕ = replicate (zeros_after (names_end o.class o.contents)) 0 in
-    let first = length-file_header o.class o.order o.machine (headers_place o.class o.contents)
-    (section_count o.contents) in
-    let last = length-headers_from o.class o.order (length names) 1
-    (header_size o.class) o.contents in
-    let headers = headers_from o.class o.order (length names) 1 (header_size o.class) o.contents in
+    let headers = headers_place o.class o.contents in
     omega (
       arith,
-      length-append (header ++ content_bytes o.contents ++ names ++ zeros)
-          (null_header o.class ++ headers),
-      length-append (header ++ content_bytes o.contents ++ names) zeros,
-      length-append (header ++ content_bytes o.contents) names,
-      length-append header (content_bytes o.contents),
-      length-append (null_header o.class) headers,
+      length-append {A = ℕ},
+      length-file_header o.class o.order o.machine headers (section_count o.contents),
       length-null_header o.class,
+      length-headers_from o.class o.order (length (name_table o.contents)) 1 (header_size o.class)
+          o.contents,
       length-replicate {A = ℕ} (zeros_after (names_end o.class o.contents)) 0,
-      first,
-      last,
     )
 
 -- each offset and size is at most where the section headers begin
@@ -127,32 +102,20 @@ offsets_and_sizes-lt o limit h =
     λ k d l. let here = small k d l in omega (arith, here) in
     All-cons (λ n. n < limit) place (places_from names (header_size o.class) o.contents) h within
 
-Fits_of : (class : Class) (machine : ℕ) (order : Endianness) (cs : List (SectionKind × List ℕ))
-    → headers_place class cs < 2 ^ (8 * word_size class)
-    → file_length class cs < 2 ^ 64 → Fits (record {
-      class = class;
-      machine = machine;
-      order =
-          order;
-      contents = cs;
-    })
-unfolding Fits
-Fits_of Elf32 machine order cs h k = offsets_and_sizes-lt (record {
-  class = Elf32;
-  machine =
-      machine;
-  order = order;
-  contents = cs;
-}) (2 ^ 32) h
-Fits_of Elf64 machine order cs h k =
-    let o : Object = record { class = Elf64; machine = machine; order = order; contents = cs } in
+limited-lt : (class : Class) (o : Object)
+    → headers_place o.class o.contents < 2 ^ (8 * word_size class)
+    → file_length o.class o.contents < 2 ^ 64
+    → All (λ n. n < 2 ^ (8 * word_size class)) (limited_by class o)
+limited-lt Elf32 o h k = offsets_and_sizes-lt o (2 ^ 32) h
+limited-lt Elf64 o h k =
     All-cons (λ n. n < 2 ^ 64) (length (file_text o)) (offsets_and_sizes o)
     (omega (arith, length-file_text o)) (offsets_and_sizes-lt o (2 ^ 64) h)
 
 -- all of them fit where the greatest do
-pub Fits-from : (o : Object) → headers_place o.class o.contents < 2 ^ (8 * word_size o.class)
+Fits-from : (o : Object) → headers_place o.class o.contents < 2 ^ (8 * word_size o.class)
     → file_length o.class o.contents < 2 ^ 64 → Fits o
-Fits-from o h k = Fits_of o.class o.machine o.order o.contents h k
+unfolding Fits
+Fits-from o = limited-lt o.class o
 
 refused_of : (class : Class) (machine : ℕ) (order : Endianness) (cs : List (SectionKind × List ℕ))
     → PassesLimit class cs

@@ -1,7 +1,7 @@
 -- The meaning of bytes, from what each step of reading them gives.
-use Rattle.std.proofs.Common.{◌≡◌, ℕ, ◌*◌, ◌<◌, ◌==◌, nat_lt, true, false, List, Some, Ok, refl}
+use Rattle.std.proofs.Common.{◌≡◌, ℕ, ◌*◌, ◌<◌, ◌==◌, true, false, List, Some, Ok, refl}
 use Rattle.std.proofs.Common.{arith}
-use Rattle.std.proofs.lemmas.Bool.{ne_eqb}
+use Rattle.std.proofs.lemmas.Bool.{lt-ltb, ne_eqb}
 use Rattle.dwp_base.specs.declared.class.Class.{Class}
 use Rattle.dwp_base.specs.declared.class.Class.TheVariants.{Elf32, Elf64}
 use Rattle.dwp_base.specs.declared.endian.Endianness.{Endianness}
@@ -18,37 +18,6 @@ own-size : (class : Class) → (entry_size class == entry_size class) ≡ true
 own-size Elf32 = refl
 own-size Elf64 = refl
 
-pub section_count-facts : (class : Class) (order : Endianness) (bytes : List ℕ)
-    (machine table count names : ℕ) → 0 < table → 0 < count
-    → is_inside bytes table (count * entry_size class) ≡ true
-    → section_count class order bytes (record {
-      machine = machine;
-      table = table;
-      entry_size =
-          entry_size class;
-      count = count;
-      names = names;
-    }) ≡ Ok count
-unfolding named_count section_count
-section_count-facts class order bytes machine table count names a b within =
-    rw (not-zero table a, own-size class, not-zero count b, within) refl
-
-pub name_table-facts : (class : Class) (order : Endianness) (bytes content : List ℕ)
-    (machine table count names : ℕ) → (names == 0xffff) ≡ false
-    → 0 < names → nat_lt names count ≡ true → section_content bytes (section_header_at class order
-    bytes table names) ≡ Some content
-    → name_table class order bytes (record {
-      machine = machine;
-      table = table;
-      entry_size =
-          entry_size class;
-      count = count;
-      names = names;
-    }) count ≡ Ok (Some content)
-unfolding name_table_number name_table_numbered name_table
-name_table-facts class order bytes content machine table count names plain a b got =
-    rw (plain, not-zero names a, b, got) refl
-
 pub elf_of-facts : (class : Class) (order : Endianness) (bytes content : List ℕ)
     (machine table count names : ℕ) (sections : List SectionMeaning)
     → identity_of bytes ≡ Ok (class, order)
@@ -59,22 +28,9 @@ pub elf_of-facts : (class : Class) (order : Endianness) (bytes content : List �
       count = count;
       names = names;
     }
-    → section_count class order bytes (record {
-      machine = machine;
-      table = table;
-      entry_size =
-          entry_size class;
-      count = count;
-      names = names;
-    }) ≡ Ok count
-    → name_table class order bytes (record {
-      machine = machine;
-      table = table;
-      entry_size =
-          entry_size class;
-      count = count;
-      names = names;
-    }) count ≡ Ok (Some content)
+    → 0 < table → 0 < names → names < count → names < 0xffff
+    → is_inside bytes table (count * entry_size class) ≡ true
+    → section_content bytes (section_header_at class order bytes table names) ≡ Some content
     → sections_from class order bytes table (Some content) 0 count ≡ sections
     → elf_of bytes ≡ Ok (record {
       class = class;
@@ -82,6 +38,19 @@ pub elf_of-facts : (class : Class) (order : Endianness) (bytes content : List �
       machine = machine;
       sections = sections;
     })
-unfolding elf_of
-elf_of-facts class order bytes content machine table count names sections a b c d e =
-    rw (a, b, c, d, e) refl
+unfolding named_count section_count name_table_number name_table_numbered name_table elf_of
+elf_of-facts class order bytes content machine table count names sections
+    identified read some numbered named plain within got all =
+    rw (
+      identified,
+      read,
+      not-zero table some,
+      own-size class,
+      not-zero count (omega arith),
+      within,
+      ne_eqb names 0xffff (λ e. absurd (omega arith)),
+      not-zero names numbered,
+      lt-ltb names count named,
+      got,
+      all,
+    ) refl

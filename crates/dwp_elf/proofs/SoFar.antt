@@ -2,7 +2,7 @@
 use Rattle.std.proofs.Common.{◌≡◌, ℕ, suc, ◌+◌, ◌<◌, List, [], ◌∷◌, ◌++◌, length, take, Some, None}
 use Rattle.std.proofs.Common.{refl, sym, ap, ◌∙◌, subst, arith, append_assoc, append-nil}
 use Rattle.std.proofs.Common.{length-append}
-use Rattle.std.specs.Prelude.{Option, Result, Ok, Err}
+use Rattle.std.specs.Prelude.{Option, Result, Ok, Err, IsErrAnd}
 use Rattle.std.proofs.lemmas.List.{take-append-le, take_at}
 use Rattle.std.specs.Io.KnownBytes.{Appends, Keeps}
 use Rattle.std.proofs.KnownBytes.{Appends-nil, Appends-trans, Appends-kept}
@@ -95,3 +95,9 @@ pub Writes-so_far : {E : Type 0} (r : Result (Unit {0}) E) (a b c : Option (List
     (all rest : List ℕ) → SoFar a b all rest → Writes r b c rest → Writes r a c all
 Writes-so_far r a b c all rest s q = subst (Writes r a c) (sym s.split) (Writes-after r a b c s.done
     rest s.appended q)
+
+-- what a step that failed has written, as the function returns its error
+pub failed : {E : Type 0} (F : E → Type 0) {a b : Option (List ℕ)} {bs : List ℕ}
+    (r : Result (Unit {0}) E) → IsErrAnd r F → AppendsPart a b bs → Writes r a b bs
+failed F (Ok u) e p = absurd e
+failed F (Err x) e p = p

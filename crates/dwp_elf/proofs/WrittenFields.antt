@@ -1,6 +1,8 @@
--- Reading the numbers of a written header.
-use Rattle.std.proofs.Common.{◌≡◌, ℕ, ◌+◌, ◌*◌, ◌^◌, ◌<◌, ◌-◌, lit<, List, [], ◌∷◌, ◌++◌, drop}
-use Rattle.std.proofs.Common.{refl, sym, ap, ◌∙◌, arith, append_assoc}
+-- The numbers of a written header are read back.
+use Rattle.std.proofs.Common.{◌≡◌, ℕ, zero, suc, ◌+◌, ◌*◌, ◌^◌, ◌<◌, ◌-◌, lit<, List, [], ◌∷◌}
+use Rattle.std.proofs.Common.{◌++◌, Some, length, take, drop, refl, sym, ap, ◌∙◌, arith}
+use Rattle.std.proofs.Common.{append_assoc}
+use Rattle.std.specs.Prelude.{slice_get}
 use Rattle.std.proofs.Math.Seq.{drop-append-add}
 use Rattle.byteorder.specs.Numbers.{little_number-reads_back, big_number-reads_back}
 use Rattle.dwp_base.specs.declared.class.Class.{Class}
@@ -9,21 +11,14 @@ use Rattle.dwp_base.specs.declared.endian.Endianness.{Endianness}
 use Rattle.dwp_base.specs.declared.endian.Endianness.TheVariants.{Little, Big}
 use Rattle.dwp_base.specs.Numbers.{number, number_bytes}
 use Rattle.dwp_elf_read.specs.Layout.{word_size, header_size, entry_size, section_header_of}
+use Rattle.dwp_elf_read.specs.Layout.{file_header_of}
 use Rattle.dwp_elf.specs.FileText.{identification, file_header, section_header}
 use Rattle.dwp_elf.proofs.Limits.{length-number_bytes}
 
--- a number is read back from its bytes
-pub number-back : (order : Endianness) (n x : ℕ) (rest : List ℕ) → x < 256 ^ n
+number-back : (order : Endianness) (n x : ℕ) (rest : List ℕ) → x < 256 ^ n
     → number order n (number_bytes order n x ++ rest) ≡ x
 number-back Little n x rest h = little_number-reads_back n x rest h
 number-back Big n x rest h = big_number-reads_back n x rest h
-
--- past a number's bytes
-pub skip : (order : Endianness) (n x k : ℕ) (rest : List ℕ)
-    → drop (n + k) (number_bytes order n x ++ rest) ≡ drop k rest
-skip order n x k rest =
-    ap (λ (m : ℕ). drop (m + k) (number_bytes order n x ++ rest))
-    (sym (length-number_bytes order n x)) ∙ drop-append-add (number_bytes order n x) rest k
 
 -- numbers one after the other, each a width and a value, and what follows them
 abbrev pub spelled : Endianness → List (ℕ × ℕ) → List ℕ → List ℕ
@@ -31,72 +26,41 @@ spelled order [] rest = rest
 spelled order (f ∷ fs) rest = number_bytes order f.0 f.1 ++ spelled order fs rest
 
 -- how many bytes numbers take
-abbrev pub widths : List (ℕ × ℕ) → ℕ
+abbrev widths : List (ℕ × ℕ) → ℕ
 widths [] = 0
 widths (f ∷ fs) = f.0 + widths fs
 
-drop-spelled : (order : Endianness) (fs gs : List (ℕ × ℕ)) (rest : List ℕ)
-    → drop (widths fs) (spelled order (fs ++ gs) rest) ≡ spelled order gs rest
-drop-spelled order [] gs rest = refl
-drop-spelled order (f ∷ fs) gs rest = skip order f.0 f.1 (widths fs) (spelled order (fs ++ gs) rest)
-    ∙ drop-spelled order fs gs rest
+-- the i-th of the numbers
+nth-back : (order : Endianness) (fs : List (ℕ × ℕ)) (rest : List ℕ) (i n x : ℕ)
+    → slice_get fs i ≡ Some (n, x) → x < 256 ^ n
+    → number order n (drop (widths (take i fs)) (spelled order fs rest)) ≡ x
+nth-back order [] rest i n x at h = absurd cc
+nth-back order (f ∷ fs) rest zero n x at h =
+    let width : f.0 ≡ n = cc in
+    let value : f.1 ≡ x = cc in
+    rw (width, value) (number-back order n x (spelled order fs rest) h)
+nth-back order (f ∷ fs) rest (suc i) n x at h =
+    let k = widths (take i fs) in
+    let all = number_bytes order f.0 f.1 ++ spelled order fs rest in
+    ap (λ m. number order n (drop (m + k) all)) (sym (length-number_bytes order f.0 f.1))
+    ∙ ap (number order n) (drop-append-add (number_bytes order f.0 f.1) (spelled order fs rest) k)
+    ∙ nth-back order fs rest i n x at h
 
--- the number that stands behind others
-pub field-back : (order : Endianness) (before : List (ℕ × ℕ)) (n x : ℕ) (after : List (ℕ × ℕ))
-    (rest : List ℕ) (k : ℕ)
-    → k ≡ widths before → x < 256 ^ n
-    → number order n (drop k (spelled order (before ++ ((n, x) ∷ after)) rest)) ≡ x
-field-back order before n x after rest k at h =
-    ap (λ (m : ℕ). number order n (drop m (spelled order (before ++ ((n, x) ∷ after)) rest))) at
-    ∙ ap (number order n) (drop-spelled order before ((n, x) ∷ after) rest) ∙ number-back order n x
-    (spelled order after rest) h
+-- the i-th of the numbers, at its place behind a front
+field-back : (front : List ℕ) (order : Endianness) (fs : List (ℕ × ℕ)) (rest : List ℕ)
+    (i n x k : ℕ) → slice_get fs i ≡ Some (n, x) → k ≡ length front + widths (take i fs)
+    → x < 256 ^ n → number order n (drop k (front ++ spelled order fs rest)) ≡ x
+field-back front order fs rest i n x k at place h =
+    ap (λ m. number order n (drop m (front ++ spelled order fs rest))) place
+    ∙ ap (number order n) (drop-append-add front (spelled order fs rest) (widths (take i fs)))
+    ∙ nth-back order fs rest i n x at h
 
 -- the numbers of a section header
-abbrev pub section_fields : ℕ → ℕ → ℕ → ℕ → ℕ → List (ℕ × ℕ)
+abbrev section_fields : ℕ → ℕ → ℕ → ℕ → ℕ → List (ℕ × ℕ)
 section_fields w name type place size = (4, name) ∷ (4, type) ∷ (w, 0) ∷ (w, 0) ∷ (w, place) ∷
     (w, size) ∷ (4, 0) ∷ (4, 0) ∷ (w, 1) ∷ (w, 0) ∷ []
 
-section_header-spelled : (class : Class) (order : Endianness)
-    (name type place size : ℕ) (rest : List ℕ)
-    → section_header class order name type place size ++ rest ≡ spelled order
-    (section_fields (word_size class) name type place size) rest
-unfolding section_header
-section_header-spelled class order name type place size rest = simp append_assoc
-
-section_fields-back : (w : ℕ) (order : Endianness) (name type place size : ℕ) (rest : List ℕ)
-    → name < 256 ^ 4 → type < 256 ^ 4 → place < 256 ^ w → size < 256 ^ w → 0 < 256 ^ w
-    → section_header_of w order (spelled order (section_fields w name type place size) rest)
-    ≡ record {
-      name = name;
-      kind = type;
-      flags = 0;
-      address = 0;
-      offset = place;
-      size = size;
-      link = 0;
-      info = 0;
-    }
-unfolding section_header_of
-section_fields-back w order name type place size rest a b c d e =
-    let f0 = field-back order [] 4 name ((4, type) ∷ (w, 0) ∷ (w, 0) ∷ (w, place) ∷ (w, size) ∷
-    (4, 0) ∷ (4, 0) ∷ (w, 1) ∷ (w, 0) ∷ []) rest 0 refl a in
-    let f1 = field-back order ((4, name) ∷ []) 4 type ((w, 0) ∷ (w, 0) ∷ (w, place) ∷ (w, size) ∷
-    (4, 0) ∷ (4, 0) ∷ (w, 1) ∷ (w, 0) ∷ []) rest 4 refl b in
-    let f2 = field-back order ((4, name) ∷ (4, type) ∷ []) w 0 ((w, 0) ∷ (w, place) ∷ (w, size) ∷
-    (4, 0) ∷ (4, 0) ∷ (w, 1) ∷ (w, 0) ∷ []) rest 8 refl e in
-    let f3 = field-back order ((4, name) ∷ (4, type) ∷ (w, 0) ∷ []) w 0 ((w, place) ∷ (w, size) ∷
-    (4, 0) ∷ (4, 0) ∷ (w, 1) ∷ (w, 0) ∷ []) rest (8 + w) (omega arith) e in
-    let f4 = field-back order ((4, name) ∷ (4, type) ∷ (w, 0) ∷ (w, 0) ∷ []) w place
-    ((w, size) ∷ (4, 0) ∷ (4, 0) ∷ (w, 1) ∷ (w, 0) ∷ []) rest (8 + 2 * w) (omega arith) c in
-    let f5 = field-back order ((4, name) ∷ (4, type) ∷ (w, 0) ∷ (w, 0) ∷ (w, place) ∷ []) w size
-    ((4, 0) ∷ (4, 0) ∷ (w, 1) ∷ (w, 0) ∷ []) rest (8 + 3 * w) (omega arith) d in
-    let f6 = field-back order ((4, name) ∷ (4, type) ∷ (w, 0) ∷ (w, 0) ∷ (w, place) ∷ (w, size) ∷
-    []) 4 0 ((4, 0) ∷ (w, 1) ∷ (w, 0) ∷ []) rest (8 + 4 * w) (omega arith) (lit< tt) in
-    let f7 = field-back order ((4, name) ∷ (4, type) ∷ (w, 0) ∷ (w, 0) ∷ (w, place) ∷ (w, size) ∷
-    (4, 0) ∷ []) 4 0 ((w, 1) ∷ (w, 0) ∷ []) rest (12 + 4 * w) (omega arith) (lit< tt) in
-    cc (f0, f1, f2, f3, f4, f5, f6, f7)
-
-positive : (class : Class) → 0 < 256 ^ word_size class
+pub positive : (class : Class) → 0 < 256 ^ word_size class
 positive Elf32 = lit< tt
 positive Elf64 = lit< tt
 
@@ -116,21 +80,65 @@ pub section_header-back : (class : Class) (order : Endianness)
       link = 0;
       info = 0;
     }
+unfolding section_header section_header_of
 section_header-back class order name type place size rest a b c d =
-    ap (section_header_of (word_size class) order) (section_header-spelled class order name type
-    place size rest)
-    ∙ section_fields-back (word_size class) order name type place size rest a b c d (positive class)
+    let w = word_size class in
+    let zero_fits = positive class in
+    let back = field-back [] order (section_fields w name type place size) rest in
+    simp append_assoc (cc (
+      back 0 4 name 0 refl refl a,
+      back 1 4 type 4 refl refl b,
+      back 2 w 0 8 refl refl zero_fits,
+      back 3 w 0 (8 + w) refl (omega arith) zero_fits,
+      back 4 w place (8 + 2 * w) refl (omega arith) c,
+      back 5 w size (8 + 3 * w) refl (omega arith) d,
+      back 6 4 0 (8 + 4 * w) refl (omega arith) (lit< tt),
+      back 7 4 0 (12 + 4 * w) refl (omega arith) (lit< tt),
+    ))
 
 -- the numbers of a file's header behind its identification
-abbrev pub file_fields : ℕ → ℕ → ℕ → ℕ → ℕ → ℕ → List (ℕ × ℕ)
+abbrev file_fields : ℕ → ℕ → ℕ → ℕ → ℕ → ℕ → List (ℕ × ℕ)
 file_fields w machine headers own entry count =
     (2, 1) ∷ (2, machine) ∷ (4, 1) ∷ (w, 0) ∷ (w, 0) ∷ (w, headers) ∷ (4, 0) ∷ (2, own) ∷ (2, 0) ∷
     (2, 0) ∷ (2, entry) ∷ (2, count) ∷ (2, count - 1) ∷ []
 
-pub file_header-spelled : (class : Class) (order : Endianness)
+entry_small : (class : Class) → entry_size class < 256 ^ 2
+entry_small Elf32 = lit< tt
+entry_small Elf64 = lit< tt
+
+-- the file header that the bytes begin with
+pub file_header-back : (class : Class) (order : Endianness)
     (machine headers count : ℕ) (rest : List ℕ)
-    → file_header class order machine headers count ++ rest
-    ≡ identification class order ++ spelled order (file_fields (word_size class) machine headers
-    (header_size class) (entry_size class) count) rest
+    → machine < 256 ^ 2 → headers < 256 ^ word_size class → count < 256 ^ 2
+    → file_header_of (word_size class) order (file_header class order machine headers count ++ rest)
+    ≡ record {
+      machine = machine;
+      table = headers;
+      entry_size = entry_size class;
+      count = count;
+      names = count - 1;
+    }
+unfolding file_header file_header_of
+file_header-back class order machine headers count rest a b c =
+    let w = word_size class in
+    let back = field-back (identification class order) order (file_fields w machine headers
+    (header_size class) (entry_size class) count) rest in
+    simp append_assoc (cc (
+      back 1 2 machine 18 refl refl a,
+      back 5 w headers (24 + 2 * w) refl (omega arith) b,
+      back 10 2 (entry_size class) (34 + 3 * w) refl (omega arith) (entry_small class),
+      back 11 2 count (36 + 3 * w) refl (omega arith) c,
+      back 12 2 (count - 1) (38 + 3 * w) refl (omega arith) (omega arith),
+    ))
+
+-- it begins with the identification
+pub file_header-begins : (class : Class) (order : Endianness)
+    (machine headers count : ℕ) (rest : List ℕ)
+    → (fields : List ℕ)
+    × (file_header class order machine headers count ++ rest ≡ identification class order ++ fields)
 unfolding file_header
-file_header-spelled class order machine headers count rest = simp append_assoc
+file_header-begins class order machine headers count rest = (
+  spelled order (file_fields (word_size class) machine headers (header_size class)
+      (entry_size class) count) rest,
+  simp append_assoc,
+)

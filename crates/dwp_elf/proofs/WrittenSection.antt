@@ -1,13 +1,13 @@
 -- Reading one written section: its content and its name.
-use Rattle.std.proofs.Common.{◌≡◌, ℕ, zero, suc, ◌+◌, ◌-◌, ◌<◌, ◌==◌, nat_lt, nat_le, Bool, true}
+use Rattle.std.proofs.Common.{◌≡◌, ℕ, zero, suc, ◌+◌, ◌-◌, ◌<◌, ◌≤◌, ◌==◌, nat_lt, Bool, true}
 use Rattle.std.proofs.Common.{not, ◌&&◌, false, cond, List, [], ◌∷◌, ◌++◌, Some, None, length, take}
 use Rattle.std.proofs.Common.{drop, position, refl, ap, ◌∙◌, arith, length-append}
 use Rattle.std.specs.Prelude.{codes}
-use Rattle.std.specs.List.{list_all, position_or_len, slice_range}
+use Rattle.std.specs.List.{list_all, position_or_len}
 use Rattle.std.specs.Option.{option_and_then}
 use Rattle.std.specs.Str.{IsAscii, is_utf8}
 use Rattle.std.proofs.Math.Seq.{take-append_seam}
-use Rattle.std.proofs.lemmas.Bool.{lt-ltb, ltb-true}
+use Rattle.std.proofs.lemmas.Bool.{lt-ltb, ltb-true, le-leb}
 use Rattle.std.proofs.lemmas.Str.{IsUtf8-from_ascii, is_utf8-from_IsUtf8}
 use Rattle.std.proofs.lemmas.Str.Ascii.{IsAscii-nil}
 use Rattle.dwp_base.specs.declared.section.SectionKind.{SectionKind}
@@ -67,7 +67,7 @@ position-name text more h =
     (lt-ltb (length text) (length bytes) within)
 
 -- a name is read from its place in the name table
-pub text_at-name : (table text more : List ℕ) (place : ℕ) → drop place table ≡ text ++ 0 ∷ more
+text_at-name : (table text more : List ℕ) (place : ℕ) → drop place table ≡ text ++ 0 ∷ more
     → IsName text → text_at table place ≡ Some text
 unfolding text_at text_of
 text_at-name table text more place e h =
@@ -77,40 +77,10 @@ text_at-name table text more place e h =
     ∙ ap text_of (take-append_seam text (0 ∷ more))
     ∙ ap (λ (b : Bool). cond b (Some text) None) h.utf8
 
-slice-content : (bytes content after : List ℕ) (place : ℕ) → drop place bytes ≡ content ++ after
-    → slice_range bytes place (place + length content) ≡ content
-slice-content bytes content after place e =
-    let size : place + length content - place ≡ length content = omega arith in
-    ap (λ (n : ℕ). take n (drop place bytes)) size ∙ ap (take (length content)) e ∙
-    take-append_seam content after
-
--- a content is read from its place in the file
-pub content_of-place : (bytes content after : List ℕ) (place name type : ℕ) → (type == 8) ≡ false
-    → drop place bytes ≡ content ++ after
-    → nat_le (place + length content) (length bytes) ≡ true
-    → section_content bytes (record {
-      name = name;
-      kind = type;
-      flags = 0;
-      address = 0;
-      offset =
-          place;
-      size = length content;
-      link = 0;
-      info = 0;
-    }) ≡ Some content
-unfolding section_content
-content_of-place bytes content after place name type other e within =
-    ap (λ (b : Bool). cond b (Some []) (cond (nat_le (place + length content) (length bytes))
-    (Some (slice_range bytes place (place + length content))) None)) other
-    ∙ ap (λ (b : Bool). cond b (Some (slice_range bytes place (place + length content))) None)
-    within
-    ∙ ap Some (slice-content bytes content after place e)
-
+-- a content is read from its place in the file, and a name from its place in the name table
 pub section_of-written : (bytes table content after text more : List ℕ) (i place name type : ℕ)
-    → (type == 8) ≡ false
-    → drop place bytes ≡ content ++ after → nat_le (place + length content) (length bytes) ≡ true
-    → drop name table ≡ text ++ 0 ∷ more → IsName text
+    → (type == 8) ≡ false → drop place bytes ≡ content ++ after
+    → place + length content ≤ length bytes → drop name table ≡ text ++ 0 ∷ more → IsName text
     → section_of bytes (Some table) i (record {
       name = name;
       kind = type;
@@ -122,8 +92,14 @@ pub section_of-written : (bytes table content after text more : List ℕ) (i pla
       info = 0;
     })
     ≡ plain_section i type text content
-unfolding section_of
+unfolding section_of section_content
 section_of-written bytes table content after text more i place name type other e within f h =
-    let got = content_of-place bytes content after place name type other e within in
-    let called = text_at-name table text more name f h in
-    rw (got, called) refl
+    let size : place + length content - place ≡ length content = omega arith in
+    rw (
+      other,
+      le-leb (place + length content) (length bytes) within,
+      size,
+      e,
+      take-append_seam content after,
+      text_at-name table text more name f h,
+    ) refl

@@ -225,6 +225,7 @@ impl WritableObject {
     }
 
     /// Where the parts of the file lie.
+    #[tactic(auto, using(crate::proofs::KindCounts::few_sections))]
     fn places(&self) -> Result<Places, WriteError>
         ensures ok { IfOk result (ArePlaces self.now.class self.now.contents) }
         ensures fits { OnOk result (Fits self.now) }
@@ -236,6 +237,7 @@ impl WritableObject {
     }
 
     /// Hands the parts of the file to a writer, one after the other.
+    #[tactic(auto, using(crate::proofs::KindCounts::few_sections))]
     fn write_parts<O: Output>(&self, places: &Places, out: &mut O) -> io::Result<()>
         requires { ArePlaces self.now.class self.now.contents places.now }
         ensures text { Writes result (O.contents out.old) (O.contents out.new)

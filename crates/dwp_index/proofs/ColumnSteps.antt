@@ -1,6 +1,6 @@
 -- Reading one column after the other.
 use Rattle.std.proofs.Common.{◌≡◌, ℕ, suc, ◌+◌, ◌-◌, ◌*◌, ◌<◌, ◌≤◌, Bool, true, false, cond, eqb}
-use Rattle.std.proofs.Common.{List, [], ◌∷◌, ◌++◌, length, drop, sym, ap, ◌∙◌, arith}
+use Rattle.std.proofs.Common.{List, [], ◌∷◌, ◌++◌, length, drop, refl, sym, ap, ◌∙◌, arith}
 use Rattle.std.specs.Prelude.{is_none, Result, Ok, Err}
 use Rattle.std.specs.List.{list_any}
 use Rattle.std.proofs.lemmas.Bool.{lt-ltb, le-ltb}
@@ -21,25 +21,17 @@ step : (order : Endianness) (version : ℕ) (before : List ℕ) (count i : ℕ)
     new_column version before (number order 4 rest) >>= λ n. columns_at order version
     (before ++ n ∷ []) (count - (i + 1)) r)
 unfolding columns_at
-step order version before count i rest h = let more : count - i ≡ suc (count - (i + 1)) =
-    omega arith in ap (λ m. columns_at order version before m rest) more
-
-after_short : (n : ℕ) (bytes : List ℕ) → length bytes < n → after n bytes ≡ Err UnexpectedEof
-after_short n bytes h = ap (λ b. cond b (Err UnexpectedEof) (Ok (drop n bytes))) (lt-ltb _ _ h)
+step order version before count i rest h =
+    let more : count - i ≡ suc (count - (i + 1)) = omega arith in rw more refl
 
 pub after_enough : (n : ℕ) (bytes : List ℕ) → n ≤ length bytes → after n bytes ≡ Ok (drop n bytes)
-after_enough n bytes h = ap (λ b. cond b (Err UnexpectedEof) (Ok (drop n bytes))) (le-ltb _ _ h)
-
-abbrev Next : Endianness → ℕ → List ℕ → ℕ → ℕ → List ℕ → Result (List ℕ) ReadError
-    → Result (List ℕ × List ℕ) ReadError
-Next order version before count i rest r = r >>= λ r'. new_column version before
-    (number order 4 rest) >>= λ n. columns_at order version (before ++ n ∷ []) (count - (i + 1)) r'
+after_enough n bytes h = rw (le-ltb (length bytes) n h) refl
 
 pub ends : (order : Endianness) (version : ℕ) (before : List ℕ) (count i : ℕ) (rest : List ℕ)
     → i < count → length rest < 4 → columns_at order version before (count - i) rest ≡
     Err UnexpectedEof
-ends order version before count i rest h short = step order version before count i rest h ∙ ap
-    (Next order version before count i rest) (after_short 4 rest short)
+ends order version before count i rest h short =
+    rw (step order version before count i rest h, lt-ltb (length rest) 4 short) refl
 
 goes_by : (order : Endianness) (version : ℕ) (before : List ℕ) (count i : ℕ) (rest : List ℕ)
     (column : Result ℕ ReadError) → i < count → 4 ≤ length rest → new_column version before
@@ -47,31 +39,20 @@ goes_by : (order : Endianness) (version : ℕ) (before : List ℕ) (count i : �
     → columns_at order version before (count - i) rest ≡ (column >>= λ n. columns_at order version
     (before ++ n ∷ []) (count - (i + 1)) (drop 4 rest))
 goes_by order version before count i rest column h enough e =
-    step order version before count i rest h ∙ ap (Next order version before count i rest)
-    (after_enough 4 rest enough)
-    ∙ ap (λ (r : Result ℕ ReadError). r >>= λ n. columns_at order version (before ++ n ∷ [])
-    (count - (i + 1)) (drop 4 rest)) e
-
-is_unknown : (version : ℕ) (before : List ℕ) (n : ℕ) → is_none (kind_of_column version n) ≡ true
-    → new_column version before n ≡ Err UnknownColumn
-unfolding new_column
-is_unknown version before n e =
-    ap (λ b. cond b (Err UnknownColumn) (cond (list_any (λ c. eqb c n) before)
-    (Err RepeatedColumn) (Ok n))) e
+    rw (step order version before count i rest h, after_enough 4 rest enough, e) refl
 
 pub unknown : (order : Endianness) (version : ℕ) (before : List ℕ) (count i : ℕ) (rest : List ℕ)
     → i < count → 4 ≤ length rest → is_none (kind_of_column version (number order 4 rest)) ≡ true
     → columns_at order version before (count - i) rest ≡ Err UnknownColumn
+unfolding new_column
 unknown order version before count i rest h enough e = goes_by order version before count i rest
-    (Err UnknownColumn) h enough (is_unknown version before _ e)
+    (Err UnknownColumn) h enough (rw e refl)
 
 known-by : (version : ℕ) (before : List ℕ) (n : ℕ) (b : Bool) → is_none (kind_of_column version n) ≡
     false → list_any (λ c. eqb c n) before ≡ b → new_column version before n ≡ cond b
     (Err RepeatedColumn) (Ok n)
 unfolding new_column
-known-by version before n b e f =
-    ap (λ x. cond x (Err UnknownColumn) (cond (list_any (λ c. eqb c n) before) (Err RepeatedColumn)
-    (Ok n))) e ∙ ap (λ x. cond x (Err RepeatedColumn) (Ok n)) f
+known-by version before n b e f = rw (e, f) refl
 
 pub repeated : (order : Endianness) (version : ℕ) (before : List ℕ) (count i : ℕ) (rest : List ℕ)
     → i < count → 4 ≤ length rest → is_none (kind_of_column version (number order 4 rest)) ≡ false
@@ -96,10 +77,9 @@ goes_on order version bytes count i rest h enough at e f =
 pub done : (order : Endianness) (version : ℕ) (before : List ℕ) (count i : ℕ) (rest : List ℕ)
     → count ≤ i → columns_at order version before (count - i) rest ≡ Ok (before, rest)
 unfolding columns_at
-done order version before count i rest h = let none : count - i ≡ 0 = omega arith in
-    ap (λ m. columns_at order version before m rest) none
+done order version before count i rest h = let none : count - i ≡ 0 = omega arith in rw none refl
 
 pub next_rest : (bytes rest : List ℕ) (i : ℕ) → rest ≡ drop (4 * i) bytes → drop 4 rest ≡ drop
     (4 * (i + 1)) bytes
-next_rest bytes rest i e = let next : 4 * i + 4 ≡ 4 * (i + 1) = omega arith in
-    ap (drop 4) e ∙ drop-drop 4 (4 * i) bytes ∙ ap (λ m. drop m bytes) next
+next_rest bytes rest i e = let next : 4 * (i + 1) ≡ 4 * i + 4 = omega arith in
+    rw (e, next) (drop-drop 4 (4 * i) bytes)

@@ -42,28 +42,23 @@ not_both false = refl
 nameless : (kind : SectionKind) (section : SectionMeaning) → has_name kind section.name ≡ false
     → is_of_kind kind section ≡ false
 unfolding is_of_kind
-nameless kind section e = ap (λ b. not (eqb section.size 0 || eqb section.kind SHT_NOBITS) && b) e ∙
-    not_both (not (eqb section.size 0 || eqb section.kind SHT_NOBITS))
+nameless kind section e = rw e (not_both _)
 
 pub another_kind : (section : SectionMeaning) (kind other : SectionKind) → section.name ≡ Some
     (name_of other) → same_kind other kind ≡ false → is_of_kind kind section ≡ false
 another_kind section kind other e ne = nameless kind section (ap (has_name kind) e ∙
     other_name other kind ne)
 
-found-step : {X : Type 0} (p : X → Bool) (y : X) (ys : List X) (x : X) (b : Bool) (k : ℕ)
-    → ((j : ℕ) → find p ys ≡ None → slice_get ys j ≡ Some x → p x ≡ false)
-    → p y ≡ b → find p (y ∷ ys) ≡ None → slice_get (y ∷ ys) k ≡ Some x → p x ≡ false
-found-step p y ys x true k go e none at = absurd (let bad : Some y ≡ None =
-    sym (ap (λ b. cond b (Some y) (find p ys)) e) ∙ none in cc)
-found-step p y ys x false zero go e none at = let same : y ≡ x = cc in ap p (sym same) ∙ e
-found-step p y ys x false (suc k) go e none at =
-    go k (sym (ap (λ b. cond b (Some y) (find p ys)) e) ∙ none) at
-
 pub found-none : {X : Type 0} (p : X → Bool) (xs : List X) (i : ℕ) (x : X) → find p xs ≡ None
     → slice_get xs i ≡ Some x → p x ≡ false
 found-none p [] i x none at = absurd cc
-found-none p (y ∷ ys) i x none at = found-step p y ys x (p y) i (λ j n a.
-    found-none p ys j x n a) refl none at
+found-none p (y ∷ ys) i x none at = step (λ k. found-none p ys k x) (p y) refl none i at
+  where
+    step : ((k : ℕ) → find p ys ≡ None → slice_get ys k ≡ Some x → p x ≡ false) → (b : Bool) → p y ≡ b → cond b (Some y) (find p ys) ≡ None → (k : ℕ)
+        → slice_get (y ∷ ys) k ≡ Some x → p x ≡ false
+    step later true e none k at = absurd cc
+    step later false e none zero at = let same : y ≡ x = cc in ap p (sym same) ∙ e
+    step later false e none (suc k) at = later k none at
 
 pub foreign : (section : SectionMeaning) (kind : SectionKind) (name : List ℕ) → section.name ≡ Some
     name → kind_named name ≡ None → is_of_kind kind section ≡ false
@@ -73,40 +68,31 @@ foreign section kind name e none = nameless kind section (ap (has_name kind) e �
 pub empty : (section : SectionMeaning) (kind : SectionKind) → section.size ≡ 0
     → is_of_kind kind section ≡ false
 unfolding is_of_kind
-empty section kind e = ap (λ n. not (eqb n 0 || eqb section.kind SHT_NOBITS) && has_name
-    kind section.name) e
+empty section kind e = rw e refl
 
 holds-kind : (section : SectionMeaning) (kind : SectionKind) (bytes : List ℕ) → Holds section kind
     bytes → is_of_kind kind section ≡ true
 unfolding is_of_kind
 holds-kind section kind bytes h =
-    ap (λ b. not (b || eqb section.kind SHT_NOBITS) && has_name kind section.name)
-    (ne_eqb section.size 0 (λ e. omega (arith, h.size_is, h.some)))
-    ∙ ap (λ b. not b && has_name kind section.name) (ne_eqb section.kind SHT_NOBITS h.has_bytes)
-    ∙ ap (has_name kind) h.name_is ∙ named-itself kind
+    rw (
+      ne_eqb section.size 0 (λ e. omega (arith, h.size_is, h.some)),
+      ne_eqb section.kind SHT_NOBITS h.has_bytes,
+      h.name_is,
+    ) (named-itself kind)
 
 -- ---- the contents
 holds-used : (section : SectionMeaning) (kind : SectionKind) (bytes : List ℕ) → Holds section kind
     bytes → used_bytes kind section ≡ Ok bytes
 unfolding used_bytes
 holds-used section kind bytes h =
-    let older : has_older_name kind section.name ≡ false = ap (has_older_name kind) h.name_is ∙
-    not-older kind in
-    ap (λ b. cond (b || has_older_name kind section.name) (Err Compressed)
-    (ok_or section.content SectionRange)) h.stored
-    ∙ ap (λ b. cond b (Err Compressed) (ok_or section.content SectionRange)) older
-    ∙ ap (λ o. ok_or o SectionRange) h.content_is
+    rw (h.stored, h.name_is, not-older kind, h.content_is) refl
 
 pub content_is : (sections : List SectionMeaning) (kind : SectionKind) (bytes : List ℕ)
     → HasContent sections kind bytes → content_among sections kind ≡ Ok bytes
 unfolding content_among
 content_is [] kind bytes h = ap (λ l. Ok l) (sym h)
-content_is (s ∷ ss) kind bytes (inl h) =
-    ap (λ b. bytes_of kind (cond b (Some s) (find (is_of_kind kind) ss))) (holds-kind s kind bytes
-    h) ∙ holds-used s kind bytes h
-content_is (s ∷ ss) kind bytes (inr h) =
-    ap (λ b. bytes_of kind (cond b (Some s) (find (is_of_kind kind) ss))) h.0 ∙ content_is
-    ss kind bytes h.1
+content_is (s ∷ ss) kind bytes (inl h) = rw (holds-kind s kind bytes h) (holds-used s kind bytes h)
+content_is (s ∷ ss) kind bytes (inr h) = rw h.0 (content_is ss kind bytes h.1)
 
 held-by : (section : SectionMeaning) (sections : List SectionMeaning) (kind : SectionKind)
     (content : SectionKind × List ℕ) (rest : List ℕ) (b : Bool) → same_kind content.0 kind ≡ b
@@ -153,17 +139,12 @@ package_is bytes file held compilations types e h c t =
 pub index_there : (order : Endianness) (bytes : List ℕ) (index : Index) → 0 < length bytes
     → index_of order bytes ≡ Ok index → index_in_section order bytes ≡ Ok (Some index)
 unfolding index_in_section
-index_there order bytes index some e =
-    ap (λ b. cond b (Ok None) (as_error errors.Index (index_of order bytes) >>= λ i. Ok (Some i)))
-    (ne_eqb (length bytes) 0 (λ z. omega arith))
-    ∙ ap (λ (r : Result Index UnitError). as_error errors.Index r >>= λ i. Ok (Some i)) e
+index_there order bytes index some e = rw (ne_eqb (length bytes) 0 (λ z. omega arith), e) refl
 
 pub index_missing : (order : Endianness) (bytes : List ℕ) → bytes ≡ []
     → index_in_section order bytes ≡ Ok None
 unfolding index_in_section
-index_missing order bytes e =
-    ap (λ b. cond (eqb (length b) 0) (Ok None) (as_error errors.Index (index_of order b) >>=
-    λ i. Ok (Some i))) e
+index_missing order bytes e = rw e refl
 
 pub held_content : (held : SectionKind → List ℕ) (kind : SectionKind) → content (sections_of held)
     kind ≡ held kind

@@ -15,61 +15,66 @@ use Rattle.dwp_bytes.specs.declared.error.ReadError.{ReadError}
 use Rattle.dwp_bytes.specs.declared.error.ReadError.TheVariants.{UnexpectedEof, ReservedLength}
 use Rattle.dwp_dwarf.specs.Units.{initial_length_at}
 use Rattle.dwp_index.proofs.TwoPlaces.{plain}
-use Rattle.dwp_base.proofs.Steps.{bind-was, guard-ok, chosen}
+use Rattle.dwp_base.proofs.Steps.{bind-was, same-ok, guard-ok, chosen}
 
 -- ---- a number at the front of a beginning
 abbrev Reads : Endianness → ℕ → ℕ → List ℕ → Type 0
 Reads order n k bytes = number order n (take k bytes) ≡ number order n bytes
 
 four : (order : Endianness) (k : ℕ) (bytes : List ℕ) → 4 ≤ k → Reads order 4 k bytes
-four Little k bytes h =
-    let a = get_or-take k bytes 0 0 (omega arith) in
-    let b = get_or-take k bytes 1 0 (omega arith) in
-    let c = get_or-take k bytes 2 0 (omega arith) in
-    let d = get_or-take k bytes 3 0 (omega arith) in
-    rw (a, b, c, d) refl
-four Big k bytes h =
-    let a = get_or-take k bytes 0 0 (omega arith) in
-    let b = get_or-take k bytes 1 0 (omega arith) in
-    let c = get_or-take k bytes 2 0 (omega arith) in
-    let d = get_or-take k bytes 3 0 (omega arith) in
-    rw (a, b, c, d) refl
+four Little k bytes h = let at = get_or-take k bytes in
+    rw (
+      at 0 0 (omega arith),
+      at 1 0 (omega arith),
+      at 2 0 (omega arith),
+      at 3 0
+          (omega arith),
+    ) refl
+four Big k bytes h = let at = get_or-take k bytes in
+    rw (
+      at 0 0 (omega arith),
+      at 1 0 (omega arith),
+      at 2 0 (omega arith),
+      at 3 0
+          (omega arith),
+    ) refl
 
 eight : (order : Endianness) (k : ℕ) (bytes : List ℕ) → 8 ≤ k → Reads order 8 k bytes
-eight Little k bytes h =
-    let a = get_or-take k bytes 0 0 (omega arith) in
-    let b = get_or-take k bytes 1 0 (omega arith) in
-    let c = get_or-take k bytes 2 0 (omega arith) in
-    let d = get_or-take k bytes 3 0 (omega arith) in
-    let e = get_or-take k bytes 4 0 (omega arith) in
-    let f = get_or-take k bytes 5 0 (omega arith) in
-    let g = get_or-take k bytes 6 0 (omega arith) in
-    let i = get_or-take k bytes 7 0 (omega arith) in
-    rw (a, b, c, d, e, f, g, i) refl
-eight Big k bytes h =
-    let a = get_or-take k bytes 0 0 (omega arith) in
-    let b = get_or-take k bytes 1 0 (omega arith) in
-    let c = get_or-take k bytes 2 0 (omega arith) in
-    let d = get_or-take k bytes 3 0 (omega arith) in
-    let e = get_or-take k bytes 4 0 (omega arith) in
-    let f = get_or-take k bytes 5 0 (omega arith) in
-    let g = get_or-take k bytes 6 0 (omega arith) in
-    let i = get_or-take k bytes 7 0 (omega arith) in
-    rw (a, b, c, d, e, f, g, i) refl
+eight Little k bytes h = let at = get_or-take k bytes in
+    rw (
+      at 0 0 (omega arith),
+      at 1 0 (omega arith),
+      at 2 0 (omega arith),
+      at 3 0
+          (omega arith),
+      at 4 0 (omega arith),
+      at 5 0 (omega arith),
+      at 6 0 (omega arith),
+      at 7 0
+          (omega arith),
+    ) refl
+eight Big k bytes h = let at = get_or-take k bytes in
+    rw (
+      at 0 0 (omega arith),
+      at 1 0 (omega arith),
+      at 2 0 (omega arith),
+      at 3 0
+          (omega arith),
+      at 4 0 (omega arith),
+      at 5 0 (omega arith),
+      at 6 0 (omega arith),
+      at 7 0
+          (omega arith),
+    ) refl
 
 number_goes : (order : Endianness) (n p : ℕ) (bytes : List ℕ) → n ≤ length bytes
     → number_at n (plain order p bytes) ≡ Ok (
       number order n bytes,
-      plain order
-          (p + n) (drop n bytes),
-    )
-unfolding number_at
-number_goes order n p bytes h =
-    ap (λ b. cond b (Err UnexpectedEof) (Ok (
-      number order n bytes,
       plain order (p + n)
           (drop n bytes),
-    ))) (le-ltb _ _ h)
+    )
+unfolding number_at
+number_goes order n p bytes h = rw (le-ltb (length bytes) n h) refl
 
 pub split_goes : (order : Endianness) (n p : ℕ) (bytes : List ℕ) → n ≤ length bytes
     → split_at n (plain order p bytes) ≡ Ok (
@@ -78,12 +83,7 @@ pub split_goes : (order : Endianness) (n p : ℕ) (bytes : List ℕ) → n ≤ l
           (p + n) (drop n bytes),
     )
 unfolding split_at
-split_goes order n p bytes h =
-    ap (λ b. cond b (Err UnexpectedEof) (Ok (
-      plain order p (take n bytes),
-      plain order (p + n)
-          (drop n bytes),
-    ))) (le-ltb _ _ h)
+split_goes order n p bytes h = rw (le-ltb (length bytes) n h) refl
 
 -- an initial length takes 4 or 12 bytes, and is the same where no others follow than those of its
 -- unit
@@ -121,96 +121,63 @@ abbrev after_four : ℕ → Input → Lengths
 after_four v i = cond (ltb v 0xfffffff0) (Ok ((Dwarf32, v), i)) (cond (eqb v 0xffffffff) (wide i)
     (Err ReservedLength))
 
-by_four : (i : Input) → initial_length_at i ≡ (number_at 4 i >>= λ n. after_four n.0 n.1)
-unfolding initial_length_at
-by_four i = refl
-
-narrow_is : (v : ℕ) (i : Input) → ltb v 0xfffffff0 ≡ true → after_four v i ≡ Ok ((Dwarf32, v), i)
-narrow_is v i e = ap (λ b. cond b (Ok ((Dwarf32, v), i)) (cond (eqb v 0xffffffff) (wide i)
-    (Err ReservedLength))) e
-
-wide_is : (v : ℕ) (i : Input) → ltb v 0xfffffff0 ≡ false → eqb v 0xffffffff ≡ true
-    → after_four v i ≡ wide i
-wide_is v i e f = ap (λ b. cond b (Ok ((Dwarf32, v), i)) (cond (eqb v 0xffffffff) (wide i)
-    (Err ReservedLength))) e ∙ ap (λ b. cond b (wide i) (Err ReservedLength)) f
-
--- the length of a beginning, from the number in front
-four_alone : (order : Endianness) (bytes : List ℕ) (k : ℕ) → 4 ≤ k → k ≤ length bytes
-    → initial_length_at (plain order 0 (take k bytes)) ≡ after_four (number order 4 bytes)
-    (plain order 4 (drop 4 (take k bytes)))
-four_alone order bytes k h fits =
-    let len = length-take-le k bytes fits in
-    by_four (plain order 0 (take k bytes))
-    ∙ ap (λ (r : Result (ℕ × Input) ReadError). r >>= λ n. after_four n.0 n.1)
-    (number_goes order 4 0 (take k bytes) (omega (arith, len)))
-    ∙ ap (λ (v : ℕ). after_four v (plain order 4 (drop 4 (take k bytes)))) (four order k bytes h)
-
-wide_alone : (order : Endianness) (bytes : List ℕ) (k : ℕ) → 12 ≤ k → k ≤ length bytes
-    → wide (plain order 4 (drop 4 (take k bytes))) ≡ Ok (
-      (Dwarf64, number order 8 (drop 4 bytes)),
-      plain order 12 (drop 12 (take k bytes)),
-    )
-wide_alone order bytes k h fits =
-    let len = length-take-le k bytes fits in
-    let rest = drop 4 (take k bytes) in
-    let more : k ≡ 4 + (k - 4) = omega arith in
-    let begins : rest ≡ take (k - 4) (drop 4 bytes) = ap (λ n. drop 4 (take n bytes)) more ∙
-    drop-take 4 (k - 4) bytes in
-    let same : number order 8 rest ≡ number order 8 (drop 4 bytes) = ap (λ l. number order 8 l)
-    begins ∙ eight order (k - 4) (drop 4 bytes) (omega arith) in
-    ap (λ (r : Result (ℕ × Input) ReadError). r >>= λ m. Ok ((Dwarf64, m.0), m.1))
-    (number_goes order 8 4 rest (omega (arith, length-drop 4 (take k bytes), len)))
-    ∙ ap (λ (v : ℕ). Ok ((Dwarf64, v), plain order 12 (drop 8 rest))) same
-    ∙ ap (λ (l : List ℕ). Ok ((Dwarf64, number order 8 (drop 4 bytes)), plain order 12 l))
-    (drop-drop 8 4 (take k bytes))
-
 module _ (order : Endianness) (p : ℕ) (bytes : List ℕ) (x : (Format × ℕ) × Input) where
   narrow_length : 4 ≤ length bytes → ltb (number order 4 bytes) 0xfffffff0 ≡ true
       → ((Dwarf32, number order 4 bytes), plain order (p + 4) (drop 4 bytes)) ≡ x
       → IsLength order p bytes x
+  unfolding initial_length_at
   narrow_length fits narrow same = record {
     taken = 4;
     fits = fits;
     left = ap (λ (y : (Format × ℕ) × Input). y.1) (sym same);
     alone = λ k h within.
-        four_alone order bytes k h within ∙ narrow_is (number order 4 bytes)
-        (plain order 4 (drop 4 (take k bytes))) narrow
-        ∙ ap (λ (y : (Format × ℕ) × Input). Ok (y.0, plain order 4 (drop 4 (take k bytes)))) same;
+        rw (
+          number_goes order 4 0 (take k bytes) (omega (arith, length-take-le k bytes within)),
+          four order k bytes h,
+          narrow,
+          ← same,
+        ) refl;
   }
 
   wide_length : 4 ≤ length bytes → ltb (number order 4 bytes) 0xfffffff0 ≡ false
       → eqb (number order 4 bytes) 0xffffffff ≡ true → wide (plain order (p + 4) (drop 4 bytes)) ≡
       Ok x → IsLength order p bytes x
+  unfolding initial_length_at
   wide_length fits narrow long e =
       let m = bind-was (number_at 8 (plain order (p + 4) (drop 4 bytes))) (λ m.
       Ok ((Dwarf64, m.0), m.1)) x e in
       let inverse = number_inverse order 8 (p + 4) (drop 4 bytes) m.0 m.1 in
       let given : ((Dwarf64, m.0.0), m.0.1) ≡ x = cc in
-      let same : (
-        (Dwarf64, number order 8 (drop 4 bytes)),
-        plain order (p + 4 + 8)
-            (drop 8 (drop 4 bytes)),
-      ) ≡ x = ap (λ (y : ℕ × Input). ((Dwarf64, y.0), y.1))
-      inverse.1 ∙ given in
       let place : p + 4 + 8 ≡ p + 12 = omega arith in
       record {
         taken = 12;
         fits = omega (arith, inverse.0, length-drop 4 bytes);
-        left = ap (λ (y : (Format × ℕ) × Input). y.1) (sym same) ∙ ap (λ n.
-            plain order n (drop 8 (drop 4 bytes))) place ∙ ap (plain order (p + 12))
-            (drop-drop 8 4 bytes);
+        left = rw (← given, ← inverse.1, drop-drop, place) refl;
         alone = λ k h within.
-            four_alone order bytes k (omega arith) within ∙ wide_is (number order 4 bytes)
-            (plain order 4 (drop 4 (take k bytes))) narrow long
-            ∙ wide_alone order bytes k h within
-            ∙ ap (λ (y : (Format × ℕ) × Input). Ok (y.0, plain order 12 (drop 12 (take k bytes))))
-            same;
+            let len = length-take-le k bytes within in
+            let more : k ≡ 4 + (k - 4) = omega arith in
+            let begins : drop 4 (take k bytes) ≡ take (k - 4) (drop 4 bytes) = ap (λ n.
+            drop 4 (take n bytes)) more ∙ drop-take 4 (k - 4) bytes in
+            let same : number order 8 (drop 4 (take k bytes)) ≡ number order 8 (drop 4 bytes) =
+            ap (number order 8) begins ∙ eight order (k - 4) (drop 4 bytes) (omega arith) in
+            rw (
+              number_goes order 4 0 (take k bytes) (omega (arith, len)),
+              four order k bytes (omega arith),
+              narrow,
+              long,
+              number_goes order 8 4
+                  (drop 4 (take k bytes)) (omega (arith, length-drop 4 (take k bytes), len)),
+              same,
+              ← given,
+              ← inverse.1,
+              drop-drop 8 4 (take k bytes),
+            ) refl;
       }
 
   pub length_is : initial_length_at (plain order p bytes) ≡ Ok x → IsLength order p bytes x
+  unfolding initial_length_at
   length_is e =
-      let n = bind-was (number_at 4 (plain order p bytes)) (λ n. after_four n.0 n.1) x
-      (sym (by_four (plain order p bytes)) ∙ e) in
+      let n = bind-was (number_at 4 (plain order p bytes)) (λ n. after_four n.0 n.1) x e in
       let inverse = number_inverse order 4 p bytes n.0 n.1 in
       let rest = plain order (p + 4) (drop 4 bytes) in
       let v = number order 4 bytes in
@@ -218,8 +185,7 @@ module _ (order : Endianness) (p : ℕ) (bytes : List ℕ) (x : (Format × ℕ) 
       (sym inverse.1) n.2 in
       elim (chosen (ltb v 0xfffffff0) (Ok ((Dwarf32, v), rest)) (cond (eqb v 0xffffffff) (wide rest)
       (Err ReservedLength)) (Ok x) step) [
-        | inl narrow ↦ let same : ((Dwarf32, v), rest) ≡ x = cc in
-            narrow_length inverse.0 narrow.0 same
+        | inl narrow ↦ narrow_length inverse.0 narrow.0 (same-ok _ x narrow.1)
         | inr other ↦
             elim (chosen (eqb v 0xffffffff) (wide rest) (Err ReservedLength) (Ok x) other.1) [
               | inl long ↦ wide_length inverse.0 other.0 long.0 long.1

@@ -16,31 +16,14 @@ end_from signatures rows x i = find (λ j. is_end signatures rows x (place (leng
 pub end-start : (signatures rows : List ℕ) (x : ℕ) → first_end signatures rows x ≡ end_from
     signatures rows x 0
 unfolding first_end
-end-start signatures rows x = let all : length rows ≡ length rows - 0 = omega arith in
-    ap (λ n. find (λ j. is_end signatures rows x (place (length rows) x j)) (range_with_len 0 n))
-    all
-
-end-step : (signatures rows : List ℕ) (x i : ℕ) → i < length rows → end_from signatures rows x i ≡
-    cond (is_end signatures rows x (place (length rows) x i)) (Some i)
-    (end_from signatures rows x (i + 1))
-end-step signatures rows x i within =
-    let more : length rows - i ≡ suc (length rows - (i + 1)) = omega arith in
-    ap (λ n. find (λ j. is_end signatures rows x (place (length rows) x j)) (range_with_len i n))
-    more
+end-start signatures rows x = let all : length rows - 0 ≡ length rows = omega arith in rw all refl
 
 end-by : (signatures rows : List ℕ) (x i at : ℕ) (b : Bool) → i < length rows
     → at ≡ place (length rows) x i → is_end signatures rows x at ≡ b → end_from signatures rows x i
     ≡ cond b (Some i) (end_from signatures rows x (i + 1))
 end-by signatures rows x i at b within same e =
-    end-step signatures rows x i within
-    ∙ ap (λ c. cond c (Some i) (end_from signatures rows x (i + 1)))
-    (ap (is_end signatures rows x) (sym same) ∙ e)
-
-pub end-here : (signatures rows : List ℕ) (x i at : ℕ) → i < length rows → first_end signatures rows
-    x ≡ end_from signatures rows x i → at ≡ place (length rows) x i → is_end signatures rows x at ≡
-    true → first_end signatures rows x ≡ Some i
-end-here signatures rows x i at within rest same e = rest ∙ end-by signatures rows x i at
-    true within same e
+    let more : length rows - i ≡ suc (length rows - (i + 1)) = omega arith in
+    rw (more, ← same, e) refl
 
 pub end-on : (signatures rows : List ℕ) (x i at : ℕ) → i < length rows → first_end signatures rows x
     ≡ end_from signatures rows x i → at ≡ place (length rows) x i
@@ -49,16 +32,10 @@ pub end-on : (signatures rows : List ℕ) (x i at : ℕ) → i < length rows →
 end-on signatures rows x i at within rest same e = rest ∙ end-by signatures rows x i at
     false within same e
 
-pub end-none : (signatures rows : List ℕ) (x i : ℕ) → length rows ≤ i → first_end signatures rows x
-    ≡ end_from signatures rows x i → first_end signatures rows x ≡ None
-end-none signatures rows x i past rest = let none : length rows - i ≡ 0 = omega arith in
-    rest ∙ ap (λ n. find (λ j. is_end signatures rows x (place (length rows) x j))
-    (range_with_len i n)) none
-
 -- a slot with a row ends the look-up of its signature alone, one without it each
 pub unused_ends : (signatures rows : List ℕ) (x k : ℕ) → get_or rows k 0 ≡ 0
     → is_end signatures rows x k ≡ true
-unused_ends signatures rows x k e = ap (λ r. eqb r 0 || eqb (get_or signatures k 0) x) e
+unused_ends signatures rows x k e = rw e refl
 
 pub found_ends : (signatures rows : List ℕ) (x k : ℕ) → get_or signatures k 0 ≡ x
     → is_end signatures rows x k ≡ true
@@ -67,32 +44,28 @@ found_ends signatures rows x k e = or-right (eqb (get_or rows k 0) 0) (eqb (get_
 
 pub other_goes_on : (signatures rows : List ℕ) (x k : ℕ) → (get_or rows k 0 ≡ 0 → ⊥)
     → (get_or signatures k 0 ≡ x → ⊥) → is_end signatures rows x k ≡ false
-other_goes_on signatures rows x k used other = let a = ne_eqb _ _ used in let b =
-    ne_eqb _ _ other in rw a b
+other_goes_on signatures rows x k used other =
+    rw (ne_eqb (get_or rows k 0) 0 used, ne_eqb (get_or signatures k 0) x other) refl
 
-pub row-first : (signatures rows : List ℕ) (x i at : ℕ) → first_end signatures rows x ≡ Some i
-    → at ≡ place (length rows) x i → found_row signatures rows x ≡ row_of (get_or rows at 0)
-unfolding found_row
-row-first signatures rows x i at e same =
-    ap (λ o. option_and_then (λ j. row_of (get_or rows (place (length rows) x j) 0)) o) e ∙ ap (λ k.
-    row_of (get_or rows k 0)) (sym same)
+-- the row found and the count, where the look-up ends at the i-th place, or nowhere
+pub ended : (signatures rows : List ℕ) (x i at : ℕ) → i < length rows
+    → first_end signatures rows x ≡ end_from signatures rows x i → at ≡ place (length rows) x i
+    → is_end signatures rows x at ≡ true
+    → (found_row signatures rows x ≡ row_of (get_or rows at 0))
+    × (look_count signatures rows x ≡ i + 1)
+unfolding found_row look_count
+ended signatures rows x i at within rest same e =
+    let end = rest ∙ end-by signatures rows x i at true within same e in
+    (rw (end, ← same) refl, rw end (omega arith))
 
-pub count-first : (signatures rows : List ℕ) (x i : ℕ) → first_end signatures rows x ≡ Some i
-    → look_count signatures rows x ≡ i + 1
-unfolding look_count
-count-first signatures rows x i e = let one : suc i ≡ i + 1 = omega arith in
-    ap (λ o. option_map_or suc o (length rows)) e ∙ one
-
-pub row-none : (signatures rows : List ℕ) (x : ℕ) → first_end signatures rows x ≡ None
-    → found_row signatures rows x ≡ None
-unfolding found_row
-row-none signatures rows x e =
-    ap (λ o. option_and_then (λ j. row_of (get_or rows (place (length rows) x j) 0)) o) e
-
-pub count-none : (signatures rows : List ℕ) (x : ℕ) → first_end signatures rows x ≡ None
-    → look_count signatures rows x ≡ length rows
-unfolding look_count
-count-none signatures rows x e = ap (λ o. option_map_or suc o (length rows)) e
+pub unended : (signatures rows : List ℕ) (x i : ℕ) → length rows ≤ i
+    → first_end signatures rows x ≡ end_from signatures rows x i
+    → (found_row signatures rows x ≡ None) × (look_count signatures rows x ≡ length rows)
+unfolding found_row look_count
+unended signatures rows x i past rest =
+    let none : length rows - i ≡ 0 = omega arith in
+    let end : first_end signatures rows x ≡ None = rest ∙ rw none refl in
+    (rw end refl, rw end refl)
 
 pub row_of-used : (r : ℕ) → (r ≡ 0 → ⊥) → row_of r ≡ Some r
 row_of-used zero ne = absurd (ne refl)

@@ -1,7 +1,7 @@
 -- Numbers one after the other.
 use Rattle.std.proofs.Common.{◌≡◌, ℕ, zero, suc, ◌+◌, ◌-◌, ◌*◌, ◌<◌, Bool, true, false, cond, eqb}
 use Rattle.std.proofs.Common.{◌||◌, List, [], ◌∷◌, ◌++◌, length, get_or, drop, refl, sym, ap, ◌∙◌}
-use Rattle.std.proofs.Common.{eq-eqb, arith}
+use Rattle.std.proofs.Common.{eq-eqb, arith, add-one}
 use Rattle.std.specs.Prelude.{Some, is_some}
 use Rattle.std.specs.List.{position_from, list_any}
 use Rattle.std.proofs.lemmas.Bool.{ne_eqb}
@@ -25,41 +25,37 @@ length-number_rows order columns (suc n) bytes =
 pub get_or-numbers : (order : Endianness) (width n : ℕ) (bytes : List ℕ) (k d : ℕ) → k < n
     → get_or (numbers order width n bytes) k d ≡ number order width (drop (width * k) bytes)
 get_or-numbers order width zero bytes k d h = absurd (omega arith)
-get_or-numbers order width (suc n) bytes zero d h = let none : width * 0 ≡ 0 = omega arith in
-    ap (λ m. number order width (drop m bytes)) (sym none)
+get_or-numbers order width (suc n) bytes zero d h =
+    let none : width * 0 ≡ 0 = omega arith in rw none refl
 get_or-numbers order width (suc n) bytes (suc k) d h =
-    let next : width + width * k ≡ width * suc k = omega arith in
-    get_or-numbers order width n (drop width bytes) k d (omega arith) ∙ ap (number order width)
-    (drop-drop (width * k) width bytes ∙ ap (λ m. drop m bytes) next)
+    let next : width * suc k ≡ width + width * k = omega arith in
+    rw (next, ← drop-drop (width * k) width bytes)
+    (get_or-numbers order width n (drop width bytes) k d (omega arith))
 
 -- the row at a place
 pub get_or-number_rows : (order : Endianness) (columns n : ℕ) (bytes : List ℕ) (r : ℕ) (d : List ℕ)
     → r < n → get_or (number_rows order columns n bytes) r d ≡ numbers order 4 columns
     (drop (4 * columns * r) bytes)
 get_or-number_rows order columns zero bytes r d h = absurd (omega arith)
-get_or-number_rows order columns (suc n) bytes zero d h = let none : 4 * columns * 0 ≡ 0 =
-    omega arith in ap (λ m. numbers order 4 columns (drop m bytes)) (sym none)
+get_or-number_rows order columns (suc n) bytes zero d h =
+    let none : 4 * columns * 0 ≡ 0 = omega arith in rw none refl
 get_or-number_rows order columns (suc n) bytes (suc r) d h =
-    let next : 4 * columns + 4 * columns * r ≡ 4 * columns * suc r = omega arith in
-    get_or-number_rows order columns n (drop (4 * columns) bytes) r d (omega arith) ∙ ap
-    (numbers order 4 columns) (drop-drop (4 * columns * r) (4 * columns) bytes ∙ ap (λ m.
-    drop m bytes) next)
+    let next : 4 * columns * suc r ≡ 4 * columns + 4 * columns * r = omega arith in
+    rw (next, ← drop-drop (4 * columns * r) (4 * columns) bytes)
+    (get_or-number_rows order columns n (drop (4 * columns) bytes) r d (omega arith))
 
 -- one more number
 pub numbers_more : (order : Endianness) (width n : ℕ) (bytes : List ℕ) → numbers order width (n + 1)
     bytes ≡ numbers order width n bytes ++ number order width (drop (width * n) bytes) ∷ []
-numbers_more order width n bytes = let one : n + 1 ≡ suc n = omega arith in
-    ap (λ m. numbers order width m bytes) one ∙ last order width n bytes
+numbers_more order width n bytes = rw (add-one n) (last n bytes)
   where
-    last : (order : Endianness) (width n : ℕ) (bytes : List ℕ) → numbers order width (suc n) bytes ≡
-        numbers order width n bytes ++ number order width (drop (width * n) bytes) ∷ []
-    last order width zero bytes = let none : width * 0 ≡ 0 = omega arith in
-        ap (λ m. number order width (drop m bytes) ∷ []) (sym none)
-    last order width (suc n) bytes =
-        let next : width + width * n ≡ width * suc n = omega arith in
-        ap (λ xs. number order width bytes ∷ xs) (last order width n (drop width bytes))
-        ∙ ap (λ xs. number order width bytes ∷ (numbers order width n (drop width bytes) ++ number
-        order width xs ∷ [])) (drop-drop (width * n) width bytes ∙ ap (λ m. drop m bytes) next)
+    last : (n : ℕ) (bytes : List ℕ) → numbers order width (suc n) bytes ≡ numbers order width n
+        bytes ++ number order width (drop (width * n) bytes) ∷ []
+    last zero bytes = let none : width * 0 ≡ 0 = omega arith in rw none refl
+    last (suc n) bytes =
+        let next : width * suc n ≡ width + width * n = omega arith in
+        rw (next, ← drop-drop (width * n) width bytes) (ap (λ xs. number order width bytes ∷ xs)
+        (last n (drop width bytes)))
 
 -- ---- the first place of a number, looked for from a place on
 position-step : (order : Endianness) (count : ℕ) (bytes : List ℕ) (wanted i : ℕ) → i < count
@@ -69,20 +65,15 @@ position-step : (order : Endianness) (count : ℕ) (bytes : List ℕ) (wanted i 
     (drop (4 * (i + 1)) bytes)))
 position-step order count bytes wanted i h =
     let more : count - i ≡ suc (count - (i + 1)) = omega arith in
-    let next : 4 * i + 4 ≡ 4 * (i + 1) = omega arith in
-    ap (λ m. position_from (λ n. eqb n wanted) i (numbers order 4 m (drop (4 * i) bytes))) more
-    ∙ ap (λ xs. cond (eqb (number order 4 (drop (4 * i) bytes)) wanted) (Some i)
-    (position_from (λ n. eqb n wanted) (i + 1) (numbers order 4 (count - (i + 1)) xs)))
-    (drop-drop 4 (4 * i) bytes ∙ ap (λ m. drop m bytes) next)
+    let next : 4 * (i + 1) ≡ 4 * i + 4 = omega arith in
+    rw (more, next, ← drop-drop 4 (4 * i) bytes) refl
 
 pub position_here : (order : Endianness) (count : ℕ) (bytes : List ℕ) (wanted i : ℕ) → i < count
     → number order 4 (drop (4 * i) bytes) ≡ wanted
     → position_from (λ n. eqb n wanted) i (numbers order 4 (count - i) (drop (4 * i) bytes)) ≡ Some
     i
 position_here order count bytes wanted i h e =
-    position-step order count bytes wanted i h
-    ∙ ap (λ b. cond b (Some i) (position_from (λ n. eqb n wanted) (i + 1)
-    (numbers order 4 (count - (i + 1)) (drop (4 * (i + 1)) bytes)))) (eq-eqb _ wanted e)
+    position-step order count bytes wanted i h ∙ rw (eq-eqb _ wanted e) refl
 
 pub position_on : (order : Endianness) (count : ℕ) (bytes : List ℕ) (wanted i : ℕ) → i < count
     → (number order 4 (drop (4 * i) bytes) ≡ wanted → ⊥)
@@ -90,9 +81,7 @@ pub position_on : (order : Endianness) (count : ℕ) (bytes : List ℕ) (wanted 
     position_from (λ n. eqb n wanted) (i + 1) (numbers order 4 (count - (i + 1))
     (drop (4 * (i + 1)) bytes))
 position_on order count bytes wanted i h ne =
-    position-step order count bytes wanted i h
-    ∙ ap (λ b. cond b (Some i) (position_from (λ n. eqb n wanted) (i + 1)
-    (numbers order 4 (count - (i + 1)) (drop (4 * (i + 1)) bytes)))) (ne_eqb _ wanted ne)
+    position-step order count bytes wanted i h ∙ rw (ne_eqb _ wanted ne) refl
 
 -- a number has a place just where it is among them
 some_by : (test : ℕ → Bool) (i : ℕ) (xs : List ℕ) (b : Bool)

@@ -7,6 +7,7 @@ use Rattle.std.specs.Option.{option_map_or}
 use Rattle.std.proofs.lemmas.Bool.{le-leb}
 use Rattle.std.proofs.lemmas.Option.{same_Some}
 use Rattle.dwp_base.specs.Reading.{◌>>=◌, Answers}
+use Rattle.dwp_base.proofs.Steps.{bind-was, same-ok}
 use Rattle.dwp_base.specs.declared.section.SectionKind.{SectionKind}
 use Rattle.dwp_base.specs.declared.section.Contribution.{Contribution}
 use Rattle.dwp_bytes.specs.declared.encoding.Encoding.{Encoding}
@@ -51,11 +52,7 @@ unit_in-inside : (pack : Package) (object : DwarfObject) (number : ℕ) (row : R
     encoding → unit_in pack object number row ≡ Ok (unit_of pack object number row encoding)
 unfolding unit_in
 unit_in-inside pack object number row encoding inside read =
-    ap (λ (o : Option SectionKind). all_inside o >>= λ x. as_error errors.Unit
-    (encoding_in pack.order (own_place object row) (own_bytes pack.contents object row)) >>=
-    λ e. Ok (unit_of pack object number row e)) (none_outside pack.contents row inside)
-    ∙ ap (λ (r : Result Encoding ReadError). as_error errors.Unit r >>= λ e.
-    Ok (unit_of pack object number row e)) read
+    rw (none_outside pack.contents row inside, read) refl
 
 at_row : (pack : Package) (object : DwarfObject) (index : Index) (number count : ℕ) (row : Ranges)
     (encoding : Encoding) → row_in index number ≡ Ok row → LiesInside pack.contents row
@@ -65,10 +62,7 @@ at_row : (pack : Package) (object : DwarfObject) (index : Index) (number count :
     (Some (unit_of pack object number row encoding), count)
 unfolding unit_at_row
 at_row pack object index number count row encoding there inside read =
-    ap (λ (x : Result Ranges ReadError). as_error errors.Index x >>= λ y. unit_in pack object number
-    y >>= λ unit. Ok (Some unit, count)) there
-    ∙ ap (λ (x : Result FoundUnit PackageError). x >>= λ unit. Ok (Some unit, count))
-    (unit_in-inside pack object number row encoding inside read)
+    rw (there, unit_in-inside pack object number row encoding inside read) refl
 
 -- ---- the look-up
 abbrev Row : DwarfObject → Index → Option ℕ
@@ -77,17 +71,11 @@ Row object index = found_row index.signatures index.rows (identifier_of object)
 abbrev Count : DwarfObject → Index → ℕ
 Count object index = look_count index.signatures index.rows (identifier_of object)
 
-by_index : (pack : Package) (object : DwarfObject) (index : Index) → index_for pack object ≡ Some
-    index → found_counted pack object ≡ unit_found pack object index (Row object index)
-    (Count object index)
-unfolding found_counted
-by_index pack object index e = ap (found_by pack object) e
-
 by_row : (pack : Package) (object : DwarfObject) (index : Index) (row : Option ℕ)
     → index_for pack object ≡ Some index → Row object index ≡ row → found_counted pack object ≡
     unit_found pack object index row (Count object index)
-by_row pack object index row e f = by_index pack object index e ∙ ap (λ o. unit_found pack object
-    index o (Count object index)) f
+unfolding found_counted
+by_row pack object index row e f = rw (e, f) refl
 
 gives : (pack : Package) (object : DwarfObject) (unit : Option FoundUnit) (count most : ℕ)
     → count ≤ most → found_counted pack object ≡ Ok (unit, count)
@@ -97,7 +85,7 @@ gives pack object unit count most few e = record {
   count = count;
   few = few;
   counted = e;
-  uncounted = ap (λ (x : Result (Option FoundUnit × ℕ) PackageError). x >>= λ y. Ok y.0) e;
+  uncounted = rw e refl;
 }
 
 -- what the law of look-up says
@@ -128,86 +116,49 @@ absent_unit finds pack object ids index has absent =
 pub no_index : (pack : Package) (object : DwarfObject) → index_for pack object ≡ None
     → GivesWithin pack object None 0
 unfolding found_counted
-no_index pack object e = gives pack object None 0 0 (omega arith) (ap (found_by pack object) e)
+no_index pack object e = gives pack object None 0 0 (omega arith) (rw e refl)
 
 -- ---- the parts
-part_inside : (bytes : List ℕ) (range : Contribution) (o : Option Contribution) → o ≡ Some range
-    → range.offset.0 + range.size ≤ length bytes → part_of bytes o ≡ slice_range bytes
-    range.offset.0 (range.offset.0 + range.size)
-part_inside bytes range o e inside = ap (part_of bytes) e ∙ ap (λ b.
-    cond b (slice_range bytes range.offset.0 (range.offset.0 + range.size)) [])
-    (le-leb (range.offset.0 + range.size) (length bytes) inside)
-
 pub row_bytes-part : (contents : Sections) (row : Ranges) (kind : SectionKind)
     (range : Contribution) → range_in row kind ≡ Some range → range.offset.0 + range.size ≤ length
     (content contents kind)
     → row_bytes contents row kind ≡ slice_range (content contents kind) range.offset.0
     (range.offset.0 + range.size)
 unfolding row_bytes
-row_bytes-part contents row kind range e inside = part_inside (content contents kind) range
-    (range_in row kind) e inside
+row_bytes-part contents row kind range e inside =
+    rw (e, le-leb (range.offset.0 + range.size) (length (content contents kind)) inside) refl
 
 pub row_bytes-absent : (contents : Sections) (row : Ranges) (kind : SectionKind)
     → range_in row kind ≡ None → row_bytes contents row kind ≡ []
 unfolding row_bytes
-row_bytes-absent contents row kind e = ap (part_of (content contents kind)) e
+row_bytes-absent contents row kind e = rw e refl
 
 -- ---- a look-up that was answered
 abbrev Answer : Type 0
 Answer = Result (Option FoundUnit × ℕ) PackageError
-
-abbrev Given : Option FoundUnit → ℕ → Answer
-Given unit count = Ok (unit, count)
 
 -- it has the row's number and this count
 pub record Tells (row : Option ℕ) (count : ℕ) (unit : Option FoundUnit) (looked : ℕ) : Type 0 where
   pub row_is : row_number unit ≡ row
   pub count_is : looked ≡ count
 
-tells-same : (given unit : Option FoundUnit) (count looked : ℕ) → Given given count ≡ Given unit
-    looked → Tells (row_number given) count unit looked
-tells-same given unit count looked h =
-    let same : (given, count) ≡ (unit, looked) = cc in
-    record {
-      row_is = ap (λ (p : Option FoundUnit × ℕ). row_number p.0) (sym same);
-      count_is =
-          ap (λ (p : Option FoundUnit × ℕ). p.1) (sym same);
-    }
-
-encoded : (pack : Package) (object : DwarfObject) (number count : ℕ) (row : Ranges)
-    (read : Result Encoding PackageError) (unit : Option FoundUnit) (looked : ℕ)
-    → ((read >>= λ e. Ok (unit_of pack object number row e)) >>= λ u. Given (Some u) count) ≡ Given
-    unit looked → Tells (Some number) count unit looked
-encoded pack object number count row (Ok e) unit looked h =
-    tells-same (Some (unit_of pack object number row e)) unit count looked h
-encoded pack object number count row (Err e) unit looked h = absurd cc
-
-ranged : (pack : Package) (object : DwarfObject) (number count : ℕ) (row : Ranges)
-    (outside : Option SectionKind) (unit : Option FoundUnit) (looked : ℕ)
-    → ((all_inside outside >>= λ x. as_error errors.Unit (encoding_in pack.order
-    (own_place object row) (own_bytes pack.contents object row)) >>= λ e.
-    Ok (unit_of pack object number row e)) >>= λ u. Given (Some u) count) ≡ Given unit looked
-    → Tells (Some number) count unit looked
-ranged pack object number count row None unit looked h = encoded pack object number count row
-    (as_error errors.Unit (encoding_in pack.order (own_place object row) (own_bytes pack.contents
-    object row))) unit looked h
-ranged pack object number count row (Some kind) unit looked h = absurd cc
-
-rowed : (pack : Package) (object : DwarfObject) (number count : ℕ) (row : Result Ranges ReadError)
-    (unit : Option FoundUnit) (looked : ℕ)
-    → (as_error errors.Index row >>= λ x. unit_in pack object number x >>= λ u.
-    Given (Some u) count) ≡ Given unit looked → Tells (Some number) count unit looked
-unfolding unit_in
-rowed pack object number count (Ok row) unit looked h = ranged pack object number count row
-    (first_outside pack.contents row) unit looked h
-rowed pack object number count (Err e) unit looked h = absurd cc
-
 row-tells : (pack : Package) (object : DwarfObject) (index : Index) (number count : ℕ)
     (unit : Option FoundUnit) (looked : ℕ) → unit_at_row pack object index number count ≡ Ok
     (unit, looked) → Tells (Some number) count unit looked
-unfolding unit_at_row
-row-tells pack object index number count unit looked h = rowed pack object number count
-    (row_in index number) unit looked h
+unfolding unit_at_row unit_in
+row-tells pack object index number count unit looked h =
+    let row = bind-was (as_error errors.Index (row_in index number)) _ _ h in
+    let made = bind-was (unit_in pack object number row.0) _ _ row.2 in
+    let inside = bind-was (all_inside (first_outside pack.contents row.0)) _ _ made.1 in
+    let read = bind-was (as_error errors.Unit (encoding_in pack.order (own_place object row.0)
+    (own_bytes pack.contents object row.0))) _ _ inside.2 in
+    let told : ◌≡◌ {A = Option FoundUnit × ℕ} (Some made.0, count) (unit, looked) =
+    same-ok _ _ made.2 in
+    record {
+      row_is = ap (λ (p : Option FoundUnit × ℕ). row_number p.0) (sym told)
+          ∙ ap (λ (u : FoundUnit). Some u.number) (sym (same-ok _ _ read.2));
+      count_is = ap (λ (p : Option FoundUnit × ℕ). p.1) (sym told);
+    }
 
 -- ---- what a call answered, where the index has the row of a number
 module _ (pack : Package) (object : DwarfObject) (index : Index) (number count : ℕ)
@@ -220,7 +171,7 @@ module _ (pack : Package) (object : DwarfObject) (index : Index) (number count :
   within_slots (Ok y) h within =
       let tells = row-tells pack object index number count y.0 y.1 h in
       let slots : slots_for pack object ≡ length index.rows =
-      ap (λ o. option_map_or (λ (i : Index). length i.rows) o 0) there in
+      rw there refl in
       omega (arith, tells.count_is, slots)
   within_slots (Err e) h within = tt
 
@@ -243,12 +194,7 @@ module _ (pack : Package) (object : DwarfObject) (index : Index) (number count :
       (row_number y.0) y.1))
   exactly x row (Ok y) same found exact h = λ ids other e slots.
       let tells = row-tells pack object index number count y.0 y.1 h in
-      subst (λ (n : ℕ). FindsExactly ids (identifier_of object) (row_number y.0) n)
-      (sym tells.count_is)
-      (subst (λ (o : Option ℕ). FindsExactly ids (identifier_of object) o count)
-      (found ∙ sym tells.row_is)
-      (subst (λ (n : ℕ). FindsExactly ids n row count) same
-      (exact ids (slots_of ids other e slots))))
+      rw (tells.count_is, tells.row_is, ← found, ← same) (exact ids (slots_of ids other e slots))
   exactly x row (Err e) same found exact h = tt
 
   pub few : (r : Answer) → ((ids : List ℕ) → IsIndex ids index.signatures index.rows

@@ -88,9 +88,8 @@ says_some count held n (Some i) is e other = (ap Some (sym (e ∙ is.0)), omega 
 -- ---- one more column
 position_same : (test : ℕ → Bool) (i : ℕ) (xs : List ℕ) (n : ℕ) → test n ≡ false
     → position_from test i (xs ++ n ∷ []) ≡ position_from test i xs
-position_same test i [] n e = ap (λ b. cond b (Some i) None) e
-position_same test i (x ∷ xs) n e =
-    ap (λ o. cond (test x) (Some i) o) (position_same test (i + 1) xs n e)
+position_same test i [] n e = rw e refl
+position_same test i (x ∷ xs) n e = rw (position_same test (i + 1) xs n e) refl
 
 new_later : (i j : ℕ) (old new : Option ℕ) (b : Bool) → cond b (Some i) old ≡ None
     → (old ≡ None → new ≡ Some j) → cond b (Some i) new ≡ Some j
@@ -100,7 +99,7 @@ new_later i j old new false e later = later e
 position_new : (test : ℕ → Bool) (i : ℕ) (xs : List ℕ) (n : ℕ) → test n ≡ true
     → position_from test i xs ≡ None
     → position_from test i (xs ++ n ∷ []) ≡ Some (i + length xs)
-position_new test i [] n e none = ap (λ b. cond b (Some i) None) e ∙ ap Some (sym (add-zero i))
+position_new test i [] n e none = rw (e, add-zero i) refl
 position_new test i (x ∷ xs) n e none =
     let count : i + 1 + length xs ≡ i + length (x ∷ xs) = omega arith in
     new_later i (i + length (x ∷ xs)) (position_from test (i + 1) xs)
@@ -110,27 +109,28 @@ position_new test i (x ∷ xs) n e none =
 abbrev place_of : Option ℕ → List ℕ → Option ℕ
 place_of number columns = option_and_then (λ c. position_from (λ n. eqb n c) 0 columns) number
 
-place_is : (version : ℕ) (columns : List ℕ) (kind : SectionKind)
-    → column_place version columns kind ≡ place_of (column_of version kind) columns
-unfolding column_place
-place_is version columns kind = refl
-
 -- the number of a section's column has no place just where the section has none
 pub number_place : (version n : ℕ) (columns : List ℕ) (kind : SectionKind)
     → kind_of_column version n ≡ Some kind
     → column_place version columns kind ≡ position_from (λ x. eqb x n) 0 columns
-number_place version n columns kind e = place_is version columns kind
-    ∙ ap (λ o. place_of o columns) (number_of_kind version n kind e)
+unfolding column_place
+number_place version n columns kind e = rw (number_of_kind version n kind e) refl
 
 wider : (count held : ℕ) (o : Option ℕ) → IsPlace count held o → IsPlace (count + 1) held o
 wider count held None is = is
 wider count held (Some i) is = (is.0, omega (arith, is.1), is.2)
 
-same_place : (o : Option ℕ) (columns : List ℕ) (n : ℕ) → (o ≡ Some n → ⊥)
-    → place_of o (columns ++ n ∷ []) ≡ place_of o columns
-same_place None columns n other = refl
-same_place (Some c) columns n other = position_same (λ x. eqb x c) 0 columns n
-    (ne_eqb n c (λ e. other (ap Some (sym e))))
+same_place : (version n : ℕ) (columns : List ℕ) (kind : SectionKind)
+    → (column_of version kind ≡ Some n → ⊥)
+    → column_place version (columns ++ n ∷ []) kind ≡ column_place version columns kind
+unfolding column_place
+same_place version n columns kind = go (column_of version kind)
+  where
+    go : (o : Option ℕ) → (o ≡ Some n → ⊥)
+        → place_of o (columns ++ n ∷ []) ≡ place_of o columns
+    go None other = refl
+    go (Some c) other = position_same (λ x. eqb x c) 0 columns n
+        (ne_eqb n c (λ e. other (ap Some (sym e))))
 
 -- where columns stand once there is one more, of a section that had none
 pub one_more : (old new : ByKind ℕ) (version count n : ℕ) (columns more : List ℕ)
@@ -159,26 +159,14 @@ one_more old new version count n columns more kind longer long small are named n
         (column_place version (columns ++ n ∷ []) other)
     by-kind true e =
         let same : other ≡ kind = is-same other kind e in
-        let held : place_held new other ≡ count = put other
-        ∙ ap (λ b. cond b count (place_held old other)) e in
-        let place : column_place version (columns ++ n ∷ []) other ≡ Some count =
-        ap (column_place version (columns ++ n ∷ [])) same ∙ found in
-        subst (λ o. IsPlace (count + 1) (place_held new other) o) (sym place)
-        (held, omega arith, small)
+        rw (put other, e, same, found) (refl, omega arith, small)
     by-kind false e =
-        let held : place_held new other ≡ place_held old other = put other
-        ∙ ap (λ b. cond b count (place_held old other)) e in
         let apart : (column_of version other ≡ Some n → ⊥) =
         λ f. false≢true (sym e ∙ ap (λ k. same_kind k kind)
         (one_section version n other kind f number)
         ∙ same-self kind) in
-        let place : column_place version (columns ++ n ∷ []) other
-        ≡ column_place version columns other = place_is version (columns ++ n ∷ []) other
-        ∙ same_place (column_of version other) columns n apart
-        ∙ sym (place_is version columns other) in
-        subst (λ o. IsPlace (count + 1) (place_held new other) o) (sym place)
-        (subst (λ h. IsPlace (count + 1) h (column_place version columns other)) (sym held)
-        (wider count (place_held old other) (column_place version columns other) (are other)))
+        rw (put other, e, same_place version n columns other apart)
+        (wider count (place_held old other) (column_place version columns other) (are other))
 
 no_place : (o : Option ℕ) → place_of o [] ≡ None
 no_place None = refl
@@ -187,10 +175,8 @@ no_place (Some c) = refl
 -- there are no columns yet
 pub none_yet : (p : ByKind ℕ) (version : ℕ) → ((kind : SectionKind) → place_held p kind ≡ NO_COLUMN)
     → ArePlaces p version 0 []
-none_yet p version none kind =
-    let place : column_place version [] kind ≡ None = place_is version [] kind
-    ∙ no_place (column_of version kind) in
-    subst (λ o. IsPlace 0 (place_held p kind) o) (sym place) (none kind)
+unfolding column_place
+none_yet p version none kind = rw (no_place (column_of version kind)) (none kind)
 
 -- whether a number is among the columns, by the place of its section's
 pub is_among : (version count held n : ℕ) (columns : List ℕ) (kind : SectionKind)
@@ -199,8 +185,10 @@ pub is_among : (version count held n : ℕ) (columns : List ℕ) (kind : Section
     → list_any (λ x. eqb x n) columns ≡ true
 is_among version count held n columns kind is named other =
     sym (is_some-position (λ x. eqb x n) 0 columns)
-    ∙ ap is_some (sym (number_place version n columns kind named)
-    ∙ (says_some count held held (column_place version columns kind) is refl other).0)
+    ∙ rw (
+      ← number_place version n columns kind named,
+      (says_some count held held (column_place version columns kind) is refl other).0,
+    ) refl
 
 pub is_new : (version count held n : ℕ) (columns : List ℕ) (kind : SectionKind)
     → IsPlace count held (column_place version columns kind)
@@ -208,5 +196,7 @@ pub is_new : (version count held n : ℕ) (columns : List ℕ) (kind : SectionKi
     → list_any (λ x. eqb x n) columns ≡ false
 is_new version count held n columns kind is named none =
     sym (is_some-position (λ x. eqb x n) 0 columns)
-    ∙ ap is_some (sym (number_place version n columns kind named)
-    ∙ says_none count held held (column_place version columns kind) is refl none)
+    ∙ rw (
+      ← number_place version n columns kind named,
+      says_none count held held (column_place version columns kind) is refl none,
+    ) refl

@@ -66,6 +66,18 @@ bind order T (Ok x) (Err e) f g errors h k = absurd h
 bind order T (Err e) (Ok y) f g errors h k = absurd h
 bind order T (Err e) (Err d) f g errors h k = subst (λ z. T (Err e) (Err z)) h (errors e)
 
+and_then : {A C : Type 0} (order : Endianness) (r s : Result (A × Input) ReadError)
+    (f g : A × Input → Result (C × Input) ReadError) → Agree order r s
+    → ((a : A) (bytes : List ℕ) (p q : ℕ) → Agree order (f (a, plain order p bytes))
+    (g (a, plain order q bytes))) → Agree order (r >>= f) (s >>= g)
+and_then order r s f g = bind order (Agree order) r s f g (λ e. refl)
+
+and_read : {A : Type 0} (order : Endianness) (r s : Result (A × Input) ReadError)
+    (f g : A × Input → Result Unit ReadError) → Agree order r s
+    → ((a : A) (bytes : List ℕ) (p q : ℕ) → SameEncoding (f (a, plain order p bytes))
+    (g (a, plain order q bytes))) → SameEncoding (r >>= f) (s >>= g)
+and_read order r s f g = bind order SameEncoding r s f g (λ e. refl)
+
 pub choice : {C : Type 0} (T : Result C ReadError → Result C ReadError → Type 0) (b : Bool)
     (r s r' s' : Result C ReadError) → T r s → T r' s' → T (cond b r r') (cond b s s')
 choice T true r s r' s' h h' = h
@@ -95,16 +107,16 @@ address_size_agrees : (order : Endianness) (bytes : List ℕ) (p q : ℕ)
     → Agree order (address_size_at (plain order p bytes)) (address_size_at (plain order q bytes))
 unfolding address_size_at
 address_size_agrees order bytes p q =
-    bind order (Agree order) _ _ _ _ (λ e. refl) (byte_agrees order bytes p q) (λ a bs p' q'.
+    and_then order _ _ _ _ (byte_agrees order bytes p q) (λ a bs p' q'.
     choice (Agree order) (is_address_size a) _ _ _ _ (agreed order a bs p' q') refl)
 
 type_agrees : (order : Endianness) (format : Format) (bytes : List ℕ) (p q : ℕ)
     → Agree order (type_at format (plain order p bytes)) (type_at format (plain order q bytes))
 unfolding type_at
 type_agrees order format bytes p q =
-    bind order (Agree order) _ _ _ _ (λ e. refl) (number_agrees order 8 bytes p q)
+    and_then order _ _ _ _ (number_agrees order 8 bytes p q)
     (λ signature bs p' q'.
-    bind order (Agree order) _ _ _ _ (λ e. refl) (offset_agrees order format bs p' q')
+    and_then order _ _ _ _ (offset_agrees order format bs p' q')
     (λ offset cs p'' q''. agreed order (signature, offset) cs p'' q''))
 
 older_type_agrees : (order : Endianness) (place : UnitSection) (format : Format) (bytes : List ℕ)
@@ -113,14 +125,14 @@ older_type_agrees : (order : Endianness) (place : UnitSection) (format : Format)
 unfolding older_type_at
 older_type_agrees order Info format bytes p q = agreed order _ bytes p q
 older_type_agrees order Types format bytes p q =
-    bind order (Agree order) _ _ _ _ (λ e. refl) (type_agrees order format bytes p q) (λ t bs p' q'.
+    and_then order _ _ _ _ (type_agrees order format bytes p q) (λ t bs p' q'.
     agreed order _ bs p' q')
 
 unit_code_agrees : (order : Endianness) (bytes : List ℕ) (p q : ℕ)
     → Agree order (unit_code_at (plain order p bytes)) (unit_code_at (plain order q bytes))
 unfolding unit_code_at
 unit_code_agrees order bytes p q =
-    bind order (Agree order) _ _ _ _ (λ e. refl) (byte_agrees order bytes p q) (λ a bs p' q'.
+    and_then order _ _ _ _ (byte_agrees order bytes p q) (λ a bs p' q'.
     choice (Agree order) (leb 1 a && leb a 6) _ _ _ _ (agreed order a bs p' q') refl)
 
 unit_type_agrees : (order : Endianness) (code : ℕ) (format : Format) (bytes : List ℕ) (p q : ℕ)
@@ -129,14 +141,14 @@ unit_type_agrees : (order : Endianness) (code : ℕ) (format : Format) (bytes : 
 unfolding unit_type_at
 unit_type_agrees order code format bytes p q =
     choice (Agree order) (eqb code 1) _ _ _ _ (agreed order _ bytes p q)
-    (choice (Agree order) (eqb code 2) _ _ _ _ (bind order (Agree order) _ _ _ _ (λ e. refl)
+    (choice (Agree order) (eqb code 2) _ _ _ _ (and_then order _ _ _ _
     (type_agrees order format bytes p q) (λ t bs p' q'. agreed order _ bs p' q'))
     (choice (Agree order) (eqb code 3) _ _ _ _ (agreed order _ bytes p q)
-    (choice (Agree order) (eqb code 4) _ _ _ _ (bind order (Agree order) _ _ _ _ (λ e. refl)
+    (choice (Agree order) (eqb code 4) _ _ _ _ (and_then order _ _ _ _
     (number_agrees order 8 bytes p q) (λ n bs p' q'. agreed order _ bs p' q'))
-    (choice (Agree order) (eqb code 5) _ _ _ _ (bind order (Agree order) _ _ _ _ (λ e. refl)
+    (choice (Agree order) (eqb code 5) _ _ _ _ (and_then order _ _ _ _
     (number_agrees order 8 bytes p q) (λ n bs p' q'. agreed order _ bs p' q'))
-    (bind order (Agree order) _ _ _ _ (λ e. refl) (type_agrees order format bytes p q)
+    (and_then order _ _ _ _ (type_agrees order format bytes p q)
     (λ t bs p' q'. agreed order _ bs p' q'))))))
 
 older_agrees : (order : Endianness) (place : UnitSection) (format : Format) (version : ℕ)
@@ -145,11 +157,11 @@ older_agrees : (order : Endianness) (place : UnitSection) (format : Format) (ver
     (older_at place format version whole' (plain order q bytes))
 unfolding older_at
 older_agrees order place format version whole whole' bytes p q =
-    bind order SameEncoding _ _ _ _ (λ e. refl) (offset_agrees order format bytes p q)
+    and_read order _ _ _ _ (offset_agrees order format bytes p q)
     (λ offset bs p' q'.
-    bind order SameEncoding _ _ _ _ (λ e. refl) (address_size_agrees order bs p' q')
+    and_read order _ _ _ _ (address_size_agrees order bs p' q')
     (λ size cs p'' q''.
-    bind order SameEncoding _ _ _ _ (λ e. refl) (older_type_agrees order place format cs p'' q'')
+    and_read order _ _ _ _ (older_type_agrees order place format cs p'' q'')
     (λ t ds p''' q'''. refl)))
 
 newer_agrees : (order : Endianness) (format : Format) (whole whole' : Input)
@@ -158,12 +170,12 @@ newer_agrees : (order : Endianness) (format : Format) (whole whole' : Input)
     (plain order q bytes))
 unfolding newer_at
 newer_agrees order format whole whole' bytes p q =
-    bind order SameEncoding _ _ _ _ (λ e. refl) (unit_code_agrees order bytes p q) (λ code bs p' q'.
-    bind order SameEncoding _ _ _ _ (λ e. refl) (address_size_agrees order bs p' q')
+    and_read order _ _ _ _ (unit_code_agrees order bytes p q) (λ code bs p' q'.
+    and_read order _ _ _ _ (address_size_agrees order bs p' q')
     (λ size cs p'' q''.
-    bind order SameEncoding _ _ _ _ (λ e. refl) (offset_agrees order format cs p'' q'')
+    and_read order _ _ _ _ (offset_agrees order format cs p'' q'')
     (λ offset ds p''' q'''.
-    bind order SameEncoding _ _ _ _ (λ e. refl) (unit_type_agrees order code format ds p''' q''')
+    and_read order _ _ _ _ (unit_type_agrees order code format ds p''' q''')
     (λ t es r s. refl))))
 
 pub header_agrees : (order : Endianness) (place : UnitSection) (format : Format)
@@ -172,7 +184,7 @@ pub header_agrees : (order : Endianness) (place : UnitSection) (format : Format)
     whole' (plain order q bytes))
 unfolding header_at
 header_agrees order place format whole whole' bytes p q =
-    bind order SameEncoding _ _ _ _ (λ e. refl) (number_agrees order 2 bytes p q)
+    and_read order _ _ _ _ (number_agrees order 2 bytes p q)
     (λ version bs p' q'.
     choice SameEncoding (eqb version 5) _ _ _ _ (newer_agrees order format whole whole' bs p' q')
     (choice SameEncoding (leb 2 version && leb version 4) _ _ _ _ (older_agrees order place format

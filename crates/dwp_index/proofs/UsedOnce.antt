@@ -14,7 +14,7 @@ use Rattle.std.proofs.lemmas.List.{take-append-drop, take-set, drop-set-lt, get_
 use Rattle.std.proofs.lemmas.List.{get_or-set_other, length-set, drop_all}
 use Rattle.std.proofs.lemmas.List.Elements.{filter-append}
 use Rattle.std.proofs.lemmas.List.Sorted.{IsPermutation-refl, IsPermutation-sym, IsPermutation-cons}
-use Rattle.std.proofs.lemmas.List.Sorted.{IsPermutation-to_front, IsPermutation-trans}
+use Rattle.std.proofs.lemmas.List.Sorted.{IsPermutation-push_more}
 use Rattle.std.proofs.lemmas.List.Sorted.{IsPermutation-middle, IsPermutation-map}
 use Rattle.std.proofs.lemmas.List.Sorted.{IsPermutation-append}
 use Rattle.dwp_table.specs.Table.{IsHashTable, IsIndex, signature_of}
@@ -53,21 +53,15 @@ filtered xs k r h e =
 without : (xs : List ℕ) (k : ℕ) → k < length xs → filter used (set xs k 0) ≡ filter used (take k xs)
     ++ filter used (drop (suc k) xs)
 without xs k h =
-    let len = length-set xs k 0 in
-    filtered (set xs k 0) k 0 (omega (arith, len)) (get_or-set_same xs k 0 0 h)
-    ∙ ap (λ l. filter used l ++ filter used (drop (suc k) (set xs k 0))) (take-set xs k 0)
-    ∙ ap (λ l. filter used (take k xs) ++ filter used l) (drop-set-lt (suc k) xs k 0 (omega arith))
+    filtered (set xs k 0) k 0 (omega (arith, length-set xs k 0)) (get_or-set_same xs k 0 0 h)
+    ∙ rw (take-set xs k 0, drop-set-lt (suc k) xs k 0 (omega arith)) refl
 
 one_out : (xs : List ℕ) (k r : ℕ) → k < length xs → get_or xs k 0 ≡ suc r
     → IsPermutation (suc r ∷ filter used (set xs k 0)) (filter used xs)
 one_out xs k r h e =
-    let a = filter used (take k xs) in
-    let c = filter used (drop (suc k) xs) in
-    subst (λ l. IsPermutation (suc r ∷ l) (filter used xs)) (sym (without xs k h))
-    (subst (λ l. IsPermutation (suc r ∷ (a ++ c)) l)
-    (sym (filtered xs k (suc r) h e ∙ ap (λ b. a ++ cond b (suc r ∷ c) c)
-    (is_used (suc r) (λ z. omega arith))))
-    (IsPermutation-sym (a ++ suc r ∷ c) (suc r ∷ (a ++ c)) (IsPermutation-middle a (suc r) c)))
+    rw (without xs k h, filtered xs k (suc r) h e, is_used (suc r) (λ z. omega arith))
+    (IsPermutation-sym _ _ (IsPermutation-middle (filter used (take k xs)) (suc r)
+    (filter used (drop (suc k) xs))))
 
 -- ---- the numbers up to n, each once
 pub record HasEach (n : ℕ) (xs : List ℕ) : Type 0 where
@@ -120,31 +114,20 @@ one_fewer n xs has =
           other l l_apart);
     }
 
-range_more : (n a : ℕ) → range_with_len a (suc n) ≡ range_with_len a n ++ (a + n) ∷ []
-range_more zero a = let same : a ≡ a + 0 = omega arith in ap (λ m. m ∷ []) same
-range_more (suc n) a =
-    let same : a + 1 + n ≡ a + suc n = omega arith in
-    ap (λ l. a ∷ l) (range_more n (a + 1) ∙ ap (λ m. range_with_len (a + 1) n ++ m ∷ []) same)
-
-range_last : (n : ℕ) → range_with_len 1 (suc n) ≡ range_with_len 1 n ++ suc n ∷ []
-range_last n = let same : 1 + n ≡ suc n = omega arith in range_more n 1 ∙ ap (λ m.
-    range_with_len 1 n ++ m ∷ []) same
+range_more : (n a m : ℕ) → a + n ≡ m → range_with_len a (suc n) ≡ range_with_len a n ++ m ∷ []
+range_more zero a m e = let same : a ≡ m = omega (arith, e) in ap (λ k. k ∷ []) same
+range_more (suc n) a m e = ap (λ l. a ∷ l) (range_more n (a + 1) m (omega (arith, e)))
 
 pub each_once : (n : ℕ) (xs : List ℕ) → HasEach n xs → IsPermutation (range_with_len 1 n)
     (filter used xs)
-each_once zero xs has = subst (λ l. IsPermutation [] l) (sym (none_used xs has.most))
-    (IsPermutation-refl [])
+each_once zero xs has = rw (none_used xs has.most) (IsPermutation-refl [])
 each_once (suc n) xs has =
     let last = has.each n (omega arith) in
     let before = range_with_len 1 n in
     let fewer = set xs last.0 0 in
-    subst (λ l. IsPermutation l (filter used xs)) (sym (range_last n))
-    (IsPermutation-trans (before ++ suc n ∷ []) (suc n ∷ before) (filter used xs)
-    (IsPermutation-to_front before (suc n))
-    (IsPermutation-trans (suc n ∷ before) (suc n ∷ filter used fewer) (filter used xs)
-    (IsPermutation-cons (suc n) before (filter used fewer)
-    (each_once n fewer (one_fewer n xs has)))
-    (one_out xs last.0 n last.1 last.2)))
+    rw (range_more n 1 (suc n) (omega arith))
+    (IsPermutation-push_more before (filter used fewer) (filter used xs) (suc n)
+    (each_once n fewer (one_fewer n xs has)) (one_out xs last.0 n last.1 last.2))
 
 -- ---- the slots
 abbrev named : List ℕ → ℕ → ℕ × ℕ
@@ -178,28 +161,18 @@ used-from : (ids : List ℕ) (index : Index) → IsIndex ids index.signatures in
     (filter used (drop k index.rows))
 used-from ids index is zero k e =
     let none : drop k index.rows ≡ [] = drop_all k index.rows (omega arith) in
-    used_none index k (omega arith) ∙ sym (ap (λ l. map (named ids) (filter used l)) none)
+    used_none index k (omega arith) ∙ sym (rw none refl)
 used-from ids index is (suc n) k e =
     let row = get_or index.rows k 0 in
     let one : k + 1 ≡ suc k = omega arith in
     let within : k < length index.rows = omega arith in
     let rest = used-from ids index is n (k + 1) (omega arith) in
-    let after : drop k index.rows ≡ row ∷ drop (k + 1) index.rows = drop-cons index.rows k 0 within
-    ∙ ap (λ m. row ∷ drop m index.rows) (sym one) in
+    let after : drop k index.rows ≡ row ∷ drop (k + 1) index.rows =
+    rw one (drop-cons index.rows k 0 within) in
     elim (same_or_not row 0) [
-      | inl zero' ↦
-          used_after index k within zero' ∙ rest
-          ∙ sym (ap (λ l. map (named ids) (filter used l)) after
-          ∙ ap (λ m. map (named ids) (cond (used m) (m ∷ filter used (drop (k + 1) index.rows))
-          (filter used (drop (k + 1) index.rows)))) zero')
-      | inr some ↦
-          used_here index k within some
-          ∙ ap (λ l. slot_at index k ∷ l) rest
-          ∙ ap (λ s. s ∷ map (named ids) (filter used (drop (k + 1) index.rows)))
-          (slot-named ids index k is within)
-          ∙ sym (ap (λ l. map (named ids) (filter used l)) after
-          ∙ ap (λ b. map (named ids) (cond b (row ∷ filter used (drop (k + 1) index.rows))
-          (filter used (drop (k + 1) index.rows)))) (is_used row some))
+      | inl zero' ↦ used_after index k within zero' ∙ rest ∙ sym (rw (after, zero') refl)
+      | inr some ↦ used_here index k within some ∙ rw (rest, slot-named ids index k is within)
+          (sym (rw (after, is_used row some) refl))
     ]
 
 -- ---- the identifiers
@@ -208,8 +181,7 @@ named-at : (before ids : List ℕ) (x r : ℕ) → r ≡ suc (length before)
 named-at before ids x zero e = absurd (omega arith)
 named-at before ids x (suc r) e =
     let same : r ≡ length before = omega arith in
-    ap (λ s. (s, suc r)) (ap (λ k. get_or (before ++ x ∷ ids) k 0) same ∙
-    get_or-append_seam before x ids 0)
+    rw same (ap (λ s. (s, suc (length before))) (get_or-append_seam before x ids 0))
 
 numbered-from : (before ids : List ℕ) (r : ℕ) → r ≡ suc (length before) → numbered r ids ≡ map
     (named (before ++ ids)) (range_with_len r (length ids))
@@ -217,25 +189,26 @@ numbered-from before [] r e = refl
 numbered-from before (x ∷ ids) r e =
     let longer : r + 1 ≡ suc (length (before ++ x ∷ [])) =
     omega (arith, length-append before (x ∷ [])) in
-    ap (λ l. (x, r) ∷ l) (numbered-from (before ++ x ∷ []) ids (r + 1) longer)
-    ∙ ap (λ l. (x, r) ∷ map (named l) (range_with_len (r + 1) (length ids)))
-    (append_assoc before (x ∷ []) ids)
-    ∙ ap (λ s. s ∷ map (named (before ++ x ∷ ids)) (range_with_len (r + 1) (length ids)))
-    (sym (named-at before ids x r e))
+    rw (
+      numbered-from (before ++ x ∷ []) ids (r + 1) longer,
+      append_assoc,
+      ← named-at before ids x
+          r e,
+    ) refl
 
 pub slots_once : (ids : List ℕ) (index : Index) → IsIndex ids index.signatures index.rows
     → IsPermutation (numbered 1 ids) (used_in index 0)
 slots_once ids index is =
-    subst (λ l. IsPermutation l (used_in index 0)) (sym (numbered-from [] ids 1 (omega arith)))
-    (subst (λ l. IsPermutation (map (named ids) (range_with_len 1 (length ids))) l)
-    (sym (used-from ids index is (length index.rows) 0 (omega arith)))
+    rw (
+      numbered-from [] ids 1 (omega arith),
+      used-from ids index is (length index.rows) 0 (omega arith),
+    )
     (IsPermutation-map (named ids) (range_with_len 1 (length ids)) (filter used index.rows)
-    (each_once (length ids) index.rows (rows_have_each ids index.rows is.table))))
+    (each_once (length ids) index.rows (rows_have_each ids index.rows is.table)))
 
 used_once : (index : Option Index) (ids : List ℕ) → IsIndexOfIds index ids
     → IsPermutation (numbered 1 ids) (used_from index 0)
-used_once None ids none = subst (λ l. IsPermutation (numbered 1 l) []) (sym none)
-    (IsPermutation-refl [])
+used_once None ids none = rw none (IsPermutation-refl [])
 used_once (Some index) ids is = slots_once ids index is
 
 pub entries_once : (compilations types : Option Index) (ids signatures : List ℕ)

@@ -13,12 +13,11 @@ use Rattle.dwp_index.specs.Fields.{index_in}
 use Rattle.dwp_index.proofs.NumberLists.{length-numbers, length-number_rows, get_or-number_rows}
 
 pub slots-length : (u : Inside) (v : Index) → index_in u ≡ v → length v.rows ≡ u.slot_count
-slots-length u v e = ap (λ (i : Index). length i.rows) (sym e) ∙ length-numbers u.order 4
-    u.slot_count u.rows.now
+slots-length u v e = rw (← e) (length-numbers u.order 4 u.slot_count u.rows.now)
 
 pub units-length : (u : Inside) (v : Index) → index_in u ≡ v → length v.offsets ≡ u.unit_count
-units-length u v e = ap (λ (i : Index). length i.offsets) (sym e) ∙ length-number_rows u.order
-    u.column_count u.unit_count u.offsets.now
+units-length u v e =
+    rw (← e) (length-number_rows u.order u.column_count u.unit_count u.offsets.now)
 
 abbrev Found : Index → ℕ → Ranges
 Found v r = record {
@@ -29,20 +28,17 @@ Found v r = record {
   sizes = get_or v.sizes (r - 1) [];
 }
 
-row-by : (v : Index) (r : ℕ) (a b : Bool) → ltb 0 r ≡ a → ltb (r - 1) (length v.offsets) ≡ b
-    → row_in v r ≡ cond (a && b) (Ok (Found v r)) (Err RowOutOfRange)
-unfolding row_in
-row-by v r a b e f = ap (λ x. cond (x && ltb (r - 1) (length v.offsets)) (Ok (Found v r))
-    (Err RowOutOfRange)) e ∙ ap (λ x. cond (a && x) (Ok (Found v r)) (Err RowOutOfRange)) f
-
 pub row-zero : (v : Index) (r : ℕ) → r ≡ 0 → row_in v r ≡ Err RowOutOfRange
-row-zero v r e = row-by v r false (ltb (r - 1) (length v.offsets)) (le-ltb 0 r (omega arith)) refl
+unfolding row_in
+row-zero v r e = rw e refl
 
 pub row-past : (v : Index) (r : ℕ) → length v.offsets < r → row_in v r ≡ Err RowOutOfRange
-row-past v r h = row-by v r true false (lt-ltb 0 r (omega arith)) (le-ltb _ _ (omega arith))
+unfolding row_in
+row-past v r h = rw (lt-ltb 0 r (omega arith), le-ltb (r - 1) (length v.offsets) (omega arith)) refl
 
 row-within : (v : Index) (r : ℕ) → 0 < r → r ≤ length v.offsets → row_in v r ≡ Ok (Found v r)
-row-within v r h k = row-by v r true true (lt-ltb 0 r h) (lt-ltb _ _ (omega arith))
+unfolding row_in
+row-within v r h k = rw (lt-ltb 0 r h, lt-ltb (r - 1) (length v.offsets) (omega arith)) refl
 
 pub row_view : (u : Inside) (v : Index) (r : ℕ) (offsets sizes : List ℕ) → index_in u ≡ v → 0 < r
     → r ≤ u.unit_count
@@ -56,43 +52,22 @@ pub row_view : (u : Inside) (v : Index) (r : ℕ) (offsets sizes : List ℕ) →
           sizes;
     }) ≡ row_in v r
 row_view u v r offsets sizes e h k o s =
-    let n = u.column_count in
-    let found : Ranges = record {
-      version = u.version;
-      columns = numbers u.order 4 n u.columns.now;
-      offsets = numbers u.order 4 n offsets;
-      sizes = numbers u.order 4 n sizes;
-    } in
-    let a : numbers u.order 4 n offsets ≡ get_or (number_rows u.order n u.unit_count u.offsets.now)
-    (r - 1) [] = ap (numbers u.order 4 n) o ∙ sym (get_or-number_rows u.order n u.unit_count
-    u.offsets.now (r - 1) [] (omega arith)) in
-    let b : numbers u.order 4 n sizes ≡ get_or (number_rows u.order n u.unit_count u.sizes.now)
-    (r - 1) [] = ap (numbers u.order 4 n) s ∙ sym (get_or-number_rows u.order n u.unit_count
-    u.sizes.now (r - 1) [] (omega arith)) in
-    let same : found ≡ Found (index_in u) r =
-    ap (λ (x : List ℕ). record {
-      version = u.version;
-      columns = numbers u.order 4 n u.columns.now;
-      offsets = x;
-      sizes = numbers u.order 4 n sizes;
-    }) a
-    ∙ ap (λ (x : List ℕ). record {
-      version = u.version;
-      columns = numbers u.order 4 n u.columns.now;
-      offsets = get_or (number_rows u.order n u.unit_count u.offsets.now) (r - 1) [];
-      sizes = x;
-    }) b in
-    ap Ok (same ∙ ap (λ (i : Index). Found i r) e) ∙ sym
-    (row-within v r h (omega (arith, units-length u v e)))
+    let rows = get_or-number_rows u.order u.column_count u.unit_count in
+    rw (
+      o,
+      s,
+      ← e,
+      row-within (index_in u) r h (omega (arith, units-length u _ refl)),
+      rows u.offsets.now (r - 1) [] (omega arith),
+      rows u.sizes.now (r - 1) [] (omega arith),
+    ) refl
 
 pub range-none : (row : Ranges) (kind : SectionKind) → column_place row.version row.columns kind ≡
     None → range_in row kind ≡ None
 unfolding range_in
-range-none row kind e = ap (λ o. option_and_then (λ i. contribution (get_or row.offsets i 0)
-    (get_or row.sizes i 0)) o) e
+range-none row kind e = rw e refl
 
 pub range-some : (row : Ranges) (kind : SectionKind) (i : ℕ) → column_place row.version row.columns
     kind ≡ Some i → range_in row kind ≡ contribution (get_or row.offsets i 0) (get_or row.sizes i 0)
 unfolding range_in
-range-some row kind i e = ap (λ o. option_and_then (λ i. contribution (get_or row.offsets i 0)
-    (get_or row.sizes i 0)) o) e
+range-some row kind i e = rw e refl

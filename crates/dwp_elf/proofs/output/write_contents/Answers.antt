@@ -1,12 +1,10 @@
-use Rattle.std.proofs.lemmas.Result.{err_from_is_err_and}
 use Rattle.dwp_elf.proofs.Parts.{content_bytes-drop, content_bytes-end}
-use Rattle.dwp_elf.proofs.SoFar.{so_far_more, so_far_all, so_far_part}
+use Rattle.dwp_elf.proofs.SoFar.{so_far_more, so_far_all, so_far_part, failed}
 use Rattle.dwp_elf.proofs.output.write_contents.Goals as goal
 
 pub returns-in_err-write_whole-clause-text : goal.returns-in_err-write_whole-clause-text
 returns-in_err-write_whole-clause-text g c =
-    let p = err_from_is_err_and c.from_residual.result c.from_residual.ensures.1 in
-    rw p.1 (so_far_part _ _ _ _ c.loop-section.invariant.text (content_bytes-drop _ _ _
+    failed _ _ c.from_residual.ensures.1 (so_far_part _ _ _ _ c.loop-section.invariant.text (content_bytes-drop _ _ _
     c.loop-section-test.true c.section-item.is)
     (rw c.deref.ensures.value at c.in_err-write_whole.ensures.text))
 

@@ -1,16 +1,13 @@
 use Rattle.std.proofs.Common.{[], ◌∷◌, ◌++◌}
 use Rattle.std.specs.Prelude.{codes}
-use Rattle.std.proofs.lemmas.Result.{err_from_is_err_and}
 use Rattle.dwp_elf.specs.Contents.{contents_of}
 use Rattle.dwp_elf.specs.FileText.{names_of}
-use Rattle.dwp_elf.proofs.SoFar.{part_after, part_before, Writes-after}
+use Rattle.dwp_elf.proofs.SoFar.{part_after, part_before, Writes-after, failed}
 use Rattle.dwp_elf.proofs.output.write_name_table.Goals as goal
 
 pub returns-in_err-write_names-clause-text : goal.returns-in_err-write_names-clause-text
 returns-in_err-write_names-clause-text g c =
-    let p = err_from_is_err_and c.from_residual-in_err-write_names.result
-    c.from_residual-in_err-write_names.ensures.1 in
-    rw p.1 (part_after (0 ∷ []) c.in_ok-write_whole.ensures.text
+    failed _ _ c.from_residual-in_err-write_names.ensures.1 (part_after (0 ∷ []) c.in_ok-write_whole.ensures.text
     (part_before (codes ".shstrtab" ++ 0 ∷ []) c.in_err-write_names.ensures.text))
 
 pub returns-clause-text : goal.returns-clause-text

@@ -1,9 +1,7 @@
 use Rattle.std.proofs.Common.{◌≡◌, ◌+◌, length, refl, ap, ◌∙◌, arith}
-use Rattle.std.proofs.lemmas.Result.{err_from_is_err_and}
-use Rattle.dwp_elf.specs.FileText.{section_header}
 use Rattle.dwp_elf.proofs.Parts.{length-content_bytes-drop, headers_from-drop, headers_from-end}
 use Rattle.dwp_elf.proofs.Parts.{length-name_of, limit-le}
-use Rattle.dwp_elf.proofs.SoFar.{so_far_more, so_far_part, Writes-so_far}
+use Rattle.dwp_elf.proofs.SoFar.{so_far_more, so_far_part, Writes-so_far, failed}
 use Rattle.dwp_elf.proofs.output.write_section_headers.Goals as goal
 
 pub section_header-header-requires-clause-place_fits :
@@ -28,17 +26,12 @@ section_header-header-requires-clause-size_fits g c =
 pub returns-in_err-write_whole-clause-text : goal.returns-in_err-write_whole-clause-text
 returns-in_err-write_whole-clause-text g c =
     let x = c.section-item.result in
-    let size : c.len-size.result ≡ length x.1.items = omega (arith, x.1.ok.0, c.len-size.ensures) in
-    let header : c.as_slice.result.now ≡ section_header c.args.class c.args.endianness
-    c.loop-section.name 1 c.loop-section.place (length x.1.items) =
-    c.as_slice.ensures ∙ c.section_header-header.ensures ∙ ap (section_header c.args.class
-    c.args.endianness c.loop-section.name 1 c.loop-section.place) size in
     let split = headers_from-drop c.args.class c.args.endianness c.args.names_size
-    c.loop-section.name c.loop-section.place _ _ _ _ _ c.loop-section-test.true
-    c.section-item.is refl refl in
-    let p = err_from_is_err_and c.from_residual.result c.from_residual.ensures.1 in
-    rw p.1 (so_far_part _ _ _ _ c.loop-section.invariant.written split
-    (rw header at c.in_err-write_whole.ensures.text))
+    c.loop-section.name c.loop-section.place c.len-size.result _ _ c.as_slice.result.now _ _ _
+    c.loop-section-test.true c.section-item.is (omega (arith, x.1.ok.0, c.len-size.ensures))
+    (c.as_slice.ensures ∙ c.section_header-header.ensures) refl refl in
+    failed _ _ c.from_residual.ensures.1 (so_far_part _ _ _ _ c.loop-section.invariant.written split
+    c.in_err-write_whole.ensures.text)
 
 pub overflow_add-place : goal.overflow_add-place
 overflow_add-place g c =
@@ -58,20 +51,16 @@ pub loop-section-preserved : goal.loop-section-preserved
 loop-section-preserved g c =
     let x = c.section-item.result in
     let size : c.len-size.result ≡ length x.1.items = omega (arith, x.1.ok.0, c.len-size.ensures) in
-    let header : c.as_slice.result.now ≡ section_header c.args.class c.args.endianness
-    c.loop-section.name 1 c.loop-section.place (length x.1.items) =
-    c.as_slice.ensures ∙ c.section_header-header.ensures ∙ ap (section_header c.args.class
-    c.args.endianness c.loop-section.name 1 c.loop-section.place) size in
     let name = ap length c.name.ensures in
     let split = headers_from-drop c.args.class c.args.endianness c.args.names_size
-    c.loop-section.name c.loop-section.place
-    (c.loop-section.name + (length c.name.result.now + 1)) (c.loop-section.place +
-    c.len-size.result) _ _ _
-    c.loop-section-test.true c.section-item.is (omega (arith, name)) (omega (arith, size)) in
+    c.loop-section.name c.loop-section.place c.len-size.result
+    (c.loop-section.name + (length c.name.result.now + 1)) _ c.as_slice.result.now _ _ _
+    c.loop-section-test.true c.section-item.is size
+    (c.as_slice.ensures ∙ c.section_header-header.ensures) (omega (arith, name)) refl in
     let step = length-content_bytes-drop _ _ _ c.loop-section-test.true c.section-item.is in
     record {
       written = so_far_more _ _ _ _ c.loop-section.invariant.written split
-          (rw header at c.in_ok-write_whole.ensures.text);
+          c.in_ok-write_whole.ensures.text;
       error = λ kind f. c.loop-section.invariant.error kind
           (c.in_ok-write_whole.ensures.error kind f);
       place_left = omega (arith, step, size, c.loop-section.invariant.place_left);
@@ -80,10 +69,8 @@ loop-section-preserved g c =
 
 pub returns-clause-text : goal.returns-clause-text
 returns-clause-text g c =
-    let header : c.as_slice-2.result.now ≡ section_header c.args.class c.args.endianness
-    c.loop-section.name 3 c.loop-section.place c.args.names_size =
-    c.as_slice-2.ensures ∙ c.section_header-header-2.ensures in
     let end = headers_from-end c.args.class c.args.endianness c.args.names_size c.loop-section.name
     c.loop-section.place _ _ c.loop-section-test.false in
     Writes-so_far _ _ _ _ _ _ c.loop-section.invariant.written
-    (rw (end, ← header) c.write_whole-2.ensures.text)
+    (rw (end, ← (c.as_slice-2.ensures ∙ c.section_header-header-2.ensures))
+    c.write_whole-2.ensures.text)

@@ -1,8 +1,7 @@
 use Rattle.std.proofs.Common.{◌<◌, ◌++◌, length, take, sym, ap, ◌∙◌, arith, take-append-drop}
 use Rattle.std.proofs.lemmas.Bool.Decides.{nat_tests}
 use Rattle.std.proofs.lemmas.List.{take_rest}
-use Rattle.std.proofs.lemmas.Result.{err_from_is_err_and}
-use Rattle.dwp_elf.proofs.SoFar.{so_far_none, so_far_more, so_far_stop, Keeps-from_none}
+use Rattle.dwp_elf.proofs.SoFar.{so_far_none, so_far_more, so_far_stop, Keeps-from_none, failed}
 use Rattle.dwp_elf.proofs.output.write_whole.Goals as goal
 
 pub loop-rest-init : goal.loop-rest-init
@@ -11,8 +10,7 @@ loop-rest-init g c = record { text = so_far_none _ _; error = λ kind f. f }
 pub returns-in_err-taken-clause-text : goal.returns-in_err-taken-clause-text
 returns-in_err-taken-clause-text g c =
     let some : 0 < length c.loop-rest.rest.now = grind (arith, nat_tests) in
-    let p = err_from_is_err_and c.from_residual.result c.from_residual.ensures.1 in
-    rw p.1 (so_far_stop _ c.loop-rest.invariant.text some c.in_err-taken.ensures.bytes)
+    failed _ _ c.from_residual.ensures.1 (so_far_stop _ c.loop-rest.invariant.text some c.in_err-taken.ensures.bytes)
 
 pub returns-then-taken-eq0-clause-text : goal.returns-then-taken-eq0-clause-text
 returns-then-taken-eq0-clause-text g c =

@@ -6,12 +6,6 @@ use Rattle.dwp_elf.proofs.Limits.{places-fits, places-refused}
 use Rattle.dwp_elf.proofs.WrittenBack.{places-back}
 use Rattle.dwp_elf.proofs.object.WritableObject.places.Goals as goal
 
-pub places_of-requires : goal.places_of-requires
-places_of-requires c =
-    let sections = c.self.inside.sections.items in
-    let few = length-KindsDiffer _ c.self.invariant in
-    omega (arith, few, length-contents_of sections, ap length c.deref.ensures.value)
-
 pub returns-clause-fits : goal.returns-clause-fits
 returns-clause-fits c =
     rw (c.ok_or.ensures.value, ← c.self.view_is)

@@ -1,27 +1,18 @@
 use Rattle.std.proofs.Common.{◌+◌, sym, ap, ◌∙◌, arith}
 use Rattle.dwp_table.specs.Probing.{place, row_of}
-use Rattle.dwp_index.proofs.LookUp.{unused_ends, found_ends, other_goes_on, end-start, end-here}
-use Rattle.dwp_index.proofs.LookUp.{end-on, end-none, row-first, count-first, row-none, count-none}
+use Rattle.dwp_index.proofs.LookUp.{unused_ends, found_ends, other_goes_on, end-start, end-on}
+use Rattle.dwp_index.proofs.LookUp.{ended, unended}
 use Rattle.dwp_index.proofs.LookUp.{row_of-used}
 use Rattle.dwp_index.proofs.Views.{slots-length}
 use Rattle.dwp_index.proofs.unit_index.UnitIndex.look_up.Goals as goal
 
-pub returns-then-self-eq0-clause-row : goal.returns-then-self-eq0-clause-row
-returns-then-self-eq0-clause-row c =
+pub returns-then-self-eq0 : goal.returns-then-self-eq0
+returns-then-self-eq0 c =
     let v = c.args.self.now in
     let slots = slots-length c.self.inside v c.self.view_is in
-    sym (row-none v.signatures v.rows c.args.identifier (end-none v.signatures v.rows
-    c.args.identifier 0 (omega arith) (end-start v.signatures v.rows c.args.identifier)))
-
-pub returns-then-self-eq0-clause-count : goal.returns-then-self-eq0-clause-count
-returns-then-self-eq0-clause-count c =
-    let v = c.args.self.now in
-    let slots = slots-length c.self.inside v c.self.view_is in
-    omega (
-      arith,
-      count-none v.signatures v.rows c.args.identifier (end-none v.signatures v.rows
-          c.args.identifier 0 (omega arith) (end-start v.signatures v.rows c.args.identifier)),
-    )
+    let none = unended v.signatures v.rows c.args.identifier 0 (omega arith)
+    (end-start v.signatures v.rows c.args.identifier) in
+    record { row = sym none.0; count = omega (arith, none.1) }
 
 pub loop-looked-init : goal.loop-looked-init
 loop-looked-init c =
@@ -33,49 +24,29 @@ loop-looked-init c =
       rest = end-start v.signatures v.rows c.args.identifier;
     }
 
-pub returns-then-row-eq0-clause-row : goal.returns-then-row-eq0-clause-row
-returns-then-row-eq0-clause-row c =
+pub returns-then-row-eq0 : goal.returns-then-row-eq0
+returns-then-row-eq0 c =
     let v = c.args.self.now in
     let slots = slots-length c.self.inside v c.self.view_is in
     let unused = sym c.slot-signature.ensures.row ∙ c.if-row-eq0.true in
-    let end = end-here v.signatures v.rows c.args.identifier c.loop-looked.looked c.loop-looked.at
+    let end = ended v.signatures v.rows c.args.identifier c.loop-looked.looked c.loop-looked.at
     (omega arith) c.loop-looked.invariant.rest c.loop-looked.invariant.at_place
     (unused_ends v.signatures v.rows c.args.identifier c.loop-looked.at unused) in
-    sym (row-first v.signatures v.rows c.args.identifier c.loop-looked.looked c.loop-looked.at end
-    c.loop-looked.invariant.at_place ∙ ap row_of unused)
+    record { row = sym (end.0 ∙ ap row_of unused); count = sym end.1 }
 
-pub returns-then-row-eq0-clause-count : goal.returns-then-row-eq0-clause-count
-returns-then-row-eq0-clause-count c =
+pub returns-then-signature-identifier : goal.returns-then-signature-identifier
+returns-then-signature-identifier c =
     let v = c.args.self.now in
     let slots = slots-length c.self.inside v c.self.view_is in
-    let unused = sym c.slot-signature.ensures.row ∙ c.if-row-eq0.true in
-    sym (count-first v.signatures v.rows c.args.identifier c.loop-looked.looked
-    (end-here v.signatures v.rows c.args.identifier c.loop-looked.looked c.loop-looked.at
+    let end = ended v.signatures v.rows c.args.identifier c.loop-looked.looked c.loop-looked.at
     (omega arith) c.loop-looked.invariant.rest c.loop-looked.invariant.at_place
-    (unused_ends v.signatures v.rows c.args.identifier c.loop-looked.at unused)))
-
-pub returns-then-signature-identifier-clause-row : goal.returns-then-signature-identifier-clause-row
-returns-then-signature-identifier-clause-row c =
-    let v = c.args.self.now in
-    let slots = slots-length c.self.inside v c.self.view_is in
-    let same = sym c.slot-signature.ensures.signature ∙ c.if-signature-identifier.true in
-    let end = end-here v.signatures v.rows c.args.identifier c.loop-looked.looked c.loop-looked.at
-    (omega arith) c.loop-looked.invariant.rest c.loop-looked.invariant.at_place
-    (found_ends v.signatures v.rows c.args.identifier c.loop-looked.at same) in
-    sym (row-first v.signatures v.rows c.args.identifier c.loop-looked.looked c.loop-looked.at end
-    c.loop-looked.invariant.at_place ∙ ap row_of (sym c.slot-signature.ensures.row) ∙
-    row_of-used c.slot-signature.result.1 c.if-row-eq0.false)
-
-pub returns-then-signature-identifier-clause-count :
-    goal.returns-then-signature-identifier-clause-count
-returns-then-signature-identifier-clause-count c =
-    let v = c.args.self.now in
-    let slots = slots-length c.self.inside v c.self.view_is in
-    let same = sym c.slot-signature.ensures.signature ∙ c.if-signature-identifier.true in
-    sym (count-first v.signatures v.rows c.args.identifier c.loop-looked.looked
-    (end-here v.signatures v.rows c.args.identifier c.loop-looked.looked c.loop-looked.at
-    (omega arith) c.loop-looked.invariant.rest c.loop-looked.invariant.at_place
-    (found_ends v.signatures v.rows c.args.identifier c.loop-looked.at same)))
+    (found_ends v.signatures v.rows c.args.identifier c.loop-looked.at
+    (sym c.slot-signature.ensures.signature ∙ c.if-signature-identifier.true)) in
+    record {
+      row = sym (end.0 ∙ ap row_of (sym c.slot-signature.ensures.row)
+          ∙ row_of-used c.slot-signature.result.1 c.if-row-eq0.false);
+      count = sym end.1;
+    }
 
 pub place_after-at-requires-clause-within : goal.place_after-at-requires-clause-within
 place_after-at-requires-clause-within c = let slots = slots-length c.self.inside c.args.self.now
@@ -98,19 +69,10 @@ loop-looked-preserved c =
           (omega arith) c.loop-looked.invariant.rest c.loop-looked.invariant.at_place other;
     }
 
-pub returns-clause-row : goal.returns-clause-row
-returns-clause-row c =
+pub returns : goal.returns
+returns c =
     let v = c.args.self.now in
     let slots = slots-length c.self.inside v c.self.view_is in
-    sym (row-none v.signatures v.rows c.args.identifier (end-none v.signatures v.rows
-    c.args.identifier c.loop-looked.looked (omega arith) c.loop-looked.invariant.rest))
-
-pub returns-clause-count : goal.returns-clause-count
-returns-clause-count c =
-    let v = c.args.self.now in
-    let slots = slots-length c.self.inside v c.self.view_is in
-    omega (
-      arith,
-      count-none v.signatures v.rows c.args.identifier (end-none v.signatures v.rows
-          c.args.identifier c.loop-looked.looked (omega arith) c.loop-looked.invariant.rest),
-    )
+    let none = unended v.signatures v.rows c.args.identifier c.loop-looked.looked (omega arith)
+    c.loop-looked.invariant.rest in
+    record { row = sym none.0; count = omega (arith, none.1) }

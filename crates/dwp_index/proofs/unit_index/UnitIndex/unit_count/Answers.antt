@@ -1,8 +1,6 @@
-use Rattle.std.proofs.Common.{length, sym, ap, ◌∙◌}
-use Rattle.dwp_index.specs.Index.{Index}
-use Rattle.dwp_index.proofs.NumberLists.{length-number_rows}
+use Rattle.std.proofs.Common.{sym}
+use Rattle.dwp_index.proofs.Views.{units-length}
 use Rattle.dwp_index.proofs.unit_index.UnitIndex.unit_count.Goals as goal
 
 pub returns : goal.returns
-returns c = sym (length-number_rows _ _ c.self.inside.unit_count _) ∙ ap (λ (i : Index).
-    length i.offsets) c.self.view_is
+returns c = sym (units-length c.self.inside c.args.self.now c.self.view_is)
