@@ -4,14 +4,13 @@ use Rattle.std.proofs.Common.{drop, get_or, set, Some, None, ap, ap₂, sym, sub
 use Rattle.std.proofs.Common.{arith}
 use Rattle.std.proofs.lemmas.Grind.{get_or-set_at}
 use Rattle.std.proofs.lemmas.List.{get_or-set_other, get_or_past, take_at}
-use Rattle.std.proofs.lemmas.Bool.{cond-true, cond-false, ne_eqb, eq-eqb, cases_order, cases_lt}
+use Rattle.std.proofs.lemmas.Bool.{cond-true, cond-false, ne_eqb, eq-eqb, cases_eq, cases_lt}
 use Rattle.thorin_strings.specs.declared.places.Slot.{Slot}
 use Rattle.thorin_strings.specs.Places.{free, home, place_from, place_of, IsNext}
 
 -- two numbers are the same or not
 pub same_or : (A : Type 0) (a b : ℕ) → (a ≡ b → A) → (a ≢ b → A) → A
-same_or A a b same other = ⊎_elim same (λ apart. other (λ e. ⊎_elim (λ l. absurd (omega arith))
-    (λ l. absurd (omega arith)) apart)) (cases_order a b)
+same_or A a b same other = ⊎_elim same other (cases_eq a b)
 
 -- a free slot ends the search
 pub at_free : (slots : List Slot) (at n h : ℕ) → (get_or slots at free).behind ≡ 0
