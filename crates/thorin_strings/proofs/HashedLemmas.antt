@@ -10,7 +10,6 @@ use Rattle.std.proofs.lemmas.List.{length-map, length-take, map-append, take-map
 use Rattle.std.proofs.lemmas.List.Elements.{All-contains, Contains-get_or}
 use Rattle.std.proofs.lemmas.List.Sorted.{IsPermutation-insert, Contains-permutation}
 use Rattle.std.proofs.lemmas.Bool.{cases_lt, lt-ltb}
-use Rattle.dwp_bytes.specs.declared.error.ReadError.TheVariants.{OffsetOutOfRange, NoTerminator}
 use Rattle.dwp_bytes.specs.StringOffsets.{string_from, string_at}
 use Rattle.std.specs.List.{list_any}
 use Rattle.thorin_strings.specs.Places.{hash, place_of, shared, IsOrdered, IsFound, AreRelated}
@@ -254,19 +253,6 @@ pub absent_there : (bytes now ordered s : List ℕ) (r : ℕ) (answer : Result �
     → answer ≡ Err r → IfErr answer (StandsAt now ordered s) → StandsAt bytes ordered s r
 absent_there bytes now ordered s r answer same is_err absent =
     rw same at (IfErr-at_err (StandsAt now ordered s) is_err absent)
-
--- a string that was read begins there
-pub string_there : (section s : List ℕ) (at : ℕ) → string_at section at ≡ Ok s
-    → string_from section at ≡ s
-unfolding string_at
-string_there section s at is = by (ltb (length section) at) (list_any (λ b. eqb b 0)
-    (drop at section)) is
-  where
-    by : (t u : Bool) → cond t (Err OffsetOutOfRange) (cond u (Ok (string_from section at))
-        (Err NoTerminator)) ≡ Ok s → string_from section at ≡ s
-    by true u is = cc
-    by false true is = cc
-    by false false is = cc
 
 -- what is in a list is so when one more goes in
 pub among_more : (xs : List ℕ) (r y p : ℕ) → Contains xs p → Contains (insert xs r y) p

@@ -1,7 +1,8 @@
 use Rattle.std.proofs.Common.{◌∙◌, length, Contains, sym, refl, arith}
 use Rattle.thorin_strings.proofs.PlaceLemmas.{offset_there, known_place_in}
 use Rattle.thorin_strings.proofs.HashedLemmas.{hashed_kept, entries_few, carried_among, found_there}
-use Rattle.thorin_strings.proofs.HashedLemmas.{absent_there, string_there, inserted_or}
+use Rattle.thorin_strings.proofs.HashedLemmas.{absent_there, inserted_or}
+use Rattle.thorin_strings.proofs.Named.{string_was}
 use Rattle.thorin_strings.proofs.entries.Entries.keep_ordered.Goals as goal
 
 pub insert-requires-clause-small : goal.insert-requires-clause-small
@@ -18,7 +19,7 @@ returns-in-Ok-place-clause-there c = λ begins.
     let s = c.in-Ok.string.now in
     let found = found_there e.bytes.items _ e.ordered s c.in-Ok-place.field-0 c.search.result.place
     c.as_slice-bytes.ensures.value c.in-Ok-place.is c.search.ensures.found c.search.ensures.there in
-    let is = rw c.as_slice-bytes.ensures.value at (string_there _ _ _ c.in-Ok.ensures.meaning) in
+    let is = rw c.as_slice-bytes.ensures.value at (string_was _ _ _ c.in-Ok.ensures.meaning) in
     let known = known_place_in e.bytes.items s c.args.place table.ended table.distinct begins is in
     rw (found.0.1 ∙ sym known.1) at found.1
 
@@ -29,7 +30,7 @@ returns-in-Err-clause-table c =
     let s = c.in-Ok.string.now in
     let stands = absent_there e.bytes.items _ e.ordered s c.in-Err.rank c.search.result.place
     c.as_slice-bytes.ensures.value c.in-Err.is c.search.ensures.absent in
-    let is = rw c.as_slice-bytes.ensures.value at (string_there _ _ _ c.in-Ok.ensures.meaning) in
+    let is = rw c.as_slice-bytes.ensures.value at (string_was _ _ _ c.in-Ok.ensures.meaning) in
     let begins = rw c.as_slice-bytes.ensures.value at (c.begins_at.ensures.0
     c.if-not-begins_at.false) in
     let now = inserted_or e.bytes.items e.ordered s c.in-Err.rank c.args.place _ c.insert.result
