@@ -15,7 +15,7 @@ use Rattle.thorin_strings.specs.Strings.{data_of, offset_of, with_string}
 use Rattle.thorin_strings.specs.StringOffsets.{offset_limit, entry_at, string_read, named_at}
 use Rattle.thorin_strings.specs.StringOffsets.{fitting_offset, remapped_entry}
 use Rattle.thorin_strings.specs.Known.{offset_read, IsKnown, AreKnown}
-use Rattle.thorin_strings.proofs.Named.{has, has_more, offset_kept, there_once_used, there_if_same}
+use Rattle.thorin_strings.proofs.Named.{has, there_later, there_once_used, there_if_same}
 use Rattle.thorin_strings.proofs.UsedLemmas.{entry_used}
 use Rattle.thorin_strings.proofs.OffsetLemmas.{length-data_of-cons}
 use Rattle.dwp_base.proofs.Steps.{bind-was}
@@ -73,14 +73,8 @@ pub known_later : (section : List ℕ) (old new : List (List ℕ)) → take (len
     → (pair : ℕ × ℕ) → IsKnown section old pair → IsKnown section new pair
 known_later section old new kept pair known =
     let r = was_read section pair.0 pair.1 old old known in
-    let there : has old r.string ≡ true = there_if_same old r.string (sym r.strings) in
-    let more : List (List ℕ) = drop (length old) new in
-    let parts : old ++ more ≡ new = ap (λ l. l ++ more) (sym kept) ∙ take-append-drop
-    (length old) new in
-    there_known section pair.0 pair.1 new r.string r.read
-    (subst (λ l. has l r.string ≡ true) parts (has_more old more r.string there))
-    (ap (λ l. offset_of l r.string) (sym parts) ∙ offset_kept old more r.string
-    there ∙ sym r.offset)
+    let there = there_later old new r.string kept (there_if_same old r.string (sym r.strings)) in
+    there_known section pair.0 pair.1 new r.string r.read there.0 (there.1 ∙ sym r.offset)
 
 pub are_known_later : (section : List ℕ) (old new : List (List ℕ)) (pairs : List (ℕ × ℕ))
     → take (length old) new ≡ old → AreKnown section old pairs → AreKnown section new pairs

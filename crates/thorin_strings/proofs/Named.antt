@@ -1,6 +1,6 @@
 -- A string of a table is read where its offset says, also once more strings have come.
 use Rattle.std.proofs.Common.{◌≡◌, ◌≢◌, ℕ, suc, ◌+◌, ◌-◌, ◌<◌, Bool, true, false, ◌||◌, cond, eqb}
-use Rattle.std.proofs.Common.{ltb, List, [], ◌∷◌, ◌++◌, length, take, drop, get_or, Ok, Contains}
+use Rattle.std.proofs.Common.{ltb, List, [], ◌∷◌, ◌++◌, length, take, drop, get_or, Ok, Err, Contains}
 use Rattle.std.proofs.Common.{ap, sym, subst, refl, ◌∙◌, ⊎_elim, arith, length-append}
 use Rattle.std.specs.List.{list_any, before_first, position_or_len}
 use Rattle.std.specs.Str.{bytes_eq}
@@ -10,9 +10,10 @@ use Rattle.std.proofs.lemmas.List.{get_or-append-add, get_or_at}
 use Rattle.std.proofs.lemmas.List.Elements.{All-push}
 use Rattle.std.proofs.lemmas.List.Quantifiers.{all_pairs_push}
 use Rattle.std.proofs.lemmas.List.Sums.{fails_before_first}
-use Rattle.std.proofs.lemmas.Bool.{false≢true, le-ltb, eq-eqb, or_parts, cond-true, cond-false}
+use Rattle.std.proofs.lemmas.Bool.{false≢true, le-ltb, eq-eqb, or_parts, or_right, cond_both}
 use Rattle.std.proofs.lemmas.Bool.{cases_lt}
 use Rattle.std.proofs.lemmas.Slice.Eq.{bytes_eq-Decides}
+use Rattle.dwp_bytes.specs.declared.error.ReadError.TheVariants.{OffsetOutOfRange, NoTerminator}
 use Rattle.dwp_bytes.specs.StringOffsets.{string_from, string_at}
 use Rattle.thorin_strings.specs.Strings.{terminated, data_of, offset_of, with_string, IsZeroFree}
 use Rattle.thorin_strings.specs.Strings.{IsTable, BeginsAt}
@@ -25,10 +26,6 @@ has ss s = list_any (λ t. bytes_eq t s) ss
 
 pub itself : (s : List ℕ) → bytes_eq s s ≡ true
 itself s = (bytes_eq-Decides s s).1 refl
-
-or_right : (b c : Bool) → c ≡ true → (b || c) ≡ true
-or_right true c h = refl
-or_right false c h = h
 
 pub has_by : (b r q : Bool) → (b || r) ≡ true → (r ≡ true → q ≡ true) → (b || q) ≡ true
 has_by true r q h more = refl
@@ -64,31 +61,25 @@ offset_last (t ∷ ss) s none =
     let other : bytes_eq t s ≡ false = parts.0 in
     rw other (ap (λ m. length t + 1 + m) (offset_last ss s parts.1))
 
--- a string is there once it was used, and has the offset that it was given
-there_by : (b : Bool) (ss : List (List ℕ)) (s : List ℕ) → has ss s ≡ b
-    → (has (with_string ss s) s ≡ true) × (offset_of (with_string ss s) s ≡ offset_of ss s)
-there_by true ss s h =
-    let same : with_string ss s ≡ ss = cond-true _ _ _ h in
-    (ap (λ l. has l s) same ∙ h, ap (λ l. offset_of l s) same)
-there_by false ss s h =
-    let more : with_string ss s ≡ ss ++ s ∷ [] = cond-false _ _ _ h in
-    (ap (λ l. has l s) more ∙ has_last ss s, ap (λ l. offset_of l s) more ∙ offset_last ss s h)
+-- what was there is so, at its offset, in a list that begins with that one
+pub there_later : (ss final : List (List ℕ)) (s : List ℕ) → take (length ss) final ≡ ss
+    → has ss s ≡ true → (has final s ≡ true) × (offset_of final s ≡ offset_of ss s)
+there_later ss final s kept h =
+    let more = drop (length ss) final in
+    let parts : ss ++ more ≡ final =
+    ap (λ l. l ++ more) (sym kept) ∙ take-append-drop (length ss) final in
+    rw (← parts) (has_more ss more s h, offset_kept ss more s h)
 
+-- a string is there once it was used, and has the offset that it was given
 pub there_once_used : (ss : List (List ℕ)) (s : List ℕ) → (has (with_string ss s) s ≡ true)
     × (offset_of (with_string ss s) s ≡ offset_of ss s)
-there_once_used ss s = there_by (has ss s) ss s refl
+there_once_used ss s = cond_both (has ss s) ss (ss ++ s ∷ []) (λ l. (has l s ≡ true)
+    × (offset_of l s ≡ offset_of ss s)) (λ h. (h, refl)) (λ h. (has_last ss s, offset_last ss s h))
 
 -- where nothing is added it was there
-same_by : (b : Bool) (ss : List (List ℕ)) (s : List ℕ) → has ss s ≡ b → with_string ss s ≡ ss
-    → has ss s ≡ true
-same_by true ss s h same = h
-same_by false ss s h same =
-    let more : with_string ss s ≡ ss ++ s ∷ [] = cond-false _ _ _ h in
-    let longer : length (ss ++ s ∷ []) ≡ length ss = ap length (sym more ∙ same) in
-    absurd (omega (arith, longer, length-append ss (s ∷ [])))
-
 pub there_if_same : (ss : List (List ℕ)) (s : List ℕ) → with_string ss s ≡ ss → has ss s ≡ true
-there_if_same ss s same = same_by (has ss s) ss s refl same
+there_if_same ss s = cond_both (has ss s) ss (ss ++ s ∷ []) (λ l. l ≡ ss → has ss s ≡ true)
+    (λ h _. h) (λ _ same. absurd (omega (arith, ap length same, length-append ss (s ∷ []))))
 
 -- a table once one more string is used
 pub record IsUsed (ss new : List (List ℕ)) (s : List ℕ) : Type 0 where
@@ -97,24 +88,20 @@ pub record IsUsed (ss new : List (List ℕ)) (s : List ℕ) : Type 0 where
   pub there : has new s ≡ true
   pub offset : offset_of new s ≡ offset_of ss s
 
-used_by : (b : Bool) (ss : List (List ℕ)) (s : List ℕ) → has ss s ≡ b → IsTable ss → IsZeroFree s
+pub used : (ss : List (List ℕ)) (s : List ℕ) → IsTable ss → IsZeroFree s
     → IsUsed ss (with_string ss s) s
-used_by true ss s h table free =
-    let same : with_string ss s ≡ ss = cond-true _ _ _ h in
-    subst (λ l. IsUsed ss l s) (sym same) (record {
+used ss s table free = cond_both (has ss s) ss (ss ++ s ∷ []) (λ l. IsUsed ss l s)
+    (λ h. record {
       table = table;
-      kept = take_all (length ss) ss
-          (omega arith);
+      kept = take_all (length ss) ss (omega arith);
       there = h;
       offset = refl;
     })
-used_by false ss s h table free =
-    let more : with_string ss s ≡ ss ++ s ∷ [] = cond-false _ _ _ h in
-    let absent : Contains ss s → has ss s ≡ true = (has_Decides ss s).1 in
-    subst (λ l. IsUsed ss l s) (sym more) (record {
+    (λ h. record {
       table = record {
         distinct = all_pairs_push (λ s t. s ≢ t) ss s table.distinct (λ k d within same.
-            false≢true (sym h ∙ absent (k, within, get_or_default ss k s d within ∙ same)));
+            false≢true (sym h ∙ (has_Decides ss s).1 (k, within, get_or_default ss k s d within ∙
+            same)));
         zero_free = All-push IsZeroFree ss s table.zero_free free;
       };
       kept = take_at ss (s ∷ []) (length ss) refl;
@@ -122,40 +109,55 @@ used_by false ss s h table free =
       offset = offset_last ss s h;
     })
 
-pub used : (ss : List (List ℕ)) (s : List ℕ) → IsTable ss → IsZeroFree s
-    → IsUsed ss (with_string ss s) s
-used ss s = used_by (has ss s) ss s refl
-
--- a string behind its offset
-pub record StandsBehind (ss : List (List ℕ)) (s : List ℕ) : Type 0 where
+-- a string behind its offset, and a zero byte before that
+record StandsBehind (ss : List (List ℕ)) (s : List ℕ) : Type 0 where
   pub rest : List ℕ
   pub here : drop (offset_of ss s) (data_of ss) ≡ s ++ 0 ∷ rest
-
-behind_by : (b : Bool) (t : List ℕ) (ss : List (List ℕ)) (s : List ℕ) → bytes_eq t s ≡ b
-    → (b || has ss s) ≡ true → (has ss s ≡ true → StandsBehind ss s) → StandsBehind (t ∷ ss) s
-behind_by true t ss s first h later =
-    let same : t ≡ s = (bytes_eq-Decides t s).0 first in
-    let at_start : offset_of (t ∷ ss) s ≡ 0 = cond-true _ _ _ first in
-    record {
-      rest = data_of ss;
-      here = ap (λ n. drop n (data_of (t ∷ ss))) at_start ∙ data_of-cons t ss ∙ ap (λ l.
-          l ++ 0 ∷ data_of ss) same;
-    }
-behind_by false t ss s other h later =
-    let there = later h in
-    let far : offset_of (t ∷ ss) s ≡ length t + 1 + offset_of ss s = cond-false _ _ _ other in
-    let long : length (terminated t) ≡ length t + 1 = length-append t (0 ∷ []) in
-    record {
-      rest = there.rest;
-      here = ap (λ n. drop n (data_of (t ∷ ss))) far
-          ∙ sym (drop-drop (offset_of ss s) (length t + 1) (data_of (t ∷ ss)))
-          ∙ ap (drop (offset_of ss s)) (drop_at (terminated t) (data_of ss) (length t + 1) long)
-          ∙ there.here;
-    }
+  pub zero : 0 < offset_of ss s → get_or (data_of ss) (offset_of ss s - 1) 0 ≡ 0
 
 stands_behind : (ss : List (List ℕ)) (s : List ℕ) → has ss s ≡ true → StandsBehind ss s
 stands_behind [] s h = absurd (false≢true h)
-stands_behind (t ∷ ss) s h = behind_by (bytes_eq t s) t ss s refl h (stands_behind ss s)
+stands_behind (t ∷ ss) s h = by (bytes_eq t s) refl h (stands_behind ss s)
+  where
+    long : length (terminated t) ≡ length t + 1
+    long = length-append t (0 ∷ [])
+    by : (b : Bool) → bytes_eq t s ≡ b → (b || has ss s) ≡ true
+        → (has ss s ≡ true → StandsBehind ss s) → StandsBehind (t ∷ ss) s
+    by true first h later =
+        let same = (bytes_eq-Decides t s).0 first in
+        record {
+          rest = data_of ss;
+          here = rw (first, same) (data_of-cons s ss);
+          zero = rw first (λ some. absurd (omega arith));
+        }
+    by false other h later =
+        let there = later h in
+        let at = offset_of ss s in
+        record {
+          rest = there.rest;
+          here = rw other (sym (drop-drop at (length t + 1) (data_of (t ∷ ss)))
+              ∙ ap (drop at) (drop_at (terminated t) (data_of ss) (length t + 1) long) ∙ there.here);
+          zero = rw other (λ some. ⊎_elim
+              (λ more. (let e : length t + 1 + at - 1 ≡ length (terminated t) + (at - 1) =
+              omega (arith, long) in ap (λ n. get_or (data_of (t ∷ ss)) n 0) e)
+              ∙ get_or-append-add (terminated t) (data_of ss) (at - 1) 0 ∙ there.zero more)
+              (λ none. (let e : length t + 1 + at - 1 ≡ length t = omega arith in
+              ap (λ n. get_or (data_of (t ∷ ss)) n 0) e)
+              ∙ ap (λ l. get_or l (length t) 0) (data_of-cons t ss)
+              ∙ get_or_at t 0 (data_of ss) 0 (length t) refl)
+              (cases_lt 0 at));
+        }
+
+-- a string begins at its offset
+pub begins_there : (ss : List (List ℕ)) (s : List ℕ) → IsZeroFree s → has ss s ≡ true
+    → BeginsAt (data_of ss) (offset_of ss s) × (string_from (data_of ss) (offset_of ss s) ≡ s)
+begins_there ss s free h =
+    let stands = stands_behind ss s h in
+    let long = sym (length-drop (offset_of ss s) (data_of ss)) ∙ ap length stands.here
+    ∙ length-append s (0 ∷ stands.rest) in (
+      record { within = omega (arith, long); behind = stands.zero },
+      ap (before_first (λ b. eqb b 0)) stands.here ∙ before_first-ended s stands.rest free,
+    )
 
 zero_behind : (s rest : List ℕ) → list_any (λ b. eqb b 0) (s ++ 0 ∷ rest) ≡ true
 zero_behind [] rest = refl
@@ -163,73 +165,36 @@ zero_behind (b ∷ s) rest = or_right (eqb b 0) (list_any (λ b. eqb b 0) (s ++ 
     (zero_behind s rest)
 
 -- so it is read there
-pub read_there : (ss : List (List ℕ)) (s : List ℕ) → IsZeroFree s → has ss s ≡ true
+read_there : (ss : List (List ℕ)) (s : List ℕ) → IsZeroFree s → has ss s ≡ true
     → string_at (data_of ss) (offset_of ss s) ≡ Ok s
 unfolding string_at
 read_there ss s free h =
+    let begins = begins_there ss s free h in
     let stands = stands_behind ss s h in
-    let long : length (data_of ss) - offset_of ss s ≡ length s + suc (length stands.rest) =
-    sym (length-drop (offset_of ss s) (data_of ss)) ∙ ap length stands.here ∙ length-append s
-    (0 ∷ stands.rest) in
-    let inside : ltb (length (data_of ss)) (offset_of ss s) ≡ false =
-    le-ltb _ _ (omega (arith, long)) in
-    let ended : list_any (λ b. eqb b 0) (drop (offset_of ss s) (data_of ss)) ≡ true =
-    ap (list_any (λ b. eqb b 0)) stands.here ∙ zero_behind s stands.rest in
-    let string : string_from (data_of ss) (offset_of ss s) ≡ s = ap (before_first (λ b. eqb b 0))
-    stands.here ∙ before_first-ended s stands.rest free in
-    rw (inside, ended) (ap Ok string)
-
--- behind the zero byte of the string before it
-zero_by : (b : Bool) (t : List ℕ) (ss : List (List ℕ)) (s : List ℕ) → bytes_eq t s ≡ b
-    → (b || has ss s) ≡ true → (has ss s ≡ true → 0 < offset_of ss s → get_or (data_of ss)
-    (offset_of ss s - 1) 0 ≡ 0) → 0 < offset_of (t ∷ ss) s → get_or (data_of (t ∷ ss))
-    (offset_of (t ∷ ss) s - 1) 0 ≡ 0
-zero_by true t ss s first h later some =
-    let at_start : offset_of (t ∷ ss) s ≡ 0 = cond-true _ _ _ first in
-    absurd (omega arith)
-zero_by false t ss s other h later some =
-    let far : offset_of (t ∷ ss) s ≡ length t + 1 + offset_of ss s = cond-false _ _ _ other in
-    let long : length (terminated t) ≡ length t + 1 = length-append t (0 ∷ []) in
-    ⊎_elim
-    (λ more.
-    let at : offset_of (t ∷ ss) s - 1 ≡ length (terminated t) + (offset_of ss s - 1) =
-    omega arith in
-    ap (λ n. get_or (data_of (t ∷ ss)) n 0) at ∙ get_or-append-add (terminated t) (data_of ss)
-    (offset_of ss s - 1) 0 ∙ later h more)
-    (λ none.
-    let at : offset_of (t ∷ ss) s - 1 ≡ length t = omega arith in
-    ap (λ n. get_or (data_of (t ∷ ss)) n 0) at ∙ ap (λ l. get_or l (length t) 0) (data_of-cons t ss)
-    ∙ get_or_at t 0 (data_of ss) 0 (length t) refl)
-    (cases_lt 0 (offset_of ss s))
-
-zero_before : (ss : List (List ℕ)) (s : List ℕ) → has ss s ≡ true → 0 < offset_of ss s
-    → get_or (data_of ss) (offset_of ss s - 1) 0 ≡ 0
-zero_before [] s h some = absurd (false≢true h)
-zero_before (t ∷ ss) s h some = zero_by (bytes_eq t s) t ss s refl h (zero_before ss s) some
-
--- a string begins at its offset
-pub begins_there : (ss : List (List ℕ)) (s : List ℕ) → IsZeroFree s → has ss s ≡ true
-    → BeginsAt (data_of ss) (offset_of ss s) × (string_from (data_of ss) (offset_of ss s) ≡ s)
-begins_there ss s free h =
-    let stands = stands_behind ss s h in
-    let long : length (data_of ss) - offset_of ss s ≡ length s + suc (length stands.rest) =
-    sym (length-drop (offset_of ss s) (data_of ss)) ∙ ap length stands.here ∙ length-append s
-    (0 ∷ stands.rest) in (
-      record { within = omega (arith, long); behind = zero_before ss s h },
-      ap (before_first (λ b. eqb b 0)) stands.here ∙ before_first-ended s stands.rest free,
-    )
+    rw (
+      le-ltb (length (data_of ss)) (offset_of ss s) (omega (arith, begins.0.within)),
+      ap (list_any (λ b. eqb b 0)) stands.here ∙ zero_behind s stands.rest,
+    ) (ap Ok begins.1)
 
 -- a table that begins with these strings has its strings at their offsets
 pub read_later : (ss final : List (List ℕ)) (s : List ℕ) → take (length ss) final ≡ ss
     → IsZeroFree s → has ss s ≡ true → string_at (data_of final) (offset_of ss s) ≡ Ok s
 read_later ss final s kept free h =
-    let parts : ss ++ drop (length ss) final ≡ final = ap (λ l. l ++ drop (length ss) final)
-    (sym kept) ∙ take-append-drop (length ss) final in
-    let there : has final s ≡ true = subst (λ l. has l s ≡ true) parts
-    (has_more ss (drop (length ss) final) s h) in
-    let same : offset_of final s ≡ offset_of ss s = ap (λ l. offset_of l s) (sym parts) ∙
-    offset_kept ss (drop (length ss) final) s h in
-    ap (string_at (data_of final)) (sym same) ∙ read_there final s free there
+    let there = there_later ss final s kept h in
+    rw (← there.1) (read_there final s free there.0)
+
+-- a string that was read is the one there
+pub string_was : (section s : List ℕ) (at : ℕ) → string_at section at ≡ Ok s
+    → string_from section at ≡ s
+unfolding string_at
+string_was section s at is = by (ltb (length section) at) (list_any (λ b. eqb b 0)
+    (drop at section)) is
+  where
+    by : (t u : Bool) → cond t (Err OffsetOutOfRange) (cond u (Ok (string_from section at))
+        (Err NoTerminator)) ≡ Ok s → string_from section at ≡ s
+    by true u is = cc
+    by false true is = cc
+    by false false is = cc
 
 -- what is read has no zero
 pub read_free : (section : List ℕ) (at : ℕ) → IsZeroFree (string_from section at)

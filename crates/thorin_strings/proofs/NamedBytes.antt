@@ -1,7 +1,7 @@
 -- The entries of a rewritten range are read as the offsets that were written.
 use Rattle.std.proofs.Common.{◌≡◌, ℕ, zero, suc, ◌+◌, ◌-◌, ◌*◌, ◌/◌, ◌<◌, ◌≤◌, Bool, true, false}
 use Rattle.std.proofs.Common.{cond, eqb, ltb, List, [], ◌∷◌, ◌++◌, length, drop, get_or, Ok, Err}
-use Rattle.std.proofs.Common.{ap, sym, subst, refl, ◌∙◌, ⊎_elim, arith, append_assoc, length-append}
+use Rattle.std.proofs.Common.{ap, ap₂, sym, refl, ◌∙◌, inl, inr, ⊎_elim, arith, append_assoc, length-append}
 use Rattle.std.proofs.lemmas.List.{drop_at, drop-drop, take_all}
 use Rattle.std.proofs.Math.Nat.{zero-mul, suc-mul}
 use Rattle.std.proofs.lemmas.Bool.{eqb-true, eqb-false, le-ltb, lt-ltb}
@@ -26,7 +26,7 @@ use Rattle.thorin_strings.specs.Rewritten.{NamesOneString, NamesTheSame}
 use Rattle.thorin_strings.proofs.OffsetLemmas.{has_Decides}
 use Rattle.thorin_strings.proofs.Named.{read_later}
 use Rattle.thorin_strings.proofs.NamedEntries.{EntryNames, entries_keep}
-use Rattle.dwp_base.proofs.Steps.{bind-was}
+use Rattle.dwp_base.proofs.Steps.{bind-was, chosen, guard-ok, same-ok}
 
 -- ---- one number
 pub written_long : (order : Endianness) (format : Format) (x : ℕ)
@@ -87,12 +87,6 @@ halves_long : (order : Endianness) → length (number_bytes order 2 5 ++ number_
 halves_long Little = refl
 halves_long Big = refl
 
-standard_by : (b : Bool) (error : ErrorValue) (bytes header : List ℕ)
-    → cond b (Err error) (Ok bytes) ≡
-    Ok header → bytes ≡ header
-standard_by true error bytes header h = absurd cc
-standard_by false error bytes header h = cc
-
 pub header_long : (order : Endianness) (encoding : Encoding) (size : ℕ) (header : List ℕ)
     → header_of order encoding size ≡ Ok header → length header ≡ header_size encoding
 unfolding header_of
@@ -107,8 +101,8 @@ header_long order encoding size header h =
     ∙ ap (λ n. length_size encoding.format + n) (halves_long order) in
     ⊎_elim
     (λ standard. let new : ltb encoding.version 5 ≡ false = le-ltb encoding.version 5 standard.1 in
-    let body = rw new at h in
-    rw standard.0 (ap length (sym (standard_by _ _ _ header body)) ∙ parts))
+    let body = guard-ok _ _ _ header (rw new at h) in
+    rw standard.0 (ap length (sym body.1) ∙ parts))
     (λ gnu. let old : ltb encoding.version 5 ≡ true = lt-ltb encoding.version 5 gnu.1 in
     let none : Ok [] ≡ Ok header = rw old at h in
     let empty : [] ≡ header = cc in
@@ -125,6 +119,16 @@ count_again : (format : Format) (h n l : ℕ) → l ≡ h + n * offset_size form
 count_again Dwarf32 h n l e = omega arith
 count_again Dwarf64 h n l e = omega arith
 
+-- a header and so many entries
+range_long : (order : Endianness) (encoding : Encoding) (header offsets : List ℕ) (n : ℕ)
+    → length header ≡ header_size encoding → length offsets ≡ n
+    → length (header ++ entry_bytes order encoding.format offsets) ≡ header_size encoding
+    + n * offset_size encoding.format
+range_long order encoding header offsets n front many =
+    length-append header (entry_bytes order encoding.format offsets)
+    ∙ ap₂ (λ h m. h + m) front (entries_long order encoding.format offsets
+    ∙ ap (λ m. m * offset_size encoding.format) many)
+
 module _ (order : Endianness) (encoding : Encoding) (section bytes : List ℕ) where
   -- an entry of a header and offsets
   one_named : (header offsets : List ℕ) (strings : List (List ℕ)) (i n : ℕ)
@@ -138,9 +142,7 @@ module _ (order : Endianness) (encoding : Encoding) (section bytes : List ℕ) w
       let tail = entry_bytes order encoding.format offsets in
       let at = header_size encoding + i * width in
       let room : i * width + width ≤ n * width = row_fits i width n width less (omega arith) in
-      let long : length (header ++ tail) ≡ header_size encoding + n * width =
-      length-append header tail ∙ ap (λ m. m + length tail) front ∙ ap (λ m. header_size encoding +
-      m) (entries_long order encoding.format offsets ∙ ap (λ m. m * width) many) in
+      let long = range_long order encoding header offsets n front many in
       let inside : ltb (length (header ++ tail)) (at + width) ≡ false =
       le-ltb _ _ (omega (arith, long)) in
       let past : drop at (header ++ tail) ≡ drop (i * width) tail =
@@ -169,12 +171,7 @@ module _ (order : Endianness) (encoding : Encoding) (section bytes : List ℕ) w
       let n = entry_count encoding size in
       let keep = entries_keep order encoding section bytes n before entries table all in
       let front = header_long order encoding (n * offset_size encoding.format) header headed in
-      let long : length (header ++ entry_bytes order encoding.format entries.0) ≡ header_size
-      encoding + n * offset_size encoding.format =
-      length-append header (entry_bytes order encoding.format entries.0)
-      ∙ ap (λ m. m + length (entry_bytes order encoding.format entries.0)) front
-      ∙ ap (λ m. header_size encoding + m) (entries_long order encoding.format entries.0 ∙ ap (λ m.
-      m * offset_size encoding.format) keep.long) in
+      let long = range_long order encoding header entries.0 n front keep.long in
       record {
         table = keep.table;
         kept = keep.kept;
@@ -185,44 +182,32 @@ module _ (order : Endianness) (encoding : Encoding) (section bytes : List ℕ) w
             (keep.each i less);
       }
 
-  by_size : (none short : Bool) (size : ℕ) (before : List (List ℕ))
-      (error : ErrorValue) (range : List ℕ
-      × List (List ℕ)) → eqb size 0 ≡ none → IsTable before
-      → cond none (Ok ([], before)) (cond short (Err error) (header_of order encoding
-      (entry_count encoding size * offset_size encoding.format) >>= λ header.
-      remapped_entries order encoding section bytes (entry_count encoding size) before >>=
-      λ entries. Ok (header ++ entry_bytes order encoding.format entries.0, entries.1))) ≡ Ok
-      range
-      → NamesTheSame order encoding section bytes size before range.0 range.1
-  by_size true short size before error range empty table h =
-      let is_zero : size ≡ 0 = eqb-true size 0 empty in
-      let whole : ([], before) ≡ range = cc in
-      let none : entry_count encoding 0 ≡ 0 = count_none encoding.format (header_size encoding) in
-      let no_entry : entry_count encoding size ≡ 0 = ap (entry_count encoding) is_zero ∙ none in
-      subst (λ (r : List ℕ × List (List ℕ)). NamesTheSame order encoding section bytes size before
-      r.0 r.1) whole (record {
-        table = table;
-        kept = take_all (length before) before (omega arith);
-        count = none ∙ sym no_entry;
-        none = λ _. refl;
-        long = λ some. absurd (some is_zero);
-        named = λ i less. absurd (omega (arith, no_entry));
-      })
-  by_size false true size before error range some table h = absurd cc
-  by_size false false size before error range some table h =
-      let header = bind-was (header_of order encoding (entry_count encoding size * offset_size
-      encoding.format)) _ range h in
-      let entries = bind-was (remapped_entries order encoding section bytes
-      (entry_count encoding size) before) _ range header.2 in
-      let whole : (header.0 ++ entry_bytes order encoding.format entries.0.0, entries.0.1) ≡ range =
-      cc in
-      subst (λ (r : List ℕ × List (List ℕ)). NamesTheSame order encoding section bytes size before
-      r.0 r.1) whole (whole_named size before header.0 entries.0 (eqb-false size 0 some) table
-      header.1 entries.1)
-
   pub range_named : (size : ℕ) (before : List (List ℕ)) (range : List ℕ × List (List ℕ))
       → IsTable before → remapped order encoding section bytes size before ≡ Ok range
       → NamesTheSame order encoding section bytes size before range.0 range.1
   unfolding remapped
-  range_named size before range table h = by_size (eqb size 0) (ltb size (header_size encoding))
-      size before _ range refl table h
+  range_named size before range table h = elim (chosen (eqb size 0) _ _ _ h) [
+    | inl empty ↦
+        let whole : ([], before) ≡ range = same-ok _ _ empty.1 in
+        let no_entry : entry_count encoding size ≡ 0 = ap (entry_count encoding)
+        (eqb-true size 0 empty.0) ∙ count_none encoding.format (header_size encoding) in
+        rw (← whole) (record {
+          table = table;
+          kept = take_all (length before) before (omega arith);
+          count = count_none encoding.format (header_size encoding) ∙ sym no_entry;
+          none = λ _. refl;
+          long = λ some. absurd (some (eqb-true size 0 empty.0));
+          named = λ i less. absurd (omega (arith, no_entry));
+        })
+    | inr some ↦ elim (chosen (ltb size (header_size encoding)) _ _ _ some.1) [
+      | inl short ↦ let fails = short.1 in absurd cc
+      | inr long ↦
+          let header = bind-was (header_of order encoding (entry_count encoding size * offset_size
+          encoding.format)) _ range long.1 in
+          let entries = bind-was (remapped_entries order encoding section bytes
+          (entry_count encoding size) before) _ range header.2 in
+          let whole = same-ok _ _ entries.2 in
+          rw (← whole) (whole_named size before header.0 entries.0 (eqb-false size 0 some.0) table
+          header.1 entries.1)
+    ]
+  ]

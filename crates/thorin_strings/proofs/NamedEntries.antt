@@ -2,12 +2,11 @@
 use Rattle.std.proofs.Common.{◌≡◌, ℕ, zero, suc, ◌+◌, ◌*◌, ◌<◌, ◌≤◌, Bool, true, false, cond, ltb}
 use Rattle.std.proofs.Common.{List, [], ◌∷◌, ◌++◌, length, take, drop, get_or, Result, Ok, Err, ap}
 use Rattle.std.proofs.Common.{sym, subst, refl, ◌∙◌, ⊎_elim, arith, length-append}
-use Rattle.std.proofs.lemmas.List.{take_all, take-append-drop, get_or_append_left, get_or_at}
+use Rattle.std.proofs.lemmas.List.{take_all, take-append-drop, get_or_append_left, get_or_push}
 use Rattle.std.proofs.lemmas.Bool.{cases_eq, ltb-false}
 use Rattle.dwp_base.specs.declared.endian.Endianness.{Endianness}
 use Rattle.dwp_bytes.specs.declared.encoding.Encoding.{Encoding}
 use Rattle.dwp_bytes.specs.declared.encoding.Format.{Format}
-use Rattle.dwp_bytes.specs.declared.error.ReadError.TheVariants.{OffsetOutOfRange, NoTerminator}
 use Rattle.dwp_bytes.specs.Encoding.{offset_size}
 use Rattle.thorin_errors.specs.Errors.{ErrorValue}
 use Rattle.thorin_errors.specs.Answers.{as_error}
@@ -15,27 +14,19 @@ use Rattle.dwp_bytes.specs.StringOffsets.{header_size, string_from, string_at}
 use Rattle.thorin_strings.specs.Strings.{offset_of, with_string, IsZeroFree, IsTable}
 use Rattle.thorin_strings.specs.StringOffsets.{offset_limit, offset_at, named_at, fitting_offset}
 use Rattle.thorin_strings.specs.StringOffsets.{remapped_entry, remapped_entries}
-use Rattle.thorin_strings.proofs.Named.{has, has_more, offset_kept, read_free, used}
+use Rattle.thorin_strings.proofs.Named.{has, there_later, string_was, read_free, used}
 use Rattle.thorin_strings.proofs.RemapLemmas.{kept_more}
-use Rattle.dwp_base.proofs.Steps.{bind-was}
+use Rattle.dwp_base.proofs.Steps.{bind-was, guard-ok}
 
 pub as_error_ok : {A E : Type 0} (f : E → ErrorValue) (r : Result A E) (x : A)
     → as_error f r ≡ Ok x → r ≡ Ok x
 as_error_ok f (Ok y) x h = cc
 as_error_ok f (Err e) x h = absurd cc
 
-string_by : (a b : Bool) (s string : List ℕ) → cond a (Err OffsetOutOfRange)
-    (cond b (Ok s) (Err NoTerminator)) ≡ Ok string → s ≡ string
-string_by true b s string h = absurd cc
-string_by false true s string h = cc
-string_by false false s string h = absurd cc
-
 -- a string that is read has no zero
 string_free : (section : List ℕ) (at : ℕ) (string : List ℕ) → string_at section at ≡ Ok string
     → IsZeroFree string
-unfolding string_at
-string_free section at string h = subst IsZeroFree (string_by _ _ (string_from section at) string h)
-    (read_free section at)
+string_free section at string h = rw (string_was section string at h) at (read_free section at)
 
 named_free : (order : Endianness) (encoding : Encoding) (section bytes : List ℕ) (index : ℕ)
     (string : List ℕ) → named_at order encoding section bytes index ≡ Ok string → IsZeroFree string
@@ -45,16 +36,12 @@ named_free order encoding section bytes index string h =
     index * offset_size encoding.format))) _ string h in
     string_free section offset.0 string (as_error_ok _ (string_at section offset.0) string offset.2)
 
-fitting_by : (b : Bool) (limit n m : ℕ) (error : ErrorValue) → ltb limit n ≡ b → cond b (Err error)
-    (Ok n) ≡ Ok m → (n ≡ m) × (n ≤ limit)
-fitting_by true limit n m error test h = absurd cc
-fitting_by false limit n m error test h = (cc, ltb-false limit n test)
-
 fitting_is : (format : Format) (n m : ℕ) → fitting_offset format n ≡ Ok m → (n ≡ m)
     × (n ≤ offset_limit format)
 unfolding fitting_offset
-fitting_is format n m h = fitting_by (ltb (offset_limit format) n)
-    (offset_limit format) n m _ refl h
+fitting_is format n m h =
+    let fits = guard-ok (ltb (offset_limit format) n) _ n m h in
+    (fits.1, ltb-false _ n fits.0)
 
 module _ (order : Endianness) (encoding : Encoding) (section bytes : List ℕ) where
   -- an entry names a string of these, whose offset it is to have
@@ -70,17 +57,13 @@ module _ (order : Endianness) (encoding : Encoding) (section bytes : List ℕ) w
   later : (index : ℕ) (strings new : List (List ℕ)) (offset : ℕ) → take (length strings) new ≡
       strings → EntryNames index strings offset → EntryNames index new offset
   later index strings new offset kept entry =
-      let more : List (List ℕ) = drop (length strings) new in
-      let parts : strings ++ more ≡ new = ap (λ l. l ++ more) (sym kept) ∙ take-append-drop
-      (length strings) new in
+      let there = there_later strings new entry.string kept entry.there in
       record {
         string = entry.string;
         free = entry.free;
         old = entry.old;
-        there = subst (λ l. has l entry.string ≡ true) parts
-            (has_more strings more entry.string entry.there);
-        place = entry.place ∙ sym (offset_kept strings more entry.string entry.there) ∙ ap (λ l.
-            offset_of l entry.string) parts;
+        there = there.0;
+        place = entry.place ∙ sym there.1;
         fits = entry.fits;
       }
 
@@ -101,7 +84,7 @@ module _ (order : Endianness) (encoding : Encoding) (section bytes : List ℕ) w
       let whole : (fit.0, with_string strings named.0) ≡ entry = cc in
       let free = named_free order encoding section bytes index named.0 named.1 in
       let new = used strings named.0 table free in
-      subst (λ (e : ℕ × List (List ℕ)). EntryKeeps index strings e.1 e.0) whole (record {
+      rw (← whole) (record {
         table = new.table;
         kept = new.kept;
         names = record {
@@ -110,7 +93,7 @@ module _ (order : Endianness) (encoding : Encoding) (section bytes : List ℕ) w
           old = named.1;
           there = new.there;
           place = sym is.0 ∙ sym new.offset;
-          fits = subst (λ n. n ≤ offset_limit encoding.format) is.0 is.1;
+          fits = rw is.0 at is.1;
         };
       })
 
@@ -128,7 +111,7 @@ module _ (order : Endianness) (encoding : Encoding) (section bytes : List ℕ) w
   unfolding remapped_entries
   entries_keep zero before entries table h =
       let none : ([], before) ≡ entries = cc in
-      subst (λ (e : List ℕ × List (List ℕ)). EntriesKeep 0 before e.0 e.1) none (record {
+      rw (← none) (record {
         table = table;
         kept = take_all (length before) before (omega arith);
         long = refl;
@@ -141,18 +124,15 @@ module _ (order : Endianness) (encoding : Encoding) (section bytes : List ℕ) w
       let whole : (first.0.0 ++ entry.0.0 ∷ [], entry.0.1) ≡ entries = cc in
       let all = entries_keep n before first.0 table first.1 in
       let one = entry_keeps n first.0.1 entry.0 all.table entry.1 in
-      subst (λ (e : List ℕ × List (List ℕ)). EntriesKeep (suc n) before e.0 e.1) whole (record {
+      rw (← whole) (record {
         table = one.table;
         kept = kept_more before first.0.1 entry.0.1 all.kept one.kept;
         long = omega (arith, length-append first.0.0 (entry.0.0 ∷ []), all.long);
         each = λ i less. ⊎_elim
-            (λ last. let at : get_or (first.0.0 ++ entry.0.0 ∷ []) i 0 ≡ entry.0.0 =
-            get_or_at first.0.0 entry.0.0 [] 0 i (all.long ∙ sym last) in
-            subst (λ o. EntryNames i entry.0.1 o) (sym at)
-            (subst (λ j. EntryNames j entry.0.1 entry.0.0) (sym last) one.names))
-            (λ other. let at : get_or (first.0.0 ++ entry.0.0 ∷ []) i 0 ≡ get_or first.0.0 i 0 =
-            get_or_append_left first.0.0 (entry.0.0 ∷ []) 0 i (omega (arith, all.long)) in
-            subst (λ o. EntryNames i entry.0.1 o) (sym at) (later i first.0.1 entry.0.1
-            (get_or first.0.0 i 0) one.kept (all.each i (omega arith))))
+            (λ last. let at = get_or_push first.0.0 entry.0.0 0 i (all.long ∙ sym last) in
+            rw (at, last) one.names)
+            (λ other. rw (get_or_append_left first.0.0 (entry.0.0 ∷ []) 0 i
+            (omega (arith, all.long))) (later i first.0.1 entry.0.1 (get_or first.0.0 i 0) one.kept
+            (all.each i (omega arith))))
             (cases_eq i n);
       })

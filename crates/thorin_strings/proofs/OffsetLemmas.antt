@@ -1,6 +1,6 @@
 -- Where strings begin that stand one after another, and the offset of each.
 use Rattle.std.proofs.Common.{◌≡◌, ◌≢◌, ℕ, zero, suc, ◌+◌, ◌<◌, ◌≤◌, true, false, ltb, List, []}
-use Rattle.std.proofs.Common.{◌∷◌, ◌++◌, length, get_or, map, filter, All, AllPairs, Contains}
+use Rattle.std.proofs.Common.{◌∷◌, ◌++◌, length, get_or, take, map, filter, All, AllPairs, Contains}
 use Rattle.std.proofs.Common.{Decides, ap, ap₂, sym, refl, ◌∙◌, arith, append_assoc, length-append}
 use Rattle.std.specs.List.{list_any}
 use Rattle.std.specs.Str.{bytes_eq}
@@ -100,6 +100,13 @@ offsets_from-append n (s ∷ ss) ts =
     omega (arith, length-data_of-cons s ss) in
     ap (λ l. n ∷ l) (offsets_from-append (n + length s + 1) ss ts ∙ ap (λ m.
     offsets_from (n + length s + 1) ss ++ offsets_from m ts) e)
+
+pub offsets_from-take : (n at : ℕ) (ss : List (List ℕ)) → offsets_from at (take n ss) ≡
+    take n (offsets_from at ss)
+offsets_from-take zero at ss = refl
+offsets_from-take (suc n) at [] = refl
+offsets_from-take (suc n) at (s ∷ ss) =
+    ap (λ l. at ∷ l) (offsets_from-take n (at + length s + 1) ss)
 
 -- each begins before the end of the part, and none before its start
 pub offsets_from-below : (n : ℕ) (ss : List (List ℕ)) → All (λ p. p < n + length (data_of ss))

@@ -11,7 +11,7 @@ returns c = λ is.
     same_fronts bytes other c.args.count c.requires.first
     (omega (arith, c.requires.few, c.requires.second)) (λ k less.
     sym (get_or-take 32 bytes k 0 (omega (arith, c.requires.few)))
-    ∙ lanes_same_before (take 32 bytes) (take 32 other) k (length-take-le 32 bytes (omega arith))
-    (length-take-le 32 other c.requires.second) (omega (arith, c.requires.few))
+    ∙ lanes_same_before (take 32 bytes) (take 32 other) (length-take-le 32 bytes (omega arith))
+    (length-take-le 32 other c.requires.second) k (omega (arith, c.requires.few))
     (omega (arith, leb-true c.args.count _ is))
     ∙ get_or-take 32 other k 0 (omega (arith, c.requires.few)))

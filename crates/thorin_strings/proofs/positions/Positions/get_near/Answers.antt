@@ -1,9 +1,11 @@
-use Rattle.std.proofs.Common.{◌≡◌, ◌<◌, ◌-◌, length, get_or, [], ap, sym, ◌∙◌, subst, arith}
+use Rattle.std.proofs.Common.{◌≡◌, ◌<◌, ◌-◌, length, get_or, ap, sym, ◌∙◌, arith}
+use Rattle.std.specs.List.{concat}
 use Rattle.std.proofs.lemmas.List.{get_or_read}
 use Rattle.thorin_strings.specs.Chunks.{pieces, IsPieceOf}
-use Rattle.thorin_strings.proofs.ChunkLemmas.{first_start, some_piece, chunk_got}
+use Rattle.thorin_strings.proofs.ChunkLemmas.{first_start, some_piece, placed, chunk_got}
 use Rattle.thorin_strings.proofs.PieceLemmas.{length-pieces, piece_read}
 use Rattle.thorin_strings.proofs.positions.Positions.get_near.Goals as goal
+use Rattle.thorin_strings.proofs.positions.Positions.get_near.Goals.{After-index}
 
 pub chunk_of-at-requires-clause-some : goal.chunk_of-at-requires-clause-some
 chunk_of-at-requires-clause-some c =
@@ -17,51 +19,35 @@ chunk_of-at-requires-clause-first c =
     let zero = (first_start ps (some_piece ps (omega (arith, ap length c.self.view_is)))).1 in
     rw (c.as_slice.ensures.value, c.self.invariant.begun) (omega (arith, zero))
 
-pub index-chunk-requires : goal.index-chunk-requires
-index-chunk-requires c =
-    let ps = pieces c.self.inside.chunks.items in
-    let of : IsPieceOf c.self.inside.starts.items c.args.rank c.chunk_of-at.result =
-    subst (λ l. IsPieceOf l c.args.rank c.chunk_of-at.result) c.as_slice.ensures.value
-    c.chunk_of-at.ensures in
-    let got = chunk_got ps c.self.inside.starts.items c.args.rank c.chunk_of-at.result
-    c.self.invariant.begun of (omega (arith, ap length c.self.view_is)) in
-    omega (arith, got.0, length-pieces c.self.inside.chunks.items, c.self.inside.chunks.ok.0)
+-- what the rank finds
+found : (c : goal.After-index) → (c.args.rank - c.index.result.now < length
+    c.index-chunk.result.now.items) × (get_or (concat (pieces c.self.inside.chunks.items)) c.args.rank 0
+    ≡ get_or c.index-chunk.result.now.items (c.args.rank - c.index.result.now) 0)
+found c =
+    let chunks = c.self.inside.chunks in
+    let piece : IsPieceOf c.self.inside.starts.items c.args.rank c.chunk_of-at.result =
+    rw c.as_slice.ensures.value at c.chunk_of-at.ensures in
+    let start = get_or_read c.self.inside.starts.items c.chunk_of-at.result c.index.result.now
+    piece.there c.index.ensures 0 in
+    let within : c.args.rank < length (concat (pieces chunks.items)) =
+    omega (arith, ap length c.self.view_is) in
+    let place = placed (pieces chunks.items) _ c.args.rank c.chunk_of-at.result _
+    c.self.invariant.begun piece start (omega arith) in
+    rw (← piece_read chunks.items c.chunk_of-at.result c.index-chunk.result.now
+    (omega (arith, place.there, length-pieces chunks, chunks.ok.0)) c.index-chunk.ensures) (
+      place.inside within,
+      chunk_got (pieces chunks.items) _ c.args.rank c.chunk_of-at.result _ c.self.invariant.begun
+          piece start (omega arith) within,
+    )
 
 pub index-requires-2 : goal.index-requires-2
-index-requires-2 c =
-    let ps = pieces c.self.inside.chunks.items in
-    let of : IsPieceOf c.self.inside.starts.items c.args.rank c.chunk_of-at.result =
-    subst (λ l. IsPieceOf l c.args.rank c.chunk_of-at.result) c.as_slice.ensures.value
-    c.chunk_of-at.ensures in
-    let got = chunk_got ps c.self.inside.starts.items c.args.rank c.chunk_of-at.result
-    c.self.invariant.begun of (omega (arith, ap length c.self.view_is)) in
-    let start : c.index.result.now ≡ get_or c.self.inside.starts.items c.chunk_of-at.result 0 =
-    get_or_read c.self.inside.starts.items c.chunk_of-at.result c.index.result.now of.there
-    c.index.ensures 0 in
-    let piece : get_or ps c.chunk_of-at.result [] ≡ c.index-chunk.result.now.items =
-    piece_read c.self.inside.chunks.items c.chunk_of-at.result c.index-chunk.result.now
-    (omega (arith, got.0, length-pieces c.self.inside.chunks.items)) c.index-chunk.ensures in
-    omega (arith, got.1, start, ap length piece, c.index-chunk.result.now.ok.0)
+index-requires-2 c = omega (
+  arith,
+  (found (goal.at.index-requires-2 c).After-index).0,
+  c.index-chunk.result.now.ok.0,
+)
 
 pub returns : goal.returns
 returns c =
-    let ps = pieces c.self.inside.chunks.items in
-    let of : IsPieceOf c.self.inside.starts.items c.args.rank c.chunk_of-at.result =
-    subst (λ l. IsPieceOf l c.args.rank c.chunk_of-at.result) c.as_slice.ensures.value
-    c.chunk_of-at.ensures in
-    let got = chunk_got ps c.self.inside.starts.items c.args.rank c.chunk_of-at.result
-    c.self.invariant.begun of (omega (arith, ap length c.self.view_is)) in
-    let start : c.index.result.now ≡ get_or c.self.inside.starts.items c.chunk_of-at.result 0 =
-    get_or_read c.self.inside.starts.items c.chunk_of-at.result c.index.result.now of.there
-    c.index.ensures 0 in
-    let piece : get_or ps c.chunk_of-at.result [] ≡ c.index-chunk.result.now.items =
-    piece_read c.self.inside.chunks.items c.chunk_of-at.result c.index-chunk.result.now
-    (omega (arith, got.0, length-pieces c.self.inside.chunks.items)) c.index-chunk.ensures in
-    let within : c.args.rank - c.index.result.now < length c.index-chunk.result.now.items =
-    omega (arith, got.1, start, ap length piece) in
-    get_or_read c.index-chunk.result.now.items (c.args.rank - c.index.result.now)
-    c.index-2.result.now within c.index-2.ensures 0
-    ∙ ap (λ n. get_or c.index-chunk.result.now.items (c.args.rank - n) 0) start
-    ∙ ap (λ l. get_or l (c.args.rank - get_or c.self.inside.starts.items c.chunk_of-at.result 0) 0)
-    (sym piece)
-    ∙ sym got.2 ∙ ap (λ l. get_or l c.args.rank 0) c.self.view_is
+    let found = found (goal.at.returns c).After-index in
+    rw (← c.self.view_is) (get_or_read _ _ _ found.0 c.index-2.ensures 0 ∙ sym found.1)

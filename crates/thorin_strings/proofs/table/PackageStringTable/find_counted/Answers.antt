@@ -25,8 +25,8 @@ pub returns-in-Err-2-clause-found : goal.returns-in-Err-2-clause-found
 returns-in-Err-2-clause-found c =
     rw (← c.self.view_is) (
       λ e. absurd (false≢true e),
-      λ there. absurd (unplaced _ _ _ _ _ c.args.string.now c.hash.result
-          c.self.invariant.findable c.hash.ensures c.if-self.false c.in-Err-2.ensures.none there),
+      λ there. absurd (unplaced _ c.self.invariant c.args.string.now c.hash.result
+          c.hash.ensures c.if-self.false c.in-Err-2.ensures.none there),
     )
 
 pub returns-in-Ok-place-clause-count : goal.returns-in-Ok-place-clause-count
@@ -54,8 +54,8 @@ returns-in-Err-place-clause-found c =
     ] in
     rw (← c.self.view_is) (
       λ e. absurd (false≢true e),
-      λ there. absurd (unordered _ _ _ _ _ c.args.string.now c.hash.result _
-          c.self.invariant.findable c.hash.ensures leads stands there),
+      λ there. absurd (unordered e c.self.invariant c.args.string.now c.hash.result
+          c.hash.ensures _ leads stands there),
     )
 
 pub returns-then-stands_at-clause-found : goal.returns-then-stands_at-clause-found
@@ -86,8 +86,8 @@ returns-else-stands_at-clause-found c =
     ] in
     rw (← c.self.view_is) (
       λ e. absurd (false≢true e),
-      λ there. absurd (misplaced _ _ _ _ _ c.args.string.now c.hash.result c.match-seek.place
-          c.self.invariant.findable c.hash.ensures has (λ same. c.if-place-eq-SHARED.false
+      λ there. absurd (misplaced e c.self.invariant c.args.string.now c.hash.result
+          c.hash.ensures c.match-seek.place has (λ same. c.if-place-eq-SHARED.false
           (omega (arith, same))) (λ here. false≢true (sym c.if-stands_at.false
           ∙ c.stands_at.ensures.1 (rw c.deref.ensures.value here))) there),
     )
