@@ -1,4 +1,4 @@
 pub mod Ranges
 pub mod Names
 pub mod Places
-mod ShortNames
+pub mod ShortNames

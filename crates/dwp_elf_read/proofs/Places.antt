@@ -18,85 +18,85 @@ use Rattle.dwp_elf_read.specs.Relocation.{entries_then, relocates, table_of, rel
 use Rattle.dwp_elf_read.specs.View.{elf, file, section, placed, placed_sections, sections_after}
 use Rattle.dwp_elf_read.specs.View.{sections_left, nth, entries_left, relocations_left}
 
-pub length-sections : (f : ElfFile) → length (elf f).sections ≡ f.count
+pub length_sections : (f : ElfFile) → length (elf f).sections ≡ f.count
 unfolding elf sections_after sections_from
-length-sections f = length-map-range_with_len (nth f) 0 (f.count - 0) ∙ omega arith
+length_sections f = length-map-range_with_len (nth f) 0 (f.count - 0) ∙ omega arith
 
-pub sections-more : (f : ElfFile) (i : ℕ) → i < f.count → sections_after f i ≡ nth f i ∷
+pub sections_more : (f : ElfFile) (i : ℕ) → i < f.count → sections_after f i ≡ nth f i ∷
     sections_after f (i + 1)
 unfolding sections_after sections_from
-sections-more f i h = ap (map (nth f)) (range-more i f.count h)
+sections_more f i h = ap (map (nth f)) (range-more i f.count h)
 
-pub sections-done : (f : ElfFile) (i : ℕ) → f.count ≤ i → sections_after f i ≡ []
+pub sections_done : (f : ElfFile) (i : ℕ) → f.count ≤ i → sections_after f i ≡ []
 unfolding sections_after sections_from
-sections-done f i h = ap (map (nth f)) (range-done i f.count h)
+sections_done f i h = ap (map (nth f)) (range-done i f.count h)
 
-pub slice_get-sections : (f : ElfFile) (i : ℕ) → i < f.count → slice_get (elf f).sections i
+pub slice_get_sections : (f : ElfFile) (i : ℕ) → i < f.count → slice_get (elf f).sections i
     ≡ Some (nth f i)
 unfolding elf sections_after sections_from
-slice_get-sections f i h =
+slice_get_sections f i h =
     let within : i < f.count - 0 = omega arith in
     let e : 0 + i ≡ i = omega arith in
     slice_get-range (nth f) 0 (f.count - 0) i within ∙ ap (λ (k : ℕ). Some (nth f k)) e
 
-pub slice_get-sections_past : (f : ElfFile) (i : ℕ) → f.count ≤ i
+pub slice_get_sections_past : (f : ElfFile) (i : ℕ) → f.count ≤ i
     → slice_get (elf f).sections i ≡ None
-slice_get-sections_past f i h = slice_get_past (elf f).sections i (omega (arith, length-sections f))
+slice_get_sections_past f i h = slice_get_past (elf f).sections i (omega (arith, length_sections f))
 
 -- the first section from i on that passes is the one at i, or it is further on
-pub find-hit : (p : SectionMeaning → Bool) (f : ElfFile) (i : ℕ) → i < f.count → p (nth f i) ≡ true
+pub find_hit : (p : SectionMeaning → Bool) (f : ElfFile) (i : ℕ) → i < f.count → p (nth f i) ≡ true
     → find p (sections_after f i) ≡ Some (nth f i)
-find-hit p f i h e = ap (find p) (sections-more f i h) ∙ ap (λ (b : Bool). cond b (Some (nth f i))
+find_hit p f i h e = ap (find p) (sections_more f i h) ∙ ap (λ (b : Bool). cond b (Some (nth f i))
     (find p (sections_after f (i + 1)))) e
 
-pub find-miss : (p : SectionMeaning → Bool) (f : ElfFile) (i : ℕ) → i < f.count
+pub find_miss : (p : SectionMeaning → Bool) (f : ElfFile) (i : ℕ) → i < f.count
     → p (nth f i) ≡ false → find p (sections_after f i) ≡ find p (sections_after f (i + 1))
-find-miss p f i h e = ap (find p) (sections-more f i h) ∙ ap (λ (b : Bool). cond b (Some (nth f i))
+find_miss p f i h e = ap (find p) (sections_more f i h) ∙ ap (λ (b : Bool). cond b (Some (nth f i))
     (find p (sections_after f (i + 1)))) e
 
-pub find-end : (p : SectionMeaning → Bool) (f : ElfFile) (i : ℕ) → f.count ≤ i
+pub find_end : (p : SectionMeaning → Bool) (f : ElfFile) (i : ℕ) → f.count ≤ i
     → find p (sections_after f i) ≡ None
-find-end p f i h = ap (find p) (sections-done f i h)
+find_end p f i h = ap (find p) (sections_done f i h)
 
 -- the iterator over sections gives the one that it stands at
-pub sections_left-more : (f : ElfFile) (i : ℕ) (s : Section) → i < f.count → section s ≡ nth f i
+pub sections_left_more : (f : ElfFile) (i : ℕ) (s : Section) → i < f.count → section s ≡ nth f i
     → file s ≡ elf f → sections_left (record { file = f; next = i }) ≡ placed s ∷ sections_left
     (record { file = f; next = i + 1 })
 unfolding sections_left
-sections_left-more f i s h here in_file =
-    ap (placed_sections (elf f)) (sections-more f i h)
+sections_left_more f i s h here in_file =
+    ap (placed_sections (elf f)) (sections_more f i h)
     ∙ ap (λ (e : Elf). record { file = e; section = nth f i } ∷ placed_sections (elf f)
     (sections_after f (i + 1))) (sym in_file)
     ∙ ap (λ (m : SectionMeaning). record { file = file s; section = m } ∷ placed_sections (elf f)
     (sections_after f (i + 1))) (sym here)
 
-pub sections_left-done : (f : ElfFile) (i : ℕ) → f.count ≤ i
+pub sections_left_done : (f : ElfFile) (i : ℕ) → f.count ≤ i
     → sections_left (record { file = f; next = i }) ≡ []
 unfolding sections_left
-sections_left-done f i h = ap (placed_sections (elf f)) (sections-done f i h)
+sections_left_done f i h = ap (placed_sections (elf f)) (sections_done f i h)
 
 abbrev entry_ok : RawRelocation → Result RawRelocation ReadError
 entry_ok r = Ok r
 
-pub length-sections_left : (f : ElfFile)
+pub length_sections_left : (f : ElfFile)
     → length (sections_left (record { file = f; next = 0 })) ≡ f.count
 unfolding sections_left elf
-length-sections_left f = length-map (sections_after f 0) _ ∙ length-sections f
+length_sections_left f = length-map (sections_after f 0) _ ∙ length_sections f
 
 -- the entry of a table that comes next
-pub entries-more : (t : Table) → t.next < t.count → entries_left t ≡ Ok
+pub entries_more : (t : Table) → t.next < t.count → entries_left t ≡ Ok
     (relocation_at t.entries.class t.entries.order t.explicit t.link t.entries.bytes.now
     (t.next * relocation_size t.entries.class t.explicit)) ∷ entries_left
     (record t { next = t.next + 1 })
 unfolding entries_left entries_from
-entries-more t h =
+entries_more t h =
     ap (map (λ (k : ℕ). entry_ok (relocation_at t.entries.class t.entries.order t.explicit t.link
     t.entries.bytes.now (k * relocation_size t.entries.class t.explicit))))
     (range-more t.next t.count h)
 
-pub entries-done : (t : Table) → t.count ≤ t.next → entries_left t ≡ []
+pub entries_done : (t : Table) → t.count ≤ t.next → entries_left t ≡ []
 unfolding entries_left entries_from
-entries-done t h =
+entries_done t h =
     ap (map (λ (k : ℕ). entry_ok (relocation_at t.entries.class t.entries.order t.explicit t.link
     t.entries.bytes.now (k * relocation_size t.entries.class t.explicit))))
     (range-done t.next t.count h)
@@ -106,52 +106,52 @@ abbrev pub others : Relocations → ℕ → List (Result RawRelocation ReadError
 others it i = relocations_in it.file.image.class it.file.image.order it.target
     (sections_after it.file i)
 
-left-others : (it : Relocations) → entries_left it.table ≡ [] → relocations_left it ≡
+left_others : (it : Relocations) → entries_left it.table ≡ [] → relocations_left it ≡
     others it it.section
 unfolding relocations_left
-left-others it none = ap (λ (front : List (Result RawRelocation ReadError)).
+left_others it none = ap (λ (front : List (Result RawRelocation ReadError)).
     front ++ others it it.section) none
 
-pub left-done : (it : Relocations) → entries_left it.table ≡ [] → it.file.count ≤ it.section
+pub left_done : (it : Relocations) → entries_left it.table ≡ [] → it.file.count ≤ it.section
     → relocations_left it ≡ []
 unfolding relocations_in
-left-done it none h = left-others it none ∙ ap (relocations_in it.file.image.class
-    it.file.image.order it.target) (sections-done it.file it.section h)
+left_done it none h = left_others it none ∙ ap (relocations_in it.file.image.class
+    it.file.image.order it.target) (sections_done it.file it.section h)
 
-left-more : (it : Relocations) (s : SectionMeaning) → entries_left it.table ≡ []
+left_more : (it : Relocations) (s : SectionMeaning) → entries_left it.table ≡ []
     → it.section < it.file.count → s ≡ nth it.file it.section → relocations_left it ≡ relocations_in
     it.file.image.class it.file.image.order it.target (s ∷ sections_after it.file (it.section + 1))
-left-more it s none h here =
-    left-others it none ∙ ap (relocations_in it.file.image.class it.file.image.order it.target)
-    (sections-more it.file it.section h ∙ ap (λ (m : SectionMeaning). m ∷ sections_after it.file
+left_more it s none h here =
+    left_others it none ∙ ap (relocations_in it.file.image.class it.file.image.order it.target)
+    (sections_more it.file it.section h ∙ ap (λ (m : SectionMeaning). m ∷ sections_after it.file
     (it.section + 1)) (sym here))
 
 -- a section that has no relocations of the target is passed over
-pub left-passed : (it : Relocations) (s : SectionMeaning) → entries_left it.table ≡ []
+pub left_passed : (it : Relocations) (s : SectionMeaning) → entries_left it.table ≡ []
     → it.section < it.file.count → s ≡ nth it.file it.section → relocates it.target s ≡ false
     → relocations_left it ≡ others it (it.section + 1)
 unfolding relocations_in
-left-passed it s none h here passes =
-    left-more it s none h here
+left_passed it s none h here passes =
+    left_more it s none h here
     ∙ ap (λ (b : Bool). cond b (entries_then it.file.image.class it.file.image.order s
     (table_of it.file.image.class s) (others it (it.section + 1))) (others it (it.section + 1)))
     passes
 
 -- one that has some gives them first
-pub left-entered : (it : Relocations) (s : SectionMeaning) → entries_left it.table ≡ []
+pub left_entered : (it : Relocations) (s : SectionMeaning) → entries_left it.table ≡ []
     → it.section < it.file.count → s ≡ nth it.file it.section → relocates it.target s ≡ true
     → relocations_left it ≡ entries_then it.file.image.class it.file.image.order s
     (table_of it.file.image.class s) (others it (it.section + 1))
 unfolding relocations_in
-left-entered it s none h here enters =
-    left-more it s none h here
+left_entered it s none h here enters =
+    left_more it s none h here
     ∙ ap (λ (b : Bool). cond b (entries_then it.file.image.class it.file.image.order s
     (table_of it.file.image.class s) (others it (it.section + 1))) (others it (it.section + 1)))
     enters
 
 -- one table that is at its end is as good as another
-pub left-same : (it : Relocations) (t : Table) → entries_left it.table ≡ [] → entries_left t ≡ []
+pub left_same : (it : Relocations) (t : Table) → entries_left it.table ≡ [] → entries_left t ≡ []
     → relocations_left it ≡ relocations_left (record it { table = t })
 unfolding relocations_left
-left-same it t old new = ap (λ (front : List (Result RawRelocation ReadError)).
+left_same it t old new = ap (λ (front : List (Result RawRelocation ReadError)).
     front ++ others it it.section) (old ∙ sym new)

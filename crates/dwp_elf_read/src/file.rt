@@ -82,6 +82,7 @@ impl<'a> ElfFile<'a> {
     }
 
     /// How many sections the file has, the one numbered 0 among them.
+    #[tactic(auto, using(crate::proofs::Places::length_sections))]
     pub fn section_count(&self) -> usize
         ensures { result ≡ length (elf self.now).sections }
     {
@@ -103,6 +104,7 @@ impl<'a> ElfFile<'a> {
     }
 
     /// The i-th section, counted from 0; `None` past the last one.
+    #[tactic(auto, using(crate::proofs::Places::slice_get_sections, crate::proofs::Places::slice_get_sections_past))]
     pub fn section(&self, i: usize) -> Option<Section<'a>>
         ensures found { option_map section result ≡ slice_get (elf self.now).sections i }
         ensures in_file { IfSome result (λ s. file s ≡ elf self.now) }
@@ -115,7 +117,7 @@ impl<'a> ElfFile<'a> {
     }
 
     /// The sections in order of number.
-    #[tactic(auto, unfolding(crate::specs::View::sections_left, crate::specs::View::elf))]
+    #[tactic(auto, using(crate::proofs::Places::length_sections_left), unfolding(crate::specs::View::sections_left, crate::specs::View::elf))]
     pub fn sections(&self) -> Sections<'a>
         ensures sections { sections_left result
             ≡ placed_sections (elf self.now) (elf self.now).sections }
@@ -129,6 +131,7 @@ impl<'a> ElfFile<'a> {
     }
 
     /// The first section of a name. Sections whose name can't be read are passed over.
+    #[tactic(auto, using(crate::proofs::Places::find_hit, crate::proofs::Places::find_miss, crate::proofs::Places::find_end), unfolding(crate::specs::View::elf))]
     pub fn section_by_name(&self, name: &str) -> Option<Section<'a>>
         ensures found { option_map section result
             ≡ find (is_named name.now) (elf self.now).sections }

@@ -29,6 +29,7 @@ pub(crate) fn text_in(table: &[u8], place: u32) -> Option<&str>
 
 /// Whether the text at a place of a string table is this one. No more of the table is looked at
 /// than the text is long, and its end.
+#[tactic(auto, using(crate::proofs::ShortNames::no_text))]
 pub(crate) fn is_text_at(table: &[u8], place: u32, text: &str) -> bool
     ensures { result ≡ name_is text.now (text_at table.now place) }
 {

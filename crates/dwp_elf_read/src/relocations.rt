@@ -71,7 +71,7 @@ pub struct Relocations<'a> {
     table: Table<'a>,
 }
 
-#[tactic(auto, unfolding(crate::specs::View::relocations_left, crate::specs::View::entries_left, crate::specs::View::elf))]
+#[tactic(auto, using(crate::proofs::Places::left_passed, crate::proofs::Places::left_entered, crate::proofs::Places::left_done), unfolding(crate::specs::View::relocations_left, crate::specs::View::entries_left, crate::specs::Relocation::entries_from, crate::specs::View::elf))]
 impl<'a> Relocations<'a> {
     ghost use Rattle.std.specs.Prelude.{◌≡◌, ◌+◌, ◌<◌, [], ◌∷◌, OnOk, OnErr, IfErr};
     ghost use Rattle.dwp_elf_read.specs.View.{elf, entries_left, relocations_left};
@@ -136,6 +136,7 @@ impl<'a> Iterator for Relocations<'a> {
 
     ghost remaining = { item_count relocations_left };
 
+    #[tactic(auto, using(crate::proofs::Places::left_done, crate::proofs::Places::left_same), unfolding(crate::specs::View::relocations_left))]
     fn next(&mut self) -> Option<Result<RawRelocation, ReadError>> {
         loop {
             if let Some(entry) = self.table.next_entry() {

@@ -121,6 +121,7 @@ impl<'a> Section<'a> {
 
     /// The kind of section that the name belongs to, in either spelling; None where it has no name
     /// that can be read. No more of a long name is looked at than the names of kinds are long.
+    #[tactic(auto, using(crate::proofs::ShortNames::kinds_are))]
     pub fn section_kind(&self) -> Option<SectionKind>
         ensures { result ≡ option_and_then kind_named (section self.now).name }
     {
@@ -177,6 +178,7 @@ impl<'a> Iterator for Sections<'a> {
 
     ghost remaining = { item_count sections_left };
 
+    #[tactic(auto, using(crate::proofs::Places::sections_left_more, crate::proofs::Places::sections_left_done))]
     fn next(&mut self) -> Option<Section<'a>> {
         if self.next >= self.file.count {
             return None;

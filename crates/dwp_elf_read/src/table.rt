@@ -23,6 +23,7 @@ impl<'a> Table<'a> {
     ghost use Rattle.dwp_elf_read.specs.View.{entries_left};
 
     /// The next entry.
+    #[tactic(auto, using(crate::proofs::Places::entries_more, crate::proofs::Places::entries_done))]
     pub fn next_entry(&mut self) -> Option<RawRelocation>
         ensures { YieldsFirstBy (λ entry. Ok entry) entries_left self.old result self.new }
     {

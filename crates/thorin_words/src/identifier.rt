@@ -5,6 +5,7 @@ ghost use Rattle.std.specs.Str.Parse.{digits_value};
 ghost use Rattle.thorin_words.specs.Identifiers.{IsIdentifier};
 
 /// The number that 1 to 16 hexadecimal digits write, in either case; none for another text.
+#[tactic(auto, using(crate::proofs::Numerals::identifier_read))]
 pub fn hexadecimal(digits: &str) -> Option<u64>
     ensures { MatchOption result (¬ (IsIdentifier digits.now)) (λ n. IsIdentifier digits.now
         × (n ≡ digits_value 16 digits.now)) }

@@ -171,6 +171,7 @@ fn add_word<F: ResponseFiles>(
 
 /// Adds the words of a file, whose name is among the others meanwhile. Answers what is left.
 #[cycle(responses)]
+#[tactic(auto, using(crate::proofs::Standing::restored))]
 fn add_file<F: ResponseFiles>(
     files: &F,
     name: String,
@@ -313,6 +314,7 @@ fn left_after(left: Left, count: usize) -> Result<Left, ResponseError>
 }
 
 /// Whether a name is among those of files.
+#[tactic(auto, using(crate::proofs::Naming::any_mapped))]
 fn has_name(names: &[String], name: &str) -> bool
     ensures { result ≡ is_among (map string_bytes names.now) name.now }
 {

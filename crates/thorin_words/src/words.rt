@@ -75,6 +75,7 @@ fn is_mark(byte: u8) -> bool
 ///
 /// # Errors
 /// Want of memory.
+#[tactic(auto, unfolding(crate::specs::Words::words_of))]
 pub fn split_words(alloc: Global, text: &[u8]) -> Result<Vec<Vec<u8>>, AllocError>
     ensures { IfOk result (λ words. map (λ word. word.items) words.items ≡ words_of text.now) }
 {
@@ -101,6 +102,7 @@ pub fn split_words(alloc: Global, text: &[u8]) -> Result<Vec<Vec<u8>>, AllocErro
 ///
 /// # Errors
 /// Want of memory.
+#[tactic(auto, unfolding(crate::specs::Words::words_of))]
 pub(crate) fn next_word(
     text: &[u8],
     start: usize,

@@ -1,15 +1,15 @@
 use Rattle.std.proofs.Common.{Some, None, sym, ap, ◌∙◌}
 use Rattle.dwp_elf_read.specs.Elf.{text_of}
-use Rattle.dwp_elf_read.proofs.Names.{text_at-first}
+use Rattle.dwp_elf_read.proofs.Names.{text_at_first}
 use Rattle.dwp_elf_read.proofs.name.text_in.Goals as goal
 
 pub returns-in_err-end : goal.returns-in_err-end
 returns-in_err-end c =
-    rw c.from_residual.ensures (sym (text_at-first c.args.table.now c.split_at.result.1.now
+    rw c.from_residual.ensures (sym (text_at_first c.args.table.now c.split_at.result.1.now
     c.args.place None c.split_at.ensures.back c.in_err-end.ensures))
 
 pub returns : goal.returns
 returns c =
     c.text.ensures ∙ ap text_of c.split_at-2.ensures.front
-    ∙ sym (text_at-first c.args.table.now c.split_at.result.1.now c.args.place
+    ∙ sym (text_at_first c.args.table.now c.split_at.result.1.now c.args.place
     (Some c.in_ok-end.end) c.split_at.ensures.back c.in_ok-end.ensures)

@@ -1,17 +1,14 @@
-use Rattle.std.proofs.Common.{◌≡◌, ℕ, List, [], ◌∷◌, map, refl, sym, ap, ◌∙◌}
+use Rattle.std.proofs.Common.{sym, ap, ◌∙◌}
+use Rattle.std.proofs.lemmas.List.{map-id}
 use Rattle.std.proofs.lemmas.Iterator.{YieldsList-from_chars}
 use Rattle.std.proofs.lemmas.Iterator.Consumers.{YieldsList-end}
 use Rattle.std.specs.List.{flat_map}
 use Rattle.thorin_words.specs.Printed.{printed, printed_character}
 use Rattle.thorin_words.proofs.printing.printed.Goals as goal
 
-same : (characters : List ℕ) → map (λ c. c) characters ≡ characters
-same [] = refl
-same (c ∷ rest) = ap (λ l. c ∷ l) (same rest)
-
 pub returns : goal.returns
 unfolding printed
 returns c =
     let all = YieldsList-end (YieldsList-from_chars c.args.text.now c.utf8.text cc)
     c.loop-c.yielded _ c.loop-c.yielded_by _ _ c.in-None.is c.next.ensures.steps in
-    c.loop-c.invariant ∙ ap (flat_map printed_character) (sym (same c.loop-c.yielded) ∙ all.0)
+    c.loop-c.invariant ∙ ap (flat_map printed_character) (sym (map-id c.loop-c.yielded) ∙ all.0)

@@ -1,7 +1,7 @@
-use Rattle.std.proofs.Common.{◌≡◌, ◌≤◌, ◌+◌, ◌-◌, ◌*◌, ◌++◌, ℕ, List, length, drop}
+use Rattle.std.proofs.Common.{◌≡◌, ◌≤◌, ◌+◌, ◌-◌, ◌*◌, length, drop}
 use Rattle.thorin_words.specs.Responses.{words_in}
 use Rattle.thorin_words.specs.Words.{words_of}
-use Rattle.thorin_words.proofs.Standing.{Continues}
+use Rattle.thorin_words.proofs.Standing.{SoFar}
 use Rattle.thorin_words.proofs.responses.+responses.Given as goal
 
 abbrev pub decreases-add_file : goal.decreases-add_file
@@ -19,9 +19,8 @@ invariant-add_text-loop-word g l = record {
   within : l.at ≤ length l.text;
   fewer : l.left.files ≤ l.fn.left.files;
   same : words_in l.names ≡ words_in l.fn.names;
-  added : (own : List (List ℕ)) × (words_in l.all ≡ words_in l.fn.all ++ own)
-      × Continues (g.F.ResponseFiles.offer l.files) (words_in l.fn.names) (words_of l.text)
-      (words_of (drop l.at l.text)) own;
+  added : SoFar (g.F.ResponseFiles.offer l.files) (words_in l.fn.names) (words_of l.text)
+      (words_of (drop l.at l.text)) (words_in l.fn.all) (words_in l.all);
 }
 
 abbrev pub decreases-add_text-loop-word : goal.decreases-add_text-loop-word

@@ -1,12 +1,11 @@
-use Rattle.std.proofs.Common.{◌≡◌, ◌++◌, ℕ, List, drop, map}
+use Rattle.std.proofs.Common.{◌≡◌, drop, map}
 use Rattle.thorin_words.specs.Responses.{words_in}
-use Rattle.thorin_words.proofs.Standing.{Continues}
+use Rattle.thorin_words.proofs.Standing.{SoFar}
 use Rattle.thorin_words.proofs.responses.add_line.Given as goal
 
 abbrev pub invariant-loop-word : goal.invariant-loop-word
 invariant-loop-word g l = record {
   same : words_in l.names ≡ words_in l.fn.names;
-  added : (own : List (List ℕ)) × (words_in l.all ≡ words_in l.fn.all ++ own)
-      × Continues (g.F.ResponseFiles.offer l.files) (words_in l.fn.names)
-      (map g.S.AsStr.text l.line) (map g.S.AsStr.text (drop l.word-index l.line)) own;
+  added : SoFar (g.F.ResponseFiles.offer l.files) (words_in l.fn.names) (map g.S.AsStr.text l.line)
+      (map g.S.AsStr.text (drop l.word-index l.line)) (words_in l.fn.all) (words_in l.all);
 }

@@ -1,4 +1,4 @@
-use Rattle.std.proofs.Common.{◌≡◌, [], drop, true, false, ◌<◌}
+use Rattle.std.proofs.Common.{◌≡◌, drop, false, ◌<◌}
 use Rattle.thorin_words.specs.Words.{is_between, words_from, words_of}
 use Rattle.thorin_words.proofs.Splitting.{prefix}
 use Rattle.thorin_words.proofs.words.next_word.Given as goal
@@ -8,6 +8,5 @@ abbrev pub invariant-loop-i : goal.invariant-loop-i
 invariant-loop-i l = record {
   words : words_of (drop l.start l.text) ≡ prefix l.word.items
       (words_from l.place (drop l.i l.text));
-  none : is_between l.place ≡ true → l.word.items ≡ [];
   begun : is_between l.place ≡ false → l.start < l.i;
 }
