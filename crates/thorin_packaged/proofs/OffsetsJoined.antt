@@ -1,10 +1,10 @@
 -- String offsets without a header, joined, are read in turn.
 use Rattle.std.proofs.Common.{◌≡◌, ℕ, ◌+◌, ◌-◌, ◌*◌, ◌/◌, ◌<◌, ◌≤◌, false, cond, ltb, leb}
 use Rattle.std.proofs.Common.{List, ◌++◌, length, drop, ap, refl, ⊎_elim}
-use Rattle.std.proofs.Common.{arith, length-append}
+use Rattle.std.proofs.Common.{arith, length-append, true, get_or}
 use Rattle.std.proofs.lemmas.List.{get_or_append_left, drop_at, drop-drop, length-drop}
 use Rattle.std.proofs.lemmas.List.{drop-append-le}
-use Rattle.std.proofs.lemmas.Bool.{cases_lt, lt-ltb, le-ltb, lt-leb}
+use Rattle.std.proofs.lemmas.Bool.{cases_lt, lt-ltb, le-ltb, lt-leb, ltb-true}
 use Rattle.std.proofs.lemmas.Bool.Decides.{nat_tests}
 use Rattle.std.proofs.lemmas.Nat.{row_fits}
 use Rattle.std.proofs.Math.Nat.{add-mul}
@@ -18,42 +18,29 @@ use Rattle.dwp_bytes.specs.Encoding.{offset_size}
 use Rattle.dwp_bytes.specs.StringOffsets.{header_size, entry_count}
 use Rattle.dwp_index.specs.Strings.{entry_in, string_in}
 
+front : (xs ys : List ℕ) (n : ℕ) → n ≤ length xs → (k : ℕ) → ltb k n ≡ true
+    → get_or (xs ++ ys) k 0 ≡ get_or xs k 0
+front xs ys n within k less =
+    get_or_append_left xs ys 0 k (omega (arith, within, ltb-true k n less))
+
 -- a number in front doesn't depend on what follows it
 pub number_front : (order : Endianness) (format : Format) (xs ys : List ℕ)
     → offset_size format ≤ length
     xs → number order (offset_size format) (xs ++ ys) ≡ number order (offset_size format) xs
 number_front Little Dwarf32 xs ys within =
-    let at = λ (k : ℕ) (h : k < 4). get_or_append_left xs ys 0 k (omega arith) in
-    rw (at 0 (omega arith), at 1 (omega arith), at 2 (omega arith), at 3 (omega arith)) refl
+    let at = front xs ys 4 within in
+    rw (at 0 refl, at 1 refl, at 2 refl, at 3 refl) refl
 number_front Big Dwarf32 xs ys within =
-    let at = λ (k : ℕ) (h : k < 4). get_or_append_left xs ys 0 k (omega arith) in
-    rw (at 0 (omega arith), at 1 (omega arith), at 2 (omega arith), at 3 (omega arith)) refl
+    let at = front xs ys 4 within in
+    rw (at 0 refl, at 1 refl, at 2 refl, at 3 refl) refl
 number_front Little Dwarf64 xs ys within =
-    let at = λ (k : ℕ) (h : k < 8). get_or_append_left xs ys 0 k (omega arith) in
-    rw (
-      at 0 (omega arith),
-      at 1 (omega arith),
-      at 2 (omega arith),
-      at 3 (omega arith),
-      at 4
-          (omega arith),
-      at 5 (omega arith),
-      at 6 (omega arith),
-      at 7 (omega arith),
-    ) refl
+    let at = front xs ys 8 within in
+    rw (at 0 refl, at 1 refl, at 2 refl, at 3 refl)
+    (rw (at 4 refl, at 5 refl, at 6 refl, at 7 refl) refl)
 number_front Big Dwarf64 xs ys within =
-    let at = λ (k : ℕ) (h : k < 8). get_or_append_left xs ys 0 k (omega arith) in
-    rw (
-      at 0 (omega arith),
-      at 1 (omega arith),
-      at 2 (omega arith),
-      at 3 (omega arith),
-      at 4
-          (omega arith),
-      at 5 (omega arith),
-      at 6 (omega arith),
-      at 7 (omega arith),
-    ) refl
+    let at = front xs ys 8 within in
+    rw (at 0 refl, at 1 refl, at 2 refl, at 3 refl)
+    (rw (at 4 refl, at 5 refl, at 6 refl, at 7 refl) refl)
 
 pub no_header : (encoding : Encoding) → encoding.version < 5 → header_size encoding ≡ 0
 no_header encoding old =
