@@ -1,127 +1,122 @@
 -- What tests that all passed say.
-use Rattle.std.proofs.Common.{◌≡◌, ◌∙◌, ℕ, zero, suc, ◌+◌, ◌^◌, ◌<◌, Bool, true, false, cond, ltb}
-use Rattle.std.proofs.Common.{List, [], ◌∷◌, length, get_or, drop, Option, None, Result, Ok, Err}
-use Rattle.std.proofs.Common.{Some, ◌||◌, not, ◌⊎◌, inl, inr, ap, subst, refl, sym, arith}
-use Rattle.std.proofs.lemmas.List.{drop_more, get_or_default}
-use Rattle.std.specs.Prelude.{All, OnOk, is_none}
-use Rattle.dwp_base.specs.Sections.{rank_of, same_kind}
-use Rattle.dwp_base.proofs.EveryKind.{every, is-same}
+use Rattle.std.proofs.Common.{◌≡◌, ◌∙◌, ℕ, zero, suc, ◌+◌, ◌*◌, ◌^◌, ◌<◌, Bool, true, false, cond}
+use Rattle.std.proofs.Common.{List, [], ◌∷◌, ◌++◌, length, get_or, drop, Option, None, Some}
+use Rattle.std.proofs.Common.{Result, Ok, Err, ap, refl, sym, arith}
+use Rattle.std.proofs.lemmas.List.{at_drop_more}
+use Rattle.std.proofs.lemmas.List.Folds.{Any-from_list_any}
+use Rattle.std.proofs.lemmas.Bool.{ltb-true}
+use Rattle.std.specs.Prelude.{All, OnOk, codes, is_some}
+use Rattle.dwp_base.proofs.EveryKind as kinds
+use Rattle.dwp_base.proofs.EveryKind.{HoldsAll}
 use Rattle.dwp_base.proofs.Steps.{bind-was}
 use Rattle.dwp_base.specs.declared.section.SectionKind.{SectionKind}
-use Rattle.dwp_base.specs.declared.section.SectionKind.TheVariants.{Info}
+use Rattle.dwp_base.specs.declared.section.SectionKind.TheVariants.{Str, CuIndex, TuIndex}
 use Rattle.dwp_base.specs.declared.section.Contribution.{Contribution}
+use Rattle.dwp_bytes.specs.declared.encoding.Encoding.{Encoding}
+use Rattle.dwp_bytes.specs.Encoding.{index_version_of}
 use Rattle.thorin_errors.specs.Errors.{ErrorValue}
 use Rattle.thorin_index.specs.declared.entry.IndexEntry.{IndexEntry}
 use Rattle.dwp_table.specs.Columns.{contribution_kinds}
-use Rattle.thorin_index.specs.Entries.{contribution_to}
-use Rattle.thorin_index.specs.EntryTests.{each, number_test, parts_test}
-use Rattle.thorin_index.specs.IndexText.{FitsRow}
-use Rattle.std.proofs.lemmas.Bool.{ltb-true}
+use Rattle.thorin_index.specs.Entries.{contribution_to, offset_or_0, size_or_0}
+use Rattle.thorin_index.specs.EntryTests.{each, number_test, parts_test, format_test, tests_under}
+use Rattle.thorin_index.specs.EntryTests.{count_test, encoding_test, offset_test, size_test}
+use Rattle.thorin_index.specs.IndexText.{FitsRow, is_used}
+use Rattle.thorin_index.proofs.Columns.{has_number}
 
--- a section has a place among those with columns, or no unit has a part of it
-abbrev pub IsPlaced : SectionKind → Type 0
-IsPlaced kind =
-    ((i : ℕ) × (i < length contribution_kinds) × ((d : SectionKind)
-    → get_or contribution_kinds i d ≡ kind))
-    ⊎ ((entry : IndexEntry) → contribution_to kind entry ≡ None)
-
-abbrev is_column : SectionKind → Bool
-is_column kind = ltb (rank_of kind) (length contribution_kinds)
-
-pub placed : (kind : SectionKind) → IsPlaced kind
-placed kind = by (is_column kind) refl
+-- what holds of each section that a unit may have a part of, and of the others, holds of every one
+pub by_part : (P : SectionKind → Type 0) → All P contribution_kinds → P Str → P CuIndex → P TuIndex
+    → (kind : SectionKind) → P kind
+by_part P parts str cu_index tu_index =
+    kinds.each P (held contribution_kinds parts)
   where
-    -- what one of two tests says where the other says nothing
-    left : (a b : Bool) → (a || b) ≡ true → a ≡ false → b ≡ true
-    left true b e f = absurd cc
-    left false b e f = e
-
-    there : (a b : Bool) → (not a || b) ≡ true → a ≡ true → b ≡ true
-    there true b e f = e
-    there false b e f = absurd cc
-
-    none : (part : Option Contribution) → is_none part ≡ true → part ≡ None
-    none None e = refl
-    none (Some part) e = absurd cc
-
-    by : (b : Bool) → is_column kind ≡ b → IsPlaced kind
-    by true has =
-        let at_rank = every (λ k. not (is_column k)
-        || same_kind (get_or contribution_kinds (rank_of k) Info) k) refl kind in
-        let first : get_or contribution_kinds (rank_of kind) Info ≡ kind =
-        is-same _ _ (there (is_column kind) _ at_rank has) in
-        let within = ltb-true _ _ has in
-        inl (
-          rank_of kind,
-          within,
-          λ d. get_or_default contribution_kinds (rank_of kind) d Info within ∙ first,
-        )
-    by false has = inr (λ entry. none (contribution_to kind entry) (left (is_column kind) _
-        (every (λ k. is_column k || is_none (contribution_to k entry)) refl kind) has))
+    held : (ks : List SectionKind) → All P ks
+        → HoldsAll P (ks ++ Str ∷ CuIndex ∷ TuIndex ∷ [])
+    held [] all = (str, (cu_index, (tu_index, tt)))
+    held (k ∷ ks) all = (all 0 k (omega arith), held ks (λ i d less. all (suc i) d (omega arith)))
 
 -- each test passed where all did
 pub each_passed : {X : Type 0} (test : X → Result (Unit {0}) ErrorValue) (xs : List X)
-    → each test xs ≡ Ok tt → (k : ℕ) (d : X) → k < length xs → test (get_or xs k d) ≡ Ok tt
+    → each test xs ≡ Ok tt → All (λ x. test x ≡ Ok tt) xs
 each_passed test [] e k d h = absurd (omega arith)
-each_passed test (x ∷ xs) e zero d h = let first = bind-was (test x) (λ _. each test xs) tt e in
-    first.1
-each_passed test (x ∷ xs) e (suc k) d h = let first = bind-was (test x) (λ _. each test xs) tt e in
-    each_passed test xs first.2 k d (omega arith)
+each_passed test (x ∷ xs) e zero d h = (bind-was (test x) _ tt e).1
+each_passed test (x ∷ xs) e (suc k) d h =
+    each_passed test xs (bind-was (test x) _ tt e).2 k d (omega arith)
 
 -- what is left of some tests, where the next one passes, and where it fails
-pub next_passes : {X : Type 0} (test : X → Result (Unit {0}) ErrorValue)
-    (xs : List X) (i : ℕ) (x : X)
-    → i < length xs → x ≡ get_or xs i x → test x ≡ Ok tt
+pub next_passes : {X : Type 0} (test : X → Result (Unit {0}) ErrorValue) (xs : List X) (i : ℕ)
+    (x : X) → i < length xs → x ≡ get_or xs i x → test x ≡ Ok tt
     → each test (drop i xs) ≡ each test (drop (i + 1) xs)
 next_passes test xs i x within at passes =
-    let here : test (get_or xs i x) ≡ Ok tt = ap test (sym at) ∙ passes in
-    ap (each test) (drop_more xs i x within) ∙ rw here refl
+    at_drop_more (each test) xs i x within ∙ rw (← at, passes) refl
 
-pub next_fails : {X : Type 0} (test : X → Result (Unit {0}) ErrorValue)
-    (xs : List X) (i : ℕ) (x : X)
-    (error : ErrorValue) → i < length xs → x ≡ get_or xs i x → each test (drop i xs) ≡ each test xs
-    → test x ≡ Err error → each test xs ≡ Err error
+pub next_fails : {X : Type 0} (test : X → Result (Unit {0}) ErrorValue) (xs : List X) (i : ℕ)
+    (x : X) (error : ErrorValue) → i < length xs → x ≡ get_or xs i x
+    → each test (drop i xs) ≡ each test xs → test x ≡ Err error → each test xs ≡ Err error
 next_fails test xs i x error within at left fails =
-    let here : test (get_or xs i x) ≡ Err error = ap test (sym at) ∙ fails in
-    sym left ∙ ap (each test) (drop_more xs i x within) ∙ rw here refl
+    sym left ∙ at_drop_more (each test) xs i x within ∙ rw (← at, fails) refl
 
-abbrev tested : Bool → ErrorValue → Result (Unit {0}) ErrorValue
-tested b error = cond b (Ok tt) (Err error)
-
-number_fits_at : (b : Bool) (n : ℕ) (error : ErrorValue) → ltb n (2 ^ 32) ≡ b
-    → tested b error ≡ Ok tt → n < 2 ^ 32
-number_fits_at true n error is e = ltb-true n (2 ^ 32) is
-number_fits_at false n error is e = absurd cc
-
-pub number_fits : (what : List ℕ) (n : ℕ) → number_test what n ≡ Ok tt → n < 2 ^ 32
-number_fits what n e = number_fits_at (ltb n (2 ^ 32)) n _ refl e
+passed : (b : Bool) (error : ErrorValue) → ◌≡◌ {A = Result (Unit {0}) ErrorValue}
+    (cond b (Ok tt) (Err error)) (Ok tt) → b ≡ true
+passed true error e = refl
+passed false error e = absurd cc
 
 -- a test that passed all parts of an entry passed the part of each section
-pub kind_test : (test : SectionKind → Option Contribution → Result (Unit {0}) ErrorValue)
-    (entry : IndexEntry) → parts_test test entry ≡ Ok tt → ((kind : SectionKind)
-    → test kind None ≡ Ok tt) → (kind : SectionKind)
+kind_test : (test : SectionKind → Option Contribution → Result (Unit {0}) ErrorValue)
+    (entry : IndexEntry) → parts_test test entry ≡ Ok tt
+    → ((kind : SectionKind) → test kind None ≡ Ok tt) → (kind : SectionKind)
     → test kind (contribution_to kind entry) ≡ Ok tt
-kind_test test entry e none kind = elim (placed kind) [
-  | inl there ↦ subst (λ k. test k (contribution_to k entry) ≡ Ok tt) (there.2 Info)
-      (each_passed (λ k. test k (contribution_to k entry)) contribution_kinds e
-      there.0 Info there.1)
-  | inr without ↦ ap (test kind) (without entry) ∙ none kind
-]
+kind_test test entry e none =
+    by_part (λ kind. test kind (contribution_to kind entry) ≡ Ok tt)
+    (each_passed (λ kind. test kind (contribution_to kind entry)) contribution_kinds e) (none Str) (none CuIndex) (none TuIndex)
 
--- a test that passed all parts of an entry gives a bound on each of its numbers
-pub row_fits : (measure : Option Contribution → ℕ) (what : List ℕ) (entry : IndexEntry)
-    → measure None ≡ 0 → parts_test (λ _ part. number_test what (measure part)) entry ≡ Ok tt
-    → FitsRow measure entry
-row_fits measure what entry none e kind =
-    number_fits what (measure (contribution_to kind entry))
-    (kind_test (λ _ part. number_test what (measure part)) entry e
-    (λ _. ap (number_test what) none) kind)
-
+-- a test that passed all parts of entries gives a bound on each of their numbers
 pub rows_fit : (measure : Option Contribution → ℕ) (what : List ℕ) (entries : List IndexEntry)
     → measure None ≡ 0 → All (λ entry. parts_test (λ _ part. number_test what (measure part)) entry
     ≡ Ok tt) entries → All (FitsRow measure) entries
-rows_fit measure what entries none h k d within = row_fits measure what (get_or entries k d)
-    none (h k d within)
+rows_fit measure what entries none tests k d within kind =
+    ltb-true _ (2 ^ 32) (passed _ _ (kind_test (λ _ part. number_test what (measure part))
+    (get_or entries k d) (tests k d within) (λ _. ap (number_test what) none) kind))
+
+-- what tests say of entries that passed them, with an index of this version
+pub record HavePassed (version : ℕ) (entries : List IndexEntry) : Type 0 where
+  pub few : 3 * length entries < 2 ^ 32
+  pub known : All (λ entry. (kind : SectionKind) → is_some (contribution_to kind entry) ≡ true
+      → has_number version kind ≡ true) entries
+  pub offsets : All (FitsRow offset_or_0) entries
+  pub sizes : All (FitsRow size_or_0) entries
+
+part_known : (version : ℕ) (kind : SectionKind) (part : Option Contribution)
+    → format_test version kind part ≡ Ok tt → is_some part ≡ true → has_number version kind ≡ true
+part_known version kind None e some = absurd cc
+part_known version kind (Some c) e some = passed (has_number version kind) _ e
+
+pub used_known : (version : ℕ) (entries : List IndexEntry) → All (λ entry. (kind : SectionKind)
+    → is_some (contribution_to kind entry) ≡ true → has_number version kind ≡ true) entries
+    → (kind : SectionKind) → is_used entries kind ≡ true → has_number version kind ≡ true
+used_known version entries known kind used =
+    let any = Any-from_list_any (λ entry. is_some (contribution_to kind entry)) entries used in
+    known any.0 any.1 any.2 kind (rw any.3 any.4)
+
+pub have_passed : (encoding : Encoding) (entries : List IndexEntry)
+    → tests_under encoding entries ≡ Ok tt
+    → HavePassed (index_version_of encoding.version) entries
+unfolding tests_under
+have_passed encoding entries tests =
+    let version = index_version_of encoding.version in
+    let formatted = parts_test (format_test version) in
+    let count = bind-was (count_test (length entries)) _ tt tests in
+    let encodings = bind-was (each (encoding_test encoding) entries) _ tt count.2 in
+    let formats = bind-was (each formatted entries) _ tt encodings.2 in
+    let offsets = bind-was (each (parts_test offset_test) entries) _ tt formats.2 in
+    record {
+      few = ltb-true _ (2 ^ 32) (passed _ _ count.1);
+      known = λ k d less kind. part_known version kind _ (kind_test (format_test version)
+          (get_or entries k d) (each_passed formatted entries formats.1 k d less) (λ _. refl) kind);
+      offsets = rows_fit offset_or_0 (codes "contribution offset") entries refl
+          (each_passed (parts_test offset_test) entries offsets.1);
+      sizes = rows_fit size_or_0 (codes "contribution size") entries refl
+          (each_passed (parts_test size_test) entries offsets.2);
+    }
 
 pub on_ok : {T E P : Type 0} (r : Result T E) → P → OnOk r P
 on_ok (Ok x) p = p

@@ -3,8 +3,6 @@ pub mod Columns
 pub mod Each
 pub mod Looks
 pub mod ReadAgain
-pub mod Readable
 pub mod SameEntry
-pub mod Signatures
 pub mod RowLemmas
 pub mod RowsAgain

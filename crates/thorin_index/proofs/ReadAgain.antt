@@ -1,265 +1,195 @@
--- The bytes of an index are read as the index.
-use Rattle.std.proofs.Common.{◌≡◌, ℕ, suc, ◌*◌, ◌^◌, ◌<◌, ◌≤◌, true, false, eqb, List, [], ◌∷◌}
-use Rattle.std.proofs.Common.{◌++◌, length, drop, map, Option, Result, Ok, ◌⊎◌, inl, inr, refl, sym}
-use Rattle.std.proofs.Common.{ap, subst, ◌∙◌, append_assoc, arith}
-use Rattle.std.specs.Prelude.{All, unwrap_or}
-use Rattle.std.specs.List.{flat_map, AllByRecursion}
-use Rattle.std.proofs.lemmas.List.{append-nil, length-append, length-map, drop_at, drop-drop}
-use Rattle.std.proofs.lemmas.Bool.{le-ltb}
+-- The bytes of an index whose entries passed the tests are read as the index.
+use Rattle.std.proofs.Common.{◌≡◌, ℕ, zero, suc, ◌*◌, ◌^◌, ◌<◌, ◌≤◌, true, false, leb, List, [], ◌∷◌}
+use Rattle.std.proofs.Common.{◌++◌, length, get_or, drop, Ok, inl, inr, refl, ap, ◌∙◌, cond, Bool}
+use Rattle.std.proofs.Common.{append_assoc, arith}
+use Rattle.std.proofs.lemmas.List.{append-nil, length-map, map-id, get_or_default}
+use Rattle.std.proofs.lemmas.List.Sums.{length-filter, count_by-le-length}
+use Rattle.std.proofs.lemmas.Bool.{le-ltb, lt-ltb}
 use Rattle.dwp_base.specs.declared.endian.Endianness.{Endianness}
 use Rattle.dwp_base.specs.declared.endian.Endianness.TheVariants.{Little, Big}
 use Rattle.dwp_base.specs.declared.section.SectionKind.{SectionKind}
-use Rattle.dwp_base.specs.declared.section.Contribution.{Contribution}
 use Rattle.dwp_base.specs.Numbers.{number, number_bytes}
-use Rattle.dwp_bytes.specs.declared.error.ReadError.{ReadError}
-use Rattle.dwp_table.specs.Columns.{column_of}
+use Rattle.dwp_bytes.specs.declared.encoding.Encoding.{Encoding}
+use Rattle.dwp_bytes.specs.Encoding.{index_version_of}
+use Rattle.dwp_table.specs.Columns.{contribution_kinds}
+use Rattle.dwp_table.specs.Objects.{identifier_of}
 use Rattle.dwp_table.specs.Table.{signature_of}
-use Rattle.dwp_index.specs.Index.{Index}
 use Rattle.dwp_index.specs.IndexBytes.{numbers, number_rows, after, version_of, counts_of}
 use Rattle.dwp_index.specs.IndexBytes.{columns_at, is_slot_count, index_of}
 use Rattle.thorin_index.specs.declared.entry.IndexEntry.{IndexEntry}
 use Rattle.thorin_index.specs.Entries.{contribution_to, offset_or_0, size_or_0}
-use Rattle.thorin_index.specs.IndexText.{numbers_bytes, version_bytes, column_numbers, row_numbers}
-use Rattle.thorin_index.specs.IndexText.{rows_bytes, signatures_bytes, entry_ids, index_bytes}
-use Rattle.thorin_index.specs.IndexText.{FitsRow}
+use Rattle.thorin_index.specs.EntryTests.{tests_under}
+use Rattle.thorin_index.specs.IndexText.{numbers_bytes, version_bytes, column_numbers, rows_bytes}
+use Rattle.thorin_index.specs.IndexText.{signatures_bytes, is_used, used_sections, entry_ids}
+use Rattle.thorin_index.specs.IndexText.{index_bytes, IsIndexText}
 use Rattle.thorin_index.specs.ReadBack.{index_with}
-use Rattle.thorin_index.proofs.Again.{width_4, width_8, length-written, numbers-written}
-use Rattle.thorin_index.proofs.Again.{length-written_rows, rows-written, flat_map-map}
-use Rattle.thorin_index.proofs.Columns.{AreNew, columns_read, columns_small}
+use Rattle.thorin_index.proofs.Again.{IsPut, put_4, put_8, put_row, put_again, after_put}
+use Rattle.thorin_index.proofs.Columns.{IsIndexVersion, by_version, columns_read}
+use Rattle.thorin_index.proofs.Each.{have_passed, used_known}
+
+pub version_either : (v : ℕ) → IsIndexVersion (index_version_of v)
+version_either v = either (leb 5 v)
+  where
+    either : (b : Bool) → IsIndexVersion (cond b 5 2)
+    either true = inl refl
+    either false = inr refl
 
 -- ---- the header
-version_at_5 : (order : Endianness) (bytes : List ℕ) (n : ℕ) → 4 ≤ length bytes
-    → number order 4 bytes ≡ n → eqb n 2 ≡ false → number order 2 bytes ≡ 5
-    → version_of order bytes ≡ Ok 5
-unfolding version_of
-version_at_5 order bytes n long four other two =
-    rw (le-ltb (length bytes) 4 long, four, other, two) refl
-
-version_at_2 : (order : Endianness) (bytes : List ℕ) → 4 ≤ length bytes → number order 4 bytes ≡ 2
-    → version_of order bytes ≡ Ok 2
-unfolding version_of
-version_at_2 order bytes long four = rw (le-ltb (length bytes) 4 long, four) refl
-
-version_5 : (order : Endianness) (rest : List ℕ)
-    → version_of order (version_bytes order 5 ++ rest) ≡ Ok 5
-version_5 Little rest = version_at_5 Little (5 ∷ 0 ∷ 0 ∷ 0 ∷ rest) 5 (omega arith) refl refl refl
-version_5 Big rest = version_at_5 Big (0 ∷ 5 ∷ 0 ∷ 0 ∷ rest) 327680 (omega arith) refl refl refl
-
-version_2 : (order : Endianness) (rest : List ℕ)
-    → version_of order (version_bytes order 2 ++ rest) ≡ Ok 2
-version_2 Little rest = version_at_2 Little (2 ∷ 0 ∷ 0 ∷ 0 ∷ rest) (omega arith) refl
-version_2 Big rest = version_at_2 Big (0 ∷ 0 ∷ 0 ∷ 2 ∷ rest) (omega arith) refl
-
-version_read : (order : Endianness) (version : ℕ) (rest : List ℕ) → (version ≡ 5) ⊎ (version ≡ 2)
-    → version_of order (version_bytes order version ++ rest) ≡ Ok version
-version_read order version rest e = elim e [
-  | inl five ↦ subst (λ (v : ℕ). version_of order (version_bytes order v ++ rest) ≡ Ok v) (sym five)
-      (version_5 order rest)
-  | inr two ↦ subst (λ (v : ℕ). version_of order (version_bytes order v ++ rest) ≡ Ok v) (sym two)
-      (version_2 order rest)
-]
-
-version_len : (order : Endianness) (version : ℕ) (rest : List ℕ) → (version ≡ 5) ⊎ (version ≡ 2)
-    → length (version_bytes order version) ≡ 4
-version_len Little version rest e = elim e [
-  | inl five ↦ ap (λ (v : ℕ). length (version_bytes Little v)) five
-  | inr two ↦ ap (λ (v : ℕ). length (version_bytes Little v)) two
-]
-version_len Big version rest e = elim e [
-  | inl five ↦ ap (λ (v : ℕ). length (version_bytes Big v)) five
-  | inr two ↦ ap (λ (v : ℕ). length (version_bytes Big v)) two
-]
-
-after_ok : (n : ℕ) (front rest : List ℕ) → length front ≡ n → after n (front ++ rest) ≡ Ok rest
-after_ok n front rest e =
-    rw (
-      le-ltb (length (front ++ rest)) n (omega (arith, length-append front rest, e)),
-      drop_at
-          front rest n e,
-    ) refl
-
-counts_at : (order : Endianness) (bytes : List ℕ) (c u s : ℕ) → 16 ≤ length bytes
-    → number order 4 (drop 4 bytes) ≡ c → number order 4 (drop 8 bytes) ≡ u
-    → number order 4 (drop 12 bytes) ≡ s → is_slot_count u s ≡ true → counts_of order bytes ≡ Ok
-    (record { columns = c; units = u; slots = s })
+counts_at : (order : Endianness) (bytes : List ℕ) (columns units slots : ℕ) → 16 ≤ length bytes
+    → number order 4 (drop 4 bytes) ≡ columns → number order 4 (drop 8 bytes) ≡ units
+    → number order 4 (drop 12 bytes) ≡ slots → is_slot_count units slots ≡ true
+    → counts_of order bytes ≡ Ok (record { columns = columns; units = units; slots = slots })
 unfolding counts_of
-counts_at order bytes c u s long c-is u-is s-is ok =
-    rw (le-ltb (length bytes) 16 long, c-is, u-is, s-is, ok) refl
+counts_at order bytes columns units slots long columns_are units_are slots_are ok =
+    rw (le-ltb (length bytes) 16 long, columns_are, units_are, slots_are, ok) refl
 
-module _ (order : Endianness) (front rest : List ℕ) (c u s : ℕ) (four : length front ≡ 4)
-    (c_fits : c < 2 ^ 32) (u_fits : u < 2 ^ 32) (s_fits : s < 2 ^ 32) where
-  abbrev nb : ℕ → List ℕ
-  nb x = number_bytes order 4 x
+abbrev counted : ℕ → ℕ → ℕ → List ℕ → Endianness → List ℕ
+counted columns units slots rest order = number_bytes order 4 columns
+    ++ (number_bytes order 4 units ++ (number_bytes order 4 slots ++ rest))
 
-  abbrev bytes : List ℕ
-  bytes = front ++ (nb c ++ (nb u ++ (nb s ++ rest)))
+module _ (columns units slots : ℕ) (few_columns : columns < 2 ^ 32) (few_units : units < 2 ^ 32)
+    (few_slots : slots < 2 ^ 32) (rest : List ℕ) where
+  abbrev behind : Endianness → List ℕ
+  behind = counted columns units slots rest
 
-  drop_4 : drop 4 bytes ≡ nb c ++ (nb u ++ (nb s ++ rest))
-  drop_4 = drop_at front (nb c ++ (nb u ++ (nb s ++ rest))) 4 four
+  abbrev slots_on : Endianness → List ℕ
+  slots_on order = number_bytes order 4 slots ++ rest
 
-  drop_8 : drop 8 bytes ≡ nb u ++ (nb s ++ rest)
-  drop_8 = sym (drop-drop 4 4 bytes) ∙ ap (drop 4) drop_4 ∙ width_4.past order c
-      (nb u ++ (nb s ++ rest))
+  abbrev units_on : Endianness → List ℕ
+  units_on order = number_bytes order 4 units ++ slots_on order
 
-  drop_12 : drop 12 bytes ≡ nb s ++ rest
-  drop_12 = sym (drop-drop 4 8 bytes) ∙ ap (drop 4) drop_8 ∙ width_4.past order u (nb s ++ rest)
+  record IsHeader (order : Endianness) (version : ℕ) (bytes : List ℕ) : Type 0 where
+    version_is : version_of order bytes ≡ Ok version
+    counts_are : is_slot_count units slots ≡ true → counts_of order bytes ≡ Ok
+        (record { columns = columns; units = units; slots = slots })
+    left : drop 16 bytes ≡ rest
 
-  pub drop_16 : drop 16 bytes ≡ rest
-  drop_16 = sym (drop-drop 4 12 bytes) ∙ ap (drop 4) drop_12 ∙ width_4.past order s rest
+  header_read : (order : Endianness) (a b c d version : ℕ)
+      → version_of order (a ∷ b ∷ c ∷ d ∷ behind order) ≡ Ok version
+      → IsHeader order version (a ∷ b ∷ c ∷ d ∷ behind order)
+  header_read Little a b c d version is =
+      let one : IsPut _ _ _ _ 4 = put_4 Little (λ (n : ℕ). n) in
+      record {
+        version_is = is;
+        counts_are = counts_at Little (a ∷ b ∷ c ∷ d ∷ behind Little) columns units slots
+            (omega arith) (one.again columns (units_on Little) few_columns) (one.again units (slots_on Little) few_units)
+            (one.again slots rest few_slots);
+        left = refl;
+      }
+  header_read Big a b c d version is =
+      let one : IsPut _ _ _ _ 4 = put_4 Big (λ (n : ℕ). n) in
+      record {
+        version_is = is;
+        counts_are = counts_at Big (a ∷ b ∷ c ∷ d ∷ behind Big) columns units slots
+            (omega arith) (one.again columns (units_on Big) few_columns) (one.again units (slots_on Big) few_units)
+            (one.again slots rest few_slots);
+        left = refl;
+      }
 
-  long : 16 ≤ length bytes
-  long = omega (
-    arith,
-    length-append front (nb c ++ (nb u ++ (nb s ++ rest))),
-    length-append (nb c)
-        (nb u ++ (nb s ++ rest)),
-    length-append (nb u) (nb s ++ rest),
-    length-append (nb s) rest,
-    four,
-    width_4.len order c,
-    width_4.len order u,
-    width_4.len order s,
-  )
+  header_5 : (order : Endianness) → IsHeader order 5 (version_bytes order 5 ++ behind order)
+  unfolding version_of
+  header_5 Little = header_read Little 5 0 0 0 5
+      (rw (le-ltb (length (5 ∷ 0 ∷ 0 ∷ 0 ∷ behind Little)) 4 (omega arith)) refl)
+  header_5 Big = header_read Big 0 5 0 0 5
+      (rw (le-ltb (length (0 ∷ 5 ∷ 0 ∷ 0 ∷ behind Big)) 4 (omega arith)) refl)
 
-  pub counts_read : is_slot_count u s ≡ true → counts_of order bytes ≡ Ok
-      (record { columns = c; units = u; slots = s })
-  counts_read ok =
-      let c-is : number order 4 (drop 4 bytes) ≡ c = ap (number order 4) drop_4 ∙ width_4.again
-      order c (nb u ++ (nb s ++ rest)) c_fits in
-      let u-is : number order 4 (drop 8 bytes) ≡ u = ap (number order 4) drop_8 ∙ width_4.again
-      order u (nb s ++ rest) u_fits in
-      let s-is : number order 4 (drop 12 bytes) ≡ s = ap (number order 4) drop_12 ∙ width_4.again
-      order s rest s_fits in
-      counts_at order bytes c u s long c-is u-is s-is ok
+  header_2 : (order : Endianness) → IsHeader order 2 (version_bytes order 2 ++ behind order)
+  unfolding version_of
+  header_2 Little = header_read Little 2 0 0 0 2
+      (rw (le-ltb (length (2 ∷ 0 ∷ 0 ∷ 0 ∷ behind Little)) 4 (omega arith)) refl)
+  header_2 Big = header_read Big 0 0 0 2 2
+      (rw (le-ltb (length (0 ∷ 0 ∷ 0 ∷ 2 ∷ behind Big)) 4 (omega arith)) refl)
+
+  header : (order : Endianness) (version : ℕ) → IsIndexVersion version
+      → IsHeader order version (version_bytes order version ++ behind order)
+  header order = by_version (λ v. IsHeader order v (version_bytes order v ++ behind order))
+      (header_5 order) (header_2 order)
 
 -- ---- the whole
-abbrev made : ℕ → List ℕ → List ℕ → List ℕ → List (List ℕ) → List (List ℕ) → Result Index ReadError
-made version cols sigs rows offsets sizes = Ok (record {
-  version = version;
-  columns = cols;
-  signatures = sigs;
-  rows = rows;
-  offsets = offsets;
-  sizes = sizes;
-})
-
-same_index : (version : ℕ) (cols sigs sigs' rows rows' : List ℕ) (offsets offsets' sizes
-    sizes' : List (List ℕ)) → sigs ≡ sigs' → rows ≡ rows' → offsets ≡ offsets' → sizes ≡ sizes'
-    → made version cols sigs rows offsets sizes ≡ made version cols sigs' rows' offsets' sizes'
-same_index version cols sigs sigs' rows rows' offsets offsets' sizes sizes' a b c d =
-    rw (a, b, c, d) refl
-
-read_whole : (order : Endianness) (bytes r1 r2 r3 r4 r5 r6 : List ℕ)
-    (version columns units slots : ℕ) (cols : List ℕ) → version_of order bytes ≡ Ok version
+read_whole : (order : Endianness) (bytes slots_on rows_on columns_on offsets_on sizes_on : List ℕ)
+    (version columns units slots : ℕ) (column_list signatures rows : List ℕ)
+    (offsets sizes : List (List ℕ)) → version_of order bytes ≡ Ok version
     → counts_of order bytes ≡ Ok (record { columns = columns; units = units; slots = slots })
-    → drop 16 bytes ≡ r1
-    → after (8 * slots) r1 ≡ Ok r2 → after (4 * slots) r2 ≡ Ok r3 → columns_at order version []
-    columns r3 ≡ Ok (cols, r4) → after (4 * columns * units) r4 ≡ Ok r5
-    → after (4 * columns * units) r5 ≡ Ok r6
+    → drop 16 bytes ≡ slots_on
+    → after (8 * slots) slots_on ≡ Ok rows_on → after (4 * slots) rows_on ≡ Ok columns_on
+    → columns_at order version [] columns columns_on ≡ Ok (column_list, offsets_on)
+    → after (4 * columns * units) offsets_on ≡ Ok sizes_on
+    → after (4 * columns * units) sizes_on ≡ Ok []
+    → numbers order 8 slots slots_on ≡ signatures → numbers order 4 slots rows_on ≡ rows
+    → number_rows order columns units offsets_on ≡ offsets
+    → number_rows order columns units sizes_on ≡ sizes
     → index_of order bytes ≡ Ok (record {
       version = version;
-      columns = cols;
-      signatures =
-          numbers order 8 slots r1;
-      rows = numbers order 4 slots r2;
-      offsets =
-          number_rows order columns units r4;
-      sizes = number_rows order columns units r5;
+      columns = column_list;
+      signatures = signatures;
+      rows = rows;
+      offsets = offsets;
+      sizes = sizes;
     })
 unfolding index_of
-read_whole order bytes r1 r2 r3 r4 r5 r6 version columns units slots cols e1 e2 e3 e4 e5 e6 e7 e8 =
-    rw (e1, e2, e3, e4, e5, e6, e7, e8) refl
+read_whole order bytes slots_on rows_on columns_on offsets_on sizes_on version columns units slots
+    column_list signatures rows offsets sizes e1 e2 e3 e4 e5 e6 e7 e8 e9 e10 e11 e12 =
+    rw (e1, e2, e3, e4, e5, e6, e7, e8, e9, e10, e11, e12) refl
 
-rows_fit_rec : (measure : Option Contribution → ℕ) (kinds : List SectionKind) (entry : IndexEntry)
-    → FitsRow measure entry → AllByRecursion (λ x. x < 2 ^ 32) (row_numbers measure kinds entry)
-rows_fit_rec measure [] entry fits = tt
-rows_fit_rec measure (k ∷ ks) entry fits = (fits k, rows_fit_rec measure ks entry fits)
+signature_fits : (ids : List ℕ) → ((r : ℕ) → get_or ids r 0 < 2 ^ 64) → (row : ℕ)
+    → signature_of ids row < 2 ^ 64
+signature_fits ids h zero = omega arith
+signature_fits ids h (suc r) = h r
 
-each_row_fits : (measure : Option Contribution → ℕ) (kinds : List SectionKind)
-    (entries : List IndexEntry) → All (FitsRow measure) entries
-    → AllByRecursion (λ e. AllByRecursion (λ x. x < 2 ^ 32) (row_numbers measure kinds e)) entries
-each_row_fits measure kinds [] fits = tt
-each_row_fits measure kinds (e ∷ es) fits = (
-  rows_fit_rec measure kinds e (fits 0 e (omega arith)),
-  each_row_fits measure kinds es (λ k d h. fits (suc k) d (omega arith)),
-)
-
--- what has to hold of an index's parts for its bytes to be read again
-pub record IsReadable (version : ℕ) (kinds : List SectionKind) (entries : List IndexEntry)
-    (rows : List ℕ) : Type 0 where
-  pub version_is : (version ≡ 5) ⊎ (version ≡ 2)
-  pub columns : AreNew version [] (column_numbers version kinds)
-  pub few_columns : length kinds < 2 ^ 32
-  pub few_entries : length entries < 2 ^ 32
-  pub few_slots : length rows < 2 ^ 32
-  pub slots : is_slot_count (length entries) (length rows) ≡ true
-  pub rows_fit : AllByRecursion (λ x. x < 2 ^ 32) rows
-  pub signatures_fit : AllByRecursion (λ x. x < 2 ^ 64)
-      (map (signature_of (entry_ids entries)) rows)
-  pub offsets_fit : All (FitsRow offset_or_0) entries
-  pub sizes_fit : All (FitsRow size_or_0) entries
-
-pub index_read : (order : Endianness) (version : ℕ) (kinds : List SectionKind)
-    (entries : List IndexEntry) (rows : List ℕ) → IsReadable version kinds entries rows
-    → index_of order (index_bytes order version kinds entries rows) ≡ Ok
-    (index_with version kinds entries rows)
+pub index_is_read : (order : Endianness) (encoding : Encoding) (entries : List IndexEntry)
+    (bytes : List ℕ) → tests_under encoding entries ≡ Ok tt
+    → ((r : ℕ) → get_or (entry_ids entries) r 0 < 2 ^ 64)
+    → (text : IsIndexText order (index_version_of encoding.version) entries bytes)
+    → index_of order bytes ≡ Ok (index_with (index_version_of encoding.version)
+    (used_sections entries) entries text.rows)
 unfolding index_bytes
-index_read order version kinds entries rows can =
+index_is_read order encoding entries bytes tests small_ids text =
+    let version = index_version_of encoding.version in
+    let is = version_either encoding.version in
+    let passed = have_passed encoding entries tests in
+    let few = passed.few in
+    let table = text.table in
+    let rows = text.rows in
+    let kinds = used_sections entries in
     let ids = entry_ids entries in
-    let sigs = map (signature_of ids) rows in
-    let cols = column_numbers version kinds in
-    let front = version_bytes order version in
-    let z : List ℕ = rows_bytes order size_or_0 kinds entries in
-    let o : List ℕ = rows_bytes order offset_or_0 kinds entries in
-    let r4 : List ℕ = o ++ z in
-    let r3 : List ℕ = numbers_bytes order cols ++ r4 in
-    let r2 : List ℕ = numbers_bytes order rows ++ r3 in
-    let r1 : List ℕ = signatures_bytes order ids rows ++ r2 in
-    let nb = number_bytes order 4 in
-    let c = length kinds in
-    let u = length entries in
-    let s = length rows in
-    let whole : List ℕ = front ++ (nb c ++ (nb u ++ (nb s ++ r1))) in
-    let regrouped : index_bytes order version kinds entries rows ≡ whole =
+    let count : length ids ≡ length entries = length-map entries (λ e. identifier_of e.id) in
+    let columns : length kinds ≤ 10 = omega (
+      arith,
+      length-filter (is_used entries)
+          contribution_kinds,
+      count_by-le-length (is_used entries) contribution_kinds,
+    ) in
+    let signatures = put_8 order (signature_of ids) in
+    let slots = put_4 order (λ (row : ℕ). row) in
+    let offsets = put_row order kinds (λ (e : IndexEntry) (k : SectionKind).
+    offset_or_0 (contribution_to k e)) in
+    let sizes = put_row order kinds (λ (e : IndexEntry) (k : SectionKind).
+    size_or_0 (contribution_to k e)) in
+    let sizes_on : List ℕ = rows_bytes order size_or_0 kinds entries ++ [] in
+    let offsets_on : List ℕ = rows_bytes order offset_or_0 kinds entries ++ sizes_on in
+    let columns_on : List ℕ = numbers_bytes order (column_numbers version kinds) ++ offsets_on in
+    let rows_on : List ℕ = numbers_bytes order rows ++ columns_on in
+    let slots_on : List ℕ = signatures_bytes order ids rows ++ rows_on in
+    let head = header (length kinds) (length entries) (length rows) (omega arith)
+    (omega (arith, few)) table.small slots_on order version is in
+    let room : is_slot_count (length entries) (length rows) ≡ true =
+    rw (table.power, lt-ltb (length entries) (length rows) (omega (arith, table.room))) refl in
+    let regrouped : index_bytes order version kinds entries rows ≡ version_bytes order version ++
+    counted (length kinds) (length entries) (length rows) slots_on order =
     simp (append_assoc, append-nil) in
-    let four = version_len order version [] can.version_is in
-    let sigs-is : signatures_bytes order ids rows ≡ flat_map (number_bytes order 8) sigs =
-    flat_map-map (number_bytes order 8) (signature_of ids) rows in
-    let s-len : length sigs ≡ s = length-map rows (signature_of ids) in
-    let c-len : length cols ≡ c = length-map kinds (λ k. unwrap_or (column_of version k) 0) in
-    let e4 = after_ok (8 * s) (signatures_bytes order ids rows) r2
-    (ap length sigs-is ∙ length-written 8 (2 ^ 64) width_8 order sigs ∙ ap (λ n.
-    8 * n) s-len) in
-    let e5 = after_ok (4 * s) (numbers_bytes order rows) r3 (length-written 4 (2 ^ 32)
-    width_4 order rows) in
-    let e6 : columns_at order version [] c r3 ≡ Ok (cols, r4) =
-    ap (λ n. columns_at order version [] n r3) (sym c-len) ∙ columns_read order version [] cols
-    r4 (columns_small version kinds) can.columns in
-    let long_row = λ (m : Option Contribution → ℕ) (e : IndexEntry).
-    length-map kinds (λ k. m (contribution_to k e)) in
-    let e7 = after_ok (4 * c * u) o z (length-written_rows order c (row_numbers offset_or_0 kinds)
-    (long_row offset_or_0) entries) in
-    let z-nil : z ++ [] ≡ z = append-nil z in
-    let e8 : after (4 * c * u) z ≡ Ok [] = ap (after (4 * c * u)) (sym z-nil) ∙ after_ok (4 * c * u)
-    z [] (length-written_rows order c (row_numbers size_or_0 kinds)
-    (long_row size_or_0) entries) in
-    let e2 = counts_read order front r1 c u s four can.few_columns can.few_entries
-    can.few_slots can.slots in
-    let e3 = drop_16 order front r1 c u s four can.few_columns can.few_entries can.few_slots in
-    let read = read_whole order whole r1 r2 r3 r4 z [] version c u s cols
-    (version_read order version (nb c ++ (nb u ++ (nb s ++ r1))) can.version_is) e2 e3
-    e4 e5 e6 e7 e8 in
-    let a1 : numbers order 8 s r1 ≡ sigs = ap (λ (l : List ℕ). numbers order 8 s (l ++ r2)) sigs-is
-    ∙ ap (λ n. numbers order 8 n (flat_map (number_bytes order 8) sigs ++ r2)) (sym s-len) ∙
-    numbers-written 8 (2 ^ 64) width_8 order sigs r2 can.signatures_fit in
-    let a2 : numbers order 4 s r2 ≡ rows = numbers-written 4 (2 ^ 32) width_4 order rows
-    r3 can.rows_fit in
-    let a3 : number_rows order c u r4 ≡ map (row_numbers offset_or_0 kinds) entries =
-    rows-written order c (row_numbers offset_or_0 kinds) (long_row offset_or_0) entries z
-    (each_row_fits offset_or_0 kinds entries can.offsets_fit) in
-    let a4 : number_rows order c u z ≡ map (row_numbers size_or_0 kinds) entries =
-    ap (number_rows order c u) (sym z-nil) ∙ rows-written order c (row_numbers size_or_0 kinds)
-    (long_row size_or_0) entries [] (each_row_fits size_or_0 kinds entries can.sizes_fit) in
-    ap (index_of order) regrouped ∙ read ∙ same_index version cols (numbers order 8 s r1) sigs
-    (numbers order 4 s r2) rows (number_rows order c u r4) (map (row_numbers offset_or_0 kinds)
-    entries) (number_rows order c u z) (map (row_numbers size_or_0 kinds) entries) a1 a2 a3 a4
+    ap (index_of order) (text.text ∙ regrouped)
+    ∙ read_whole order _ slots_on rows_on columns_on offsets_on sizes_on version _ _ _ _ _ _ _ _
+    head.version_is (head.counts_are room) head.left (after_put signatures rows rows_on)
+    (after_put slots rows columns_on)
+    (columns_read order version is (is_used entries) (used_known version entries passed.known)
+    contribution_kinds 0 refl [] offsets_on (λ kind has behind. refl))
+    (after_put offsets entries sizes_on) (after_put sizes entries [])
+    (put_again signatures (numbers order 8) (λ b. refl) (λ n b. refl) rows rows_on
+    (λ k d less. signature_fits ids small_ids (get_or rows k d)))
+    (put_again slots (numbers order 4) (λ b. refl) (λ n b. refl) rows columns_on
+    (λ k d less. omega (arith, table.only k, get_or_default rows k d 0 less, few, count))
+    ∙ map-id rows)
+    (put_again offsets (number_rows order (length kinds)) (λ b. refl) (λ n b. refl) entries
+    sizes_on passed.offsets)
+    (put_again sizes (number_rows order (length kinds)) (λ b. refl) (λ n b. refl) entries []
+    passed.sizes)

@@ -1,8 +1,8 @@
 -- The rows of an index as they are held: what they stand for where more is shared.
-use Rattle.std.proofs.Common.{◌≡◌, ◌∙◌, ℕ, suc, ◌<◌, ◌≤◌, List, [], ◌∷◌, ◌++◌, length, map, get_or}
-use Rattle.std.proofs.Common.{take, min, Some, Result, Ok, Err, ap, sym, refl, arith}
+use Rattle.std.proofs.Common.{◌≡◌, ◌∙◌, suc, ◌<◌, ◌≤◌, List, [], ◌∷◌, ◌++◌, length, map, get_or}
+use Rattle.std.proofs.Common.{take, Some, Result, Ok, Err, ap, sym, refl, arith}
 use Rattle.std.specs.Prelude.{All, OnErr, slice_get}
-use Rattle.std.proofs.lemmas.List.{get_or-take, length-take, map-append}
+use Rattle.std.proofs.lemmas.List.{get_or-take, length-take, map_push}
 use Rattle.std.proofs.lemmas.List.Elements.{All-push}
 use Rattle.std.proofs.lemmas.Option.{get_or_from_slice_get, slice_get_within}
 use Rattle.dwp_table.specs.declared.object.DwarfObject.{DwarfObject}
@@ -17,38 +17,22 @@ use Rattle.thorin_index.specs.Rows.{row_of, with_own, blank}
 -- a list that begins with another isn't shorter
 pub at_least : {A : Type 0} (front all : List A) → take (length front) all ≡ front
     → length front ≤ length all
-at_least front all h =
-    let e : length front ≡ min (length front) (length all) =
-    ap length (sym h) ∙ length-take (length front) all in
-    omega arith
-
--- and has its items
-same_item : {A : Type 0} (front all : List A) (k : ℕ) (d : A) → take (length front) all ≡ front
-    → k < length front → get_or all k d ≡ get_or front k d
-same_item front all k d h less =
-    sym (get_or-take (length front) all k d less) ∙ ap (λ l. get_or l k d) h
+at_least front all h = omega (arith, ap length h, length-take (length front) all)
 
 -- the number of each row is one of what they share
 abbrev pub AreNumbered : List IndexEntry → List Row → Type 0
 AreNumbered shared rows = All (λ (row : Row). row.shared < length shared) rows
 
-still : (shared more : List IndexEntry) → take (length shared) more ≡ shared → (rows : List Row)
-    → AreNumbered shared rows → map (row_of more) rows ≡ map (row_of shared) rows
-still shared more h [] numbered = refl
-still shared more h (row ∷ rows) numbered =
-    let here : row_of more row ≡ row_of shared row =
-    ap (with_own row.id row.own) (same_item shared more row.shared blank h
-    (numbered 0 row (omega arith))) in
-    let rest : map (row_of more) rows ≡ map (row_of shared) rows =
-    still shared more h rows (λ k d less. numbered (suc k) d (omega arith)) in
-    rw (here, rest) refl
-
-numbered_still : (shared more : List IndexEntry) (rows : List Row)
-    → take (length shared) more ≡ shared → AreNumbered shared rows → AreNumbered more rows
-numbered_still shared more rows h numbered k d less =
-    let a = at_least shared more h in
-    let b = numbered k d less in
-    omega arith
+-- rows as they were, where more is shared
+pub kept_rows : (shared more : List IndexEntry) (rows : List Row)
+    → take (length shared) more ≡ shared → AreNumbered shared rows
+    → map (row_of more) rows ≡ map (row_of shared) rows
+kept_rows shared more [] h numbered = refl
+kept_rows shared more (row ∷ rows) h numbered =
+    let here : get_or more row.shared blank ≡ get_or shared row.shared blank =
+    sym (get_or-take (length shared) more row.shared blank (numbered 0 row (omega arith)))
+    ∙ ap (λ l. get_or l row.shared blank) h in
+    rw (here, kept_rows shared more rows h (λ k d less. numbered (suc k) d (omega arith))) refl
 
 -- rows with one more, which has its number of what they share now
 pub numbered_pushed : (shared more : List IndexEntry) (rows : List Row) (row : Row)
@@ -56,38 +40,28 @@ pub numbered_pushed : (shared more : List IndexEntry) (rows : List Row) (row : R
     → slice_get more row.shared ≡ Some rest → AreNumbered shared rows
     → AreNumbered more (rows ++ row ∷ [])
 numbered_pushed shared more rows row rest kept there numbered =
-    All-push (λ (r : Row). r.shared < length more) rows row
-    (numbered_still shared more rows kept numbered) (slice_get_within more row.shared rest there)
+    All-push (λ (r : Row). r.shared < length more) rows row (λ k d less. omega (
+      arith,
+      at_least shared more kept,
+      numbered k d less,
+    )) (slice_get_within more row.shared rest there)
 
 pub pushed : (shared more : List IndexEntry) (rows : List Row) (row : Row) (rest entry : IndexEntry)
     → take (length shared) more ≡ shared → slice_get more row.shared ≡ Some rest
     → with_own row.id row.own rest ≡ entry → AreNumbered shared rows
     → map (row_of more) (rows ++ row ∷ []) ≡ map (row_of shared) rows ++ entry ∷ []
 pushed shared more rows row rest entry kept there whole numbered =
-    let last : row_of more row ≡ entry =
-    ap (with_own row.id row.own) (get_or_from_slice_get more row.shared rest blank there) ∙ whole in
-    map-append (row_of more) rows (row ∷ [])
-    ∙ rw (still shared more kept rows numbered, last) refl
-
--- rows as they were, where more is shared
-pub kept_rows : (shared more : List IndexEntry) (rows : List Row)
-    → take (length shared) more ≡ shared → AreNumbered shared rows
-    → map (row_of more) rows ≡ map (row_of shared) rows
-kept_rows shared more rows h numbered = still shared more h rows numbered
+    map_push (row_of more) rows row
+    ∙ rw (
+      kept_rows shared more rows kept numbered,
+      get_or_from_slice_get more row.shared rest blank there,
+      whole,
+    ) refl
 
 -- what holds whatever came holds of an error
 pub on_err : {T E P : Type 0} (r : Result T E) → P → OnErr r P
 on_err (Ok x) p = tt
 on_err (Err e) p = p
-
--- what was added last is at the number of those before
-pub added_last : {A : Type 0} (xs all : List A) (x : A) → all ≡ xs ++ x ∷ []
-    → slice_get all (length xs) ≡ Some x
-added_last xs all x is = ap (λ l. slice_get l (length xs)) is ∙ at_end xs x
-  where
-    at_end : {A : Type 0} (xs : List A) (x : A) → slice_get (xs ++ x ∷ []) (length xs) ≡ Some x
-    at_end [] x = refl
-    at_end (y ∷ ys) x = at_end ys x
 
 own_id : (id : DwarfObject) (own : Own) (entry : IndexEntry) → (with_own id own entry).id ≡ id
 own_id id Nothing entry = refl

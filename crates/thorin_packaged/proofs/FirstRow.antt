@@ -1,53 +1,70 @@
 -- The first row that a test finds.
-use Rattle.std.proofs.Common.{◌≡◌, ◌≢◌, ℕ, zero, suc, ◌+◌, ◌<◌, ◌≤◌, Bool, true, false, cond, eqb}
-use Rattle.std.proofs.Common.{ltb, ◌-◌, ◌&&◌, length, map, Some, None, Ok, Err, Option, Result, ap}
-use Rattle.std.proofs.Common.{ap₂, sym, refl, ◌∙◌, ⊎_elim, arith}
+use Rattle.std.proofs.Common.{◌≡◌, ◌≢◌, ℕ, zero, suc, ◌+◌, ◌-◌, ◌<◌, ◌≤◌, Bool, true, false, eqb, ltb}
+use Rattle.std.proofs.Common.{length, map, Some, None, Ok, Err, ◌&&◌, Option, Result, ap, ap₂, subst, refl}
+use Rattle.std.proofs.Common.{◌∙◌, ◌⊎◌, inl, inr, ⊎_elim, arith}
 use Rattle.std.specs.List.{position_from, range_with_len}
 use Rattle.std.specs.Option.{option_and_then}
 use Rattle.std.specs.Result.{result_ok}
-use Rattle.std.proofs.lemmas.Bool.{cases_eq, cond-true, cond-false, false_from_ne_true, eqb-true}
-use Rattle.std.proofs.lemmas.Bool.{eq-eqb, and_parts, ltb-true}
+use Rattle.std.proofs.lemmas.Bool.{cases_eq, cases_lt, eqb-true, eq-eqb, and_parts, ltb-true, true_from_ne_false}
 use Rattle.dwp_base.specs.declared.section.SectionKind.{SectionKind}
 use Rattle.dwp_base.specs.declared.section.Contribution.{Contribution}
 use Rattle.dwp_bytes.specs.declared.error.ReadError.{ReadError}
-use Rattle.dwp_bytes.specs.declared.error.ReadError.TheVariants.{RowOutOfRange}
 use Rattle.dwp_index.specs.Index.{Index, Ranges, row_in, range_in}
 use Rattle.thorin_packaged.specs.RowPlaces.{IsFirstWith, is_range, range_of_row, ranges_of}
 use Rattle.thorin_packaged.specs.RowPlaces.{row_by_place}
 
--- ---- the first of f a, f (a + 1) and so on, n in all, that passes
-record IsFirstAt {X : Type 0} (t : X → Bool) (f : ℕ → X) (a n i : ℕ) : Type 0 where
-  low : a ≤ i
-  high : i < a + n
-  here : t (f i) ≡ true
-  before : (j : ℕ) → a ≤ j → j < i → t (f j) ≡ false
-
+-- ---- the first of f a, f (a + 1) and so on that passes a test
 module _ {X : Type 0} (t : X → Bool) (f : ℕ → X) where
-  first_by : (a n i : ℕ) (b : Bool) (rest : Option ℕ) → t (f a) ≡ b → cond b (Some a) rest ≡ Some i
-      → (rest ≡ Some i → IsFirstAt t f (a + 1) n i) → IsFirstAt t f a (suc n) i
-  first_by a n i true rest passes found later =
-      let same : a ≡ i = cc in
-      record {
-        low = omega arith;
-        high = omega arith;
-        here = ap (λ m. t (f m)) (sym same) ∙ passes;
-        before = λ j from below. absurd (omega arith);
-      }
-  first_by a n i false rest passes found later =
-      let next = later found in
-      record {
-        low = omega (arith, next.low);
-        high = omega (arith, next.high);
-        here = next.here;
-        before = λ j from below. ⊎_elim (λ (same : j ≡ a). ap (λ m. t (f m)) same ∙ passes)
-            (λ other. next.before j (omega arith) below) (cases_eq j a);
-      }
+  abbrev NonePasses : ℕ → ℕ → Type 0
+  NonePasses a end = (j : ℕ) → a ≤ j → j < end → t (f j) ≡ false
 
-  first_at : (a n i : ℕ) → position_from t a (map f (range_with_len a n)) ≡ Some i
-      → IsFirstAt t f a n i
-  first_at a zero i found = absurd cc
-  first_at a (suc n) i found = first_by a n i (t (f a)) (position_from t (a + 1)
-      (map f (range_with_len (a + 1) n))) refl found (first_at (a + 1) n i)
+  record IsFirstAt (a end i : ℕ) : Type 0 where
+    low : a ≤ i
+    high : i < end
+    here : t (f i) ≡ true
+    before : NonePasses a i
+
+  -- it was found, or there is none
+  abbrev IsFound : ℕ → ℕ → Option ℕ → Type 0
+  IsFound a end found = ((i : ℕ) × (found ≡ Some i) × IsFirstAt a end i)
+      ⊎ ((found ≡ None) × NonePasses a end)
+
+  more_fail : (a end : ℕ) → t (f a) ≡ false → NonePasses (a + 1) end → NonePasses a end
+  more_fail a end fails others j from below =
+      ⊎_elim (λ (same : j ≡ a). rw same fails) (λ other. others j (omega arith) below)
+      (cases_eq j a)
+
+  finds : (a n : ℕ) → IsFound a (a + n) (position_from t a (map f (range_with_len a n)))
+  finds a zero = inr (refl, λ j from below. absurd (omega arith))
+  finds a (suc n) = by (t (f a)) refl (finds (a + 1) n)
+    where
+      by : (b : Bool) → t (f a) ≡ b
+          → IsFound (a + 1) (a + 1 + n) (position_from t (a + 1) (map f (range_with_len (a + 1) n)))
+          → IsFound a (a + suc n) (position_from t a (map f (range_with_len a (suc n))))
+      by true passes later = inl (
+        a,
+        rw passes refl,
+        record {
+          low = omega arith;
+          high = omega arith;
+          here = passes;
+          before = λ j from below. absurd (omega arith);
+        },
+      )
+      by false fails (inl w) = inl (
+        w.0,
+        rw fails w.1,
+        record {
+          low = omega (arith, w.2.low);
+          high = omega (arith, w.2.high);
+          here = w.2.here;
+          before = more_fail a w.0 fails w.2.before;
+        },
+      )
+      by false fails (inr none) = inr (
+        rw fails none.0,
+        more_fail a (a + suc n) fails (λ j from below. none.1 j from (omega arith)),
+      )
 
 -- ---- a row's range
 pub range_is : (range : Contribution) (found : Option Contribution) → is_range range found ≡ true
@@ -57,13 +74,6 @@ range_is range (Some r) passes =
     let both = and_parts (eqb r.offset.0 range.offset.0) (eqb r.size range.size) passes in
     ap₂ (λ (o s : ℕ). Some (record { offset = record { 0 = o }; size = s }))
     (eqb-true r.offset.0 range.offset.0 both.0) (eqb-true r.size range.size both.1)
-
-is_range-same : (range : Contribution) → is_range range (Some range) ≡ true
-is_range-same range =
-    let place : eqb range.offset.0 range.offset.0 ≡ true = eq-eqb range.offset.0
-    range.offset.0 refl in
-    let size : eqb range.size range.size ≡ true = eq-eqb range.size range.size refl in
-    rw (place, size) refl
 
 row_with : (kind : SectionKind) (range : Contribution) (found : Result Ranges ReadError)
     → option_and_then (λ row. range_in row kind) (result_ok found) ≡ Some range → (row : Ranges)
@@ -75,103 +85,88 @@ pub range_of_found : (index : Index) (kind : SectionKind) (number : ℕ) (row : 
     → row_in index number ≡ Ok row → range_of_row index kind number ≡ range_in row kind
 range_of_found index kind number row there = rw there refl
 
-by_tests : (a b : Bool) (number count : ℕ) (found row : Ranges) → ltb 0 number ≡ a
-    → ltb (number - 1) count ≡ b → cond (a && b) (Ok found) (Err RowOutOfRange) ≡ Ok row
-    → (1 ≤ number) × (number ≤ count)
-by_tests true true number count found row low high there = let less = ltb-true 0 number low in
-    let within = ltb-true (number - 1) count high in (omega arith, omega arith)
-by_tests true false number count found row low high there = absurd cc
-by_tests false b number count found row low high there = absurd cc
-
 pub numbered : (index : Index) (number : ℕ) (row : Ranges) → row_in index number ≡ Ok row
     → (1 ≤ number) × (number ≤ length index.offsets)
 unfolding row_in
-numbered index number row there = by_tests (ltb 0 number) (ltb (number - 1) (length index.offsets))
-    number (length index.offsets) _ row refl refl there
+numbered index number row there =
+    let within : (ltb 0 number && ltb (number - 1) (length index.offsets)) ≡ true =
+    true_from_ne_false _ (λ past. let refused = rw past at there in cc) in
+    let both = and_parts (ltb 0 number) _ within in
+    let low = ltb-true 0 number both.0 in
+    let high = ltb-true (number - 1) (length index.offsets) both.1 in
+    (omega arith, omega arith)
 
-pub first_row : (index : Index) (kind : SectionKind) (range : Contribution) (number : ℕ)
-    → row_by_place (Some index) kind range ≡ Some number → IsFirstWith index kind range number
-unfolding row_by_place ranges_of
-first_row index kind range number found =
-    let f = range_of_row index kind in
-    let first = first_at (is_range range) f 1 (length index.offsets) number found in
-    let row = row_with kind range (row_in index number) (range_is range (f number) first.here) in
-    record {
-      row = row.0;
-      there = row.1;
-      has = row.2;
-      low = first.low;
-      high = omega (arith, first.high);
-      first = λ lower other below there has.
-          let from = numbered index lower other there in
-          let not_it = first.before lower from.0 below in
-          let it : is_range range (f lower) ≡ true = ap (is_range range) (range_of_found index kind
-          lower other there ∙ has) ∙ is_range-same range in
-          cc;
-    }
+-- ---- the first row with a range
+module _ (index : Index) (kind : SectionKind) (range : Contribution) where
+  abbrev test : Option Contribution → Bool
+  test = is_range range
 
--- ---- the other way round
-module _ {X : Type 0} (t : X → Bool) (f : ℕ → X) where
-  found_by : (a i : ℕ) (rest : Option ℕ) → a ≤ i → t (f i) ≡ true → ((j : ℕ) → a ≤ j → j < i
-      → t (f j) ≡ false) → (a + 1 ≤ i → rest ≡ Some i) → cond (t (f a)) (Some a) rest ≡ Some i
-  found_by a i rest from here before later =
-      ⊎_elim
-      (λ (same : a ≡ i). let passes : t (f a) ≡ true = ap (λ m. t (f m)) same ∙ here in
-      cond-true (t (f a)) (Some a) rest passes ∙ ap (λ m. Some m) same)
-      (λ other. let passed : t (f a) ≡ false = before a (omega arith) (omega arith) in
-      cond-false (t (f a)) (Some a) rest passed ∙ later (omega arith))
-      (cases_eq a i)
+  abbrev of_row : ℕ → Option Contribution
+  of_row = range_of_row index kind
 
-  found_at : (a n i : ℕ) → a ≤ i → i < a + n → t (f i) ≡ true → ((j : ℕ) → a ≤ j → j < i
-      → t (f j) ≡ false) → position_from t a (map f (range_with_len a n)) ≡ Some i
-  found_at a zero i from within here before = absurd (omega arith)
-  found_at a (suc n) i from within here before =
-      found_by a i (position_from t (a + 1) (map f (range_with_len (a + 1) n))) from here before
-      (λ more. found_at (a + 1) n i more (omega arith) here (λ j low high.
-      before j (omega arith) high))
+  abbrev rows : IsFound test of_row 1 (1 + length index.offsets) (position_from test 1
+      (map of_row (range_with_len 1 (length index.offsets))))
+  rows = finds test of_row 1 (length index.offsets)
 
-  none_by : (a : ℕ) (b : Bool) (rest : Option ℕ) → cond b (Some a) rest ≡ None
-      → (b ≡ false) × (rest ≡ None)
-  none_by a true rest none = absurd cc
-  none_by a false rest none = (refl, none)
+  has_range : (number : ℕ) (row : Ranges) → row_in index number ≡ Ok row
+      → range_in row kind ≡ Some range → test (of_row number) ≡ true
+  has_range number row there has =
+      rw (there, has, eq-eqb range.offset.0 _ refl, eq-eqb range.size _ refl) refl
 
-  none_at : (a n i : ℕ) → position_from t a (map f (range_with_len a n)) ≡ None → a ≤ i → i < a + n
-      → t (f i) ≡ false
-  none_at a zero i none from within = absurd (omega arith)
-  none_at a (suc n) i none from within =
-      let step = none_by a (t (f a)) (position_from t (a + 1) (map f (range_with_len (a + 1) n)))
-      none in
-      ⊎_elim (λ (same : i ≡ a). ap (λ m. t (f m)) same ∙ step.0) (λ other.
-      none_at (a + 1) n i step.1 (omega arith) (omega arith)) (cases_eq i a)
+  row_found : (number : ℕ) → test (of_row number) ≡ true → (row : Ranges)
+      × (row_in index number ≡ Ok row) × (range_in row kind ≡ Some range)
+  row_found number passes = row_with kind range (row_in index number) (range_is range _ passes)
 
-has_range : (index : Index) (kind : SectionKind) (range : Contribution) (number : ℕ) (row : Ranges)
-    → row_in index number ≡ Ok row → range_in row kind ≡ Some range
-    → is_range range (range_of_row index kind number) ≡ true
-has_range index kind range number row there has = ap (is_range range) (range_of_found index kind
-    number row there ∙ has) ∙ is_range-same range
+  is_first : (number : ℕ) → IsFirstAt test of_row 1 (1 + length index.offsets) number
+      → IsFirstWith index kind range number
+  is_first number first =
+      let row = row_found number first.here in
+      record {
+        row = row.0;
+        there = row.1;
+        has = row.2;
+        low = first.low;
+        high = omega (arith, first.high);
+        first = λ lower other below there has.
+            let passes = has_range lower other there has in
+            let fails = first.before lower (numbered index lower other there).0 below in
+            cc;
+      }
 
-pub no_row : (index : Index) (kind : SectionKind) (range : Contribution) → row_by_place (Some index)
-    kind range ≡ None → (number : ℕ) (row : Ranges) → row_in index number ≡ Ok row
-    → range_in row kind ≢ Some range
-unfolding row_by_place ranges_of
-no_row index kind range none number row there has =
-    let within = numbered index number row there in
-    let not_it = none_at (is_range range) (range_of_row index kind) 1 (length index.offsets) number
-    none within.0 (omega (arith, within.1)) in
-    let it = has_range index kind range number row there has in
-    cc
+  pub first_row : (number : ℕ) → row_by_place (Some index) kind range ≡ Some number
+      → IsFirstWith index kind range number
+  unfolding row_by_place ranges_of
+  first_row number found = elim rows [
+    | inl w ↦
+        let same : w.0 ≡ number = cc in
+        subst (IsFirstWith index kind range) same (is_first w.0 w.2)
+    | inr none ↦ absurd cc
+  ]
 
-tested : (range : Contribution) (found : Option Contribution) → (found ≡ Some range → ⊥)
-    → is_range range found ≡ false
-tested range found other = false_from_ne_true (is_range range found) (λ passes.
-    other (range_is range found passes))
+  pub no_row : row_by_place (Some index) kind range ≡ None → (number : ℕ) (row : Ranges)
+      → row_in index number ≡ Ok row → range_in row kind ≢ Some range
+  unfolding row_by_place ranges_of
+  no_row none number row there has = elim rows [
+    | inl w ↦ cc
+    | inr nowhere ↦
+        let within = numbered index number row there in
+        let passes = has_range number row there has in
+        let fails = nowhere.1 number within.0 (omega (arith, within.1)) in
+        cc
+  ]
 
-pub first_found : (index : Index) (kind : SectionKind) (range : Contribution) (number : ℕ)
-    → IsFirstWith index kind range number → row_by_place (Some index) kind range ≡ Some number
-unfolding row_by_place ranges_of
-first_found index kind range number first =
-    found_at (is_range range) (range_of_row index kind) 1 (length index.offsets) number first.low
-    (omega (arith, first.high)) (has_range index kind range number first.row
-    first.there first.has)
-    (λ lower low below. tested range (range_of_row index kind lower) (λ it. let row =
-    row_with kind range (row_in index lower) it in first.first lower row.0 below row.1 row.2))
+  pub first_found : (number : ℕ) → IsFirstWith index kind range number
+      → row_by_place (Some index) kind range ≡ Some number
+  unfolding row_by_place ranges_of
+  first_found number first =
+      let passes = has_range number first.row first.there first.has in
+      elim rows [
+        | inl w ↦ w.1 ∙ ap Some (⊎_elim
+            (λ (less : w.0 < number). absurd (let row = row_found w.0 w.2.here in
+            first.first w.0 row.0 less row.1 row.2))
+            (λ le. ⊎_elim (λ (less : number < w.0). absurd (let fails = w.2.before number
+            first.low less in cc)) (λ above. omega arith) (cases_lt number w.0))
+            (cases_lt w.0 number))
+        | inr none ↦ absurd (let fails = none.1 number first.low (omega (arith, first.high))
+            in cc)
+      ]

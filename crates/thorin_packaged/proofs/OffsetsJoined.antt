@@ -1,10 +1,11 @@
 -- String offsets without a header, joined, are read in turn.
-use Rattle.std.proofs.Common.{◌≡◌, ℕ, ◌+◌, ◌-◌, ◌*◌, ◌/◌, ◌<◌, ◌≤◌, true, false, cond, ltb, leb}
-use Rattle.std.proofs.Common.{List, ◌++◌, length, drop, Some, None, ap, ap₂, sym, refl, ◌∙◌, ⊎_elim}
-use Rattle.std.proofs.Common.{arith, length-append}
+use Rattle.std.proofs.Common.{◌≡◌, ℕ, ◌+◌, ◌-◌, ◌*◌, ◌/◌, ◌<◌, ◌≤◌, false, cond, ltb, leb}
+use Rattle.std.proofs.Common.{List, ◌++◌, length, drop, ap, refl, ⊎_elim}
+use Rattle.std.proofs.Common.{arith, length-append, true, get_or}
 use Rattle.std.proofs.lemmas.List.{get_or_append_left, drop_at, drop-drop, length-drop}
 use Rattle.std.proofs.lemmas.List.{drop-append-le}
-use Rattle.std.proofs.lemmas.Bool.{cases_lt, lt-ltb, le-ltb, lt-leb}
+use Rattle.std.proofs.lemmas.Bool.{cases_lt, lt-ltb, le-ltb, lt-leb, ltb-true}
+use Rattle.std.proofs.lemmas.Bool.Decides.{nat_tests}
 use Rattle.std.proofs.lemmas.Nat.{row_fits}
 use Rattle.std.proofs.Math.Nat.{add-mul}
 use Rattle.dwp_base.specs.declared.endian.Endianness.{Endianness}
@@ -15,44 +16,31 @@ use Rattle.dwp_bytes.specs.declared.encoding.Format.{Format}
 use Rattle.dwp_bytes.specs.declared.encoding.Format.TheVariants.{Dwarf32, Dwarf64}
 use Rattle.dwp_bytes.specs.Encoding.{offset_size}
 use Rattle.dwp_bytes.specs.StringOffsets.{header_size, entry_count}
-use Rattle.dwp_index.specs.Strings.{entry_in, string_for, string_in}
+use Rattle.dwp_index.specs.Strings.{entry_in, string_in}
+
+front : (xs ys : List ℕ) (n : ℕ) → n ≤ length xs → (k : ℕ) → ltb k n ≡ true
+    → get_or (xs ++ ys) k 0 ≡ get_or xs k 0
+front xs ys n within k less =
+    get_or_append_left xs ys 0 k (omega (arith, within, ltb-true k n less))
 
 -- a number in front doesn't depend on what follows it
 pub number_front : (order : Endianness) (format : Format) (xs ys : List ℕ)
     → offset_size format ≤ length
     xs → number order (offset_size format) (xs ++ ys) ≡ number order (offset_size format) xs
 number_front Little Dwarf32 xs ys within =
-    let at = λ (k : ℕ) (h : k < 4). get_or_append_left xs ys 0 k (omega arith) in
-    rw (at 0 (omega arith), at 1 (omega arith), at 2 (omega arith), at 3 (omega arith)) refl
+    let at = front xs ys 4 within in
+    rw (at 0 refl, at 1 refl, at 2 refl, at 3 refl) refl
 number_front Big Dwarf32 xs ys within =
-    let at = λ (k : ℕ) (h : k < 4). get_or_append_left xs ys 0 k (omega arith) in
-    rw (at 0 (omega arith), at 1 (omega arith), at 2 (omega arith), at 3 (omega arith)) refl
+    let at = front xs ys 4 within in
+    rw (at 0 refl, at 1 refl, at 2 refl, at 3 refl) refl
 number_front Little Dwarf64 xs ys within =
-    let at = λ (k : ℕ) (h : k < 8). get_or_append_left xs ys 0 k (omega arith) in
-    rw (
-      at 0 (omega arith),
-      at 1 (omega arith),
-      at 2 (omega arith),
-      at 3 (omega arith),
-      at 4
-          (omega arith),
-      at 5 (omega arith),
-      at 6 (omega arith),
-      at 7 (omega arith),
-    ) refl
+    let at = front xs ys 8 within in
+    rw (at 0 refl, at 1 refl, at 2 refl, at 3 refl)
+    (rw (at 4 refl, at 5 refl, at 6 refl, at 7 refl) refl)
 number_front Big Dwarf64 xs ys within =
-    let at = λ (k : ℕ) (h : k < 8). get_or_append_left xs ys 0 k (omega arith) in
-    rw (
-      at 0 (omega arith),
-      at 1 (omega arith),
-      at 2 (omega arith),
-      at 3 (omega arith),
-      at 4
-          (omega arith),
-      at 5 (omega arith),
-      at 6 (omega arith),
-      at 7 (omega arith),
-    ) refl
+    let at = front xs ys 8 within in
+    rw (at 0 refl, at 1 refl, at 2 refl, at 3 refl)
+    (rw (at 4 refl, at 5 refl, at 6 refl, at 7 refl) refl)
 
 pub no_header : (encoding : Encoding) → encoding.version < 5 → header_size encoding ≡ 0
 no_header encoding old =
@@ -69,74 +57,56 @@ count_alone : (format : Format) (n l : ℕ) → l ≡ n * offset_size format
 count_alone Dwarf32 n l e = omega arith
 count_alone Dwarf64 n l e = omega arith
 
-within_same : (i n q : ℕ) → n ≤ i → ltb i (n + q) ≡ ltb (i - n) q
-within_same i n q above =
-    ⊎_elim
-    (λ less. lt-ltb i (n + q) (omega arith) ∙ sym (lt-ltb (i - n) q less))
-    (λ past. le-ltb i (n + q) (omega arith) ∙ sym (le-ltb (i - n) q past))
-    (cases_lt (i - n) q)
-
 module _ (order : Endianness) (encoding : Encoding) (first second : List ℕ) (n : ℕ)
     (old : encoding.version < 5) (long : length first ≡ n * offset_size encoding.format) where
   abbrev width : ℕ
   width = offset_size encoding.format
 
+  header : header_size encoding ≡ 0
+  header = no_header encoding old
+
   count_all : entry_count encoding (length (first ++ second)) ≡ n + entry_count
       encoding (length second)
-  count_all =
-      let header = no_header encoding old in
-      let whole : length (first ++ second) ≡ n * width + length second = length-append first second
-      ∙ ap (λ m. m + length second) long in
-      rw header (count_joined encoding.format n (length second) (length (first ++ second)) whole)
+  count_all = rw header (count_joined encoding.format n (length second) (length (first ++ second))
+      (omega (arith, length-append first second, long)))
 
   count_first : entry_count encoding (length first) ≡ n
-  count_first =
-      let header = no_header encoding old in
-      rw header (count_alone encoding.format n (length first) long)
+  count_first = rw header (count_alone encoding.format n (length first) long)
 
   -- an entry of the first
   entry_before : (i : ℕ) → i < n → entry_in order encoding (first ++ second) i ≡ entry_in order
       encoding first i
   unfolding entry_in
   entry_before i less =
-      let header = no_header encoding old in
       let room : i * width + width ≤ n * width = row_fits i width n width less (omega arith) in
-      let inside : ltb i (entry_count encoding (length (first ++ second))) ≡ true =
-      lt-ltb i _ (omega (arith, count_all)) in
-      let alone : ltb i (entry_count encoding (length first)) ≡ true =
-      lt-ltb i _ (omega (arith, count_first)) in
-      let start : header_size encoding + i * width ≤ length first = omega (arith, header, long) in
-      let past : drop (header_size encoding + i * width) (first ++ second) ≡ drop
-      (header_size encoding + i * width) first ++ second =
-      drop-append-le (header_size encoding + i * width) first second start in
-      let left : width ≤ length (drop (header_size encoding + i * width) first) =
-      omega (arith, header, long, length-drop (header_size encoding + i * width) first) in
-      let read : number order width (drop (header_size encoding + i * width) (first ++ second)) ≡
-      number order width (drop (header_size encoding + i * width) first) =
-      ap (number order width) past ∙ number_front order encoding.format
-      (drop (header_size encoding + i * width) first) second left in
-      rw (inside, alone) (ap (λ m. Some m) read)
+      let at : header_size encoding + i * width + width ≤ length first =
+      omega (arith, header, long) in
+      rw (
+        lt-ltb i (entry_count encoding (length (first ++ second))) (omega (arith, count_all)),
+        lt-ltb i (entry_count encoding (length first)) (omega (arith, count_first)),
+        drop-append-le (header_size encoding + i * width) first second (omega arith),
+        number_front order encoding.format (drop (header_size encoding + i * width) first) second
+            (omega (arith, length-drop (header_size encoding + i * width) first)),
+      ) refl
 
   -- one behind it
   entry_behind : (i : ℕ) → n ≤ i → entry_in order encoding (first ++ second) i ≡ entry_in order
       encoding second (i - n)
   unfolding entry_in
   entry_behind i above =
-      let header = no_header encoding old in
-      let same : ltb i (entry_count encoding (length (first ++ second))) ≡ ltb (i - n)
-      (entry_count encoding (length second)) =
-      ap (ltb i) count_all ∙ within_same i n (entry_count encoding (length second)) above in
-      let split : i * width ≡ n * width + (i - n) * width = (let e : i ≡ n + (i - n) =
-      omega arith in ap (λ m. m * width) e) ∙ add-mul n (i - n) width in
-      let at : header_size encoding + i * width ≡ n * width + (header_size encoding + (i - n) *
-      width) = omega (arith, header, split) in
-      let past : drop (header_size encoding + i * width) (first ++ second) ≡ drop
-      (header_size encoding + (i - n) * width) second =
-      ap (λ m. drop m (first ++ second)) at
-      ∙ sym (drop-drop (header_size encoding + (i - n) * width) (n * width) (first ++ second))
-      ∙ ap (drop (header_size encoding + (i - n) * width))
-      (drop_at first second (n * width) long) in
-      ap₂ (λ b l. cond b (Some (number order width l)) None) same past
+      let later = i - n in
+      let is : i ≡ n + later = omega arith in
+      let at : header_size encoding + i * width ≡ n * width + (header_size encoding + later *
+      width) = omega (arith, header, ap (λ m. m * width) is, add-mul n later width) in
+      let same : ltb i (entry_count encoding (length (first ++ second))) ≡ ltb later
+      (entry_count encoding (length second)) = grind (arith, nat_tests, count_all) in
+      rw (
+        same,
+        at,
+        ← drop-drop (header_size encoding + later * width) (n * width)
+            (first ++ second),
+        drop_at first second (n * width) long,
+      ) refl
 
   pub joined_read : (strings : List ℕ) (i : ℕ) → string_in order encoding strings (first ++ second)
       i ≡ cond (ltb i n) (string_in order encoding strings first i) (string_in order encoding
@@ -144,8 +114,6 @@ module _ (order : Endianness) (encoding : Encoding) (first second : List ℕ) (n
   unfolding string_in
   joined_read strings i =
       ⊎_elim
-      (λ less. let yes : ltb i n ≡ true = lt-ltb i n less in
-      rw yes (ap (string_for strings) (entry_before i less)))
-      (λ past. let no : ltb i n ≡ false = le-ltb i n past in
-      rw no (ap (string_for strings) (entry_behind i past)))
+      (λ less. rw (lt-ltb i n less, entry_before i less) refl)
+      (λ past. rw (le-ltb i n past, entry_behind i past) refl)
       (cases_lt i n)

@@ -1,6 +1,6 @@
 -- Going over ranges.
 use Rattle.std.proofs.Common.{◌≡◌, ℕ, ◌+◌, ◌<◌, ◌≤◌, List, [], ◌∷◌, length, drop, map, Some, None}
-use Rattle.std.proofs.Common.{ap, sym, refl, ◌∙◌}
+use Rattle.std.proofs.Common.{ap, refl, ◌∙◌}
 use Rattle.std.specs.Ordering.{match_ordering}
 use Rattle.std.specs.declared.cmp.Ordering.{Ordering}
 use Rattle.std.specs.declared.cmp.Ordering.TheVariants.{Less, Equal, Greater}
@@ -33,43 +33,25 @@ map-insert_key (x ∷ xs) key =
     (range_at x ∷ map range_at xs) (range_at x ∷ more)) (map-insert_key xs key)
 
 -- ---- one row after another
-module _ (index : Index) (n : ℕ) (ranges : List Contribution) where
-  pub rows_none : length index.offsets ≤ n
+module _ (index : Index) (n : ℕ) where
+  pub rows_none : (ranges : List Contribution) → length index.offsets ≤ n
       → with_ranges (drop n (ranges_of index StrOffsets)) ranges ≡ ranges
-  rows_none past = ap (λ rows. with_ranges rows ranges) (ranges_none index StrOffsets n past)
+  rows_none ranges past = rw (ranges_none index StrOffsets n past) refl
 
-  module _ (less : n < length index.offsets) where
-    rows_next : with_ranges (drop n (ranges_of index StrOffsets)) ranges ≡ with_ranges
-        (range_of_row index StrOffsets (n + 1) ∷ drop (n + 1) (ranges_of index StrOffsets)) ranges
-    rows_next = ap (λ rows. with_ranges rows ranges) (ranges_from index StrOffsets n less)
+  abbrev left : ℕ → List (ℕ × ℕ) → List Contribution
+  left k keys = with_ranges (drop k (ranges_of index StrOffsets)) (map range_at keys)
 
-    pub rows_absent : range_of_row index StrOffsets (n + 1) ≡ None
-        → with_ranges (drop n (ranges_of index StrOffsets)) ranges ≡ with_ranges
-        (drop (n + 1) (ranges_of index StrOffsets)) ranges
-    rows_absent absent =
-        rows_next ∙ ap (λ row. with_ranges (row ∷ drop (n + 1) (ranges_of index StrOffsets)) ranges)
-        absent
+  module _ (less : n < length index.offsets) (keys new : List (ℕ × ℕ)) where
+    pub row_stored : (r : Contribution) → range_of_row index StrOffsets (n + 1) ≡ Some r
+        → new ≡ insert_key pair_cmp keys (r.offset.0, r.size) → left (n + 1) new ≡ left n keys
+    row_stored r there stored =
+        rw (
+          ranges_from index StrOffsets n less,
+          there,
+          stored,
+          map-insert_key keys (r.offset.0, r.size),
+        ) refl
 
-    pub rows_range : (r : Contribution) → range_of_row index StrOffsets (n + 1) ≡ Some r
-        → with_ranges (drop n (ranges_of index StrOffsets)) ranges ≡ with_ranges
-        (drop (n + 1) (ranges_of index StrOffsets)) (insert_key place_cmp ranges r)
-    rows_range r there =
-        rows_next ∙ ap (λ row. with_ranges (row ∷ drop (n + 1) (ranges_of index StrOffsets)) ranges)
-        there
-
-module _ (index : Index) (n : ℕ) (keys new : List (ℕ × ℕ)) where
-  pub row_stored : (r : Contribution) → n < length index.offsets → range_of_row index StrOffsets
-      (n + 1) ≡ Some r → new ≡ insert_key pair_cmp keys (r.offset.0, r.size)
-      → with_ranges (drop (n + 1) (ranges_of index StrOffsets)) (map range_at new) ≡ with_ranges
-      (drop n (ranges_of index StrOffsets)) (map range_at keys)
-  row_stored r less there stored =
-      ap (λ ranges. with_ranges (drop (n + 1) (ranges_of index StrOffsets)) ranges)
-      (ap (map range_at) stored ∙ map-insert_key keys (r.offset.0, r.size))
-      ∙ sym (rows_range index n (map range_at keys) less r there)
-
-  pub row_absent : n < length index.offsets → range_of_row index StrOffsets (n + 1) ≡ None
-      → new ≡ keys → with_ranges (drop (n + 1) (ranges_of index StrOffsets)) (map range_at new) ≡
-      with_ranges (drop n (ranges_of index StrOffsets)) (map range_at keys)
-  row_absent less absent same =
-      ap (λ ks. with_ranges (drop (n + 1) (ranges_of index StrOffsets)) (map range_at ks)) same
-      ∙ sym (rows_absent index n (map range_at keys) less absent)
+    pub row_absent : range_of_row index StrOffsets (n + 1) ≡ None → new ≡ keys
+        → left (n + 1) new ≡ left n keys
+    row_absent absent same = rw (ranges_from index StrOffsets n less, absent, same) refl

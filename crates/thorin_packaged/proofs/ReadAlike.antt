@@ -1,19 +1,17 @@
 -- A package's string offsets, rewritten, read as they read before.
 use Rattle.std.proofs.Common.{◌≡◌, ℕ, ◌+◌, ◌-◌, ◌*◌, ◌/◌, ◌%◌, ◌≤◌, List, [], ◌∷◌, ◌++◌, length}
-use Rattle.std.proofs.Common.{take, drop, slice_range, Option, Ok, Err, Result, ap, ap₂, sym, subst}
+use Rattle.std.proofs.Common.{take, drop, slice_range, Option, Ok, ap, sym, subst}
 use Rattle.std.proofs.Common.{refl, ◌∙◌, ⊎_elim, append_assoc, length-append, length-drop, arith}
 use Rattle.std.proofs.Math.Nat.{div-add-mod, mul_comm}
-use Rattle.std.proofs.Math.Seq.{drop-append-add}
 use Rattle.std.proofs.lemmas.Bool.{cases_eq}
 use Rattle.std.proofs.lemmas.List.{drop_at, take_at, take_all, length-take-le}
 use Rattle.dwp_base.specs.declared.endian.Endianness.{Endianness}
 use Rattle.dwp_base.specs.declared.section.Contribution.{Contribution}
-use Rattle.dwp_base.specs.Reading.{◌>>=◌}
+use Rattle.dwp_base.proofs.Steps.{bind-was, same-ok}
 use Rattle.dwp_bytes.specs.declared.encoding.Encoding.{Encoding}
 use Rattle.dwp_bytes.specs.Encoding.{offset_size}
 use Rattle.dwp_bytes.specs.StringOffsets.{header_size}
 use Rattle.dwp_index.specs.Index.{Index}
-use Rattle.thorin_errors.specs.Errors.{ErrorValue}
 use Rattle.thorin_strings.specs.Rewritten.{NamesTheSame}
 use Rattle.thorin_strings.specs.StringOffsets.{remapped}
 use Rattle.thorin_strings.specs.Strings.{IsTable, data_of}
@@ -29,31 +27,16 @@ use Rattle.thorin_strings.proofs.RemapLemmas.{kept_more}
 slice_front : (front range rest : List ℕ) (a b : ℕ) → length front ≡ a → length range ≡ b - a
     → slice_range (front ++ range ++ rest) a b ≡ range
 slice_front front range rest a b front_is range_is =
-    ap (λ l. take (b - a) (drop a l)) (append_assoc front range rest) ∙ ap (take (b - a))
-    (drop_at front (range ++ rest) a front_is) ∙ take_at range rest (b - a) range_is
-
-slice_behind : (front rest : List ℕ) (a b c d : ℕ) → length front + c ≡ a → length front + d ≡ b
-    → slice_range (front ++ rest) a b ≡ slice_range rest c d
-slice_behind front rest a b c d first last =
-    let count : b - a ≡ d - c = omega arith in
-    ap (λ n. take (b - a) (drop n (front ++ rest))) (sym first) ∙ ap (take (b - a))
-    (drop-append-add front rest c) ∙ ap (λ n. take n (drop c rest)) count
+    rw (append_assoc, drop_at front (range ++ rest) a front_is)
+    (take_at range rest (b - a) range_is)
 
 slice_length : (bytes : List ℕ) (a b : ℕ) → a ≤ b → b ≤ length bytes
     → length (slice_range bytes a b) ≡ b - a
 slice_length bytes a b less within = length-take-le (b - a) (drop a bytes)
     (omega (arith, length-drop a bytes))
 
-pub bind_ok : {A B : Type 0} (r : Result A ErrorValue) (f : A → Result B ErrorValue) (y : B)
-    → (r >>= f) ≡ Ok y
-    → (x : A) × (r ≡ Ok x) × (f x ≡ Ok y)
-bind_ok (Ok x) f y e = (x, refl, e)
-bind_ok (Err d) f y e = absurd cc
-
 whole_number : (n width : ℕ) → n % width ≡ 0 → (n / width) * width ≡ n
-whole_number n width whole =
-    let parts = div-add-mod n width in
-    mul_comm (n / width) width ∙ omega (arith, parts, whole)
+whole_number n width whole = omega (arith, div-add-mod n width, whole, mul_comm (n / width) width)
 
 -- ---- what is known of ranges one by one
 abbrev pub NamesLaw : Type 0
@@ -71,18 +54,21 @@ AlikeLaw = (order : Endianness) (encoding : Encoding) (section bytes : List ℕ)
 
 module _ (names : NamesLaw) (order : Endianness) (encoding : Encoding)
     (section bytes : List ℕ) where
-  -- a range stands rewritten among what was written from a place on
-  record IsWritten (at : ℕ) (written : List ℕ) (after : List (List ℕ))
-      (r : Contribution) : Type 0 where
-    behind : at ≤ r.offset.0
+  -- a range was rewritten, and its strings are among those in the end
+  record IsRewritten (after : List (List ℕ)) (r : Contribution) (rewritten : List ℕ) : Type 0 where
     inside : r.offset.0 + r.size ≤ length bytes
     old : List (List ℕ)
     new : List (List ℕ)
-    rewritten : List ℕ
     table : IsTable old
     ok : remapped order encoding section (range_bytes bytes r) r.size old ≡ Ok (rewritten, new)
     still : take (length new) after ≡ new
-    there : slice_range written (r.offset.0 - at) (r.offset.0 + r.size - at) ≡ rewritten
+
+  -- it stands rewritten among what was written from a place on
+  record IsWritten (at : ℕ) (written : List ℕ) (after : List (List ℕ))
+      (r : Contribution) : Type 0 where
+    rewritten : List ℕ
+    one : IsRewritten after r rewritten
+    there : (front : List ℕ) → length front ≡ at → range_bytes (front ++ written) r ≡ rewritten
 
   record AreWritten (at : ℕ) (rs : List Contribution) (before : List (List ℕ)) (written : List ℕ)
       (after : List (List ℕ)) : Type 0 where
@@ -98,9 +84,13 @@ module _ (names : NamesLaw) (order : Endianness) (encoding : Encoding)
   same_size last r rs old new rewritten next named =
       ⊎_elim
       (λ (none : r.size ≡ 0). ap length (named.none none) ∙ sym none)
-      (λ some. named.long some ∙ ap (λ n. header_size encoding + n)
-      (whole_number (r.size - header_size encoding) (offset_size encoding.format) next.whole) ∙
-      omega (arith, next.header))
+      (λ some. omega (
+        arith,
+        named.long some,
+        whole_number (r.size - header_size encoding)
+            (offset_size encoding.format) next.whole,
+        next.header,
+      ))
       (cases_eq r.size 0)
 
   module _ (at : ℕ) (x : Contribution) (xs : List Contribution) (before between : List (List ℕ))
@@ -109,83 +99,73 @@ module _ (names : NamesLaw) (order : Endianness) (encoding : Encoding)
       (ok : remapped order encoding section (range_bytes bytes x) x.size before ≡ Ok
       (range, between))
       (behind : AreWritten (x.offset.0 + x.size) xs between rest after) where
-    abbrev front : List ℕ
-    front = slice_range bytes at x.offset.0
+    abbrev gap : List ℕ
+    gap = slice_range bytes at x.offset.0
 
-    front_length : length front ≡ x.offset.0 - at
-    front_length = slice_length bytes at x.offset.0 next.behind (omega (arith, next.inside))
+    gap_length : length gap ≡ x.offset.0 - at
+    gap_length = slice_length bytes at x.offset.0 next.behind (omega (arith, next.inside))
+
+    same : NamesTheSame order encoding section (range_bytes bytes x) x.size before range between
+    same = names order encoding section (range_bytes bytes x) x.size before range between table ok
 
     range_length : length range ≡ x.size
-    range_length = same_size at x xs before between range next (names order encoding section
-        (range_bytes bytes x) x.size before range between table ok)
+    range_length = same_size at x xs before between range next same
 
-    here_written : IsWritten at (front ++ range ++ rest) after x
+    here_written : IsWritten at (gap ++ range ++ rest) after x
     here_written = record {
-      behind = next.behind;
-      inside = next.inside;
-      old = before;
-      new = between;
       rewritten = range;
-      table = table;
-      ok = ok;
-      still = behind.kept;
-      there = slice_front front range rest (x.offset.0 - at) (x.offset.0 + x.size - at) front_length
-          (omega (arith, range_length, next.behind));
+      one = record {
+        inside = next.inside;
+        old = before;
+        new = between;
+        table = table;
+        ok = ok;
+        still = behind.kept;
+      };
+      there = λ front long.
+          let regrouped : front ++ ((gap ++ range) ++ rest) ≡ ((front ++ gap) ++ range) ++ rest =
+          simp append_assoc in
+          rw regrouped (slice_front (front ++ gap) range rest x.offset.0 (x.offset.0 + x.size)
+          (omega (arith, length-append front gap, gap_length, next.behind, long))
+          (omega (arith, range_length)));
     }
 
     later_written : (r : Contribution) → IsWritten (x.offset.0 + x.size) rest after r
-        → IsWritten at (front ++ range ++ rest) after r
-    later_written r w =
-        let so_far : length (front ++ range) ≡ x.offset.0 + x.size - at =
-        omega (arith, length-append front range, front_length, range_length, next.behind) in
-        record {
-          behind = omega (arith, w.behind, next.behind);
-          inside = w.inside;
-          old = w.old;
-          new = w.new;
-          rewritten = w.rewritten;
-          table = w.table;
-          ok = w.ok;
-          still = w.still;
-          there = slice_behind (front ++ range) rest (r.offset.0 - at) (r.offset.0 + r.size - at)
-              (r.offset.0 - (x.offset.0 + x.size)) (r.offset.0 + r.size - (x.offset.0 + x.size))
-              (omega (arith, so_far, w.behind, next.behind))
-              (omega (arith, so_far, w.behind, next.behind)) ∙ w.there;
-        }
+        → IsWritten at (gap ++ range ++ rest) after r
+    later_written r w = record {
+      rewritten = w.rewritten;
+      one = w.one;
+      there = λ front long.
+          let regrouped : front ++ ((gap ++ range) ++ rest) ≡ (front ++ (gap ++ range)) ++ rest =
+          sym (append_assoc front (gap ++ range) rest) in
+          rw regrouped (w.there (front ++ (gap ++ range)) (omega (
+            arith,
+            length-append front (gap ++ range),
+            length-append gap range,
+            gap_length,
+            range_length,
+            next.behind,
+            long,
+          )));
+    }
 
-    more_written : AreWritten at (x ∷ xs) before (front ++ range ++ rest) after
+    more_written : AreWritten at (x ∷ xs) before (gap ++ range ++ rest) after
     more_written = record {
       table = behind.table;
-      kept = kept_more before between after (names order encoding section (range_bytes bytes x)
-          x.size before range between table ok).kept behind.kept;
+      kept = kept_more before between after same.kept behind.kept;
       size = omega (
         arith,
-        length-append front range,
-        length-append (front ++ range) rest,
-        front_length,
+        length-append gap range,
+        length-append (gap ++ range) rest,
+        gap_length,
         range_length,
         behind.size,
         next.behind,
         next.inside,
       );
-      each = λ r there. ⊎_elim (λ (same : r ≡ x). subst (IsWritten at (front ++ range ++ rest)
-          after) (sym same) here_written) (λ later. later_written r (behind.each r later)) there;
+      each = λ r there. ⊎_elim (λ (is : r ≡ x). rw is here_written)
+          (λ later. later_written r (behind.each r later)) there;
     }
-
-  abbrev Pair : Type 0
-  Pair = List ℕ × List (List ℕ)
-
-  abbrev answer : Pair → Result (List ℕ × List (List ℕ)) ErrorValue
-  answer p = Ok p
-
-  same_pair : (p q : Pair) → answer p ≡ answer q → p ≡ q
-  same_pair p q same = cc
-
-  pair_first : (a c : List ℕ) (b d : List (List ℕ)) → answer (a, b) ≡ answer (c, d) → a ≡ c
-  pair_first a c b d same = ap (λ p. p.0) (same_pair (a, b) (c, d) same)
-
-  pair_second : (a c : List ℕ) (b d : List (List ℕ)) → answer (a, b) ≡ answer (c, d) → b ≡ d
-  pair_second a c b d same = ap (λ p. p.1) (same_pair (a, b) (c, d) same)
 
   all_written : (rs : List Contribution) (at : ℕ) (before : List (List ℕ)) (written : List ℕ)
       (after : List (List ℕ)) → at ≤ length bytes → IsTable before → ranges_test encoding
@@ -193,56 +173,38 @@ module _ (names : NamesLaw) (order : Endianness) (encoding : Encoding)
       (written, after) → AreWritten at rs before written after
   unfolding rewritten_from
   all_written [] at before written after within table passed ok =
-      let strings : before ≡ after = pair_second (drop at bytes) written before after ok in
-      let rest : drop at bytes ≡ written = pair_first (drop at bytes) written before after ok in
-      record {
-        table = subst IsTable strings table;
-        kept = ap (take (length before)) (sym strings) ∙ take_all (length before)
-            before (omega arith);
-        size = omega (arith, ap length rest, length-drop at bytes);
+      let both : (drop at bytes, before) ≡ (written, after) = same-ok _ _ ok in
+      subst (λ p. AreWritten at [] before p.0 p.1) both (record {
+        table = table;
+        kept = take_all (length before) before (omega arith);
+        size = omega (arith, length-drop at bytes);
         each = λ r there. elim there [ ];
-      }
+      })
   all_written (x ∷ xs) at before written after within table passed ok =
       let next = next_passed encoding (length bytes) at x xs passed in
-      let first = bind_ok (remapped order encoding section (range_bytes bytes x) x.size before) _
-      (written, after) ok in
-      let second = bind_ok (rewritten_from order encoding section bytes (x.offset.0 + x.size) xs
-      first.0.1) _ (written, after) first.2 in
+      let first = bind-was _ _ (written, after) ok in
+      let second = bind-was _ _ (written, after) first.2 in
       let between = names order encoding section (range_bytes bytes x) x.size before first.0.0
       first.0.1 table first.1 in
-      let later = all_written xs (x.offset.0 + x.size) first.0.1 second.0.0 second.0.1 next.inside
-      between.table next.others second.1 in
-      let more = more_written at x xs before first.0.1 first.0.0 second.0.0 second.0.1 next table
-      first.1 later in
-      let bytes_are = pair_first (slice_range bytes at x.offset.0 ++ first.0.0 ++ second.0.0)
-      written second.0.1 after second.2 in
-      let strings_are = pair_second (slice_range bytes at x.offset.0 ++ first.0.0 ++ second.0.0)
-      written second.0.1 after second.2 in
-      subst (λ w. AreWritten at (x ∷ xs) before w after) bytes_are
-      (subst (AreWritten at (x ∷ xs) before (slice_range bytes at x.offset.0 ++ first.0.0 ++
-      second.0.0)) strings_are more)
+      subst (λ p. AreWritten at (x ∷ xs) before p.0 p.1) (same-ok _ _ second.2)
+      (more_written at x xs before first.0.1 first.0.0 second.0.0 second.0.1 next table first.1
+      (all_written xs (x.offset.0 + x.size) first.0.1 second.0.0 second.0.1 next.inside
+      between.table next.others second.1))
 
 -- ---- the range of each row
-sub_none : (n : ℕ) → n ≡ n - 0
-sub_none n = omega arith
-
 module _ (names : NamesLaw) (alike : AlikeLaw) (order : Endianness) (encoding : Encoding)
     (section bytes : List ℕ) where
   reads_alike : (written : List ℕ) (after : List (List ℕ)) (r : Contribution)
       → IsWritten names order encoding section bytes 0 written after r → RangeReadsAlike order
       encoding section bytes written after r
   reads_alike written after r w = record {
-    inside = w.inside;
+    inside = w.one.inside;
     alike = λ final table kept k.
         let count : length (range_bytes bytes r) ≡ r.size = slice_length bytes r.offset.0
-        (r.offset.0 + r.size) (omega arith) w.inside ∙ omega arith in
-        let ok = ap (λ n. remapped order encoding section (range_bytes bytes r) n
-        w.old) count ∙ w.ok in
-        subst (λ l. ReadsAlike order encoding section (range_bytes bytes r) (data_of final) l k)
-        (sym (ap₂ (λ a b. slice_range written a b) (sub_none r.offset.0)
-        (sub_none (r.offset.0 + r.size)) ∙ w.there))
-        (alike order encoding section (range_bytes bytes r) w.old w.rewritten w.new final w.table ok
-        table (kept_more w.new after final w.still kept) k);
+        (r.offset.0 + r.size) (omega arith) w.one.inside ∙ omega arith in
+        rw (w.there [] refl) (alike order encoding section (range_bytes bytes r) w.one.old
+        w.rewritten w.one.new final w.one.table (rw count w.one.ok) table
+        (kept_more w.one.new after final w.one.still kept) k);
   }
 
   pub package_reads_alike : (compilations types : Option Index) (before : List (List ℕ))
@@ -251,8 +213,7 @@ module _ (names : NamesLaw) (alike : AlikeLaw) (order : Endianness) (encoding : 
       encoding compilations types section bytes before written after
   unfolding packaged_offsets
   package_reads_alike compilations types before written after table ok =
-      let tested = bind_ok (ranges_test encoding (length bytes) 0 (offset_ranges compilations
-      types)) _ (written, after) ok in
+      let tested = bind-was _ _ (written, after) ok in
       let all = all_written names order encoding section bytes (offset_ranges compilations types) 0
       before written after (omega arith) table tested.1 tested.2 in
       record {
@@ -260,9 +221,7 @@ module _ (names : NamesLaw) (alike : AlikeLaw) (order : Endianness) (encoding : 
         kept = all.kept;
         size = omega (arith, all.size);
         compilation_rows = λ index is number row range there has. reads_alike written after range
-            (all.each range (subst (λ i. IsIn range (offset_ranges i types)) (sym is)
-            (compilation_there index number row range there has types)));
+            (all.each range (rw is (compilation_there index number row range there has types)));
         type_rows = λ index is number row range there has. reads_alike written after range
-            (all.each range (subst (λ i. IsIn range (offset_ranges compilations i)) (sym is)
-            (type_there index number row range there has compilations)));
+            (all.each range (rw is (type_there index number row range there has compilations)));
       }

@@ -3,7 +3,7 @@ use Rattle.std.proofs.Common.{◌≡◌, ℕ, ◌+◌, ◌-◌, ◌%◌, ◌<◌
 use Rattle.std.proofs.Common.{leb, not, ◌&&◌, List, [], ◌∷◌, ◌++◌, length, get_or, take, drop}
 use Rattle.std.proofs.Common.{slice_range, Ok, Err, Result, ap, sym, refl, ◌∙◌, append_assoc, arith}
 use Rattle.std.proofs.lemmas.Bool.{and_parts, leb-true, ltb-false, eqb-true}
-use Rattle.std.proofs.lemmas.List.{take_all, get_or_default, at_drop_more, at_drop_all}
+use Rattle.std.proofs.lemmas.List.{take_all, at_drop_more, at_drop_all}
 use Rattle.dwp_base.specs.declared.endian.Endianness.{Endianness}
 use Rattle.dwp_base.specs.declared.section.Contribution.{Contribution}
 use Rattle.dwp_base.specs.Reading.{◌>>=◌}
@@ -72,8 +72,8 @@ pub record IsSoFar (order : Endianness) (encoding : Encoding) (section bytes : L
   pub all : onto out (rewritten_from order encoding section bytes at (drop n ranges) strings) ≡
       rewritten_from order encoding section bytes 0 ranges before
 
-module _ (order : Endianness) (encoding : Encoding) (section bytes : List ℕ)
-    (ranges : List Contribution) (before : List (List ℕ)) where
+module _ {order : Endianness} {encoding : Encoding} {section bytes : List ℕ}
+    {ranges : List Contribution} {before : List (List ℕ)} where
   pub none_yet : ranges_test encoding (length bytes) 0 ranges ≡ Ok tt → IsSoFar order encoding
       section bytes ranges before [] 0 0 before
   none_yet passed = record {
@@ -83,32 +83,26 @@ module _ (order : Endianness) (encoding : Encoding) (section bytes : List ℕ)
     all = onto_none (rewritten_from order encoding section bytes 0 ranges before);
   }
 
-  module _ (out : List ℕ) (at n : ℕ) (strings : List (List ℕ)) (so_far : IsSoFar order encoding
+  module _ {out : List ℕ} {at n : ℕ} {strings : List (List ℕ)} (so_far : IsSoFar order encoding
       section bytes ranges before out at n strings) where
-    -- at the end
-    rest_is : (rest : List ℕ) → onto out (rewritten_from order encoding section bytes at [] strings)
-        ≡ Ok (out ++ drop at bytes, strings)
-    unfolding rewritten_from
-    rest_is rest = refl
+    abbrev whole : Rewriting
+    whole = rewritten_from order encoding section bytes 0 ranges before
 
-    pub all_written : length ranges ≤ n → rewritten_from order encoding section bytes 0 ranges
-        before ≡ Ok (out ++ drop at bytes, strings)
+    -- at the end
+    pub all_written : length ranges ≤ n → whole ≡ Ok (out ++ drop at bytes, strings)
+    unfolding rewritten_from
     all_written past =
         sym so_far.all ∙ at_drop_all (λ rs. onto out (rewritten_from order encoding section bytes at
-        rs strings)) ranges n past ∙ rest_is out
+        rs strings)) ranges n past
 
     -- one more
     module _ (d : Contribution) (less : n < length ranges) where
       abbrev r : Contribution
       r = get_or ranges n d
 
-      there : r ≡ get_or ranges n r
-      there = get_or_default ranges n d r less
-
       pub next : IsNext encoding (length bytes) at r (drop (n + 1) ranges)
       next = next_passed encoding (length bytes) at r (drop (n + 1) ranges)
-          (ap (λ x. ranges_test encoding (length bytes) at (x ∷ drop (n + 1) ranges)) there
-          ∙ sym (at_drop_more (ranges_test encoding (length bytes) at) ranges n r less)
+          (sym (at_drop_more (ranges_test encoding (length bytes) at) ranges n d less)
           ∙ so_far.passed)
 
       abbrev range_of_next : Rewriting
@@ -116,52 +110,29 @@ module _ (order : Endianness) (encoding : Encoding) (section bytes : List ℕ)
           (r.offset.0 + r.size)) r.size strings
 
       from_next : onto out (rewritten_from order encoding section bytes at (r ∷ drop (n + 1) ranges)
-          strings) ≡ rewritten_from order encoding section bytes 0 ranges before
+          strings) ≡ whole
       from_next =
-          ap (λ x. onto out (rewritten_from order encoding section bytes at
-          (x ∷ drop (n + 1) ranges) strings)) there
-          ∙ sym (at_drop_more (λ rs. onto out (rewritten_from order encoding section bytes at rs
-          strings)) ranges n r less) ∙ so_far.all
+          sym (at_drop_more (λ rs. onto out (rewritten_from order encoding section bytes at rs
+          strings)) ranges n d less) ∙ so_far.all
 
-      refuses_by : (error : ErrorValue) → range_of_next ≡ Err error
-          → onto out (rewritten_from order encoding section bytes at (r ∷ drop (n + 1) ranges)
-          strings) ≡ Err error
+      pub one_refused : (error : ErrorValue) → range_of_next ≡ Err error → whole ≡ Err error
       unfolding rewritten_from
-      refuses_by error refused = rw refused refl
-
-      pub one_refused : (error : ErrorValue) → range_of_next ≡ Err error
-          → rewritten_from order encoding
-          section bytes 0 ranges before ≡ Err error
-      one_refused error refused = sym from_next ∙ refuses_by error refused
+      one_refused error refused = sym from_next ∙ rw refused refl
 
       onto_more : (front range : List ℕ) (rest : Rewriting) → onto ((out ++ front) ++ range) rest ≡
           onto out (rest >>= λ p. Ok (front ++ range ++ p.0, p.1))
-      onto_more front range (Ok p) = ap (λ l. Ok (l, p.1)) (append_assoc (out ++ front) range p.0 ∙
-          append_assoc out front (range ++ p.0) ∙ ap (λ l. out ++ l)
-          (sym (append_assoc front range p.0)))
+      onto_more front range (Ok p) = ap (λ l. Ok (l, p.1)) (simp append_assoc)
       onto_more front range (Err e) = refl
-
-      more_by : (range : List ℕ) (after : List (List ℕ)) → range_of_next ≡ Ok (range, after)
-          → onto ((out ++ slice_range bytes at r.offset.0) ++ range) (rewritten_from order encoding
-          section bytes (r.offset.0 + r.size) (drop (n + 1) ranges) after) ≡ onto out
-          (rewritten_from order encoding section bytes at (r ∷ drop (n + 1) ranges) strings)
-      unfolding rewritten_from
-      more_by range after ok = rw ok (onto_more (slice_range bytes at r.offset.0) range
-          (rewritten_from order encoding section bytes (r.offset.0 + r.size)
-          (drop (n + 1) ranges) after))
 
       pub one_more : (range : List ℕ) (after : List (List ℕ)) (new : List ℕ) (end : ℕ)
           → range_of_next ≡ Ok (range, after) → take (length strings) after ≡ strings
           → new ≡ (out ++ slice_range bytes at r.offset.0) ++ range → end ≡ r.offset.0 + r.size
           → IsSoFar order encoding section bytes ranges before new end (n + 1) after
+      unfolding rewritten_from
       one_more range after new end ok kept new_is end_is = record {
         kept = kept_more before strings after so_far.kept kept;
         within = omega (arith, next.inside, end_is);
-        passed = ap (λ e. ranges_test encoding (length bytes) e (drop (n + 1) ranges))
-            end_is ∙ next.others;
-        all = ap (λ e. onto new (rewritten_from order encoding section bytes e
-            (drop (n + 1) ranges) after)) end_is
-            ∙ ap (λ o. onto o (rewritten_from order encoding section bytes (r.offset.0 + r.size)
-            (drop (n + 1) ranges) after)) new_is
-            ∙ more_by range after ok ∙ from_next;
+        passed = rw end_is next.others;
+        all = rw (new_is, end_is) (onto_more (slice_range bytes at r.offset.0) range _
+            ∙ (rw ok at from_next));
       }

@@ -1,10 +1,11 @@
 -- The range of each row is among the ranges.
 use Rattle.std.proofs.Common.{◌≡◌, ℕ, zero, suc, ◌-◌, List, [], ◌∷◌, length, get_or, Some, None}
-use Rattle.std.proofs.Common.{Option, Ok, ap, sym, subst, refl, ◌∙◌, ◌⊎◌, inl, inr, arith}
+use Rattle.std.proofs.Common.{Option, Ok, ap, sym, refl, ◌∙◌, ◌⊎◌, inl, inr, arith}
 use Rattle.std.specs.Ordering.{is_eq, match_ordering}
 use Rattle.std.specs.declared.cmp.Ordering.{Ordering}
 use Rattle.std.specs.declared.cmp.Ordering.TheVariants.{Less, Equal, Greater}
 use Rattle.std.specs.BTreeSet.{insert_key}
+use Rattle.std.proofs.lemmas.Option.{same_Some}
 use Rattle.std.proofs.lemmas.List.FromFn.{get_or-map-range_with_len}
 use Rattle.dwp_base.specs.declared.section.SectionKind.TheVariants.{StrOffsets}
 use Rattle.dwp_base.specs.declared.section.Contribution.{Contribution}
@@ -20,37 +21,23 @@ IsIn r [] = ⊥
 IsIn r (x ∷ xs) = (r ≡ x) ⊎ IsIn r xs
 
 -- ---- in an ordered list
-some_same : (r x : Contribution) → Some r ≡ Some x → r ≡ x
-some_same r x same = cc
-
 equal_same : (r x : Contribution) → place_cmp r x ≡ Equal → r ≡ x
-equal_same r x equal = some_same r x (range_is x (Some r) (sym (key_test r x) ∙ ap is_eq equal))
+equal_same r x equal = same_Some _ _ (range_is x (Some r) (sym (key_test r x) ∙ ap is_eq equal))
 
-there_by : (o : Ordering) (r x : Contribution) (xs more : List Contribution) → place_cmp r x ≡ o
-    → IsIn r more → IsIn r (match_ordering o (r ∷ x ∷ xs) (x ∷ xs) (x ∷ more))
-there_by Less r x xs more is later = inl refl
-there_by Equal r x xs more is later = inl (equal_same r x is)
-there_by Greater r x xs more is later = inr later
-
-inserted_there : (ranges : List Contribution) (r : Contribution)
-    → IsIn r (insert_key place_cmp ranges r)
-inserted_there [] r = inl refl
-inserted_there (x ∷ xs) r = there_by (place_cmp r x) r x xs (insert_key place_cmp xs r) refl
-    (inserted_there xs r)
-
-still_by : (o : Ordering) (r k x : Contribution) (xs more : List Contribution)
-    → (IsIn r xs → IsIn r more) → (r ≡ x) ⊎ IsIn r xs
-    → IsIn r (match_ordering o (k ∷ x ∷ xs) (x ∷ xs) (x ∷ more))
-still_by Less r k x xs more later there = inr there
-still_by Equal r k x xs more later there = there
-still_by Greater r k x xs more later (inl same) = inl same
-still_by Greater r k x xs more later (inr there) = inr (later there)
-
-inserted_still : (ranges : List Contribution) (k r : Contribution) → IsIn r ranges
+inserted : (ranges : List Contribution) (k r : Contribution) → IsIn r (k ∷ ranges)
     → IsIn r (insert_key place_cmp ranges k)
-inserted_still [] k r there = elim there [ ]
-inserted_still (x ∷ xs) k r there = still_by (place_cmp k x) r k x xs (insert_key place_cmp xs k)
-    (inserted_still xs k r) there
+inserted [] k r there = there
+inserted (x ∷ xs) k r there = by (place_cmp k x) refl (inserted xs k r) there
+  where
+    by : (o : Ordering) → place_cmp k x ≡ o
+        → (IsIn r (k ∷ xs) → IsIn r (insert_key place_cmp xs k)) → IsIn r (k ∷ x ∷ xs)
+        → IsIn r (match_ordering o (k ∷ x ∷ xs) (x ∷ xs) (x ∷ insert_key place_cmp xs k))
+    by Less is later there = there
+    by Equal is later (inl same) = inl (same ∙ equal_same k x is)
+    by Equal is later (inr there) = there
+    by Greater is later (inl same) = inr (later (inl same))
+    by Greater is later (inr (inl first)) = inl first
+    by Greater is later (inr (inr there)) = inr (later (inr there))
 
 -- ---- with those of rows
 rows_still : (rows : List (Option Contribution)) (ranges : List Contribution) (r : Contribution)
@@ -58,7 +45,7 @@ rows_still : (rows : List (Option Contribution)) (ranges : List Contribution) (r
 rows_still [] ranges r there = there
 rows_still (None ∷ rows) ranges r there = rows_still rows ranges r there
 rows_still (Some k ∷ rows) ranges r there = rows_still rows (insert_key place_cmp ranges k) r
-    (inserted_still ranges k r there)
+    (inserted ranges k r (inr there))
 
 rows_there : (rows : List (Option Contribution)) (ranges : List Contribution) (r : Contribution)
     (k : ℕ) → get_or rows k None ≡ Some r → IsIn r (with_ranges rows ranges)
@@ -66,8 +53,7 @@ rows_there [] ranges r k at = absurd cc
 rows_there (None ∷ rows) ranges r zero at = absurd cc
 rows_there (Some x ∷ rows) ranges r zero at =
     rows_still rows (insert_key place_cmp ranges x) r
-    (subst (λ y. IsIn y (insert_key place_cmp ranges x)) (some_same x r at)
-    (inserted_there ranges x))
+    (inserted ranges x r (inl (sym (same_Some _ _ at))))
 rows_there (None ∷ rows) ranges r (suc k) at = rows_there rows ranges r k at
 rows_there (Some x ∷ rows) ranges r (suc k) at =
     rows_there rows (insert_key place_cmp ranges x) r k at
@@ -88,19 +74,14 @@ row_at index number row r there has =
     number None (omega (arith, within.0, within.1)) (omega (arith, within.0))
     ∙ range_of_found index StrOffsets number row there ∙ has
 
-index_there : (index : Index) (ranges : List Contribution) (number : ℕ) (row : Ranges)
-    (r : Contribution) → row_in index number ≡ Ok row → range_in row StrOffsets ≡ Some r
-    → IsIn r (with_rows (Some index) ranges)
-index_there index ranges number row r there has = rows_there (ranges_of index StrOffsets) ranges r
-    (number - 1) (row_at index number row r there has)
-
 module _ (index : Index) (number : ℕ) (row : Ranges) (r : Contribution) (there : row_in index number
     ≡ Ok row) (has : range_in row StrOffsets ≡ Some r) where
   pub compilation_there : (types : Option Index) → IsIn r (offset_ranges (Some index) types)
   unfolding offset_ranges
   compilation_there types = index_still types (with_rows (Some index) []) r
-      (index_there index [] number row r there has)
+      (rows_there (ranges_of index StrOffsets) [] r (number - 1) (row_at index number row r there has))
 
   pub type_there : (compilations : Option Index) → IsIn r (offset_ranges compilations (Some index))
   unfolding offset_ranges
-  type_there compilations = index_there index (with_rows compilations []) number row r there has
+  type_there compilations = rows_there (ranges_of index StrOffsets) (with_rows compilations []) r
+      (number - 1) (row_at index number row r there has)

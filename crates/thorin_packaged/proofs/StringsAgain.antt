@@ -1,7 +1,7 @@
 -- A rewritten range of string offsets reads as it read before.
-use Rattle.std.proofs.Common.{◌≡◌, ℕ, ◌+◌, ◌*◌, ◌<◌, ◌≤◌, Bool, true, false, cond, ltb, List}
+use Rattle.std.proofs.Common.{◌≡◌, ℕ, ◌<◌, ◌≤◌, Bool, true, false, cond, List}
 use Rattle.std.proofs.Common.{length, take, drop, Some, None, Ok, Err, sym, refl, ◌∙◌, ⊎_elim}
-use Rattle.std.proofs.Common.{arith}
+use Rattle.std.proofs.Common.{Option, arith}
 use Rattle.std.proofs.lemmas.Bool.{cases_lt, lt-ltb, le-ltb}
 use Rattle.dwp_base.specs.declared.endian.Endianness.{Endianness}
 use Rattle.dwp_base.specs.Numbers.{number}
@@ -9,13 +9,12 @@ use Rattle.dwp_bytes.specs.declared.encoding.Encoding.{Encoding}
 use Rattle.dwp_bytes.specs.declared.encoding.Format.{Format}
 use Rattle.dwp_bytes.specs.declared.error.ReadError.TheVariants.{UnexpectedEof}
 use Rattle.dwp_bytes.specs.Encoding.{offset_size}
-use Rattle.dwp_bytes.specs.StringOffsets.{header_size, entry_count, string_at}
+use Rattle.dwp_bytes.specs.StringOffsets.{entry_count, string_at}
 use Rattle.dwp_index.specs.Strings.{entry_in, string_in}
-use Rattle.thorin_errors.specs.Answers.{as_error}
 use Rattle.thorin_strings.specs.Strings.{data_of, IsTable}
 use Rattle.thorin_strings.specs.StringOffsets.{offset_at, named_at}
 use Rattle.thorin_strings.specs.Rewritten.{NamesTheSame}
-use Rattle.thorin_packaged.proofs.ReadAlike.{bind_ok}
+use Rattle.dwp_base.proofs.Steps.{bind-was}
 use Rattle.thorin_packaged.specs.ReadStrings.{ReadsAlike}
 use Rattle.thorin_strings.proofs.NamedEntries.{as_error_ok}
 
@@ -36,24 +35,19 @@ named_read : (order : Endianness) (encoding : Encoding) (section bytes : List �
     bytes i ≡ Ok string → string_in order encoding section bytes i ≡ Ok (Some string)
 unfolding string_in entry_in named_at
 named_read order encoding section bytes i string less h =
-    let width = offset_size encoding.format in
-    let offset = bind_ok (as_error _ (offset_at order encoding.format bytes (header_size encoding +
-    i * width))) _ string h in
-    let there : ltb i (entry_count encoding (length bytes)) ≡ true = lt-ltb i _ less in
-    let number_is : number order width (drop (header_size encoding + i * width) bytes) ≡ offset.0 =
-    offset_is order encoding.format bytes (header_size encoding + i * width) offset.0
-    (as_error_ok _ _ offset.0 offset.1) in
-    let read : string_at section offset.0 ≡ Ok string = as_error_ok _ (string_at section offset.0)
-    string offset.2 in
-    rw (there, number_is, read) refl
+    let offset = bind-was _ _ string h in
+    rw (
+      lt-ltb i (entry_count encoding (length bytes)) less,
+      offset_is order encoding.format bytes _ offset.0 (as_error_ok _ _ offset.0 offset.1),
+      as_error_ok _ (string_at section offset.0) string offset.2,
+    ) refl
 
 -- past the last there is none
 past_read : (order : Endianness) (encoding : Encoding) (section bytes : List ℕ) (i : ℕ)
     → entry_count encoding (length bytes) ≤ i → string_in order encoding section bytes i ≡ Ok None
 unfolding string_in entry_in
 past_read order encoding section bytes i past =
-    let none : ltb i (entry_count encoding (length bytes)) ≡ false = le-ltb i _ past in
-    rw none refl
+    rw (le-ltb i (entry_count encoding (length bytes)) past) refl
 
 pub strings_again : (order : Endianness) (encoding : Encoding) (section bytes : List ℕ)
     (before : List (List ℕ)) (rewritten : List ℕ) (after final : List (List ℕ)) → NamesTheSame order
@@ -63,11 +57,14 @@ pub strings_again : (order : Endianness) (encoding : Encoding) (section bytes : 
 strings_again order encoding section bytes before rewritten after final names final_table kept i =
     ⊎_elim
     (λ less. let one = names.named i less in
-    let old = named_read order encoding section bytes i one.string less one.old in
-    let new = named_read order encoding (data_of final) rewritten i one.string
-    (omega (arith, names.count)) (one.new final final_table kept) in
-    record { readable = rw old refl; same = new ∙ sym old })
-    (λ past. let old = past_read order encoding section bytes i past in
-    let new = past_read order encoding (data_of final) rewritten i (omega (arith, names.count)) in
-    record { readable = rw old refl; same = new ∙ sym old })
+    both (Some one.string) (named_read order encoding section bytes i one.string less one.old)
+    (named_read order encoding (data_of final) rewritten i one.string
+    (omega (arith, names.count)) (one.new final final_table kept)))
+    (λ past. both None (past_read order encoding section bytes i past)
+    (past_read order encoding (data_of final) rewritten i (omega (arith, names.count))))
     (cases_lt i (entry_count encoding (length bytes)))
+  where
+    both : (string : Option (List ℕ)) → string_in order encoding section bytes i ≡ Ok string
+        → string_in order encoding (data_of final) rewritten i ≡ Ok string
+        → ReadsAlike order encoding section bytes (data_of final) rewritten i
+    both string old new = record { readable = rw old refl; same = new ∙ sym old }

@@ -1,5 +1,6 @@
-use Rattle.std.proofs.Common.{arith}
-use Rattle.thorin_index.proofs.Looks.{looks_next, none_looked, table_next}
+use Rattle.std.proofs.Common.{◌≡◌, ◌∙◌, ◌+◌, ◌++◌, ◌∷◌, [], arith, length, map, refl, take}
+use Rattle.std.proofs.lemmas.List.{length-map, length-take-le, map_more}
+use Rattle.thorin_index.proofs.Looks.{looked_more, none_looked}
 use Rattle.thorin_index.proofs.buckets.place_units.Goals as goal
 
 pub loop-i-init : goal.loop-i-init
@@ -10,18 +11,22 @@ loop-i-init g c = record {
 
 pub loop-i-preserved : goal.loop-i-preserved
 loop-i-preserved g c =
-    let i = c.loop-i.i in
-    let unit = c.index-units-i.result in
-    let old = c.loop-i.slots in
-    let new = c.place_row.new.slots in
     let id = g.B.Bucketable.identifier in
+    let units = c.args.units.now in
+    let i = c.loop-i.i in
+    let ids = map id (take i units) in
+    let count : length ids ≡ i = length-map (take i units) id
+    ∙ length-take-le i units (omega arith) in
+    let more : map id (take (i + 1) units) ≡ ids ++ c.index.result ∷ [] =
+    map_more id units i c.index-units-i.result (omega arith)
+    ∙ rw (← c.index-units-i.is, ← c.index.ensures) refl in
+    let placed = c.place_row.ensures in
+    let before = c.loop-i.invariant in
     record {
-      table = table_next id c.args.units.now i c.index.result unit old new (omega arith)
-          c.index-units-i.is c.index.ensures (omega arith) c.loop-i.invariant.table
-          c.place_row.ensures.table;
-      looked = looks_next id c.args.units.now i c.index.result unit old new c.loop-i.looked.items
-          c.push.new.self.items c.unwrap.result c.place_row.result
-          (omega arith) c.index-units-i.is c.index.ensures c.loop-i.invariant.table
-          c.loop-i.invariant.looked c.unwrap.ensures c.in_ok-push.ensures.items
-          c.place_row.ensures.kept c.place_row.ensures.last c.place_row.ensures.count;
+      table = rw more (placed.table ids before.table (omega (arith, count)) (omega arith));
+      looked = rw (more, c.in_ok-push.ensures.items) (looked_more ids c.loop-i.slots c.place_row.new.slots
+          c.loop-i.looked.items c.index.result c.unwrap.result placed.kept
+          (rw count (rw c.unwrap.ensures at (placed.last ids before.table
+          (omega (arith, count))))) (rw c.unwrap.ensures at (placed.count ids before.table))
+          before.looked);
     }

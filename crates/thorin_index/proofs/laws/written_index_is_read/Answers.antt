@@ -1,4 +1,4 @@
-use Rattle.thorin_index.proofs.Readable.{index_is_read}
+use Rattle.thorin_index.proofs.ReadAgain.{index_is_read}
 use Rattle.thorin_index.proofs.laws.written_index_is_read.Goals as goal
 
 pub returns : goal.returns

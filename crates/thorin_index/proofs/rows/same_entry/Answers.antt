@@ -12,4 +12,4 @@ pub returns-then-same_encoding : goal.returns-then-same_encoding
 returns-then-same_encoding c is =
     same_entries c.args.a.now c.args.b.now (c.if-same_encoding.ensures refl)
     (c.same_unit.ensures is)
-    (λ k d less. c.loop-kind.invariant k d (omega (arith, c.loop-kind-test.false)))
+    (λ k less. c.loop-kind.invariant k (omega (arith, c.loop-kind-test.false)))

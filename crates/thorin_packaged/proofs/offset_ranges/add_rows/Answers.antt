@@ -18,12 +18,12 @@ loop-number-preserved c =
     ) in
     elim c.match-range_of_row.branch [
       | in-Some-range_of_row+in_ok-insert w ↦
-          row_stored index n c.loop-number.keys.keys c.match-range_of_row.keys.keys
-          w.in-Some-range_of_row.range less (sym w.in-Some-range_of_row.ensures)
+          row_stored index n less _ _ w.in-Some-range_of_row.range
+          (sym w.in-Some-range_of_row.ensures)
           (ap (λ s. s.keys) w.keys-is ∙ w.in_ok-insert.ensures.keys) ∙ c.loop-number.invariant
-      | in_default-range_of_row w ↦ row_absent index n c.loop-number.keys.keys
-          c.match-range_of_row.keys.keys less (sym c.range_of_row.ensures ∙
-          w.in_default-range_of_row.is) (ap (λ s. s.keys) w.keys-is) ∙ c.loop-number.invariant
+      | in_default-range_of_row w ↦
+          row_absent index n less _ _ (sym c.range_of_row.ensures ∙ w.in_default-range_of_row.is)
+          (ap (λ s. s.keys) w.keys-is) ∙ c.loop-number.invariant
     ]
 
 pub returns : goal.returns
