@@ -4,9 +4,7 @@ use Rattle.std.proofs.Common.{◌++◌, map, length, Result, Ok, Err, ap, sym, s
 use Rattle.std.proofs.lemmas.Bool.{eqb-true}
 use Rattle.dwp_base.specs.declared.section.SectionKind.{SectionKind}
 use Rattle.dwp_base.specs.declared.section.SectionKind.TheVariants.{Info, Types, Abbrev, StrOffsets}
-use Rattle.dwp_base.specs.declared.section.SectionKind.TheVariants.{Str}
-use Rattle.dwp_base.specs.Reading.{◌>>=◌}
-use Rattle.dwp_base.specs.Sections.{same_kind, rank_of, name_of}
+use Rattle.dwp_base.specs.Sections.{same_kind, rank_of}
 use Rattle.dwp_elf.specs.Contents.{content_of, appended}
 use Rattle.dwp_dwarf.specs.declared.unit.UnitSection.{UnitSection}
 use Rattle.dwp_dwarf.specs.declared.unit.UnitSection.TheVariants as places
@@ -14,8 +12,7 @@ use Rattle.dwp_index.specs.Package.{part_of, place_of}
 use Rattle.dwp_table.specs.declared.object.DwarfObject.{DwarfObject}
 use Rattle.thorin_index.specs.Entries.{contribution_to}
 use Rattle.thorin_index.specs.declared.entry.IndexEntry.{IndexEntry}
-use Rattle.thorin_errors.specs.Errors.{ErrorValue, MissingRequiredSection, RepeatedSection}
-use Rattle.thorin_errors.specs.Errors.{SectionOutsideFormat}
+use Rattle.thorin_errors.specs.Errors.{ErrorValue}
 use Rattle.thorin_input.specs.Growing.{Contents, with_bytes, with_parts}
 use Rattle.thorin_input.specs.Indexes.{Source}
 use Rattle.thorin_input.specs.Format.{is_in_format, is_copied}
@@ -24,7 +21,7 @@ use Rattle.thorin_input.specs.Parts.{Parts, has_part, stands_once, with_offsets,
 use Rattle.thorin_input.specs.Parts.{with_each_part, parts_of}
 use Rattle.thorin_input.specs.Used.{Used}
 use Rattle.thorin_join.specs.State.{InProgress, kind_at, unit_bytes, held_units}
-use Rattle.dwp_base.proofs.Steps.{bind-was}
+use Rattle.dwp_base.proofs.Steps.{bind-was, same-ok}
 
 -- none of some parts is a section of units
 abbrev pub ArePartsApart : Contents → Type 0
@@ -48,81 +45,57 @@ copied-apart Types h = absurd (true≢false (sym h))
 copied-apart Abbrev h = (refl, refl)
 copied-apart _ h = (refl, refl)
 
-offsets-by : (missing : Bool) (before after : Parts) (written : Result (List ℕ × List (List ℕ))
-    ErrorValue) → cond missing (Err (MissingRequiredSection (name_of Str))) (written >>= λ w.
-    Ok (before.0 ++ (StrOffsets, w.0) ∷ [], w.1)) ≡ Ok after → ArePartsApart before.0
-    → ArePartsApart after.0
-offsets-by true before after written h apart = absurd cc
-offsets-by false before after written h apart =
-    let w = bind-was written _ after h in
-    let is : ◌≡◌ {A = Parts} (before.0 ++ (StrOffsets, w.0.0) ∷ [], w.0.1) after = cc (w.2) in
-    subst (λ (p : Parts). ArePartsApart p.0) is
-    (one-apart before.0 StrOffsets w.0.0 apart refl refl)
+-- what a step gives is apart
+abbrev Apart : Result Parts ErrorValue → Type 0
+Apart given = (after : Parts) → given ≡ Ok after → ArePartsApart after.0
 
-offsets-apart : (source : Source) (before after : Parts) (bytes : List ℕ)
-    → with_offsets source before bytes ≡ Ok after → ArePartsApart before.0 → ArePartsApart after.0
+ok-apart : (parts : Parts) → ArePartsApart parts.0 → Apart (Ok parts)
+ok-apart parts apart after h = subst (λ (p : Parts). ArePartsApart p.0) (same-ok parts after h) apart
+
+err-apart : (error : ErrorValue) → Apart (Err error)
+err-apart error after h = absurd cc
+
+cond-apart : (b : Bool) (one other : Result Parts ErrorValue) → (b ≡ true → Apart one)
+    → Apart other → Apart (cond b one other)
+cond-apart true one other first second = first refl
+cond-apart false one other first second = second
+
+offsets-apart : (source : Source) (before : Parts) (bytes : List ℕ) → ArePartsApart before.0
+    → Apart (with_offsets source before bytes)
 unfolding with_offsets
-offsets-apart source before after bytes h apart = offsets-by (not source.object.has_strings) before
-    after (rewritten source bytes before.1) h apart
+offsets-apart source before bytes apart =
+    cond-apart (not source.object.has_strings) _ _ (λ _. err-apart _) (λ after h.
+    let written = bind-was (rewritten source bytes before.1) _ after h in
+    ok-apart _ (one-apart before.0 StrOffsets written.0.0 apart refl refl) after written.2)
 
-copied-by : (copied : Bool) (before after : Parts) (section : Used)
-    → is_copied section.kind ≡ copied
-    → ◌≡◌ {A = Result Parts ErrorValue} (cond copied (Ok (
-      before.0 ++
-          (section.kind, section.bytes) ∷ [],
-      before.1,
-    )) (Ok before)) (Ok after)
-    → ArePartsApart before.0 → ArePartsApart after.0
-copied-by true before after section copied h apart =
-    let other = copied-apart section.kind copied in
-    let is : ◌≡◌ {A = Parts} (before.0 ++ (section.kind, section.bytes) ∷ [], before.1) after =
-    cc h in
-    subst (λ (p : Parts). ArePartsApart p.0) is
-    (one-apart before.0 section.kind section.bytes apart other.0 other.1)
-copied-by false before after section copied h apart =
-    let is : before ≡ after = cc h in
-    subst (λ (p : Parts). ArePartsApart p.0) is apart
-
-part-by : (repeated outside offsets : Bool) (source : Source) (before after : Parts)
-    (section : Used)
-    → cond repeated (Err (RepeatedSection (name_of section.kind)))
-    (cond outside (Err (SectionOutsideFormat (name_of section.kind)))
-    (cond offsets (with_offsets source before section.bytes)
-    (cond (is_copied section.kind)
-    (Ok (before.0 ++ (section.kind, section.bytes) ∷ [], before.1)) (Ok before)))) ≡ Ok after
-    → ArePartsApart before.0 → ArePartsApart after.0
-part-by true outside offsets source before after section h apart = absurd cc
-part-by false true offsets source before after section h apart = absurd cc
-part-by false false true source before after section h apart =
-    offsets-apart source before after section.bytes h apart
-part-by false false false source before after section h apart =
-    copied-by (is_copied section.kind) before after section refl h apart
-
-part-apart : (source : Source) (before after : Parts) (section : Used)
-    → with_part source before section ≡ Ok after → ArePartsApart before.0 → ArePartsApart after.0
+part-apart : (source : Source) (before : Parts) (section : Used) → ArePartsApart before.0
+    → Apart (with_part source before section)
 unfolding with_part
-part-apart source before after section h apart =
-    part-by (stands_once source section.kind && has_part section.kind before.0)
-    (not (is_in_format source.encoding section.kind)) (same_kind section.kind StrOffsets) source
-    before after section h apart
+part-apart source before section apart =
+    cond-apart (stands_once source section.kind && has_part section.kind before.0) _ _
+    (λ _. err-apart _)
+    (cond-apart (not (is_in_format source.encoding section.kind)) _ _ (λ _. err-apart _)
+    (cond-apart (same_kind section.kind StrOffsets) _ _
+    (λ _. offsets-apart source before section.bytes apart)
+    (cond-apart (is_copied section.kind) _ _
+    (λ copied. let other = copied-apart section.kind copied in
+    ok-apart _ (one-apart before.0 section.kind section.bytes apart other.0 other.1))
+    (ok-apart before apart))))
 
-each-apart : (source : Source) (before after : Parts) (sections : List Used)
-    → with_each_part source before sections ≡ Ok after → ArePartsApart before.0
-    → ArePartsApart after.0
+each-apart : (source : Source) (before : Parts) (sections : List Used) → ArePartsApart before.0
+    → Apart (with_each_part source before sections)
 unfolding with_each_part
-each-apart source before after [] h apart =
-    let is : before ≡ after = cc h in
-    subst (λ (p : Parts). ArePartsApart p.0) is apart
-each-apart source before after (section ∷ sections) h apart =
+each-apart source before [] apart after h = ok-apart before apart after h
+each-apart source before (section ∷ sections) apart after h =
     let step = bind-was (with_part source before section) _ after h in
-    each-apart source step.0 after sections step.2
-    (part-apart source before step.0 section step.1 apart)
+    each-apart source step.0 sections (part-apart source before section apart step.0 step.1)
+    after step.2
 
 -- the parts of an input are none of the sections of units
 pub parts-apart : (source : Source) (strings : List (List ℕ)) (parts : Contents × List (List ℕ))
     → parts_of source strings ≡ Ok parts → ArePartsApart parts.0
 parts-apart source strings parts h =
-    each-apart source ([], strings) parts source.object.sections h tt
+    each-apart source ([], strings) source.object.sections tt parts h
 
 -- ---- bytes that are added to the section of another kind
 
@@ -146,15 +119,13 @@ appended-other kind k bytes [] other = rw other refl
 appended-other kind k bytes (c ∷ cs) other = appended-by (same_kind c.0 k) kind k bytes c cs refl
     other (appended-other kind k bytes cs other)
 
-with-by : (none : Bool) (kind k : SectionKind) (bytes : List ℕ) (c : Contents)
-    → same_kind k kind ≡ false
-    → content_of kind (cond none c (appended k bytes c)) ≡ content_of kind c
-with-by true kind k bytes c other = refl
-with-by false kind k bytes c other = appended-other kind k bytes c other
-
 with_bytes-other : (kind k : SectionKind) (bytes : List ℕ) (c : Contents)
     → same_kind k kind ≡ false → content_of kind (with_bytes k bytes c) ≡ content_of kind c
-with_bytes-other kind k bytes c other = with-by (eqb (length bytes) 0) kind k bytes c other
+with_bytes-other kind k bytes c other = by (eqb (length bytes) 0)
+  where
+    by : (none : Bool) → content_of kind (cond none c (appended k bytes c)) ≡ content_of kind c
+    by true = refl
+    by false = appended-other kind k bytes c other
 
 -- ---- the bytes of units
 
@@ -181,8 +152,7 @@ held-by : (parts c : Contents) (rows : List IndexEntry) → ArePartsApart parts
     → map {B = DwarfObject × List ℕ} (λ row. (row.id, unit_bytes (with_parts parts c) row)) rows
     ≡ map {B = DwarfObject × List ℕ} (λ row. (row.id, unit_bytes c row)) rows
 held-by parts c [] apart = refl
-held-by parts c (r ∷ rs) apart =
-    λ i. (r.id, unit-apart parts c r apart i) ∷ held-by parts c rs apart i
+held-by parts c (r ∷ rs) apart = rw (unit-apart parts c r apart, held-by parts c rs apart) refl
 
 -- so units' bytes stay
 pub held-apart : (made : InProgress) (parts : Contents) (strings : List (List ℕ))
