@@ -1,6 +1,7 @@
 -- The units that an executable refers to, one after the other.
 use Rattle.std.proofs.Common.{◌≡◌, ◌≢◌, ◌∙◌, ℕ, List, [], ◌∷◌, ◌++◌, refl, sym, ap, arith}
 use Rattle.std.proofs.Common.{false, inl, inr, Option, Some, None, Result, Ok, Err, length, take}
+use Rattle.std.proofs.Math.Seq.{take-append_seam}
 use Rattle.std.proofs.lemmas.List.{append_assoc, append-nil, take_all}
 use Rattle.std.specs.declared.io.Error.{Error as IoError}
 use Rattle.dwp_table.specs.declared.object.DwarfObject.{DwarfObject}
@@ -27,11 +28,6 @@ abbrev pub Offer : Type 1
 Offer = List ℕ → Result (List ℕ) IoError → Type 0
 
 -- ---- the units that an executable refers to, up to one
-
--- the first of a list, and those behind it
-front-is : (done rest : List (DwarfObject × List ℕ)) → take (length done) (done ++ rest) ≡ done
-front-is [] rest = refl
-front-is (d ∷ ds) rest = ap (λ l. d ∷ l) (front-is ds rest)
 
 module _ (offer : Offer) (missing : MissingReferencedObjectBehaviour) where
   -- each of these was taken
@@ -136,7 +132,7 @@ module _ (offer : Offer) (missing : MissingReferencedObjectBehaviour) where
       error = error;
       are = λ other. sym is ∙ ap (λ (l : Listed). (done ++ l.0, l.1)) (end other) ∙ ap
           (λ (l : List (DwarfObject × List ℕ)). (l, error)) (append-nil done);
-      front = ap (λ (l : Listed). take (length done) l.0) (sym is) ∙ front-is done left.0;
+      front = ap (λ (l : Listed). take (length done) l.0) (sym is) ∙ take-append_seam done left.0;
       taken = rw (← append-nil done, ← append-nil before)
           (taken-then done [] error old new new outcome before [] taken (ends, refl, refl));
     },

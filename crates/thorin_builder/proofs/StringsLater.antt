@@ -2,10 +2,7 @@
 use Rattle.std.proofs.Common.{◌≡◌, ◌∙◌, ℕ, zero, suc, ◌+◌, ◌*◌, Bool, true, false, not, cond, ltb}
 use Rattle.std.proofs.Common.{eqb, ◌&&◌, List, [], ◌∷◌, ◌++◌, length, take, drop}
 use Rattle.std.proofs.Common.{Option, Result, Ok, Err, ap, sym, subst, refl, append_assoc}
-use Rattle.std.specs.List.{list_any}
-use Rattle.std.specs.Str.{bytes_eq}
-use Rattle.std.proofs.lemmas.Bool.{false≢true, or_parts, cond-true}
-use Rattle.std.proofs.lemmas.List.Folds.{list_any-append}
+use Rattle.std.proofs.lemmas.Bool.{cond-true}
 use Rattle.std.proofs.lemmas.List.{append-nil, take-append-drop}
 use Rattle.dwp_base.specs.declared.endian.Endianness.{Endianness}
 use Rattle.dwp_base.specs.declared.section.Contribution.{Contribution}
@@ -31,8 +28,7 @@ use Rattle.thorin_input.specs.Parts.{has_part, stands_once, with_offsets, with_p
 use Rattle.thorin_input.specs.Parts.{parts_of}
 use Rattle.thorin_input.specs.Used.{Used}
 use Rattle.dwp_base.proofs.Steps.{bind-ok, bind-was as bind-inv, same-ok}
-use Rattle.dwp_base.proofs.Bools.{or-right}
-use Rattle.thorin_strings.proofs.Named.{offset_by, itself}
+use Rattle.thorin_strings.proofs.Named.{has, has_more, offset_kept, there_once_used}
 
 abbrev Strings : Type 0
 Strings = List (List ℕ)
@@ -102,48 +98,13 @@ then-keeps step next k l before given h =
 
 -- ---- a string
 
-abbrev has : Strings → List ℕ → Bool
-has ss s = list_any (λ t. bytes_eq t s) ss
-
--- what is there stays there
-has-more : (ss ts : Strings) (s : List ℕ) → has ss s ≡ true → has (ss ++ ts) s ≡ true
-has-more ss ts s h = rw (list_any-append (λ t. bytes_eq t s) ss ts, h) refl
-
-has-last : (ss : Strings) (s : List ℕ) → has (ss ++ s ∷ []) s ≡ true
-has-last ss s = rw (list_any-append (λ t. bytes_eq t s) ss (s ∷ []), itself s)
-    (or-right (has ss s) true refl)
-
-offset-kept : (ss ts : Strings) (s : List ℕ) → has ss s ≡ true → offset_of (ss ++ ts) s ≡
-    offset_of ss s
-offset-kept [] ts s h = absurd (false≢true h)
-offset-kept (t ∷ ss) ts s h = offset_by (bytes_eq t s) (has ss s) (length t)
-    (offset_of (ss ++ ts) s) (offset_of ss s) h (offset-kept ss ts s)
-
-offset-last : (ss : Strings) (s : List ℕ) → has ss s ≡ false → offset_of (ss ++ s ∷ []) s ≡
-    offset_of ss s
-offset-last [] s none = rw (itself s) refl
-offset-last (t ∷ ss) s none =
-    let parts = or_parts (bytes_eq t s) (has ss s) none in
-    let other : bytes_eq t s ≡ false = parts.0 in
-    rw other (ap (λ m. length t + 1 + m) (offset-last ss s parts.1))
-
--- a string is there once it was used, and has the offset that it was given
-record Placed (ss new : Strings) (s : List ℕ) : Type 0 where
-  more : Front ss new
-  there : has new s ≡ true
-  place : offset_of new s ≡ offset_of ss s
-
-placed-by : (b : Bool) (ss : Strings) (s : List ℕ) → has ss s ≡ b
-    → Placed ss (cond b ss (ss ++ s ∷ [])) s
-placed-by true ss s h = record { more = front-refl ss; there = h; place = refl }
-placed-by false ss s h = record {
-  more = record { rest = s ∷ []; is = refl };
-  there = has-last ss s;
-  place = offset-last ss s h;
-}
-
-placed : (ss : Strings) (s : List ℕ) → Placed ss (with_string ss s) s
-placed ss s = placed-by (has ss s) ss s refl
+-- the strings once one is used begin with those before
+string-front : (ss : Strings) (s : List ℕ) → Front ss (with_string ss s)
+string-front ss s = by (has ss s)
+  where
+    by : (b : Bool) → Front ss (cond b ss (ss ++ s ∷ []))
+    by true = front-refl ss
+    by false = record { rest = s ∷ []; is = refl }
 
 -- the string and its offset are the same over more strings
 string-keeps : (format : Format) (string : List ℕ) → Keeps (λ s.
@@ -152,19 +113,19 @@ string-keeps format string before given h =
     let step : Strings → Result (ℕ × Strings) ErrorValue = λ s.
     fitting_offset format (offset_of s string) >>= λ o. Ok (o, with_string s string) in
     let fit = bind-inv (fitting_offset format (offset_of before string)) _ given h in
-    let used = placed before string in
     let new = with_string before string in
+    let used = there_once_used before string in
     subst (Later step before) (same-ok (fit.0, new) given fit.2) (record {
-      more = used.more;
+      more = string-front before string;
       again = λ later front.
-          let there : has later string ≡ true = subst (λ l. has l string ≡ true) (sym front.is)
-          (has-more new front.rest string used.there) in
+          let there : has later string ≡ true =
+          rw front.is (has_more new front.rest string used.0) in
           let place : offset_of later string ≡ offset_of before string =
-          ap (λ l. offset_of l string) front.is
-          ∙ offset-kept new front.rest string used.there ∙ used.place in
+          rw front.is (offset_kept new front.rest string used.0 ∙ used.1) in
           let same : with_string later string ≡ later = cond-true _ _ _ there in
-          bind-ok (fitting_offset format (offset_of later string)) fit.0 _
-          (ap (fitting_offset format) place ∙ fit.1) ∙ ap (λ l. Ok (fit.0, l)) same;
+          let fits : fitting_offset format (offset_of later string) ≡ Ok fit.0 =
+          rw place fit.1 in
+          rw (fits, same) refl;
     })
 
 -- ---- string offsets
