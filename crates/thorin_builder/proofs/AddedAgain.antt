@@ -1,6 +1,6 @@
 -- What an input adds that adds no unit, however often it is taken.
 use Rattle.std.proofs.Common.{◌≡◌, ◌∙◌, ℕ, Bool, true, false, cond, List, [], ◌∷◌, ◌++◌, refl, sym}
-use Rattle.std.proofs.Common.{ap, subst, inl, inr, true≢false, arith, Result, Ok, Err, Option, Some}
+use Rattle.std.proofs.Common.{ap, inl, inr, true≢false, arith, Result, Ok, Err, Option, Some}
 use Rattle.std.proofs.Common.{None, map}
 use Rattle.std.specs.Prelude.{is_some, IfOk, IfSome, String, string_bytes, string_eq, length}
 use Rattle.thorin_errors.specs.declared.error.Error.{Error}
@@ -15,17 +15,16 @@ use Rattle.std.specs.declared.io.Error.{Error as IoError}
 use Rattle.indexmap.specs.IndexMap.{insert_entry}
 use Rattle.dwp_base.specs.declared.endian.Endianness.{Endianness}
 use Rattle.dwp_base.specs.declared.endian.Endianness.TheVariants.{Little, Big}
-use Rattle.dwp_bytes.specs.declared.encoding.Encoding.{Encoding}
 use Rattle.dwp_elf_read.specs.Elf.{Elf}
 use Rattle.thorin_input.specs.Encodings.{encoding_of, own_encoding, file_encoding, one_encoding}
 use Rattle.thorin_input.specs.Growing.{Contents, with_parts}
 use Rattle.thorin_input.specs.Indexes.{Source, indexes_of}
 use Rattle.thorin_input.specs.NewUnits.{New, new_units}
 use Rattle.thorin_input.specs.Rows.{whole_row}
-use Rattle.thorin_input.specs.Used.{InputFile, opened, has_info, input_file_of}
+use Rattle.thorin_input.specs.Used.{opened, has_info, input_file_of}
 use Rattle.thorin_input.specs.View.{part}
 use Rattle.thorin_join.specs.Builder.{with_input, with_units, with_source_or_new, order_test}
-use Rattle.thorin_join.specs.Builder.{same_order, package_or_new, State, taken, names_in}
+use Rattle.thorin_join.specs.Builder.{same_order, State, taken, names_in}
 use Rattle.thorin_builder.proofs.OwnKept.{taken-as, after-none}
 use Rattle.dwp_table.specs.declared.object.DwarfObject.{DwarfObject}
 use Rattle.dwp_table.specs.declared.object.DwarfObject.TheVariants.{Compilation, TypeUnit}
@@ -46,7 +45,6 @@ use Rattle.thorin_builder.specs.declared.in_progress.InProgressDwarfPackage.{InP
 use Rattle.thorin_builder.proofs.PartsApart.{parts-apart, held-apart}
 use Rattle.thorin_builder.proofs.UnitsLater.{units-later}
 use Rattle.thorin_builder.proofs.StringsLater.{parts-later}
-use Rattle.dwp_base.proofs.Steps.{bind-ok}
 use Rattle.thorin_join.proofs.Parts.Strings.{front-front}
 
 -- ---- packages that another one became
@@ -124,93 +122,32 @@ joined-later bytes (Some made) (Some now) h joins = record {
 
 -- ---- an input with units, step by step
 
-order-same : (a b : Endianness) → a ≡ b → same_order a b ≡ true
-order-same a b h = subst (λ o. same_order a o ≡ true) h (by a)
-  where
-    by : (o : Endianness) → same_order o o ≡ true
-    by Little = refl
-    by Big = refl
+order-same : (o : Endianness) → same_order o o ≡ true
+order-same Little = refl
+order-same Big = refl
 
 order-tested : (order : Endianness) (made : InProgress) → made.file.order ≡ order
     → order_test order (Some made) ≡ Ok tt
 unfolding order_test
-order-tested order made h = rw (order-same made.file.order order h) refl
-
-source-or-new : (file : Elf) (source : Source) (made now : InProgress)
-    → with_source source made ≡ Ok now
-    → with_source_or_new file source (Some made) ≡ Ok (Some now)
-unfolding with_source_or_new
-source-or-new file source made now h = bind-ok (with_source source made) now _ h
-
-units-taken : (file : Elf) (source : Source) (made now : InProgress)
-    → input_file_of file ≡ Ok source.object → encoding_of source.object ≡ Ok source.encoding
-    → made.file.order ≡ source.object.order
-    → indexes_of source.object source.encoding ≡ Ok source.indexes
-    → with_source source made ≡ Ok now
-    → with_units file (Some made) ≡ Ok (Some now)
-unfolding with_units
-units-taken file source made now h e o i s =
-    bind-ok (input_file_of file) source.object _ h ∙ bind-ok (encoding_of source.object)
-    source.encoding _ e ∙ bind-ok (order_test source.object.order (Some made)) tt _
-    (order-tested source.object.order made o) ∙ bind-ok
-    (indexes_of source.object source.encoding) source.indexes _ i ∙ source-or-new file source made
-    now s
-
-input-taken : (bytes : List ℕ) (file : Elf) (begun now : Option InProgress)
-    → opened bytes ≡ Ok file → has_info file ≡ true → with_units file begun ≡ Ok now
-    → with_input bytes begun ≡ Ok now
-unfolding with_input
-input-taken bytes file begun now h k u = bind-ok (opened bytes) file _ h ∙ ap (λ b.
-    cond b (with_units file begun) (Ok (Some (package_or_new file begun)))) k ∙ u
-
-without-units : (bytes : List ℕ) (file : Elf) (made : InProgress)
-    → opened bytes ≡ Ok file → has_info file ≡ false → with_input bytes (Some made) ≡ Ok (Some made)
-unfolding with_input
-without-units bytes file made h k = bind-ok (opened bytes) file _ h ∙ ap (λ b.
-    cond b (with_units file (Some made)) (Ok (Some (package_or_new file (Some made))))) k
-
-own-is : (bytes : List ℕ) (file : Elf) (object : InputFile) (encoding : Encoding)
-    → opened bytes ≡ Ok file → has_info file ≡ true → input_file_of file ≡ Ok object
-    → encoding_of object ≡ Ok encoding
-    → own_encoding bytes ≡ Ok (one_encoding object encoding)
-unfolding own_encoding file_encoding
-own-is bytes file object encoding h k o e = bind-ok (opened bytes) file _ h ∙ ap (λ b.
-    cond b (file_encoding file) (Ok None)) k ∙ bind-ok (input_file_of file) object _ o ∙ bind-ok
-    (encoding_of object) encoding _ e
-
-own-none : (bytes : List ℕ) (file : Elf) → opened bytes ≡ Ok file → has_info file ≡ false
-    → own_encoding bytes ≡ Ok None
-unfolding own_encoding
-own-none bytes file h k = bind-ok (opened bytes) file _ h ∙ ap (λ b.
-    cond b (file_encoding file) (Ok None)) k
+order-tested order made h = rw (h, order-same order) refl
 
 -- ---- an input that adds no unit
-
-no-units-more : (made : InProgress) (parts : Contents) (differing : List ℕ)
-    → with_all made (parts, made.strings) (record { units = []; differing = differing })
-    ≡ with_more parts differing made
-unfolding with_all with_new_units
-no-units-more made parts differing = refl
 
 source-again : (source : Source) (again : Repeated) (made later : InProgress)
     → AddsNoUnit source again made → IsLater made later
     → with_source source later ≡ Ok (with_more (map part again.parts.items)
     (map (λ s. s.0) again.differing.items) later)
+unfolding with_all with_new_units
 source-again source again made later h k =
     let parts = map part again.parts.items in
-    let differing = map (λ s. s.0) again.differing.items in
-    let new : New = record { units = []; differing = differing } in
+    let new : New = record { units = []; differing = map (λ s. s.0) again.differing.items } in
     let units : new_units (adding source later parts) ≡ Ok new =
-    subst (λ held. new_units (record {
-      source = source;
-      whole = whole_row source.encoding later.file.contents parts;
-      held = held;
-    }) ≡ Ok new) (sym k.held) (units-later source (whole_row source.encoding made.file.contents
-    parts) (whole_row source.encoding later.file.contents parts) (held_units made) k.more new
+    rw k.held (units-later source (whole_row source.encoding made.file.contents parts)
+    (whole_row source.encoding later.file.contents parts) (held_units made) k.more new
     h.units refl) in
     with_source-is source later (parts, later.strings) new
     (parts-later source made.strings later.strings (parts, made.strings) h.parts k.strings)
-    h.abbreviations units ∙ ap Ok (no-units-more later parts differing)
+    h.abbreviations units
 
 pub input-again : (bytes : List ℕ) (file : Elf) (source : Source) (made : InProgress)
     (again : Repeated)
@@ -219,11 +156,20 @@ pub input-again : (bytes : List ℕ) (file : Elf) (source : Source) (made : InPr
     → indexes_of source.object source.encoding ≡ Ok source.indexes
     → AddsNoUnit source again made
     → AddsAgain bytes again made
+unfolding own_encoding file_encoding with_input with_units with_source_or_new
 input-again bytes file source made again h k o e order i found = record {
   own = one_encoding source.object source.encoding;
-  own_is = own-is bytes file source.object source.encoding h k o e;
-  adds = λ later after. input-taken bytes file (Some later) _ h k (units-taken file source later _
-      o e (after.order ∙ sym order) i (source-again source again made later found after));
+  own_is = rw (h, k, o, e) refl;
+  adds = λ later after.
+      rw (
+        h,
+        k,
+        o,
+        e,
+        order-tested source.object.order later (after.order ∙ sym order),
+        i,
+        source-again source again made later found after,
+      ) refl;
   stays = λ later. record {
     order = refl;
     strings = take-length later.strings;
@@ -242,12 +188,12 @@ nothing-more made = ap (λ d. record made { differing = d }) (append-nil made.di
 
 pub nothing-again : (bytes : List ℕ) (file : Elf) (made : InProgress)
     → opened bytes ≡ Ok file → has_info file ≡ false → AddsAlone bytes [] [] made
+unfolding own_encoding with_input
 nothing-again bytes file made h k = record {
   own = None;
-  own_is = own-none bytes file h k;
-  adds = λ later after. without-units bytes file later h k ∙ ap (λ p. Ok (Some p))
-      (sym (nothing-more later));
-  stays = λ later. subst (λ p. IsLater later p) (sym (nothing-more later)) (later-refl later);
+  own_is = rw (h, k) refl;
+  adds = λ later after. rw (h, k, nothing-more later) refl;
+  stays = λ later. rw (nothing-more later) (later-refl later);
 }
 
 -- what is known of what was found
@@ -260,21 +206,16 @@ found-again (Err e) P Q f h = tt
 
 -- ---- what is remembered of objects, by their paths
 
-is-taken-later : (offered : Result (List ℕ) IoError → Type 0) (again : Repeated)
-    (begun now : Option InProgress) → IsLaterBegun begun now → IsTaken offered again begun
-    → IsTaken offered again now
-is-taken-later offered again begun now h k = record {
-  bytes = k.bytes;
-  may = k.may;
-  adds = again-later k.bytes again begun now h k.adds;
-}
-
 pub are-taken-later : (offer : List ℕ → Result (List ℕ) IoError → Type 0)
     (es : List (String Global × Repeated)) (begun now : Option InProgress)
     → IsLaterBegun begun now → AreTaken offer es begun → AreTaken offer es now
 are-taken-later offer [] begun now h k = tt
 are-taken-later offer (e ∷ es) begun now h k = (
-  is-taken-later (offer (string_bytes e.0)) e.1 begun now h k.0,
+  record {
+    bytes = k.0.bytes;
+    may = k.0.may;
+    adds = again-later k.0.bytes e.1 begun now h k.0.adds;
+  },
   are-taken-later offer es begun now h k.1,
 )
 
@@ -296,8 +237,7 @@ taken-found offer (e ∷ es) begun path again k h =
     by true same is rest =
         let path_is : path ≡ string_bytes e.0 =
         (bytes_eq-Decides path (string_bytes e.0)).0 same in
-        subst (λ a. IsTaken (offer path) a begun) (same_Some e.1 again is)
-        (subst (λ p. IsTaken (offer p) e.1 begun) (sym path_is) k.0)
+        rw (path_is, ← same_Some e.1 again is) k.0
     by false same is rest = rest is
 
 -- and with one more
@@ -315,8 +255,7 @@ taken-more offer (e ∷ es) begun key again k one =
         → AreTaken offer (cond b ((e.0, again) ∷ es) (e ∷ insert_entry string_eq es key again))
         begun
     by true same rest = (
-      subst (λ p. IsTaken (offer p) again begun)
-          ((bytes_eq-Decides (string_bytes key) (string_bytes e.0)).0 same) one,
+      rw (← (bytes_eq-Decides (string_bytes key) (string_bytes e.0)).0 same) one,
       k.1,
     )
     by false same rest = (k.0, rest)
@@ -326,14 +265,10 @@ pub taken-remembered : (offer : List ℕ → Result (List ℕ) IoError → Type 
     (old new : List (String Global × Repeated)) (begun : Option InProgress) (path bytes : List ℕ)
     → offer path (Ok bytes) → AreTaken offer old begun → Remembers bytes begun path old new
     → AreTaken offer new begun
-taken-remembered offer old new begun path bytes may k (inl same) =
-    subst (λ es. AreTaken offer es begun) (sym same) k
+taken-remembered offer old new begun path bytes may k (inl same) = rw same k
 taken-remembered offer old new begun path bytes may k (inr (key, again, at, adds, is)) =
-    subst (λ es. AreTaken offer es begun) (sym is) (taken-more offer old begun key again k (record {
-      bytes = bytes;
-      may = subst (λ p. offer p (Ok bytes)) (sym at) may;
-      adds = adds;
-    }))
+    rw is (taken-more offer old begun key again k
+    (record { bytes = bytes; may = rw at may; adds = adds }))
 
 -- a target changes nothing of the package
 target-begun : (target : DwarfObject) (state : State)
@@ -354,8 +289,7 @@ pub target-found : (offer : List ℕ → Result (List ℕ) IoError → Type 0)
     → lookup (λ k. bytes_eq path (string_bytes k)) es ≡ Some again
     → IsTaken (offer path) again new.begun
 target-found offer es target old new path again added k h =
-    subst (IsTaken (offer path) again) (target-kept target old new added)
-    (taken-found offer es old.begun path again k h)
+    rw (← target-kept target old new added) (taken-found offer es old.begun path again k h)
 
 -- ---- what is known is added
 
@@ -369,21 +303,18 @@ module _ (bytes : List ℕ) (again : Repeated) (old : State) (made now : InProgr
     (added : now ≡ with_more (map part again.parts.items) (map (λ s. s.0) again.differing.items)
     made) where
   known-of : AddsAgain bytes again made
-  known-of = subst (λ b. AddsAgainTo bytes again b) begun known
+  known-of = rw begun at known
 
   pub input-known : with_input bytes old.begun ≡ Ok (Some now)
-  input-known =
-      ap (with_input bytes) begun ∙ known-of.adds made (later-refl made) ∙ ap (λ p. Ok (Some p))
-      (sym added)
+  input-known = rw (begun, added) (known-of.adds made (later-refl made))
 
   pub taken-known : taken bytes old ≡ Ok (record old { begun = Some now; own = None })
   taken-known =
       let names : length (names_in (Some now)) ≡ length (names_in old.begun) =
-      ap (λ p. length (names_in (Some p))) added ∙ ap (λ b. length (names_in b)) (sym begun) in
+      rw (begun, added) refl in
       taken-as bytes old (Some now) known-of.own None input-known known-of.own_is
       (after-none old (Some now) known-of.own (length (names_in old.begun))
       (length (names_in (Some now))) refl refl (omega (arith, names)))
 
   pub later-known : IsLaterBegun old.begun (Some now)
-  later-known = subst (λ b. IsLaterBegun b (Some now)) (sym begun)
-      (subst (λ p. IsLater made p) (sym added) (known-of.stays made))
+  later-known = rw (begun, added) (known-of.stays made)

@@ -1,6 +1,6 @@
 -- A package that loses nothing of what it had.
-use Rattle.std.proofs.Common.{◌≡◌, ◌∙◌, ℕ, ◌≤◌, true, false, List, ◌++◌, length, take, map, min, ap}
-use Rattle.std.proofs.Common.{sym, refl, arith, Ok, Err, Result, true≢false}
+use Rattle.std.proofs.Common.{◌≡◌, ◌∙◌, ℕ, ◌≤◌, true, false, List, ◌++◌, length, take, map, ap}
+use Rattle.std.proofs.Common.{refl, arith, Ok, Err, Result, true≢false}
 use Rattle.std.specs.Result.{OnOk, OnErr, is_err}
 use Rattle.std.proofs.lemmas.List.{length-take, map-append, take-append-le}
 use Rattle.std.proofs.Math.Seq.{take-length}
@@ -14,13 +14,10 @@ use Rattle.thorin_join.specs.State.{InProgress, Extends, with_source, with_all, 
 use Rattle.thorin_join.specs.State.{abbreviations_test, adding}
 use Rattle.thorin_input.specs.Used.{InputFile}
 use Rattle.thorin_builder.proofs.Grown.{is_grown-refl}
-use Rattle.dwp_base.proofs.Steps.{bind-ok}
 
 -- what stands at the front of a list isn't longer than it
 at_most : {A : Type 0} (a b : List A) → take (length a) b ≡ a → length a ≤ length b
-at_most a b h =
-    let e : length a ≡ min (length a) (length b) = ap length (sym h) ∙ length-take (length a) b in
-    omega arith
+at_most a b h = omega (arith, ap length h, length-take (length a) b)
 
 -- it stays there where more is added behind
 pub front-append : {A : Type 0} (a b x : List A) → take (length a) b ≡ a
@@ -28,11 +25,17 @@ pub front-append : {A : Type 0} (a b x : List A) → take (length a) b ≡ a
 front-append a b x h = take-append-le (length a) b x (at_most a b h) ∙ h
 
 -- the signatures of type units, once more are added
+abbrev signatures_of : List DebugTypeSignature → List ℕ
+signatures_of types = map (λ (s : DebugTypeSignature). s.0) types
+
 pub signatures : (a b n : List DebugTypeSignature) → n ≡ a ++ b
-    → map (λ (s : DebugTypeSignature). s.0)
-    n ≡ map (λ (s : DebugTypeSignature). s.0) a ++ map (λ (s : DebugTypeSignature). s.0) b
-signatures a b n h = ap (map (λ (s : DebugTypeSignature). s.0)) h ∙ map-append
-    (λ (s : DebugTypeSignature). s.0) a b
+    → signatures_of n ≡ signatures_of a ++ signatures_of b
+signatures a b n h = rw h (map-append (λ (s : DebugTypeSignature). s.0) a b)
+
+pub signatures-kept : (a b n : List DebugTypeSignature) → n ≡ a ++ b
+    → take (length (signatures_of a)) (signatures_of n) ≡ signatures_of a
+signatures-kept a b n h =
+    rw (signatures a b n h) (front-append (signatures_of a) (signatures_of a) _ (take-length _))
 
 pub extends-refl : (p : InProgress) → Extends p p
 extends-refl p = record {
@@ -43,23 +46,27 @@ extends-refl p = record {
 }
 
 -- a file that grew, and more strings and signatures
-pub extends-with : (before p : InProgress) (f : File) (strings : List (List ℕ)) (differing : List ℕ)
-    → IsGrown before.file f
-    → take (length before.strings) strings ≡ before.strings → take (length before.differing)
-    differing ≡ before.differing
-    → take (length before.rows) p.rows ≡ before.rows
-    → Extends before (record p { file = f; strings = strings; differing = differing })
-extends-with before p f strings differing hf hs hd hr = record {
-  file = hf;
-  strings = hs;
-  rows = hr;
-  differing = hd;
+pub grown-extends : (p : InProgress) (f : File) (strings : List (List ℕ)) (differing : List ℕ)
+    → ((before : File) → IsGrown before p.file → IsGrown before f)
+    → take (length p.strings) strings ≡ p.strings
+    → take (length p.differing) differing ≡ p.differing
+    → Extends p (record p { file = f; strings = strings; differing = differing })
+grown-extends p f strings differing grown kept more = record {
+  file = grown p.file (is_grown-refl p.file);
+  strings = kept;
+  rows = take-length p.rows;
+  differing = more;
 }
+
+pub strings-extend : (p : InProgress) (strings : List (List ℕ))
+    → take (length p.strings) strings ≡ p.strings → Extends p (record p { strings = strings })
+strings-extend p strings kept =
+    grown-extends p p.file strings p.differing (λ before h. h) kept (take-length p.differing)
 
 abbreviations-there : (object : InputFile) → object.has_abbreviations ≡ true
     → abbreviations_test object ≡ Ok tt
 unfolding abbreviations_test
-abbreviations-there object h = rw h
+abbreviations-there object h = rw h refl
 
 -- the steps of an input
 pub with_source-is : (source : Source) (p : InProgress) (parts : Contents
@@ -69,9 +76,7 @@ pub with_source-is : (source : Source) (p : InProgress) (parts : Contents
     → with_source source p ≡ Ok (with_all p parts new)
 unfolding with_source
 with_source-is source p parts new hp ha hn =
-    bind-ok (parts_of source p.strings) parts _ hp ∙ bind-ok (abbreviations_test source.object) tt _
-    (abbreviations-there source.object ha) ∙ bind-ok (new_units (adding source p parts.0)) new _
-    hn
+    rw (hp, abbreviations-there source.object ha, hn) refl
 
 -- what is added, one after the other
 pub with_all-is : (p : InProgress) (parts : Contents × List (List ℕ)) (new : New) (q r : InProgress)

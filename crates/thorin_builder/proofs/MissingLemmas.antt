@@ -1,40 +1,33 @@
 -- The units that a package lacks, among those that are left.
-use Rattle.std.proofs.Common.{◌≡◌, ◌∙◌, ℕ, zero, suc, ◌+◌, add-one, Bool, true, false, cond, List}
-use Rattle.std.proofs.Common.{[], ◌∷◌, drop, ap, sym, refl, Some, None}
+use Rattle.std.proofs.Common.{◌≡◌, ◌∙◌, ℕ, ◌+◌, Bool, true, false, cond, List, ◌∷◌, drop, length}
+use Rattle.std.proofs.Common.{sym, refl, Some, None, inl, inr, arith}
 use Rattle.std.specs.Prelude.{filter, slice_get}
-use Rattle.std.proofs.lemmas.Option.{none-some, same_Some}
-
-passed : {A : Type 0} (p : A → Bool) (x y : A) (rest : List A) (b : Bool) → y ≡ x → p x ≡ b
-    → cond (p y) (y ∷ rest) rest ≡ cond b (x ∷ rest) rest
-passed p x y rest b same h = (λ i. cond (p (same i)) (same i ∷ rest) rest) ∙ ap (λ c.
-    cond c (x ∷ rest) rest) h
-
-here : {A : Type 0} (p : A → Bool) (xs : List A) (i : ℕ) (x : A) (b : Bool) → slice_get xs i ≡ Some
-    x → p x ≡ b → filter p (drop i xs) ≡ cond b (x ∷ filter p (drop (suc i) xs))
-    (filter p (drop (suc i) xs))
-here p [] i x b h k = absurd (none-some x h)
-here p (y ∷ ys) zero x b h k = passed p x y (filter p ys) b (same_Some y x h) k
-here p (y ∷ ys) (suc i) x b h k = here p ys i x b h k
+use Rattle.std.proofs.lemmas.Bool.{cases_lt}
+use Rattle.std.proofs.lemmas.List.{at_drop_more, at_drop_all}
+use Rattle.std.proofs.lemmas.Option.{get_or_from_slice_get, slice_get_within}
+use Rattle.dwp_base.proofs.Finds.{slice_get_none}
 
 -- the first of those that are left passes, or is passed over
+here : {A : Type 0} (p : A → Bool) (xs : List A) (i : ℕ) (x : A) (b : Bool)
+    → slice_get xs i ≡ Some x → p x ≡ b
+    → filter p (drop i xs) ≡ cond b (x ∷ filter p (drop (i + 1) xs)) (filter p (drop (i + 1) xs))
+here p xs i x b at is =
+    at_drop_more (filter p) xs i x (slice_get_within xs i x at)
+    ∙ rw (get_or_from_slice_get xs i x x at, is) refl
+
 pub first-passes : {A : Type 0} (p : A → Bool) (xs : List A) (i : ℕ) (x : A) → slice_get xs i ≡ Some
     x → p x ≡ true → filter p (drop i xs) ≡ x ∷ filter p (drop (i + 1) xs)
-first-passes p xs i x h k = here p xs i x true h k ∙ ap (λ n. x ∷ filter p (drop n xs))
-    (sym (add-one i))
+first-passes p xs i x at is = here p xs i x true at is
 
 pub first-fails : {A : Type 0} (p : A → Bool) (xs : List A) (i : ℕ) (x : A) → slice_get xs i ≡ Some
     x → p x ≡ false → filter p (drop (i + 1) xs) ≡ filter p (drop i xs)
-first-fails p xs i x h k = ap (λ n. filter p (drop n xs)) (add-one i) ∙ sym
-    (here p xs i x false h k)
-
-past : {A : Type 0} (p : A → Bool) (xs : List A) (i : ℕ) → slice_get xs i ≡ None
-    → filter p (drop (suc i) xs) ≡ filter p (drop i xs)
-past p [] zero h = refl
-past p [] (suc i) h = refl
-past p (y ∷ ys) zero h = absurd (none-some y (sym h))
-past p (y ∷ ys) (suc i) h = past p ys i h
+first-fails p xs i x at is = sym (here p xs i x false at is)
 
 -- none is left behind the last
 pub none-left : {A : Type 0} (p : A → Bool) (xs : List A) (i : ℕ) → slice_get xs i ≡ None
     → filter p (drop (i + 1) xs) ≡ filter p (drop i xs)
-none-left p xs i h = ap (λ n. filter p (drop n xs)) (add-one i) ∙ past p xs i h
+none-left p xs i at = elim (cases_lt i (length xs)) [
+  | inl less ↦ absurd (slice_get_none xs i less at)
+  | inr past ↦ at_drop_all (filter p) xs (i + 1) (omega arith)
+      ∙ sym (at_drop_all (filter p) xs i past)
+]

@@ -1,5 +1,5 @@
 -- The names of units: what `==` says of them.
-use Rattle.std.proofs.Common.{◌≡◌, ◌∙◌, Bool, true, false, cond, List, ◌∷◌, refl, ap, Some}
+use Rattle.std.proofs.Common.{◌≡◌, Bool, true, false, List, ◌∷◌, refl, ap, Some}
 use Rattle.std.specs.Prelude.{find}
 use Rattle.std.specs.List.{list_any}
 use Rattle.dwp_table.specs.declared.object.DwarfObject.{DwarfObject}
@@ -22,15 +22,11 @@ pub among-is : (a : DwarfObject) (names : List DwarfObject) → list_any (derive
     ≡ list_any (same_name a) names
 among-is a names = ap (λ f. list_any f names) (same_name-is a)
 
-find-here : (test : DwarfObject → Bool) (x : DwarfObject) (xs : List DwarfObject) (b : Bool)
-    → test x ≡ b → find test (x ∷ xs) ≡ cond b (Some x) (find test xs)
-find-here test x xs b h = ap (λ e. cond e (Some x) (find test xs)) h
-
 -- the first that passes is found, and one that doesn't is passed over
 pub find-first : (test : DwarfObject → Bool) (x : DwarfObject) (xs all : List DwarfObject)
     → all ≡ x ∷ xs → test x ≡ true → find test all ≡ Some x
-find-first test x xs all h t = ap (find test) h ∙ find-here test x xs true t
+find-first test x xs all h t = rw (h, t) refl
 
 pub find-next : (test : DwarfObject → Bool) (x : DwarfObject) (xs all : List DwarfObject)
     → all ≡ x ∷ xs → test x ≡ false → find test all ≡ find test xs
-find-next test x xs all h t = ap (find test) h ∙ find-here test x xs false t
+find-next test x xs all h t = rw (h, t) refl

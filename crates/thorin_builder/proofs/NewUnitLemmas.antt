@@ -1,9 +1,9 @@
 -- The units that an input adds: what is kept for the name of one, and one that is added last.
 use Rattle.std.proofs.Common.{◌≡◌, ◌∙◌, ℕ, suc, ◌<◌, Bool, true, false, cond, List, Option, Some}
-use Rattle.std.proofs.Common.{None, ap, sym, refl, map, take, length, get_or, [], ◌∷◌, ◌++◌, arith}
-use Rattle.std.proofs.lemmas.List.{get_or-take, map-append}
+use Rattle.std.proofs.Common.{None, ap, sym, refl, map, ◌⊎◌, inl, inr, take, length, get_or, [], ◌∷◌, ◌++◌, arith}
+use Rattle.std.proofs.lemmas.List.{get_or-take, map_push}
 use Rattle.std.proofs.lemmas.List.Elements.{All-push}
-use Rattle.std.proofs.lemmas.Option.{none-some, same_Some, get_or_from_slice_get, slice_get_within}
+use Rattle.std.proofs.lemmas.Option.{same_Some, get_or_from_slice_get, slice_get_within}
 use Rattle.std.specs.Prelude.{All, slice_get}
 use Rattle.std.specs.Map.{lookup}
 use Rattle.dwp_table.specs.declared.object.DwarfObject.{DwarfObject}
@@ -22,58 +22,51 @@ with_rows rows units =
     map {B = DwarfObject × NewUnit} (λ (e : DwarfObject × CodeUnit).
     (e.0, new_unit rows e.0 e.1)) units
 
+-- a unit is found by its name among those with rows where it is found without, or is in neither
+abbrev IsFound : List IndexEntry → Option CodeUnit → Option NewUnit → Type 0
+IsFound rows unit found =
+    ((name : DwarfObject) × (u : CodeUnit) × (unit ≡ Some u) × (found ≡ Some (new_unit rows name u)))
+    ⊎ ((unit ≡ None) × (found ≡ None))
+
+looked_up : (test : DwarfObject → Bool) (rows : List IndexEntry)
+    (units : List (DwarfObject × CodeUnit))
+    → IsFound rows (lookup test units) (lookup test (with_rows rows units))
+looked_up test rows [] = inr (refl, refl)
+looked_up test rows (e ∷ es) = by (test e.0) (looked_up test rows es)
+  where
+    by : (b : Bool) → IsFound rows (lookup test es) (lookup test (with_rows rows es))
+        → IsFound rows (cond b (Some e.1) (lookup test es))
+        (cond b (Some (new_unit rows e.0 e.1)) (lookup test (with_rows rows es)))
+    by true rest = inl (e.0, e.1, refl, refl)
+    by false rest = rest
+
 -- a unit that is found by its name has its bytes
 pub added_bytes : (test : DwarfObject → Bool) (rows : List IndexEntry)
     (units : List (DwarfObject × CodeUnit)) (unit : CodeUnit) (held : Option (List ℕ))
     → lookup test units ≡ Some unit
     → or_held (lookup test (with_rows rows units)) held ≡ Some unit.bytes.now
-added_bytes test rows [] unit held h = absurd (none-some unit h)
-added_bytes test rows (e ∷ es) unit held h = by (test e.0) h (added_bytes test rows es unit held)
-  where
-    by : (b : Bool) → cond b (Some e.1) (lookup test es) ≡ Some unit
-        → (lookup test es ≡ Some unit
-        → or_held (lookup test (with_rows rows es)) held ≡ Some unit.bytes.now)
-        → or_held (cond b (Some (new_unit rows e.0 e.1)) (lookup test (with_rows rows es))) held
-        ≡ Some unit.bytes.now
-    by true h rest = ap (λ (u : CodeUnit). Some u.bytes.now) (same_Some e.1 unit h)
-    by false h rest = rest h
+added_bytes test rows units unit held h = elim (looked_up test rows units) [
+  | inl w ↦ rw w.3 (ap (λ (u : CodeUnit). Some u.bytes.now) (same_Some _ _ (sym w.2 ∙ h)))
+  | inr none ↦ absurd cc
+]
 
 -- one that isn't isn't
 pub none_added : (test : DwarfObject → Bool) (rows : List IndexEntry)
     (units : List (DwarfObject × CodeUnit)) → lookup test units ≡ None
     → lookup test (with_rows rows units) ≡ None
-none_added test rows [] h = refl
-none_added test rows (e ∷ es) h = by (test e.0) h (none_added test rows es)
-  where
-    by : (b : Bool) → cond b (Some e.1) (lookup test es) ≡ None
-        → (lookup test es ≡ None → lookup test (with_rows rows es) ≡ None)
-        → cond b (Some (new_unit rows e.0 e.1)) (lookup test (with_rows rows es)) ≡ None
-    by true h rest = absurd (none-some e.1 (sym h))
-    by false h rest = rest h
-
-none_there : (test : DwarfObject → Bool) (rows : List IndexEntry)
-    (units : List (DwarfObject × CodeUnit)) → lookup test (with_rows rows units) ≡ None
-    → lookup test units ≡ None
-none_there test rows [] h = refl
-none_there test rows (e ∷ es) h = by (test e.0) h (none_there test rows es)
-  where
-    by : (b : Bool)
-        → cond b (Some (new_unit rows e.0 e.1)) (lookup test (with_rows rows es)) ≡ None
-        → (lookup test (with_rows rows es) ≡ None → lookup test es ≡ None)
-        → cond b (Some e.1) (lookup test es) ≡ None
-    by true h rest = absurd (none-some (new_unit rows e.0 e.1) (sym h))
-    by false h rest = rest h
-
-or_held-none : (a : Option NewUnit) (b : Option (List ℕ)) → or_held a b ≡ None → a ≡ None
-or_held-none None b h = refl
-or_held-none (Some u) b h = absurd (none-some _ (sym h))
+none_added test rows units h = elim (looked_up test rows units) [
+  | inl w ↦ absurd cc
+  | inr none ↦ none.1
+]
 
 -- nothing is kept for a name that isn't among the units that are added
 pub not_added : (held : List (DwarfObject × List ℕ)) (rows : List IndexEntry)
     (units : List (DwarfObject × CodeUnit)) (name : DwarfObject)
     → kept_bytes held (with_rows rows units) name ≡ None → lookup (same_name name) units ≡ None
-not_added held rows units name h =
-    none_there (same_name name) rows units (or_held-none _ _ h)
+not_added held rows units name h = elim (looked_up (same_name name) rows units) [
+  | inl w ↦ let bytes = rw w.3 at h in absurd cc
+  | inr none ↦ none.0
+]
 
 -- the number of each unit is one of the rows
 abbrev pub AreNumbered : List IndexEntry → List (DwarfObject × CodeUnit) → Type 0
@@ -83,9 +76,7 @@ AreNumbered rows units = All (λ (e : DwarfObject × CodeUnit). e.1.row < length
 pub numbered_still : (rows more : List IndexEntry) (units : List (DwarfObject × CodeUnit))
     → take (length rows) more ≡ rows → AreNumbered rows units → AreNumbered more units
 numbered_still rows more units h numbered k d less =
-    let a = at_least rows more h in
-    let b = numbered k d less in
-    omega arith
+    omega (arith, at_least rows more h, numbered k d less)
 
 pub with_more_rows : (rows more : List IndexEntry) → take (length rows) more ≡ rows
     → (units : List (DwarfObject × CodeUnit)) → AreNumbered rows units
@@ -117,14 +108,13 @@ pub added_last : (rows more : List IndexEntry) (before now : List (DwarfObject �
       record { place = e.1.place; bytes = e.1.bytes.now; row = row },
     ) ∷ []
 added_last rows more before now e nameless row h numbered there named is =
-    let found : get_or more e.1.row blank ≡ nameless =
-    get_or_from_slice_get more e.1.row nameless blank there in
-    let last : record (get_or more e.1.row blank) { id = e.0 } ≡ row =
-    ap (λ (r : IndexEntry). record r { id = e.0 }) found ∙ named in
-    ap (with_rows more) is
-    ∙ map-append {B = DwarfObject × NewUnit} (λ (d : DwarfObject × CodeUnit).
-    (d.0, new_unit more d.0 d.1)) before (e ∷ [])
-    ∙ rw (with_more_rows rows more h before numbered, last) refl
+    rw is (map_push {Y = DwarfObject × NewUnit} (λ (d : DwarfObject × CodeUnit).
+    (d.0, new_unit more d.0 d.1)) before e
+    ∙ rw (
+      with_more_rows rows more h before numbered,
+      get_or_from_slice_get more e.1.row nameless blank there,
+      named,
+    ) refl)
 
 -- a row that was left without its name, with it again
 pub named_again : (row : IndexEntry) (name other : DwarfObject) → row.id ≡ name

@@ -1,5 +1,5 @@
 -- The one encoding that a builder holds, as a step with an input leaves it.
-use Rattle.std.proofs.Common.{◌≡◌, ◌∙◌, ℕ, ◌<◌, ◌≤◌, true, false, cond, List, length, refl, sym, ap}
+use Rattle.std.proofs.Common.{◌≡◌, ◌∙◌, ℕ, ◌<◌, ◌≤◌, true, false, List, length, refl, sym}
 use Rattle.std.proofs.Common.{Ok, Option, Some, None, arith, true≢false}
 use Rattle.std.specs.Prelude.{is_some, is_none}
 use Rattle.std.proofs.lemmas.Bool.{le-ltb, lt-ltb}
@@ -8,7 +8,6 @@ use Rattle.thorin_input.specs.Encodings.{own_encoding, common}
 use Rattle.thorin_join.specs.Builder.{State, taken, with_input, with_own, own_after, names_in}
 use Rattle.thorin_again.specs.OwnUnits.{HoldsOwn, HasOneEncoding}
 use Rattle.thorin_join.specs.State.{InProgress}
-use Rattle.dwp_base.proofs.Steps.{bind-ok}
 
 -- a builder whose inputs have one encoding
 pub one-of : (state : State) → HoldsOwn state → is_some state.own ≡ true → HasOneEncoding state
@@ -31,23 +30,20 @@ pub taken-as : (bytes : List ℕ) (old : State) (now : Option InProgress)
     → with_input bytes old.begun ≡ Ok now → own_encoding bytes ≡ Ok found → own_after old now found
     ≡ own → taken bytes old ≡ Ok (record old { begun = now; own = own })
 unfolding taken
-taken-as bytes old now found own h k e = bind-ok _ now _ h ∙ bind-ok _ found _ k ∙ ap (λ o.
-    Ok (record old { begun = now; own = o })) e
+taken-as bytes old now found own h k e = rw (h, k, e) refl
 
 -- no unit was added
 pub after-none : (old : State) (now : Option InProgress) (found : Option Encoding)
     (before after : ℕ) → before ≡ length (names_in old.begun) → after ≡ length (names_in now)
     → after ≤ before → own_after old now found ≡ None
 after-none old now found before after b a h =
-    ap (λ v. cond {A = Option Encoding} v (with_own old.begun old.own found) None)
-    (le-ltb (length (names_in old.begun)) (length (names_in now)) (omega (arith, b, a, h)))
+    rw (le-ltb (length (names_in old.begun)) (length (names_in now)) (omega (arith, b, a, h))) refl
 
 more-than : (old : State) (now : Option InProgress) (found : Option Encoding) (before after : ℕ)
     → before ≡ length (names_in old.begun) → after ≡ length (names_in now)
     → before < after → own_after old now found ≡ with_own old.begun old.own found
 more-than old now found before after b a h =
-    ap (λ v. cond {A = Option Encoding} v (with_own old.begun old.own found) None)
-    (lt-ltb (length (names_in old.begun)) (length (names_in now)) (omega (arith, b, a, h)))
+    rw (lt-ltb (length (names_in old.begun)) (length (names_in now)) (omega (arith, b, a, h))) refl
 
 -- by the first input, or by a later one
 pub after-first : (old : State) (now : Option InProgress) (found : Option Encoding)

@@ -1,6 +1,7 @@
 -- The units that an executable refers to, one after the other.
-use Rattle.std.proofs.Common.{◌≡◌, ◌≢◌, ◌∙◌, ℕ, List, [], ◌∷◌, ◌++◌, refl, sym, ap, subst, arith}
-use Rattle.std.proofs.Common.{false, Option, Some, None, Result, Ok, Err, length, take}
+use Rattle.std.proofs.Common.{◌≡◌, ◌≢◌, ◌∙◌, ℕ, List, [], ◌∷◌, ◌++◌, refl, sym, ap, arith}
+use Rattle.std.proofs.Common.{false, inl, inr, Option, Some, None, Result, Ok, Err, length, take}
+use Rattle.std.proofs.Math.Seq.{take-append_seam}
 use Rattle.std.proofs.lemmas.List.{append_assoc, append-nil, take_all}
 use Rattle.std.specs.declared.io.Error.{Error as IoError}
 use Rattle.dwp_table.specs.declared.object.DwarfObject.{DwarfObject}
@@ -8,10 +9,8 @@ use Rattle.dwp_table.specs.declared.object.DwoId.{DwoId}
 use Rattle.dwp_table.specs.declared.object.DwarfObject.TheVariants.{Compilation}
 use Rattle.thorin_errors.specs.Errors.{ErrorValue, error_of, Memory}
 use Rattle.thorin_errors.specs.declared.error.Error.{Error}
-use Rattle.thorin_errors.specs.declared.error.Error.TheVariants as error
 use Rattle.thorin_errors.specs.declared.error.InputError.TheVariants as input_error
 use Rattle.thorin_errors.specs.declared.error.MissingReferencedObjectBehaviour.{MissingReferencedObjectBehaviour}
-use Rattle.thorin_errors.specs.declared.error.MissingReferencedObjectBehaviour.TheVariants as behaviour
 use Rattle.thorin_errors.specs.Answers.{MemoryAside}
 use Rattle.thorin_executable.specs.Skeletons.{Listed}
 use Rattle.std.specs.List.{list_any}
@@ -20,20 +19,15 @@ use Rattle.thorin_join.specs.Meaning.{keys}
 use Rattle.thorin_input.specs.Names.{same_name, with_name}
 use Rattle.thorin_join.specs.State.{InProgress}
 use Rattle.thorin_join.specs.Represents.{units_in, units_begun}
-use Rattle.thorin_builder.specs.Taking.{Outcome, with_target, PassesOver, TakesSkeleton, is_there}
+use Rattle.thorin_builder.specs.Taking.{Outcome, with_target, TakesSkeleton, is_there}
 use Rattle.thorin_builder.specs.Taking.{EndsWith, Step, TakesSkeletons, TakesNamed, TakesAbsent}
-use Rattle.thorin_builder.specs.Taking.{CanBePassedOver}
+use Rattle.thorin_builder.specs.Taking.{CanBePassedOver, TakesReferredFile}
 use Rattle.thorin_join.proofs.Units.InRows.{keys-units}
 
 abbrev pub Offer : Type 1
 Offer = List ℕ → Result (List ℕ) IoError → Type 0
 
 -- ---- the units that an executable refers to, up to one
-
--- the first of a list, and those behind it
-front-is : (done rest : List (DwarfObject × List ℕ)) → take (length done) (done ++ rest) ≡ done
-front-is [] rest = refl
-front-is (d ∷ ds) rest = ap (λ l. d ∷ l) (front-is ds rest)
 
 module _ (offer : Offer) (missing : MissingReferencedObjectBehaviour) where
   -- each of these was taken
@@ -67,8 +61,7 @@ module _ (offer : Offer) (missing : MissingReferencedObjectBehaviour) where
       → TakesSkeletons offer missing rest error middle outcome new here
       → TakesSkeletons offer missing (done ++ rest) error old outcome new (before ++ here)
   taken-then [] rest error old middle new outcome before here all took =
-      subst (λ a. TakesSkeletons offer missing rest error old outcome new a)
-      (sym (ap (λ l. l ++ here) all.1)) (rw (sym all.0) took)
+      rw (all.1, ← all.0) took
   taken-then (d ∷ ds) rest error old middle new outcome before here all took = (
     record { middle = all.0.middle; here = all.0.here; later = all.0.later ++ here },
     Ok tt,
@@ -139,12 +132,9 @@ module _ (offer : Offer) (missing : MissingReferencedObjectBehaviour) where
       error = error;
       are = λ other. sym is ∙ ap (λ (l : Listed). (done ++ l.0, l.1)) (end other) ∙ ap
           (λ (l : List (DwarfObject × List ℕ)). (l, error)) (append-nil done);
-      front = ap (λ (l : Listed). take (length done) l.0) (sym is) ∙ front-is done left.0;
-      taken = subst (λ l. TakesSkeletons offer missing l error old outcome new before)
-          (append-nil done)
-          (subst (λ a. TakesSkeletons offer missing (done ++ []) error old outcome new a)
-          (append-nil before)
-          (taken-then done [] error old new new outcome before [] taken (ends, refl, refl)));
+      front = ap (λ (l : Listed). take (length done) l.0) (sym is) ∙ take-append_seam done left.0;
+      taken = rw (← append-nil done, ← append-nil before)
+          (taken-then done [] error old new new outcome before [] taken (ends, refl, refl));
     },
   )
 
@@ -161,15 +151,15 @@ module _ (offer : Offer) (missing : MissingReferencedObjectBehaviour) where
       ended all left (Some (error_of e)) old new (Err e) so_far
       (λ other. is (λ m. other (ap (λ f. Some (error_of f)) m))) refl
 
--- a failed read that is passed over, or isn't
-pub passed-over : (missing : MissingReferencedObjectBehaviour) (cause : IoError) (outcome : Outcome)
-    → missing ≡ behaviour.Skip → outcome ≡ Ok tt → PassesOver missing cause outcome
-passed-over missing cause outcome h k = subst (λ m. PassesOver m cause outcome) (sym h) k
-
-pub not-passed-over : (missing : MissingReferencedObjectBehaviour) (cause : IoError)
-    (outcome : Outcome) → missing ≡ behaviour.Error → outcome ≡ Err (error.ReadInput cause)
-    → PassesOver missing cause outcome
-not-passed-over missing cause outcome h k = subst (λ m. PassesOver m cause outcome) (sym h) k
+-- what came of a unit that isn't there, once it was among the targets
+pub absent-taken : (offer : Offer) (missing : MissingReferencedObjectBehaviour)
+    (named : DwarfObject × List ℕ) (old middle new : State) (outcome : Outcome)
+    → is_there named.0 old ≡ false → middle ≡ with_target named.0 old
+    → TakesReferredFile (offer named.1) missing middle outcome new
+    → (accepted : List (List ℕ)) × TakesSkeleton offer missing named old outcome new accepted
+absent-taken offer missing named old middle new outcome absent target file =
+    let moved = rw target at file in
+    (moved.accepted, inr (inl (record { absent = absent; file = moved; accepted_is = refl })))
 
 -- an object that couldn't be read at a path, and is passed over, is passed over again
 pub unread-again : (offer : Offer) (missing : MissingReferencedObjectBehaviour)
@@ -182,7 +172,7 @@ unread-again offer missing named old new absent target can = record {
     read = Err (input_error.Io can.cause);
     within = can.fails;
     accepted = [];
-    taken = (passed-over missing can.cause (Ok tt) can.skips refl, target, refl);
+    taken = (rw can.skips refl, target, refl);
   };
   accepted_is = refl;
 }
@@ -190,15 +180,11 @@ unread-again offer missing named old new absent target can = record {
 -- a compilation unit's name among the targets, and whether it is there
 pub target-is : (target : DwarfObject) (id : DwoId) (state : State) → target ≡ Compilation id
     → with_target target state ≡ record state { targets = with_name state.targets target }
-target-is target id state h = subst (λ t. with_target t state ≡ record state {
-  targets =
-      with_name state.targets t;
-}) (sym h) refl
+target-is target id state h = rw h refl
 
 pub there-is : (target : DwarfObject) (id : DwoId) (state : State) → target ≡ Compilation id
     → is_there target state ≡ list_any (same_name target) (names_in state.begun)
-there-is target id state h = subst (λ t. is_there t state ≡ list_any (same_name t)
-    (names_in state.begun)) (sym h) refl
+there-is target id state h = rw h refl
 
 -- the names of a builder's units
 pub names-begun : (state : State) → keys (units_in state) ≡ names_in state.begun

@@ -1,25 +1,22 @@
 -- The parts of an input are the same over more strings behind those that it left.
 use Rattle.std.proofs.Common.{◌≡◌, ◌∙◌, ℕ, zero, suc, ◌+◌, ◌*◌, Bool, true, false, not, cond, ltb}
-use Rattle.std.proofs.Common.{eqb, ◌&&◌, List, [], ◌∷◌, ◌++◌, length, take, drop, slice_range}
+use Rattle.std.proofs.Common.{eqb, ◌&&◌, List, [], ◌∷◌, ◌++◌, length, take, drop}
 use Rattle.std.proofs.Common.{Option, Result, Ok, Err, ap, sym, subst, refl, append_assoc}
-use Rattle.std.specs.List.{list_any}
-use Rattle.std.specs.Str.{bytes_eq}
-use Rattle.std.proofs.lemmas.Bool.{false≢true, or_parts, cond-true}
+use Rattle.std.proofs.lemmas.Bool.{cond-true}
 use Rattle.std.proofs.lemmas.List.{append-nil, take-append-drop}
 use Rattle.dwp_base.specs.declared.endian.Endianness.{Endianness}
 use Rattle.dwp_base.specs.declared.section.Contribution.{Contribution}
-use Rattle.dwp_base.specs.declared.section.SectionKind.TheVariants.{Str, StrOffsets}
+use Rattle.dwp_base.specs.declared.section.SectionKind.TheVariants.{StrOffsets}
 use Rattle.dwp_base.specs.Reading.{◌>>=◌}
-use Rattle.dwp_base.specs.Sections.{name_of, same_kind}
+use Rattle.dwp_base.specs.Sections.{same_kind}
 use Rattle.dwp_bytes.specs.declared.encoding.Encoding.{Encoding}
 use Rattle.dwp_bytes.specs.declared.encoding.Format.{Format}
 use Rattle.dwp_bytes.specs.Encoding.{offset_size}
 use Rattle.dwp_bytes.specs.StringOffsets.{header_size, entry_count}
 use Rattle.dwp_index.specs.Index.{Index}
-use Rattle.thorin_errors.specs.Errors.{ErrorValue, BadStringOffsets, MissingRequiredSection}
-use Rattle.thorin_errors.specs.Errors.{RepeatedSection, SectionOutsideFormat}
+use Rattle.thorin_errors.specs.Errors.{ErrorValue, BadStringOffsets}
 use Rattle.thorin_strings.specs.Strings.{offset_of, with_string}
-use Rattle.thorin_strings.specs.StringOffsets.{header_of, named_at, fitting_offset, entry_bytes}
+use Rattle.thorin_strings.specs.StringOffsets.{header_of, named_at, fitting_offset}
 use Rattle.thorin_strings.specs.StringOffsets.{remapped_entry, remapped_entries, remapped}
 use Rattle.thorin_packaged.specs.PackagedOffsets.{offset_ranges, ranges_test, rewritten_from}
 use Rattle.thorin_packaged.specs.PackagedOffsets.{packaged_offsets}
@@ -29,10 +26,9 @@ use Rattle.thorin_input.specs.Format.{is_in_format, is_copied}
 use Rattle.thorin_input.specs.InputStrings.{rewritten}
 use Rattle.thorin_input.specs.Parts.{has_part, stands_once, with_offsets, with_part, with_each_part}
 use Rattle.thorin_input.specs.Parts.{parts_of}
-use Rattle.thorin_input.specs.Used.{Used, first}
+use Rattle.thorin_input.specs.Used.{Used}
 use Rattle.dwp_base.proofs.Steps.{bind-ok, bind-was as bind-inv, same-ok}
-use Rattle.dwp_base.proofs.Bools.{or-right}
-use Rattle.thorin_strings.proofs.Named.{offset_by, has_by, itself}
+use Rattle.thorin_strings.proofs.Named.{has, has_more, offset_kept, there_once_used}
 
 abbrev Strings : Type 0
 Strings = List (List ℕ)
@@ -102,49 +98,13 @@ then-keeps step next k l before given h =
 
 -- ---- a string
 
-abbrev has : Strings → List ℕ → Bool
-has ss s = list_any (λ t. bytes_eq t s) ss
-
--- what is there stays there
-has-more : (ss ts : Strings) (s : List ℕ) → has ss s ≡ true → has (ss ++ ts) s ≡ true
-has-more [] ts s h = absurd (false≢true h)
-has-more (t ∷ ss) ts s h = has_by (bytes_eq t s) (has ss s) (has (ss ++ ts) s) h (has-more ss ts s)
-
-has-last : (ss : Strings) (s : List ℕ) → has (ss ++ s ∷ []) s ≡ true
-has-last [] s = rw (itself s) refl
-has-last (t ∷ ss) s = or-right (bytes_eq t s) (has (ss ++ s ∷ []) s) (has-last ss s)
-
-offset-kept : (ss ts : Strings) (s : List ℕ) → has ss s ≡ true → offset_of (ss ++ ts) s ≡
-    offset_of ss s
-offset-kept [] ts s h = absurd (false≢true h)
-offset-kept (t ∷ ss) ts s h = offset_by (bytes_eq t s) (has ss s) (length t)
-    (offset_of (ss ++ ts) s) (offset_of ss s) h (offset-kept ss ts s)
-
-offset-last : (ss : Strings) (s : List ℕ) → has ss s ≡ false → offset_of (ss ++ s ∷ []) s ≡
-    offset_of ss s
-offset-last [] s none = rw (itself s) refl
-offset-last (t ∷ ss) s none =
-    let parts = or_parts (bytes_eq t s) (has ss s) none in
-    let other : bytes_eq t s ≡ false = parts.0 in
-    rw other (ap (λ m. length t + 1 + m) (offset-last ss s parts.1))
-
--- a string is there once it was used, and has the offset that it was given
-record Placed (ss new : Strings) (s : List ℕ) : Type 0 where
-  more : Front ss new
-  there : has new s ≡ true
-  place : offset_of new s ≡ offset_of ss s
-
-placed-by : (b : Bool) (ss : Strings) (s : List ℕ) → has ss s ≡ b
-    → Placed ss (cond b ss (ss ++ s ∷ [])) s
-placed-by true ss s h = record { more = front-refl ss; there = h; place = refl }
-placed-by false ss s h = record {
-  more = record { rest = s ∷ []; is = refl };
-  there = has-last ss s;
-  place = offset-last ss s h;
-}
-
-placed : (ss : Strings) (s : List ℕ) → Placed ss (with_string ss s) s
-placed ss s = placed-by (has ss s) ss s refl
+-- the strings once one is used begin with those before
+string-front : (ss : Strings) (s : List ℕ) → Front ss (with_string ss s)
+string-front ss s = by (has ss s)
+  where
+    by : (b : Bool) → Front ss (cond b ss (ss ++ s ∷ []))
+    by true = front-refl ss
+    by false = record { rest = s ∷ []; is = refl }
 
 -- the string and its offset are the same over more strings
 string-keeps : (format : Format) (string : List ℕ) → Keeps (λ s.
@@ -153,19 +113,19 @@ string-keeps format string before given h =
     let step : Strings → Result (ℕ × Strings) ErrorValue = λ s.
     fitting_offset format (offset_of s string) >>= λ o. Ok (o, with_string s string) in
     let fit = bind-inv (fitting_offset format (offset_of before string)) _ given h in
-    let used = placed before string in
     let new = with_string before string in
+    let used = there_once_used before string in
     subst (Later step before) (same-ok (fit.0, new) given fit.2) (record {
-      more = used.more;
+      more = string-front before string;
       again = λ later front.
-          let there : has later string ≡ true = subst (λ l. has l string ≡ true) (sym front.is)
-          (has-more new front.rest string used.there) in
+          let there : has later string ≡ true =
+          rw front.is (has_more new front.rest string used.0) in
           let place : offset_of later string ≡ offset_of before string =
-          ap (λ l. offset_of l string) front.is
-          ∙ offset-kept new front.rest string used.there ∙ used.place in
+          rw front.is (offset_kept new front.rest string used.0 ∙ used.1) in
           let same : with_string later string ≡ later = cond-true _ _ _ there in
-          bind-ok (fitting_offset format (offset_of later string)) fit.0 _
-          (ap (fitting_offset format) place ∙ fit.1) ∙ ap (λ l. Ok (fit.0, l)) same;
+          let fits : fitting_offset format (offset_of later string) ≡ Ok fit.0 =
+          rw place fit.1 in
+          rw (fits, same) refl;
     })
 
 -- ---- string offsets
@@ -174,57 +134,38 @@ module _ (order : Endianness) (encoding : Encoding) (section : List ℕ) where
   entry-keeps : (bytes : List ℕ) (index : ℕ)
       → Keeps (remapped_entry order encoding section bytes index)
   unfolding remapped_entry
-  entry-keeps bytes index = alone-keeps (named_at order encoding section bytes index)
-      (λ string s. fitting_offset encoding.format (offset_of s string) >>= λ o.
-      Ok (o, with_string s string)) (string-keeps encoding.format)
+  entry-keeps bytes index = alone-keeps (named_at order encoding section bytes index) _
+      (string-keeps encoding.format)
 
   entries-keep : (bytes : List ℕ) (n : ℕ)
       → Keeps (remapped_entries order encoding section bytes n)
   unfolding remapped_entries
   entries-keep bytes zero = ok-keeps []
-  entries-keep bytes (suc n) = then-keeps (remapped_entries order encoding section bytes n)
-      (λ front s. remapped_entry order encoding section bytes n s >>= λ entry.
-      Ok (front ++ entry.0 ∷ [], entry.1)) (entries-keep bytes n) (λ front.
-      then-keeps (remapped_entry order encoding section bytes n)
-      (λ o s. Ok (front ++ o ∷ [], s)) (entry-keeps bytes n) (λ o. ok-keeps (front ++ o ∷ [])))
+  entries-keep bytes (suc n) = then-keeps _ _ (entries-keep bytes n) (λ front.
+      then-keeps _ _ (entry-keeps bytes n) (λ offset. ok-keeps _))
 
   remapped-keeps : (bytes : List ℕ) (size : ℕ) → Keeps (remapped order encoding section bytes size)
   unfolding remapped
   remapped-keeps bytes size =
-      let header = header_of order encoding (entry_count encoding size
-      * offset_size encoding.format) in
-      let entries = remapped_entries order encoding section bytes (entry_count encoding size) in
-      let written : List ℕ → List ℕ → List ℕ = λ front offsets.
-      front ++ entry_bytes order encoding.format offsets in
-      cond-keeps (eqb size 0) (λ s. Ok ([], s)) _ (ok-keeps [])
-      (cond-keeps (ltb size (header_size encoding)) (λ s. Err (BadStringOffsets 0)) _
-      (err-keeps (BadStringOffsets 0))
-      (alone-keeps header (λ front s. entries s >>= λ e. Ok (written front e.0, e.1))
-      (λ front. then-keeps entries (λ offsets s. Ok (written front offsets, s))
-      (entries-keep bytes (entry_count encoding size))
-      (λ offsets. ok-keeps (written front offsets)))))
+      cond-keeps (eqb size 0) _ _ (ok-keeps [])
+      (cond-keeps (ltb size (header_size encoding)) _ _ (err-keeps (BadStringOffsets 0))
+      (alone-keeps (header_of order encoding (entry_count encoding size
+      * offset_size encoding.format)) _ (λ front.
+      then-keeps _ _ (entries-keep bytes (entry_count encoding size)) (λ offsets. ok-keeps _))))
 
   ranges-keep : (bytes : List ℕ) (at : ℕ) (ranges : List Contribution)
       → Keeps (rewritten_from order encoding section bytes at ranges)
   unfolding rewritten_from
   ranges-keep bytes at [] = ok-keeps (drop at bytes)
-  ranges-keep bytes at (r ∷ rs) =
-      let end = r.offset.0 + r.size in
-      let between = slice_range bytes at r.offset.0 in
-      let others = rewritten_from order encoding section bytes end rs in
-      then-keeps (remapped order encoding section (slice_range bytes r.offset.0 end) r.size)
-      (λ range s. others s >>= λ rest. Ok (between ++ range ++ rest.0, rest.1))
-      (remapped-keeps (slice_range bytes r.offset.0 end) r.size)
-      (λ range. then-keeps others (λ rest s. Ok (between ++ range ++ rest, s))
-      (ranges-keep bytes end rs) (λ rest. ok-keeps (between ++ range ++ rest)))
+  ranges-keep bytes at (r ∷ rs) = then-keeps _ _ (remapped-keeps _ r.size) (λ range.
+      then-keeps _ _ (ranges-keep bytes (r.offset.0 + r.size) rs) (λ rest. ok-keeps _))
 
   packaged-keeps : (compilations types : Option Index) (bytes : List ℕ)
       → Keeps (packaged_offsets order encoding compilations types section bytes)
   unfolding packaged_offsets
   packaged-keeps compilations types bytes =
       let ranges = offset_ranges compilations types in
-      alone-keeps (ranges_test encoding (length bytes) 0 ranges)
-      (λ _. rewritten_from order encoding section bytes 0 ranges)
+      alone-keeps (ranges_test encoding (length bytes) 0 ranges) _
       (λ _. ranges-keep bytes 0 ranges)
 
 -- ---- the parts of an input
@@ -232,51 +173,31 @@ module _ (order : Endianness) (encoding : Encoding) (section : List ℕ) where
 module _ (source : Source) where
   rewritten-keeps : (bytes : List ℕ) → Keeps (rewritten source bytes)
   unfolding rewritten
-  rewritten-keeps bytes =
-      let strings = first Str source.object.sections in
-      cond-keeps (is_package source.indexes)
-      (packaged_offsets source.object.order source.encoding source.indexes.compilations
-      source.indexes.types strings bytes)
-      (remapped source.object.order source.encoding strings bytes (length bytes))
-      (packaged-keeps source.object.order source.encoding strings source.indexes.compilations
-      source.indexes.types bytes)
-      (remapped-keeps source.object.order source.encoding strings bytes (length bytes))
+  rewritten-keeps bytes = cond-keeps (is_package source.indexes) _ _
+      (packaged-keeps _ _ _ source.indexes.compilations source.indexes.types bytes)
+      (remapped-keeps _ _ _ bytes (length bytes))
 
   offsets-keep : (parts : Contents) (bytes : List ℕ)
       → Keeps (λ s. with_offsets source (parts, s) bytes)
   unfolding with_offsets
-  offsets-keep parts bytes =
-      let error = MissingRequiredSection (name_of Str) in
-      cond-keeps (not source.object.has_strings) (λ s. Err error)
-      (λ s. rewritten source bytes s >>= λ w. Ok (parts ++ (StrOffsets, w.0) ∷ [], w.1))
-      (err-keeps error)
-      (then-keeps (rewritten source bytes) (λ w s. Ok (parts ++ (StrOffsets, w) ∷ [], s))
-      (rewritten-keeps bytes) (λ w. ok-keeps (parts ++ (StrOffsets, w) ∷ [])))
+  offsets-keep parts bytes = cond-keeps (not source.object.has_strings) _ _ (err-keeps _)
+      (then-keeps _ _ (rewritten-keeps bytes) (λ written. ok-keeps _))
 
   part-keeps : (parts : Contents) (section : Used)
       → Keeps (λ s. with_part source (parts, s) section)
   unfolding with_part
   part-keeps parts section =
-      let repeated = RepeatedSection (name_of section.kind) in
-      let outside = SectionOutsideFormat (name_of section.kind) in
-      let more : Contents = parts ++ (section.kind, section.bytes) ∷ [] in
-      cond-keeps (stands_once source section.kind && has_part section.kind parts)
-      (λ s. Err repeated) _ (err-keeps repeated)
-      (cond-keeps (not (is_in_format source.encoding section.kind)) (λ s. Err outside) _
-      (err-keeps outside)
-      (cond-keeps (same_kind section.kind StrOffsets)
-      (λ s. with_offsets source (parts, s) section.bytes) _ (offsets-keep parts section.bytes)
-      (cond-keeps (is_copied section.kind) (λ s. Ok (more, s)) (λ s. Ok (parts, s))
-      (ok-keeps more) (ok-keeps parts))))
+      cond-keeps (stands_once source section.kind && has_part section.kind parts) _ _ (err-keeps _)
+      (cond-keeps (not (is_in_format source.encoding section.kind)) _ _ (err-keeps _)
+      (cond-keeps (same_kind section.kind StrOffsets) _ _ (offsets-keep parts section.bytes)
+      (cond-keeps (is_copied section.kind) _ _ (ok-keeps _) (ok-keeps parts))))
 
   parts-keep : (parts : Contents) (sections : List Used)
       → Keeps (λ s. with_each_part source (parts, s) sections)
   unfolding with_each_part
   parts-keep parts [] = ok-keeps parts
   parts-keep parts (section ∷ sections) =
-      then-keeps (λ s. with_part source (parts, s) section)
-      (λ next s. with_each_part source (next, s) sections) (part-keeps parts section)
-      (λ next. parts-keep next sections)
+      then-keeps _ _ (part-keeps parts section) (λ next. parts-keep next sections)
 
 -- the parts of an input are the same over more strings behind those that it left
 pub parts-later : (source : Source) (strings later : List (List ℕ))

@@ -5,19 +5,17 @@ use Rattle.std.proofs.lemmas.Option.{none-some}
 use Rattle.std.specs.Map.{lookup}
 use Rattle.std.specs.Str.{bytes_eq}
 use Rattle.dwp_base.specs.Reading.{◌>>=◌}
-use Rattle.dwp_bytes.specs.Input.{section}
 use Rattle.dwp_bytes.specs.declared.error.ReadError.{ReadError}
 use Rattle.dwp_dwarf.specs.Units.{Unit as Header, units}
 use Rattle.dwp_dwarf.specs.declared.unit.UnitSection.{UnitSection}
-use Rattle.dwp_table.specs.Objects.{identifier_of}
 use Rattle.dwp_table.specs.declared.object.DwarfObject.{DwarfObject}
 use Rattle.dwp_table.specs.declared.object.DwarfObject.TheVariants.{Compilation, TypeUnit}
 use Rattle.thorin_index.specs.declared.entry.IndexEntry.{IndexEntry}
-use Rattle.thorin_errors.specs.Errors.{ErrorValue, ParseUnitHeader, EmptyUnit}
+use Rattle.thorin_errors.specs.Errors.{ErrorValue, ParseUnitHeader}
 use Rattle.thorin_errors.specs.Answers.{as_error}
 use Rattle.thorin_input.specs.Indexes.{Source}
 use Rattle.thorin_input.specs.Names.{same_name}
-use Rattle.thorin_input.specs.NewUnits.{New, NewUnit, Adding, Met, or_held, kept_bytes, place_for}
+use Rattle.thorin_input.specs.NewUnits.{New, NewUnit, Adding, Met, or_held, kept_bytes}
 use Rattle.thorin_input.specs.NewUnits.{with_first, with_unit, name_for, with_read, with_each_read}
 use Rattle.thorin_input.specs.NewUnits.{unit_section, none_met, with_met, once_test}
 use Rattle.thorin_input.specs.NewUnits.{with_section_at, with_section_in, with_section}
@@ -26,8 +24,6 @@ use Rattle.thorin_input.specs.Rows.{unit_row, row_test}
 use Rattle.thorin_input.specs.Used.{Used}
 use Rattle.dwp_base.proofs.Steps.{bind-was, bind-ok, same-ok}
 
--- ---- steps that are made one after the other
-
 -- ---- a unit that is added
 
 -- a list with one more is some list
@@ -35,34 +31,21 @@ one-more : {X : Type 0} (xs : List X) (x : X) → xs ++ x ∷ [] ≡ [] → ⊥
 one-more [] x h = absurd cc
 one-more (y ∷ ys) x h = absurd cc
 
-first-by : (adding : Adding) (from : Used) (name : DwarfObject) (unit : Header)
-    (before after : New) (b : Bool)
-    → cond b (row_test adding.source.indexes from.kind name unit >>= λ _.
-    unit_row adding.source.indexes adding.whole name >>= λ row.
-    Ok (record before {
-      units = before.units ++ (
-        name,
-        record {
-          place = place_for name from.kind;
-          bytes = unit.whole.bytes;
-          row = row;
-        },
-      ) ∷ [];
-    })) (Err (EmptyUnit (identifier_of name))) ≡ Ok
-    after → after.units ≡ [] → ⊥
-first-by adding from name unit before after true h none =
-    let s1 = bind-was (row_test adding.source.indexes from.kind name unit) _ after h in
-    let s2 = bind-was (unit_row adding.source.indexes adding.whole name) _ after s1.2 in
-    one-more before.units _ (ap (λ (n : New). n.units) (same-ok _ after s2.2) ∙ none)
-first-by adding from name unit before after false h none = absurd cc
-
 -- where a unit is the first of its name, there are units
 first-some : (adding : Adding) (from : Used) (name : DwarfObject) (unit : Header)
     (before after : New) → with_first adding from name unit before ≡ Ok after → after.units ≡ []
     → ⊥
 unfolding with_first
-first-some adding from name unit before after h none = first-by adding from name unit before after
-    (from.address == 0) h none
+first-some adding from name unit before after h none =
+    let step = cond-ok (from.address == 0) _ _ after h in
+    let s1 = bind-was (row_test adding.source.indexes from.kind name unit) _ after step in
+    let s2 = bind-was (unit_row adding.source.indexes adding.whole name) _ after s1.2 in
+    one-more before.units _ (ap (λ (n : New). n.units) (same-ok _ after s2.2) ∙ none)
+  where
+    cond-ok : (b : Bool) (given : Result New ErrorValue) (error : ErrorValue) (after : New)
+        → cond b given (Err error) ≡ Ok after → given ≡ Ok after
+    cond-ok true given error after is = is
+    cond-ok false given error after is = absurd cc
 
 passed-over : (e : Bool) (new other next : New) → other.units ≡ new.units
     → ◌≡◌ {A = Result New ErrorValue} (Ok (cond e new other)) (Ok next) → new.units ≡ next.units
@@ -100,11 +83,36 @@ kept-later held more units name bytes h = or_held-later (lookup (same_name name)
 
 -- ---- an input that adds none
 
--- no unit was there before some steps, and with other parts and more units they come to the same
-record Stays {X : Type 0} (units : X → List (DwarfObject × NewUnit)) (before after : X)
-    (again : Result X ErrorValue) : Type 0 where
-  none : units before ≡ []
-  same : again ≡ Ok after
+-- where a step leaves no unit there was none before it, and another comes to the same
+abbrev Agree : {X : Type 0} → List (DwarfObject × NewUnit) → (X → List (DwarfObject × NewUnit))
+    → Result X ErrorValue → Result X ErrorValue → Type 0
+Agree {X} before units here there =
+    (after : X) → here ≡ Ok after → units after ≡ [] → (before ≡ []) × (there ≡ Ok after)
+
+done-agree : {X : Type 0} (units : X → List (DwarfObject × NewUnit)) (x : X)
+    → Agree (units x) units (Ok x) (Ok x)
+done-agree units x after is none = (ap units (same-ok x after is) ∙ none, is)
+
+-- a step that is the same in both, and then others
+same-agree : {A X : Type 0} (before : List (DwarfObject × NewUnit))
+    (units : X → List (DwarfObject × NewUnit)) (r : Result A ErrorValue)
+    (here there : A → Result X ErrorValue) → ((x : A) → Agree before units (here x) (there x))
+    → Agree before units (r >>= here) (r >>= there)
+same-agree before units (Ok x) here there next = next x
+same-agree before units (Err e) here there next = λ after is none. absurd cc
+
+-- one step after another
+then-agree : {X Y : Type 0} (before : List (DwarfObject × NewUnit))
+    (units : X → List (DwarfObject × NewUnit)) (later : Y → List (DwarfObject × NewUnit))
+    (here there : Result X ErrorValue) (on_here on_there : X → Result Y ErrorValue)
+    → Agree before units here there
+    → ((x : X) → Agree (units x) later (on_here x) (on_there x))
+    → Agree before later (here >>= on_here) (there >>= on_there)
+then-agree before units later here there on_here on_there one next after is none =
+    let step = bind-was here on_here after is in
+    let rest = next step.0 after step.2 none in
+    let first = one step.0 step.1 rest.0 in
+    (first.0, bind-ok there step.0 on_there first.1 ∙ rest.1)
 
 -- the units of a state
 abbrev units_of : New → List (DwarfObject × NewUnit)
@@ -122,109 +130,51 @@ module _ (source : Source) (whole other : IndexEntry) (held more : List (DwarfOb
   there = record { source = source; whole = other; held = held ++ more }
 
   unit-later : (kept : Option (List ℕ)) (from : Used) (name : DwarfObject) (unit : Header)
-      (before after : New) → kept_bytes held before.units name ≡ kept
-      → with_unit kept here from name unit before ≡ Ok after → after.units ≡ []
-      → Stays units_of before after
+      (before : New) → kept_bytes held before.units name ≡ kept
+      → Agree before.units units_of (with_unit kept here from name unit before)
       (with_unit (kept_bytes (held ++ more) before.units name) there from name unit before)
   unfolding with_unit
-  unit-later (Some kept) from (Compilation id) unit before after is h none = absurd cc
-  unit-later (Some kept) from (TypeUnit signature) unit before after is h none = record {
-    none = passed-over (bytes_eq kept unit.whole.bytes) before _ after refl h ∙ none;
-    same = ap (λ k. with_unit k there from (TypeUnit signature) unit before)
-        (kept-later held more before.units (TypeUnit signature) kept is) ∙ h;
-  }
-  unit-later None from name unit before after is h none =
+  unit-later (Some kept) from (Compilation id) unit before is after h none = absurd cc
+  unit-later (Some kept) from (TypeUnit signature) unit before is after h none = (
+    passed-over (bytes_eq kept unit.whole.bytes) before _ after refl h ∙ none,
+    rw (kept-later held more before.units (TypeUnit signature) kept is) h,
+  )
+  unit-later None from name unit before is after h none =
       absurd (first-some here from name unit before after h none)
 
-  read-later : (from : Used) (before after : New) (read : Result Header ReadError)
-      → with_read here from before read ≡ Ok after → after.units ≡ []
-      → Stays units_of before after (with_read there from before read)
+  read-later : (from : Used) (before : New) (read : Result Header ReadError)
+      → Agree before.units units_of (with_read here from before read)
+      (with_read there from before read)
   unfolding with_read
-  read-later from before after read h none =
-      let unit = bind-was (as_error ParseUnitHeader read) _ after h in
-      let name = bind-was (name_for source from.kind unit.0) _ after unit.2 in
-      let one = unit-later (kept_bytes held before.units name.0) from name.0 unit.0 before after
-      refl name.2 none in
-      record {
-        none = one.none;
-        same = bind-ok (as_error ParseUnitHeader read) unit.0 _ unit.1
-            ∙ bind-ok (name_for source from.kind unit.0) name.0 _ name.1 ∙ one.same;
-      }
+  read-later from before read = same-agree _ _ (as_error ParseUnitHeader read) _ _ (λ unit.
+      same-agree _ _ (name_for source from.kind unit) _ _ (λ name.
+      unit-later (kept_bytes held before.units name) from name unit before refl))
 
-  each-later : (from : Used) (before after : New) (reads : List (Result Header ReadError))
-      → with_each_read here from before reads ≡ Ok after → after.units ≡ []
-      → Stays units_of before after (with_each_read there from before reads)
+  each-later : (from : Used) (before : New) (reads : List (Result Header ReadError))
+      → Agree before.units units_of (with_each_read here from before reads)
+      (with_each_read there from before reads)
   unfolding with_each_read
-  each-later from before after [] h none = record {
-    none = ap (λ (n : New). n.units) (same-ok before after h) ∙ none;
-    same = h;
-  }
-  each-later from before after (read ∷ rest) h none =
-      let step = bind-was (with_read here from before read) _ after h in
-      let later = each-later from step.0 after rest step.2 none in
-      let one = read-later from before step.0 read step.1 later.none in
-      record {
-        none = one.none;
-        same = bind-ok (with_read there from before read) step.0 _ one.same ∙ later.same;
-      }
+  each-later from before [] = done-agree units_of before
+  each-later from before (read ∷ rest) = then-agree _ units_of _ _ _ _ _
+      (read-later from before read) (λ new. each-later from new rest)
 
-  -- whether a section of units is the first of its kind isn't said by parts
-  once-same : (place : UnitSection) (met : Met) → once_test here place met ≡ once_test there
-      place met
-  unfolding once_test
-  once-same place met = refl
+  section_in-later : (from : Used) (place : Option UnitSection) (before : Met × New)
+      → Agree (units_met before) units_met (with_section_in here from place before)
+      (with_section_in there from place before)
+  unfolding with_section_at once_test
+  section_in-later from None before = done-agree units_met before
+  section_in-later from (Some place) before = same-agree _ _ (once_test here place before.0) _ _
+      (λ _. then-agree _ units_of _ _ _ _ _ (each-later from before.1 _) (λ new.
+      done-agree units_met (with_met place before.0, new)))
 
-  section_at-later : (from : Used) (place : UnitSection) (before after : Met × New)
-      → with_section_at here from place before ≡ Ok after → after.1.units ≡ []
-      → Stays units_met before after (with_section_at there from place before)
-  unfolding with_section_at
-  section_at-later from place before after h none =
-      let reads = units place (section source.object.order from.bytes) in
-      let once = bind-was (once_test here place before.0) _ after h in
-      let step = bind-was (with_each_read here from before.1 reads) _ after once.2 in
-      let is = same-ok (with_met place before.0, step.0) after step.2 in
-      let all = each-later from before.1 step.0 reads step.1
-      (ap (λ (m : Met × New). m.1.units) is ∙ none) in
-      record {
-        none = all.none;
-        same = bind-ok (once_test there place before.0) once.0 _
-            (sym (once-same place before.0) ∙ once.1)
-            ∙ bind-ok (with_each_read there from before.1 reads) step.0 _ all.same ∙ step.2;
-      }
-
-  section_in-later : (from : Used) (place : Option UnitSection) (before after : Met × New)
-      → with_section_in here from place before ≡ Ok after → after.1.units ≡ []
-      → Stays units_met before after (with_section_in there from place before)
-  section_in-later from None before after h none = record {
-    none = ap (λ (m : Met × New). m.1.units) (same-ok before after h) ∙ none;
-    same = h;
-  }
-  section_in-later from (Some place) before after h none =
-      section_at-later from place before after h none
-
-  section-later : (from : Used) (before after : Met × New)
-      → with_section here before from ≡ Ok after → after.1.units ≡ []
-      → Stays units_met before after (with_section there before from)
-  unfolding with_section
-  section-later from before after h none =
-      section_in-later from (unit_section from.kind) before after h none
-
-  sections-later : (before after : Met × New) (sections : List Used)
-      → with_each_section here before sections ≡ Ok after → after.1.units ≡ []
-      → Stays units_met before after (with_each_section there before sections)
-  unfolding with_each_section
-  sections-later before after [] h none = record {
-    none = ap (λ (m : Met × New). m.1.units) (same-ok before after h) ∙ none;
-    same = h;
-  }
-  sections-later before after (from ∷ others) h none =
-      let step = bind-was (with_section here before from) _ after h in
-      let later = sections-later step.0 after others step.2 none in
-      let one = section-later from before step.0 step.1 later.none in
-      record {
-        none = one.none;
-        same = bind-ok (with_section there before from) step.0 _ one.same ∙ later.same;
-      }
+  sections-later : (before : Met × New) (sections : List Used)
+      → Agree (units_met before) units_met (with_each_section here before sections)
+      (with_each_section there before sections)
+  unfolding with_each_section with_section
+  sections-later before [] = done-agree units_met before
+  sections-later before (from ∷ others) = then-agree _ units_met _ _ _ _ _
+      (section_in-later from (unit_section from.kind) before)
+      (λ next. sections-later next others)
 
 -- where an input adds no unit, it adds the same to a package that has more units, wherever its
 -- parts come to lie
@@ -235,12 +185,6 @@ pub units-later : (source : Source) (whole other : IndexEntry)
     → new_units (record { source = source; whole = other; held = held ++ more }) ≡ Ok new
 unfolding new_units
 units-later source whole other held more new h none =
-    let start : Met × New = (none_met, record { units = []; differing = [] }) in
-    let sections = source.object.sections in
-    let step = bind-was (with_each_section (here source whole other held more) start sections) _ new
-    h in
-    let is : step.0.1 ≡ new = same-ok step.0.1 new step.2 in
-    let all = sections-later source whole other held more start step.0 sections step.1
-    (ap (λ (n : New). n.units) is ∙ none) in
-    bind-ok (with_each_section (there source whole other held more) start sections) step.0 _
-    all.same ∙ step.2
+    (then-agree [] units_met units_of _ _ _ _ (sections-later source whole other held more
+    (none_met, record { units = []; differing = [] }) source.object.sections)
+    (λ at. done-agree units_of at.1) new h none).1

@@ -1,10 +1,10 @@
-use Rattle.std.proofs.Common.{◌≡◌, ◌∙◌, ap, sym, subst, get_or}
+use Rattle.std.proofs.Common.{◌≡◌, ◌∙◌, ap, sym, get_or}
 use Rattle.std.proofs.lemmas.List.{get_or_default}
 use Rattle.thorin_index.specs.declared.entry.IndexEntry.{IndexEntry}
 use Rattle.thorin_index.specs.Rows.{blank}
 use Rattle.thorin_join.specs.State.{InProgress, with_new_unit, with_new_units}
 use Rattle.thorin_builder.specs.StateView.{in_progress_of}
-use Rattle.thorin_builder.proofs.NewUnitLemmas.{AreNumbered, first_of, rest_of, with_rows}
+use Rattle.thorin_builder.proofs.NewUnitLemmas.{first_of, rest_of, with_rows}
 use Rattle.thorin_builder.proofs.in_progress.InProgressDwarfPackage.add_units.Goals as goal
 
 pub loop-name-preserved : goal.loop-name-preserved
@@ -12,7 +12,7 @@ unfolding with_new_units
 loop-name-preserved c =
     let rows = c.args.new.now.rows.items in
     let steps = c.in-Some.ensures.steps in
-    let numbered = subst (AreNumbered rows) steps c.loop-name.invariant.numbered in
+    let numbered = rw steps at c.loop-name.invariant.numbered in
     let row : c.index-row.result.now ≡ get_or rows c.in-Some.unit.now.row blank =
     c.index-row.ensures ∙ get_or_default rows c.in-Some.unit.now.row _ blank
     (first_of rows _ _ numbered) in

@@ -7,83 +7,52 @@ use Rattle.thorin_builder.specs.UnitView.{new_of}
 use Rattle.thorin_input.specs.NewUnits.{new_units}
 use Rattle.thorin_join.specs.State.{adding}
 use Rattle.thorin_builder.specs.StateView.{in_progress_of}
-use Rattle.thorin_builder.proofs.Grown.{is_grown-refl}
-use Rattle.thorin_builder.proofs.Extending.{extends-with, front-append, with_source-is, with_all-is}
-use Rattle.thorin_builder.proofs.Extending.{signatures}
+use Rattle.thorin_builder.proofs.Extending.{grown-extends, strings-extend, signatures-kept}
+use Rattle.thorin_builder.proofs.Extending.{with_source-is, with_all-is, signatures}
 use Rattle.thorin_builder.proofs.in_progress.InProgressDwarfPackage.try_add.Goals as goal
 
 pub returns-in_err-parts-clause-extends : goal.returns-in_err-parts-clause-extends
 returns-in_err-parts-clause-extends c =
-    let p = in_progress_of c.args.self.now in
-    extends-with p p p.file c.parts_of.new.strings p.differing (is_grown-refl p.file)
-    c.parts_of.ensures.kept (take-length p.differing) (take-length p.rows)
+    strings-extend (in_progress_of c.args.self.now) _ c.parts_of.ensures.kept
 
 pub returns-then-not-source-clause-extends : goal.returns-then-not-source-clause-extends
 returns-then-not-source-clause-extends c =
-    let p = in_progress_of c.args.self.now in
-    extends-with p p p.file c.parts_of.new.strings p.differing (is_grown-refl p.file)
-    c.parts_of.ensures.kept (take-length p.differing) (take-length p.rows)
+    strings-extend (in_progress_of c.args.self.now) _ c.parts_of.ensures.kept
 
 pub returns-in_err-whole-clause-extends : goal.returns-in_err-whole-clause-extends
 returns-in_err-whole-clause-extends c =
-    let p = in_progress_of c.args.self.now in
-    extends-with p p p.file c.parts_of.new.strings p.differing (is_grown-refl p.file)
-    c.parts_of.ensures.kept (take-length p.differing) (take-length p.rows)
+    strings-extend (in_progress_of c.args.self.now) _ c.parts_of.ensures.kept
 
 pub returns-in_err-new-clause-extends : goal.returns-in_err-new-clause-extends
 returns-in_err-new-clause-extends c =
-    let p = in_progress_of c.args.self.now in
-    extends-with p p p.file c.parts_of.new.strings p.differing (is_grown-refl p.file)
-    c.parts_of.ensures.kept (take-length p.differing) (take-length p.rows)
+    strings-extend (in_progress_of c.args.self.now) _ c.parts_of.ensures.kept
 
 pub returns-in_err-put_parts-clause-extends : goal.returns-in_err-put_parts-clause-extends
 returns-in_err-put_parts-clause-extends c =
-    let p = in_progress_of c.args.self.now in
-    extends-with p p c.put_parts.new.file c.parts_of.new.strings p.differing
-    (c.put_parts.ensures.grown p.file (is_grown-refl p.file)) c.parts_of.ensures.kept
-    (take-length p.differing) (take-length p.rows)
+    grown-extends (in_progress_of c.args.self.now) _ _ _ c.put_parts.ensures.grown
+    c.parts_of.ensures.kept (take-length _)
 
 pub returns-in_err-extend_from_slice-clause-extends :
     goal.returns-in_err-extend_from_slice-clause-extends
 returns-in_err-extend_from_slice-clause-extends c =
-    let p = in_progress_of c.args.self.now in
-    let same : c.extend_from_slice.new.self.items ≡ c.args.self.now.differing.items =
-    search (rules, c.in_err-extend_from_slice.ensures.items) in
-    rw same (extends-with p p c.put_parts.new.file c.parts_of.new.strings p.differing
-    (c.put_parts.ensures.grown p.file (is_grown-refl p.file)) c.parts_of.ensures.kept
-    (take-length p.differing) (take-length p.rows))
+    rw c.in_err-extend_from_slice.ensures.items (grown-extends (in_progress_of c.args.self.now)
+    _ _ _ c.put_parts.ensures.grown c.parts_of.ensures.kept (take-length _))
 
 pub returns-in_err-add_units-clause-extends : goal.returns-in_err-add_units-clause-extends
 returns-in_err-add_units-clause-extends c =
-    let p = in_progress_of c.args.self.now in
-    let more : map (λ (s : DebugTypeSignature). s.0) c.extend_from_slice.new.self.items ≡
-    p.differing ++ map (λ (s : DebugTypeSignature). s.0) c.in_ok-new.new.differing.items =
-    signatures c.args.self.now.differing.items c.in_ok-new.new.differing.items
-    c.extend_from_slice.new.self.items (search (
-      rules,
-      c.in_ok-extend_from_slice.ensures.items,
-      c.deref.ensures,
-    )) in
-    c.add_units.ensures.extends p (extends-with p p c.put_parts.new.file c.parts_of.new.strings _
-    (c.put_parts.ensures.grown p.file (is_grown-refl p.file)) c.parts_of.ensures.kept
-    (rw more (front-append p.differing p.differing _ (take-length p.differing)))
-    (take-length p.rows))
+    let more = signatures-kept c.args.self.now.differing.items c.in_ok-new.new.differing.items
+    c.extend_from_slice.new.self.items
+    (search (rules, c.in_ok-extend_from_slice.ensures.items, c.deref.ensures)) in
+    c.add_units.ensures.extends _ (grown-extends (in_progress_of c.args.self.now) _ _ _
+    c.put_parts.ensures.grown c.parts_of.ensures.kept more)
 
 pub returns-clause-extends : goal.returns-clause-extends
 returns-clause-extends c =
-    let p = in_progress_of c.args.self.now in
-    let more : map (λ (s : DebugTypeSignature). s.0) c.extend_from_slice.new.self.items ≡
-    p.differing ++ map (λ (s : DebugTypeSignature). s.0) c.in_ok-new.new.differing.items =
-    signatures c.args.self.now.differing.items c.in_ok-new.new.differing.items
-    c.extend_from_slice.new.self.items (search (
-      rules,
-      c.in_ok-extend_from_slice.ensures.items,
-      c.deref.ensures,
-    )) in
-    c.add_units.ensures.extends p (extends-with p p c.put_parts.new.file c.parts_of.new.strings _
-    (c.put_parts.ensures.grown p.file (is_grown-refl p.file)) c.parts_of.ensures.kept
-    (rw more (front-append p.differing p.differing _ (take-length p.differing)))
-    (take-length p.rows))
+    let more = signatures-kept c.args.self.now.differing.items c.in_ok-new.new.differing.items
+    c.extend_from_slice.new.self.items
+    (search (rules, c.in_ok-extend_from_slice.ensures.items, c.deref.ensures)) in
+    c.add_units.ensures.extends _ (grown-extends (in_progress_of c.args.self.now) _ _ _
+    c.put_parts.ensures.grown c.parts_of.ensures.kept more)
 
 pub returns-clause-meaning : goal.returns-clause-meaning
 returns-clause-meaning c =

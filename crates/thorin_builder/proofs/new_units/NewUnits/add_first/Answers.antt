@@ -38,8 +38,7 @@ invariant_of-self-2 c =
 pub returns : goal.returns
 unfolding with_first
 returns c =
-    let absent : lookup (same_name c.args.name) c.args.self.now.units.entries ≡ None =
-    not_added (adding_of c.args.adding.now).held c.args.self.now.rows.items
+    let absent = not_added (adding_of c.args.adding.now).held c.args.self.now.rows.items
     c.args.self.now.units.entries c.args.name c.requires.absent in
     let entries = c.in_ok-insert.ensures.entries ∙ insert_entry-new _ c.args.self.now.units
     c.args.name _ (ap (λ f. lookup f c.args.self.now.units.entries)

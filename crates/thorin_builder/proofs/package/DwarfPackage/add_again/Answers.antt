@@ -1,7 +1,7 @@
-use Rattle.std.proofs.Common.{◌≡◌, ap, rules, sym, subst, map, Some, None}
+use Rattle.std.proofs.Common.{◌≡◌, ap, rules, map, Some, None}
 use Rattle.thorin_input.specs.View as view
 use Rattle.thorin_join.specs.Builder.{State}
-use Rattle.thorin_builder.specs.Repeated.{AddsAgainTo, IsLaterBegun, with_more}
+use Rattle.thorin_builder.specs.Repeated.{AddsAgainTo, with_more}
 use Rattle.thorin_builder.specs.StateView.{in_progress_of, begun_of}
 use Rattle.thorin_builder.proofs.AddedAgain.{input-known, taken-known, later-known, later-same}
 use Rattle.thorin_builder.proofs.package.DwarfPackage.add_again.Goals.{in-Some+in_ok-add_again}
@@ -25,14 +25,13 @@ invariant_of-self-in-Some g c =
     let added : now ≡ with_more (map view.part again.parts.items)
     (map (λ s. s.0) again.differing.items) made =
     search (rules, c.in_ok-add_again.ensures.added) in
+    let new : State = record old { begun = Some now; own = None } in
     let step = taken-known bytes again old made now begun known added in (
       c.self.invariant.0,
       c.inputs_are_joined.ensures.sound bytes old.begun (Some now) c.self.invariant.1
           (input-known bytes again old made now begun known added),
-      c.one_encoding_is_kept.ensures bytes old (record old { begun = Some now; own = None })
-          c.self.invariant.1 c.self.invariant.2 step,
-      c.plain_packages_are_kept.ensures bytes old (record old { begun = Some now; own = None })
-          c.self.invariant.1 c.self.invariant.3 step,
+      c.one_encoding_is_kept.ensures bytes old new c.self.invariant.1 c.self.invariant.2 step,
+      c.plain_packages_are_kept.ensures bytes old new c.self.invariant.1 c.self.invariant.3 step,
     )
 
 pub returns-clause-later : goal.returns-clause-later
@@ -49,10 +48,9 @@ returns-clause-later g c =
           (map (λ s. s.0) again.differing.items) made =
           search (rules, w.in_ok-add_again.ensures.added) in
           let is : c.match-self.self.state.begun ≡ Some now = search (rules, w.self-is) in
-          subst (λ b. IsLaterBegun old.begun b) (sym is)
-          (later-known bytes again old made now begun c.requires.known.1 added)
+          rw is (later-known bytes again old made now begun c.requires.known.1 added)
       | in_default w ↦
           let is : c.match-self.self.state.begun ≡ old.begun =
           search (rules, w.self-is, c.self.view_is) in
-          subst (λ b. IsLaterBegun old.begun b) (sym is) (later-same old.begun)
+          rw is (later-same old.begun)
     ]

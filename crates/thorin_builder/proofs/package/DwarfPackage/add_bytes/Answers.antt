@@ -1,15 +1,10 @@
-use Rattle.std.proofs.Common.{◌≡◌, ◌∙◌, [], Bool, true, false, not, ap, sym, subst, refl, rules, Ok}
+use Rattle.std.proofs.Common.{◌≡◌, ◌∙◌, Bool, true, false, not, sym, refl, rules, Ok}
 use Rattle.std.proofs.Common.{Option, Some, None}
 use Rattle.std.specs.Prelude.{is_none, is_some}
 use Rattle.thorin_builder.specs.declared.in_progress.InProgressDwarfPackage.{InProgressDwarfPackage}
 use Rattle.thorin_join.specs.Builder.{State, with_input, own_after}
 use Rattle.thorin_input.specs.Encodings.{own_encoding}
-use Rattle.thorin_again.specs.OwnUnits.{HoldsOwn}
-use Rattle.thorin_again.specs.Plain.{HoldsPlain}
-use Rattle.thorin_join.specs.Represents.{IsSoundBegun}
-use Rattle.thorin_join.specs.State.{InProgress}
 use Rattle.thorin_builder.specs.StateView.{begun_of}
-use Rattle.thorin_builder.specs.Repeated.{IsLaterBegun}
 use Rattle.thorin_builder.proofs.AddedAgain.{joined-later}
 use Rattle.thorin_builder.proofs.OwnKept.{taken-as, after-none, after-first, after-more}
 use Rattle.thorin_builder.proofs.package.DwarfPackage.add_bytes.Goals.{then-unit_count-units}
@@ -17,38 +12,19 @@ use Rattle.thorin_builder.proofs.package.DwarfPackage.add_bytes.Goals.{else-unit
 use Rattle.thorin_builder.proofs.package.DwarfPackage.add_bytes.Goals.{else-unit_count-units+else-is_first}
 use Rattle.thorin_builder.proofs.package.DwarfPackage.add_bytes.Goals as goal
 
-none-begun : (p : Option InProgressDwarfPackage) → is_none (begun_of p) ≡ is_none p
-none-begun None = refl
-none-begun (Some made) = refl
-
-twice-not : (b : Bool) → not (not b) ≡ b
-twice-not true = refl
-twice-not false = refl
-
 none-is : (p : Option InProgressDwarfPackage) (b : Bool) → is_some p ≡ not b
     → is_none (begun_of p) ≡ b
-none-is p b h = none-begun p ∙ ap not h ∙ twice-not b
+none-is None true h = refl
+none-is None false h = absurd cc
+none-is (Some made) true h = absurd cc
+none-is (Some made) false h = refl
 
 -- a refused object leaves it so
 pub invariant_of-self : goal.invariant_of-self
 invariant_of-self g c =
     let same : begun_of c.add_input.new.in_progress ≡ begun_of c.self.inside.in_progress =
     search (rules, c.in_err-encoding.ensures.err) in
-    let kept : Option InProgress → Type 0 = λ begun.
-    (c.self.inside.no_units.keys ≡ []) × IsSoundBegun begun
-    × HoldsOwn (record {
-      begun = begun;
-      targets = c.self.inside.targets.keys;
-      own =
-          c.self.inside.own;
-    })
-    × HoldsPlain (record {
-      begun = begun;
-      targets = c.self.inside.targets.keys;
-      own =
-          c.self.inside.own;
-    }) in
-    subst kept (sym same) c.self.invariant
+    rw same c.self.invariant
 
 pub invariant_of-self-2 : goal.invariant_of-self-2
 invariant_of-self-2 g c =
@@ -80,21 +56,16 @@ invariant_of-self-2 g c =
           after-more old now found c.unit_count-units.result c.unit_count.result
           c.unit_count-units.ensures c.unit_count.ensures w.if-unit_count-units.false
           (first ∙ w.if-is_first.false) ∙ sym w.common.ensures ∙ sym w.self-is
-    ] in (
+    ] in
+    let new : State = record old { begun = now; own = c.if-unit_count-units.self } in
+    let step = taken-as c.args.bytes.now old now found c.if-unit_count-units.self made encoding
+    own in (
       c.self.invariant.0,
       c.inputs_are_joined.ensures.sound c.args.bytes.now old.begun now c.self.invariant.1 made,
-      c.one_encoding_is_kept.ensures c.args.bytes.now old (record old {
-        begun = now;
-        own =
-            c.if-unit_count-units.self;
-      }) c.self.invariant.1 c.self.invariant.2
-          (taken-as c.args.bytes.now old now found c.if-unit_count-units.self made encoding own),
-      c.plain_packages_are_kept.ensures c.args.bytes.now old (record old {
-        begun = now;
-        own =
-            c.if-unit_count-units.self;
-      }) c.self.invariant.1 c.self.invariant.3
-          (taken-as c.args.bytes.now old now found c.if-unit_count-units.self made encoding own),
+      c.one_encoding_is_kept.ensures c.args.bytes.now old new c.self.invariant.1
+          c.self.invariant.2 step,
+      c.plain_packages_are_kept.ensures c.args.bytes.now old new c.self.invariant.1
+          c.self.invariant.3 step,
     )
 
 pub returns-clause-later : goal.returns-clause-later
@@ -104,6 +75,6 @@ returns-clause-later g c =
     let made : with_input c.args.bytes.now old ≡ Ok now =
     search (rules, c.in_ok-encoding.ensures.meaning) in
     let is : c.args.self.now.state.begun ≡ old = search (rules, c.self.view_is) in
-    subst (λ b. IsLaterBegun b now) (sym is) (joined-later c.args.bytes.now old now
+    rw is (joined-later c.args.bytes.now old now
     c.in_ok-encoding.ensures.extends
     (c.inputs_are_joined.ensures.joins c.args.bytes.now old now c.self.invariant.1 made))

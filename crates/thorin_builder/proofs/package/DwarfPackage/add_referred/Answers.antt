@@ -1,22 +1,18 @@
-use Rattle.std.proofs.Common.{◌≡◌, refl, rules, subst, Ok, Err, []}
+use Rattle.std.proofs.Common.{◌≡◌, refl, rules, Ok, Err, []}
 use Rattle.std.specs.Path.{path_bytes}
 use Rattle.thorin_errors.specs.declared.error.InputError.TheVariants.{Io, Memory}
-use Rattle.thorin_errors.specs.declared.error.Error.TheVariants as error
+use Rattle.thorin_errors.specs.declared.error.MissingReferencedObjectBehaviour.TheVariants as behaviour
 use Rattle.thorin_builder.specs.Taking.{accepted_of}
 use Rattle.thorin_builder.proofs.AddedAgain.{are-taken-later, taken-remembered}
 use Rattle.thorin_builder.proofs.Extending.{on_ok-both}
-use Rattle.thorin_builder.proofs.Running.{passed-over, not-passed-over}
 use Rattle.thorin_builder.proofs.package.DwarfPackage.add_referred.Goals as goal
 
 pub returns-in-Ok-clause-taken : goal.returns-in-Ok-clause-taken
 returns-in-Ok-clause-taken g c =
-    let offer = g.R.InputReader.offer c.args.reader.now in
     let path : path_bytes c.new.result ≡ c.args.named.path.now = search (rules, c.new.ensures) in
-    let may : offer c.args.named.path.now (Ok c.in-Ok.bytes.now) =
-    subst (λ p. offer p (Ok c.in-Ok.bytes.now)) path c.in-Ok.ensures.offered in
     record {
       read = Ok c.in-Ok.bytes.now;
-      within = may;
+      within = rw path at c.in-Ok.ensures.offered;
       accepted = accepted_of c.add_read.result c.in-Ok.bytes.now;
       taken = (c.add_read.ensures.takes, refl);
     }
@@ -25,60 +21,39 @@ pub returns-in-Ok-clause-known : goal.returns-in-Ok-clause-known
 returns-in-Ok-clause-known g c =
     let offer = g.R.InputReader.offer c.args.reader.now in
     let path : path_bytes c.new.result ≡ c.args.named.path.now = search (rules, c.new.ensures) in
-    let may : offer c.args.named.path.now (Ok c.in-Ok.bytes.now) =
-    subst (λ p. offer p (Ok c.in-Ok.bytes.now)) path c.in-Ok.ensures.offered in
     on_ok-both c.add_read.result _ _ _ c.add_read.ensures.later c.add_read.ensures.remembers
     (λ later remembered. taken-remembered offer c.args.known.now.taken.entries
     c.add_read.new.taken.entries c.add_read.new.self.state.begun c.args.named.path.now
-    c.in-Ok.bytes.now may (are-taken-later offer c.args.known.now.taken.entries
-    c.args.self.now.state.begun c.add_read.new.self.state.begun later c.requires.known)
-    remembered)
+    c.in-Ok.bytes.now (rw path at c.in-Ok.ensures.offered) (are-taken-later offer
+    c.args.known.now.taken.entries c.args.self.now.state.begun c.add_read.new.self.state.begun
+    later c.requires.known) remembered)
 
 pub returns-in-Skip-clause-taken : goal.returns-in-Skip-clause-taken
 returns-in-Skip-clause-taken g c =
     let offer = g.R.InputReader.offer c.args.reader.now in
     let path : path_bytes c.new.result ≡ c.args.named.path.now = search (rules, c.new.ensures) in
-    let fails : offer (path_bytes c.new.result) (Err c.in-Err-Io.e) = search (
-      rules,
-      c.in-Err-Io.ensures.offered,
-      c.in-Err-Io.e-is,
-      c.in-Err-Io.field-0-is,
-    ) in
-    let within : offer c.args.named.path.now (Err c.in-Err-Io.e) =
-    subst (λ p. offer p (Err c.in-Err-Io.e)) path fails in
+    let fails : offer (path_bytes c.new.result) (Err c.in-Err-Io.e) =
+    search (rules, c.in-Err-Io.ensures.offered, c.in-Err-Io.e-is, c.in-Err-Io.field-0-is) in
+    let skips : c.args.missing ≡ behaviour.Skip = search (rules, c.in-Skip) in
     record {
       read = Err (Io c.in-Err-Io.e);
-      within = within;
+      within = rw path at fails;
       accepted = [];
-      taken = (
-        passed-over c.args.missing c.in-Err-Io.e (Ok tt) (search (rules, c.in-Skip)) refl,
-        refl,
-        refl,
-      );
+      taken = (rw skips refl, refl, refl);
     }
 
 pub returns-in-Error-clause-taken : goal.returns-in-Error-clause-taken
 returns-in-Error-clause-taken g c =
     let offer = g.R.InputReader.offer c.args.reader.now in
     let path : path_bytes c.new.result ≡ c.args.named.path.now = search (rules, c.new.ensures) in
-    let fails : offer (path_bytes c.new.result) (Err c.in-Err-Io.e) = search (
-      rules,
-      c.in-Err-Io.ensures.offered,
-      c.in-Err-Io.e-is,
-      c.in-Err-Io.field-0-is,
-    ) in
-    let within : offer c.args.named.path.now (Err c.in-Err-Io.e) =
-    subst (λ p. offer p (Err c.in-Err-Io.e)) path fails in
+    let fails : offer (path_bytes c.new.result) (Err c.in-Err-Io.e) =
+    search (rules, c.in-Err-Io.ensures.offered, c.in-Err-Io.e-is, c.in-Err-Io.field-0-is) in
+    let stops : c.args.missing ≡ behaviour.Error = search (rules, c.in-Error) in
     record {
       read = Err (Io c.in-Err-Io.e);
-      within = within;
+      within = rw path at fails;
       accepted = [];
-      taken = (
-        not-passed-over c.args.missing c.in-Err-Io.e (Err (error.ReadInput c.in-Err-Io.e))
-            (search (rules, c.in-Error)) refl,
-        refl,
-        refl,
-      );
+      taken = (rw stops refl, refl, refl);
     }
 
 pub returns-in-Err-Memory-clause-taken : goal.returns-in-Err-Memory-clause-taken

@@ -1,12 +1,11 @@
-use Rattle.std.proofs.Common.{◌≡◌, false, refl, rules, subst, inl, inr, [], Ok, Err}
+use Rattle.std.proofs.Common.{◌≡◌, refl, rules, inl, inr, [], Ok, Err}
 use Rattle.thorin_errors.specs.declared.error.Error.TheVariants as error
 use Rattle.thorin_errors.specs.declared.error.InputError.TheVariants.{Memory}
-use Rattle.thorin_builder.specs.Repeated.{AreTaken}
-use Rattle.thorin_builder.specs.Taking.{TakesReferredFile, Takes, with_target, is_there}
+use Rattle.thorin_builder.specs.Taking.{with_target}
 use Rattle.thorin_builder.specs.Taking.{accepted_of}
 use Rattle.thorin_builder.proofs.AddedAgain.{are-taken-later, target-kept, target-found}
 use Rattle.thorin_builder.proofs.Extending.{on_ok-both}
-use Rattle.thorin_builder.proofs.Running.{unread-again}
+use Rattle.thorin_builder.proofs.Running.{absent-taken, unread-again}
 use Rattle.thorin_builder.proofs.package.DwarfPackage.add_skeleton.Goals as goal
 
 pub returns-in_err-add_target-clause-taken : goal.returns-in_err-add_target-clause-taken
@@ -42,20 +41,12 @@ add_again-requires g c =
 
 pub returns-then-not-admits-clause-taken : goal.returns-then-not-admits-clause-taken
 returns-then-not-admits-clause-taken g c =
-    let offer = g.R.InputReader.offer c.args.reader.now in
-    let old = c.args.self.now.state in
-    let absent : is_there c.args.named.target old ≡ false =
-    search (rules, c.is_there.ensures, c.if-is_there) in
-    let target : c.add_target.new.self.state ≡ with_target c.args.named.target old =
-    search (rules, c.in_ok-add_target.ensures.target) in
-    let file : TakesReferredFile (offer c.args.named.path.now) c.args.missing
-    (with_target c.args.named.target old) (Err error.Memory) c.add_target.new.self.state = record {
-      read = Err Memory;
-      within = tt;
-      accepted = [];
-      taken = (refl, target, refl);
-    } in
-    (file.accepted, inr (inl (record { absent = absent; file = file; accepted_is = refl })))
+    absent-taken (g.R.InputReader.offer c.args.reader.now) c.args.missing
+    (c.args.named.target, c.args.named.path.now) c.args.self.now.state
+    c.add_target.new.self.state c.add_target.new.self.state (Err error.Memory)
+    (search (rules, c.is_there.ensures, c.if-is_there))
+    (search (rules, c.in_ok-add_target.ensures.target))
+    (record { read = Err Memory; within = tt; accepted = []; taken = (refl, refl, refl) })
 
 pub returns-else-not-admits-clause-taken : goal.returns-else-not-admits-clause-taken
 returns-else-not-admits-clause-taken g c =
@@ -66,19 +57,14 @@ returns-else-not-admits-clause-taken g c =
     let found = target-found offer c.args.known.now.taken.entries c.args.named.target old
     c.add_target.new.self.state c.args.named.path.now c.in-Some.again.now target c.requires.known
     (search (rules, c.get.ensures.value, c.in-Some.is)) in
-    let absent : is_there c.args.named.target old ≡ false =
-    search (rules, c.is_there.ensures, c.if-is_there) in
-    let takes : Takes found.bytes (with_target c.args.named.target old) c.add_again.result
-    c.add_again.new.self.state = subst (λ s. Takes found.bytes s c.add_again.result
-    c.add_again.new.self.state) target (c.add_again.ensures.takes found.bytes found.adds) in
-    let file : TakesReferredFile (offer c.args.named.path.now) c.args.missing
-    (with_target c.args.named.target old) c.add_again.result c.add_again.new.self.state = record {
+    absent-taken offer c.args.missing (c.args.named.target, c.args.named.path.now) old
+    c.add_target.new.self.state c.add_again.new.self.state c.add_again.result
+    (search (rules, c.is_there.ensures, c.if-is_there)) target (record {
       read = Ok found.bytes;
       within = found.may;
       accepted = accepted_of c.add_again.result found.bytes;
-      taken = (takes, refl);
-    } in
-    (file.accepted, inr (inl (record { absent = absent; file = file; accepted_is = refl })))
+      taken = (c.add_again.ensures.takes found.bytes found.adds, refl);
+    })
 
 pub returns-else-not-admits-clause-known : goal.returns-else-not-admits-clause-known
 returns-else-not-admits-clause-known g c =
@@ -90,19 +76,13 @@ returns-else-not-admits-clause-known g c =
     on_ok-both c.add_again.result _ _ _ c.add_again.ensures.later c.add_again.ensures.later
     (λ later again. are-taken-later offer entries c.add_target.new.self.state.begun
     c.add_again.new.self.state.begun later
-    (subst (AreTaken offer entries) (target-kept c.args.named.target old
-    c.add_target.new.self.state target) c.requires.known))
+    (rw (← target-kept c.args.named.target old c.add_target.new.self.state target)
+    c.requires.known))
 
 pub returns-in-None-clause-taken : goal.returns-in-None-clause-taken
 returns-in-None-clause-taken g c =
-    let offer = g.R.InputReader.offer c.args.reader.now in
-    let old = c.args.self.now.state in
-    let absent : is_there c.args.named.target old ≡ false =
-    search (rules, c.is_there.ensures, c.if-is_there) in
-    let target : c.add_target.new.self.state ≡ with_target c.args.named.target old =
-    search (rules, c.in_ok-add_target.ensures.target) in
-    let file : TakesReferredFile (offer c.args.named.path.now) c.args.missing
-    (with_target c.args.named.target old) c.add_referred.result c.add_referred.new.self.state =
-    subst (λ s. TakesReferredFile (offer c.args.named.path.now) c.args.missing s
-    c.add_referred.result c.add_referred.new.self.state) target c.add_referred.ensures.taken in
-    (file.accepted, inr (inl (record { absent = absent; file = file; accepted_is = refl })))
+    absent-taken (g.R.InputReader.offer c.args.reader.now) c.args.missing
+    (c.args.named.target, c.args.named.path.now) c.args.self.now.state
+    c.add_target.new.self.state c.add_referred.new.self.state c.add_referred.result
+    (search (rules, c.is_there.ensures, c.if-is_there))
+    (search (rules, c.in_ok-add_target.ensures.target)) c.add_referred.ensures.taken

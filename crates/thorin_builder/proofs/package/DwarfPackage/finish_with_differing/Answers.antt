@@ -1,10 +1,9 @@
-use Rattle.std.proofs.Common.{◌≡◌, Ok, Err, Result, IfOk, subst, rules}
+use Rattle.std.proofs.Common.{◌≡◌, Ok, Err, Result, IfOk, rules}
 use Rattle.dwp_elf.specs.FileText.{Object as File}
 use Rattle.thorin_errors.specs.declared.error.Error.{Error}
 use Rattle.thorin_errors.specs.Answers.{Gives}
 use Rattle.thorin_join.specs.Builder.{State, finish_test, IsFinishedState}
 use Rattle.thorin_again.specs.OwnAccepted.{IsAcceptedOnceWritten, IsAcceptedByNewOnceWritten}
-use Rattle.thorin_builder.specs.StateView.{begun_of}
 use Rattle.thorin_builder.proofs.package.DwarfPackage.finish_with_differing.Goals as goal
 
 -- what is so of what was finished, by a law
@@ -17,39 +16,15 @@ by-law P (Err e) state law tested finished = tt
 pub returns-in-Ok-Some-clause-accepted : goal.returns-in-Ok-Some-clause-accepted
 unfolding finish_test
 returns-in-Ok-Some-clause-accepted g c =
-    let state : State = record {
-      begun = begun_of c.self.inside.in_progress;
-      targets =
-          c.self.inside.targets.keys;
-      own = c.self.inside.own;
-    } in
-    let tested : Gives (λ _. tt) c.finish.result.0 (finish_test state) =
-    search (rules, c.finish.ensures.refusal) in
-    let finished : IfOk c.finish.result.0 (IsFinishedState state) =
-    search (rules, c.finish.ensures.finished, c.finish.ensures.identifiers) in
-    let same : state ≡ c.args.self.state = search (rules, c.self.view_is) in
-    subst (λ s. IfOk c.finish.result.0 (IsAcceptedOnceWritten s)) same (by-law IsAcceptedOnceWritten
-    c.finish.result.0 state
-    (λ file. c.own_packages_are_accepted.ensures state file c.self.invariant.1 c.self.invariant.2
-    c.self.invariant.3)
-    tested finished)
+    rw (← c.self.view_is) (by-law IsAcceptedOnceWritten c.finish.result.0 _
+    (λ file. c.own_packages_are_accepted.ensures _ file c.self.invariant.1 c.self.invariant.2
+    c.self.invariant.3) (search (rules, c.finish.ensures.refusal))
+    (search (rules, c.finish.ensures.finished, c.finish.ensures.identifiers)))
 
 pub returns-in-Ok-Some-clause-accepted_by_new : goal.returns-in-Ok-Some-clause-accepted_by_new
 unfolding finish_test
 returns-in-Ok-Some-clause-accepted_by_new g c =
-    let state : State = record {
-      begun = begun_of c.self.inside.in_progress;
-      targets =
-          c.self.inside.targets.keys;
-      own = c.self.inside.own;
-    } in
-    let tested : Gives (λ _. tt) c.finish.result.0 (finish_test state) =
-    search (rules, c.finish.ensures.refusal) in
-    let finished : IfOk c.finish.result.0 (IsFinishedState state) =
-    search (rules, c.finish.ensures.finished, c.finish.ensures.identifiers) in
-    let same : state ≡ c.args.self.state = search (rules, c.self.view_is) in
-    subst (λ s. IfOk c.finish.result.0 (IsAcceptedByNewOnceWritten s)) same
-    (by-law IsAcceptedByNewOnceWritten c.finish.result.0 state
-    (λ file. c.own_packages_are_accepted_by_a_new_one.ensures state file c.self.invariant.1
-    c.self.invariant.2 c.self.invariant.3)
-    tested finished)
+    rw (← c.self.view_is) (by-law IsAcceptedByNewOnceWritten c.finish.result.0 _
+    (λ file. c.own_packages_are_accepted_by_a_new_one.ensures _ file c.self.invariant.1
+    c.self.invariant.2 c.self.invariant.3) (search (rules, c.finish.ensures.refusal))
+    (search (rules, c.finish.ensures.finished, c.finish.ensures.identifiers)))
