@@ -32,14 +32,13 @@ begins-appended kind x (c ∷ cs) [] h = absurd h
 begins-appended kind x (c ∷ cs) (d ∷ ds) h = begins-here c d cs ds x kind (same_kind d.0 kind) h
     (begins-appended kind x cs ds h.2)
 
-begins-cond : (kind : SectionKind) (x : List ℕ) (a b : Contents) (e : Bool) → Begins a b
-    → Begins a (cond e b (appended kind x b))
-begins-cond kind x a b true h = h
-begins-cond kind x a b false h = begins-appended kind x a b h
-
 pub begins-with_bytes : (kind : SectionKind) (x : List ℕ) (a b : Contents) → Begins a b
     → Begins a (with_bytes kind x b)
-begins-with_bytes kind x a b h = begins-cond kind x a b (length x == 0) h
+begins-with_bytes kind x a b h = by (length x == 0)
+  where
+    by : (e : Bool) → Begins a (cond e b (appended kind x b))
+    by true = h
+    by false = begins-appended kind x a b h
 
 -- cut to their lengths, the contents are those from before
 pub truncated-begins : (a b : Contents) → Begins a b → truncated b (lengths a) ≡ a
