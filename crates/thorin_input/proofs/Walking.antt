@@ -72,12 +72,11 @@ bytes-plain kind s h = choice kind s false h ∙ range-error s.content
 pub found-any : {A : Type 0} (test : A → Bool) (xs : List A) → is_some (find test xs) ≡
     list_any test xs
 found-any test [] = refl
-found-any {A = A} test (x ∷ xs) = by (test x) (found-any test xs)
-  where
-    by : (b : Bool) → is_some (find test xs) ≡ list_any test xs
-        → is_some (cond b (Some x) (find test xs)) ≡ (b || list_any test xs)
-    by true h = refl
-    by false h = h
+found-any test (x ∷ xs) = elim (test x) as (λ b.
+    is_some (cond b (Some x) (find test xs)) ≡ (b || list_any test xs)) [
+      | true ↦ refl
+      | false ↦ found-any test xs
+    ]
 
 -- an index is one of the two
 both : (a b x y : Bool) → ((a || b) || (x || y)) ≡ ((a || x) || (b || y))
