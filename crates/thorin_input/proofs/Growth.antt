@@ -10,36 +10,30 @@ use Rattle.dwp_elf.specs.FileText.{Object}
 use Rattle.thorin_input.specs.Growing.{Contents, Begins, IsGrown, with_bytes, lengths}
 
 -- bytes that are added to a content
-begins-here : (c d : SectionKind × List ℕ) (cs ds : Contents) (x : List ℕ)
-    (kind : SectionKind) (b : Bool)
-    → Begins (c ∷ cs) (d ∷ ds) → Begins cs (appended kind x ds)
-    → Begins (c ∷ cs) (cond b ((d.0, d.1 ++ x) ∷ ds) (d ∷ appended kind x ds))
-begins-here c d cs ds x kind true h later = (
-  h.0,
-  record {
-    rest = h.1.rest ++ x;
-    is = ap (λ v. v ++ x) h.1.is ∙ append_assoc c.1
-        h.1.rest x;
-  },
-  h.2,
-)
-begins-here c d cs ds x kind false h later = (h.0, h.1, later)
-
 pub begins-appended : (kind : SectionKind) (x : List ℕ) (a b : Contents) → Begins a b
     → Begins a (appended kind x b)
 begins-appended kind x [] b h = tt
 begins-appended kind x (c ∷ cs) [] h = absurd h
-begins-appended kind x (c ∷ cs) (d ∷ ds) h = begins-here c d cs ds x kind (same_kind d.0 kind) h
-    (begins-appended kind x cs ds h.2)
-
-begins-cond : (kind : SectionKind) (x : List ℕ) (a b : Contents) (e : Bool) → Begins a b
-    → Begins a (cond e b (appended kind x b))
-begins-cond kind x a b true h = h
-begins-cond kind x a b false h = begins-appended kind x a b h
+begins-appended kind x (c ∷ cs) (d ∷ ds) h = elim (same_kind d.0 kind) as (λ b.
+    Begins (c ∷ cs) (cond b ((d.0, d.1 ++ x) ∷ ds) (d ∷ appended kind x ds))) [
+      | true ↦ (
+        h.0,
+        record {
+          rest = h.1.rest ++ x;
+          is = ap (λ v. v ++ x) h.1.is ∙ append_assoc c.1 h.1.rest x;
+        },
+        h.2,
+      )
+      | false ↦ (h.0, h.1, begins-appended kind x cs ds h.2)
+    ]
 
 pub begins-with_bytes : (kind : SectionKind) (x : List ℕ) (a b : Contents) → Begins a b
     → Begins a (with_bytes kind x b)
-begins-with_bytes kind x a b h = begins-cond kind x a b (length x == 0) h
+begins-with_bytes kind x a b h = by (length x == 0)
+  where
+    by : (e : Bool) → Begins a (cond e b (appended kind x b))
+    by true = h
+    by false = begins-appended kind x a b h
 
 -- cut to their lengths, the contents are those from before
 pub truncated-begins : (a b : Contents) → Begins a b → truncated b (lengths a) ≡ a

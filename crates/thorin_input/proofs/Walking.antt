@@ -1,6 +1,6 @@
 -- One walk over the sections of an input: what is known of those so far, with those that are left.
 use Rattle.std.proofs.Common.{◌≡◌, ◌∙◌, ℕ, Bool, true, false, cond, not, eqb, ◌||◌, ◌&&◌, List, []}
-use Rattle.std.proofs.Common.{◌∷◌, map, Option, Some, None, Result, Ok, Err, refl, sym, ap, subst}
+use Rattle.std.proofs.Common.{◌∷◌, map, Option, Some, None, Result, Ok, Err, refl, sym, ap}
 use Rattle.std.specs.Prelude.{find, is_some}
 use Rattle.std.specs.List.{list_any}
 use Rattle.std.specs.Option.{option_and_then, ok_or}
@@ -9,8 +9,6 @@ use Rattle.std.proofs.Math.Bool.{or_assoc, or-false}
 use Rattle.dwp_base.specs.declared.endian.Endianness.{Endianness}
 use Rattle.dwp_base.specs.declared.section.SectionKind.{SectionKind}
 use Rattle.dwp_base.specs.declared.section.SectionKind.TheVariants as kinds
-use Rattle.dwp_base.specs.Reading.{◌>>=◌}
-use Rattle.dwp_base.proofs.Steps.{bind-ok}
 use Rattle.dwp_base.specs.Sections.{compressed_name_of, kind_named, all_kinds, same_kind}
 use Rattle.dwp_elf_read.specs.declared.error.ReadError.TheVariants.{Compressed, SectionRange}
 use Rattle.dwp_elf_read.specs.Elf.{Elf, SectionMeaning, SHT_NOBITS, name_is, has_compressed_flag}
@@ -21,13 +19,12 @@ use Rattle.thorin_errors.specs.Errors.{ErrorValue, error_of, DecompressData, Obj
 use Rattle.thorin_errors.specs.Answers.{Gives, MemoryAside, as_error}
 use Rattle.thorin_errors.specs.declared.error.Error.{Error}
 use Rattle.thorin_input.specs.Encodings.{is_index, is_plain}
-use Rattle.thorin_input.specs.Used.{Used, InputFile, is_present, used_kind, unusable, used_bytes}
+use Rattle.thorin_input.specs.Used.{Used, is_present, used_kind, unusable, used_bytes}
 use Rattle.thorin_input.specs.Used.{has_kind, with_used, used_from, input_file_of}
 use Rattle.thorin_input.specs.View as view
 use Rattle.thorin_input.specs.declared.object.InputObject.{InputObject}
 use Rattle.thorin_input.specs.declared.object.UsedSection.{UsedSection}
 use Rattle.thorin_input.specs.declared.walk.Taken.{Taken}
-use Rattle.thorin_input.proofs.Sections.{used_from-step, used_from-error, used_from-end}
 use Rattle.dwp_index.proofs.Called.{called_is_older}
 
 -- ---- one section
@@ -49,19 +46,11 @@ unfolding used_kind is_of_kind
 kind-full s h = ap (λ e. find (λ kind. not e && has_name kind s.name) all_kinds) h ∙
     full-kind s.name
 
-range-error : (content : Option (List ℕ)) → as_error unusable (ok_or content SectionRange) ≡
-    as_error ObjectRead (ok_or content SectionRange)
-range-error None = refl
-range-error (Some bytes) = refl
-
 choice : (kind : SectionKind) (s : SectionMeaning) (b : Bool)
     → (has_compressed_flag s || name_is (compressed_name_of kind) s.name) ≡ b
     → used_bytes kind s ≡ as_error unusable (cond b (Err Compressed) (ok_or s.content SectionRange))
 unfolding used_bytes contents.used_bytes
-choice kind s b h =
-    ap (λ n. as_error unusable (cond (has_compressed_flag s || n) (Err Compressed)
-    (ok_or s.content SectionRange))) (sym (called_is_older kind s.name))
-    ∙ ap (λ c. as_error unusable (cond c (Err Compressed) (ok_or s.content SectionRange))) h
+choice kind s b h = rw (← called_is_older kind s.name, h) refl
 
 pub bytes-compressed : (kind : SectionKind) (s : SectionMeaning)
     → (has_compressed_flag s || name_is (compressed_name_of kind) s.name) ≡ true
@@ -72,18 +61,22 @@ pub bytes-plain : (kind : SectionKind) (s : SectionMeaning)
     → (has_compressed_flag s || name_is (compressed_name_of kind) s.name) ≡ false
     → used_bytes kind s ≡ as_error ObjectRead (ok_or s.content SectionRange)
 bytes-plain kind s h = choice kind s false h ∙ range-error s.content
+  where
+    range-error : (content : Option (List ℕ)) → as_error unusable (ok_or content SectionRange)
+        ≡ as_error ObjectRead (ok_or content SectionRange)
+    range-error None = refl
+    range-error (Some bytes) = refl
 
 -- ---- kinds among those that are used
 
 pub found-any : {A : Type 0} (test : A → Bool) (xs : List A) → is_some (find test xs) ≡
     list_any test xs
 found-any test [] = refl
-found-any {A = A} test (x ∷ xs) = by (test x) (found-any test xs)
-  where
-    by : (b : Bool) → is_some (find test xs) ≡ list_any test xs
-        → is_some (cond b (Some x) (find test xs)) ≡ (b || list_any test xs)
-    by true h = refl
-    by false h = h
+found-any test (x ∷ xs) = elim (test x) as (λ b.
+    is_some (cond b (Some x) (find test xs)) ≡ (b || list_any test xs)) [
+      | true ↦ refl
+      | false ↦ found-any test xs
+    ]
 
 -- an index is one of the two
 both : (a b x y : Bool) → ((a || b) || (x || y)) ≡ ((a || x) || (b || y))
@@ -115,21 +108,20 @@ plain-is o = o.no_index ∙ ap not (any-index o.sections.items)
 
 -- ---- the walk
 
+-- the sections that are left
+abbrev pub those : List Placed → List SectionMeaning
+those left = map (λ (p : Placed). p.section) left
+
 -- a test of a section so far, or of one of those that are left
 pub any-step : (test : SectionMeaning → Bool) (b : Bool) (l rest : List Placed)
     (p : Placed) → l ≡ p ∷ rest
-    → ((b || test p.section) || list_any test (map (λ (q : Placed). q.section) rest)) ≡
-    (b || list_any test (map (λ (q : Placed). q.section) l))
-any-step test b l rest p h =
-    or_assoc b (test p.section) (list_any test (map (λ (q : Placed). q.section) rest)) ∙ ap (λ x.
-    b || list_any test (map (λ (q : Placed). q.section) x)) (sym h)
+    → ((b || test p.section) || list_any test (those rest)) ≡ (b || list_any test (those l))
+any-step test b l rest p h = rw h (or_assoc b (test p.section) (list_any test (those rest)))
 
 pub any-end : (test : SectionMeaning → Bool) (b : Bool) (l : List Placed)
-    (all : List SectionMeaning) → l ≡ []
-    → (b || list_any test (map (λ (q : Placed). q.section) l)) ≡ list_any test all
+    (all : List SectionMeaning) → l ≡ [] → (b || list_any test (those l)) ≡ list_any test all
     → b ≡ list_any test all
-any-end test b l all e h = sym (or-false b) ∙ ap (λ x.
-    b || list_any test (map (λ (q : Placed). q.section) x)) (sym e) ∙ h
+any-end test b l all e h = sym (or-false b) ∙ (rw e at h)
 
 -- the used sections so far, with those that are left; or the error of the first that can't be used
 abbrev pub taken : Taken → List Used
@@ -144,69 +136,20 @@ pub taken-step : (t n : Result Taken Error) (l rest : List Placed) (p : Placed)
     (all : Result (List Used) ErrorValue) → l ≡ p ∷ rest
     → MatchResult t (λ before. Gives taken n (with_used (taken before) p.section
     (used_kind p.section))) (λ e. n ≡ Err e)
-    → GoesOn t (map (λ (q : Placed). q.section) l) all
-    → GoesOn n (map (λ (q : Placed). q.section) rest) all
-taken-step (Ok t) (Ok n) l rest p all h next goes = used_from-step (taken t) (taken n) l
-    rest p h next ∙ goes
-taken-step (Ok t) (Err e) l rest p all h next goes = λ aside. sym goes ∙ used_from-error (taken t) l
-    rest p (error_of e) h (next aside)
-taken-step (Err e) n l rest p all h next goes =
-    subst (λ m. GoesOn m (map (λ (q : Placed). q.section) rest) all) (sym next) goes
+    → GoesOn t (those l) all → GoesOn n (those rest) all
+unfolding used_from
+taken-step (Ok t) (Ok n) l rest p all h next goes = rw (h, next) at goes
+taken-step (Ok t) (Err e) l rest p all h next goes = λ aside.
+    let fails = next aside in sym (rw (h, fails) at goes)
+taken-step (Err e) n l rest p all h next goes = rw next goes
 
 pub taken-end : (t : Result Taken Error) (l : List Placed) (all : Result (List Used) ErrorValue)
-    → l ≡ []
-    → GoesOn t (map (λ (q : Placed). q.section) l) all → Gives taken t all
-taken-end (Ok t) l all h goes = sym goes ∙ used_from-end (taken t) l h
+    → l ≡ [] → GoesOn t (those l) all → Gives taken t all
+unfolding used_from
+taken-end (Ok t) l all h goes = sym (rw h at goes)
 taken-end (Err e) l all h goes = goes
 
 -- what the whole walk gives
-input-is : (used : List Used) (file : Elf) (object : InputFile)
-    → used_from [] file.sections ≡ Ok used
-    → object ≡ record {
-      order = file.order;
-      sections = used;
-      has_strings = is_present kinds.Str
-          file;
-      has_abbreviations = is_present kinds.Abbrev file;
-    }
-    → input_file_of file ≡ Ok object
-unfolding input_file_of
-input-is used file object h same = bind-ok (used_from [] file.sections) used _ h ∙ ap Ok (sym same)
-
-no-input : (error : ErrorValue) (file : Elf) → used_from [] file.sections ≡ Err error
-    → input_file_of file ≡ Err error
-unfolding input_file_of
-no-input error file h = ap (λ r. r >>= λ sections.
-    Ok (record {
-      order = file.order;
-      sections = sections;
-      has_strings = is_present kinds.Str file;
-      has_abbreviations = is_present kinds.Abbrev file;
-    })) h
-
-same-object : (order : Endianness) (used : List Used) (strings abbreviations : Bool) (file : Elf)
-    → order ≡ file.order → strings ≡ is_present kinds.Str file → abbreviations ≡ is_present
-    kinds.Abbrev file
-    → ◌≡◌ {A = InputFile} (record {
-      order = order;
-      sections = used;
-      has_strings = strings;
-      has_abbreviations = abbreviations;
-    })
-    (record {
-      order = file.order;
-      sections = used;
-      has_strings = is_present kinds.Str file;
-      has_abbreviations = is_present kinds.Abbrev file;
-    })
-same-object order used strings abbreviations file o s a = λ i. record {
-  order = o i;
-  sections =
-      used;
-  has_strings = s i;
-  has_abbreviations = a i;
-}
-
 pub walk-gives : (t : Result Taken Error) (r : Result InputObject Error) (order : Endianness)
     (strings abbreviations : Bool) (file : Elf)
     → order ≡ file.order → strings ≡ is_present kinds.Str file → abbreviations ≡ is_present
@@ -219,12 +162,10 @@ pub walk-gives : (t : Result Taken Error) (r : Result InputObject Error) (order 
       has_abbreviations = abbreviations;
     }))) (λ e. r ≡ Err e)
     → Gives view.object r (input_file_of file)
+unfolding input_file_of
 walk-gives (Ok t) (Ok o) order strings abbreviations file ho hs ha used made =
-    input-is (taken t) file _ used (same-object order (taken t) strings abbreviations file
-    ho hs ha) ∙ made
+    rw (used, ← ho, ← hs, ← ha) made
 walk-gives (Ok t) (Err e) order strings abbreviations file ho hs ha used made = λ aside.
-    input-is (taken t) file _ used (same-object order (taken t) strings abbreviations file ho hs
-    ha) ∙ made aside
+    rw (used, ← ho, ← hs, ← ha) (made aside)
 walk-gives (Err e) r order strings abbreviations file ho hs ha used made =
-    subst (λ x. Gives view.object x (input_file_of file)) (sym made) (λ aside. no-input (error_of e)
-    file (used aside))
+    rw made (λ aside. let fails = used aside in rw fails refl)

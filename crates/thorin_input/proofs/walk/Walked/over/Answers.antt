@@ -1,31 +1,27 @@
-use Rattle.std.proofs.Common.{◌≡◌, ◌∙◌, ap, map, rules, [], ◌∷◌, sym}
+use Rattle.std.proofs.Common.{refl, ◌≡◌, ◌∙◌, ap, rules, [], ◌∷◌, sym}
 use Rattle.std.specs.List.{list_any}
 use Rattle.dwp_base.specs.declared.section.SectionKind.TheVariants.{Info, Abbrev, Str}
 use Rattle.dwp_base.specs.Sections.{name_of}
 use Rattle.dwp_elf_read.specs.Elf.{is_named}
-use Rattle.dwp_elf_read.specs.View.{Placed, placed, sections_left, elf}
-use Rattle.thorin_input.specs.Used.{is_of, used_from}
-use Rattle.thorin_input.specs.View as view
+use Rattle.dwp_elf_read.specs.View.{placed, sections_left, elf}
+use Rattle.thorin_input.specs.Used.{is_of}
 use Rattle.thorin_input.proofs.Sections.{map-placed}
-use Rattle.thorin_input.proofs.Walking.{found-any, any-step, any-end, taken-step, taken-end}
+use Rattle.thorin_input.proofs.Walking.{those, found-any, any-step, any-end, taken-step, taken-end}
 use Rattle.thorin_input.proofs.Walking.{walk-gives}
 use Rattle.thorin_input.proofs.walk.Walked.over.Goals as goal
 
 pub loop-section-init : goal.loop-section-init
 loop-section-init c =
-    let left : map (λ (p : Placed). p.section) (sections_left c.into_iter-section-iterator.result) ≡
-    (elf c.args.file.now).sections =
-    ap (λ it. map (λ (p : Placed). p.section) (sections_left it))
-    c.into_iter-section-iterator.ensures.into_iter_gives
-    ∙ ap (map (λ (p : Placed). p.section)) c.sections-section-items.ensures.sections
+    let left : those (sections_left c.into_iter-section-iterator.result)
+    ≡ (elf c.args.file.now).sections =
+    ap (λ it. those (sections_left it)) c.into_iter-section-iterator.ensures.into_iter_gives
+    ∙ ap those c.sections-section-items.ensures.sections
     ∙ map-placed (elf c.args.file.now) (elf c.args.file.now).sections in
     record {
       info = ap (list_any (is_of Info)) left;
       strings = ap (list_any (is_named (name_of Str))) left;
       abbreviations = ap (list_any (is_named (name_of Abbrev))) left;
-      used = ap (λ u. used_from (map view.used u) (map (λ (p : Placed). p.section)
-          (sections_left c.into_iter-section-iterator.result))) c.new.ensures ∙ ap
-          (used_from []) left;
+      used = rw (c.new.ensures, left) refl;
     }
 
 pub loop-section-preserved : goal.loop-section-preserved

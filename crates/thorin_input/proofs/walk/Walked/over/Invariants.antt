@@ -1,11 +1,11 @@
-use Rattle.std.proofs.Common.{◌≡◌, ◌||◌, map, []}
+use Rattle.std.proofs.Common.{◌≡◌, ◌||◌, []}
 use Rattle.std.specs.List.{list_any}
 use Rattle.dwp_base.specs.declared.section.SectionKind.TheVariants.{Info, Abbrev, Str}
 use Rattle.dwp_base.specs.Sections.{name_of}
 use Rattle.dwp_elf_read.specs.Elf.{is_named}
 use Rattle.dwp_elf_read.specs.View.{elf, sections_left}
 use Rattle.thorin_input.specs.Used.{is_of, used_from}
-use Rattle.thorin_input.proofs.Walking.{GoesOn}
+use Rattle.thorin_input.proofs.Walking.{GoesOn, those}
 use Rattle.thorin_input.proofs.walk.Walked.over.Given as goal
 
 -- what is there among the sections so far and those that are left is what is there among all; so
@@ -13,14 +13,14 @@ use Rattle.thorin_input.proofs.walk.Walked.over.Given as goal
 abbrev pub invariant-loop-section : goal.invariant-loop-section
 invariant-loop-section l = record {
   info : (l.present.info || list_any (is_of Info)
-      (map (λ p. p.section) (sections_left l.section-iterator))) ≡ list_any (is_of Info)
+      (those (sections_left l.section-iterator))) ≡ list_any (is_of Info)
       (elf l.file).sections;
   strings : (l.present.strings || list_any (is_named (name_of Str))
-      (map (λ p. p.section) (sections_left l.section-iterator))) ≡ list_any (is_named (name_of Str))
+      (those (sections_left l.section-iterator))) ≡ list_any (is_named (name_of Str))
       (elf l.file).sections;
   abbreviations : (l.present.abbreviations || list_any (is_named (name_of Abbrev))
-      (map (λ p. p.section) (sections_left l.section-iterator))) ≡ list_any
+      (those (sections_left l.section-iterator))) ≡ list_any
       (is_named (name_of Abbrev)) (elf l.file).sections;
-  used : GoesOn l.taken (map (λ p. p.section) (sections_left l.section-iterator))
+  used : GoesOn l.taken (those (sections_left l.section-iterator))
       (used_from [] (elf l.file).sections);
 }
