@@ -9,7 +9,7 @@ use std::os::unix::fs::{FileTypeExt, MetadataExt};
 use std::path::{AsPath, Path};
 
 /// How much room is made at least for files that are read one after another: 16 MiB. Most objects
-/// fit, and new room costs the system an error for each page that it touches for the first time.
+/// fit, and new room costs the system a fault for each page that it touches for the first time.
 const ROOM: usize = 0x100_0000;
 
 /// Reads a file whole, into room of its length where the system tells the length, so that it is
