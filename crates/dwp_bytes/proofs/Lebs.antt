@@ -114,6 +114,12 @@ pub bits_fit : (value scale low : ℕ) → value < scale → scale ≤ 128 ^ 8 �
 bits_fit value scale low lt small high = let m : low * scale ≤ 127 * scale = mul-le-mul_right scale
     high in omega (arith, m)
 
+-- of a byte that is read before the tenth
+pub seven_more : (k value scale low : ℕ) → scale ≡ 128 ^ k → k < 9 → value < scale → low ≤ 127
+    → value + low * scale < 2 ^ 63
+seven_more k value scale low scaled lt below high =
+    bits_fit value scale low below (small k scale scaled lt) high
+
 -- and after nine bytes one bit more
 pub last_fits : (value scale low : ℕ) → value < scale → scale ≡ 128 ^ 9 → low ≤ 1
     → value + low * scale < 2 ^ 64

@@ -1,11 +1,12 @@
 -- No two contents are of one kind, whatever is appended or cut, so there are at most 13.
 use Rattle.std.proofs.Common.{◌≡◌, ℕ, ◌+◌, ◌≤◌, Bool, true, false, cond, List, [], ◌∷◌, length}
-use Rattle.std.proofs.Common.{refl, sym, ap, ◌∙◌, eqb, arith}
+use Rattle.std.proofs.Common.{refl, ◌∙◌, eqb, arith, ◌⊎◌, inl, inr}
 use Rattle.std.specs.Prelude.{Result, Ok, Err, is_ok, OnOk}
-use Rattle.std.proofs.lemmas.Bool.{eqb-true, eqb-false}
+use Rattle.std.proofs.lemmas.Bool.{eqb-true}
 use Rattle.dwp_base.specs.declared.section.SectionKind.{SectionKind}
-use Rattle.dwp_base.specs.Sections.{rank_of, same_kind, all_kinds}
-use Rattle.dwp_base.proofs.EveryKind.{every}
+use Rattle.dwp_base.specs.Sections.{same_kind, all_kinds}
+use Rattle.dwp_base.proofs.Bools.{by-bool}
+use Rattle.dwp_base.proofs.EveryKind.{every, is-same}
 use Rattle.dwp_elf.specs.Contents.{count_of, KindsDiffer, appended, truncated, contents_of}
 use Rattle.dwp_elf.proofs.Changes.{length-contents_of}
 use Rattle.std.specs.Global.{Vec}
@@ -14,65 +15,27 @@ use Rattle.std.specs.Global.{Vec}
 abbrev one_if : Bool → ℕ
 one_if b = cond b 1 0
 
-one_if-le : (b : Bool) → one_if b ≤ 1
-one_if-le true = omega arith
-one_if-le false = omega arith
-
-false_unless : (b : Bool) → (b ≡ true → ⊥) → b ≡ false
-false_unless true h = absurd (h refl)
-false_unless false h = refl
-
--- a kind that isn't the first of two which are one isn't the second
-same_kind-other : (a b c : SectionKind) → same_kind a c ≡ true → same_kind a b ≡ false
-    → same_kind b c ≡ false
-same_kind-other a b c e f =
-    false_unless (same_kind b c) (λ g. eqb-false (rank_of a) (rank_of b) f
-    (eqb-true (rank_of a) (rank_of c) e ∙ sym (eqb-true (rank_of b) (rank_of c) g)))
-
-count_of-other_at : (kind k : SectionKind) (bytes : List ℕ) (c : SectionKind × List ℕ)
-    (cs : List (SectionKind × List ℕ)) (b : Bool) → same_kind c.0 kind ≡ b
-    → count_of k (appended kind bytes cs) ≡ count_of k cs
-    → count_of k (appended kind bytes (c ∷ cs)) ≡ count_of k (c ∷ cs)
-count_of-other_at kind k bytes c cs true e rest = rw e refl
-count_of-other_at kind k bytes c cs false e rest =
-    rw e (ap (λ n. one_if (same_kind c.0 k) + n) rest)
-
--- an append changes no count but that of its kind
-count_of-other : (kind k : SectionKind) (bytes : List ℕ) (cs : List (SectionKind × List ℕ))
-    → same_kind kind k ≡ false
-    → count_of k (appended kind bytes cs) ≡ count_of k cs
-count_of-other kind k bytes [] e = rw e refl
-count_of-other kind k bytes (c ∷ cs) e = count_of-other_at kind k bytes c cs (same_kind c.0 kind)
-    refl (count_of-other kind k bytes cs e)
-
--- where the first content is of another kind than the one that is appended to
-count_of-later : (kind k : SectionKind) (bytes : List ℕ) (c : SectionKind × List ℕ)
-    (cs : List (SectionKind × List ℕ)) (b : Bool) → same_kind c.0 k ≡ b
-    → same_kind c.0 kind ≡ false → (count_of k cs ≤ 1 → count_of k (appended kind bytes cs) ≤ 1)
-    → one_if b + count_of k cs ≤ 1
-    → one_if b + count_of k (appended kind bytes cs) ≤ 1
-count_of-later kind k bytes c cs true e f rest h =
-    omega (arith, count_of-other kind k bytes cs (same_kind-other c.0 kind k e f), h)
-count_of-later kind k bytes c cs false e f rest h = let r = rest (omega (arith, h)) in
-    omega (arith, r)
-
-count_of-appended_at : (kind k : SectionKind) (bytes : List ℕ) (c : SectionKind × List ℕ)
-    (cs : List (SectionKind × List ℕ)) (b : Bool) → same_kind c.0 kind ≡ b
-    → (count_of k cs ≤ 1 → count_of k (appended kind bytes cs) ≤ 1) → count_of k (c ∷ cs) ≤ 1
-    → count_of k (appended kind bytes (c ∷ cs)) ≤ 1
-count_of-appended_at kind k bytes c cs true e rest h = rw e h
-count_of-appended_at kind k bytes c cs false e rest h =
-    rw e (count_of-later kind k bytes c cs (same_kind c.0 k) refl e rest h)
-
+-- an append changes no count, or its kind is new and stands once
 count_of-appended : (kind k : SectionKind) (bytes : List ℕ) (cs : List (SectionKind × List ℕ))
-    → count_of k cs ≤ 1 → count_of k (appended kind bytes cs) ≤ 1
-count_of-appended kind k bytes [] h = let e = one_if-le (same_kind kind k) in omega (arith, e)
-count_of-appended kind k bytes (c ∷ cs) h = count_of-appended_at kind k bytes c cs
-    (same_kind c.0 kind) refl (count_of-appended kind k bytes cs) h
+    → (count_of k (appended kind bytes cs) ≡ count_of k cs)
+    ⊎ ((same_kind kind k ≡ true) × (count_of k (appended kind bytes cs) ≡ 1))
+count_of-appended kind k bytes [] = by-bool _ (same_kind kind k) (λ e. inr (e, rw e refl))
+    (λ e. inl (rw e refl))
+count_of-appended kind k bytes (c ∷ cs) = by-bool _ (same_kind c.0 kind)
+    (λ here. inl (rw here refl))
+    (λ other. elim (count_of-appended kind k bytes cs) [
+      | inl same ↦ inl (rw (other, same) refl)
+      | inr new ↦
+          let differs : same_kind c.0 k ≡ false = rw (← is-same kind k new.0) other in
+          inr (new.0, rw (other, new.1, differs) refl)
+    ])
 
 pub KindsDiffer-appended : (kind : SectionKind) (bytes : List ℕ) (cs : List (SectionKind × List ℕ))
     → KindsDiffer cs → KindsDiffer (appended kind bytes cs)
-KindsDiffer-appended kind bytes cs h k = count_of-appended kind k bytes cs (h k)
+KindsDiffer-appended kind bytes cs h k = elim (count_of-appended kind k bytes cs) [
+  | inl same ↦ omega (arith, same, h k)
+  | inr new ↦ omega (arith, new.1)
+]
 
 count_of-truncated : (k : SectionKind) (cs : List (SectionKind × List ℕ)) (ns : List ℕ)
     → count_of k (truncated cs ns) ≤ count_of k cs

@@ -3,11 +3,8 @@ pub mod KindCounts
 pub mod Limits
 pub mod Parts
 pub mod ReadingBack
-pub mod ReadingSteps
 pub mod SoFar
 pub mod Whole
 pub mod WrittenFields
-pub mod WrittenHeader
-pub mod WrittenSection
-pub mod WrittenBack
 pub mod WrittenSections
+pub mod ReadingSteps

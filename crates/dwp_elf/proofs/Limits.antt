@@ -1,6 +1,6 @@
 -- The greatest of a file's numbers decides whether all of them fit its class.
-use Rattle.std.proofs.Common.{◌≡◌, ℕ, zero, suc, ◌+◌, ◌*◌, ◌^◌, ◌<◌, ◌≤◌, List, [], ◌∷◌, ◌++◌}
-use Rattle.std.proofs.Common.{length, replicate, refl, ap, arith, length-append}
+use Rattle.std.proofs.Common.{◌≡◌, ℕ, zero, suc, ◌+◌, ◌*◌, ◌^◌, ◌<◌, ◌≤◌, List, [], ◌∷◌}
+use Rattle.std.proofs.Common.{length, refl, ap, arith, length-append}
 use Rattle.std.specs.Prelude.{Option, None, Some, MatchOption, OnOk, IfErr}
 use Rattle.std.specs.Option.{ok_or}
 use Rattle.std.specs.List.{All}
@@ -54,8 +54,12 @@ unfolding headers_from
 length-headers_from class order size name place [] =
     omega (arith, length-section_header class order name 3 place size)
 length-headers_from class order size name place (c ∷ cs) =
-    simp (length-append, length-section_header, length-headers_from class order size
-    (name + length (name_of c.0) + 1) (place + length c.1) cs) (omega arith)
+    simp (
+      length-append,
+      length-section_header,
+      length-headers_from class order size
+          (name + length (name_of c.0) + 1) (place + length c.1) cs,
+    ) (omega arith)
 
 pub length-null_header : (class : Class) → length (null_header class) ≡ entry_size class
 length-null_header Elf32 = refl

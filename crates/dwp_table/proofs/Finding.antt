@@ -4,6 +4,7 @@ use Rattle.std.proofs.Common.{refl, ap, ◌∙◌, arith}
 use Rattle.std.specs.Prelude.{Some, None}
 use Rattle.std.specs.List.{find, range_with_len}
 use Rattle.std.proofs.Math.Decide.{dec_lt}
+use Rattle.dwp_base.proofs.Bools.{by-bool}
 
 pub find_first : (p : ℕ → Bool) (a n i : ℕ) → a ≤ i → i < a + n → p i ≡ true
     → ((j : ℕ) → a ≤ j → j < i → p j ≡ false) → find p (range_with_len a n) ≡ Some i
@@ -33,15 +34,6 @@ pub record IsFirst (p : ℕ → Bool) (n i : ℕ) : Type 0 where
   pub here : p i ≡ true
   pub earlier : (j : ℕ) → j < i → p j ≡ false
 
-search_by : (p : ℕ → Bool) (n : ℕ) (t : Bool) → p n ≡ t → ((j : ℕ) → j < n → p j ≡ false)
-    → ((i : ℕ) × IsFirst p (suc n) i) ⊎ ((j : ℕ) → j < suc n → p j ≡ false)
-search_by p n true e none = inl (n, record { within = omega arith; here = e; earlier = none })
-search_by p n false e none = inr (λ j h. elim (dec_lt j n) [
-  | yes q ↦ none j q
-  | no q ↦ let last : j
-      ≡ n = omega arith in ap p last ∙ e
-])
-
 -- there is a first number that passes, or none does
 pub first_or_none : (p : ℕ → Bool) (n : ℕ) → ((i : ℕ) × IsFirst p n i)
     ⊎ ((j : ℕ) → j < n → p j ≡ false)
@@ -49,13 +41,14 @@ first_or_none p zero = inr (λ j h. absurd (omega arith))
 first_or_none p (suc n) = elim (first_or_none p n) [
   | inl w ↦ inl (
     w.0,
-    record {
-      within = omega (arith, w.1.within);
-      here = w.1.here;
-      earlier = w.1.earlier;
-    },
+    record { within = omega (arith, w.1.within); here = w.1.here; earlier = w.1.earlier },
   )
-  | inr none ↦ search_by p n (p n) refl none
+  | inr none ↦ by-bool _ (p n)
+      (λ e. inl (n, record { within = omega arith; here = e; earlier = none }))
+      (λ e. inr (λ j h. elim (dec_lt j n) [
+        | yes q ↦ none j q
+        | no q ↦ let last : j ≡ n = omega arith in ap p last ∙ e
+      ]))
 ]
 
 pub find-first : (p : ℕ → Bool) (n i : ℕ) → IsFirst p n i → find p (range_with_len 0 n) ≡ Some i

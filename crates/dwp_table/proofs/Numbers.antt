@@ -1,6 +1,6 @@
 -- Powers of two, odd steps round them, and the pigeonhole principle.
 use Rattle.std.proofs.Common.{◌≡◌, ℕ, zero, suc, ◌+◌, ◌-◌, ◌*◌, ◌/◌, ◌%◌, ◌^◌, ◌<◌, ◌≤◌, Bool, true}
-use Rattle.std.proofs.Common.{false, cond, eqb, ltb, ◌⊎◌, inl, inr, refl, sym, ap, subst, ◌∙◌}
+use Rattle.std.proofs.Common.{false, cond, eqb, ltb, ◌⊎◌, inl, inr, refl, sym, ap, ◌∙◌}
 use Rattle.std.proofs.Common.{arith}
 use Rattle.std.specs.Prelude.{count_ones, bit_or, IsTrue}
 use Rattle.std.specs.Int.{is_power_of_two}
@@ -88,8 +88,7 @@ one_slot size start step i j power odd in_i in_j same =
     let t = step / 2 in
     let s : step ≡ 2 * t + 1 = omega arith in
     let same' : (start + i * (2 * t + 1)) % 2 ^ k.0 ≡ (start + j * (2 * t + 1)) % 2 ^ k.0 =
-    subst (λ x. (start + i * x) % 2 ^ k.0 ≡ (start + j * x) % 2 ^ k.0) s
-    (subst (λ m. (start + i * step) % m ≡ (start + j * step) % m) k.1 same) in
+    rw (← s, ← k.1) same in
     elim (dec_lt i j) [
       | yes p ↦ absurd (apart k.0 start t i j p (omega (arith, k.1)) same')
       | no p ↦ elim (dec_lt j i) [

@@ -1,6 +1,6 @@
 -- Placing one more identifier keeps all earlier placements.
 use Rattle.std.proofs.Common.{◌≡◌, ◌≢◌, ℕ, ◌+◌, ◌^◌, ◌<◌, ◌≤◌, ◌⊎◌, inl, inr, List, [], ◌∷◌, ◌++◌}
-use Rattle.std.proofs.Common.{length, get_or, set, eqb, eq-eqb, Some, None, sym, ap, subst, ◌∙◌}
+use Rattle.std.proofs.Common.{length, get_or, set, eqb, eq-eqb, Some, None, refl, sym, ap, subst, ◌∙◌}
 use Rattle.std.proofs.Common.{arith}
 use Rattle.std.specs.Prelude.{IsTrue, replicate}
 use Rattle.std.specs.Option.{option_map_or}
@@ -93,19 +93,12 @@ module _ (ids rows : List ℕ) (x i : ℕ) (table : IsHashTable ids rows) (free 
     | yes p ↦
         let at = table.placed r p in (
           at.0,
-          subst (λ y. IsPlacedAfter with_last y (r + 1) at.0)
-              (sym (get_or-append ids (x ∷ []) 0 r p))
-              (stays rows x i (length ids + 1) free _ (r + 1)
+          rw (get_or-append ids (x ∷ []) 0 r p) (stays rows x i (length ids + 1) free _ (r + 1)
               at.0 (omega arith) at.1),
         )
     | no p ↦
         let last : length ids ≡ r = omega (arith, length-append ids (x ∷ [])) in
-        let same : x ≡ get_or (ids ++ x ∷ []) r 0 = sym (get_or-append_seam ids x [] 0) ∙ ap (λ n.
-        get_or (ids ++ x ∷ []) n 0) last in (
-          i,
-          subst (λ y. IsPlacedAfter with_last y (r + 1) i) same
-              (subst (λ n. IsPlacedAfter with_last x (n + 1) i) last last_placed),
-        )
+        (i, rw (← last, get_or-append_seam ids x [] 0) last_placed)
   ]
 
   pub placed_table : IsHashTable (ids ++ x ∷ []) with_last
@@ -113,7 +106,7 @@ module _ (ids rows : List ℕ) (x i : ℕ) (table : IsHashTable ids rows) (free 
       let more = length-append ids (x ∷ []) in
       let same = length-set rows last_slot (length ids + 1) in
       record {
-        power = subst (λ n. IsTrue (is_power_of_two n)) (sym same) table.power;
+        power = rw same table.power;
         room = omega (arith, more, same);
         small = omega (arith, same, table.small);
         placed = all_placed;
@@ -187,26 +180,24 @@ all_used old rows x i same within used = λ j h. subst (λ l. (k : ℕ) → k < 
 
 pub written-rows : (old rows : List ℕ) (x r i at : ℕ) → rows ≡ old → at ≡ place (length old) x i
     → IsFree old x i → set rows at r ≡ rows_with old x r
-written-rows old rows x r i at same at_place free = ap (λ l. set l at r) same ∙ ap (λ k.
-    set old k r) at_place ∙ sym (rows_with-free old x r i free)
+written-rows old rows x r i at same at_place free =
+    rw (same, at_place, rows_with-free old x r i free) refl
 
 pub written_table : (ids old : List ℕ) (x r : ℕ) (i : ℕ) → IsFree old x i → IsHashTable ids old
     → r ≡ length ids + 1 → r < length old → IsHashTable (ids ++ x ∷ []) (rows_with old x r)
 written_table ids old x r i free table last room =
-    subst (λ l. IsHashTable (ids ++ x ∷ []) l) (ap (λ n. set old (place (length old) x i) n)
-    (sym last) ∙ sym (rows_with-free old x r i free)) (placed_table ids old x i table
-    free (omega arith))
+    rw (rows_with-free old x r i free, last) (placed_table ids old x i table free (omega arith))
 
 -- what writing it does to the rows that were there, and where it stands
 pub stays_written : (old : List ℕ) (x v i : ℕ) → IsFree old x i → (y r j : ℕ) → 0 < r
     → IsPlacedAfter old y r j → IsPlacedAfter (rows_with old x v) y r j
-stays_written old x v i free y r j some at = subst (λ l. IsPlacedAfter l y r j)
-    (sym (rows_with-free old x v i free)) (stays old x i v free y r j some at)
+stays_written old x v i free y r j some at =
+    rw (rows_with-free old x v i free) (stays old x i v free y r j some at)
 
 pub stands_written : (ids old : List ℕ) (x r i : ℕ) → IsFree old x i → IsHashTable ids old
     → r ≡ length ids + 1 → IsPlacedAfter (rows_with old x r) x r i
 stands_written ids old x r i free table last =
-    subst (λ l. IsPlacedAfter l x r i) (sym (rows_with-free old x r i free))
+    rw (rows_with-free old x r i free)
     (stands old x i r free table.power (λ k. omega (arith, table.only k)))
 
 -- ---- no identifier yet
@@ -225,7 +216,7 @@ pub empty_table : (size : ℕ) → IsTrue (is_power_of_two size) → size < 2 ^ 
 empty_table size power small =
     let same : length (zeros size) ≡ size = length-replicate size 0 in
     record {
-      power = subst (λ n. IsTrue (is_power_of_two n)) (sym same) power;
+      power = rw same power;
       room = omega (arith, same, positive size power);
       small = omega (arith, same);
       placed = λ r h. absurd (omega arith);

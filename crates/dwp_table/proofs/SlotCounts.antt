@@ -1,5 +1,5 @@
 -- How many slots a table is written with.
-use Rattle.std.proofs.Common.{◌≡◌, ℕ, suc, ◌+◌, ◌*◌, ◌^◌, ◌<◌, ◌≤◌, ◌⊎◌, inl, inr, sym, ap, subst}
+use Rattle.std.proofs.Common.{◌≡◌, ℕ, suc, ◌+◌, ◌*◌, ◌^◌, ◌<◌, ◌≤◌, ◌⊎◌, inl, inr, sym, ap}
 use Rattle.std.proofs.Common.{◌∙◌, eq-eqb, arith}
 use Rattle.std.specs.Prelude.{count_ones, IsTrue}
 use Rattle.std.specs.Int.{is_power_of_two}
@@ -30,7 +30,7 @@ pub has_slots : (units size k : ℕ) → size ≡ 2 ^ suc k → (size ≡ 2) ⊎
     → 3 * units < 2 * size → HasSlots units size
 has_slots units size k power least above = record {
   few = λ h. elim least [ inl e ↦ e | inr low ↦ omega (arith, power, pow-suc 2 k, pow_pos k) ];
-  power = λ h. subst (λ n. IsTrue (is_power_of_two n)) (sym power) (is_power (suc k));
+  power = λ h. rw power (is_power (suc k));
   above = λ h. above;
   least = λ h other is more. let j = exponent other is in elim (dec_lt other size) [
     | yes p ↦ absurd (let half = half_at_most j.0 k (omega (arith, j.1, power)) in

@@ -3,7 +3,6 @@ use Rattle.std.proofs.Common.{◌≡◌, ◌≢◌, ℕ, zero, suc, ◌+◌, ◌
 use Rattle.std.proofs.Common.{◌||◌, inl, inr, List, length, get_or, refl, sym, ap, subst, ◌∙◌}
 use Rattle.std.proofs.Common.{eq-eqb, arith}
 use Rattle.std.specs.Prelude.{Option, Some}
-use Rattle.std.specs.Option.{option_map_or, option_and_then}
 use Rattle.std.proofs.lemmas.Bool.{eqb-true, eqb-false, ne_eqb}
 use Rattle.dwp_table.specs.Probing.{place, is_end, first_end, found_row, look_count, row_of}
 use Rattle.dwp_table.specs.Table.{IsPlacedAfter, IsHashTable, IsIndex, FindsExactly, signature_of}
@@ -68,7 +67,7 @@ has_free ids rows x table =
 
 -- ---- the end of a look-up
 unused_ends : (row signature x : ℕ) → row ≡ 0 → (eqb row 0 || eqb signature x) ≡ true
-unused_ends row signature x e = subst (λ r. (eqb r 0 || eqb signature x) ≡ true) (sym e) refl
+unused_ends row signature x e = rw e refl
 
 found_ends : (row signature x : ℕ) → signature ≡ x → (eqb row 0 || eqb signature x) ≡ true
 found_ends row signature x e = or-right (eqb row 0) (eqb signature x) (eq-eqb signature x e)
@@ -132,11 +131,11 @@ module _ (ids signatures rows : List ℕ) (x : ℕ) (index : IsIndex ids signatu
   found-end : (i : ℕ) (row : Option ℕ) → first_end signatures rows x ≡ Some i
       → row_of (row_at rows x i) ≡ row → found_row signatures rows x ≡ row
   unfolding found_row
-  found-end i row e at = ap (λ o. option_and_then (λ j. row_of (row_at rows x j)) o) e ∙ at
+  found-end i row e at = rw e at
 
   count-end : (i : ℕ) → first_end signatures rows x ≡ Some i → look_count signatures rows x ≡ suc i
   unfolding look_count
-  count-end i e = ap (λ o. option_map_or suc o (length rows)) e
+  count-end i e = rw e refl
 
   placed_at : (r : ℕ) → r < length ids → get_or ids r 0 ≡ x → (i : ℕ)
       × IsPlacedAfter rows x (r + 1) i

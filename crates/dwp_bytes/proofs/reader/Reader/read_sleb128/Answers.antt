@@ -2,7 +2,7 @@ use Rattle.std.proofs.Common.{ℕ, to_z, of_z, w64, ◌+ℤ◌, negsuc, pos, ◌
 use Rattle.std.proofs.Common.{◌^◌, arith, sym, ap, ◌∙◌}
 use Rattle.std.proofs.lemmas.Int.{ints}
 use Rattle.std.proofs.lemmas.Result.{err_from_is_err_and}
-use Rattle.dwp_bytes.proofs.Lebs.{small, bits_fit}
+use Rattle.dwp_bytes.proofs.Lebs.{small, bits_fit, seven_more}
 use Rattle.dwp_bytes.proofs.SignedLebs.{more, sleb_low, sleb_high, sleb_fails, sleb_big, cast_low}
 use Rattle.dwp_bytes.proofs.SignedLebs.{cast_less, cast_lowest, renamed}
 use Rattle.dwp_bytes.proofs.reader.Reader.read_sleb128.Goals as goal
@@ -15,29 +15,15 @@ returns-in_err-byte g c =
       ap g.Self.Reader.input c.loop.invariant.0,
     )
 
-pub overflow_mul-result : goal.overflow_mul-result
-overflow_mul-result g c =
-    let far = c.loop.invariant.1 in
-    let m = bits_fit c.loop.value c.loop.scale c.from.result far.below
-    (small _ _ far.scaled c.loop-test.true) (omega arith) in omega (arith, m)
-
-pub overflow_add-result : goal.overflow_add-result
-overflow_add-result g c =
-    let far = c.loop.invariant.1 in
-    let m = bits_fit c.loop.value c.loop.scale c.from.result far.below
-    (small _ _ far.scaled c.loop-test.true) (omega arith) in omega (arith, m)
-
 pub overflow_cast-result : goal.overflow_cast-result
 overflow_cast-result g c =
     let far = c.loop.invariant.1 in
-    let m = bits_fit c.loop.value c.loop.scale c.from.result far.below
-    (small _ _ far.scaled c.loop-test.true) (omega arith) in omega (arith, ints, m)
+    omega (arith, ints, seven_more _ _ _ c.from.result far.scaled c.loop-test.true far.below (omega arith))
 
 pub returns-then-byte-lt64 : goal.returns-then-byte-lt64
 returns-then-byte-lt64 g c =
     let far = c.loop.invariant.1 in
-    let m = bits_fit c.loop.value c.loop.scale c.in_ok-byte.byte far.below
-    (small _ _ far.scaled c.loop-test.true) (omega arith) in
+    let m = seven_more _ _ _ c.in_ok-byte.byte far.scaled c.loop-test.true far.below (omega arith) in
     rw c.from.ensures (renamed _ _ _ _ (sleb_low _ _ _ _ _ _ _ far (omega arith)
     c.in_ok-byte.ensures c.if-byte-lt64.true m) (cast_low _ m))
 
@@ -46,23 +32,15 @@ overflow_cast-result-then-byte-lt128 g c =
     let far = c.loop.invariant.1 in
     let m = small _ _ far.scaled c.loop-test.true in omega (arith, ints, m, far.below)
 
-pub overflow_mul-result-then-byte-lt128 : goal.overflow_mul-result-then-byte-lt128
-overflow_mul-result-then-byte-lt128 g c =
-    let far = c.loop.invariant.1 in
-    let m = bits_fit c.loop.value c.loop.scale c.from-then-byte-lt128.result far.below
-    (small _ _ far.scaled c.loop-test.true) (omega arith) in omega (arith, m)
-
 pub overflow_cast-result-then-byte-lt128-2 : goal.overflow_cast-result-then-byte-lt128-2
 overflow_cast-result-then-byte-lt128-2 g c =
     let far = c.loop.invariant.1 in
-    let m = bits_fit c.loop.value c.loop.scale c.from-then-byte-lt128.result far.below
-    (small _ _ far.scaled c.loop-test.true) (omega arith) in omega (arith, ints, m)
+    omega (arith, ints, seven_more _ _ _ c.from-then-byte-lt128.result far.scaled c.loop-test.true far.below (omega arith))
 
 pub overflow_sub-result : goal.overflow_sub-result
 overflow_sub-result g c =
     let far = c.loop.invariant.1 in
-    let m = bits_fit c.loop.value c.loop.scale c.from-then-byte-lt128.result far.below
-    (small _ _ far.scaled c.loop-test.true) (omega arith) in omega (arith, ints, m)
+    omega (arith, ints, seven_more _ _ _ c.from-then-byte-lt128.result far.scaled c.loop-test.true far.below (omega arith))
 
 pub returns-then-byte-lt128 : goal.returns-then-byte-lt128
 returns-then-byte-lt128 g c =
@@ -75,22 +53,6 @@ returns-then-byte-lt128 g c =
     c.if-byte-lt128.true (omega (arith, s, far.below)) (omega (arith, m)))
     (cast_less c.loop.value ((128 - c.in_ok-byte.byte) * c.loop.scale) (omega (arith, s, far.below))
     (omega (arith, m))))
-
-pub overflow_mul-value : goal.overflow_mul-value
-overflow_mul-value g c =
-    let far = c.loop.invariant.1 in
-    let m = bits_fit c.loop.value c.loop.scale c.from-in-loop.result far.below
-    (small _ _ far.scaled c.loop-test.true) (omega arith) in omega (arith, m)
-
-pub overflow_add-value : goal.overflow_add-value
-overflow_add-value g c =
-    let far = c.loop.invariant.1 in
-    let m = bits_fit c.loop.value c.loop.scale c.from-in-loop.result far.below
-    (small _ _ far.scaled c.loop-test.true) (omega arith) in omega (arith, m)
-
-pub overflow_mul-scale : goal.overflow_mul-scale
-overflow_mul-scale g c =
-    let m = small _ _ c.loop.invariant.1.scaled c.loop-test.true in omega (arith, m)
 
 pub loop-preserved : goal.loop-preserved
 loop-preserved g c = (

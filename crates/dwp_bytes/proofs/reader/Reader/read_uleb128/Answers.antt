@@ -1,6 +1,6 @@
 use Rattle.std.proofs.Common.{◌≡◌, arith, ap}
 use Rattle.std.proofs.lemmas.Result.{err_from_is_err_and}
-use Rattle.dwp_bytes.proofs.Lebs.{more, small, bits_fit, uleb_ends, uleb_fails, uleb_big, last_fits}
+use Rattle.dwp_bytes.proofs.Lebs.{more, seven_more, uleb_ends, uleb_fails, uleb_big, last_fits}
 use Rattle.dwp_bytes.proofs.reader.Reader.read_uleb128.Goals as goal
 
 pub returns-in_err-byte : goal.returns-in_err-byte
@@ -13,41 +13,12 @@ returns-in_err-byte g c =
           g.Self.Reader.input c.loop.invariant.0,
     )
 
-pub overflow_mul-result : goal.overflow_mul-result
-overflow_mul-result g c =
-    let far = c.loop.invariant.1 in
-    let m = bits_fit c.loop.value c.loop.scale c.from.result far.below
-    (small _ _ far.scaled c.loop-test.true) (omega arith) in omega (arith, m)
-
-pub overflow_add-result : goal.overflow_add-result
-overflow_add-result g c =
-    let far = c.loop.invariant.1 in
-    let m = bits_fit c.loop.value c.loop.scale c.from.result far.below
-    (small _ _ far.scaled c.loop-test.true) (omega arith) in omega (arith, m)
-
 pub returns-then-byte-lt128 : goal.returns-then-byte-lt128
 returns-then-byte-lt128 g c =
     let far = c.loop.invariant.1 in
-    let m = bits_fit c.loop.value c.loop.scale c.in_ok-byte.byte far.below
-    (small _ _ far.scaled c.loop-test.true) (omega arith) in
+    let m = seven_more _ _ _ c.in_ok-byte.byte far.scaled c.loop-test.true far.below (omega arith) in
     rw c.from.ensures (uleb_ends _ _ _ _ _ _ _ far (omega arith) c.in_ok-byte.ensures (omega arith)
     (omega (arith, m)))
-
-pub overflow_mul-value : goal.overflow_mul-value
-overflow_mul-value g c =
-    let far = c.loop.invariant.1 in
-    let m = bits_fit c.loop.value c.loop.scale c.from-in-loop.result far.below
-    (small _ _ far.scaled c.loop-test.true) (omega arith) in omega (arith, m)
-
-pub overflow_add-value : goal.overflow_add-value
-overflow_add-value g c =
-    let far = c.loop.invariant.1 in
-    let m = bits_fit c.loop.value c.loop.scale c.from-in-loop.result far.below
-    (small _ _ far.scaled c.loop-test.true) (omega arith) in omega (arith, m)
-
-pub overflow_mul-scale : goal.overflow_mul-scale
-overflow_mul-scale g c =
-    let m = small _ _ c.loop.invariant.1.scaled c.loop-test.true in omega (arith, m)
 
 pub loop-preserved : goal.loop-preserved
 loop-preserved g c = (

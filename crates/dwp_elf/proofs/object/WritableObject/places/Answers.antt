@@ -1,9 +1,7 @@
-use Rattle.std.proofs.Common.{ap, length, arith}
+use Rattle.std.proofs.Common.{arith}
 use Rattle.dwp_elf.specs.Object.{object_of}
-use Rattle.dwp_elf.proofs.Changes.{length-contents_of}
-use Rattle.dwp_elf.proofs.KindCounts.{length-KindsDiffer}
 use Rattle.dwp_elf.proofs.Limits.{places-fits, places-refused}
-use Rattle.dwp_elf.proofs.WrittenBack.{places-back}
+use Rattle.dwp_elf.proofs.ReadingBack.{places-back}
 use Rattle.dwp_elf.proofs.object.WritableObject.places.Goals as goal
 
 pub returns-clause-fits : goal.returns-clause-fits

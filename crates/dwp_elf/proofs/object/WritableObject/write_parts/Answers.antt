@@ -1,5 +1,4 @@
 use Rattle.std.proofs.Common.{refl, ◌∙◌, arith}
-use Rattle.dwp_elf.proofs.KindCounts.{few_sections}
 use Rattle.dwp_elf.proofs.SoFar.{part_after, part_before, Writes-after, failed}
 use Rattle.dwp_elf.proofs.Whole.{text_parts}
 use Rattle.dwp_elf.proofs.object.WritableObject.write_parts.Goals as goal
