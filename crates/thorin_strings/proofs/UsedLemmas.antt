@@ -43,32 +43,11 @@ used_new bytes new s n ended free is_new is_long absent =
       ap strings_in is_new ∙ (strings_push bytes s ended free).0 ∙ sym (cond-false _ _ _ none),
     )
 
--- the strings before it are kept
-pub kept_last : (bytes new s : List ℕ) → data_of (strings_in bytes) ≡ bytes → IsZeroFree s
-    → new ≡ bytes ++ terminated s → take (length (strings_in bytes)) (strings_in new) ≡
-    strings_in bytes
-kept_last bytes new s ended free is_new =
-    ap (take (length (strings_in bytes))) (ap strings_in is_new ∙ (strings_push bytes s ended
-    free).0) ∙ take_at (strings_in bytes) (s ∷ []) _ refl
-
 -- the bytes of a string and of its end, one after the other
 pub two_pushes : (bytes kept longer new s : List ℕ) → kept ≡ bytes → longer ≡ kept ++ s
     → new ≡ longer ++ 0 ∷ [] → new ≡ bytes ++ terminated s
 two_pushes bytes kept longer new s e1 e2 e3 = e3 ∙ ap (λ l. l ++ 0 ∷ []) (e2 ∙ ap (λ l. l ++ s) e1)
     ∙ append_assoc bytes s (0 ∷ [])
-
--- an entry whose string was used
-pub entry_used : (order : Endianness) (encoding : Encoding) (section bytes : List ℕ) (index : ℕ)
-    (old new : List (List ℕ)) (string : List ℕ) (offset : ℕ) → named_at order encoding section bytes
-    index ≡ Ok string → offset ≤ offset_limit encoding.format → (offset ≡ offset_of old string)
-    × (new ≡ with_string old string) → remapped_entry order encoding section bytes index old ≡
-    Ok (offset, new)
-unfolding remapped_entry fitting_offset
-entry_used order encoding section bytes index old new string offset named fits used =
-    let within : ltb (offset_limit encoding.format) (offset_of old string) ≡ false =
-    le-ltb (offset_limit encoding.format) (offset_of old string)
-    (subst (λ n. n ≤ offset_limit encoding.format) used.0 fits) in
-    rw (named, within) (ap₂ (λ n l. Ok (n, l)) (sym used.0) (sym used.1))
 
 -- a result whose value was taken
 pub ok_from_some : {A E : Type 0} (r : Result A E) (x : A) → result_ok r ≡ Some x → r ≡ Ok x
