@@ -67,6 +67,12 @@ known_read section at place old new h =
     rw r.strings (there_known section at place (with_string old r.string) r.string r.read used.0
     (used.1 ∙ sym r.offset))
 
+pub known_used : (section : List ℕ) (at place : ℕ) (old new : List (List ℕ)) (string : List ℕ)
+    → string_read section at ≡ Ok string → (place ≡ offset_of old string)
+    × (new ≡ with_string old string) → IsKnown section new (at, place)
+known_used section at place old new string read used =
+    known_read section at place old new (read_used section at place old new string read used)
+
 -- what is known stays so once more strings have come
 pub known_later : (section : List ℕ) (old new : List (List ℕ)) → take (length old) new ≡ old
     → (pair : ℕ × ℕ) → IsKnown section old pair → IsKnown section new pair

@@ -13,7 +13,7 @@ use Rattle.dwp_bytes.specs.StringOffsets.{string_from}
 use Rattle.thorin_strings.specs.StringOffsets.{offset_limit, named_at, fitting_offset}
 use Rattle.thorin_strings.specs.StringOffsets.{remapped_entry}
 use Rattle.thorin_strings.specs.Strings.{terminated, data_of, offset_of, with_string, strings_in}
-use Rattle.thorin_strings.specs.Strings.{IsZeroFree, BeginsAt}
+use Rattle.thorin_strings.specs.Strings.{IsZeroFree, BeginsAt, IsIndexed}
 use Rattle.thorin_strings.specs.Hashed.{IsPlaced}
 use Rattle.thorin_strings.proofs.OffsetLemmas.{offset_of-absent, has_Decides}
 use Rattle.thorin_strings.proofs.TableLemmas.{strings_push}
@@ -25,11 +25,11 @@ pub used_found : (ss : List (List ℕ)) (s : List ℕ) (p : ℕ) → Contains ss
 used_found ss s p there is = (is, sym (cond-true _ _ _ ((has_Decides ss s).1 there)))
 
 -- a string that stands where it was looked for
-pub used_there : (bytes s : List ℕ) (at : ℕ) → data_of (strings_in bytes) ≡ bytes
-    → AllPairs (λ s t. s ≢ t) (strings_in bytes) → BeginsAt bytes at × (string_from bytes at ≡ s)
+pub used_there : (bytes positions s : List ℕ) (at : ℕ) → IsIndexed bytes positions
+    → BeginsAt bytes at × (string_from bytes at ≡ s)
     → IsPlaced (strings_in bytes) (strings_in bytes) s at
-used_there bytes s at ended distinct here =
-    let known = known_place_in bytes s at ended distinct here.0 here.1 in
+used_there bytes positions s at table here =
+    let known = known_place_in bytes s at table.ended table.distinct here.0 here.1 in
     used_found (strings_in bytes) s at known.0 known.1
 
 -- a new one, which went last
