@@ -4,7 +4,7 @@ use Rattle.std.proofs.Common.{◌++◌, length, take, drop, codes, arith, Option
 use Rattle.std.proofs.Common.{Ok, Err, ap, ap₂, sym, subst, refl, ◌∙◌}
 use Rattle.std.proofs.lemmas.List.{take-append-drop}
 use Rattle.std.proofs.lemmas.List.Elements.{All-weaker}
-use Rattle.std.proofs.lemmas.Bool.{cond-true, lt-ltb}
+use Rattle.std.proofs.lemmas.Bool.{cond-true, cond_both, lt-ltb, le-ltb}
 use Rattle.dwp_base.specs.declared.endian.Endianness.{Endianness}
 use Rattle.dwp_base.specs.Reading.{◌>>=◌}
 use Rattle.dwp_bytes.specs.declared.encoding.Encoding.{Encoding}
@@ -16,9 +16,8 @@ use Rattle.thorin_strings.specs.StringOffsets.{offset_limit, entry_at, string_re
 use Rattle.thorin_strings.specs.StringOffsets.{fitting_offset, remapped_entry}
 use Rattle.thorin_strings.specs.Known.{offset_read, IsKnown, AreKnown}
 use Rattle.thorin_strings.proofs.Named.{has, there_later, there_once_used, there_if_same}
-use Rattle.thorin_strings.proofs.UsedLemmas.{entry_used}
 use Rattle.thorin_strings.proofs.OffsetLemmas.{length-data_of-cons}
-use Rattle.dwp_base.proofs.Steps.{bind-was}
+use Rattle.dwp_base.proofs.Steps.{bind-was, same-ok}
 
 -- a string that was read and used
 pub record WasRead (section : List ℕ) (at place : ℕ) (old new : List (List ℕ)) : Type 0 where
@@ -65,8 +64,14 @@ pub known_read : (section : List ℕ) (at place : ℕ) (old new : List (List ℕ
 known_read section at place old new h =
     let r = was_read section at place old new h in
     let used = there_once_used old r.string in
-    subst (λ l. IsKnown section l (at, place)) (sym r.strings) (there_known section at place
-    (with_string old r.string) r.string r.read used.0 (used.1 ∙ sym r.offset))
+    rw r.strings (there_known section at place (with_string old r.string) r.string r.read used.0
+    (used.1 ∙ sym r.offset))
+
+pub known_used : (section : List ℕ) (at place : ℕ) (old new : List (List ℕ)) (string : List ℕ)
+    → string_read section at ≡ Ok string → (place ≡ offset_of old string)
+    × (new ≡ with_string old string) → IsKnown section new (at, place)
+known_used section at place old new string read used =
+    known_read section at place old new (read_used section at place old new string read used)
 
 -- what is known stays so once more strings have come
 pub known_later : (section : List ℕ) (old new : List (List ℕ)) → take (length old) new ≡ old
@@ -81,69 +86,64 @@ pub are_known_later : (section : List ℕ) (old new : List (List ℕ)) (pairs : 
 are_known_later section old new pairs kept known = All-weaker (IsKnown section old)
     (IsKnown section new) (known_later section old new kept) pairs known
 
--- an entry whose string was read
-pub entry_read : (order : Endianness) (encoding : Encoding) (section bytes : List ℕ)
-    (index named place : ℕ) (old new : List (List ℕ)) → entry_at order encoding bytes index ≡ Ok
-    named → offset_read section named old ≡ Ok (place, new) → place ≤ offset_limit encoding.format
-    → remapped_entry order encoding section bytes index old ≡ Ok (place, new)
-unfolding named_at
-entry_read order encoding section bytes index named place old new entry h fits =
-    let r = was_read section named place old new h in
-    entry_used order encoding section bytes index old new r.string place (rw (entry, r.read) refl)
-    fits (r.offset, r.strings)
-
-pub entry_told : (order : Endianness) (encoding : Encoding) (section bytes : List ℕ)
-    (index place : ℕ) (old new : List (List ℕ)) (named : Option ℕ)
-    → IfSome named (λ n. entry_at order encoding bytes index ≡ Ok n)
-    → IsSomeAnd named (λ n. offset_read section n old ≡ Ok (place, new))
-    → place ≤ offset_limit encoding.format
-    → remapped_entry order encoding section bytes index old ≡ Ok (place, new)
-entry_told order encoding section bytes index place old new None entry h fits = absurd h
-entry_told order encoding section bytes index place old new (Some named) entry h fits =
-    entry_read order encoding section bytes index named place old new entry h fits
-
-pub entry_large : (order : Endianness) (encoding : Encoding) (section bytes : List ℕ)
-    (index named place : ℕ) (old new : List (List ℕ)) → entry_at order encoding bytes index ≡ Ok
-    named → offset_read section named old ≡ Ok (place, new) → offset_limit encoding.format < place
-    → remapped_entry order encoding section bytes index old ≡ Err
-    (NumberTooLarge (codes "string offset") place)
-unfolding named_at remapped_entry fitting_offset
-entry_large order encoding section bytes index named place old new entry h large =
-    let r = was_read section named place old new h in
-    let past : ltb (offset_limit encoding.format) (offset_of old r.string) ≡ true =
-    lt-ltb _ _ (subst (λ n. offset_limit encoding.format < n) r.offset large) in
-    rw (entry, r.read, past)
-    (ap (λ n. Err (NumberTooLarge (codes "string offset") n)) (sym r.offset))
-
 unread : {A B E : Type 0} (r : Result A E) (f : A → B) (e : E) → (r >>= (λ x. Ok (f x))) ≡
     Err e → r ≡ Err e
 unread (Ok x) f e h = absurd cc
 unread (Err d) f e h = cc
 
-pub entry_unread : (order : Endianness) (encoding : Encoding) (section bytes : List ℕ)
-    (index named : ℕ) (old : List (List ℕ)) (error : ErrorValue)
-    → entry_at order encoding bytes index ≡
-    Ok named → offset_read section named old ≡ Err error → remapped_entry order encoding section
-    bytes index old ≡ Err error
-unfolding named_at remapped_entry offset_read
-entry_unread order encoding section bytes index named old error entry h =
-    let none : string_read section named ≡ Err error = unread (string_read section named) (λ string.
-    (offset_of old string, with_string old string)) error h in
-    rw (entry, none) refl
+-- what an entry comes to, by the offset that it has
+module _ (order : Endianness) (encoding : Encoding) (section bytes : List ℕ) (index : ℕ) where
+  pub entry_read : (named place : ℕ) (old new : List (List ℕ))
+      → entry_at order encoding bytes index ≡ Ok named
+      → offset_read section named old ≡ Ok (place, new) → place ≤ offset_limit encoding.format
+      → remapped_entry order encoding section bytes index old ≡ Ok (place, new)
+  unfolding named_at remapped_entry fitting_offset
+  entry_read named place old new entry h fits =
+      let r = was_read section named place old new h in
+      rw (entry, r.read, le-ltb (offset_limit encoding.format) (offset_of old r.string)
+      (rw r.offset at fits)) (ap₂ (λ n l. Ok (n, l)) (sym r.offset) (sym r.strings))
 
-pub entry_none : (order : Endianness) (encoding : Encoding) (section bytes : List ℕ) (index : ℕ)
-    (old : List (List ℕ)) (error : ErrorValue) → entry_at order encoding bytes index ≡ Err error
-    → remapped_entry order encoding section bytes index old ≡ Err error
-unfolding named_at remapped_entry
-entry_none order encoding section bytes index old error entry = rw entry refl
+  pub entry_told : (place : ℕ) (old new : List (List ℕ)) (named : Option ℕ)
+      → IfSome named (λ n. entry_at order encoding bytes index ≡ Ok n)
+      → IsSomeAnd named (λ n. offset_read section n old ≡ Ok (place, new))
+      → place ≤ offset_limit encoding.format
+      → remapped_entry order encoding section bytes index old ≡ Ok (place, new)
+  entry_told place old new None entry h fits = absurd h
+  entry_told place old new (Some named) entry h fits =
+      entry_read named place old new entry h fits
+
+  pub entry_large : (named place : ℕ) (old new : List (List ℕ))
+      → entry_at order encoding bytes index ≡ Ok named
+      → offset_read section named old ≡ Ok (place, new) → offset_limit encoding.format < place
+      → remapped_entry order encoding section bytes index old ≡ Err
+      (NumberTooLarge (codes "string offset") place)
+  unfolding named_at remapped_entry fitting_offset
+  entry_large named place old new entry h large =
+      let r = was_read section named place old new h in
+      rw (entry, r.read, lt-ltb (offset_limit encoding.format) (offset_of old r.string)
+      (rw r.offset at large))
+      (ap (λ n. Err (NumberTooLarge (codes "string offset") n)) (sym r.offset))
+
+  pub entry_unread : (named : ℕ) (old : List (List ℕ)) (error : ErrorValue)
+      → entry_at order encoding bytes index ≡ Ok named → offset_read section named old ≡ Err error
+      → remapped_entry order encoding section bytes index old ≡ Err error
+  unfolding named_at remapped_entry offset_read
+  entry_unread named old error entry h =
+      let none : string_read section named ≡ Err error = unread (string_read section named)
+      (λ string. (offset_of old string, with_string old string)) error h in
+      rw (entry, none) refl
+
+  pub entry_none : (old : List (List ℕ)) (error : ErrorValue)
+      → entry_at order encoding bytes index ≡ Err error
+      → remapped_entry order encoding section bytes index old ≡ Err error
+  unfolding named_at remapped_entry
+  entry_none old error entry = rw entry refl
 
 -- no string has its offset past the section's end
 pub offset_within : (strings : List (List ℕ)) (string : List ℕ) → offset_of strings string ≤ length
     (data_of strings)
 offset_within [] string = omega arith
-offset_within (t ∷ strings) string = by (bytes_eq t string) (offset_within strings string)
-  where
-    by : (b : Bool) → offset_of strings string ≤ length (data_of strings) → cond b 0 (length t + 1 +
-        offset_of strings string) ≤ length (data_of (t ∷ strings))
-    by true rest = omega arith
-    by false rest = omega (arith, length-data_of-cons t strings, rest)
+offset_within (t ∷ strings) string = cond_both (bytes_eq t string) 0
+    (length t + 1 + offset_of strings string) (λ n. n ≤ length (data_of (t ∷ strings)))
+    (λ _. omega arith)
+    (λ _. omega (arith, length-data_of-cons t strings, offset_within strings string))

@@ -3,7 +3,7 @@ use Rattle.std.proofs.Common.{◌≡◌, ◌≢◌, ℕ, zero, suc, ◌+◌, ◌
 use Rattle.std.proofs.Common.{eqb, List, ◌++◌, length, take, drop, get_or, set, Option, Some, None}
 use Rattle.std.proofs.Common.{inl, inr, ◌⊎◌, ⊎_elim, ap, ap₂, sym, subst, refl, ◌∙◌, arith}
 use Rattle.std.proofs.lemmas.Grind.{get_or-set_at}
-use Rattle.std.proofs.lemmas.List.{get_or-set_other, get_or_past, take_at}
+use Rattle.std.proofs.lemmas.List.{get_or-set_other, get_or_past}
 use Rattle.std.proofs.lemmas.Bool.{cond-true, cond-false, ne_eqb, eq-eqb, eqb-true, eqb-false}
 use Rattle.std.proofs.lemmas.Bool.{cases_eq, cases_lt}
 use Rattle.thorin_strings.specs.declared.places.Slot.{Slot}
@@ -201,8 +201,3 @@ pub others_of : (slots : List Slot) (size h : ℕ) (s : Slot) (k : ℕ) → k < 
 unfolding place_of
 others_of slots size h s k within same was some other =
     shared_at slots s k (home size h) 128 h within same was some other
-
--- what was written through a slice of a vector
-pub taken : (items new : List Slot) (len : ℕ) → length new ≡ length items → len ≡ length items
-    → take len (new ++ drop (length new) items) ≡ new
-taken items new len long is_len = take_at new (drop (length new) items) len (long ∙ sym is_len)

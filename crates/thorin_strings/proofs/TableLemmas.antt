@@ -1,23 +1,21 @@
 -- Some positions of a table's strings, in the strings' order.
-use Rattle.std.proofs.Common.{◌≡◌, ◌≢◌, ℕ, ◌+◌, ◌-◌, ◌<◌, ◌≤◌, ltb, List, [], ◌∷◌, ◌++◌, length}
+use Rattle.std.proofs.Common.{◌≡◌, ◌≢◌, ℕ, zero, suc, ◌+◌, ◌<◌, ◌≤◌, ltb, List, [], ◌∷◌, ◌++◌, length}
 use Rattle.std.proofs.Common.{take, drop, get_or, map, filter, insert, All, AllPairs, length-append}
 use Rattle.std.proofs.Common.{Contains, Less, Equal, ap, sym, subst, refl, ◌∙◌, ⊎_elim, arith}
 use Rattle.std.specs.Ordering.{nat_cmp}
 use Rattle.std.specs.Cmp.Lexicographic.{slice_cmp}
 use Rattle.std.proofs.lemmas.List.{append-nil, take-append-drop, get_or-map, get_or_default}
 use Rattle.std.proofs.lemmas.List.{take_at, length-take, get_or-take}
-use Rattle.std.proofs.lemmas.List.Edits.{length-insert, get_or-insert_below, get_or-insert_at}
-use Rattle.std.proofs.lemmas.List.Edits.{get_or-insert_above}
 use Rattle.std.proofs.lemmas.List.Elements.{All-nil, All-cons, All-weaker, All-take, All-push}
 use Rattle.std.proofs.lemmas.List.Elements.{All-contains, All-filter, filter_passes}
 use Rattle.std.proofs.lemmas.List.Elements.{Contains-get_or, Contains-append_left}
-use Rattle.std.proofs.lemmas.List.Elements.{Contains-append_right}
+use Rattle.std.proofs.lemmas.List.Elements.{Contains-push}
 use Rattle.std.proofs.lemmas.List.Quantifiers.{all_pairs_push}
-use Rattle.std.proofs.lemmas.List.Kept.{AllPairs-filter}
+use Rattle.std.proofs.lemmas.List.Kept.{AllPairs-cons, AllPairs-filter}
 use Rattle.std.proofs.lemmas.List.Sorted.{IsPermutation-insert, All-permutation}
 use Rattle.std.proofs.lemmas.Map.Made.{length-le_from_is_member, IsDistinct-from_AllPairs}
 use Rattle.std.proofs.lemmas.Map.Made.{is_member-Decides}
-use Rattle.std.proofs.lemmas.Bool.{cases_lt, cases_order}
+use Rattle.std.proofs.lemmas.Bool.{cases_lt}
 use Rattle.std.proofs.lemmas.Bool.Decides.{Decides-eqb}
 use Rattle.std.proofs.lemmas.Cmp.{nat_list_cmp_total, nat_eq_equiv, tied_itself}
 use Rattle.dwp_bytes.specs.StringOffsets.{string_from}
@@ -28,7 +26,7 @@ use Rattle.thorin_strings.proofs.StringLemmas.{strings_in-data_of, zero_free-str
 use Rattle.thorin_strings.proofs.StringLemmas.{string_from-ended}
 use Rattle.thorin_strings.proofs.Filters.{Contains-filter}
 use Rattle.thorin_strings.proofs.OffsetLemmas.{data_of-push, data_of-append, map-string_from}
-use Rattle.thorin_strings.proofs.OffsetLemmas.{length-offsets_from, offset_of-at}
+use Rattle.thorin_strings.proofs.OffsetLemmas.{length-offsets_from, offset_of-at, AllPairs-rest}
 use Rattle.thorin_strings.proofs.OffsetLemmas.{length-data_of-cons, offsets_from-append}
 use Rattle.thorin_strings.proofs.OffsetLemmas.{offsets_from-below, filter-offsets_from}
 
@@ -60,12 +58,8 @@ positions_within bytes positions table =
     omega (arith, ap length table.ended)) _ (offsets_from-below 0 (strings_in bytes))) table.begun
 
 -- no string comes before itself
-not_before_itself : (s t : List ℕ) → t ≡ s → IsBefore t s → ⊥
-not_before_itself s t same h =
-    let own = tied_itself nat_list_cmp_total s in
-    let less : slice_cmp nat_cmp s s ≡ Less = subst (λ u. slice_cmp nat_cmp u s ≡ Less) same h in
-    let apart : Less ≡ Equal = sym less ∙ own in
-    cc
+not_before_itself : (s : List ℕ) → IsBefore s s → ⊥
+not_before_itself s less = let own = tied_itself nat_list_cmp_total s in cc
 
 -- the string that begins at an offset has that offset
 pub known_offset_in : (bytes s : List ℕ) (p : ℕ) → data_of (strings_in bytes) ≡ bytes
@@ -84,23 +78,12 @@ known_offset_in bytes s p ended distinct there is =
       sym (ap (offset_of ss) (sym is_string) ∙ omega (arith, offset) ∙ there.2),
     )
 
-pub known_offset : (bytes positions s : List ℕ) (p : ℕ) → IsIndexed bytes positions
-    → Contains (offsets_from 0 (strings_in bytes)) p → string_from bytes p ≡ s
-    → Contains (strings_in bytes) s × (p ≡ offset_of (strings_in bytes) s)
-known_offset bytes positions s p table there is = known_offset_in bytes s p table.ended
-    table.distinct there is
-
 -- a position is such an offset
 pub known_position : (bytes positions s : List ℕ) (r p : ℕ) → IsIndexed bytes positions
     → r < length positions → p ≡ get_or positions r 0 → string_from bytes p ≡ s
     → Contains (strings_in bytes) s × (p ≡ offset_of (strings_in bytes) s)
 known_position bytes positions s r p table within is_position is =
-    known_offset bytes positions s p table
-    (subst (Contains (offsets_from 0 (strings_in bytes))) (sym is_position)
-    (table.begun r 0 within)) is
-
-pub not_behind_itself : (s t : List ℕ) → t ≡ s → IsBefore s t → ⊥
-not_behind_itself s t same h = not_before_itself s s refl (subst (λ u. IsBefore s u) same h)
+    known_offset_in bytes s p table.ended table.distinct (rw is_position (table.begun r 0 within)) is
 
 -- a string that would stand at a rank isn't at any position
 pub stands_apart : (bytes positions s : List ℕ) (r p : ℕ) → StandsAt bytes positions s r
@@ -110,14 +93,14 @@ stands_apart bytes positions s r p stands there is =
     let within : k < length positions = there.1 in
     let same : string_from bytes (get_or positions k 0) ≡ s =
     ap (string_from bytes) (get_or_default positions k 0 p within ∙ there.2) ∙ is in
-    ⊎_elim (λ less. not_before_itself s _ same (stands.before k less)) (λ more. not_behind_itself s
-    _ same (stands.behind k more within)) (cases_lt k r)
+    ⊎_elim (λ less. not_before_itself s (rw same at (stands.before k less)))
+    (λ more. not_before_itself s (rw same at (stands.behind k more within))) (cases_lt k r)
 
 -- strings in strict order begin at distinct positions
 distinct_positions : (bytes positions : List ℕ) → IsIndexed bytes positions
     → AllPairs (λ p q. p ≢ q) positions
 distinct_positions bytes positions table = λ i j d less within same.
-    not_before_itself _ _ (ap (string_from bytes) same) (table.sorted i j d less within)
+    not_before_itself (string_from bytes (get_or positions j d)) (rw same at (table.sorted i j d less within))
 
 -- no more positions than strings
 pub positions_few : (bytes positions : List ℕ) → IsIndexed bytes positions
@@ -135,37 +118,17 @@ positions_few bytes positions table =
 pub insert_in_order : (R : ℕ → ℕ → Type 0) (xs : List ℕ) (r y : ℕ) → AllPairs R xs → r ≤ length xs
     → ((k : ℕ) → k < r → R (get_or xs k 0) y) → ((k : ℕ) → r ≤ k → k < length xs
     → R y (get_or xs k 0)) → AllPairs R (insert xs r y)
-insert_in_order R xs r y apart fits before behind = λ i j d less within.
-    let long = length-insert xs r y fits in
-    let at : (u v : ℕ) → get_or (insert xs r y) i d ≡ u → get_or (insert xs r y) j d ≡ v → R u v
-    → R (get_or (insert xs r y) i d) (get_or (insert xs r y) j d) =
-    λ u v e f h. subst (λ n. R n (get_or (insert xs r y) j d)) (sym e)
-    (subst (λ n. R u n) (sym f) h) in
-    let below : (k : ℕ) → k < r → get_or (insert xs r y) k d ≡ get_or xs k 0 =
-    λ k h. get_or-insert_below xs r y d k h fits ∙ get_or_default xs k d 0 (omega arith) in
-    let here : (k : ℕ) → k ≡ r → get_or (insert xs r y) k d ≡ y =
-    λ k e. ap (λ n. get_or (insert xs r y) n d) e ∙ get_or-insert_at xs r y d fits in
-    let above : (k : ℕ) → r < k → k < length xs + 1 → get_or (insert xs r y) k d ≡
-    get_or xs (k - 1) 0 =
-    λ k h w. (let e : k ≡ k - 1 + 1 = omega arith in ap (λ n. get_or (insert xs r y) n d) e) ∙
-    get_or-insert_above xs r y d (k - 1) (omega arith) fits ∙ get_or_default xs (k - 1) d 0
-    (omega arith) in
-    ⊎_elim
-    (λ same_i. at _ _ (here i same_i) (above j (omega arith) (omega arith))
-    (behind (j - 1) (omega arith) (omega arith)))
-    (λ other_i. ⊎_elim
-    (λ i_below. ⊎_elim
-    (λ same_j. at _ _ (below i i_below) (here j same_j) (before i i_below))
-    (λ other_j. ⊎_elim
-    (λ j_below. at _ _ (below i i_below) (below j j_below) (apart i j 0 less (omega arith)))
-    (λ j_above. at _ _ (below i i_below) (above j j_above (omega arith))
-    (apart i (j - 1) 0 (omega arith) (omega arith)))
-    other_j)
-    (cases_order j r))
-    (λ i_above. at _ _ (above i i_above (omega arith)) (above j (omega arith) (omega arith))
-    (apart (i - 1) (j - 1) 0 (omega arith) (omega arith)))
-    other_i)
-    (cases_order i r)
+insert_in_order R xs zero y apart fits before behind = AllPairs-cons R y xs (λ k d within.
+    rw (get_or_default xs k d 0 within) (behind k (omega arith) within)) apart
+insert_in_order R [] (suc r) y apart fits before behind = absurd (omega arith)
+insert_in_order R (x ∷ xs) (suc r) y apart fits before behind =
+    let rest = AllPairs-rest R x xs apart in
+    AllPairs-cons R x (insert xs r y)
+    (All-permutation (R x) (y ∷ xs) (insert xs r y) (IsPermutation-insert xs r y)
+    (All-cons (R x) y xs (before 0 (omega arith)) (λ k d within.
+    apart 0 (suc k) d (omega arith) (omega arith))))
+    (insert_in_order R xs r y rest (omega arith) (λ k less. before (suc k) (omega arith))
+    (λ k low within. behind (suc k) (omega arith) (omega arith)))
 
 -- two functions that map a list alike agree on it
 pub maps_agree : (f g : ℕ → List ℕ) (xs : List ℕ) → map f xs ≡ map g xs → All (λ x. f x ≡ g x) xs
@@ -178,8 +141,7 @@ maps_agree f g (x ∷ xs) e =
 pub order_agrees : (f g : ℕ → List ℕ) (xs : List ℕ) → All (λ x. f x ≡ g x) xs
     → AllPairs (λ p q. IsBefore (f p) (f q)) xs → AllPairs (λ p q. IsBefore (g p) (g q)) xs
 order_agrees f g xs agree h = λ i j d less within.
-    subst (λ u. IsBefore u (g (get_or xs j d))) (agree i d (omega arith))
-    (subst (λ u. IsBefore (f (get_or xs i d)) u) (agree j d within) (h i j d less within))
+    rw (agree i d (omega arith), agree j d within) at (h i j d less within)
 
 -- a string goes last
 pub strings_push : (bytes s : List ℕ) → data_of (strings_in bytes) ≡ bytes → IsZeroFree s
@@ -225,12 +187,9 @@ indexed_push bytes positions s table free absent =
     let offsets = offsets_from 0 ss in
     record {
       ended = push.1;
-      distinct = subst (AllPairs (λ s t. s ≢ t)) (sym push.0) (all_pairs_push (λ s t. s ≢ t) ss s
-          table.distinct (λ k d within same. absent
-          (k, within, get_or_default ss k s d within ∙ same)));
-      begun = subst (λ l. All (λ p. Contains l p) positions)
-          (sym (grown_offsets bytes s table.ended free))
-          (All-weaker (λ p. Contains offsets p) (λ p. Contains (offsets ++ length bytes ∷ []) p)
+      distinct = rw push.0 (all_pairs_push (λ s t. s ≢ t) ss s table.distinct (λ k d within same.
+          absent (k, within, get_or_default ss k s d within ∙ same)));
+      begun = rw (grown_offsets bytes s table.ended free) (All-weaker (λ p. Contains offsets p) (λ p. Contains (offsets ++ length bytes ∷ []) p)
           (λ p there. Contains-append_left offsets (length bytes ∷ []) p there) positions
           table.begun);
       sorted = order_agrees (string_from bytes) (string_from (bytes ++ terminated s)) positions
@@ -250,10 +209,8 @@ indexed_more bytes positions s r p table stands there is = record {
       table.begun);
   sorted = insert_in_order (λ p q. IsBefore (string_from bytes p) (string_from bytes q)) positions r
       p table.sorted stands.within
-      (λ k below. subst (IsBefore (string_from bytes (get_or positions k 0))) (sym is)
-      (stands.before k below))
-      (λ k above within. subst (λ u. IsBefore u (string_from bytes (get_or positions k 0)))
-      (sym is) (stands.behind k above within));
+      (λ k below. rw is (stands.before k below))
+      (λ k above within. rw is (stands.behind k above within));
 }
 
 -- a string would stand at the same rank in a section to which one was added
@@ -263,10 +220,8 @@ stands_grown bytes positions s t r table stands =
     let agree = grown_positions bytes positions t table in
     record {
       within = stands.within;
-      before = λ k below. subst (λ u. IsBefore u s) (agree k 0 (omega (arith, stands.within)))
-          (stands.before k below);
-      behind = λ k above within. subst (λ u. IsBefore s u) (agree k 0 within)
-          (stands.behind k above within);
+      before = λ k below. rw (agree k 0 (omega (arith, stands.within))) at (stands.before k below);
+      behind = λ k above within. rw (agree k 0 within) at (stands.behind k above within);
     }
 
 -- a new string goes last, and its position to its rank
@@ -280,9 +235,7 @@ indexed_both bytes positions s r table free stands absent =
     indexed_more (bytes ++ terminated s) positions s r (length bytes)
     (indexed_push bytes positions s table free absent)
     (stands_grown bytes positions s s r table stands)
-    (subst (λ l. Contains l (length bytes)) (sym (grown_offsets bytes s table.ended free))
-    (Contains-append_right offsets (length bytes ∷ []) (length bytes) (0, omega arith, refl)))
-    last
+    (rw (grown_offsets bytes s table.ended free) (Contains-push offsets (length bytes))) last
 
 pub AllPairs-take : {X : Type 0} (R : X → X → Type 0) (n : ℕ) (xs : List X) → AllPairs R xs
     → AllPairs R (take n xs)
@@ -323,7 +276,7 @@ indexed_take bytes positions n m table long =
     let p = get_or (filter (λ p. ltb p m) positions) i d in
     let there : Contains (offsets_from 0 ss) p = All-filter (λ p. ltb p m)
     (λ p. Contains (offsets_from 0 ss) p) positions table.begun i d within in
-    subst (λ l. Contains l p) offsets (Contains-filter (λ p. ltb p m) (offsets_from 0 ss) p there.0
+    rw offsets at (Contains-filter (λ p. ltb p m) (offsets_from 0 ss) p there.0
     there.1 there.2 (filter_passes (λ p. ltb p m) positions i d within)) in
     let old : map f (offsets_from 0 (strings_in (take m bytes))) ≡ front =
     ap (λ l. map f (offsets_from 0 l)) strings ∙ ap (λ l.
@@ -336,8 +289,7 @@ indexed_take bytes positions n m table long =
       strings,
       record {
         ended = whole;
-        distinct = subst (AllPairs (λ s t. s ≢ t)) (sym strings) (AllPairs-take (λ s t. s ≢ t) n ss
-            table.distinct);
+        distinct = rw strings (AllPairs-take (λ s t. s ≢ t) n ss table.distinct);
         begun = begun;
         sorted = order_agrees f f' _ agree (AllPairs-filter (λ p q. IsBefore (f p) (f q)) (λ p.
             ltb p m) positions table.sorted);

@@ -13,7 +13,7 @@ use Rattle.dwp_bytes.specs.StringOffsets.{string_from}
 use Rattle.thorin_strings.specs.StringOffsets.{offset_limit, named_at, fitting_offset}
 use Rattle.thorin_strings.specs.StringOffsets.{remapped_entry}
 use Rattle.thorin_strings.specs.Strings.{terminated, data_of, offset_of, with_string, strings_in}
-use Rattle.thorin_strings.specs.Strings.{IsZeroFree, BeginsAt}
+use Rattle.thorin_strings.specs.Strings.{IsZeroFree, BeginsAt, IsIndexed}
 use Rattle.thorin_strings.specs.Hashed.{IsPlaced}
 use Rattle.thorin_strings.proofs.OffsetLemmas.{offset_of-absent, has_Decides}
 use Rattle.thorin_strings.proofs.TableLemmas.{strings_push}
@@ -25,11 +25,11 @@ pub used_found : (ss : List (List ℕ)) (s : List ℕ) (p : ℕ) → Contains ss
 used_found ss s p there is = (is, sym (cond-true _ _ _ ((has_Decides ss s).1 there)))
 
 -- a string that stands where it was looked for
-pub used_there : (bytes s : List ℕ) (at : ℕ) → data_of (strings_in bytes) ≡ bytes
-    → AllPairs (λ s t. s ≢ t) (strings_in bytes) → BeginsAt bytes at × (string_from bytes at ≡ s)
+pub used_there : (bytes positions s : List ℕ) (at : ℕ) → IsIndexed bytes positions
+    → BeginsAt bytes at × (string_from bytes at ≡ s)
     → IsPlaced (strings_in bytes) (strings_in bytes) s at
-used_there bytes s at ended distinct here =
-    let known = known_place_in bytes s at ended distinct here.0 here.1 in
+used_there bytes positions s at table here =
+    let known = known_place_in bytes s at table.ended table.distinct here.0 here.1 in
     used_found (strings_in bytes) s at known.0 known.1
 
 -- a new one, which went last
@@ -43,32 +43,11 @@ used_new bytes new s n ended free is_new is_long absent =
       ap strings_in is_new ∙ (strings_push bytes s ended free).0 ∙ sym (cond-false _ _ _ none),
     )
 
--- the strings before it are kept
-pub kept_last : (bytes new s : List ℕ) → data_of (strings_in bytes) ≡ bytes → IsZeroFree s
-    → new ≡ bytes ++ terminated s → take (length (strings_in bytes)) (strings_in new) ≡
-    strings_in bytes
-kept_last bytes new s ended free is_new =
-    ap (take (length (strings_in bytes))) (ap strings_in is_new ∙ (strings_push bytes s ended
-    free).0) ∙ take_at (strings_in bytes) (s ∷ []) _ refl
-
 -- the bytes of a string and of its end, one after the other
 pub two_pushes : (bytes kept longer new s : List ℕ) → kept ≡ bytes → longer ≡ kept ++ s
     → new ≡ longer ++ 0 ∷ [] → new ≡ bytes ++ terminated s
 two_pushes bytes kept longer new s e1 e2 e3 = e3 ∙ ap (λ l. l ++ 0 ∷ []) (e2 ∙ ap (λ l. l ++ s) e1)
     ∙ append_assoc bytes s (0 ∷ [])
-
--- an entry whose string was used
-pub entry_used : (order : Endianness) (encoding : Encoding) (section bytes : List ℕ) (index : ℕ)
-    (old new : List (List ℕ)) (string : List ℕ) (offset : ℕ) → named_at order encoding section bytes
-    index ≡ Ok string → offset ≤ offset_limit encoding.format → (offset ≡ offset_of old string)
-    × (new ≡ with_string old string) → remapped_entry order encoding section bytes index old ≡
-    Ok (offset, new)
-unfolding remapped_entry fitting_offset
-entry_used order encoding section bytes index old new string offset named fits used =
-    let within : ltb (offset_limit encoding.format) (offset_of old string) ≡ false =
-    le-ltb (offset_limit encoding.format) (offset_of old string)
-    (subst (λ n. n ≤ offset_limit encoding.format) used.0 fits) in
-    rw (named, within) (ap₂ (λ n l. Ok (n, l)) (sym used.0) (sym used.1))
 
 -- a result whose value was taken
 pub ok_from_some : {A E : Type 0} (r : Result A E) (x : A) → result_ok r ≡ Some x → r ≡ Ok x

@@ -1,7 +1,7 @@
-use Rattle.std.proofs.Common.{◌≡◌, ◌∙◌, Some, inl, inr, ap, sym, refl, arith}
+use Rattle.std.proofs.Common.{◌≡◌, ◌↔◌, ◌∙◌, false, true, Contains, Some, inl, inr, ap, sym, refl, arith}
 use Rattle.std.proofs.lemmas.List.Elements.{All-contains}
 use Rattle.std.proofs.lemmas.Bool.{false≢true}
-use Rattle.thorin_strings.specs.Strings.{IsZeroFree}
+use Rattle.thorin_strings.specs.Strings.{IsZeroFree, offset_of}
 use Rattle.thorin_strings.specs.Places.{place_of, IsOrdered}
 use Rattle.thorin_strings.specs.Hashed.{held}
 use Rattle.thorin_strings.proofs.StringLemmas.{zero_within, zero_free-strings_in}
@@ -11,23 +11,19 @@ use Rattle.thorin_strings.proofs.HashedLemmas.{misplaced, unplaced, unordered, a
 use Rattle.thorin_strings.proofs.table.PackageStringTable.find_counted.Goals as goal
 use Rattle.thorin_strings.proofs.table.PackageStringTable.find_counted.Goals.{in-Ok, in-Err}
 
+is_absent : {P : Type 0} → (P → ⊥) → (false ≡ true) ↔ P
+is_absent absent = (λ e. absurd (false≢true e), λ there. absurd (absent there))
+
 pub returns-then-is_some-clause-found : goal.returns-then-is_some-clause-found
-returns-then-is_some-clause-found c =
-    rw (← c.self.view_is) (
-      λ e. absurd (false≢true e),
-      λ there. absurd (zero_within c.args.string.now c.memchr.result
-          c.memchr.ensures (sym c.is_some.ensures ∙ c.if-is_some.true) (All-contains IsZeroFree
-          (held c.self.inside.entries) c.args.string.now
-          (zero_free-strings_in c.self.inside.entries.bytes.items) there)),
-    )
+returns-then-is_some-clause-found c = rw (← c.self.view_is) (is_absent (λ there.
+    zero_within c.args.string.now c.memchr.result c.memchr.ensures
+    (sym c.is_some.ensures ∙ c.if-is_some.true) (All-contains IsZeroFree
+    (held c.self.inside.entries) c.args.string.now
+    (zero_free-strings_in c.self.inside.entries.bytes.items) there)))
 
 pub returns-in-Err-2-clause-found : goal.returns-in-Err-2-clause-found
-returns-in-Err-2-clause-found c =
-    rw (← c.self.view_is) (
-      λ e. absurd (false≢true e),
-      λ there. absurd (unplaced _ c.self.invariant c.args.string.now c.hash.result
-          c.hash.ensures c.if-self.false c.in-Err-2.ensures.none there),
-    )
+returns-in-Err-2-clause-found c = rw (← c.self.view_is) (is_absent (unplaced _ c.self.invariant
+    c.args.string.now c.hash.result c.hash.ensures c.if-self.false c.in-Err-2.ensures.none))
 
 pub returns-in-Ok-place-clause-count : goal.returns-in-Ok-place-clause-count
 returns-in-Ok-place-clause-count c = rw (← c.self.view_is) (count_within _ _ _
@@ -52,29 +48,22 @@ returns-in-Err-place-clause-found c =
       )))
       | in-Err w ↦ inr (w.if-self.true, w.in-Err.ensures.none)
     ] in
-    rw (← c.self.view_is) (
-      λ e. absurd (false≢true e),
-      λ there. absurd (unordered e c.self.invariant c.args.string.now c.hash.result
-          c.hash.ensures _ leads stands there),
-    )
+    rw (← c.self.view_is) (is_absent (unordered e c.self.invariant c.args.string.now c.hash.result
+    c.hash.ensures _ leads stands))
+
+-- the string stands where its hash says
+known : (c : goal.Then-stands_at) → Contains (held c.self.inside.entries) c.args.string.now
+    × (c.match-seek.place ≡ offset_of (held c.self.inside.entries) c.args.string.now)
+known c =
+    let here = rw c.deref.ensures.value at (c.stands_at.ensures.0 c.if-stands_at.true) in
+    let table = c.self.invariant.findable.indexed in
+    known_place_in _ _ _ table.ended table.distinct here.0 here.1
 
 pub returns-then-stands_at-clause-found : goal.returns-then-stands_at-clause-found
-returns-then-stands_at-clause-found c =
-    let e = c.self.inside.entries in
-    let here = rw c.deref.ensures.value at (c.stands_at.ensures.0 c.if-stands_at.true) in
-    let known = known_place_in e.bytes.items c.args.string.now c.match-seek.place
-    c.self.invariant.findable.indexed.ended c.self.invariant.findable.indexed.distinct here.0
-    here.1 in
-    rw (← c.self.view_is) (λ _. known.0, λ _. refl)
+returns-then-stands_at-clause-found c = rw (← c.self.view_is) (λ _. (known c).0, λ _. refl)
 
 pub returns-then-stands_at-clause-offset : goal.returns-then-stands_at-clause-offset
-returns-then-stands_at-clause-offset c =
-    let e = c.self.inside.entries in
-    let here = rw c.deref.ensures.value at (c.stands_at.ensures.0 c.if-stands_at.true) in
-    let known = known_place_in e.bytes.items c.args.string.now c.match-seek.place
-    c.self.invariant.findable.indexed.ended c.self.invariant.findable.indexed.distinct here.0
-    here.1 in
-    rw (← c.self.view_is) known.1
+returns-then-stands_at-clause-offset c = rw (← c.self.view_is) (known c).1
 
 pub returns-else-stands_at-clause-found : goal.returns-else-stands_at-clause-found
 returns-else-stands_at-clause-found c =
@@ -84,10 +73,7 @@ returns-else-stands_at-clause-found c =
       | in-Ok w ↦ w.in-Ok.ensures.found ∙ ap Some (sym w.place-is)
       | in-Err w ↦ absurd (c.if-place-eq-SHARED.false w.place-is)
     ] in
-    rw (← c.self.view_is) (
-      λ e. absurd (false≢true e),
-      λ there. absurd (misplaced e c.self.invariant c.args.string.now c.hash.result
-          c.hash.ensures c.match-seek.place has (λ same. c.if-place-eq-SHARED.false
-          (omega (arith, same))) (λ here. false≢true (sym c.if-stands_at.false
-          ∙ c.stands_at.ensures.1 (rw c.deref.ensures.value here))) there),
-    )
+    rw (← c.self.view_is) (is_absent (misplaced e c.self.invariant c.args.string.now c.hash.result
+    c.hash.ensures c.match-seek.place has (λ same. c.if-place-eq-SHARED.false (omega (arith, same)))
+    (λ here. false≢true (sym c.if-stands_at.false ∙ c.stands_at.ensures.1
+    (rw c.deref.ensures.value here)))))

@@ -7,18 +7,13 @@ use Rattle.thorin_strings.proofs.table.PackageStringTable.place.Goals.{in-Err-2+
 
 pub returns-then-stands_at-clause-placed : goal.returns-then-stands_at-clause-placed
 returns-then-stands_at-clause-placed c =
-    let here = rw c.deref.ensures.value at (c.stands_at.ensures.0 c.if-stands_at.true) in
-    rw (← c.self.view_is) (used_there c.self.inside.entries.bytes.items c.args.string.now
-    c.self.inside.next c.self.invariant.findable.indexed.ended
-    c.self.invariant.findable.indexed.distinct here)
+    rw (← c.self.view_is) (used_there _ _ _ _ c.self.invariant.findable.indexed
+    (rw c.deref.ensures.value at (c.stands_at.ensures.0 c.if-stands_at.true)))
 
 pub returns-then-stands_at-2-clause-placed : goal.returns-then-stands_at-2-clause-placed
 returns-then-stands_at-2-clause-placed c =
-    let here = rw c.deref-in-Ok-2.ensures.value at (c.stands_at-in-Ok-2.ensures.0
-    c.if-stands_at-2.true) in
-    rw (← c.self.view_is) (used_there c.self.inside.entries.bytes.items c.args.string.now
-    c.in-Ok.place c.self.invariant.findable.indexed.ended
-    c.self.invariant.findable.indexed.distinct here)
+    rw (← c.self.view_is) (used_there _ _ _ _ c.self.invariant.findable.indexed
+    (rw c.deref-in-Ok-2.ensures.value at (c.stands_at-in-Ok-2.ensures.0 c.if-stands_at-2.true)))
 
 pub place_ordered-requires-clause-table : goal.place_ordered-requires-clause-table
 place_ordered-requires-clause-table c = elim c.match-seek.branch [

@@ -21,12 +21,11 @@ returns-in_err-offset-in-None-clause-meaning c =
     let p = err_from_is_err_and c.from_residual-in_err-offset-in-None.result
     c.from_residual-in_err-offset-in-None.ensures.1 in
     rw (p.1, p.2) (λ other. remapped_refuses c.args.order c.args.encoding
-    c.args.range.now.strings.now
-    c.args.range.now.offsets.now c.args.section_size c.string_offsets_count-count.result
-    c.offset_size-entry_size.result c.loop-index.index c.args.self.now c.loop-index.self _ _ _
-    c.string_offsets_count-count.ensures c.offset_size-entry_size.ensures (omega arith)
-    (omega arith) c.in_ok-out.ensures c.loop-index.invariant.so_far.1
-    (rw c.in-None.ensures.none at (c.in_err-offset-in-None.ensures.meaning other)) (omega arith))
+    c.args.range.now.strings.now c.args.range.now.offsets.now c.loop-index.index c.args.self.now
+    c.loop-index.self _ _ c.loop-index.invariant.so_far.1
+    (rw c.in-None.ensures.none at (c.in_err-offset-in-None.ensures.meaning other))
+    c.args.section_size _ _ _ c.string_offsets_count-count.ensures c.offset_size-entry_size.ensures
+    (omega arith) (omega arith) c.in_ok-out.ensures (omega arith))
 
 pub loop-index-preserved : goal.loop-index-preserved
 loop-index-preserved c =

@@ -1,5 +1,6 @@
 use Rattle.std.proofs.Common.{◌≡◌, ◌+◌, ◌*◌, ◌++◌, ◌∙◌, sym, ap, take, length, arith}
-use Rattle.std.proofs.lemmas.List.{take_all}
+use Rattle.std.specs.Vec.{with_items}
+use Rattle.std.proofs.lemmas.List.{take_all, with_items_is}
 use Rattle.std.proofs.lemmas.Result.{err_from_is_err_and}
 use Rattle.dwp_base.specs.declared.endian.Endianness.TheVariants.{Little}
 use Rattle.dwp_base.specs.Numbers.{number_bytes}
@@ -7,7 +8,7 @@ use Rattle.dwp_bytes.specs.Encoding.{offset_size}
 use Rattle.thorin_strings.proofs.KnownLemmas.{are_known_later}
 use Rattle.dwp_bytes.specs.StringOffsets.{header_size}
 use Rattle.thorin_strings.proofs.NamedBytes.{header_long}
-use Rattle.thorin_strings.proofs.RemapLemmas.{kept_more, remapped_refuses, room_made, same_room}
+use Rattle.thorin_strings.proofs.RemapLemmas.{kept_more, remapped_refuses, room_made}
 use Rattle.thorin_strings.proofs.RemapLemmas.{length_part, entries_within}
 use Rattle.thorin_strings.proofs.WrittenLemmas.{none_written, one_written}
 use Rattle.thorin_strings.proofs.table.PackageStringTable.remapped_words.Goals as goal
@@ -58,11 +59,10 @@ returns-in_err-offset-clause-meaning c =
     (take c.len-first.result c.append_by_pieces.new.out.items)
     (rw c.deref_mut.ensures.value c.loop-index.invariant.so_far) in
     rw (p.1, p.2) (λ other. remapped_refuses Little c.args.encoding c.args.debug_str.now
-    c.args.debug_str_offsets.now c.args.section_size c.string_offsets_count-count.result
-    4 c.write_told-index.result c.args.self.now c.write_told-index.new.self _ _ _
-    c.string_offsets_count-count.ensures (sym (ap offset_size c.requires.form)) (omega arith)
-    (omega arith) c.in_ok-out.ensures told.entries
-    (c.in_err-offset.ensures.meaning other)
+    c.args.debug_str_offsets.now c.write_told-index.result c.args.self.now
+    c.write_told-index.new.self _ _ told.entries (c.in_err-offset.ensures.meaning other)
+    c.args.section_size _ 4 _ c.string_offsets_count-count.ensures
+    (sym (ap offset_size c.requires.form)) (omega arith) (omega arith) c.in_ok-out.ensures
     (omega (
       arith,
       c.write_told-index.ensures.here,
@@ -78,16 +78,14 @@ loop-index-preserved c =
     let told = c.write_told-index.ensures.told c.args.self.now
     (take c.len-first.result c.append_by_pieces.new.out.items)
     (rw c.deref_mut.ensures.value c.loop-index.invariant.so_far) in
-    let long : length c.write_told-index.new.out ≡ length old.items =
-    c.write_told-index.ensures.long ∙ ap length c.deref_mut.ensures.value in
-    let same = same_room old.items c.write_told-index.new.out old.len long
-    (omega (arith, old.ok.0)) in
-    let value = c.deref_mut-in-loop-index.ensures.value ∙ same in
-    let long_now : length c.write_word.new.out ≡ length c.write_told-index.new.out =
-    c.write_word.ensures.long ∙ ap length value in
-    let same_now = same_room _ c.write_word.new.out old.len (long_now ∙ ap length (sym same))
-    (omega (arith, old.ok.0, long, ap length same)) in
-    record {
+    let long : length c.write_told-index.new.out ≡ old.len =
+    c.write_told-index.ensures.long ∙ c.deref_mut.ensures.len in
+    let value = c.deref_mut-in-loop-index.ensures.value
+    ∙ with_items_is old c.write_told-index.new.out long in
+    let long_now : length c.write_word.new.out ≡ old.len =
+    c.write_word.ensures.long ∙ ap length value ∙ long in
+    rw (with_items_is (with_items old c.write_told-index.new.out) c.write_word.new.out long_now)
+    (record {
       within = omega (
         arith,
         c.write_told-index.ensures.here,
@@ -102,8 +100,7 @@ loop-index-preserved c =
           at c.write_told-index.result c.in_ok-offset.offset _ _ _ _
           c.write_told-index.new.out _ c.requires.form
           (omega (arith, c.loop-index.invariant.first)) c.in_ok-offset.ensures.meaning
-          (ap (take (at + 4)) same_now ∙ c.write_word.ensures.written
-          ∙ ap (λ l. take at l ++ number_bytes Little 4 c.in_ok-offset.offset) value) told;
-      long = ap length same_now ∙ long_now ∙ long ∙ c.loop-index.invariant.long;
+          (rw value at c.write_word.ensures.written) told;
+      long = long_now ∙ old.ok.0 ∙ c.loop-index.invariant.long;
       known = c.other_word.ensures.known;
-    }
+    })
