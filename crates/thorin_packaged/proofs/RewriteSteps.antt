@@ -1,8 +1,8 @@
 -- Rewriting one range after another.
-use Rattle.std.proofs.Common.{◌≡◌, ℕ, ◌+◌, ◌-◌, ◌%◌, ◌<◌, ◌≤◌, Bool, true, false, cond, eqb, ltb}
-use Rattle.std.proofs.Common.{leb, not, ◌&&◌, List, [], ◌∷◌, ◌++◌, length, get_or, take, drop}
+use Rattle.std.proofs.Common.{◌≡◌, ℕ, ◌+◌, ◌-◌, ◌%◌, ◌<◌, ◌≤◌, true, false, eqb, ltb}
+use Rattle.std.proofs.Common.{leb, ◌&&◌, List, [], ◌∷◌, ◌++◌, length, get_or, take, drop}
 use Rattle.std.proofs.Common.{slice_range, Ok, Err, Result, ap, sym, refl, ◌∙◌, append_assoc, arith}
-use Rattle.std.proofs.lemmas.Bool.{and_parts, leb-true, ltb-false, eqb-true}
+use Rattle.std.proofs.lemmas.Bool.{and_parts, false_from_ne_true, true_from_ne_false, leb-true, ltb-false, eqb-true}
 use Rattle.std.proofs.lemmas.List.{take_all, at_drop_more, at_drop_all}
 use Rattle.dwp_base.specs.declared.endian.Endianness.{Endianness}
 use Rattle.dwp_base.specs.declared.section.Contribution.{Contribution}
@@ -24,13 +24,6 @@ pub record IsNext (encoding : Encoding) (size last : ℕ) (r : Contribution)
   pub behind : last ≤ r.offset.0
   pub others : ranges_test encoding size (r.offset.0 + r.size) rs ≡ Ok tt
 
-passed_by : (a b : Bool) (first second : ErrorValue) (rest : Result (Unit {0}) ErrorValue)
-    → cond (not a) (Err first) (cond b (Err second) rest) ≡ Ok tt → (a ≡ true) × (b ≡ false)
-    × (rest ≡ Ok tt)
-passed_by true false first second rest h = (refl, refl, h)
-passed_by true true first second rest h = absurd cc
-passed_by false b first second rest h = absurd cc
-
 pub next_passed : (encoding : Encoding) (size last : ℕ) (r : Contribution) (rs : List Contribution)
     → ranges_test encoding size last (r ∷ rs) ≡ Ok tt → IsNext encoding size last r rs
 unfolding ranges_test
@@ -38,15 +31,18 @@ next_passed encoding size last r rs h =
     let inside = leb (r.offset.0 + r.size) size in
     let headed = leb (header_size encoding) r.size in
     let whole = eqb ((r.size - header_size encoding) % offset_size encoding.format) 0 in
-    let passed = passed_by (is_whole_range encoding size r) (ltb r.offset.0 last) _ _ _ h in
-    let both = and_parts (inside && headed) whole passed.0 in
+    let fits : is_whole_range encoding size r ≡ true =
+    true_from_ne_false _ (λ no. let refused = rw no at h in cc) in
+    let later : ltb r.offset.0 last ≡ false =
+    false_from_ne_true _ (λ yes. let refused = rw (fits, yes) at h in cc) in
+    let both = and_parts (inside && headed) whole fits in
     let first = and_parts inside headed both.0 in
     record {
       inside = leb-true (r.offset.0 + r.size) size first.0;
       header = leb-true (header_size encoding) r.size first.1;
       whole = eqb-true _ 0 both.1;
-      behind = ltb-false r.offset.0 last passed.1;
-      others = passed.2;
+      behind = ltb-false r.offset.0 last later;
+      others = rw (fits, later) at h;
     }
 
 -- ---- what was written, in front of what is to come
