@@ -5,6 +5,7 @@ use Rattle.std.proofs.Common.{None, map}
 use Rattle.std.specs.Prelude.{is_some, IfOk, IfSome, String, string_bytes, string_eq, length}
 use Rattle.thorin_errors.specs.declared.error.Error.{Error}
 use Rattle.std.proofs.lemmas.List.{append-nil, append_assoc, map-append}
+use Rattle.std.proofs.lemmas.Simd.{map-map}
 use Rattle.std.proofs.lemmas.Option.{none-some, same_Some}
 use Rattle.std.proofs.lemmas.Slice.Eq.{bytes_eq-Decides}
 use Rattle.std.proofs.Math.Seq.{take-length}
@@ -66,22 +67,16 @@ later-trans a b c h k = record {
 }
 
 -- what is added to a package is added to what it becomes
-pub adds-later : (bytes : List ℕ) (parts : Contents) (differing : List ℕ) (made now : InProgress)
-    → IsLater made now → AddsAlone bytes parts differing made → AddsAlone bytes parts differing now
-adds-later bytes parts differing made now h alone = record {
+again-later : (bytes : List ℕ) (again : Repeated) (begun now : Option InProgress)
+    → IsLaterBegun begun now → AddsAgainTo bytes again begun → AddsAgainTo bytes again now
+again-later bytes again None now h adds = absurd adds
+again-later bytes again (Some made) None h adds = absurd h
+again-later bytes again (Some made) (Some now) h alone = record {
   own = alone.own;
   own_is = alone.own_is;
   adds = λ later k. alone.adds later (later-trans made now later h k);
   stays = alone.stays;
 }
-
-again-later : (bytes : List ℕ) (again : Repeated) (begun now : Option InProgress)
-    → IsLaterBegun begun now → AddsAgainTo bytes again begun → AddsAgainTo bytes again now
-again-later bytes again None now h adds = absurd adds
-again-later bytes again (Some made) None h adds = absurd h
-again-later bytes again (Some made) (Some later) h adds =
-    adds-later bytes (map part again.parts.items) (map (λ s. s.0) again.differing.items) made later
-    h adds
 
 -- a package that was just begun, and one that stays
 pub none-extends : (p : Option InProgressDwarfPackage) (now : Option InProgress)
@@ -116,9 +111,8 @@ joined-later bytes (Some made) (Some now) h joins = record {
         → map {B = DwarfObject × List ℕ} (λ row. (row.id, unit_bytes contents row)) rows
         ≡ map own-bytes (map {B = DwarfObject × Meaning} (λ row.
         (row.id, meaning_at order contents strings row)) rows)
-    held-is order contents strings [] = refl
-    held-is order contents strings (row ∷ rows) =
-        ap (λ l. (row.id, unit_bytes contents row) ∷ l) (held-is order contents strings rows)
+    held-is order contents strings rows = sym (map-map own-bytes (λ (row : IndexEntry).
+        (row.id, meaning_at order contents strings row)) rows)
 
 -- ---- an input with units, step by step
 

@@ -1,8 +1,8 @@
 -- A package that loses nothing of what it had.
-use Rattle.std.proofs.Common.{◌≡◌, ◌∙◌, ℕ, ◌≤◌, true, false, List, ◌++◌, length, take, map, ap}
-use Rattle.std.proofs.Common.{refl, arith, Ok, Err, Result, true≢false}
+use Rattle.std.proofs.Common.{◌≡◌, ◌∙◌, ℕ, true, false, List, ◌++◌, length, take, map}
+use Rattle.std.proofs.Common.{refl, Ok, Err, Result, true≢false}
 use Rattle.std.specs.Result.{OnOk, OnErr, is_err}
-use Rattle.std.proofs.lemmas.List.{length-take, map-append, take-append-le}
+use Rattle.std.proofs.lemmas.List.{map-append, take-append-le}
 use Rattle.std.proofs.Math.Seq.{take-length}
 use Rattle.dwp_elf.specs.FileText.{Object as File}
 use Rattle.dwp_table.specs.declared.object.DebugTypeSignature.{DebugTypeSignature}
@@ -13,16 +13,13 @@ use Rattle.thorin_input.specs.Parts.{parts_of}
 use Rattle.thorin_join.specs.State.{InProgress, Extends, with_source, with_all, with_new_units}
 use Rattle.thorin_join.specs.State.{abbreviations_test, adding}
 use Rattle.thorin_input.specs.Used.{InputFile}
+use Rattle.thorin_index.proofs.RowLemmas.{at_least}
 use Rattle.thorin_builder.proofs.Grown.{is_grown-refl}
 
--- what stands at the front of a list isn't longer than it
-at_most : {A : Type 0} (a b : List A) → take (length a) b ≡ a → length a ≤ length b
-at_most a b h = omega (arith, ap length h, length-take (length a) b)
-
--- it stays there where more is added behind
+-- what stands at the front of a list stays there where more is added behind
 pub front-append : {A : Type 0} (a b x : List A) → take (length a) b ≡ a
     → take (length a) (b ++ x) ≡ a
-front-append a b x h = take-append-le (length a) b x (at_most a b h) ∙ h
+front-append a b x h = take-append-le (length a) b x (at_least a b h) ∙ h
 
 -- the signatures of type units, once more are added
 abbrev signatures_of : List DebugTypeSignature → List ℕ
@@ -90,11 +87,7 @@ pub with_all-is : (p : InProgress) (parts : Contents × List (List ℕ)) (new : 
 unfolding with_all
 with_all-is p parts new q r hq hr = rw (hr, hq) refl
 
--- what holds whatever came, and what holds of no error
-pub any_result : {T E : Type 0} (P : Type 0) (r : Result T E) → P → OnErr r P
-any_result P (Ok x) p = tt
-any_result P (Err e) p = p
-
+-- what holds of no error
 pub no_err : {T E : Type 0} (P : Type 0) (r : Result T E) → is_err r ≡ false → OnErr r P
 no_err P (Ok x) h = tt
 no_err P (Err e) h = absurd (true≢false h)

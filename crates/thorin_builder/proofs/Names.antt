@@ -1,6 +1,5 @@
 -- The names of units: what `==` says of them.
-use Rattle.std.proofs.Common.{◌≡◌, Bool, true, false, List, ◌∷◌, refl, ap, Some}
-use Rattle.std.specs.Prelude.{find}
+use Rattle.std.proofs.Common.{◌≡◌, List, refl, ap}
 use Rattle.std.specs.List.{list_any}
 use Rattle.dwp_table.specs.declared.object.DwarfObject.{DwarfObject}
 use Rattle.dwp_table.specs.declared.object.DwarfObject.TheVariants.{Compilation, TypeUnit}
@@ -21,12 +20,3 @@ same_name-is a = λ i b. same_name-at a b i
 pub among-is : (a : DwarfObject) (names : List DwarfObject) → list_any (derived.eq-value.it a) names
     ≡ list_any (same_name a) names
 among-is a names = ap (λ f. list_any f names) (same_name-is a)
-
--- the first that passes is found, and one that doesn't is passed over
-pub find-first : (test : DwarfObject → Bool) (x : DwarfObject) (xs all : List DwarfObject)
-    → all ≡ x ∷ xs → test x ≡ true → find test all ≡ Some x
-find-first test x xs all h t = rw (h, t) refl
-
-pub find-next : (test : DwarfObject → Bool) (x : DwarfObject) (xs all : List DwarfObject)
-    → all ≡ x ∷ xs → test x ≡ false → find test all ≡ find test xs
-find-next test x xs all h t = rw (h, t) refl

@@ -1,7 +1,6 @@
-use Rattle.std.proofs.Common.{◌≡◌, ◌∙◌, ◌∷◌, ap, sym, rules, true, false, not, Some}
-use Rattle.std.specs.Prelude.{find}
+use Rattle.std.proofs.Common.{◌≡◌, ◌∙◌, ◌∷◌, ap, sym, rules, true, false, not}
 use Rattle.thorin_join.specs.Builder.{is_missing, targets_test}
-use Rattle.thorin_builder.proofs.Names.{among-is, find-first, find-next}
+use Rattle.thorin_builder.proofs.Names.{among-is}
 use Rattle.thorin_builder.proofs.package.test_targets.Goals as goal
 
 pub loop-target-preserved : goal.loop-target-preserved
@@ -11,8 +10,7 @@ loop-target-preserved c =
     ∙ search (rules, c.if-not-contains) in
     let left : c.loop-target.target-iterator ≡ c.in-Some.target.now ∷ c.next.new.self =
     search (rules, c.in-Some.ensures.steps) in
-    sym (find-next (is_missing c.args.contained.now.keys) c.in-Some.target.now c.next.new.self
-    c.loop-target.target-iterator left there) ∙ c.loop-target.invariant
+    rw (left, there) at c.loop-target.invariant
 
 pub returns-then-not-contains : goal.returns-then-not-contains
 unfolding targets_test
@@ -22,8 +20,5 @@ returns-then-not-contains c =
     ∙ search (rules, c.if-not-contains) in
     let left : c.loop-target.target-iterator ≡ c.in-Some.target.now ∷ c.next.new.self =
     search (rules, c.in-Some.ensures.steps) in
-    let first : find (is_missing c.args.contained.now.keys) c.args.targets.now.keys ≡ Some
-    c.in-Some.target.now =
-    sym c.loop-target.invariant ∙ find-first (is_missing c.args.contained.now.keys)
-    c.in-Some.target.now c.next.new.self c.loop-target.target-iterator left missing in
+    let first = sym (rw (left, missing) at c.loop-target.invariant) in
     λ aside. rw (first, c.index.ensures)

@@ -1,15 +1,16 @@
 use Rattle.std.proofs.Common.{rules}
+use Rattle.thorin_index.proofs.RowLemmas.{on_err}
 use Rattle.thorin_builder.specs.StateView.{in_progress_of}
 use Rattle.thorin_builder.proofs.in_progress.InProgressDwarfPackage.add_again.Goals.{then-is_err}
 use Rattle.thorin_builder.proofs.in_progress.InProgressDwarfPackage.add_again.Goals.{else-is_err}
-use Rattle.thorin_builder.proofs.Extending.{any_result, no_err}
+use Rattle.thorin_builder.proofs.Extending.{no_err}
 use Rattle.thorin_builder.proofs.in_progress.InProgressDwarfPackage.add_again.Goals as goal
 
 pub returns-clause-err : goal.returns-clause-err
 returns-clause-err c = elim c.if-is_err.branch [
   | then-is_err w ↦
       let p = in_progress_of c.args.self.now in
-      any_result _ c.try_add_again-added.result
+      on_err c.try_add_again-added.result
       (rw w.self-is (w.restore.ensures p c.try_add_again-added.ensures.extends
       c.in_ok-mark.ensures.mark))
   | else-is_err w ↦
