@@ -32,7 +32,7 @@ use Rattle.thorin_join.proofs.Joined.Source.{source-joins}
 use Rattle.thorin_join.proofs.Units.InRows.{units-are, keys-units}
 use Rattle.dwp_base.proofs.Steps.{bind-was, bind-ok, same-ok}
 use Rattle.thorin_join.proofs.Steps.{kept}
-use Rattle.thorin_join.proofs.Joined.Taken.{TakesUnits, takes}
+use Rattle.thorin_join.proofs.Joined.Taken.{takes}
 
 order-eq : (a b : Endianness) → same_order a b ≡ true → a ≡ b
 order-eq Little Little h = refl
@@ -124,55 +124,44 @@ sound-of made ms rep apart laid = record {
   laid = laid;
 }
 
-units-keep : PartsLaw → RowsLaw → ReadAlone → UnitsAreTaken
-    → (bytes : List ℕ) (file : Elf) (begun now : Option InProgress)
-    → IsSoundBegun begun → opened bytes ≡ Ok file → has_info file ≡ true
-    → TakesUnits file begun now → InputKeeps bytes begun now
-units-keep parts_law rows_law alone reads bytes file begun now sound opens info u =
-    let before = package_or_new file begun in
-    let fine = new-sound file begun sound in
-    let ms = units_of before in
-    let object = u.source.object in
-    let j = source-joins parts_law rows_law alone reads u.source before u.made ms fine.units
-    (sym (keys-units before)) fine.apart fine.laid
-    (made-order file object begun u.object_is u.order_is) u.with in
-    rw (← u.is) (record {
-      sound = sound-of u.made (ms ++ j.added) j.has j.apart j.laid;
-      joins = rw (← new-units file begun) (record {
-        units = j.units;
-        meaning = meaning-at bytes file true opens info
-            ∙ bind-ok (input_file_of file) object _ u.object_is
-            ∙ object-means object u.source.encoding u.source.indexes j.units u.encoding_is
-            u.indexes_are j.meaning;
-        defined = j.defined;
-        added = j.added;
-        joined = j.joined;
-        is = sym (units-are u.made (ms ++ j.added) j.has);
-      });
-    })
-
-none-keep : (bytes : List ℕ) (file : Elf) (begun now : Option InProgress)
-    → IsSoundBegun begun → opened bytes ≡ Ok file → has_info file ≡ false
-    → Some (package_or_new file begun) ≡ now → InputKeeps bytes begun now
-none-keep bytes file begun now sound opens info is = rw (← is) (record {
-  sound = new-sound file begun sound;
-  joins = record {
-    units = [];
-    meaning = meaning-at bytes file false opens info;
-    defined = refl;
-    added = [];
-    joined = refl;
-    is = new-units file begun ∙ sym (append-nil (units_begun begun));
-  };
-})
-
 pub input-keeps : PartsLaw → RowsLaw → ReadAlone → UnitsAreTaken
     → (bytes : List ℕ) (begun now : Option InProgress) → IsSoundBegun begun → with_input bytes begun
     ≡ Ok now → InputKeeps bytes begun now
 input-keeps parts_law rows_law alone reads bytes begun now sound h =
     let t = takes bytes begun now h in
+    let before = package_or_new t.file begun in
+    let fine = new-sound t.file begun sound in
     elim t.does [
-      | inl u ↦ units-keep parts_law rows_law alone reads bytes t.file begun now sound t.opens u.0
-          u.1
-      | inr n ↦ none-keep bytes t.file begun now sound t.opens n.0 n.1
+      | inl taken ↦
+          let u = taken.1 in
+          let object = u.source.object in
+          let ms = units_of before in
+          let j = source-joins parts_law rows_law alone reads u.source before u.made ms fine.units
+          (sym (keys-units before)) fine.apart fine.laid
+          (made-order t.file object begun u.object_is u.order_is) u.with in
+          rw (← u.is) (record {
+            sound = sound-of u.made (ms ++ j.added) j.has j.apart j.laid;
+            joins = rw (← new-units t.file begun) (record {
+              units = j.units;
+              meaning = meaning-at bytes t.file true t.opens taken.0
+                  ∙ bind-ok (input_file_of t.file) object _ u.object_is
+                  ∙ object-means object u.source.encoding u.source.indexes j.units u.encoding_is
+                  u.indexes_are j.meaning;
+              defined = j.defined;
+              added = j.added;
+              joined = j.joined;
+              is = sym (units-are u.made (ms ++ j.added) j.has);
+            });
+          })
+      | inr none ↦ rw (← none.1) (record {
+        sound = fine;
+        joins = record {
+          units = [];
+          meaning = meaning-at bytes t.file false t.opens none.0;
+          defined = refl;
+          added = [];
+          joined = refl;
+          is = new-units t.file begun ∙ sym (append-nil (units_begun begun));
+        };
+      })
     ]

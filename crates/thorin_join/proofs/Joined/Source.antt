@@ -9,13 +9,12 @@ use Rattle.dwp_elf.specs.Contents.{content_of}
 use Rattle.dwp_bytes.specs.Input.{section}
 use Rattle.dwp_dwarf.specs.Units.{UnitsAreTaken, unit_at}
 use Rattle.dwp_dwarf.specs.declared.unit.UnitSection.{UnitSection}
-use Rattle.dwp_base.specs.declared.endian.Endianness.{Endianness}
 use Rattle.dwp_index.specs.Package.{encoding_in}
 use Rattle.dwp_table.specs.declared.object.DwarfObject.{DwarfObject}
 use Rattle.thorin_strings.specs.Strings.{IsTable}
 use Rattle.thorin_input.specs.Growing.{Contents, with_parts, joined_parts}
 use Rattle.thorin_input.specs.Indexes.{Source}
-use Rattle.thorin_join.specs.Laid.{IsLaid, IsWhole}
+use Rattle.thorin_join.specs.Laid.{IsLaid}
 use Rattle.thorin_join.specs.Meaning.{Meaning, Members, UnitRead, keys, meant, source_units}
 use Rattle.thorin_join.specs.Meaning.{source_meaning, joining, can_join}
 use Rattle.thorin_input.specs.Names.{same_name, is_compilation}
@@ -26,23 +25,23 @@ use Rattle.thorin_join.specs.State.{InProgress, names_of, held_units, unit_bytes
 use Rattle.thorin_join.specs.State.{abbreviations_test, with_all, with_source, with_new_units}
 use Rattle.thorin_join.specs.State.{kind_at}
 use Rattle.thorin_join.proofs.Units.NamesApart.{joined_distinct}
-use Rattle.thorin_join.proofs.Units.JoinedByName.{IsAdded, AreAdded, units-joined, added-keys}
+use Rattle.thorin_join.proofs.Units.JoinedByName.{AreAdded, units-joined, added-keys}
 use Rattle.thorin_join.proofs.Rows.Stay.{Grows, keep-rows}
 use Rattle.thorin_join.proofs.Rows.LieInTurn.{AllCanLie, units-lie, can-lie, all-can-lie, parts-lie}
 use Rattle.thorin_join.proofs.Rows.LieInTurn.{laid-lies}
 use Rattle.thorin_join.proofs.Parts.Appended.{content-with_parts, parts-none}
 use Rattle.thorin_join.proofs.Parts.Strings.{PartsKept, PartsLaw}
-use Rattle.thorin_join.proofs.Rows.Shares.{RowShares, RowsLaw}
+use Rattle.thorin_join.proofs.Rows.Shares.{RowsLaw}
 use Rattle.thorin_join.proofs.Rows.AllAdded.{AllNew, joined-new, new-by-keys, units-added}
 use Rattle.thorin_join.proofs.Rows.AllAdded.{other-kind, Added, AllCanBeAdded}
-use Rattle.thorin_join.proofs.Units.Whole.{Goes, AllGo, go-joining, units-go}
+use Rattle.thorin_join.proofs.Units.Whole.{AllGo, go-joining, units-go}
 use Rattle.dwp_base.proofs.Steps.{bind-was, bind-ok, same-ok}
 use Rattle.thorin_join.proofs.Units.HeadersRead.{ReadAlone}
 use Rattle.dwp_base.proofs.Bools.{by-bool}
 use Rattle.thorin_join.proofs.Units.InRows.{rows-keys}
 use Rattle.thorin_errors.specs.Errors.{ErrorValue}
 use Rattle.dwp_base.specs.Sections.{same_kind}
-use Rattle.thorin_join.proofs.Rows.OneAdded.{CanBeAdded, not-copied, not-offsets}
+use Rattle.thorin_join.proofs.Rows.OneAdded.{not-copied, not-offsets}
 use Rattle.dwp_dwarf.specs.declared.unit.UnitSection.TheVariants as places
 
 -- ---- joining keeps what belongs to units
@@ -75,37 +74,12 @@ record Ready (source : Source) (c : Contents) (after : List (List ℕ))
   are : map {B = DwarfObject × Option Meaning} (meant source) rs ≡ all_there members
   can : AllCanBeAdded source.object.order c after ns members
 
--- a whole unit's header can be read
-whole-header : (order : Endianness) (place : UnitSection) (name : DwarfObject) (bytes : List ℕ)
-    (whole : IsWhole order place name bytes)
-    → encoding_in order place bytes ≡ Ok whole.unit.encoding
-unfolding encoding_in
-whole-header order place name bytes whole =
-    bind-ok (unit_at place (section order bytes)) (whole.unit, whole.rest) _ whole.read
-
-one-can : (source : Source) (before : InProgress) (parts : Contents) (after : List (List ℕ))
-    (n : DwarfObject × NewUnit) (r : DwarfObject × UnitRead)
-    → IsAdded (adding source before parts) n r → Goes source.object.order r
-    → (s : RowShares source before.file.contents parts after r n.1.row)
-    → CanBeAdded source.object.order (with_parts parts before.file.contents) after n (r.0, s.unit)
-one-can source before parts after n r is goes s =
-    let lies = can-lie source before parts n r is goes in
-    record {
-      name = is.name;
-      bytes = is.bytes ∙ sym s.bytes_are;
-      encoded = s.encoding;
-      lie = s.lie;
-      shares = s.shares;
-      fits = lies.fits;
-      encoding = lies.whole.unit.encoding;
-      header = whole-header source.object.order n.1.place n.0 n.1.bytes lies.whole;
-    }
-
 ready : RowsLaw → (source : Source) (before : InProgress) (parts : Contents) (after : List (List ℕ))
     (ns : List (DwarfObject × NewUnit)) (rs : List (DwarfObject × UnitRead))
     → IsTable before.strings → parts_of source before.strings ≡ Ok (parts, after)
     → AreAdded (adding source before parts) ns rs → AllGo source.object.order rs
     → Ready source (with_parts parts before.file.contents) after ns rs
+unfolding encoding_in
 ready rows_law source before parts after [] [] table h are go =
     record { members = []; are = refl; can = tt }
 ready rows_law source before parts after [] (r ∷ rs) table h are go = absurd are
@@ -113,11 +87,26 @@ ready rows_law source before parts after (n ∷ ns) [] table h are go = absurd a
 ready rows_law source before parts after (n ∷ ns) (r ∷ rs) table h are go =
     let s = rows_law source before.file.contents before.strings parts after r n.1.row table h
     are.0.tested are.0.row in
+    let lies = can-lie source before parts n r are.0 go.0 in
+    let whole = lies.whole in
     let rest = ready rows_law source before parts after ns rs table h are.1 go.1 in
     record {
       members = (r.0, s.unit) ∷ rest.members;
       are = λ i. (r.0, s.meaning_is i) ∷ rest.are i;
-      can = (one-can source before parts after n r are.0 go.0 s, rest.can);
+      can = (
+        record {
+          name = are.0.name;
+          bytes = are.0.bytes ∙ sym s.bytes_are;
+          encoded = s.encoding;
+          lie = s.lie;
+          shares = s.shares;
+          fits = lies.fits;
+          encoding = whole.unit.encoding;
+          header = bind-ok (unit_at n.1.place (section source.object.order n.1.bytes))
+              (whole.unit, whole.rest) _ whole.read;
+        },
+        rest.can,
+      );
     }
 
 -- the names of a package's units

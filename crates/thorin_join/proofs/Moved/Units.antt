@@ -1,7 +1,7 @@
 -- A unit is read alike wherever its bytes stand, and whatever follows them.
 use Rattle.std.proofs.Common.{◌≡◌, ◌∙◌, ℕ, ◌+◌, ◌-◌, ◌≤◌, true≢false, leb, eqb, ◌&&◌, List, []}
 use Rattle.std.proofs.Common.{◌++◌, length, take, drop, Result, Ok, Err, ap, sym, refl, subst}
-use Rattle.std.proofs.Common.{arith, length-append, inl, inr}
+use Rattle.std.proofs.Common.{arith, length-append, inl, inr, subst₂}
 use Rattle.std.proofs.lemmas.Bool.{eq-eqb}
 use Rattle.std.proofs.lemmas.List.{append-nil, take-append-le, length-take-le}
 use Rattle.dwp_base.specs.Reading.{◌>>=◌}
@@ -74,42 +74,29 @@ module _ (taken : UnitsAreTaken) (order : Endianness) (place : UnitSection) (own
   -- the unit at the second place, from its length on
   unit-goes : (format : Format) (n p : ℕ) (bs : List ℕ) → from_length place (plain order 0 own)
       ((format, n), plain order p bs) ≡ Ok (u, r)
-      → (v : Header) × (rest : Input) × (m : ℕ) × (m ≤ length own)
-      × (from_length place (plain order d (own ++ more)) (
+      → initial_length_at (plain order d (own ++ more)) ≡ Ok (
         (format, n),
-        plain order (d + p)
-            (bs ++ more),
-      ) ≡ Ok (v, rest))
-      × (u.encoding ≡ v.encoding) × (u.unit_type ≡ v.unit_type)
-      × (u.whole ≡ plain order 0 (take m own)) × (v.whole ≡ plain order d (take m own))
-      × (v.abbrev_offset ≡ u.abbrev_offset) × (v.entries ≡ shifted d u.entries)
-  unit-goes format n p bs h =
+        plain order (d + p) (bs ++ more),
+      )
+      → Moved order place own more d u
+  unit-goes format n p bs h start =
       let i = plain order 0 own in
       let j = plain order d (own ++ more) in
+      let m : ℕ = p + n in
       let s1 = bind-was (split_at n (plain order p bs)) (from_body place i format) (u, r) h in
       let c1 = split_inverse order n p bs s1.0 s1.1 in
-      let h2 : from_body place i format (plain order p (take n bs), plain order (p + n) (drop n bs))
-      ≡ Ok (u, r) = subst (λ b. from_body place i format b ≡ Ok (u, r)) (sym c1.1) s1.2 in
-      let s2 = bind-was (split_at (p + n - 0) i) _ (u, r) h2 in
-      let c2 = split_inverse order (p + n - 0) 0 own s2.0 s2.1 in
+      let s2 = bind-was (split_at (m - 0) i) _ (u, r)
+      (subst (λ b. from_body place i format b ≡ Ok (u, r)) (sym c1.1) s1.2) in
+      let c2 = split_inverse order (m - 0) 0 own s2.0 s2.1 in
       let s3 = bind-was (header_at place format s2.0.0 (plain order p (take n bs))) _ (u, r) s2.2 in
-      let m : ℕ = p + n in
-      let same_m : p + n - 0 ≡ m = omega arith in
+      let same_m : m - 0 ≡ m = omega arith in
       let fits : m ≤ length own = subst (λ k. k ≤ length own) same_m c2.0 in
-      let whole_is : s2.0.0 ≡ plain order 0 (take m own) = ap (λ (x : Input × Input). x.0)
-      (sym c2.1) ∙ ap (λ k. plain order 0 (take k own)) same_m in
       let unit_is : s3.0 ≡ u = ap (λ (x : Header × Input). x.0) (same-ok _ _ s3.2) in
       let whole' = plain order d (take m own) in
-      let agree : SameHeader order d [] s2.0.0 whole' (header_at place format s2.0.0
-      (plain order p (take n bs))) (header_at place format whole'
-      (plain order (d + p) (take n bs))) =
-      subst (λ l. SameHeader order d [] s2.0.0 whole' (header_at place format s2.0.0
-      (plain order p (take n bs))) (header_at place format whole' (plain order (d + p) l)))
-      (append-nil (take n bs))
-      (header_agrees order d [] s2.0.0 whole' place format (take n bs) p) in
-      let there = header-there order d [] s2.0.0 whole' _ u (subst (λ r.
+      let there = header-there order d [] s2.0.0 whole' _ u (subst₂ (λ r l.
       SameHeader order d [] s2.0.0 whole' r (header_at place format whole'
-      (plain order (d + p) (take n bs)))) (s3.1 ∙ ap Ok unit_is) agree) in
+      (plain order (d + p) l))) (s3.1 ∙ ap Ok unit_is) (append-nil (take n bs))
+      (header_agrees order d [] s2.0.0 whole' place format (take n bs) p)) in
       let v = there.0 in
       let long : n ≤ length (bs ++ more) = omega (arith, length-append bs more, c1.0) in
       let wide : m ≤ length (own ++ more) = omega (arith, length-append own more, fits) in
@@ -121,70 +108,49 @@ module _ (taken : UnitsAreTaken) (order : Endianness) (place : UnitSection) (own
       (take-append-le n bs more c1.0) in
       let all : split_at (d + p + n - d) j ≡ Ok (
         whole',
-        plain order (d + m)
-            (drop m (own ++ more)),
+        plain order (d + m) (drop m (own ++ more)),
       ) =
       ap (λ k. split_at k j) back ∙ split_goes order m d (own ++ more) wide ∙ ap (λ l.
       Ok (plain order d l, plain order (d + m) (drop m (own ++ more))))
-      (take-append-le m own more fits) in (
-        v,
-        rest,
-        m,
-        fits,
-        bind-ok _ _ (from_body place j format) body ∙ bind-ok _ _ _ all ∙ bind-ok _ v _ there.1,
-        there.2.0,
-        there.2.1,
-        there.2.2 ∙ whole_is,
-        there.2.3,
-        there.2.4,
-        entries-shifted order d u.entries v.entries there.2.5,
-      )
+      (take-append-le m own more fits) in
+      let read : unit_at place j ≡ Ok (v, rest) =
+      by_length place j ∙ bind-ok _ _ (from_length place j) start
+      ∙ bind-ok _ _ (from_body place j format) body ∙ bind-ok _ _ _ all ∙ bind-ok _ v _ there.1 in
+      let whole : u.whole.bytes ≡ take m own = ap (λ (k : Input). k.bytes)
+      (there.2.2 ∙ ap (λ (x : Input × Input). x.0) (sym c2.1)) ∙ ap (λ k. take k own) same_m in
+      let size : length u.whole.bytes ≡ m = ap length whole ∙ length-take-le m own fits in
+      let taking = taken place j rest v read in
+      let count : taking.0.taken ≡ m =
+      sym (length-take-le taking.0.taken (own ++ more) taking.0.enough)
+      ∙ ap (λ (k : Input). length k.bytes) (sym taking.1 ∙ there.2.3)
+      ∙ length-take-le m own fits in
+      record {
+        unit = v;
+        read = read ∙ ap (λ k. Ok (v, k)) (taking.0.is ∙ ap (λ k. after k j) (count ∙ sym size));
+        encoding = there.2.0;
+        type = there.2.1;
+        whole = there.2.3 ∙ ap (plain order d) (sym whole);
+        fits = subst (λ k. k ≤ length own) (sym size) fits;
+        front = ap (λ k. take k own) size ∙ sym whole;
+        offset = there.2.4;
+        entries = entries-shifted order d u.entries v.entries there.2.5;
+      }
 
   -- a unit of some bytes alone is read alike at another place, with more behind them
   pub unit-moves : unit_at place (plain order 0 own) ≡ Ok (u, r) → Moved order place own more d u
   unit-moves h =
       let i = plain order 0 own in
-      let j = plain order d (own ++ more) in
       let s1 = bind-was (initial_length_at i) (from_length place i) (u, r)
       (sym (by_length place i) ∙ h) in
       let there = agree-there order d more _ s1.0 (subst (λ r. Agree order d more r
       (initial_length_at (plain order (d + 0) (own ++ more)))) s1.1
       (length_agrees order d more own 0)) in
-      let same_place : d + 0 ≡ d = omega arith in
-      let start : initial_length_at j ≡ Ok there.0 =
-      ap (λ k. initial_length_at (plain order k (own ++ more))) (sym same_place) ∙ there.1 in
+      let same_place : d ≡ d + 0 = omega arith in
       let alike = there.3 in
-      let left : s1.0 ≡ (s1.0.0, plain order alike.p alike.bytes) =
-      ap (λ (k : Input). (s1.0.0, k)) alike.left in
-      let right : there.0 ≡ (s1.0.0, plain order (d + alike.p) (alike.bytes ++ more)) =
-      ap (λ (k : Input). (there.0.0, k)) alike.right ∙ ap (λ (a : Format × ℕ).
-      (a, plain order (d + alike.p) (alike.bytes ++ more))) (sym there.2) in
-      let g = unit-goes s1.0.0.0 s1.0.0.1 alike.p alike.bytes (ap (from_length place i)
-      (sym left) ∙ s1.2) in
-      let v = g.0 in
-      let m = g.2 in
-      let read : unit_at place j ≡ Ok (v, g.1) =
-      by_length place j ∙ ap (λ (x : Result ((Format × ℕ) × Input) ReadError).
-      x >>= from_length place j) start ∙ ap (from_length place j) right ∙ g.4 in
-      let long : length (take m own) ≡ m = length-take-le m own g.3 in
-      let whole : u.whole.bytes ≡ take m own = ap (λ (k : Input). k.bytes) g.7 in
-      let size : length u.whole.bytes ≡ m = ap length whole ∙ long in
-      let all = taken place j g.1 v read in
-      let own_front : take all.0.taken (own ++ more) ≡ take m own = ap (λ (k : Input). k.bytes)
-      (sym all.1 ∙ g.8) in
-      let count : all.0.taken ≡ m = sym (length-take-le all.0.taken (own ++ more) all.0.enough) ∙ ap
-      length own_front ∙ long in
-      record {
-        unit = v;
-        read = read ∙ ap (λ k. Ok (v, k)) (all.0.is ∙ ap (λ k. after k j) (count ∙ sym size));
-        encoding = g.5;
-        type = g.6;
-        whole = g.8 ∙ ap (plain order d) (sym whole);
-        fits = subst (λ k. k ≤ length own) (sym size) g.3;
-        front = ap (λ k. take k own) size ∙ sym whole;
-        offset = g.9;
-        entries = g.10;
-      }
+      unit-goes s1.0.0.0 s1.0.0.1 alike.p alike.bytes
+      (ap (λ (k : Input). from_length place i (s1.0.0, k)) (sym alike.left) ∙ s1.2)
+      (ap (λ k. initial_length_at (plain order k (own ++ more))) same_place ∙ there.1
+      ∙ (λ t. Ok (sym there.2 t, alike.right t)))
 
 -- ---- the same of both sections: units of version 5
 

@@ -1,11 +1,11 @@
 -- What is read of ranges of string offsets: of their whole entries alone, of none, and of joined
 -- ones.
-use Rattle.std.proofs.Common.{◌⊎◌, inl, inr, ◌≡◌, ◌∙◌, ℕ, ◌+◌, ◌-◌, ◌<◌, ◌≤◌, true, false, eqb, ltb}
-use Rattle.std.proofs.Common.{List, [], ◌++◌, length, take, drop, ◌*◌, ◌/◌, zero-mul, Ok, Some}
-use Rattle.std.proofs.Common.{None, refl, sym, ap, ⊎_elim, arith}
+use Rattle.std.proofs.Common.{◌⊎◌, inl, inr, ◌≡◌, ◌∙◌, ℕ, ◌+◌, ◌-◌, ◌<◌, ◌≤◌, false, eqb, ltb, List}
+use Rattle.std.proofs.Common.{[], ◌++◌, length, take, drop, ◌*◌, ◌/◌, zero-mul, Ok, Some, None}
+use Rattle.std.proofs.Common.{refl, sym, ap, ⊎_elim, arith}
 use Rattle.std.proofs.lemmas.List.{length-take, length-drop, take_all, take-append-drop}
 use Rattle.std.proofs.lemmas.List.{drop-append-le}
-use Rattle.std.proofs.lemmas.Bool.{cases_lt, lt-ltb, le-ltb, eqb-true, eqb-false, ltb-false}
+use Rattle.std.proofs.lemmas.Bool.{cases_lt, le-ltb, eqb-true, eqb-false, ltb-false, ltb-true}
 use Rattle.std.proofs.lemmas.Nat.{row_fits}
 use Rattle.dwp_base.specs.declared.endian.Endianness.{Endianness}
 use Rattle.dwp_base.specs.Numbers.{number}
@@ -24,6 +24,7 @@ use Rattle.thorin_join.proofs.Parts.OffsetLaws.{NamesTheSameLaw}
 use Rattle.thorin_packaged.proofs.OffsetsJoined.{number_front, no_header}
 use Rattle.dwp_base.proofs.Steps.{bind-was, same-ok, chosen}
 use Rattle.thorin_join.proofs.Steps.{past}
+use Rattle.dwp_base.proofs.Bools.{by-bool}
 
 -- ---- a range without the bytes past its last whole entry
 pub count-again : (format : Format) (l h n : ℕ) → l ≡ h + n * offset_size format
@@ -51,24 +52,15 @@ entry-front order encoding xs ys n i long count =
     let at = header_size encoding + i * width in
     let alone : entry_count encoding (length xs) ≡ n = count-again encoding.format (length xs)
     (header_size encoding) n long in
-    ⊎_elim
-    (λ less. let room : i * width + width ≤ n * width = row_fits i width n width less
-    (omega arith) in
-    let here : ltb i (entry_count encoding (length xs)) ≡ true =
-    lt-ltb i (entry_count encoding (length xs)) (omega (arith, alone)) in
-    let there : ltb i (entry_count encoding (length (xs ++ ys))) ≡ true =
-    lt-ltb i (entry_count encoding (length (xs ++ ys))) (omega (arith, count)) in
+    rw (alone, count) (by-bool _ (ltb i n)
+    (λ less. let before = ltb-true i n less in
+    let room : i * width + width ≤ n * width = row_fits i width n width before (omega arith) in
     let past : drop at (xs ++ ys) ≡ drop at xs ++ ys = drop-append-le at xs ys
     (omega (arith, long)) in
     let left : width ≤ length (drop at xs) = omega (arith, long, length-drop at xs) in
-    rw (here, there) (ap (λ m. Some m) (sym (ap (number order width) past ∙ number_front order
+    rw less (ap (λ m. Some m) (sym (ap (number order width) past ∙ number_front order
     encoding.format (drop at xs) ys left))))
-    (λ behind. let here : ltb i (entry_count encoding (length xs)) ≡ false =
-    le-ltb i (entry_count encoding (length xs)) (omega (arith, alone)) in
-    let there : ltb i (entry_count encoding (length (xs ++ ys))) ≡ false =
-    le-ltb i (entry_count encoding (length (xs ++ ys))) (omega (arith, count)) in
-    rw (here, there) refl)
-    (cases_lt i n)
+    (λ behind. rw behind))
 
 pub whole-long : (encoding : Encoding) (bytes : List ℕ) → header_size encoding ≤ length bytes
     → length (whole_entries encoding bytes) ≡ header_size encoding + entry_count encoding

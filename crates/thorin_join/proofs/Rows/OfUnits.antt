@@ -6,7 +6,7 @@ use Rattle.std.specs.Option.{option_and_then}
 use Rattle.std.proofs.lemmas.Option.{none-some}
 use Rattle.std.proofs.lemmas.Bool.{eqb-true}
 use Rattle.dwp_base.specs.ByKind.{value_of}
-use Rattle.dwp_base.specs.Reading.{◌>>=◌, read_each}
+use Rattle.dwp_base.specs.Reading.{read_each}
 use Rattle.dwp_base.specs.Sections.{all_kinds, same_kind}
 use Rattle.dwp_base.proofs.KindsRead.{read-kind}
 use Rattle.dwp_base.proofs.Steps.{bind-was, same-ok, chosen}
@@ -138,9 +138,7 @@ pub adjusted-plain : (indexes : Indexes) (name : DwarfObject) (kind : SectionKin
     whole ≡ Ok whole
 unfolding adjusted
 adjusted-plain indexes name kind whole plain =
-    ap (λ b. cond b (Ok whole) (row_of (own_index (adjustor indexes kind) name) (identifier_of name)
-    >>= part_by_row (adjustor indexes kind) name whole)) (no-index indexes.compilations
-    indexes.types plain)
+    rw (no-index indexes.compilations indexes.types plain)
 
 -- of a package it is by the unit's row
 adjusted-packed : (indexes : Indexes) (name : DwarfObject) (kind : SectionKind)
@@ -150,18 +148,12 @@ adjusted-packed : (indexes : Indexes) (name : DwarfObject) (kind : SectionKind)
     × (part_by_row (adjustor indexes kind) name whole row ≡ Ok result)
 unfolding adjusted
 adjusted-packed indexes name kind whole result packed h =
-    let by_row = row_of (own_index (adjustor indexes kind) name) (identifier_of name) >>=
-    part_by_row (adjustor indexes kind) name whole in
-    let steps : by_row ≡ Ok result =
-    sym (ap (λ b. cond b (Ok whole) by_row) (some-index indexes.compilations
-    indexes.types packed)) ∙ h in
-    let parts = bind-was (row_of (own_index (adjustor indexes kind) name) (identifier_of name))
-    (part_by_row (adjustor indexes kind) name whole) result steps in (
-      parts.0,
-      ap (λ own. row_of own (identifier_of name)) (sym (own-index indexes kind name)) ∙
-          parts.1,
-      parts.2,
-    )
+    let adjust = adjustor indexes kind in
+    let parts = bind-was (row_of (own_index adjust name) (identifier_of name))
+    (part_by_row adjust name whole) result
+    (rw (some-index indexes.compilations indexes.types packed) at h) in
+    let found = ap (λ own. row_of own (identifier_of name)) (sym (own-index indexes kind name)) in
+    (parts.0, found ∙ parts.1, parts.2)
 
 pub placed-part : (indexes : Indexes) (name : DwarfObject) (from : SectionKind)
     (range : Contribution) (kind : SectionKind) (front bytes : List ℕ)
@@ -171,18 +163,14 @@ pub placed-part : (indexes : Indexes) (name : DwarfObject) (from : SectionKind)
     (range_in own.row kind) result
 placed-part indexes name from range kind front bytes result packed own h =
     let parts = adjusted-packed indexes name kind (whole_behind front bytes) result packed h in
-    let same : parts.0 ≡ own.row = same-ok {E = ErrorValue} parts.0 own.row
-    (sym parts.1 ∙ own.found) in
-    let by_row : part_by_row (adjustor indexes kind) name (whole_behind front bytes) own.row ≡ Ok
-    result = ap (part_by_row (adjustor indexes kind) name (whole_behind front bytes))
-    (sym same) ∙ parts.2 in
+    let same = same-ok {E = ErrorValue} parts.0 own.row (sym parts.1 ∙ own.found) in
+    let adjust = adjustor indexes kind in
     placed-by kind (identifier_of name) front bytes (range_in own.row kind) result
-    (has_column_for kind (own_index (adjustor indexes kind) name))
-    (has_column_for kind (other_index (adjustor indexes kind) name))
+    (has_column_for kind (own_index adjust name)) (has_column_for kind (other_index adjust name))
     (range-some own.row kind)
     (λ none. range-none own.index own.number own.row kind own.there (ap (has_column_for kind)
     (sym (own-index indexes kind name ∙ own.is)) ∙ none))
-    by_row
+    (ap (part_by_row adjust name (whole_behind front bytes)) (sym same) ∙ parts.2)
 
 -- ---- the row that a unit gets
 pub record IsUnitRow (indexes : Indexes) (whole : IndexEntry) (name : DwarfObject)

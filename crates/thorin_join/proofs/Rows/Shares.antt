@@ -1,7 +1,6 @@
 -- A unit that passed the tests stands in its row.
-use Rattle.std.proofs.Common.{◌≡◌, ◌∙◌, ℕ, ◌+◌, ◌≤◌, true, false, cond, List, [], length, Ok}
-use Rattle.std.proofs.Common.{Option, Some, None, refl, sym, ap, subst, arith, Bool, ◌∷◌, is_none}
-use Rattle.std.specs.Option.{option_and_then}
+use Rattle.std.proofs.Common.{◌≡◌, ◌∙◌, ℕ, ◌+◌, ◌≤◌, true, false, List, [], length, Ok, Option}
+use Rattle.std.proofs.Common.{Some, None, refl, sym, ap, subst, arith, Bool, ◌∷◌, is_none}
 use Rattle.std.specs.List.{list_all, find}
 use Rattle.dwp_base.specs.declared.section.Contribution.{Contribution}
 use Rattle.dwp_base.specs.declared.section.SectionKind.{SectionKind}
@@ -65,19 +64,28 @@ none-found test fails (kind ∷ kinds) shared =
     let each = both (is_shared kind) (list_all is_shared kinds) shared in
     rw (fails kind each.0) (none-found test fails kinds each.1)
 
--- ---- a plain input
+-- what a unit means, by its input
+unit-plain : (source : Source) (read : DwarfObject × UnitRead) → is_package source.indexes ≡ false
+    → unit_meaning source read ≡ meaning_by source read.1.unit.whole.bytes None
+unfolding unit_meaning
+unit-plain source read plain = rw plain
+
+unit-packed : (source : Source) (read : DwarfObject × UnitRead) (row : Ranges)
+    → is_package source.indexes ≡ true → placed_row (index_for source.indexes read.0) read.1.from
+    (own_range read.1.unit) ≡ Some row
+    → unit_meaning source read ≡ meaning_by source read.1.unit.whole.bytes (Some row)
+unfolding unit_meaning
+unit-packed source read row packed placed = rw (packed, placed)
+
 module _ (source : Source) (before parts : Contents) (read : DwarfObject × UnitRead)
     (row : IndexEntry) (made : IsUnitRow source.indexes (whole_row source.encoding before parts)
     read.0 row) where
-  -- what became of the whole of a kind
   abbrev name : DwarfObject
   name = read.0
 
+  -- what became of the whole of a kind
   abbrev whole : IndexEntry
   whole = whole_row source.encoding before parts
-
-  row-encoding : row.encoding ≡ source.encoding
-  row-encoding = made.encoding ∙ (whole-else source.encoding before parts).0
 
   row-info : row.debug_info ≡ None
   row-info = made.info ∙ (whole-else source.encoding before parts).1
@@ -85,6 +93,7 @@ module _ (source : Source) (before parts : Contents) (read : DwarfObject × Unit
   row-types : row.debug_types ≡ None
   row-types = made.types ∙ (whole-else source.encoding before parts).2
 
+  -- ---- a plain input
   plain-lies : is_package source.indexes ≡ false
       → SharedLie before parts row (λ kind. joined_parts kind parts)
   plain-lies plain kind shared =
@@ -95,9 +104,12 @@ module _ (source : Source) (before parts : Contents) (read : DwarfObject × Unit
       (lies-whole (content_of kind before) (joined_parts kind parts))
 
   -- ---- a package
-  module _ (packed : is_package source.indexes ≡ true)
-      (own : OwnRow (index_for source.indexes read.0) read.1.from (own_range read.1.unit)
-      (identifier_of read.0)) where
+  module _ (test : row_test source.indexes read.1.from name read.1.unit ≡ Ok tt)
+      (packed : is_package source.indexes ≡ true) where
+    own : OwnRow (index_for source.indexes name) read.1.from (own_range read.1.unit)
+        (identifier_of name)
+    own = own-row source.indexes whole read.1.from name read.1.unit row packed test made
+
     each-placed : (kind : SectionKind) → is_shared kind ≡ true → Placed (content_of kind before)
         (joined_parts kind parts) (range_in own.row kind) (contribution_to kind row)
     each-placed kind shared =
@@ -105,10 +117,6 @@ module _ (source : Source) (before parts : Contents) (read : DwarfObject × Unit
         (content_of kind before) (joined_parts kind parts) (contribution_to kind row) packed own
         (ap (adjusted_part source.indexes name kind)
         (sym (whole-part source.encoding before parts kind shared)) ∙ made.parts kind shared)
-
-    packed-lies : SharedLie before parts row (λ kind. part_of (joined_parts kind parts)
-        (range_in own.row kind))
-    packed-lies kind shared = (each-placed kind shared).lies
 
     -- its ranges lie inside the sections of the input
     packed-inside : ((kind : SectionKind) → is_shared kind ≡ true
@@ -134,102 +142,64 @@ module _ (source : Source) (before parts : Contents) (read : DwarfObject × Unit
         by-range None is = empty-alike source.object.order source.encoding
             (first Str source.object.sections) (data_of final) i
         by-range (Some range) is =
-            let old = first StrOffsets source.object.sections in
-            let new = joined_parts StrOffsets parts in
             let size = reads.size in
-            let inside : range.offset.0 + range.size ≤ length new =
-            (each-placed StrOffsets refl).within range is in
-            let one = reads.rows own.index (one-of source.indexes read.0 own.index own.is)
-            own.number own.row range own.there is (omega (arith, inside, size))
-            (range-some own.row StrOffsets range is) final table kept i in
-            rw (
-              part-inside old range (omega (arith, inside, size)),
-              part-inside new
-                  range inside,
-            ) one
+            let there = (each-placed StrOffsets refl).within range is in
+            let inside : range.offset.0 + range.size
+            ≤ length (first StrOffsets source.object.sections) = omega arith in
+            rw (part-inside _ range inside, part-inside _ range there)
+            (reads.rows own.index (one-of source.indexes name own.index own.is) own.number own.row
+            range own.there is inside (range-some own.row StrOffsets range is) final table kept i)
 
+  -- ---- both
   -- the ranges of a unit that passed the tests lie behind the contents before
-  pub row-behind : row_test source.indexes read.1.from read.0 read.1.unit ≡ Ok tt
+  pub row-behind : row_test source.indexes read.1.from name read.1.unit ≡ Ok tt
       → LieBehind before row
   row-behind test kind range is =
       by-bool _ (is_shared kind)
       (λ shared. by-bool _ (is_package source.indexes)
-      (λ packed. (packed-lies packed
-      (own-row source.indexes whole read.1.from name read.1.unit row packed test made)
-      kind shared).behind range is)
+      (λ packed. (each-placed test packed kind shared).lies.behind range is)
       (λ plain. (plain-lies plain kind shared).behind range is))
       (λ other. absurd (none-some range (sym (unshared row row-info row-types kind other) ∙ is)))
 
--- ---- both
-unit-plain : (source : Source) (read : DwarfObject × UnitRead) → is_package source.indexes ≡ false
-    → unit_meaning source read ≡ meaning_by source read.1.unit.whole.bytes None
-unfolding unit_meaning
-unit-plain source read plain = rw plain refl
+  module _ (names : NamesTheSameLaw) (alike : ReadsAlikeLaw) (in_turn : ReadInTurnLaw)
+      (law : PackagedLaw) (strings after : List (List ℕ)) (table : IsTable strings)
+      (h : parts_of source strings ≡ Ok (parts, after)) where
+    -- the unit by these ranges, which has these parts
+    shares-by : (ranges : Option Ranges) (part : SectionKind → List ℕ)
+        → unit_meaning source read ≡ meaning_by source read.1.unit.whole.bytes ranges
+        → SharedLie before parts row part → ((kind : SectionKind)
+        → is_copied kind ≡ true → part kind ≡ part_by source ranges kind)
+        → lie_inside source ranges ≡ true → OffsetsRead source ranges after (part StrOffsets)
+        → RowShares source before parts after read row
+    shares-by ranges part is lies copied inside reads =
+        subst (λ m. RowMeans source before parts after read.1.unit.whole.bytes m row) (sym is)
+        (row-means source before parts after read.1.unit.whole.bytes ranges row part lies copied
+        inside reads (parts-kept names law source strings parts after table h).table
+        (made.encoding ∙ (whole-else source.encoding before parts).0) row-info row-types)
 
-unit-packed : (source : Source) (read : DwarfObject × UnitRead) (row : Ranges)
-    → is_package source.indexes ≡ true → placed_row (index_for source.indexes read.0) read.1.from
-    (own_range read.1.unit) ≡ Some row
-    → unit_meaning source read ≡ meaning_by source read.1.unit.whole.bytes (Some row)
-unfolding unit_meaning
-unit-packed source read row packed placed =
-    ap (λ b. cond b (option_and_then (λ r. meaning_by source read.1.unit.whole.bytes (Some r))
-    (placed_row (index_for source.indexes read.0) read.1.from (own_range read.1.unit)))
-    (meaning_by source read.1.unit.whole.bytes None)) packed
-    ∙ ap (option_and_then (λ r. meaning_by source read.1.unit.whole.bytes (Some r))) placed
+    shares-packed : row_test source.indexes read.1.from name read.1.unit ≡ Ok tt
+        → is_package source.indexes ≡ true → RowShares source before parts after read row
+    shares-packed test packed =
+        let row = (own test packed).row in
+        let firsts = parts-first source packed strings parts after h in
+        let reads = rows-read names law source packed strings parts after table h in
+        let longs = copied-or-offsets (λ kind. length (first kind source.object.sections) ≡ length
+        (joined_parts kind parts)) (λ kind copied. ap length (sym (firsts kind copied)))
+        (sym reads.size) in
+        shares-by (Some row) (λ kind. part_of (joined_parts kind parts) (range_in row kind))
+        (unit-packed source read row packed (own test packed).placed)
+        (λ kind shared. (each-placed test packed kind shared).lies)
+        (λ kind copied. ap (λ v. part_of v (range_in row kind)) (firsts kind copied))
+        (packed-inside test packed longs) (packed-reads test packed after reads)
 
-module _ (names : NamesTheSameLaw) (alike : ReadsAlikeLaw) (in_turn : ReadInTurnLaw)
-    (law : PackagedLaw) (source : Source) (before : Contents) (strings : List (List ℕ))
-    (parts : Contents) (after : List (List ℕ)) (read : DwarfObject × UnitRead) (row : IndexEntry)
-    (table : IsTable strings) (h : parts_of source strings ≡ Ok (parts, after)) where
-  abbrev Made : Type 0
-  Made = IsUnitRow source.indexes (whole_row source.encoding before parts) read.0 row
-
-  -- the unit by these ranges, which has these parts
-  shares-by : Made → (ranges : Option Ranges) (part : SectionKind → List ℕ)
-      → unit_meaning source read ≡ meaning_by source read.1.unit.whole.bytes ranges
-      → SharedLie before parts row part → ((kind : SectionKind)
-      → is_copied kind ≡ true → part kind ≡ part_by source ranges kind)
-      → lie_inside source ranges ≡ true → OffsetsRead source ranges after (part StrOffsets)
-      → RowShares source before parts after read row
-  shares-by made ranges part is lies copied inside reads =
-      subst (λ m. RowMeans source before parts after read.1.unit.whole.bytes m row) (sym is)
-      (row-means source before parts after read.1.unit.whole.bytes ranges row part lies copied
-      inside reads (parts-kept names law source strings parts after table h).table
-      (row-encoding source before parts read row made) (row-info source before parts read row made)
-      (row-types source before parts read row made))
-
-  shares-plain : Made → is_package source.indexes ≡ false
-      → RowShares source before parts after read row
-  shares-plain made plain =
-      shares-by made None (λ kind. joined_parts kind parts) (unit-plain source read plain)
-      (plain-lies source before parts read row made plain)
-      (parts-copied source strings parts after h)
-      refl
-      (parts-read names alike in_turn source plain strings parts after table h)
-
-  shares-packed : Made → row_test source.indexes read.1.from read.0 read.1.unit ≡ Ok tt
-      → is_package source.indexes ≡ true → RowShares source before parts after read row
-  shares-packed made test packed =
-      let own = own-row source.indexes (whole_row source.encoding before parts) read.1.from read.0
-      read.1.unit row packed test made in
-      let firsts = parts-first source packed strings parts after h in
-      let reads = rows-read names law source packed strings parts after table h in
-      let longs : (kind : SectionKind) → is_shared kind ≡ true
-      → length (first kind source.object.sections) ≡ length (joined_parts kind parts) =
-      copied-or-offsets (λ kind. length (first kind source.object.sections) ≡ length
-      (joined_parts kind parts)) (λ kind copied. ap length (sym (firsts kind copied)))
-      (sym reads.size) in
-      shares-by made (Some own.row) (λ kind. part_of (joined_parts kind parts)
-      (range_in own.row kind)) (unit-packed source read own.row packed own.placed)
-      (packed-lies source before parts read row made packed own)
-      (λ kind copied. ap (λ v. part_of v (range_in own.row kind)) (firsts kind copied))
-      (packed-inside source before parts read row made packed own longs)
-      (packed-reads source before parts read row made packed own after reads)
+    shares : row_test source.indexes read.1.from name read.1.unit ≡ Ok tt
+        → RowShares source before parts after read row
+    shares test = by-bool _ (is_package source.indexes) (shares-packed test)
+        (λ plain. shares-by None (λ kind. joined_parts kind parts) (unit-plain source read plain)
+        (plain-lies plain) (parts-copied source strings parts after h) refl
+        (parts-read names alike in_turn source plain strings parts after table h))
 
 pub row-shares : NamesTheSameLaw → ReadsAlikeLaw → ReadInTurnLaw → PackagedLaw → RowsLaw
 row-shares names alike in_turn law source before strings parts after read row table h test is =
-    let made = is-unit_row source.indexes (whole_row source.encoding before parts) read.0 row is in
-    by-bool _ (is_package source.indexes)
-    (shares-packed names alike in_turn law source before strings parts after read row table h made
-    test)
-    (shares-plain names alike in_turn law source before strings parts after read row table h made)
+    shares source before parts read row (is-unit_row source.indexes _ read.0 row is) names alike
+    in_turn law strings after table h test

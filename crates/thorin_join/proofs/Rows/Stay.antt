@@ -1,7 +1,6 @@
 -- What stands in a package stays when more is added.
-use Rattle.std.proofs.Common.{◌≡◌, ◌∙◌, ℕ, ◌+◌, ◌-◌, ◌≤◌, Bool, true, false, cond, List, [], ◌∷◌}
-use Rattle.std.proofs.Common.{◌++◌, length, take, drop, ap, sym, refl, arith, Some, None, Option}
-use Rattle.std.proofs.Common.{subst}
+use Rattle.std.proofs.Common.{◌≡◌, ◌∙◌, ℕ, ◌+◌, ◌-◌, ◌≤◌, cond, List, [], ◌∷◌, ◌++◌, length, take}
+use Rattle.std.proofs.Common.{drop, ap, sym, refl, arith, Some, None, Option}
 use Rattle.std.specs.Prelude.{slice_range}
 use Rattle.std.proofs.lemmas.Bool.{le-leb}
 use Rattle.std.proofs.lemmas.List.{append_assoc, append-nil, drop-append-le, take-append-le}
@@ -21,9 +20,10 @@ use Rattle.thorin_index.specs.Entries.{contribution_to}
 use Rattle.thorin_index.specs.declared.entry.IndexEntry.{IndexEntry}
 use Rattle.thorin_input.specs.Growing.{Contents, HasFront, with_bytes}
 use Rattle.thorin_join.specs.Meaning.{Meaning}
-use Rattle.thorin_join.specs.Represents.{LieInside, Shares, Owns, IsRowOf, AreRowsOf}
+use Rattle.thorin_join.specs.Represents.{LieInside, Shares, IsRowOf, AreRowsOf}
 use Rattle.thorin_join.proofs.Parts.Appended.{content-with_bytes}
 use Rattle.thorin_join.proofs.Parts.Strings.{front-front}
+use Rattle.dwp_base.proofs.Bools.{by-bool}
 
 -- each content has at its front what it was
 abbrev pub Grows : Contents → Contents → Type 0
@@ -34,30 +34,19 @@ front-long a b h =
     let long : length b ≡ length a + length h.rest = ap length h.is ∙ length-append a h.rest in
     omega (arith, long)
 
-pub front-refl : (a : List ℕ) → HasFront a a
-front-refl a = record { rest = []; is = sym (append-nil a) }
-
-pub front-trans : (a b c : List ℕ) → HasFront a b → HasFront b c → HasFront a c
-front-trans a b c h k = record {
-  rest = h.rest ++ k.rest;
-  is = k.is ∙ ap (λ l. l ++ k.rest) h.is ∙
-      append_assoc a h.rest k.rest;
-}
-
 pub grows-trans : (c d e : Contents) → Grows c d → Grows d e → Grows c e
-grows-trans c d e h k kind = front-trans (content_of kind c) (content_of kind d) (content_of kind e)
-    (h kind) (k kind)
+grows-trans c d e h k kind = record {
+  rest = (h kind).rest ++ (k kind).rest;
+  is = (k kind).is ∙ ap (λ l. l ++ (k kind).rest) (h kind).is
+      ∙ append_assoc (content_of kind c) (h kind).rest (k kind).rest;
+}
 
 -- bytes that are added
 pub grows-with_bytes : (k : SectionKind) (x : List ℕ) (c : Contents) → Grows c (with_bytes k x c)
 grows-with_bytes k x c kind =
-    subst (HasFront (content_of kind c)) (sym (content-with_bytes kind k x c))
-    (by (same_kind k kind))
-  where
-    by : (b : Bool) → HasFront (content_of kind c)
-        (cond b (content_of kind c ++ x) (content_of kind c))
-    by true = record { rest = x; is = refl }
-    by false = front-refl (content_of kind c)
+    rw (content-with_bytes kind k x c) (by-bool _ (same_kind k kind)
+    (λ same. rw same (record { rest = x; is = refl }))
+    (λ other. rw other (record { rest = []; is = sym (append-nil (content_of kind c)) })))
 
 pub range-front : (a x : List ℕ) (i n : ℕ) → i + n ≤ length a → slice_range (a ++ x) i (i + n) ≡
     slice_range a i (i + n)
@@ -72,19 +61,16 @@ pub part-inside : (a : List ℕ) (range : Contribution) → range.offset.0 + ran
 part-inside a range h =
     ap (λ b. cond b (slice_range a range.offset.0 (range.offset.0 + range.size)) []) (le-leb _ _ h)
 
-pub part-front : (a b : List ℕ) (range : Contribution) → HasFront a b → range.offset.0 + range.size
-    ≤ length a → part_of b (Some range) ≡ part_of a (Some range)
-part-front a b range front h =
-    let longer = front-long a b front in
-    part-inside b range (omega arith)
-    ∙ ap (λ l. slice_range l range.offset.0 (range.offset.0 + range.size)) front.is
-    ∙ range-front a front.rest range.offset.0 range.size h
-    ∙ sym (part-inside a range h)
-
 part-kept : (a b : List ℕ) (part : Option Contribution) → HasFront a b → ((range : Contribution)
     → part ≡ Some range → range.offset.0 + range.size ≤ length a) → part_of b part ≡ part_of a part
 part-kept a b None front inside = refl
-part-kept a b (Some range) front inside = part-front a b range front (inside range refl)
+part-kept a b (Some range) front inside =
+    let longer = front-long a b front in
+    let within = inside range refl in
+    part-inside b range (omega arith)
+    ∙ ap (λ l. slice_range l range.offset.0 (range.offset.0 + range.size)) front.is
+    ∙ range-front a front.rest range.offset.0 range.size within
+    ∙ sym (part-inside a range within)
 
 -- the part of a row
 pub keep-part : (c d : Contents) (row : IndexEntry) → Grows c d → LieInside c row
@@ -111,39 +97,29 @@ keep-shares order c d s t row unit grows longer lie shares = record {
       ∙ shares.string final table (front-front s t final longer begins) i;
 }
 
-pub keep-owns : (order : Endianness) (c d : Contents) (name : DwarfObject) (row : IndexEntry)
-    (unit : Meaning) → Grows c d → LieInside c row
-    → Owns order c name row unit → Owns order d name row unit
-keep-owns order c d name row unit grows lie owns = record {
-  place = owns.place;
-  place_is = owns.place_is;
-  bytes = keep-part c d row grows lie (kind_at owns.place) ∙ owns.bytes;
-  encoding = owns.encoding;
-  header = owns.header;
-}
-
-pub keep-row : (order : Endianness) (c d : Contents) (s t : List (List ℕ)) (row : IndexEntry)
-    (member : DwarfObject × Meaning) → Grows c d → take (length s) t ≡ s
-    → IsRowOf order c s row member → IsRowOf order d t row member
-keep-row order c d s t row member grows longer is = record {
-  name = is.name;
-  encoding = is.encoding;
-  lie = keep-lie c d row grows is.lie;
-  shares = keep-shares order c d s t row member.1 grows longer is.lie is.shares;
-  owns = keep-owns order c d member.0 row member.1 grows is.lie is.owns;
-}
-
 pub keep-rows : (order : Endianness) (c d : Contents) (s t : List (List ℕ)) (rows : List IndexEntry)
     (members : List (DwarfObject × Meaning)) → Grows c d → take (length s) t ≡ s
     → AreRowsOf order c s rows members → AreRowsOf order d t rows members
 keep-rows order c d s t [] [] grows longer are = tt
 keep-rows order c d s t [] (m ∷ ms) grows longer are = absurd are
 keep-rows order c d s t (r ∷ rs) [] grows longer are = absurd are
-keep-rows order c d s t (r ∷ rs) (m ∷ ms) grows longer are = (
-  keep-row order c d s t r m grows longer are.0,
-  keep-rows order c d s t rs ms
-      grows longer are.1,
-)
+keep-rows order c d s t (r ∷ rs) (m ∷ ms) grows longer are =
+    let is = are.0 in (
+      record {
+        name = is.name;
+        encoding = is.encoding;
+        lie = keep-lie c d r grows is.lie;
+        shares = keep-shares order c d s t r m.1 grows longer is.lie is.shares;
+        owns = record {
+          place = is.owns.place;
+          place_is = is.owns.place_is;
+          bytes = keep-part c d r grows is.lie (kind_at is.owns.place) ∙ is.owns.bytes;
+          encoding = is.owns.encoding;
+          header = is.owns.header;
+        };
+      },
+      keep-rows order c d s t rs ms grows longer are.1,
+    )
 
 -- one more row
 pub rows-next : (order : Endianness) (c : Contents) (s : List (List ℕ)) (rows : List IndexEntry)

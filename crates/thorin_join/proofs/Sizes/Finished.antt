@@ -1,7 +1,6 @@
 -- How many bytes the contents of a finished file have, and the ELF file beside them.
 use Rattle.std.proofs.Common.{◌≡◌, ◌∙◌, ℕ, ◌+◌, ◌*◌, Bool, true, false, cond, eqb, List, [], ◌∷◌}
-use Rattle.std.proofs.Common.{◌++◌, length, refl, ap, Option, arith}
-use Rattle.std.proofs.Common.{◌≤◌, nat_le}
+use Rattle.std.proofs.Common.{◌++◌, length, refl, ap, Option, arith, ◌≤◌, nat_le}
 use Rattle.std.proofs.lemmas.List.{length-append, length-map}
 use Rattle.std.proofs.lemmas.List.Sums.{sum_by-cons}
 use Rattle.dwp_base.specs.declared.endian.Endianness.{Endianness}
@@ -17,9 +16,9 @@ use Rattle.dwp_table.specs.Table.{signature_of}
 use Rattle.thorin_strings.specs.Strings.{data_of}
 use Rattle.thorin_index.specs.declared.entry.IndexEntry.{IndexEntry}
 use Rattle.thorin_index.specs.Entries.{offset_or_0, size_or_0}
-use Rattle.thorin_index.specs.IndexText.{numbers_bytes, used_sections}
-use Rattle.thorin_index.specs.IndexText.{column_numbers, row_numbers, rows_bytes, signatures_bytes}
-use Rattle.thorin_index.specs.IndexText.{entry_ids, index_bytes, IsIndexOf}
+use Rattle.thorin_index.specs.IndexText.{numbers_bytes, used_sections, column_numbers, row_numbers}
+use Rattle.thorin_index.specs.IndexText.{rows_bytes, signatures_bytes, entry_ids, index_bytes}
+use Rattle.thorin_index.specs.IndexText.{IsIndexOf}
 use Rattle.thorin_input.specs.Growing.{with_bytes, Contents}
 use Rattle.thorin_join.specs.Builder.{IsFinished}
 use Rattle.thorin_join.specs.Sizes.{bytes_of_contents, bytes_of_strings, bytes_of_index}

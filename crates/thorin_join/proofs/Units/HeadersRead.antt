@@ -1,20 +1,19 @@
 -- The names and the headers of units that are read.
-use Rattle.std.proofs.Common.{◌≡◌, ◌∙◌, ◌-◌, ◌&&◌, ◌⊎◌, inl, inr, ℕ, Bool, true, cond, eqb, leb}
-use Rattle.std.proofs.Common.{List, Result, Ok, Err, Option, Some, None, ap, sym, refl, subst}
+use Rattle.std.proofs.Common.{◌≡◌, ◌∙◌, ◌-◌, ◌&&◌, ◌⊎◌, inl, inr, ℕ, Bool, true, eqb, leb, List}
+use Rattle.std.proofs.Common.{Result, Ok, Err, Option, Some, None, ap, sym, refl, subst}
 use Rattle.std.specs.Prelude.{slice_get}
 use Rattle.std.specs.Option.{ok_or}
 use Rattle.dwp_base.specs.declared.endian.Endianness.{Endianness}
 use Rattle.dwp_base.specs.declared.section.SectionKind.{SectionKind}
 use Rattle.dwp_base.proofs.EveryKind.{every, is-same}
 use Rattle.dwp_base.specs.Sections.{same_kind}
-use Rattle.dwp_base.proofs.Steps.{same-ok, bind-was, by-choice}
+use Rattle.dwp_base.proofs.Steps.{same-ok, bind-was, chosen}
 use Rattle.dwp_bytes.specs.Input.{Input, section, split_at, number_at, offset_at}
 use Rattle.dwp_bytes.specs.declared.encoding.Format.{Format}
 use Rattle.dwp_bytes.specs.declared.error.ReadError.{ReadError}
 use Rattle.dwp_bytes.specs.declared.error.ReadError.TheVariants.{UnknownVersion}
 use Rattle.dwp_dwarf.specs.Units.{Unit as Header, initial_length_at, address_size_at, type_at}
-use Rattle.dwp_dwarf.specs.Units.{older_type_at, older_at, newer_at, header_at, unit_at, units}
-use Rattle.dwp_dwarf.specs.Units.{unit_bytes}
+use Rattle.dwp_dwarf.specs.Units.{older_type_at, older_at, header_at, unit_at, units, unit_bytes}
 use Rattle.dwp_dwarf.specs.declared.unit.UnitSection.{UnitSection}
 use Rattle.dwp_dwarf.specs.declared.unit.UnitSection.TheVariants as places
 use Rattle.dwp_dwarf.specs.declared.unit.UnitType.{UnitType}
@@ -29,6 +28,7 @@ use Rattle.thorin_input.specs.NewUnits.{name_for, unit_section}
 use Rattle.thorin_input.specs.Rows.{abbreviations_for}
 use Rattle.thorin_join.specs.State.{kind_at}
 use Rattle.thorin_join.proofs.Moved.Units.{newer-five}
+use Rattle.thorin_join.proofs.Steps.{kept}
 
 -- ---- a unit in types is of version 5 or a type unit
 abbrev pub FiveOrType : Header → Type 0
@@ -61,13 +61,11 @@ header-five : (format : Format) (whole i : Input) (u : Header) → header_at pla
 unfolding header_at
 header-five format whole i u h =
     let a = bind-was (number_at 2 i) _ u h in
-    let older : Result Header ReadError = older_at places.Types format a.0.0 whole a.0.1 in
-    let others : Result Header ReadError = cond (leb 2 a.0.0 && leb a.0.0 4) older
-    (Err UnknownVersion) in
-    by-choice (FiveOrType u) (eqb a.0.0 5) (newer_at format whole a.0.1) others (Ok u) a.2
-    (λ newer. inl (newer-five format whole a.0.1 u newer))
-    (λ other. by-choice (FiveOrType u) (leb 2 a.0.0 && leb a.0.0 4) older (Err UnknownVersion)
-    (Ok u) other (older-five format a.0.0 whole a.0.1 u) (no_header (FiveOrType u) u))
+    elim (chosen (eqb a.0.0 5) _ _ (Ok u) a.2) [
+      | inl newer ↦ inl (newer-five format whole a.0.1 u newer.1)
+      | inr other ↦ older-five format a.0.0 whole a.0.1 u
+          (kept (leb 2 a.0.0 && leb a.0.0 4) _ _ u other.1).1
+    ]
 
 pub unit-five : (i : Input) (x : Header × Input) → unit_at places.Types i ≡ Ok x → FiveOrType x.0
 unfolding unit_at

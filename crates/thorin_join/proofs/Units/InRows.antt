@@ -36,25 +36,16 @@ module _ (order : Endianness) (contents : Contents) (strings : List (List ℕ))
         (contribution_to (kind_at place) row)) (is.owns.place_is ∙ ap (λ name.
         place_of name row.debug_types) (sym is.name))
 
-    pieces-are : member.1.pieces ≡ pieces_by (λ kind. part_of (content_of kind contents)
-        (contribution_to kind row))
-    pieces-are = sym (pieces-same _ member.1.pieces is.shares.content)
-
     strings-found : strings_of order row.encoding (data_of strings)
         (part_of (content_of StrOffsets contents) (contribution_to StrOffsets row)) ≡ Ok
         member.1.strings
-    strings-found =
-        ap (λ encoding. strings_of order encoding (data_of strings)
-        (part_of (content_of StrOffsets contents) (contribution_to StrOffsets row))) is.encoding
-        ∙ strings-are order member.1.encoding (data_of strings)
-        (part_of (content_of StrOffsets contents) (contribution_to StrOffsets row))
-        member.1.strings
-        (is.shares.string strings table (take-length strings))
+    strings-found = rw is.encoding (strings-are order member.1.encoding (data_of strings) _
+        member.1.strings (is.shares.string strings table (take-length strings)))
 
     meaning-is : member.1 ≡ meaning_at order contents strings row
     meaning-is = λ i. record {
       bytes = bytes-are i;
-      pieces = pieces-are i;
+      pieces = sym (pieces-same _ member.1.pieces is.shares.content) i;
       strings = sym (ap (λ found. result_unwrap_or found []) strings-found) i;
       encoding = sym is.encoding i;
     }

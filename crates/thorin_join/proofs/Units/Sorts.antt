@@ -1,6 +1,5 @@
 -- The name of a unit has the sort, and of a type unit the signature, that its header says.
-use Rattle.std.proofs.Common.{◌≡◌, ℕ, Bool, true, false, cond, List, [], ◌∷◌, ap, sym, Result, Ok}
-use Rattle.std.proofs.Common.{Err, Option, Some, None}
+use Rattle.std.proofs.Common.{◌≡◌, ℕ, List, [], ◌∷◌, ap, sym, Result, Ok, Err, Option, Some, None}
 use Rattle.std.specs.Option.{ok_or}
 use Rattle.dwp_bytes.specs.Input.{Input}
 use Rattle.dwp_bytes.specs.declared.error.ReadError.{ReadError}
@@ -12,14 +11,14 @@ use Rattle.dwp_dwarf.specs.Units.{Unit as Header}
 use Rattle.dwp_dwarf.specs.declared.unit.UnitType.{UnitType}
 use Rattle.dwp_dwarf.specs.declared.unit.UnitType.TheVariants as unit_types
 use Rattle.dwp_table.specs.declared.object.DwarfObject.{DwarfObject}
-use Rattle.thorin_errors.specs.Errors.{ErrorValue, NoDie, TopLevelDieNotUnit}
-use Rattle.thorin_errors.specs.Errors.{ParseUnitAbbreviations, GimliRead}
+use Rattle.thorin_errors.specs.Errors.{ErrorValue, NoDie, ParseUnitAbbreviations, GimliRead}
 use Rattle.thorin_errors.specs.Answers.{as_error}
 use Rattle.thorin_identity.specs.Identity.{compilation, is_unit_tag, identifier_in, found_or}
 use Rattle.thorin_identity.specs.Identity.{first_identifier, entry_identity, root_identity}
 use Rattle.thorin_identity.specs.Identity.{identity_by, identity}
 use Rattle.thorin_join.specs.Laid.{type_signature, name_signature}
 use Rattle.dwp_base.proofs.Steps.{bind-was}
+use Rattle.thorin_join.proofs.Steps.{kept}
 
 some-eq : (a b : DwarfObject) → ◌≡◌ {A = Result (Option DwarfObject) ErrorValue} (Ok (Some a))
     (Ok (Some b)) → a ≡ b
@@ -40,12 +39,7 @@ first-none (Ok a ∷ others) name h = by (identifier_in a) h (first-none others 
 entry-none : (e : DebugEntry) (name : DwarfObject) → entry_identity e ≡ Ok (Some name)
     → name_signature name ≡ None
 unfolding entry_identity
-entry-none e name h = by (is_unit_tag e.tag) h
-  where
-    by : (b : Bool) → cond b (first_identifier e.attributes) (Err TopLevelDieNotUnit) ≡ Ok
-        (Some name) → name_signature name ≡ None
-    by true k = first-none e.attributes name k
-    by false k = absurd cc
+entry-none e name h = first-none e.attributes name (kept (is_unit_tag e.tag) _ _ _ h).1
 
 root-none : (section : Input) (unit : Header) (name : DwarfObject) → root_identity section unit ≡ Ok
     (Some name) → name_signature name ≡ None
