@@ -1,8 +1,8 @@
 -- The first unit of a plain object stands in info, with the object's encoding, and has a name that
 -- goes there.
 use Rattle.std.proofs.Common.{◌≡◌, ◌∙◌, ℕ, zero, suc, ◌-◌, Bool, true, false, cond, eqb, leb, ◌&&◌}
-use Rattle.std.proofs.Common.{◌||◌, ◌⊎◌, inl, inr, ⊎_elim, List, [], ◌∷◌, ◌++◌, length, refl, sym}
-use Rattle.std.proofs.Common.{ap, subst, Result, Ok, Err, Option, Some, None}
+use Rattle.std.proofs.Common.{◌||◌, ◌⊎◌, inl, inr, List, [], ◌∷◌, ◌++◌, length, refl, sym, ap}
+use Rattle.std.proofs.Common.{subst, Result, Ok, Err, Option, Some, None}
 use Rattle.std.specs.Prelude.{find}
 use Rattle.std.specs.List.{list_any}
 use Rattle.std.specs.Option.{ok_or}
@@ -21,8 +21,6 @@ use Rattle.dwp_dwarf.specs.Units.{Unit as Header, initial_length_at, address_siz
 use Rattle.dwp_dwarf.specs.Units.{older_at, newer_at, header_at, unit_at, listed, units_within}
 use Rattle.dwp_dwarf.specs.Units.{units}
 use Rattle.dwp_dwarf.specs.declared.unit.UnitSection.TheVariants as places
-use Rattle.dwp_dwarf.specs.declared.unit.UnitType.{UnitType}
-use Rattle.dwp_dwarf.specs.declared.unit.UnitType.TheVariants as unit_types
 use Rattle.dwp_table.specs.declared.object.DwarfObject.{DwarfObject}
 use Rattle.thorin_errors.specs.Errors.{ErrorValue, ParseUnitHeader, NotSplitUnit}
 use Rattle.thorin_errors.specs.Errors.{NoCompilationUnits}
@@ -48,22 +46,13 @@ use Rattle.dwp_base.proofs.Steps.{bind-was, same-ok, by-choice}
 abbrev FiveOrNone : Header → Type 0
 FiveOrNone unit = (unit.encoding.version ≡ 5) ⊎ (type_signature unit.unit_type ≡ None)
 
-older-sort : (format : Format) (i : Input) (t : UnitType × Input) → older_type_at places.Info format
-    i ≡ Ok t → type_signature t.0 ≡ None
-unfolding older_type_at
-older-sort format i t h = ap (λ (x : UnitType × Input). type_signature x.0)
-    (sym (same-ok {E = ReadError} (unit_types.Compilation, i) t h))
-
 older-none : (format : Format) (version : ℕ) (whole i : Input) (u : Header) → older_at places.Info
     format version whole i ≡ Ok u → FiveOrNone u
-unfolding older_at
+unfolding older_at older_type_at
 older-none format version whole i u h =
     let a = bind-was (offset_at format i) _ u h in
     let b = bind-was (address_size_at a.0.1) _ u a.2 in
-    let c = bind-was (older_type_at places.Info format b.0.1) _ u b.2 in
-    let t = older-sort format b.0.1 c.0 c.1 in
-    inr (sym (ap (λ (x : Header). type_signature x.unit_type) (same-ok {E = ReadError} _ u c.2)) ∙
-    t)
+    inr (ap (λ (x : Header). type_signature x.unit_type) (sym (same-ok {E = ReadError} _ u b.2)))
 
 header-none : (format : Format) (whole i : Input) (u : Header) → header_at places.Info format whole
     i ≡ Ok u → FiveOrNone u
@@ -201,8 +190,10 @@ module _ (source : Source) (encoding : Encoding) where
             there = ap (λ (l : Reads). list_any (same_name head.read.0) (keys (l ++ others)))
                 head.are ∙ ap (λ c. c || list_any (same_name head.read.0)
                 (keys (head.rest ++ others))) (same_name-self head.read.0);
-            sort = ⊎_elim (λ five. inl (sym version ∙ five)) (λ none.
-                inr (sym head.sort ∙ none)) f.sort;
+            sort = elim f.sort [
+              | inl five ↦ inl (sym version ∙ five)
+              | inr none ↦ inr (sym head.sort ∙ none)
+            ];
           }
       by here others named false is k later =
           let l = later k in

@@ -1,9 +1,7 @@
 -- Each unit of a package names itself by the abbreviations of its row, where plain objects of one
 -- encoding are added.
-use Rattle.std.proofs.Common.{◌≡◌, ◌∙◌, ℕ, ◌+◌, ◌<◌, ◌≤◌, Bool, true, false, cond, List, [], ◌∷◌}
-use Rattle.std.proofs.Common.{◌++◌, length, refl, sym, ap, subst, Ok, Some, arith, length-append}
-use Rattle.std.proofs.Common.{⊎_elim}
-use Rattle.std.specs.Prelude.{find}
+use Rattle.std.proofs.Common.{◌≡◌, ◌∙◌, ℕ, ◌+◌, ◌<◌, ◌≤◌, true, false, List, [], ◌∷◌, ◌++◌, length}
+use Rattle.std.proofs.Common.{refl, sym, ap, subst, Ok, Some, arith, length-append}
 use Rattle.std.specs.List.{list_all}
 use Rattle.std.proofs.lemmas.Option.{none-some, same_Some}
 use Rattle.dwp_base.specs.declared.endian.Endianness.{Endianness}
@@ -11,6 +9,7 @@ use Rattle.dwp_base.specs.declared.section.Contribution.{Contribution}
 use Rattle.dwp_base.specs.declared.section.SectionKind.{SectionKind}
 use Rattle.dwp_base.specs.declared.section.SectionKind.TheVariants as kinds
 use Rattle.dwp_base.specs.Sections.{same_kind}
+use Rattle.dwp_base.proofs.Bools.{by-bool}
 use Rattle.dwp_bytes.specs.Input.{Input, section}
 use Rattle.dwp_bytes.specs.declared.encoding.Encoding.{Encoding}
 use Rattle.dwp_dwarf.specs.Units.{Unit as Header, UnitsAreTaken, unit_at}
@@ -31,9 +30,9 @@ use Rattle.thorin_again.specs.Plain.{NamesItself, HasNamedUnits}
 use Rattle.thorin_join.specs.Represents.{IsSound, LieInside}
 use Rattle.thorin_input.specs.Rows.{whole_row}
 use Rattle.thorin_join.specs.StandApart.{EachRow}
-use Rattle.thorin_join.specs.State.{InProgress, kind_at, row_at, unit_bytes, adding}
-use Rattle.thorin_join.specs.State.{with_new_units, with_source}
-use Rattle.thorin_input.specs.Used.{Used, first, has_kind, bytes_of}
+use Rattle.thorin_join.specs.State.{InProgress, kind_at, row_at, unit_bytes, adding, with_new_units}
+use Rattle.thorin_join.specs.State.{with_source}
+use Rattle.thorin_input.specs.Used.{Used, first}
 use Rattle.thorin_join.proofs.Units.HeadersRead.{ReadAlone}
 use Rattle.thorin_join.proofs.Units.JoinedByName.{IsAdded}
 use Rattle.thorin_join.proofs.Rows.Stay.{Grows, grows-with_bytes, keep-part, keep-lie}
@@ -41,9 +40,10 @@ use Rattle.thorin_join.proofs.Rows.LieInTurn.{types-only}
 use Rattle.thorin_again.proofs.Kept.LongerTables.{identity-stays}
 use Rattle.thorin_again.proofs.Offsets.Tiled.{row-append, weaker}
 use Rattle.thorin_join.proofs.Rows.OfUnits.{is-unit_row, whole-else}
-use Rattle.thorin_join.proofs.Parts.Appended.{content-with_parts, parts-copied, either}
+use Rattle.thorin_join.proofs.Parts.Appended.{content-with_parts, parts-copied}
 use Rattle.thorin_again.proofs.Kept.EachUnit.{Each, each-both, each-go, each-joining, each-new}
-use Rattle.thorin_again.proofs.Kept.EachUnit.{each-passed, each-weaker, in-turn, units-are, WasRead, Has}
+use Rattle.thorin_again.proofs.Kept.EachUnit.{each-passed, each-weaker, in-turn, units-are, WasRead}
+use Rattle.thorin_again.proofs.Kept.EachUnit.{Has}
 use Rattle.thorin_again.proofs.Kept.ObjectNames.{NamedAlone, named-alone}
 use Rattle.thorin_again.proofs.Kept.SharedParts.{shared-row, plain-part, plain-added, order-added}
 use Rattle.thorin_again.proofs.Kept.SharedParts.{parted}
@@ -62,21 +62,11 @@ record Front (kind : SectionKind) (sections : List Used) : Type 0 where
 
 first-front : (kind : SectionKind) (sections : List Used) → Front kind sections
 first-front kind [] = record { rest = []; is = refl }
-first-front kind (s ∷ ss) = by (same_kind s.kind kind) refl (first-front kind ss)
-  where
-    by : (b : Bool) → same_kind s.kind kind ≡ b → Front kind ss → Front kind (s ∷ ss)
-    by true e later = record {
-      rest = joined_content kind ss;
-      is = ap (λ b. cond b (s.bytes ++ joined_content kind ss) (joined_content kind ss)) e ∙ sym
-          (ap (λ b. bytes_of (cond b (Some s) (find (has_kind kind) ss)) ++ joined_content kind ss)
-          e);
-    }
-    by false e later = record {
-      rest = later.rest;
-      is = ap (λ b. cond b (s.bytes ++ joined_content kind ss) (joined_content kind ss)) e ∙
-          later.is ∙ sym (ap (λ b. bytes_of (cond b (Some s) (find (has_kind kind) ss))
-          ++ later.rest) e);
-    }
+first-front kind (s ∷ ss) =
+    let later = first-front kind ss in
+    by-bool _ (same_kind s.kind kind)
+    (λ here. record { rest = joined_content kind ss; is = rw here refl })
+    (λ other. record { rest = later.rest; is = rw other later.is })
 
 -- ---- units that are added name themselves
 
@@ -102,11 +92,8 @@ keep-names order encoding c d row grows lie names unit rest read =
     let own : unit_bytes d row ≡ unit_bytes c row = keep-part c d row grows lie
     (kind_at (place_of row.id row.debug_types)) in
     let there = names unit rest (ap (λ l. unit_at (place_of row.id row.debug_types)
-    (section order l)) (sym own) ∙ read) in (
-      there.0,
-      ap (λ l. identity (section order l) unit) (keep-part c d row grows lie
-          kinds.Abbrev) ∙ there.1,
-    )
+    (section order l)) (sym own) ∙ read) in
+    (there.0, rw (keep-part c d row grows lie kinds.Abbrev) there.1)
 
 keep-stands : (order : Endianness) (encoding : Encoding) (c d : Contents) (rows : List IndexEntry)
     → Grows c d → EachRow (Stands order encoding c) rows → EachRow (Stands order encoding d) rows
@@ -214,19 +201,15 @@ module _ (source : Source) (made : InProgress) (parts : Contents) (plain : is_pa
   Inside kind = (range : Contribution) → contribution_to kind n.1.row ≡ Some range
       → (range.offset.0 + range.size ≤ length (content_of kind c)) × (0 < range.size)
 
-  shared-inside : (kind : SectionKind) → is_shared kind ≡ true → Inside kind
-  shared-inside kind shared range e = put-inside kind parts made.file.contents range
-      (sym (plain-part source made parts n r plain is kind shared) ∙ e)
-
   all-inside : (kind : SectionKind) → Inside kind
   all-inside kind range e =
       let whole = whole_row source.encoding made.file.contents parts in
       let row = is-unit_row source.indexes whole r.0 n.1.row is.row in
       let else = whole-else source.encoding made.file.contents parts in
-      ⊎_elim (λ shared. shared-inside kind shared range e)
+      by-bool _ (is_shared kind) (λ shared. put-inside kind parts made.file.contents range
+      (sym (plain-part source made parts n r plain is kind shared) ∙ e))
       (λ other. absurd (none-some range (sym (unshared n.1.row (row.info ∙ else.1)
       (row.types ∙ else.2) kind other) ∙ e)))
-      (either (is_shared kind))
 
   pub new-inside : LieInside c n.1.row
   new-inside = record {

@@ -1,7 +1,7 @@
 -- What holds of all units of a package once an input was taken; and all units of plain objects of
 -- one encoding have it.
-use Rattle.std.proofs.Common.{◌≡◌, ◌∙◌, ℕ, ◌<◌, Bool, true, false, cond, ◌&&◌, ltb, inl, inr, List, []}
-use Rattle.std.proofs.Common.{◌∷◌, length, map, refl, sym, ap, subst, Result, Ok, Err, Option}
+use Rattle.std.proofs.Common.{◌≡◌, ◌∙◌, ℕ, ◌<◌, Bool, true, false, cond, ◌&&◌, ltb, inl, inr, List}
+use Rattle.std.proofs.Common.{[], ◌∷◌, length, map, refl, sym, ap, subst, Result, Ok, Err, Option}
 use Rattle.std.proofs.Common.{Some, None, arith, true≢false}
 use Rattle.std.specs.Prelude.{All}
 use Rattle.std.specs.List.{list_all}
@@ -20,8 +20,8 @@ use Rattle.dwp_table.specs.declared.object.DwarfObject.{DwarfObject}
 use Rattle.thorin_errors.specs.Errors.{ErrorValue}
 use Rattle.thorin_join.specs.Builder.{State, start, taken, with_input, with_own, own_after}
 use Rattle.thorin_join.specs.Builder.{names_in}
-use Rattle.thorin_input.specs.Encodings.{encoding_of, file_encoding, own_encoding}
-use Rattle.thorin_input.specs.Encodings.{is_plain, section_has}
+use Rattle.thorin_input.specs.Encodings.{encoding_of, file_encoding, own_encoding, is_plain}
+use Rattle.thorin_input.specs.Encodings.{section_has}
 use Rattle.thorin_input.specs.Indexes.{Source, is_package, index_for, indexes_of}
 use Rattle.thorin_join.specs.Join.{Joins}
 use Rattle.thorin_join.specs.Meaning.{Meaning, Members, UnitRead, keys, meaning_with, meaning_by}

@@ -1,8 +1,7 @@
 -- The header of a unit that was read has the encoding that is recorded of it, wherever its bytes
 -- are read again.
-use Rattle.std.proofs.Common.{◌≡◌, ◌∙◌, ℕ, Bool, true, false, cond, nat_eq, ◌&&◌, List}
-use Rattle.std.proofs.Common.{sym, ap, Result, Ok, Err}
-use Rattle.std.proofs.Common.{◌-◌}
+use Rattle.std.proofs.Common.{◌≡◌, ◌∙◌, ℕ, Bool, true, false, cond, nat_eq, ◌&&◌, List, sym, ap}
+use Rattle.std.proofs.Common.{Result, Ok, Err, ◌-◌}
 use Rattle.std.specs.Prelude.{All, nat_le}
 use Rattle.std.specs.List.{list_all}
 use Rattle.dwp_base.specs.Reading.{◌>>=◌}
@@ -20,8 +19,7 @@ use Rattle.dwp_index.specs.Package.{encoding_in}
 use Rattle.dwp_table.specs.declared.object.DwarfObject.{DwarfObject}
 use Rattle.thorin_input.specs.Encodings.{section_has}
 use Rattle.thorin_input.specs.Indexes.{Source}
-use Rattle.thorin_join.specs.Meaning.{Meaning, Members}
-use Rattle.thorin_join.specs.Meaning.{source_units}
+use Rattle.thorin_join.specs.Meaning.{Meaning, Members, source_units}
 use Rattle.thorin_join.proofs.Units.HeadersRead.{ReadAlone, Reads}
 use Rattle.thorin_again.proofs.Kept.EachUnit.{WasRead, Has, units-are, read-encoding, each-passed}
 use Rattle.thorin_again.proofs.Kept.EachUnit.{each-weaker}

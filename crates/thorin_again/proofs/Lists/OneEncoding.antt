@@ -1,7 +1,6 @@
 -- Where all inputs have one encoding, so has what is written, as an input.
-use Rattle.std.proofs.Common.{inl, inr}
-use Rattle.std.proofs.Common.{◌≡◌, ◌∙◌, ℕ, ◌<◌, List, [], ◌∷◌, length, map}
-use Rattle.std.proofs.Common.{refl, sym, ap, subst, Ok, Option, Some, None, arith}
+use Rattle.std.proofs.Common.{inl, inr, ◌≡◌, ◌∙◌, ℕ, ◌<◌, List, [], ◌∷◌, length, map, refl, sym, ap}
+use Rattle.std.proofs.Common.{subst, Ok, Option, Some, None, arith}
 use Rattle.std.specs.Prelude.{All}
 use Rattle.std.proofs.lemmas.List.{length-map}
 use Rattle.std.proofs.lemmas.List.Elements.{All-nil, All-head, All-tail}
@@ -21,10 +20,9 @@ use Rattle.thorin_input.specs.Encodings.{encoding_of}
 use Rattle.thorin_input.specs.Growing.{Contents}
 use Rattle.thorin_input.specs.Used.{InputFile, opened, input_file_of}
 use Rattle.thorin_again.specs.Again.{input_encoding}
-use Rattle.thorin_join.specs.Builder.{State, start, with_input, package_or_new}
-use Rattle.thorin_join.specs.Builder.{IsFinishedState}
+use Rattle.thorin_join.specs.Builder.{State, start, with_input, package_or_new, IsFinishedState}
 use Rattle.thorin_join.specs.Join.{Joins}
-use Rattle.thorin_join.specs.Meaning.{Meaning}
+use Rattle.thorin_join.specs.Meaning.{Meaning, Members}
 use Rattle.thorin_again.specs.OneEncoding.{IsOfEncoding, HaveEncodingOnceWritten}
 use Rattle.thorin_again.specs.OwnInput.{written_object}
 use Rattle.thorin_again.specs.OwnUnits.{AllOf}
@@ -91,25 +89,24 @@ input-filled reads alone e bytes begun now one j h before =
 
 -- ---- what is written
 
-rows-encode : (order : Endianness) (e : Encoding) (contents : Contents) (strings : List (List ℕ))
-    (rows : List IndexEntry) → AreEncoded order (map {B = DwarfObject × Meaning} (λ row.
-    (row.id, meaning_at order contents strings row)) rows)
-    → AllOf e (map {B = DwarfObject × Meaning} (λ row.
-    (row.id, meaning_at order contents strings row)) rows)
-    → EachRow (EncodesItself order e contents) rows
-rows-encode order e contents strings [] are all = tt
-rows-encode order e contents strings (r ∷ rs) are all =
-    let unit : DwarfObject × Meaning = (r.id, meaning_at order contents strings r) in
-    let rest = map {B = DwarfObject × Meaning} (λ row.
-    (row.id, meaning_at order contents strings row)) rs in
-    let place = place_of r.id r.debug_types in (
-      λ own left read. All-head (λ (u : DwarfObject × Meaning). IsEncoded order u.1) unit rest are
-          place own.encoding (in-of order place (unit_bytes contents r) own left read)
-          ∙ All-head (λ (u : DwarfObject × Meaning). u.1.encoding ≡ e) unit rest all,
-      rows-encode order e contents strings rs
-          (All-tail (λ (u : DwarfObject × Meaning). IsEncoded order u.1) unit rest are)
-          (All-tail (λ (u : DwarfObject × Meaning). u.1.encoding ≡ e) unit rest all),
-    )
+module _ (order : Endianness) (e : Encoding) (contents : Contents) (strings : List (List ℕ)) where
+  abbrev units : List IndexEntry → Members
+  units rows = map {B = DwarfObject × Meaning} (λ row.
+      (row.id, meaning_at order contents strings row)) rows
+
+  rows-encode : (rows : List IndexEntry) → AreEncoded order (units rows) → AllOf e (units rows)
+      → EachRow (EncodesItself order e contents) rows
+  rows-encode [] are all = tt
+  rows-encode (r ∷ rs) are all =
+      let unit : DwarfObject × Meaning = (r.id, meaning_at order contents strings r) in
+      let place = place_of r.id r.debug_types in
+      let is = λ (u : DwarfObject × Meaning). IsEncoded order u.1 in
+      let has = λ (u : DwarfObject × Meaning). u.1.encoding ≡ e in (
+        λ own left read. All-head is unit (units rs) are place own.encoding
+            (in-of order place (unit_bytes contents r) own left read)
+            ∙ All-head has unit (units rs) all,
+        rows-encode rs (All-tail is unit (units rs) are) (All-tail has unit (units rs) all),
+      )
 
 made-first : UnitsAreTaken → (made : InProgress) (file : File) (e : Encoding) → IsSound made
     → AreEncoded made.file.order (units_of made) → Filled e (Some made)

@@ -1,9 +1,8 @@
 -- The one encoding of a builder, by the inputs that it took.
 use Rattle.std.specs.List.{list_all}
-use Rattle.std.proofs.Common.{inl, inr}
-use Rattle.std.proofs.Common.{◌≡◌, ◌∙◌, ◌↔◌, ℕ, true, cond, ◌&&◌, List, []}
-use Rattle.std.proofs.Common.{◌∷◌, ◌++◌, length, map, refl, sym, ap, subst, Ok, Option}
-use Rattle.std.proofs.Common.{Some, None, ◌+◌, arith, true≢false, length-append}
+use Rattle.std.proofs.Common.{inl, inr, ◌≡◌, ◌∙◌, ◌↔◌, ℕ, true, cond, ◌&&◌, List, [], ◌∷◌, ◌++◌}
+use Rattle.std.proofs.Common.{length, map, refl, sym, ap, subst, Ok, Option, Some, None, ◌+◌, arith}
+use Rattle.std.proofs.Common.{true≢false, length-append}
 use Rattle.std.specs.Prelude.{All, is_some}
 use Rattle.std.proofs.lemmas.Bool.{lt-ltb}
 use Rattle.std.proofs.lemmas.List.Elements.{All-nil, All-cons, All-head, All-tail}
@@ -13,8 +12,7 @@ use Rattle.dwp_bytes.specs.declared.encoding.Encoding.{Encoding}
 use Rattle.dwp_table.specs.declared.object.DwarfObject.{DwarfObject}
 use Rattle.thorin_errors.specs.Errors.{ErrorValue}
 use Rattle.thorin_input.specs.Encodings.{own_encoding, file_encoding, common, section_has}
-use Rattle.thorin_join.specs.Builder.{State, start, taken, names_in}
-use Rattle.thorin_join.specs.Builder.{with_own, package_or_new}
+use Rattle.thorin_join.specs.Builder.{State, start, taken, names_in, with_own, package_or_new}
 use Rattle.thorin_join.specs.Join.{Joins}
 use Rattle.thorin_join.specs.Meaning.{Meaning, Members, keys, joining}
 use Rattle.thorin_again.specs.Own.{has_sections, packs_again}

@@ -1,7 +1,6 @@
 -- The ranges of string offsets fill their section, where plain objects of one encoding are added.
-use Rattle.std.proofs.Common.{◌≡◌, ◌∙◌, ℕ, ◌+◌, ◌<◌, false, ◌⊎◌, inl, inr}
-use Rattle.std.proofs.Common.{List, [], ◌∷◌, ◌++◌, length, refl, sym, ap, subst, Ok}
-use Rattle.std.proofs.Common.{Some, None, arith, length-append}
+use Rattle.std.proofs.Common.{◌≡◌, ◌∙◌, ℕ, ◌+◌, ◌<◌, false, ◌⊎◌, inl, inr, List, [], ◌∷◌, ◌++◌}
+use Rattle.std.proofs.Common.{length, refl, sym, ap, subst, Ok, Some, None, arith, length-append}
 use Rattle.std.proofs.Math.Nat.{add-zero}
 use Rattle.std.proofs.lemmas.List.{append-nil}
 use Rattle.std.proofs.lemmas.Option.{none-some, same_Some}
@@ -18,8 +17,7 @@ use Rattle.thorin_input.specs.Indexes.{Source, is_package}
 use Rattle.thorin_again.specs.Plain.{IsWholeRange, Tile, IsAmong, HasOneOf, IsOfSome, GiveStrings}
 use Rattle.thorin_again.specs.Plain.{HasTiledOffsets}
 use Rattle.thorin_join.specs.StandApart.{EachRow}
-use Rattle.thorin_join.specs.State.{InProgress, row_at}
-use Rattle.thorin_join.specs.State.{with_source}
+use Rattle.thorin_join.specs.State.{InProgress, row_at, with_source}
 use Rattle.thorin_again.proofs.Offsets.RewrittenAgain.{Lead, range-leads, no-turn, turn, grown}
 use Rattle.thorin_join.proofs.Parts.Appended.{no-bytes}
 use Rattle.thorin_join.proofs.Parts.OffsetLaws.{NamesTheSameLaw}
