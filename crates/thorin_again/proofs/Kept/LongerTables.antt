@@ -5,7 +5,6 @@ use Rattle.std.proofs.Common.{subst, arith, length-append}
 use Rattle.std.specs.Option.{ok_or}
 use Rattle.std.proofs.lemmas.Bool.{le-ltb, ltb-false, eqb-false, ne_eqb}
 use Rattle.std.proofs.lemmas.List.{drop-append-le}
-use Rattle.dwp_base.specs.declared.endian.Endianness.{Endianness}
 use Rattle.dwp_base.specs.Reading.{◌>>=◌}
 use Rattle.dwp_bytes.specs.Input.{Input, byte_at, skip_at}
 use Rattle.dwp_bytes.specs.Leb.{leb_at, uleb_at, signed_leb_at, sleb_at, is_i64}
@@ -61,27 +60,17 @@ module _ (rest : List ℕ) where
 
   -- ---- bytes and numbers
 
-  byte-of : (order : Endianness) (relocated : ℕ → ℕ → ℕ) (place : ℕ) (bytes : List ℕ)
-      → Stays (byte_at (record {
-        order = order;
-        relocated = relocated;
-        place = place;
-        bytes = bytes;
-      })) (byte_at (record {
-        order = order;
-        relocated = relocated;
-        place = place;
-        bytes = bytes ++ rest;
-      }))
+  byte-of : (i : Input) (bytes : List ℕ)
+      → Stays (byte_at (record i { bytes = bytes })) (byte_at (record i { bytes = bytes ++ rest }))
   unfolding byte_at
-  byte-of order relocated place [] = tt
-  byte-of order relocated place (b ∷ bs) =
+  byte-of i [] = tt
+  byte-of i (b ∷ bs) =
       let short = le-ltb (suc (length bs)) 1 (omega arith) in
       let long = le-ltb (suc (length (bs ++ rest))) 1 (omega arith) in
       rw (short, long) refl
 
   stays-byte : (i : Input) → Stays (byte_at i) (byte_at (more i rest))
-  stays-byte i = byte-of i.order i.relocated i.place i.bytes
+  stays-byte i = byte-of i i.bytes
 
   stays-leb : (n : ℕ) (i : Input) → Stays (leb_at n i) (leb_at n (more i rest))
   unfolding leb_at
@@ -178,19 +167,25 @@ module _ (rest : List ℕ) where
 
   -- ---- the identity of a unit
 
+  still-fits : (n : ℕ) (i : Input) → ltb (length i.bytes) n ≡ false
+      → ltb (length (i.bytes ++ rest)) n ≡ false
+  still-fits n i fits = le-ltb (length (i.bytes ++ rest)) n (omega (
+    arith,
+    ltb-false (length i.bytes) n fits,
+    length-append i.bytes rest,
+  ))
+
   stays-skip : (n : ℕ) (i : Input) → Stays (skip_at n i) (skip_at n (more i rest))
   unfolding skip_at
   stays-skip n i =
       by-bool _ (ltb (length i.bytes) n)
       (λ short. rw short tt)
-      (λ fits.
-      let few = ltb-false (length i.bytes) n fits in
-      let long = le-ltb (length (i.bytes ++ rest)) n (omega (
-        arith,
-        few,
-        length-append i.bytes rest,
-      )) in
-      rw (fits, long, drop-append-le n i.bytes rest few) refl)
+      (λ fits. rw (
+        fits,
+        still-fits n i fits,
+        drop-append-le n i.bytes rest
+            (ltb-false (length i.bytes) n fits),
+      ) refl)
 
   stays-from : (offset : ℕ) (i : Input)
       → StaysBehind (from_at offset i) (from_at offset (more i rest))
@@ -198,14 +193,8 @@ module _ (rest : List ℕ) where
   stays-from offset i =
       by-bool _ (ltb (length i.bytes) offset)
       (λ short. rw short tt)
-      (λ fits.
-      let few = ltb-false (length i.bytes) offset fits in
-      let long = le-ltb (length (i.bytes ++ rest)) offset (omega (
-        arith,
-        few,
-        length-append i.bytes rest,
-      )) in
-      rw (fits, long) (then-by StaysBehind _ _ _ _ (λ e z. tt) (stays-skip offset i) (λ u j. refl)))
+      (λ fits. rw (fits, still-fits offset i fits)
+      (then-by StaysBehind _ _ _ _ (λ e z. tt) (stays-skip offset i) (λ u j. refl)))
 
   some-of : (r : Option Declaration) (d : Declaration) → ok_or r (GimliRead UnknownCode) ≡
       Ok d → r ≡ Some d

@@ -1,8 +1,9 @@
 -- Each unit of a package names itself by the abbreviations of its row, where plain objects of one
 -- encoding are added.
 use Rattle.std.proofs.Common.{◌≡◌, ◌∙◌, ℕ, ◌+◌, ◌<◌, ◌≤◌, true, false, List, [], ◌∷◌, ◌++◌, length}
-use Rattle.std.proofs.Common.{refl, sym, ap, subst, Ok, Some, arith, length-append}
+use Rattle.std.proofs.Common.{refl, sym, ap, subst, Ok, Some, arith, length-append, eqb}
 use Rattle.std.specs.List.{list_all}
+use Rattle.std.proofs.lemmas.Bool.{eqb-false}
 use Rattle.std.proofs.lemmas.Option.{none-some, same_Some}
 use Rattle.dwp_base.specs.declared.endian.Endianness.{Endianness}
 use Rattle.dwp_base.specs.declared.section.Contribution.{Contribution}
@@ -36,7 +37,7 @@ use Rattle.thorin_input.specs.Used.{Used, first}
 use Rattle.thorin_join.proofs.Units.HeadersRead.{ReadAlone}
 use Rattle.thorin_join.proofs.Units.JoinedByName.{IsAdded}
 use Rattle.thorin_join.proofs.Rows.Stay.{Grows, grows-with_bytes, keep-part, keep-lie}
-use Rattle.thorin_join.proofs.Rows.LieInTurn.{types-only}
+use Rattle.thorin_join.proofs.Rows.LieInTurn.{can-lie}
 use Rattle.thorin_again.proofs.Kept.LongerTables.{identity-stays}
 use Rattle.thorin_again.proofs.Offsets.Tiled.{row-append, weaker}
 use Rattle.thorin_join.proofs.Rows.OfUnits.{is-unit_row, whole-else}
@@ -49,8 +50,8 @@ use Rattle.thorin_again.proofs.Kept.SharedParts.{shared-row, plain-part, plain-a
 use Rattle.thorin_again.proofs.Kept.SharedParts.{parted}
 use Rattle.thorin_join.proofs.Joined.Source.{grows-with_parts}
 use Rattle.thorin_join.proofs.Rows.StandApart.{sound-inside}
-use Rattle.thorin_join.proofs.Rows.OneAdded.{Fits, content-put, place-put, part-put, range_for}
-use Rattle.thorin_join.proofs.Rows.OneAdded.{row-name, row-own, own-place, row-part, lie-by}
+use Rattle.thorin_join.proofs.Rows.OneAdded.{Fits, content-put, part-put, range_for, row-name}
+use Rattle.thorin_join.proofs.Rows.OneAdded.{row-own, own-place, row-part, lie-by}
 use Rattle.thorin_join.proofs.Units.Whole.{Goes, units-go}
 use Rattle.thorin_join.proofs.Rows.Meaning.{unshared}
 
@@ -173,23 +174,12 @@ put-inside : (kind : SectionKind) (parts c : Contents) (range : Contribution)
     × (0 < range.size)
 put-inside kind parts c range h =
     let x = joined_parts kind parts in
-    let long : length (content_of kind (with_parts parts c)) ≡ length (content_of kind c) + length
-    x = ap length (content-with_parts kind parts c) ∙ length-append (content_of kind c) x in
-    by x long h
-  where
-    by : (x : List ℕ) → length (content_of kind (with_parts parts c)) ≡ length (content_of kind c) +
-        length x → range_put kind x c ≡ Some range
-        → (range.offset.0 + range.size ≤ length (content_of kind (with_parts parts c)))
-        × (0 < range.size)
-    by [] long e = absurd (none-some range e)
-    by (b ∷ bs) long e =
-        let some : 0 < length (b ∷ bs) = omega arith in
-        let same : range_for kind (b ∷ bs) c ≡ range =
-        same_Some _ _ (sym (place-put kind (b ∷ bs) c some) ∙ e) in
-        let at : length (content_of kind c) ≡ range.offset.0 = ap (λ (r : Contribution).
-        r.offset.0) same in
-        let size : length (b ∷ bs) ≡ range.size = ap (λ (r : Contribution). r.size) same in
-        (omega (arith, long, at, size), omega (arith, size, some))
+    let long = ap length (content-with_parts kind parts c) ∙ length-append (content_of kind c) x in
+    by-bool _ (eqb (length x) 0)
+    (λ none. absurd (none-some range (rw none at h)))
+    (λ some. subst (λ (r : Contribution). (r.offset.0 + r.size ≤ length (content_of kind
+    (with_parts parts c))) × (0 < r.size)) (same_Some (range_for kind x c) range (rw some at h))
+    (omega (arith, long), omega (arith, eqb-false (length x) 0 some)))
 
 module _ (source : Source) (made : InProgress) (parts : Contents) (plain : is_package source.indexes
     ≡ false) (n : DwarfObject × NewUnit) (r : DwarfObject × UnitRead)
@@ -222,12 +212,8 @@ module _ (source : Source) (made : InProgress) (parts : Contents) (plain : is_pa
 part-of-put : (kind : SectionKind) (parts c : Contents)
     → part_of (content_of kind (with_parts parts c)) (range_put kind (joined_parts kind parts) c) ≡
     joined_parts kind parts
-part-of-put kind parts c = ap (λ l. part_of l (range_put kind x c))
-    (content-with_parts kind parts c) ∙ by x
+part-of-put kind parts c = rw (content-with_parts kind parts c) (by (joined_parts kind parts))
   where
-    x : List ℕ
-    x = joined_parts kind parts
-
     by : (x : List ℕ) → part_of (content_of kind c ++ x) (range_put kind x c) ≡ x
     by [] = refl
     by (b ∷ bs) =
@@ -243,8 +229,6 @@ can-name : (source : Source) (made : InProgress) (parts : Contents) (after : Lis
 can-name source made parts after n r plain parts_are is goes named =
     let order = source.object.order in
     let table = first kinds.Abbrev source.object.sections in
-    let row = is-unit_row source.indexes (whole_row source.encoding made.file.contents parts) r.0
-    n.1.row is.row in
     let f = first-front kinds.Abbrev source.object.sections in
     let part : part_of (content_of kinds.Abbrev (with_parts parts made.file.contents))
     n.1.row.debug_abbrev ≡ table ++ f.rest =
@@ -254,12 +238,7 @@ can-name source made parts after n r plain parts_are is goes named =
     ∙ parts-copied source made.strings parts after parts_are kinds.Abbrev refl
     ∙ f.is in
     record {
-      fits = record {
-        no_types = row.types ∙ (whole-else source.encoding made.file.contents parts).2;
-        some = subst (λ l. 0 < length l) (sym is.bytes) goes.some;
-        types_only = λ h. let t = types-only r.0 r.1.from (sym is.place ∙ h) in
-            (t.0, is.name ∙ t.1);
-      };
+      fits = (can-lie source made parts n r is goes).fits;
       lie = new-inside source made parts plain n r is;
       named = λ alone rest read.
           let there = named alone rest

@@ -145,26 +145,24 @@ units-hold P bytes begun now j h can before =
 
 -- ---- the encoding of a builder's inputs
 
-pub begun-now : (bytes : List ℕ) (old new : State) → taken bytes old ≡ Ok new
-    → with_input bytes old.begun ≡ Ok new.begun
-unfolding taken
-begun-now bytes old new h =
-    let s = bind-was (with_input bytes old.begun) _ new h in
-    let t = bind-was (own_encoding bytes) _ new s.2 in
-    s.1 ∙ ap (λ (x : State). Ok x.begun) (same-ok _ new t.2)
-
-pub own-now : (bytes : List ℕ) (old new : State) → taken bytes old ≡ Ok new
+-- the package after an input, and the one encoding
+pub taken-as : (bytes : List ℕ) (old new : State) → taken bytes old ≡ Ok new
     → (found : Option Encoding) × (own_encoding bytes ≡ Ok found)
-    × (own_after old new.begun found ≡ new.own)
+    × (own_after old new.begun found ≡ new.own) × (with_input bytes old.begun ≡ Ok new.begun)
 unfolding taken
-own-now bytes old new h =
+taken-as bytes old new h =
     let s = bind-was (with_input bytes old.begun) _ new h in
     let t = bind-was (own_encoding bytes) _ new s.2 in
     let is = same-ok {E = ErrorValue} _ new t.2 in (
       t.0,
       t.1,
       ap (λ (x : State). own_after old x.begun t.0) (sym is) ∙ ap (λ (x : State). x.own) is,
+      s.1 ∙ ap (λ (x : State). Ok x.begun) is,
     )
+
+pub begun-now : (bytes : List ℕ) (old new : State) → taken bytes old ≡ Ok new
+    → with_input bytes old.begun ≡ Ok new.begun
+begun-now bytes old new h = (taken-as bytes old new h).3
 
 -- nothing has begun, or the builder's inputs have this encoding
 abbrev pub Before : Option InProgress → Option Encoding → Encoding → Type 0
@@ -230,7 +228,7 @@ pub record AddsOwn (bytes : List ℕ) (old new : State) (e : Encoding) : Type 0 
 pub own-adds : (bytes : List ℕ) (old new : State) (e : Encoding) → taken bytes old ≡ Ok new
     → new.own ≡ Some e → AddsOwn bytes old new e
 own-adds bytes old new e h k =
-    let own = own-now bytes old new h in
+    let own = taken-as bytes old new h in
     let counted = some-or-none (ltb (length (names_in old.begun)) (length (names_in new.begun)))
     (with_own old.begun old.own own.0) e (own.2 ∙ k) in
     let found = with-before old.begun old.own own.0 e counted.1 in

@@ -157,10 +157,6 @@ once-more source before now a more P Q makes new =
     makes p u has) q a.new.units new (λ less. absurd (omega (arith, less)))
     (subst (λ (p : InProgress). length before.rows < length p.rows) a.is more))
 
-there-put : (kind : SectionKind) (bytes : List ℕ) (c : Contents) → eqb (length bytes) 0 ≡ false
-    → is_some (range_put kind bytes c) ≡ true
-there-put kind bytes c h = rw h refl
-
 pub named-kept : (source : Source) (before now : InProgress) → is_package source.indexes ≡ false
     → with_source source before ≡ Ok now → length before.rows < length now.rows
     → HasNamedParts before → HasNamedParts now
@@ -184,5 +180,5 @@ named-kept source before now plain h more named kind shared some =
           (row_at u.1.row p.file.contents u.0 u.1.bytes u.1.place ∷ [])
           ∙ or-right (list_any test p.rows) _ (rw (has p.file.contents) refl))
           (rows-share source before now a plain kind shared (λ o. is_some o ≡ true)
-          (there-put kind part before.file.contents there))
+          (rw there refl))
     ]

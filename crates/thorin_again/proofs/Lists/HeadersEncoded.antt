@@ -72,16 +72,6 @@ places-encoding p q i u v h k =
     ∙ header-encoding p q a.0.0.0 c.0.0 b.0.0 x.0 y.0 x.1 y.1
     ∙ ap (λ (w : Header × Input). w.0.encoding) (same-ok {E = ReadError} _ v y.2)
 
-in-encoding : (p q : UnitSection) (order : Endianness) (bytes : List ℕ) (a b : Encoding)
-    → encoding_in order p bytes ≡ Ok a → encoding_in order q bytes ≡ Ok b → a ≡ b
-unfolding encoding_in
-in-encoding p q order bytes a b h k =
-    let u = bind-was (unit_at p (section order bytes)) _ a h in
-    let v = bind-was (unit_at q (section order bytes)) _ b k in
-    sym (same-ok {E = ReadError} _ a u.2)
-    ∙ places-encoding p q (section order bytes) u.0 v.0 u.1 v.1
-    ∙ same-ok {E = ReadError} _ b v.2
-
 -- ---- bytes whose header has an encoding
 
 -- the header that stands in these bytes, where one does, has the encoding
@@ -92,8 +82,13 @@ HeaderHas order encoding bytes = (place : UnitSection) (found : Encoding)
 -- where it was read in one section, it is so in each
 pub header-has : (order : Endianness) (place : UnitSection) (bytes : List ℕ) (encoding : Encoding)
     → encoding_in order place bytes ≡ Ok encoding → HeaderHas order encoding bytes
+unfolding encoding_in
 header-has order place bytes encoding h other found k =
-    in-encoding other place order bytes found encoding k h
+    let u = bind-was (unit_at other (section order bytes)) _ found k in
+    let v = bind-was (unit_at place (section order bytes)) _ encoding h in
+    sym (same-ok {E = ReadError} _ found u.2)
+    ∙ places-encoding other place (section order bytes) u.0 v.0 u.1 v.1
+    ∙ same-ok {E = ReadError} _ encoding v.2
 
 pub in-of : (order : Endianness) (place : UnitSection) (bytes : List ℕ)
     (unit : Header) (rest : Input)

@@ -1,5 +1,5 @@
 -- Where all inputs have one encoding, so has what is written, as an input.
-use Rattle.std.proofs.Common.{inl, inr, ◌≡◌, ◌∙◌, ℕ, ◌<◌, List, [], ◌∷◌, length, map, refl, sym, ap}
+use Rattle.std.proofs.Common.{inl, inr, ◌≡◌, ◌∙◌, ℕ, ◌<◌, List, [], ◌∷◌, length, map, sym, ap}
 use Rattle.std.proofs.Common.{subst, Ok, Option, Some, None, arith}
 use Rattle.std.specs.Prelude.{All}
 use Rattle.std.proofs.lemmas.List.{length-map}
@@ -9,7 +9,7 @@ use Rattle.dwp_base.specs.declared.section.SectionKind.TheVariants as kinds
 use Rattle.dwp_bytes.specs.declared.encoding.Encoding.{Encoding}
 use Rattle.dwp_dwarf.specs.Units.{UnitsAreTaken}
 use Rattle.dwp_dwarf.specs.declared.unit.UnitSection.TheVariants as places
-use Rattle.dwp_elf.specs.Contents.{KindsDiffer, content_of}
+use Rattle.dwp_elf.specs.Contents.{content_of}
 use Rattle.dwp_elf.specs.FileText.{Object as File, file_text}
 use Rattle.dwp_elf.specs.Written.{written_elf}
 use Rattle.dwp_elf_read.specs.Elf.{Elf}
@@ -27,8 +27,7 @@ use Rattle.thorin_again.specs.OneEncoding.{IsOfEncoding, HaveEncodingOnceWritten
 use Rattle.thorin_again.specs.OwnInput.{written_object}
 use Rattle.thorin_again.specs.OwnUnits.{AllOf}
 use Rattle.thorin_again.specs.PlainInputs.{AreTaken}
-use Rattle.thorin_join.specs.Represents.{IsSound, IsSoundBegun, meaning_at, units_of, units_in}
-use Rattle.thorin_join.specs.Represents.{units_begun}
+use Rattle.thorin_join.specs.Represents.{IsSoundBegun, meaning_at, units_of, units_in, units_begun}
 use Rattle.thorin_join.specs.StandApart.{EachRow}
 use Rattle.thorin_join.specs.State.{InProgress, unit_bytes}
 use Rattle.thorin_again.proofs.Lists.Held.{InputsSound, packages-in-order}
@@ -108,34 +107,23 @@ module _ (order : Endianness) (e : Encoding) (contents : Contents) (strings : Li
         rows-encode rs (All-tail is unit (units rs) are) (All-tail has unit (units rs) all),
       )
 
-made-first : UnitsAreTaken → (made : InProgress) (file : File) (e : Encoding) → IsSound made
-    → AreEncoded made.file.order (units_of made) → Filled e (Some made)
-    → (state : State) → (f : IsFinishedState state file) → f.made ≡ made
-    → KindsDiffer file.contents → 0 < length made.rows
-    → encoding_of (written_object file) ≡ Ok e
-made-first reads made file e sound encoded filled state f same differ some =
-    let fin = subst (λ m. Rattle.thorin_join.specs.Builder.IsFinished m file) same f.finished in
-    first-of reads made file e sound fin differ
-    (rows-encode made.file.order e made.file.contents made.strings made.rows encoded filled.0)
-    (subst (λ l. 0 < length l) (sym (finished-own made file fin places.Info)) (filled.1 some))
-
 have-encoding : UnitsAreTaken → (e : Encoding) (state : State) (file : File)
     → IsSoundBegun state.begun → Encoded state.begun → Filled e state.begun
     → IsFinishedState state file → HaveEncodingOnceWritten (units_in state) file
 have-encoding reads e state file sound encoded filled f differ back k d within =
     let made = f.made in
     let here : Filled e (Some made) = subst (Filled e) f.begun filled in
-    let all : AllOf e (units_in state) = subst (λ b. AllOf e (units_begun b))
-    (sym f.begun) here.0 in
-    let long : length (units_in state) ≡ length made.rows = ap (λ b. length (units_begun b)) f.begun
-    ∙ length-map made.rows _ in
+    let are : AreEncoded made.file.order (units_of made) = subst (AreEncoded made.file.order)
+    (ap units_begun f.begun) (encoded-made state.begun made f.begun encoded) in
+    let long = ap (λ b. length (units_begun b)) f.begun ∙ length-map made.rows _ in
     let some : 0 < length made.rows = omega (arith, long, within) in
-    let first = made-first reads made file e (subst IsSoundBegun f.begun sound)
-    (subst (AreEncoded made.file.order) (ap units_begun f.begun)
-    (encoded-made state.begun made f.begun encoded)) here state f refl differ some in
+    let first = first-of reads made file e (subst IsSoundBegun f.begun sound) f.finished differ
+    (rows-encode made.file.order e made.file.contents made.strings made.rows are here.0)
+    (subst (λ l. 0 < length l) (sym (finished-own made file f.finished places.Info))
+    (here.1 some)) in
     encoding-read (file_text file) (written_elf file) (written_object file) e
     (opened-elf (file_text file) (written_elf file) back) (object-written file differ) first
-    ∙ ap Ok (sym (all k d within))
+    ∙ ap Ok (sym (filled.0 k d within))
 
 -- ---- inputs in order
 
