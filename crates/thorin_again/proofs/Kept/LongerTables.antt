@@ -33,6 +33,10 @@ use Rattle.dwp_index.proofs.TwoPlaces.{choice}
 abbrev pub more : Input → List ℕ → Input
 more i rest = record i { bytes = i.bytes ++ rest }
 
+pub ok-some : {A E : Type 0} (e : E) (r : Option A) (x : A) → ok_or r e ≡ Ok x → r ≡ Some x
+ok-some e None x h = absurd (err-ok e x h)
+ok-some e (Some y) x h = ap Some (same-ok y x h)
+
 module _ (rest : List ℕ) where
   -- what was read is read, and the bytes that follow are left, where they follow
   abbrev Stays : {A : Type 0} → (short long : Result (A × Input) ReadError) → Type 0
@@ -196,11 +200,6 @@ module _ (rest : List ℕ) where
       (λ fits. rw (fits, still-fits offset i fits)
       (then-by StaysBehind _ _ _ _ (λ e z. tt) (stays-skip offset i) (λ u j. refl)))
 
-  some-of : (r : Option Declaration) (d : Declaration) → ok_or r (GimliRead UnknownCode) ≡
-      Ok d → r ≡ Some d
-  some-of None d h = absurd (err-ok (GimliRead UnknownCode) d h)
-  some-of (Some e) d h = ap Some (same-ok e d h)
-
   root-stays : (section : Input) (unit : Header) (name : Option DwarfObject)
       → root_identity section unit ≡ Ok name → root_identity (more section rest) unit ≡ Ok name
   unfolding root_identity
@@ -216,7 +215,7 @@ module _ (rest : List ℕ) where
       (as_error_ok ParseUnitAbbreviations (from_at unit.abbrev_offset section) a.0 a.1)
       (stays-from unit.abbrev_offset section) in
       let found = declaration-stays c.0.0 a.0 e.0 (as_error_ok ParseUnitAbbreviations
-      (declaration c.0.0 a.0) d.0 d.1 ∙ ap Ok (some-of d.0 e.0 e.1)) in
+      (declaration c.0.0 a.0) d.0 d.1 ∙ ap Ok (ok-some (GimliRead UnknownCode) d.0 e.0 e.1)) in
       bind-ok _ (more a.0 rest) _ (ap (as_error ParseUnitAbbreviations) table)
       ∙ bind-ok _ b.0 _ b.1
       ∙ bind-ok _ c.0 _ c.1

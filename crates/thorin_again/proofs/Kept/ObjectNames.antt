@@ -24,7 +24,8 @@ use Rattle.thorin_join.proofs.Units.Sorts.{identity-sort}
 use Rattle.thorin_again.proofs.Kept.EachUnit.{WasRead, Has, read-encoding}
 use Rattle.thorin_join.proofs.Moved.RootEntries.{identity-shifted}
 use Rattle.thorin_join.proofs.Units.Whole.{ReadsAlone, IsKnown, known-in, other-alone, five-named}
-use Rattle.thorin_again.proofs.Kept.FirstHeaders.{ok-some}
+use Rattle.thorin_again.proofs.Kept.LongerTables.{ok-some}
+use Rattle.thorin_errors.specs.Errors.{NotSplitUnit}
 use Rattle.dwp_base.proofs.Steps.{bind-was, same-ok}
 
 -- ---- the units of a plain object by its first section of abbreviations
@@ -45,7 +46,7 @@ unfolding name_for abbreviations_for
 plain-name source kind unit name plain h =
     let s = bind-was (identity (section source.object.order (first kinds.Abbrev
     source.object.sections)) unit) _ name (rw plain at h) in
-    s.1 ∙ ap Ok (ok-some s.0 name s.2)
+    s.1 ∙ ap Ok (ok-some NotSplitUnit s.0 name s.2)
 
 -- where it goes to it is read alone
 goes-alone : (order : Endianness) (place : UnitSection) (name : DwarfObject) (unit : Header)

@@ -1,7 +1,7 @@
 -- The header of a unit that was read has the encoding that is recorded of it, wherever its bytes
 -- are read again.
-use Rattle.std.proofs.Common.{◌≡◌, ◌∙◌, ℕ, Bool, true, false, cond, nat_eq, ◌&&◌, List, sym, ap}
-use Rattle.std.proofs.Common.{Result, Ok, Err, ◌-◌}
+use Rattle.std.proofs.Common.{◌≡◌, ◌∙◌, ℕ, true, nat_eq, ◌&&◌, List, sym, ap}
+use Rattle.std.proofs.Common.{Result, Ok, ◌-◌}
 use Rattle.std.specs.Prelude.{All, nat_le}
 use Rattle.std.specs.List.{list_all}
 use Rattle.dwp_base.specs.Reading.{◌>>=◌}
@@ -12,7 +12,7 @@ use Rattle.dwp_bytes.specs.declared.encoding.Format.{Format}
 use Rattle.dwp_bytes.specs.declared.error.ReadError.{ReadError}
 use Rattle.dwp_bytes.specs.declared.error.ReadError.TheVariants.{UnknownVersion}
 use Rattle.dwp_dwarf.specs.Units.{Unit as Header, UnitsAreTaken, unit_at, units, header_at}
-use Rattle.dwp_dwarf.specs.Units.{older_at, newer_at, older_type_at, address_size_at}
+use Rattle.dwp_dwarf.specs.Units.{older_at, older_type_at, address_size_at}
 use Rattle.dwp_dwarf.specs.Units.{initial_length_at}
 use Rattle.dwp_dwarf.specs.declared.unit.UnitSection.{UnitSection}
 use Rattle.dwp_index.specs.Package.{encoding_in}
@@ -25,7 +25,9 @@ use Rattle.thorin_again.proofs.Kept.EachUnit.{WasRead, Has, units-are, read-enco
 use Rattle.thorin_again.proofs.Kept.EachUnit.{each-weaker}
 use Rattle.thorin_again.proofs.Kept.OneEncoding.{CanMean}
 use Rattle.thorin_join.proofs.Units.Whole.{known-in}
+use Rattle.dwp_base.proofs.Bools.{by-bool}
 use Rattle.dwp_base.proofs.Steps.{bind-was, same-ok}
+use Rattle.thorin_join.proofs.Steps.{err-ok}
 
 -- ---- a header has one encoding, in whichever section it is read
 
@@ -47,17 +49,14 @@ header-encoding : (p q : UnitSection) (format : Format) (whole i : Input) (u v :
 unfolding header_at
 header-encoding p q format whole i u v h k =
     let a = bind-was (number_at 2 i) _ u h in
-    by a.0 (nat_eq a.0.0 5) (nat_le 2 a.0.0 && nat_le a.0.0 4) a.2 (rw a.1 at k)
-  where
-    by : (n : ℕ × Input) (five older : Bool)
-        → cond {A = Result Header ReadError} five (newer_at format whole n.1)
-        (cond older (older_at p format n.0 whole n.1) (Err UnknownVersion)) ≡ Ok u
-        → cond {A = Result Header ReadError} five (newer_at format whole n.1)
-        (cond older (older_at q format n.0 whole n.1) (Err UnknownVersion)) ≡ Ok v
-        → u.encoding ≡ v.encoding
-    by n true older x y = ap (λ (w : Header). w.encoding) (same-ok {E = ReadError} u v (sym x ∙ y))
-    by n false true x y = older-encoding p q format n.0 whole n.1 u v x y
-    by n false false x y = absurd cc
+    let l = rw a.1 at k in
+    by-bool _ (nat_eq a.0.0 5)
+    (λ five. ap (λ (w : Header). w.encoding) (same-ok {E = ReadError} u v
+    (sym (rw five at a.2) ∙ rw five at l)))
+    (λ other. by-bool _ (nat_le 2 a.0.0 && nat_le a.0.0 4)
+    (λ older. older-encoding p q format a.0.0 whole a.0.1 u v (rw (other, older) at a.2)
+    (rw (other, older) at l))
+    (λ none. absurd (err-ok UnknownVersion u (rw (other, none) at a.2))))
 
 places-encoding : (p q : UnitSection) (i : Input) (u v : Header × Input) → unit_at p i ≡ Ok u
     → unit_at q i ≡ Ok v → u.0.encoding ≡ v.0.encoding

@@ -112,13 +112,18 @@ module _ (names : NamesTheSameLaw) (source : Source) (plain : is_package source.
       written.1 table h in
       let m = entry_count encoding (length bytes) in
       let more = rewritten-long names order encoding section bytes strings written old table h in
-      let sum = add-mul n m (offset_size encoding.format) in
-      let both = length-append new written.0 in
       let first_count : entry_count encoding (length new) ≡ n = count-again encoding.format
       (length new) (header_size encoding) n (omega (arith, long, none)) in
       let all_count : entry_count encoding (length (new ++ written.0)) ≡ n + m =
       count-again encoding.format (length (new ++ written.0)) (header_size encoding) (n + m)
-      (omega (arith, long, none, more, sum, both)) in
+      (omega (
+        arith,
+        long,
+        none,
+        more,
+        add-mul n m (offset_size encoding.format),
+        length-append new written.0,
+      )) in
       let one = before final final_table (front-front strings written.1 final law.kept kept) in
       let two = leads-again order encoding names section bytes (length bytes) strings written table
       h final final_table kept in
@@ -145,13 +150,18 @@ module _ (names : NamesTheSameLaw) (source : Source) (plain : is_package source.
         table = law.table;
         older = λ old.
             let o = so_far.older old in
+            let m = entry_count encoding (length bytes) in
             let long = rewritten-long names order encoding section bytes before.1 w.written old
-            so_far.table rewrites in
-            let sum = add-mul o.0 (entry_count encoding (length bytes))
-            (offset_size encoding.format) in
-            let both = length-append new w.written.0 in
-            let first = o.1 in
-            (o.0 + entry_count encoding (length bytes), omega (arith, long, sum, both, first));
+            so_far.table rewrites in (
+              o.0 + m,
+              omega (
+                arith,
+                long,
+                add-mul o.0 m (offset_size encoding.format),
+                length-append new w.written.0,
+                o.1,
+              ),
+            );
         fresh = λ standard none. absurd (true≢false none);
         standard = λ standard.
             let empty = so_far.fresh standard (once standard) in
@@ -196,22 +206,15 @@ module _ (names : NamesTheSameLaw) (source : Source) (plain : is_package source.
       let made = step source before s next.0 next.1 in
       made-each ss next.0 after (made-step before s next.0 so_far made.once made.adds) next.2
 
-  again-none : Again [] start
-  unfolding remapped_entries
-  again-none final final_table kept = (
-    [],
-    ap (λ n. remapped_entries order encoding (data_of final) [] n start)
-        (no-entries encoding),
-  )
-
   none-made : IsTable start → Made [] start false
+  unfolding remapped_entries
   none-made table = record {
     table = table;
     older = λ old. (0, sym (zero-mul (offset_size encoding.format)));
     fresh = λ standard none. (refl, refl);
     standard = λ standard. inl refl;
     kept = take-length start;
-    again = again-none;
+    again = λ final final_table kept. ([], rw (no-entries encoding) refl);
   }
 
   older-fills : (new : List ℕ) (n : ℕ) → encoding.version < 5 → length new ≡ n * offset_size
