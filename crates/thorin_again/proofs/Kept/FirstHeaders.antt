@@ -1,17 +1,15 @@
 -- The first unit of a plain object stands in info, with the object's encoding, and has a name that
 -- goes there.
 use Rattle.std.proofs.Common.{◌≡◌, ◌∙◌, ℕ, zero, suc, ◌-◌, Bool, true, false, cond, eqb, leb, ◌&&◌}
-use Rattle.std.proofs.Common.{◌||◌, ◌⊎◌, inl, inr, ⊎_elim, List, [], ◌∷◌, ◌++◌, length, refl, sym}
-use Rattle.std.proofs.Common.{ap, subst, Result, Ok, Err, Option, Some, None}
-use Rattle.std.specs.Prelude.{find}
+use Rattle.std.proofs.Common.{◌||◌, ◌⊎◌, inl, inr, List, [], ◌∷◌, ◌++◌, length, refl, sym, ap}
+use Rattle.std.proofs.Common.{subst, Result, Ok, Err, None}
 use Rattle.std.specs.List.{list_any}
-use Rattle.std.specs.Option.{ok_or}
 use Rattle.dwp_base.specs.declared.endian.Endianness.{Endianness}
 use Rattle.dwp_base.specs.declared.section.SectionKind.{SectionKind}
 use Rattle.dwp_base.specs.declared.section.SectionKind.TheVariants as kinds
 use Rattle.dwp_base.specs.Sections.{same_kind}
 use Rattle.dwp_base.proofs.EveryKind.{is-same}
-use Rattle.dwp_base.proofs.Bools.{or-right}
+use Rattle.dwp_base.proofs.Bools.{by-bool, or-right}
 use Rattle.dwp_bytes.specs.Input.{Input, section, number_at, split_at, offset_at}
 use Rattle.dwp_bytes.specs.declared.encoding.Encoding.{Encoding}
 use Rattle.dwp_bytes.specs.declared.encoding.Format.{Format}
@@ -21,8 +19,6 @@ use Rattle.dwp_dwarf.specs.Units.{Unit as Header, initial_length_at, address_siz
 use Rattle.dwp_dwarf.specs.Units.{older_at, newer_at, header_at, unit_at, listed, units_within}
 use Rattle.dwp_dwarf.specs.Units.{units}
 use Rattle.dwp_dwarf.specs.declared.unit.UnitSection.TheVariants as places
-use Rattle.dwp_dwarf.specs.declared.unit.UnitType.{UnitType}
-use Rattle.dwp_dwarf.specs.declared.unit.UnitType.TheVariants as unit_types
 use Rattle.dwp_table.specs.declared.object.DwarfObject.{DwarfObject}
 use Rattle.thorin_errors.specs.Errors.{ErrorValue, ParseUnitHeader, NotSplitUnit}
 use Rattle.thorin_errors.specs.Errors.{NoCompilationUnits}
@@ -35,12 +31,13 @@ use Rattle.thorin_join.specs.Meaning.{named_sections}
 use Rattle.thorin_input.specs.Names.{same_name}
 use Rattle.thorin_input.specs.NewUnits.{name_for, unit_section}
 use Rattle.thorin_input.specs.Rows.{abbreviations_for}
-use Rattle.thorin_input.specs.Used.{Used, has_kind, bytes_of, first}
+use Rattle.thorin_input.specs.Used.{Used, first}
 use Rattle.thorin_join.proofs.Units.NamesApart.{same_name-self}
 use Rattle.thorin_join.proofs.Units.HeadersRead.{no_header, Reads}
 use Rattle.thorin_join.proofs.Units.Sorts.{identity-sort}
 use Rattle.thorin_join.proofs.Steps.{err-ok}
 use Rattle.thorin_join.proofs.Moved.Units.{newer-five}
+use Rattle.thorin_again.proofs.Kept.LongerTables.{ok-some}
 use Rattle.dwp_base.proofs.Steps.{bind-was, same-ok, by-choice}
 
 -- ---- a unit in info is of version 5, or no type unit
@@ -48,22 +45,13 @@ use Rattle.dwp_base.proofs.Steps.{bind-was, same-ok, by-choice}
 abbrev FiveOrNone : Header → Type 0
 FiveOrNone unit = (unit.encoding.version ≡ 5) ⊎ (type_signature unit.unit_type ≡ None)
 
-older-sort : (format : Format) (i : Input) (t : UnitType × Input) → older_type_at places.Info format
-    i ≡ Ok t → type_signature t.0 ≡ None
-unfolding older_type_at
-older-sort format i t h = ap (λ (x : UnitType × Input). type_signature x.0)
-    (sym (same-ok {E = ReadError} (unit_types.Compilation, i) t h))
-
 older-none : (format : Format) (version : ℕ) (whole i : Input) (u : Header) → older_at places.Info
     format version whole i ≡ Ok u → FiveOrNone u
-unfolding older_at
+unfolding older_at older_type_at
 older-none format version whole i u h =
     let a = bind-was (offset_at format i) _ u h in
     let b = bind-was (address_size_at a.0.1) _ u a.2 in
-    let c = bind-was (older_type_at places.Info format b.0.1) _ u b.2 in
-    let t = older-sort format b.0.1 c.0 c.1 in
-    inr (sym (ap (λ (x : Header). type_signature x.unit_type) (same-ok {E = ReadError} _ u c.2)) ∙
-    t)
+    inr (ap (λ (x : Header). type_signature x.unit_type) (sym (same-ok {E = ReadError} _ u b.2)))
 
 header-none : (format : Format) (whole i : Input) (u : Header) → header_at places.Info format whole
     i ≡ Ok u → FiveOrNone u
@@ -128,10 +116,6 @@ no-units order encoding h = err-ok NoCompilationUnits encoding h
 
 -- ---- its name
 
-pub ok-some : {A : Type 0} (r : Option A) (x : A) → ok_or r NotSplitUnit ≡ Ok x → r ≡ Some x
-ok-some None x h = absurd (err-ok NotSplitUnit x h)
-ok-some (Some y) x h = ap (λ v. Some v) (same-ok {E = ErrorValue} y x h)
-
 any-behind : (test : DwarfObject → Bool) (us vs : Reads) → list_any test (keys vs) ≡ true
     → list_any test (keys (us ++ vs)) ≡ true
 any-behind test [] vs h = h
@@ -166,7 +150,7 @@ module _ (source : Source) (encoding : Encoding) where
         rest = b.0;
         are = sym (same-ok {E = ErrorValue} _ us b.2);
         sort = identity-sort (section source.object.order e.0) u d.0
-            (f.1 ∙ ap (λ x. Ok x) (ok-some f.0 d.0 f.2)) ∙ ap name_signature name;
+            (f.1 ∙ ap (λ x. Ok x) (ok-some NotSplitUnit f.0 d.0 f.2)) ∙ ap name_signature name;
       }
 
   pub first-named : (sections : List Used) (all : Reads) → named_sections source sections ≡ Ok all
@@ -178,37 +162,29 @@ module _ (source : Source) (encoding : Encoding) where
       let a = bind-was (named_at source from (unit_section from.kind)) _ all h in
       let b = bind-was (named_sections source rest) _ all a.2 in
       subst FirstNamed (same-ok {E = ErrorValue} (a.0 ++ b.0) all b.2)
-      (by a.0 b.0 a.1 (same_kind from.kind kinds.Info) refl e (λ k. first-named rest b.0 b.1 k))
-    where
-      by : (here others : Reads) → named_at source from (unit_section from.kind) ≡ Ok here
-          → (c : Bool) → same_kind from.kind kinds.Info ≡ c
-          → first_encoding (units places.Info (section source.object.order
-          (bytes_of (cond c (Some from) (find (has_kind kinds.Info) rest))))) ≡ Ok encoding
-          → (first_encoding (units places.Info (section source.object.order
-          (first kinds.Info rest))) ≡ Ok encoding → FirstNamed others)
-          → FirstNamed (here ++ others)
-      by here others named true is k later =
-          let kind : from.kind ≡ kinds.Info = is-same from.kind kinds.Info is in
-          let f = first-units source.object.order from.bytes encoding k in
-          let each : named_each source from.kind (units places.Info (section source.object.order
-          from.bytes)) ≡ Ok here = ap (λ n. named_at source from (unit_section n))
-          (sym kind) ∙ named in
-          let head = head-named from.kind f.unit f.others here (ap (named_each source from.kind)
-          (sym f.are) ∙ each) in
-          let version = ap (λ (x : Encoding). x.version) f.is in
-          record {
-            name = head.read.0;
-            there = ap (λ (l : Reads). list_any (same_name head.read.0) (keys (l ++ others)))
-                head.are ∙ ap (λ c. c || list_any (same_name head.read.0)
-                (keys (head.rest ++ others))) (same_name-self head.read.0);
-            sort = ⊎_elim (λ five. inl (sym version ∙ five)) (λ none.
-                inr (sym head.sort ∙ none)) f.sort;
-          }
-      by here others named false is k later =
-          let l = later k in
-          record {
-            name = l.name;
-            there = any-behind (same_name l.name) here others
-                l.there;
-            sort = l.sort;
-          }
+      (by-bool (FirstNamed (a.0 ++ b.0)) (same_kind from.kind kinds.Info)
+      (λ is.
+      let kind = is-same from.kind kinds.Info is in
+      let f = first-units source.object.order from.bytes encoding (rw is at e) in
+      let each : named_each source from.kind (units places.Info (section source.object.order
+      from.bytes)) ≡ Ok a.0 = ap (λ n. named_at source from (unit_section n)) (sym kind) ∙ a.1 in
+      let head = head-named from.kind f.unit f.others a.0 (ap (named_each source from.kind)
+      (sym f.are) ∙ each) in
+      let version = ap (λ (x : Encoding). x.version) f.is in
+      record {
+        name = head.read.0;
+        there = ap (λ (l : Reads). list_any (same_name head.read.0) (keys (l ++ b.0))) head.are
+            ∙ ap (λ c. c || list_any (same_name head.read.0) (keys (head.rest ++ b.0)))
+            (same_name-self head.read.0);
+        sort = elim f.sort [
+          | inl five ↦ inl (sym version ∙ five)
+          | inr none ↦ inr (sym head.sort ∙ none)
+        ];
+      })
+      (λ other.
+      let l = first-named rest b.0 b.1 (rw other at e) in
+      record {
+        name = l.name;
+        there = any-behind (same_name l.name) a.0 b.0 l.there;
+        sort = l.sort;
+      }))

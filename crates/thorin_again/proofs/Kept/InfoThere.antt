@@ -1,9 +1,8 @@
 -- Info of a package of plain objects of one encoding has bytes, where it has units: the first unit
 -- of an object stands in info, and its name's unit goes there.
-use Rattle.std.proofs.Common.{◌≡◌, ◌∙◌, ◌<◌, Bool, true, false, cond, is_some, ◌&&◌, ◌||◌, ◌⊎◌}
-use Rattle.std.proofs.Common.{inl, inr, List, [], ◌∷◌, ◌++◌, length, map, refl, sym, ap}
-use Rattle.std.proofs.Common.{subst, Ok, None, arith, true≢false}
-use Rattle.std.proofs.Common.{length-append}
+use Rattle.std.proofs.Common.{◌≡◌, ◌∙◌, ◌<◌, Bool, true, false, cond, is_some, ◌&&◌, ◌||◌, ◌⊎◌, inl}
+use Rattle.std.proofs.Common.{inr, List, [], ◌∷◌, ◌++◌, length, map, refl, sym, ap, subst, Ok, None}
+use Rattle.std.proofs.Common.{arith, true≢false, length-append}
 use Rattle.std.specs.List.{list_any}
 use Rattle.std.proofs.lemmas.List.{append-nil, append_assoc}
 use Rattle.std.proofs.lemmas.List.Folds.{list_any-append}
@@ -23,24 +22,24 @@ use Rattle.thorin_input.specs.Encodings.{encoding_of}
 use Rattle.thorin_input.specs.Growing.{joined_parts}
 use Rattle.thorin_input.specs.Indexes.{Source}
 use Rattle.thorin_join.specs.Laid.{name_signature}
-use Rattle.thorin_join.specs.Meaning.{UnitRead, keys}
-use Rattle.thorin_join.specs.Meaning.{joining}
+use Rattle.thorin_join.specs.Meaning.{UnitRead, keys, joining}
 use Rattle.thorin_input.specs.Names.{same_name}
 use Rattle.thorin_input.specs.NewUnits.{NewUnit, place_for}
 use Rattle.dwp_bytes.specs.Encoding.{index_version_of}
 use Rattle.dwp_table.specs.Columns.{column_of}
 use Rattle.thorin_input.specs.Format.{is_in_format}
 use Rattle.thorin_input.specs.Parts.{Parts, has_part, stands_once, with_part, with_each_part}
-use Rattle.thorin_join.specs.State.{InProgress, kind_at, names_of, adding}
-use Rattle.thorin_join.specs.State.{with_unit_added, with_new_units, with_source}
+use Rattle.thorin_join.specs.State.{InProgress, kind_at, names_of, adding, with_unit_added}
+use Rattle.thorin_join.specs.State.{with_new_units, with_source}
 use Rattle.thorin_input.specs.Used.{Used}
 use Rattle.thorin_join.proofs.Units.NamesApart.{same_name-true}
 use Rattle.thorin_join.proofs.Units.HeadersRead.{ReadAlone, Reads}
 use Rattle.thorin_again.proofs.Kept.FirstHeaders.{first-named}
 use Rattle.thorin_join.proofs.Units.JoinedByName.{added-keys}
 use Rattle.thorin_join.proofs.Parts.Appended.{content-with_bytes, content-with_parts, differ}
-use Rattle.thorin_again.proofs.Kept.EachUnit.{Each, News, each-added, each-both, each-go, each-joining}
-use Rattle.thorin_again.proofs.Kept.EachUnit.{each-new, each-weaker, in-turn, units-are, WasRead}
+use Rattle.thorin_again.proofs.Kept.EachUnit.{Each, News, each-added, each-both, each-go}
+use Rattle.thorin_again.proofs.Kept.EachUnit.{each-joining, each-new, each-weaker, in-turn}
+use Rattle.thorin_again.proofs.Kept.EachUnit.{units-are, WasRead}
 use Rattle.thorin_again.proofs.Kept.SharedParts.{plain-added, parted}
 use Rattle.thorin_join.proofs.Joined.Source.{keys-held}
 use Rattle.thorin_join.proofs.Steps.{past, unless}

@@ -1,16 +1,16 @@
 -- Each unit of a package names itself by the abbreviations of its row, where plain objects of one
 -- encoding are added.
-use Rattle.std.proofs.Common.{◌≡◌, ◌∙◌, ℕ, ◌+◌, ◌<◌, ◌≤◌, Bool, true, false, cond, List, [], ◌∷◌}
-use Rattle.std.proofs.Common.{◌++◌, length, refl, sym, ap, subst, Ok, Some, arith, length-append}
-use Rattle.std.proofs.Common.{⊎_elim}
-use Rattle.std.specs.Prelude.{find}
+use Rattle.std.proofs.Common.{◌≡◌, ◌∙◌, ℕ, ◌+◌, ◌<◌, ◌≤◌, true, false, List, [], ◌∷◌, ◌++◌, length}
+use Rattle.std.proofs.Common.{refl, sym, ap, subst, Ok, Some, arith, length-append, eqb}
 use Rattle.std.specs.List.{list_all}
+use Rattle.std.proofs.lemmas.Bool.{eqb-false}
 use Rattle.std.proofs.lemmas.Option.{none-some, same_Some}
 use Rattle.dwp_base.specs.declared.endian.Endianness.{Endianness}
 use Rattle.dwp_base.specs.declared.section.Contribution.{Contribution}
 use Rattle.dwp_base.specs.declared.section.SectionKind.{SectionKind}
 use Rattle.dwp_base.specs.declared.section.SectionKind.TheVariants as kinds
 use Rattle.dwp_base.specs.Sections.{same_kind}
+use Rattle.dwp_base.proofs.Bools.{by-bool}
 use Rattle.dwp_bytes.specs.Input.{Input, section}
 use Rattle.dwp_bytes.specs.declared.encoding.Encoding.{Encoding}
 use Rattle.dwp_dwarf.specs.Units.{Unit as Header, UnitsAreTaken, unit_at}
@@ -31,26 +31,27 @@ use Rattle.thorin_again.specs.Plain.{NamesItself, HasNamedUnits}
 use Rattle.thorin_join.specs.Represents.{IsSound, LieInside}
 use Rattle.thorin_input.specs.Rows.{whole_row}
 use Rattle.thorin_join.specs.StandApart.{EachRow}
-use Rattle.thorin_join.specs.State.{InProgress, kind_at, row_at, unit_bytes, adding}
-use Rattle.thorin_join.specs.State.{with_new_units, with_source}
-use Rattle.thorin_input.specs.Used.{Used, first, has_kind, bytes_of}
+use Rattle.thorin_join.specs.State.{InProgress, kind_at, row_at, unit_bytes, adding, with_new_units}
+use Rattle.thorin_join.specs.State.{with_source}
+use Rattle.thorin_input.specs.Used.{Used, first}
 use Rattle.thorin_join.proofs.Units.HeadersRead.{ReadAlone}
 use Rattle.thorin_join.proofs.Units.JoinedByName.{IsAdded}
 use Rattle.thorin_join.proofs.Rows.Stay.{Grows, grows-with_bytes, keep-part, keep-lie}
-use Rattle.thorin_join.proofs.Rows.LieInTurn.{types-only}
+use Rattle.thorin_join.proofs.Rows.LieInTurn.{can-lie}
 use Rattle.thorin_again.proofs.Kept.LongerTables.{identity-stays}
 use Rattle.thorin_again.proofs.Offsets.Tiled.{row-append, weaker}
 use Rattle.thorin_join.proofs.Rows.OfUnits.{is-unit_row, whole-else}
-use Rattle.thorin_join.proofs.Parts.Appended.{content-with_parts, parts-copied, either}
+use Rattle.thorin_join.proofs.Parts.Appended.{content-with_parts, parts-copied}
 use Rattle.thorin_again.proofs.Kept.EachUnit.{Each, each-both, each-go, each-joining, each-new}
-use Rattle.thorin_again.proofs.Kept.EachUnit.{each-passed, each-weaker, in-turn, units-are, WasRead, Has}
+use Rattle.thorin_again.proofs.Kept.EachUnit.{each-passed, each-weaker, in-turn, units-are, WasRead}
+use Rattle.thorin_again.proofs.Kept.EachUnit.{Has}
 use Rattle.thorin_again.proofs.Kept.ObjectNames.{NamedAlone, named-alone}
 use Rattle.thorin_again.proofs.Kept.SharedParts.{shared-row, plain-part, plain-added, order-added}
 use Rattle.thorin_again.proofs.Kept.SharedParts.{parted}
 use Rattle.thorin_join.proofs.Joined.Source.{grows-with_parts}
 use Rattle.thorin_join.proofs.Rows.StandApart.{sound-inside}
-use Rattle.thorin_join.proofs.Rows.OneAdded.{Fits, content-put, place-put, part-put, range_for}
-use Rattle.thorin_join.proofs.Rows.OneAdded.{row-name, row-own, own-place, row-part, lie-by}
+use Rattle.thorin_join.proofs.Rows.OneAdded.{Fits, content-put, part-put, range_for, row-name}
+use Rattle.thorin_join.proofs.Rows.OneAdded.{row-own, own-place, row-part, lie-by}
 use Rattle.thorin_join.proofs.Units.Whole.{Goes, units-go}
 use Rattle.thorin_join.proofs.Rows.Meaning.{unshared}
 
@@ -62,21 +63,11 @@ record Front (kind : SectionKind) (sections : List Used) : Type 0 where
 
 first-front : (kind : SectionKind) (sections : List Used) → Front kind sections
 first-front kind [] = record { rest = []; is = refl }
-first-front kind (s ∷ ss) = by (same_kind s.kind kind) refl (first-front kind ss)
-  where
-    by : (b : Bool) → same_kind s.kind kind ≡ b → Front kind ss → Front kind (s ∷ ss)
-    by true e later = record {
-      rest = joined_content kind ss;
-      is = ap (λ b. cond b (s.bytes ++ joined_content kind ss) (joined_content kind ss)) e ∙ sym
-          (ap (λ b. bytes_of (cond b (Some s) (find (has_kind kind) ss)) ++ joined_content kind ss)
-          e);
-    }
-    by false e later = record {
-      rest = later.rest;
-      is = ap (λ b. cond b (s.bytes ++ joined_content kind ss) (joined_content kind ss)) e ∙
-          later.is ∙ sym (ap (λ b. bytes_of (cond b (Some s) (find (has_kind kind) ss))
-          ++ later.rest) e);
-    }
+first-front kind (s ∷ ss) =
+    let later = first-front kind ss in
+    by-bool _ (same_kind s.kind kind)
+    (λ here. record { rest = joined_content kind ss; is = rw here refl })
+    (λ other. record { rest = later.rest; is = rw other later.is })
 
 -- ---- units that are added name themselves
 
@@ -102,11 +93,8 @@ keep-names order encoding c d row grows lie names unit rest read =
     let own : unit_bytes d row ≡ unit_bytes c row = keep-part c d row grows lie
     (kind_at (place_of row.id row.debug_types)) in
     let there = names unit rest (ap (λ l. unit_at (place_of row.id row.debug_types)
-    (section order l)) (sym own) ∙ read) in (
-      there.0,
-      ap (λ l. identity (section order l) unit) (keep-part c d row grows lie
-          kinds.Abbrev) ∙ there.1,
-    )
+    (section order l)) (sym own) ∙ read) in
+    (there.0, rw (keep-part c d row grows lie kinds.Abbrev) there.1)
 
 keep-stands : (order : Endianness) (encoding : Encoding) (c d : Contents) (rows : List IndexEntry)
     → Grows c d → EachRow (Stands order encoding c) rows → EachRow (Stands order encoding d) rows
@@ -186,23 +174,12 @@ put-inside : (kind : SectionKind) (parts c : Contents) (range : Contribution)
     × (0 < range.size)
 put-inside kind parts c range h =
     let x = joined_parts kind parts in
-    let long : length (content_of kind (with_parts parts c)) ≡ length (content_of kind c) + length
-    x = ap length (content-with_parts kind parts c) ∙ length-append (content_of kind c) x in
-    by x long h
-  where
-    by : (x : List ℕ) → length (content_of kind (with_parts parts c)) ≡ length (content_of kind c) +
-        length x → range_put kind x c ≡ Some range
-        → (range.offset.0 + range.size ≤ length (content_of kind (with_parts parts c)))
-        × (0 < range.size)
-    by [] long e = absurd (none-some range e)
-    by (b ∷ bs) long e =
-        let some : 0 < length (b ∷ bs) = omega arith in
-        let same : range_for kind (b ∷ bs) c ≡ range =
-        same_Some _ _ (sym (place-put kind (b ∷ bs) c some) ∙ e) in
-        let at : length (content_of kind c) ≡ range.offset.0 = ap (λ (r : Contribution).
-        r.offset.0) same in
-        let size : length (b ∷ bs) ≡ range.size = ap (λ (r : Contribution). r.size) same in
-        (omega (arith, long, at, size), omega (arith, size, some))
+    let long = ap length (content-with_parts kind parts c) ∙ length-append (content_of kind c) x in
+    by-bool _ (eqb (length x) 0)
+    (λ none. absurd (none-some range (rw none at h)))
+    (λ some. subst (λ (r : Contribution). (r.offset.0 + r.size ≤ length (content_of kind
+    (with_parts parts c))) × (0 < r.size)) (same_Some (range_for kind x c) range (rw some at h))
+    (omega (arith, long), omega (arith, eqb-false (length x) 0 some)))
 
 module _ (source : Source) (made : InProgress) (parts : Contents) (plain : is_package source.indexes
     ≡ false) (n : DwarfObject × NewUnit) (r : DwarfObject × UnitRead)
@@ -214,19 +191,15 @@ module _ (source : Source) (made : InProgress) (parts : Contents) (plain : is_pa
   Inside kind = (range : Contribution) → contribution_to kind n.1.row ≡ Some range
       → (range.offset.0 + range.size ≤ length (content_of kind c)) × (0 < range.size)
 
-  shared-inside : (kind : SectionKind) → is_shared kind ≡ true → Inside kind
-  shared-inside kind shared range e = put-inside kind parts made.file.contents range
-      (sym (plain-part source made parts n r plain is kind shared) ∙ e)
-
   all-inside : (kind : SectionKind) → Inside kind
   all-inside kind range e =
       let whole = whole_row source.encoding made.file.contents parts in
       let row = is-unit_row source.indexes whole r.0 n.1.row is.row in
       let else = whole-else source.encoding made.file.contents parts in
-      ⊎_elim (λ shared. shared-inside kind shared range e)
+      by-bool _ (is_shared kind) (λ shared. put-inside kind parts made.file.contents range
+      (sym (plain-part source made parts n r plain is kind shared) ∙ e))
       (λ other. absurd (none-some range (sym (unshared n.1.row (row.info ∙ else.1)
       (row.types ∙ else.2) kind other) ∙ e)))
-      (either (is_shared kind))
 
   pub new-inside : LieInside c n.1.row
   new-inside = record {
@@ -239,12 +212,8 @@ module _ (source : Source) (made : InProgress) (parts : Contents) (plain : is_pa
 part-of-put : (kind : SectionKind) (parts c : Contents)
     → part_of (content_of kind (with_parts parts c)) (range_put kind (joined_parts kind parts) c) ≡
     joined_parts kind parts
-part-of-put kind parts c = ap (λ l. part_of l (range_put kind x c))
-    (content-with_parts kind parts c) ∙ by x
+part-of-put kind parts c = rw (content-with_parts kind parts c) (by (joined_parts kind parts))
   where
-    x : List ℕ
-    x = joined_parts kind parts
-
     by : (x : List ℕ) → part_of (content_of kind c ++ x) (range_put kind x c) ≡ x
     by [] = refl
     by (b ∷ bs) =
@@ -260,8 +229,6 @@ can-name : (source : Source) (made : InProgress) (parts : Contents) (after : Lis
 can-name source made parts after n r plain parts_are is goes named =
     let order = source.object.order in
     let table = first kinds.Abbrev source.object.sections in
-    let row = is-unit_row source.indexes (whole_row source.encoding made.file.contents parts) r.0
-    n.1.row is.row in
     let f = first-front kinds.Abbrev source.object.sections in
     let part : part_of (content_of kinds.Abbrev (with_parts parts made.file.contents))
     n.1.row.debug_abbrev ≡ table ++ f.rest =
@@ -271,12 +238,7 @@ can-name source made parts after n r plain parts_are is goes named =
     ∙ parts-copied source made.strings parts after parts_are kinds.Abbrev refl
     ∙ f.is in
     record {
-      fits = record {
-        no_types = row.types ∙ (whole-else source.encoding made.file.contents parts).2;
-        some = subst (λ l. 0 < length l) (sym is.bytes) goes.some;
-        types_only = λ h. let t = types-only r.0 r.1.from (sym is.place ∙ h) in
-            (t.0, is.name ∙ t.1);
-      };
+      fits = (can-lie source made parts n r is goes).fits;
       lie = new-inside source made parts plain n r is;
       named = λ alone rest read.
           let there = named alone rest

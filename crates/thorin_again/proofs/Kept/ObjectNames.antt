@@ -1,6 +1,5 @@
 -- Each unit of a plain object of one encoding names itself by the object's first abbreviations.
-use Rattle.std.proofs.Common.{◌≡◌, ◌∙◌, ℕ, false, List}
-use Rattle.std.proofs.Common.{refl, sym, ap, Ok, Some}
+use Rattle.std.proofs.Common.{◌≡◌, ◌∙◌, ℕ, false, List, refl, sym, ap, Ok, Some}
 use Rattle.dwp_base.specs.declared.endian.Endianness.{Endianness}
 use Rattle.dwp_base.specs.declared.section.SectionKind.{SectionKind}
 use Rattle.dwp_base.specs.declared.section.SectionKind.TheVariants as kinds
@@ -24,9 +23,9 @@ use Rattle.thorin_join.proofs.Units.HeadersRead.{ReadAlone, name-identity, kind-
 use Rattle.thorin_join.proofs.Units.Sorts.{identity-sort}
 use Rattle.thorin_again.proofs.Kept.EachUnit.{WasRead, Has, read-encoding}
 use Rattle.thorin_join.proofs.Moved.RootEntries.{identity-shifted}
-use Rattle.thorin_join.proofs.Units.Whole.{ReadsAlone, IsKnown, known-in, other-alone}
-use Rattle.thorin_join.proofs.Units.Whole.{five-named}
-use Rattle.thorin_again.proofs.Kept.FirstHeaders.{ok-some}
+use Rattle.thorin_join.proofs.Units.Whole.{ReadsAlone, IsKnown, known-in, other-alone, five-named}
+use Rattle.thorin_again.proofs.Kept.LongerTables.{ok-some}
+use Rattle.thorin_errors.specs.Errors.{NotSplitUnit}
 use Rattle.dwp_base.proofs.Steps.{bind-was, same-ok}
 
 -- ---- the units of a plain object by its first section of abbreviations
@@ -47,7 +46,7 @@ unfolding name_for abbreviations_for
 plain-name source kind unit name plain h =
     let s = bind-was (identity (section source.object.order (first kinds.Abbrev
     source.object.sections)) unit) _ name (rw plain at h) in
-    s.1 ∙ ap Ok (ok-some s.0 name s.2)
+    s.1 ∙ ap Ok (ok-some NotSplitUnit s.0 name s.2)
 
 -- where it goes to it is read alone
 goes-alone : (order : Endianness) (place : UnitSection) (name : DwarfObject) (unit : Header)

@@ -1,7 +1,7 @@
 -- What holds of all units of a package once an input was taken; and all units of plain objects of
 -- one encoding have it.
-use Rattle.std.proofs.Common.{◌≡◌, ◌∙◌, ℕ, ◌<◌, Bool, true, false, cond, ◌&&◌, ltb, inl, inr, List, []}
-use Rattle.std.proofs.Common.{◌∷◌, length, map, refl, sym, ap, subst, Result, Ok, Err, Option}
+use Rattle.std.proofs.Common.{◌≡◌, ◌∙◌, ℕ, ◌<◌, Bool, true, false, cond, ◌&&◌, ltb, inl, inr, List}
+use Rattle.std.proofs.Common.{[], ◌∷◌, length, map, refl, sym, ap, subst, Result, Ok, Err, Option}
 use Rattle.std.proofs.Common.{Some, None, arith, true≢false}
 use Rattle.std.specs.Prelude.{All}
 use Rattle.std.specs.List.{list_all}
@@ -20,8 +20,8 @@ use Rattle.dwp_table.specs.declared.object.DwarfObject.{DwarfObject}
 use Rattle.thorin_errors.specs.Errors.{ErrorValue}
 use Rattle.thorin_join.specs.Builder.{State, start, taken, with_input, with_own, own_after}
 use Rattle.thorin_join.specs.Builder.{names_in}
-use Rattle.thorin_input.specs.Encodings.{encoding_of, file_encoding, own_encoding}
-use Rattle.thorin_input.specs.Encodings.{is_plain, section_has}
+use Rattle.thorin_input.specs.Encodings.{encoding_of, file_encoding, own_encoding, is_plain}
+use Rattle.thorin_input.specs.Encodings.{section_has}
 use Rattle.thorin_input.specs.Indexes.{Source, is_package, index_for, indexes_of}
 use Rattle.thorin_join.specs.Join.{Joins}
 use Rattle.thorin_join.specs.Meaning.{Meaning, Members, UnitRead, keys, meaning_with, meaning_by}
@@ -140,26 +140,24 @@ units-hold P bytes begun now j h can before =
 
 -- ---- the encoding of a builder's inputs
 
-pub begun-now : (bytes : List ℕ) (old new : State) → taken bytes old ≡ Ok new
-    → with_input bytes old.begun ≡ Ok new.begun
-unfolding taken
-begun-now bytes old new h =
-    let s = bind-was (with_input bytes old.begun) _ new h in
-    let t = bind-was (own_encoding bytes) _ new s.2 in
-    s.1 ∙ ap (λ (x : State). Ok x.begun) (same-ok _ new t.2)
-
-pub own-now : (bytes : List ℕ) (old new : State) → taken bytes old ≡ Ok new
+-- the package after an input, and the one encoding
+pub taken-as : (bytes : List ℕ) (old new : State) → taken bytes old ≡ Ok new
     → (found : Option Encoding) × (own_encoding bytes ≡ Ok found)
-    × (own_after old new.begun found ≡ new.own)
+    × (own_after old new.begun found ≡ new.own) × (with_input bytes old.begun ≡ Ok new.begun)
 unfolding taken
-own-now bytes old new h =
+taken-as bytes old new h =
     let s = bind-was (with_input bytes old.begun) _ new h in
     let t = bind-was (own_encoding bytes) _ new s.2 in
     let is = same-ok {E = ErrorValue} _ new t.2 in (
       t.0,
       t.1,
       ap (λ (x : State). own_after old x.begun t.0) (sym is) ∙ ap (λ (x : State). x.own) is,
+      s.1 ∙ ap (λ (x : State). Ok x.begun) is,
     )
+
+pub begun-now : (bytes : List ℕ) (old new : State) → taken bytes old ≡ Ok new
+    → with_input bytes old.begun ≡ Ok new.begun
+begun-now bytes old new h = (taken-as bytes old new h).3
 
 -- nothing has begun, or the builder's inputs have this encoding
 abbrev pub Before : Option InProgress → Option Encoding → Encoding → Type 0
@@ -225,7 +223,7 @@ pub record AddsOwn (bytes : List ℕ) (old new : State) (e : Encoding) : Type 0 
 pub own-adds : (bytes : List ℕ) (old new : State) (e : Encoding) → taken bytes old ≡ Ok new
     → new.own ≡ Some e → AddsOwn bytes old new e
 own-adds bytes old new e h k =
-    let own = own-now bytes old new h in
+    let own = taken-as bytes old new h in
     let counted = some-or-none (ltb (length (names_in old.begun)) (length (names_in new.begun)))
     (with_own old.begun old.own own.0) e (own.2 ∙ k) in
     let found = with-before old.begun old.own own.0 e counted.1 in

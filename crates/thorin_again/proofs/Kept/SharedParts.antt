@@ -1,7 +1,7 @@
 -- Each section that units share has a part that a row names, where plain objects add units.
-use Rattle.std.proofs.Common.{◌≡◌, ◌∙◌, ℕ, ◌<◌, true, false, eqb, inl, inr, List, [], ◌∷◌}
-use Rattle.std.proofs.Common.{◌++◌, length, refl, sym, ap, subst, Ok, Option, arith}
-use Rattle.std.proofs.Common.{true≢false, length-append}
+use Rattle.std.proofs.Common.{◌≡◌, ◌∙◌, ℕ, ◌<◌, true, false, eqb, inl, inr, List, [], ◌∷◌, ◌++◌}
+use Rattle.std.proofs.Common.{length, refl, sym, ap, subst, Ok, Option, arith, true≢false}
+use Rattle.std.proofs.Common.{length-append}
 use Rattle.std.specs.Prelude.{is_some}
 use Rattle.std.specs.List.{list_any}
 use Rattle.std.proofs.lemmas.Bool.{eqb-true}
@@ -157,10 +157,6 @@ once-more source before now a more P Q makes new =
     makes p u has) q a.new.units new (λ less. absurd (omega (arith, less)))
     (subst (λ (p : InProgress). length before.rows < length p.rows) a.is more))
 
-there-put : (kind : SectionKind) (bytes : List ℕ) (c : Contents) → eqb (length bytes) 0 ≡ false
-    → is_some (range_put kind bytes c) ≡ true
-there-put kind bytes c h = rw h refl
-
 pub named-kept : (source : Source) (before now : InProgress) → is_package source.indexes ≡ false
     → with_source source before ≡ Ok now → length before.rows < length now.rows
     → HasNamedParts before → HasNamedParts now
@@ -184,5 +180,5 @@ named-kept source before now plain h more named kind shared some =
           (row_at u.1.row p.file.contents u.0 u.1.bytes u.1.place ∷ [])
           ∙ or-right (list_any test p.rows) _ (rw (has p.file.contents) refl))
           (rows-share source before now a plain kind shared (λ o. is_some o ≡ true)
-          (there-put kind part before.file.contents there))
+          (rw there refl))
     ]

@@ -1,8 +1,7 @@
 -- The header of a unit that was read has the encoding that is recorded of it, wherever its bytes
 -- are read again.
-use Rattle.std.proofs.Common.{◌≡◌, ◌∙◌, ℕ, Bool, true, false, cond, nat_eq, ◌&&◌, List}
-use Rattle.std.proofs.Common.{sym, ap, Result, Ok, Err}
-use Rattle.std.proofs.Common.{◌-◌}
+use Rattle.std.proofs.Common.{◌≡◌, ◌∙◌, ℕ, true, nat_eq, ◌&&◌, List, sym, ap}
+use Rattle.std.proofs.Common.{Result, Ok, ◌-◌}
 use Rattle.std.specs.Prelude.{All, nat_le}
 use Rattle.std.specs.List.{list_all}
 use Rattle.dwp_base.specs.Reading.{◌>>=◌}
@@ -13,27 +12,28 @@ use Rattle.dwp_bytes.specs.declared.encoding.Format.{Format}
 use Rattle.dwp_bytes.specs.declared.error.ReadError.{ReadError}
 use Rattle.dwp_bytes.specs.declared.error.ReadError.TheVariants.{UnknownVersion}
 use Rattle.dwp_dwarf.specs.Units.{Unit as Header, UnitsAreTaken, unit_at, units, header_at}
-use Rattle.dwp_dwarf.specs.Units.{older_at, newer_at, older_type_at, address_size_at}
+use Rattle.dwp_dwarf.specs.Units.{older_at, older_type_at, address_size_at}
 use Rattle.dwp_dwarf.specs.Units.{initial_length_at}
 use Rattle.dwp_dwarf.specs.declared.unit.UnitSection.{UnitSection}
 use Rattle.dwp_index.specs.Package.{encoding_in}
 use Rattle.dwp_table.specs.declared.object.DwarfObject.{DwarfObject}
 use Rattle.thorin_input.specs.Encodings.{section_has}
 use Rattle.thorin_input.specs.Indexes.{Source}
-use Rattle.thorin_join.specs.Meaning.{Meaning, Members}
-use Rattle.thorin_join.specs.Meaning.{source_units}
+use Rattle.thorin_join.specs.Meaning.{Meaning, Members, source_units}
 use Rattle.thorin_join.proofs.Units.HeadersRead.{ReadAlone, Reads}
 use Rattle.thorin_again.proofs.Kept.EachUnit.{WasRead, Has, units-are, read-encoding, each-passed}
 use Rattle.thorin_again.proofs.Kept.EachUnit.{each-weaker}
 use Rattle.thorin_again.proofs.Kept.OneEncoding.{CanMean}
 use Rattle.thorin_join.proofs.Units.Whole.{known-in}
+use Rattle.dwp_base.proofs.Bools.{by-bool}
 use Rattle.dwp_base.proofs.Steps.{bind-was, same-ok}
+use Rattle.thorin_join.proofs.Steps.{err-ok}
 
 -- ---- a header has one encoding, in whichever section it is read
 
 older-encoding : (p q : UnitSection) (format : Format) (version : ℕ) (whole i : Input)
     (u v : Header) → older_at p format version whole i ≡ Ok u
-    → older_at q format version whole i ≡ Ok v → u.encoding ≡ v.encoding
+    → older_at q format version whole i ≡ Ok v → u.source.encoding ≡ v.encoding
 unfolding older_at
 older-encoding p q format version whole i u v h k =
     let a = bind-was (offset_at format i) _ u h in
@@ -45,21 +45,18 @@ older-encoding p q format version whole i u v h k =
 
 header-encoding : (p q : UnitSection) (format : Format) (whole i : Input) (u v : Header)
     → header_at p format whole i ≡ Ok u → header_at q format whole i ≡ Ok v
-    → u.encoding ≡ v.encoding
+    → u.source.encoding ≡ v.encoding
 unfolding header_at
 header-encoding p q format whole i u v h k =
     let a = bind-was (number_at 2 i) _ u h in
-    by a.0 (nat_eq a.0.0 5) (nat_le 2 a.0.0 && nat_le a.0.0 4) a.2 (rw a.1 at k)
-  where
-    by : (n : ℕ × Input) (five older : Bool)
-        → cond {A = Result Header ReadError} five (newer_at format whole n.1)
-        (cond older (older_at p format n.0 whole n.1) (Err UnknownVersion)) ≡ Ok u
-        → cond {A = Result Header ReadError} five (newer_at format whole n.1)
-        (cond older (older_at q format n.0 whole n.1) (Err UnknownVersion)) ≡ Ok v
-        → u.encoding ≡ v.encoding
-    by n true older x y = ap (λ (w : Header). w.encoding) (same-ok {E = ReadError} u v (sym x ∙ y))
-    by n false true x y = older-encoding p q format n.0 whole n.1 u v x y
-    by n false false x y = absurd cc
+    let l = rw a.1 at k in
+    by-bool _ (nat_eq a.0.0 5)
+    (λ five. ap (λ (w : Header). w.encoding) (same-ok {E = ReadError} u v
+    (sym (rw five at a.2) ∙ rw five at l)))
+    (λ other. by-bool _ (nat_le 2 a.0.0 && nat_le a.0.0 4)
+    (λ older. older-encoding p q format a.0.0 whole a.0.1 u v (rw (other, older) at a.2)
+    (rw (other, older) at l))
+    (λ none. absurd (err-ok UnknownVersion u (rw (other, none) at a.2))))
 
 places-encoding : (p q : UnitSection) (i : Input) (u v : Header × Input) → unit_at p i ≡ Ok u
     → unit_at q i ≡ Ok v → u.0.encoding ≡ v.0.encoding
@@ -74,16 +71,6 @@ places-encoding p q i u v h k =
     ∙ header-encoding p q a.0.0.0 c.0.0 b.0.0 x.0 y.0 x.1 y.1
     ∙ ap (λ (w : Header × Input). w.0.encoding) (same-ok {E = ReadError} _ v y.2)
 
-in-encoding : (p q : UnitSection) (order : Endianness) (bytes : List ℕ) (a b : Encoding)
-    → encoding_in order p bytes ≡ Ok a → encoding_in order q bytes ≡ Ok b → a ≡ b
-unfolding encoding_in
-in-encoding p q order bytes a b h k =
-    let u = bind-was (unit_at p (section order bytes)) _ a h in
-    let v = bind-was (unit_at q (section order bytes)) _ b k in
-    sym (same-ok {E = ReadError} _ a u.2)
-    ∙ places-encoding p q (section order bytes) u.0 v.0 u.1 v.1
-    ∙ same-ok {E = ReadError} _ b v.2
-
 -- ---- bytes whose header has an encoding
 
 -- the header that stands in these bytes, where one does, has the encoding
@@ -94,8 +81,13 @@ HeaderHas order encoding bytes = (place : UnitSection) (found : Encoding)
 -- where it was read in one section, it is so in each
 pub header-has : (order : Endianness) (place : UnitSection) (bytes : List ℕ) (encoding : Encoding)
     → encoding_in order place bytes ≡ Ok encoding → HeaderHas order encoding bytes
+unfolding encoding_in
 header-has order place bytes encoding h other found k =
-    in-encoding other place order bytes found encoding k h
+    let u = bind-was (unit_at other (section order bytes)) _ found k in
+    let v = bind-was (unit_at place (section order bytes)) _ encoding h in
+    sym (same-ok {E = ReadError} _ found u.2)
+    ∙ places-encoding other place (section order bytes) u.0 v.0 u.1 v.1
+    ∙ same-ok {E = ReadError} _ encoding v.2
 
 pub in-of : (order : Endianness) (place : UnitSection) (bytes : List ℕ)
     (unit : Header) (rest : Input)

@@ -1,7 +1,6 @@
 -- Where all inputs have one encoding, so has what is written, as an input.
-use Rattle.std.proofs.Common.{inl, inr}
-use Rattle.std.proofs.Common.{◌≡◌, ◌∙◌, ℕ, ◌<◌, List, [], ◌∷◌, length, map}
-use Rattle.std.proofs.Common.{refl, sym, ap, subst, Ok, Option, Some, None, arith}
+use Rattle.std.proofs.Common.{inl, inr, ◌≡◌, ◌∙◌, ℕ, ◌<◌, List, [], ◌∷◌, length, map, sym, ap}
+use Rattle.std.proofs.Common.{subst, Ok, Option, Some, None, arith}
 use Rattle.std.specs.Prelude.{All}
 use Rattle.std.proofs.lemmas.List.{length-map}
 use Rattle.std.proofs.lemmas.List.Elements.{All-nil, All-head, All-tail}
@@ -10,7 +9,7 @@ use Rattle.dwp_base.specs.declared.section.SectionKind.TheVariants as kinds
 use Rattle.dwp_bytes.specs.declared.encoding.Encoding.{Encoding}
 use Rattle.dwp_dwarf.specs.Units.{UnitsAreTaken}
 use Rattle.dwp_dwarf.specs.declared.unit.UnitSection.TheVariants as places
-use Rattle.dwp_elf.specs.Contents.{KindsDiffer, content_of}
+use Rattle.dwp_elf.specs.Contents.{content_of}
 use Rattle.dwp_elf.specs.FileText.{Object as File, file_text}
 use Rattle.dwp_elf.specs.Written.{written_elf}
 use Rattle.dwp_elf_read.specs.Elf.{Elf}
@@ -21,16 +20,14 @@ use Rattle.thorin_input.specs.Encodings.{encoding_of}
 use Rattle.thorin_input.specs.Growing.{Contents}
 use Rattle.thorin_input.specs.Used.{InputFile, opened, input_file_of}
 use Rattle.thorin_again.specs.Again.{input_encoding}
-use Rattle.thorin_join.specs.Builder.{State, start, with_input, package_or_new}
-use Rattle.thorin_join.specs.Builder.{IsFinishedState}
+use Rattle.thorin_join.specs.Builder.{State, start, with_input, package_or_new, IsFinishedState}
 use Rattle.thorin_join.specs.Join.{Joins}
-use Rattle.thorin_join.specs.Meaning.{Meaning}
+use Rattle.thorin_join.specs.Meaning.{Meaning, Members}
 use Rattle.thorin_again.specs.OneEncoding.{IsOfEncoding, HaveEncodingOnceWritten}
 use Rattle.thorin_again.specs.OwnInput.{written_object}
 use Rattle.thorin_again.specs.OwnUnits.{AllOf}
 use Rattle.thorin_again.specs.PlainInputs.{AreTaken}
-use Rattle.thorin_join.specs.Represents.{IsSound, IsSoundBegun, meaning_at, units_of, units_in}
-use Rattle.thorin_join.specs.Represents.{units_begun}
+use Rattle.thorin_join.specs.Represents.{IsSoundBegun, meaning_at, units_of, units_in, units_begun}
 use Rattle.thorin_join.specs.StandApart.{EachRow}
 use Rattle.thorin_join.specs.State.{InProgress, unit_bytes}
 use Rattle.thorin_again.proofs.Lists.Held.{InputsSound, packages-in-order}
@@ -91,36 +88,24 @@ input-filled reads alone e bytes begun now one j h before =
 
 -- ---- what is written
 
-rows-encode : (order : Endianness) (e : Encoding) (contents : Contents) (strings : List (List ℕ))
-    (rows : List IndexEntry) → AreEncoded order (map {B = DwarfObject × Meaning} (λ row.
-    (row.id, meaning_at order contents strings row)) rows)
-    → AllOf e (map {B = DwarfObject × Meaning} (λ row.
-    (row.id, meaning_at order contents strings row)) rows)
-    → EachRow (EncodesItself order e contents) rows
-rows-encode order e contents strings [] are all = tt
-rows-encode order e contents strings (r ∷ rs) are all =
-    let unit : DwarfObject × Meaning = (r.id, meaning_at order contents strings r) in
-    let rest = map {B = DwarfObject × Meaning} (λ row.
-    (row.id, meaning_at order contents strings row)) rs in
-    let place = place_of r.id r.debug_types in (
-      λ own left read. All-head (λ (u : DwarfObject × Meaning). IsEncoded order u.1) unit rest are
-          place own.encoding (in-of order place (unit_bytes contents r) own left read)
-          ∙ All-head (λ (u : DwarfObject × Meaning). u.1.encoding ≡ e) unit rest all,
-      rows-encode order e contents strings rs
-          (All-tail (λ (u : DwarfObject × Meaning). IsEncoded order u.1) unit rest are)
-          (All-tail (λ (u : DwarfObject × Meaning). u.1.encoding ≡ e) unit rest all),
-    )
+module _ (order : Endianness) (e : Encoding) (contents : Contents) (strings : List (List ℕ)) where
+  abbrev units : List IndexEntry → Members
+  units rows = map {B = DwarfObject × Meaning} (λ row.
+      (row.id, meaning_at order contents strings row)) rows
 
-made-first : UnitsAreTaken → (made : InProgress) (file : File) (e : Encoding) → IsSound made
-    → AreEncoded made.file.order (units_of made) → Filled e (Some made)
-    → (state : State) → (f : IsFinishedState state file) → f.made ≡ made
-    → KindsDiffer file.contents → 0 < length made.rows
-    → encoding_of (written_object file) ≡ Ok e
-made-first reads made file e sound encoded filled state f same differ some =
-    let fin = subst (λ m. Rattle.thorin_join.specs.Builder.IsFinished m file) same f.finished in
-    first-of reads made file e sound fin differ
-    (rows-encode made.file.order e made.file.contents made.strings made.rows encoded filled.0)
-    (subst (λ l. 0 < length l) (sym (finished-own made file fin places.Info)) (filled.1 some))
+  rows-encode : (rows : List IndexEntry) → AreEncoded order (units rows) → AllOf e (units rows)
+      → EachRow (EncodesItself order e contents) rows
+  rows-encode [] are all = tt
+  rows-encode (r ∷ rs) are all =
+      let unit : DwarfObject × Meaning = (r.id, meaning_at order contents strings r) in
+      let place = place_of r.id r.debug_types in
+      let is = λ (u : DwarfObject × Meaning). IsEncoded order u.1 in
+      let has = λ (u : DwarfObject × Meaning). u.1.encoding ≡ e in (
+        λ own left read. All-head is unit (units rs) are place own.encoding
+            (in-of order place (unit_bytes contents r) own left read)
+            ∙ All-head has unit (units rs) all,
+        rows-encode rs (All-tail is unit (units rs) are) (All-tail has unit (units rs) all),
+      )
 
 have-encoding : UnitsAreTaken → (e : Encoding) (state : State) (file : File)
     → IsSoundBegun state.begun → Encoded state.begun → Filled e state.begun
@@ -128,17 +113,17 @@ have-encoding : UnitsAreTaken → (e : Encoding) (state : State) (file : File)
 have-encoding reads e state file sound encoded filled f differ back k d within =
     let made = f.made in
     let here : Filled e (Some made) = subst (Filled e) f.begun filled in
-    let all : AllOf e (units_in state) = subst (λ b. AllOf e (units_begun b))
-    (sym f.begun) here.0 in
-    let long : length (units_in state) ≡ length made.rows = ap (λ b. length (units_begun b)) f.begun
-    ∙ length-map made.rows _ in
+    let are : AreEncoded made.file.order (units_of made) = subst (AreEncoded made.file.order)
+    (ap units_begun f.begun) (encoded-made state.begun made f.begun encoded) in
+    let long = ap (λ b. length (units_begun b)) f.begun ∙ length-map made.rows _ in
     let some : 0 < length made.rows = omega (arith, long, within) in
-    let first = made-first reads made file e (subst IsSoundBegun f.begun sound)
-    (subst (AreEncoded made.file.order) (ap units_begun f.begun)
-    (encoded-made state.begun made f.begun encoded)) here state f refl differ some in
+    let first = first-of reads made file e (subst IsSoundBegun f.begun sound) f.finished differ
+    (rows-encode made.file.order e made.file.contents made.strings made.rows are here.0)
+    (subst (λ l. 0 < length l) (sym (finished-own made file f.finished places.Info))
+    (here.1 some)) in
     encoding-read (file_text file) (written_elf file) (written_object file) e
     (opened-elf (file_text file) (written_elf file) back) (object-written file differ) first
-    ∙ ap Ok (sym (all k d within))
+    ∙ ap Ok (sym (filled.0 k d within))
 
 -- ---- inputs in order
 

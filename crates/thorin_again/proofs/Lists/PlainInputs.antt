@@ -1,9 +1,8 @@
 -- The one encoding of a builder, by the inputs that it took.
 use Rattle.std.specs.List.{list_all}
-use Rattle.std.proofs.Common.{inl, inr}
-use Rattle.std.proofs.Common.{◌≡◌, ◌∙◌, ◌↔◌, ℕ, true, cond, ◌&&◌, List, []}
-use Rattle.std.proofs.Common.{◌∷◌, ◌++◌, length, map, refl, sym, ap, subst, Ok, Option}
-use Rattle.std.proofs.Common.{Some, None, ◌+◌, arith, true≢false, length-append}
+use Rattle.std.proofs.Common.{inl, inr, ◌≡◌, ◌∙◌, ◌↔◌, ℕ, true, cond, ◌&&◌, List, [], ◌∷◌, ◌++◌}
+use Rattle.std.proofs.Common.{length, map, refl, sym, ap, subst, Ok, Option, Some, None, ◌+◌, arith}
+use Rattle.std.proofs.Common.{true≢false, length-append}
 use Rattle.std.specs.Prelude.{All, is_some}
 use Rattle.std.proofs.lemmas.Bool.{lt-ltb}
 use Rattle.std.proofs.lemmas.List.Elements.{All-nil, All-cons, All-head, All-tail}
@@ -13,8 +12,7 @@ use Rattle.dwp_bytes.specs.declared.encoding.Encoding.{Encoding}
 use Rattle.dwp_table.specs.declared.object.DwarfObject.{DwarfObject}
 use Rattle.thorin_errors.specs.Errors.{ErrorValue}
 use Rattle.thorin_input.specs.Encodings.{own_encoding, file_encoding, common, section_has}
-use Rattle.thorin_join.specs.Builder.{State, start, taken, names_in}
-use Rattle.thorin_join.specs.Builder.{with_own, package_or_new}
+use Rattle.thorin_join.specs.Builder.{State, start, taken, names_in, with_own, package_or_new}
 use Rattle.thorin_join.specs.Join.{Joins}
 use Rattle.thorin_join.specs.Meaning.{Meaning, Members, keys, joining}
 use Rattle.thorin_again.specs.Own.{has_sections, packs_again}
@@ -23,7 +21,7 @@ use Rattle.thorin_join.specs.Represents.{IsSoundBegun, units_in}
 use Rattle.thorin_join.specs.State.{InProgress}
 use Rattle.thorin_join.proofs.Joined.Taken.{takes}
 use Rattle.thorin_again.proofs.Kept.Encodings.{common-self}
-use Rattle.thorin_again.proofs.Kept.OneEncoding.{InputsJoined, begun-now, own-now, Before, AddsOwn}
+use Rattle.thorin_again.proofs.Kept.OneEncoding.{InputsJoined, begun-now, taken-as, Before, AddsOwn}
 use Rattle.thorin_again.proofs.Kept.OneEncoding.{own-adds, own-units, takes-units, units-names}
 use Rattle.thorin_again.proofs.Lists.Held.{InputsSound}
 use Rattle.dwp_base.proofs.Steps.{same-ok}
@@ -82,7 +80,7 @@ begun-some bytes old new h =
 adds-own : (bytes : List ℕ) (old new : State) (e : Encoding) → taken bytes old ≡ Ok new
     → AddsOwn bytes old new e → new.own ≡ Some e
 adds-own bytes old new e h a =
-    let own = own-now bytes old new h in
+    let own = taken-as bytes old new h in
     let found : own.0 ≡ Some e = same-ok {E = ErrorValue} own.0 (Some e) (sym own.1 ∙ a.found) in
     sym own.2
     ∙ ap (λ b. cond {A = Option Encoding} b (with_own old.begun old.own own.0) None)
@@ -97,24 +95,16 @@ Meant = DwarfObject × Option Meaning
 abbrev some_of : DwarfObject × Meaning → Meant
 some_of u = (u.0, Some u.1)
 
-head-of : (u v : Meant) (us vs : List Meant) → (u ∷ us) ≡ (v ∷ vs) → u ≡ v
-head-of u v us vs h = cc
-
-tail-of : (u v : Meant) (us vs : List Meant) → (u ∷ us) ≡ (v ∷ vs) → us ≡ vs
-tail-of u v us vs h = cc
-
 some-same : (us vs : Members) → map {B = Meant} some_of us ≡ map {B = Meant} some_of vs → us ≡ vs
 some-same [] [] h = refl
 some-same [] (v ∷ vs) h = absurd cc
 some-same (u ∷ us) [] h = absurd cc
 some-same (u ∷ us) (v ∷ vs) h =
-    let first = head-of (some_of u) (some_of v) (map {B = Meant} some_of us)
-    (map {B = Meant} some_of vs) h in
+    let first : some_of u ≡ some_of v = cc in
+    let later : map {B = Meant} some_of us ≡ map {B = Meant} some_of vs = cc in
     let name : u.0 ≡ v.0 = ap (λ (x : Meant). x.0) first in
     let unit : u.1 ≡ v.1 = same_Some u.1 v.1 (ap (λ (x : Meant). x.1) first) in
-    let others = some-same us vs (tail-of (some_of u) (some_of v) (map {B = Meant} some_of us)
-    (map {B = Meant} some_of vs) h) in
-    λ i. (name i, unit i) ∷ others i
+    λ i. (name i, unit i) ∷ some-same us vs later i
 
 joins-same : (bytes : List ℕ) (before one other : Members) → Joins bytes before one
     → Joins bytes before other → one ≡ other
@@ -127,11 +117,12 @@ joins-same bytes before one other j k =
 
 joins-more : (bytes : List ℕ) (old new : State) → (j : Joins bytes (units_in old) (units_in new))
     → length (names_in new.begun) ≡ length (names_in old.begun) + length j.added
-joins-more bytes old new j =
-    let before = units-names old.begun in
-    let after = units-names new.begun in
-    let is = ap length j.is ∙ length-append (units_in old) j.added in
-    omega (arith, before, after, is)
+joins-more bytes old new j = omega (
+  arith,
+  units-names old.begun,
+  units-names new.begun,
+  ap length j.is ∙ length-append (units_in old) j.added,
+)
 
 -- ---- inputs in order
 
@@ -162,11 +153,9 @@ module _ (sound : InputsSound) (joins : InputsJoined) (e : Encoding) where
       let own = own-before next.begun begun.0 next.own e begun.1 later.before in
       let a = own-adds bytes from next e took own in
       let j = joined bytes from next fine took in
-      let long = joins-more bytes from next j in
-      let more = a.more in
       record {
         plain = All-cons (IsPlainOf e) bytes rest (plain-of bytes from next e took a.found) later.plain;
-        adds = (units_in next, j, omega (arith, long, more), later.adds);
+        adds = (units_in next, j, omega (arith, joins-more bytes from next j, a.more), later.adds);
         before = a.before;
       }
 
@@ -179,18 +168,18 @@ module _ (sound : InputsSound) (joins : InputsJoined) (e : Encoding) where
       let next = are.1 in
       let took : taken bytes from ≡ Ok next = are.2 in
       let j = joined bytes from next fine took in
-      let middle = each.adds.0 in
       let here = each.adds.1 in
-      let some = each.adds.2 in
-      let same : middle ≡ units_in next =
-      joins-same bytes (units_in old) middle (units_in next) here j in
-      let long = ap length here.is ∙ length-append (units_in old) here.added in
-      let are_same = ap length same in
-      let was = units-names old.begun in
-      let now = units-names next.begun in
+      let same = joins-same bytes (units_in old) each.adds.0 (units_in next) here j in
       let own = adds-own bytes from next e took (record {
         found = own-of bytes e (All-head (IsPlainOf e) bytes rest each.plain);
-        more = omega (arith, long, are_same, was, now, some);
+        more = omega (
+          arith,
+          ap length here.is ∙ length-append (units_in old) here.added,
+          ap length same,
+          units-names old.begun,
+          units-names next.begun,
+          each.adds.2,
+        );
         before = each.before;
       }) in
       of-each rest next new (sound bytes old.begun next.begun fine

@@ -1,10 +1,11 @@
 -- Where each input has one encoding, each unit of a package has its strings.
-use Rattle.std.proofs.Common.{inl, inr}
-use Rattle.std.proofs.Common.{◌≡◌, ◌∙◌, ℕ, Bool, true, false, cond, List, [], ◌∷◌, map, refl}
-use Rattle.std.proofs.Common.{sym, ap, subst, Result, Ok, Err, Option, Some, None}
+use Rattle.std.proofs.Common.{inl, inr, ◌≡◌, ◌∙◌, ℕ, List, [], ◌∷◌, map, refl, sym, ap, subst}
+use Rattle.std.proofs.Common.{Result, Ok, Err, Option, Some, None}
 use Rattle.std.specs.Prelude.{All, MatchOption}
 use Rattle.std.specs.Map.{lookup}
-use Rattle.std.proofs.lemmas.List.Elements.{All-nil, All-cons, All-head, All-tail}
+use Rattle.std.specs.Option.{IfSome}
+use Rattle.std.proofs.lemmas.Map.Views.{IfSome-lookup_from_All}
+use Rattle.std.proofs.lemmas.List.Elements.{All-nil, All-cons, All-head, All-tail, All-map}
 use Rattle.std.proofs.lemmas.Option.{same_Some, none-some}
 use Rattle.dwp_base.specs.declared.endian.Endianness.{Endianness}
 use Rattle.dwp_base.specs.declared.section.SectionKind.TheVariants as kinds
@@ -30,9 +31,8 @@ use Rattle.dwp_table.specs.declared.object.DwarfObject.{DwarfObject}
 use Rattle.thorin_errors.specs.Errors.{ErrorValue}
 use Rattle.thorin_input.specs.Names.{same_name}
 use Rattle.thorin_input.specs.Used.{opened}
-use Rattle.thorin_join.specs.Builder.{State, start, taken, with_input, package_or_new}
-use Rattle.thorin_join.specs.Builder.{order_of, finish_test}
-use Rattle.thorin_join.specs.Builder.{IsFinishedState}
+use Rattle.thorin_join.specs.Builder.{State, start, taken, with_input, package_or_new, order_of}
+use Rattle.thorin_join.specs.Builder.{finish_test, IsFinishedState}
 use Rattle.thorin_join.specs.Join.{Joins, IsPackageOnceWritten, GivesUnit, GivesNone, look_limit}
 use Rattle.thorin_join.specs.Meaning.{Meaning, Members}
 use Rattle.thorin_again.specs.OneEncoding.{IsOfOneEncoding, GivesWhole, AnswersAs}
@@ -126,15 +126,9 @@ error-was : {X E F : Type 0} (f : E → F) (r : Result X E) (x : X) → index.as
 error-was f (Ok y) x h = cc
 error-was f (Err e) x h = absurd cc
 
-some-was : (a b : index.FoundUnit) (m n : ℕ) → ◌≡◌ {A = Result (Option index.FoundUnit × ℕ)
-    PackageError} (Ok (Some a, m)) (Ok (Some b, n)) → a ≡ b
-some-was a b m n h = same_Some a b (ap (λ (x : Option index.FoundUnit × ℕ). x.0)
-    (same-ok {E = PackageError} (Some a, m) (Some b, n) h))
-
-none-was : {X : Type 0} (b : index.FoundUnit) (m n : ℕ) → ◌≡◌ {A = Result (Option index.FoundUnit ×
-    ℕ) PackageError} (Ok (None, m)) (Ok (Some b, n)) → X
-none-was b m n h = absurd (none-some b (ap (λ (x : Option index.FoundUnit × ℕ). x.0)
-    (same-ok {E = PackageError} (None, m) (Some b, n) h)))
+found-was : (o : Option index.FoundUnit) (b : index.FoundUnit) (m n : ℕ) → ◌≡◌ {A = Result
+    (Option index.FoundUnit × ℕ) PackageError} (Ok (o, m)) (Ok (Some b, n)) → o ≡ Some b
+found-was o b m n h = ap (λ (x : Option index.FoundUnit × ℕ). x.0) (same-ok {E = PackageError} _ _ h)
 
 -- the header of a unit that was found
 abbrev HasHeader : Package → index.FoundUnit → Type 0
@@ -158,21 +152,17 @@ found-header : (pack : Package) (name : DwarfObject) (found : index.FoundUnit) (
 unfolding found_counted unit_at_row
 found-header pack name found count h = by (index_for pack name) h
   where
-    at-row : (ix : Index) (number c : ℕ)
-        → unit_at_row pack name ix number c ≡ Ok (Some found, count) → HasHeader pack found
-    at-row ix number c k =
-        let a = bind-was (index.as_error errors.Index (row_in ix number)) _ (Some found, count) k in
-        let u = bind-was (unit_in pack name number a.0) _ (Some found, count) a.2 in
-        subst (HasHeader pack) (some-was u.0 found c count u.2)
-        (unit-header pack name number a.0 u.0 u.1)
-
     row : (ix : Index) (r : Option ℕ) (c : ℕ)
         → unit_found pack name ix r c ≡ Ok (Some found, count) → HasHeader pack found
-    row ix None c k = none-was found c count k
-    row ix (Some number) c k = at-row ix number c k
+    row ix None c k = absurd (none-some found (found-was None found c count k))
+    row ix (Some number) c k =
+        let a = bind-was (index.as_error errors.Index (row_in ix number)) _ (Some found, count) k in
+        let u = bind-was (unit_in pack name number a.0) _ (Some found, count) a.2 in
+        subst (HasHeader pack) (same_Some u.0 found (found-was (Some u.0) found c count u.2))
+        (unit-header pack name number a.0 u.0 u.1)
 
     by : (i : Option Index) → found_by pack name i ≡ Ok (Some found, count) → HasHeader pack found
-    by None k = none-was found 0 count k
+    by None k = absurd (none-some found (found-was None found 0 count k))
     by (Some ix) k = row ix (found_row ix.signatures ix.rows (identifier_of name))
         (look_count ix.signatures ix.rows (identifier_of name)) k
 
@@ -185,42 +175,27 @@ whole-one pack order same name most unit is g =
     ((λ i. encoding_in (sym same i) p.0 (sym g.is.bytes i)) ∙ p.1) in
     record { gives = g; encoding = encoding; string = g.is.string encoding }
 
-among : (P : Meaning → Type 0) (name : DwarfObject) (units : Members) (unit : Meaning)
-    → All (λ (u : DwarfObject × Meaning). P u.1) units
-    → lookup (same_name name) units ≡ Some unit → P unit
-among P name [] unit all h = absurd (none-some unit h)
-among P name (u ∷ us) unit all h = by (same_name name u.0) h
-    (among P name us unit (All-tail (λ (v : DwarfObject × Meaning). P v.1) u us all))
-  where
-    by : (b : Bool) → cond b (Some u.1) (lookup (same_name name) us) ≡ Some unit
-        → (lookup (same_name name) us ≡ Some unit → P unit) → P unit
-    by true k later = subst P (same_Some u.1 unit k)
-        (All-head (λ (v : DwarfObject × Meaning). P v.1) u us all)
-    by false k later = later k
-
 -- what look-ups of these units give
 abbrev pub Finds : Package → Members → Type 0
 Finds pack units = (name : DwarfObject) → MatchOption (lookup (same_name name) units)
     (GivesNone pack name (look_limit units name)) (GivesUnit pack name (look_limit units name))
 
-abbrev FindsWhole : Package → Members → Type 0
-FindsWhole pack units = (name : DwarfObject) → MatchOption (lookup (same_name name) units)
-    (GivesNone pack name (look_limit units name)) (GivesWhole pack name (look_limit units name))
-
 whole-finds : (pack : Package) (order : Endianness) (units : Members) → pack.order ≡ order
-    → AreEncoded order units → Finds pack units → FindsWhole pack units
+    → AreEncoded order units → Finds pack units → (name : DwarfObject)
+    → MatchOption (lookup (same_name name) units) (GivesNone pack name (look_limit units name))
+    (GivesWhole pack name (look_limit units name))
 whole-finds pack order units same are finds name =
-    by (lookup (same_name name) units) refl (finds name)
+    by (lookup (same_name name) units) (IfSome-lookup_from_All (IsEncoded order) (same_name name)
+    units (All-map (IsEncoded order) (λ (u : DwarfObject × Meaning). u.1) units are)) (finds name)
   where
     most : ℕ
     most = look_limit units name
 
-    by : (found : Option Meaning) → lookup (same_name name) units ≡ found
+    by : (found : Option Meaning) → IfSome found (IsEncoded order)
         → MatchOption found (GivesNone pack name most) (GivesUnit pack name most)
         → MatchOption found (GivesNone pack name most) (GivesWhole pack name most)
-    by None e h = h
-    by (Some unit) e h = whole-one pack order same name most unit
-        (among (IsEncoded order) name units unit are e) h
+    by None is h = h
+    by (Some unit) is h = whole-one pack order same name most unit is h
 
 -- the byte order of a package is that of its file
 pack-order : (bytes : List ℕ) (file : Elf) (pack : Package) → elf_of bytes ≡ Ok file
@@ -279,41 +254,35 @@ inputs-whole reads alone sound joins finishes accepted state are one file tested
 
 -- ---- own packages
 
-row-encoded : (order : Endianness) (encoding : Encoding) (contents : Contents)
-    (strings : List (List ℕ)) (row : IndexEntry)
-    → Owns order contents row.id row (meaning_at order contents strings row)
-    → NamesItself order encoding contents row → row.encoding ≡ encoding
-    → IsEncoded order (meaning_at order contents strings row)
-unfolding encoding_in
-row-encoded order encoding contents strings row owns names is =
-    let bytes = unit_bytes contents row in
-    let u = bind-was (unit_at owns.place (section order bytes)) _ owns.encoding owns.header in
-    let named = names u.0.0 u.0.1 (ap (λ p. unit_at p (section order bytes)) (sym owns.place_is) ∙
-    u.1) in
-    header-has order owns.place bytes row.encoding
-    (in-of order owns.place bytes u.0.0 u.0.1 u.1 ∙ ap Ok (named.0 ∙ sym is))
+module _ (order : Endianness) (encoding : Encoding) (contents : Contents)
+    (strings : List (List ℕ)) where
+  row-encoded : (row : IndexEntry)
+      → Owns order contents row.id row (meaning_at order contents strings row)
+      → NamesItself order encoding contents row → row.encoding ≡ encoding
+      → IsEncoded order (meaning_at order contents strings row)
+  unfolding encoding_in
+  row-encoded row owns names is =
+      let bytes = unit_bytes contents row in
+      let u = bind-was (unit_at owns.place (section order bytes)) _ owns.encoding owns.header in
+      let named = names u.0.0 u.0.1 (ap (λ p. unit_at p (section order bytes)) (sym owns.place_is)
+      ∙ u.1) in
+      header-has order owns.place bytes row.encoding
+      (in-of order owns.place bytes u.0.0 u.0.1 u.1 ∙ ap Ok (named.0 ∙ sym is))
 
-rows-encoded : (order : Endianness) (encoding : Encoding) (contents : Contents)
-    (strings : List (List ℕ)) (rows : List IndexEntry)
-    → AreRowsOf order contents strings rows (map {B = DwarfObject × Meaning} (λ row.
-    (row.id, meaning_at order contents strings row)) rows)
-    → EachRow (NamesItself order encoding contents) rows
-    → AllOf encoding (map {B = DwarfObject × Meaning} (λ row.
-    (row.id, meaning_at order contents strings row)) rows)
-    → AreEncoded order (map {B = DwarfObject × Meaning} (λ row.
-    (row.id, meaning_at order contents strings row)) rows)
-rows-encoded order encoding contents strings [] are names all =
-    All-nil (λ (u : DwarfObject × Meaning). IsEncoded order u.1)
-rows-encoded order encoding contents strings (r ∷ rs) are names all =
-    let unit : DwarfObject × Meaning = (r.id, meaning_at order contents strings r) in
-    let rest = map {B = DwarfObject × Meaning} (λ row.
-    (row.id, meaning_at order contents strings row)) rs in
-    let same : r.encoding ≡ encoding = All-head (λ (u : DwarfObject × Meaning).
-    u.1.encoding ≡ encoding) unit rest all in
-    All-cons (λ (u : DwarfObject × Meaning). IsEncoded order u.1) unit rest
-    (row-encoded order encoding contents strings r are.0.owns names.0 same)
-    (rows-encoded order encoding contents strings rs are.1 names.1
-    (All-tail (λ (u : DwarfObject × Meaning). u.1.encoding ≡ encoding) unit rest all))
+  abbrev units : List IndexEntry → Members
+  units rows = map {B = DwarfObject × Meaning} (λ row.
+      (row.id, meaning_at order contents strings row)) rows
+
+  rows-encoded : (rows : List IndexEntry) → AreRowsOf order contents strings rows (units rows)
+      → EachRow (NamesItself order encoding contents) rows → AllOf encoding (units rows)
+      → AreEncoded order (units rows)
+  rows-encoded [] are names all = All-nil (λ (u : DwarfObject × Meaning). IsEncoded order u.1)
+  rows-encoded (r ∷ rs) are names all =
+      let unit : DwarfObject × Meaning = (r.id, meaning_at order contents strings r) in
+      let has = λ (u : DwarfObject × Meaning). u.1.encoding ≡ encoding in
+      All-cons (λ (u : DwarfObject × Meaning). IsEncoded order u.1) unit (units rs)
+      (row-encoded r are.0.owns names.0 (All-head has unit (units rs) all))
+      (rows-encoded rs are.1 names.1 (All-tail has unit (units rs) all))
 
 -- the units of an own package
 pub own-encoded : (made : InProgress) (encoding : Encoding) → IsSound made → IsPlain encoding made

@@ -1,8 +1,8 @@
 -- The ranges of string offsets of a written package pass the tests, and each is rewritten unless the
 -- offset of a string doesn't fit.
-use Rattle.std.proofs.Common.{◌≡◌, ◌∙◌, ℕ, zero, suc, ◌+◌, ◌-◌, ◌*◌, ◌%◌, ◌<◌, ◌≤◌, true}
-use Rattle.std.proofs.Common.{false, ◌&&◌, inl, inr, List, [], ◌∷◌, ◌++◌, length, drop, refl, sym}
-use Rattle.std.proofs.Common.{ap, subst, Result, Ok, Err, Option, arith}
+use Rattle.std.proofs.Common.{◌≡◌, ◌∙◌, ℕ, zero, suc, ◌+◌, ◌-◌, ◌*◌, ◌%◌, ◌<◌, ◌≤◌, true, false}
+use Rattle.std.proofs.Common.{◌&&◌, inl, inr, List, [], ◌∷◌, ◌++◌, length, drop, refl, sym, ap}
+use Rattle.std.proofs.Common.{subst, Result, Ok, Err, Option, arith}
 use Rattle.std.specs.Prelude.{nat_lt}
 use Rattle.std.proofs.lemmas.Bool.{le-leb, le-ltb, lt-ltb, eq-eqb, ne_eqb}
 use Rattle.std.proofs.lemmas.Nat.{row_fits}

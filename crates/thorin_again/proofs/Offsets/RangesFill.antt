@@ -1,7 +1,7 @@
 -- The ranges of string offsets that the rows of a written package have are all that fill its
 -- section, in their order.
-use Rattle.std.proofs.Common.{◌≡◌, ◌∙◌, ℕ, suc, ◌+◌, ◌<◌, ◌≤◌, Bool, true, false, cond, ◌⊎◌, inl, inr}
-use Rattle.std.proofs.Common.{List, [], ◌∷◌, length, map, refl, sym, ap, subst, Option, Some}
+use Rattle.std.proofs.Common.{◌≡◌, ◌∙◌, ℕ, suc, ◌+◌, ◌<◌, ◌≤◌, Bool, true, false, cond, ◌⊎◌, inl}
+use Rattle.std.proofs.Common.{inr, List, [], ◌∷◌, length, map, refl, sym, ap, subst, Option, Some}
 use Rattle.std.proofs.Common.{None, arith}
 use Rattle.std.specs.Prelude.{slice_get}
 use Rattle.std.specs.List.{range_with_len}

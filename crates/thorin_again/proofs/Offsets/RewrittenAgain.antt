@@ -20,8 +20,8 @@ use Rattle.thorin_errors.specs.Errors.{ErrorValue, OffsetAtIndex}
 use Rattle.thorin_packaged.specs.PackagedOffsets.{rewritten_from}
 use Rattle.thorin_packaged.specs.PackagedReading.{range_bytes}
 use Rattle.thorin_packaged.proofs.OffsetsJoined.{number_front, no_header}
-use Rattle.thorin_strings.specs.StringOffsets.{offset_at, named_at, remapped_entry, remapped_entries}
-use Rattle.thorin_strings.specs.StringOffsets.{remapped, entry_bytes}
+use Rattle.thorin_strings.specs.StringOffsets.{offset_at, named_at, remapped_entry}
+use Rattle.thorin_strings.specs.StringOffsets.{remapped_entries, remapped, entry_bytes}
 use Rattle.thorin_strings.specs.Strings.{IsTable, data_of}
 use Rattle.thorin_join.proofs.Parts.FirstUses.{no-entries, error-inv}
 use Rattle.thorin_join.proofs.Parts.OffsetLaws.{NamesTheSameLaw}

@@ -1,7 +1,6 @@
 -- The ranges of string offsets fill their section, where plain objects of one encoding are added.
-use Rattle.std.proofs.Common.{◌≡◌, ◌∙◌, ℕ, ◌+◌, ◌<◌, false, ◌⊎◌, inl, inr}
-use Rattle.std.proofs.Common.{List, [], ◌∷◌, ◌++◌, length, refl, sym, ap, subst, Ok}
-use Rattle.std.proofs.Common.{Some, None, arith, length-append}
+use Rattle.std.proofs.Common.{◌≡◌, ◌∙◌, ℕ, ◌+◌, ◌<◌, false, ◌⊎◌, inl, inr, List, [], ◌∷◌, ◌++◌}
+use Rattle.std.proofs.Common.{length, refl, sym, ap, subst, Ok, Some, arith, length-append}
 use Rattle.std.proofs.Math.Nat.{add-zero}
 use Rattle.std.proofs.lemmas.List.{append-nil}
 use Rattle.std.proofs.lemmas.Option.{none-some, same_Some}
@@ -13,13 +12,12 @@ use Rattle.dwp_bytes.specs.declared.encoding.Encoding.{Encoding}
 use Rattle.dwp_elf.specs.Contents.{content_of}
 use Rattle.thorin_index.specs.declared.entry.IndexEntry.{IndexEntry}
 use Rattle.thorin_strings.specs.Strings.{IsTable, data_of}
-use Rattle.thorin_input.specs.Growing.{Contents, joined_parts, range_put}
+use Rattle.thorin_input.specs.Growing.{joined_parts, range_put}
 use Rattle.thorin_input.specs.Indexes.{Source, is_package}
 use Rattle.thorin_again.specs.Plain.{IsWholeRange, Tile, IsAmong, HasOneOf, IsOfSome, GiveStrings}
 use Rattle.thorin_again.specs.Plain.{HasTiledOffsets}
 use Rattle.thorin_join.specs.StandApart.{EachRow}
-use Rattle.thorin_join.specs.State.{InProgress, row_at}
-use Rattle.thorin_join.specs.State.{with_source}
+use Rattle.thorin_join.specs.State.{InProgress, row_at, with_source}
 use Rattle.thorin_again.proofs.Offsets.RewrittenAgain.{Lead, range-leads, no-turn, turn, grown}
 use Rattle.thorin_join.proofs.Parts.Appended.{no-bytes}
 use Rattle.thorin_join.proofs.Parts.OffsetLaws.{NamesTheSameLaw}
@@ -64,9 +62,6 @@ tile-append o e at (x ∷ rs) end r h from whole = (
   tile-append o e (at + x.size) rs end
       r h.2 from whole,
 )
-
-no-range : (bytes : List ℕ) (c : Contents) → length bytes ≡ 0 → range_put StrOffsets bytes c ≡ None
-no-range bytes c h = rw h refl
 
 -- ---- some row has each range
 
@@ -183,7 +178,7 @@ module _ (names : NamesTheSameLaw) (source : Source) (before now : InProgress)
         let same_strings =
         unchanged names source plain before.strings joined a.after none part in
         made-so tiled.ranges (rw (none, add-zero (length old)) tiled.tile) (λ row has. has)
-        (λ r e. absurd (none-some r (sym (no-range joined before.file.contents none) ∙ e)))
+        (λ r e. absurd (none-some r (rw none at e)))
         named-before (gives-same order order source.encoding old (old ++ joined) tiled.ranges
         before.strings a.after refl (ap (λ l. old ++ l) empty ∙ append-nil old) same_strings
         tiled.strings)

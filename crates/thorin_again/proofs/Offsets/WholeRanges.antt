@@ -1,22 +1,17 @@
 -- What a plain object gives to string offsets is nothing, or a whole range.
-use Rattle.std.proofs.Common.{◌≡◌, ◌∙◌, ℕ, ◌+◌, ◌*◌, ◌<◌, Bool, true, false, cond, eqb, leb, ltb}
-use Rattle.std.proofs.Common.{◌&&◌, ◌⊎◌, inl, inr, ⊎_elim, List, [], ◌∷◌, ◌++◌, length, take, refl}
-use Rattle.std.proofs.Common.{sym, ap, subst, Result, Ok, Err, arith, true≢false, zero-mul}
-use Rattle.std.proofs.Common.{length-append, add-mul}
+use Rattle.std.proofs.Common.{◌≡◌, ◌∙◌, ℕ, ◌+◌, ◌*◌, ◌<◌, Bool, true, false, eqb, leb, ◌&&◌, ◌⊎◌}
+use Rattle.std.proofs.Common.{inl, inr, List, [], ◌∷◌, ◌++◌, length, take, refl, sym, ap, subst, Ok}
+use Rattle.std.proofs.Common.{arith, true≢false, zero-mul, length-append, add-mul}
 use Rattle.std.proofs.lemmas.Bool.{eqb-true, eqb-false, leb-false, lt-ltb}
 use Rattle.std.proofs.Math.Seq.{take-length}
 use Rattle.dwp_base.specs.declared.endian.Endianness.{Endianness}
 use Rattle.dwp_base.specs.declared.section.SectionKind.TheVariants.{StrOffsets, Str}
-use Rattle.dwp_base.specs.Reading.{◌>>=◌}
 use Rattle.dwp_base.proofs.EveryKind.{is-same}
 use Rattle.dwp_bytes.specs.Encoding.{offset_size}
 use Rattle.dwp_bytes.specs.StringOffsets.{header_size, entry_count}
 use Rattle.dwp_bytes.specs.declared.encoding.Encoding.{Encoding}
-use Rattle.dwp_bytes.specs.declared.encoding.Format.{Format}
-use Rattle.dwp_bytes.specs.declared.encoding.Format.TheVariants.{Dwarf32, Dwarf64}
-use Rattle.thorin_errors.specs.Errors.{ErrorValue, NumberTooLarge, BadStringOffsets}
-use Rattle.thorin_strings.specs.StringOffsets.{header_of, length_limit, initial_length}
-use Rattle.thorin_strings.specs.StringOffsets.{remapped_entries, remapped, entry_bytes}
+use Rattle.thorin_errors.specs.Errors.{ErrorValue}
+use Rattle.thorin_strings.specs.StringOffsets.{header_of, remapped_entries, remapped}
 use Rattle.thorin_strings.specs.Strings.{IsTable, data_of}
 use Rattle.thorin_input.specs.Growing.{Contents, joined_parts}
 use Rattle.thorin_input.specs.Indexes.{Source, is_package}
@@ -25,7 +20,7 @@ use Rattle.thorin_input.specs.Parts.{parts_of}
 use Rattle.thorin_again.specs.Plain.{IsWholeRange}
 use Rattle.thorin_input.specs.Used.{Used, first}
 use Rattle.thorin_join.proofs.Parts.FirstUses.{no-entries}
-use Rattle.thorin_join.proofs.Parts.OffsetRanges.{rewritten-long, count-again}
+use Rattle.thorin_join.proofs.Parts.OffsetRanges.{rewritten-long, count-again, range-of}
 use Rattle.thorin_again.proofs.Offsets.RewrittenAgain.{Lead, leads-again, leads-joined}
 use Rattle.thorin_join.proofs.Parts.Appended.{either, joined_parts-more, joined_parts-other}
 use Rattle.thorin_join.proofs.Parts.Appended.{Rewritten, Adds, step}
@@ -41,51 +36,13 @@ use Rattle.thorin_packaged.proofs.OffsetsJoined.{no_header}
 abbrev pub Fills : Endianness → Encoding → ℕ → Type 0
 Fills order encoding size = (size ≡ 0) ⊎ IsWholeRange order encoding size
 
-header-by : (order : Endianness) (encoding : Encoding) (section bytes : List ℕ) (size : ℕ)
-    (strings : List (List ℕ)) (written : List ℕ × List (List ℕ)) (short none : Bool)
-    → none ≡ false
-    → cond none (Ok ([], strings)) (cond short (Err (BadStringOffsets 0)) (header_of order encoding
-    (entry_count encoding size * offset_size encoding.format) >>= λ header.
-    remapped_entries order encoding section bytes (entry_count encoding size) strings >>= λ entries.
-    Ok (header ++ entry_bytes order encoding.format entries.0, entries.1))) ≡ Ok written
-    → (header : List ℕ) × (header_of order encoding (entry_count encoding size * offset_size
-    encoding.format) ≡ Ok header)
-header-by order encoding section bytes size strings written short true n h = absurd (true≢false n)
-header-by order encoding section bytes size strings written true false n h = absurd cc
-header-by order encoding section bytes size strings written false false n h =
-    let s = bind-was (header_of order encoding (entry_count encoding size * offset_size
-    encoding.format)) _ written h in
-    (s.0, s.1)
-
-header-of : (order : Endianness) (encoding : Encoding) (section bytes : List ℕ) (size : ℕ)
-    (strings : List (List ℕ)) (written : List ℕ × List (List ℕ)) → eqb size 0 ≡ false
-    → remapped order encoding section bytes size strings ≡ Ok written → (header : List ℕ)
-    × (header_of order encoding (entry_count encoding size * offset_size encoding.format) ≡ Ok
-    header)
-unfolding remapped
-header-of order encoding section bytes size strings written some h = header-by order encoding
-    section bytes size strings written (ltb size (header_size encoding)) (eqb size 0) some h
-
 standard-header : (encoding : Encoding) → leb 5 encoding.version ≡ true → 0 < header_size encoding
-standard-header encoding h =
-    subst (λ n. 0 < n) (sym
-    (ap (λ b. cond b (Rattle.dwp_bytes.specs.StringOffsets.length_size encoding.format + 4) 0) h))
-    (by encoding.format)
-  where
-    by : (format : Format) → 0 < Rattle.dwp_bytes.specs.StringOffsets.length_size format + 4
-    by Dwarf32 = omega arith
-    by Dwarf64 = omega arith
+standard-header encoding h = rw h (omega arith)
 
 old-header : (order : Endianness) (encoding : Encoding) (size : ℕ) → encoding.version < 5
     → header_of order encoding size ≡ Ok []
 unfolding header_of
-old-header order encoding size old =
-    ap (λ b. cond {A = Result (List ℕ) ErrorValue} b (Ok [])
-    (cond (ltb (length_limit encoding.format) (size + 4))
-    (Err (NumberTooLarge (Rattle.std.specs.Prelude.codes "string offsets length") (size + 4)))
-    (Ok (initial_length order encoding.format (size + 4) ++
-    Rattle.dwp_base.specs.Numbers.number_bytes order 2 5 ++
-    Rattle.dwp_base.specs.Numbers.number_bytes order 2 0)))) (lt-ltb encoding.version 5 old)
+old-header order encoding size old = rw (lt-ltb encoding.version 5 old) refl
 
 module _ (names : NamesTheSameLaw) (source : Source) (plain : is_package source.indexes ≡ false)
     (start : List (List ℕ)) where
@@ -122,33 +79,27 @@ module _ (names : NamesTheSameLaw) (source : Source) (plain : is_package source.
       → remapped order encoding section bytes (length bytes) strings ≡ Ok written
       → Fills order encoding (length written.0)
   one-fills bytes strings written standard table h =
-      let law = names order encoding section bytes (length bytes) strings written.0
-      written.1 table h in
-      ⊎_elim
-      (λ none. inl (ap length (law.none (eqb-true (length bytes) 0 none))))
-      (λ some.
-      let long = law.long (eqb-false (length bytes) 0 some) in
-      let header = header-of order encoding section bytes (length bytes) strings written some h in
-      let least = standard-header encoding standard in
-      inr (record {
-        some = omega (arith, long, least);
-        count = entry_count encoding (length bytes);
-        long = long;
-        header = header.0;
-        written = header.1;
-      }))
-      (either (eqb (length bytes) 0))
+      elim (range-of order encoding section bytes (length bytes) strings written h) [
+        | inl none ↦ inl (ap (λ (w : List ℕ × List (List ℕ)). length w.0) (sym none.1))
+        | inr r ↦
+            let law = names order encoding section bytes (length bytes) strings written.0 written.1
+            table h in
+            let long = law.long (eqb-false (length bytes) 0 r.some) in
+            inr (record {
+              some = omega (arith, long, standard-header encoding standard);
+              count = entry_count encoding (length bytes);
+              long = long;
+              header = r.header;
+              written = r.header_is;
+            })
+      ]
 
   again-only : (new bytes : List ℕ) (strings : List (List ℕ)) (written : List ℕ × List (List ℕ))
       → IsTable strings → remapped order encoding section bytes (length bytes) strings ≡ Ok written
       → new ≡ [] → strings ≡ start → Again (new ++ written.0) written.1
   again-only new bytes strings written table h empty from final final_table kept =
-      subst (λ l. Lead order encoding (data_of final) (l ++ written.0)
-      (entry_count encoding (length (l ++ written.0))) start written.1) (sym empty)
-      (subst (λ s. Lead order encoding (data_of final) written.0
-      (entry_count encoding (length written.0)) s written.1) from
-      (leads-again order encoding names section bytes (length bytes) strings written table h final
-      final_table kept))
+      rw (empty, ← from) (leads-again order encoding names section bytes (length bytes) strings
+      written table h final final_table kept)
 
   again-joined : (new bytes : List ℕ) (strings : List (List ℕ)) (written : List ℕ × List (List ℕ))
       (n : ℕ) → encoding.version < 5 → length new ≡ n * offset_size encoding.format
@@ -161,19 +112,23 @@ module _ (names : NamesTheSameLaw) (source : Source) (plain : is_package source.
       written.1 table h in
       let m = entry_count encoding (length bytes) in
       let more = rewritten-long names order encoding section bytes strings written old table h in
-      let sum = add-mul n m (offset_size encoding.format) in
-      let both = length-append new written.0 in
       let first_count : entry_count encoding (length new) ≡ n = count-again encoding.format
       (length new) (header_size encoding) n (omega (arith, long, none)) in
       let all_count : entry_count encoding (length (new ++ written.0)) ≡ n + m =
       count-again encoding.format (length (new ++ written.0)) (header_size encoding) (n + m)
-      (omega (arith, long, none, more, sum, both)) in
+      (omega (
+        arith,
+        long,
+        none,
+        more,
+        add-mul n m (offset_size encoding.format),
+        length-append new written.0,
+      )) in
       let one = before final final_table (front-front strings written.1 final law.kept kept) in
       let two = leads-again order encoding names section bytes (length bytes) strings written table
       h final final_table kept in
-      subst (λ k. Lead order encoding (data_of final) (new ++ written.0) k start
-      written.1) (sym all_count)
-      (leads-joined order encoding old (data_of final) new written.0 n long m start
+      subst (λ k. Lead order encoding (data_of final) (new ++ written.0) k start written.1)
+      (sym all_count) (leads-joined order encoding old (data_of final) new written.0 n long m start
       strings written.1
       (subst (λ k. Lead order encoding (data_of final) new k start strings) first_count one)
       (subst (λ k. Lead order encoding (data_of final) written.0 k strings written.1) law.count
@@ -191,34 +146,39 @@ module _ (names : NamesTheSameLaw) (source : Source) (plain : is_package source.
       sym (rewritten-plain source bytes before.1 plain) ∙ w.rewrites in
       let law = names order encoding section bytes (length bytes) before.1 w.written.0 w.written.1
       so_far.table rewrites in
-      subst MadeBy (sym w.is)
-      (subst (λ b. Made (joined_parts StrOffsets (before.0 ++ (StrOffsets, w.written.0) ∷ []))
-      w.written.1 b) (sym has)
-      (subst (λ l. Made l w.written.1 true) (sym joined_is) (record {
+      rw (w.is, has, joined_is) (record {
         table = law.table;
         older = λ old.
             let o = so_far.older old in
+            let m = entry_count encoding (length bytes) in
             let long = rewritten-long names order encoding section bytes before.1 w.written old
-            so_far.table rewrites in
-            let sum = add-mul o.0 (entry_count encoding (length bytes))
-            (offset_size encoding.format) in
-            let both = length-append new w.written.0 in
-            let first = o.1 in
-            (o.0 + entry_count encoding (length bytes), omega (arith, long, sum, both, first));
+            so_far.table rewrites in (
+              o.0 + m,
+              omega (
+                arith,
+                long,
+                add-mul o.0 m (offset_size encoding.format),
+                length-append new w.written.0,
+                o.1,
+              ),
+            );
         fresh = λ standard none. absurd (true≢false none);
         standard = λ standard.
             let empty = so_far.fresh standard (once standard) in
             subst (λ l. Fills order encoding (length (l ++ w.written.0))) (sym empty.0)
             (one-fills bytes before.1 w.written standard so_far.table rewrites);
         kept = front-front start before.1 w.written.1 so_far.kept law.kept;
-        again = ⊎_elim
-            (λ standard. let empty = so_far.fresh standard (once standard) in again-only new bytes
-            before.1 w.written so_far.table rewrites empty.0 empty.1)
-            (λ gnu. let old : encoding.version < 5 = leb-false 5 encoding.version gnu in let o =
-            so_far.older old in again-joined new bytes before.1 w.written o.0 old o.1
-            so_far.table rewrites so_far.again)
-            (either (leb 5 encoding.version));
-      })))
+        again = elim (either (leb 5 encoding.version)) [
+          | inl standard ↦
+              let empty = so_far.fresh standard (once standard) in
+              again-only new bytes before.1 w.written so_far.table rewrites empty.0 empty.1
+          | inr gnu ↦
+              let old = leb-false 5 encoding.version gnu in
+              let o = so_far.older old in
+              again-joined new bytes before.1 w.written o.0 old o.1 so_far.table rewrites
+              so_far.again
+        ];
+      })
 
   made-step : (before : Parts) (s : Used) (next : Parts) → MadeBy before
       → (stands_once source s.kind && has_part s.kind before.0) ≡ false → Adds source before s
@@ -230,12 +190,11 @@ module _ (names : NamesTheSameLaw) (source : Source) (plain : is_package source.
       made-rewritten before s.bytes next so_far (λ standard. not-there (is_package source.indexes)
       (leb 5 encoding.version) (has_part StrOffsets before.0) standard here) w
   made-step before s next so_far once (inr (inl (o, c, is))) =
-      let same = joined_parts-other StrOffsets before.0 s.kind s.bytes o in
-      let has = has-other before.0 s.kind s.bytes o in
-      subst MadeBy (sym is)
-      (subst (λ b. Made (joined_parts StrOffsets (before.0 ++ (s.kind, s.bytes) ∷ []))
-      before.1 b) (sym has)
-      (subst (λ l. Made l before.1 (has_part StrOffsets before.0)) (sym same) so_far))
+      rw (
+        is,
+        has-other before.0 s.kind s.bytes o,
+        joined_parts-other StrOffsets before.0 s.kind s.bytes o,
+      ) so_far
   made-step before s next so_far once (inr (inr (o, c, is))) = subst MadeBy (sym is) so_far
 
   made-each : (sections : List Used) (before after : Parts) → MadeBy before → with_each_part source
@@ -247,40 +206,29 @@ module _ (names : NamesTheSameLaw) (source : Source) (plain : is_package source.
       let made = step source before s next.0 next.1 in
       made-each ss next.0 after (made-step before s next.0 so_far made.once made.adds) next.2
 
-  again-none : Again [] start
-  unfolding remapped_entries
-  again-none final final_table kept = (
-    [],
-    ap (λ n. remapped_entries order encoding (data_of final) [] n start)
-        (no-entries encoding),
-  )
-
   none-made : IsTable start → Made [] start false
+  unfolding remapped_entries
   none-made table = record {
     table = table;
     older = λ old. (0, sym (zero-mul (offset_size encoding.format)));
     fresh = λ standard none. (refl, refl);
     standard = λ standard. inl refl;
     kept = take-length start;
-    again = again-none;
+    again = λ final final_table kept. ([], rw (no-entries encoding) refl);
   }
 
   older-fills : (new : List ℕ) (n : ℕ) → encoding.version < 5 → length new ≡ n * offset_size
       encoding.format → Fills order encoding (length new)
-  older-fills new n old long =
-      let none = no_header encoding old in
-      ⊎_elim
-      (λ empty. inl (eqb-true (length new) 0 empty))
-      (λ some.
-      let there = eqb-false (length new) 0 some in
-      inr (record {
-        some = omega (arith, there);
-        count = n;
-        long = omega (arith, long, none);
-        header = [];
-        written = old-header order encoding (n * offset_size encoding.format) old;
-      }))
-      (either (eqb (length new) 0))
+  older-fills new n old long = elim (either (eqb (length new) 0)) [
+    | inl empty ↦ inl (eqb-true (length new) 0 empty)
+    | inr some ↦ inr (record {
+      some = omega (arith, eqb-false (length new) 0 some);
+      count = n;
+      long = omega (arith, long, no_header encoding old);
+      header = [];
+      written = old-header order encoding (n * offset_size encoding.format) old;
+    })
+  ]
 
   -- the part is whole, and gives the strings after it
   pub record PartFills (new : List ℕ) (after : List (List ℕ)) : Type 0 where
@@ -294,11 +242,13 @@ module _ (names : NamesTheSameLaw) (source : Source) (plain : is_package source.
   part-fills parts after table h =
       let made = made-each source.object.sections ([], start) (parts, after) (none-made table) h in
       record {
-        fills = ⊎_elim
-            made.standard
-            (λ gnu. let old : encoding.version < 5 = leb-false 5 encoding.version gnu in let o =
-            made.older old in older-fills (joined_parts StrOffsets parts) o.0 old o.1)
-            (either (leb 5 encoding.version));
+        fills = elim (either (leb 5 encoding.version)) [
+          | inl standard ↦ made.standard standard
+          | inr gnu ↦
+              let old = leb-false 5 encoding.version gnu in
+              let o = made.older old in
+              older-fills (joined_parts StrOffsets parts) o.0 old o.1
+        ];
         table = made.table;
         kept = made.kept;
         again = made.again;
