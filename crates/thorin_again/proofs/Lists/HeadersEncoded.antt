@@ -33,7 +33,7 @@ use Rattle.thorin_join.proofs.Steps.{err-ok}
 
 older-encoding : (p q : UnitSection) (format : Format) (version : ℕ) (whole i : Input)
     (u v : Header) → older_at p format version whole i ≡ Ok u
-    → older_at q format version whole i ≡ Ok v → u.source.encoding ≡ v.encoding
+    → older_at q format version whole i ≡ Ok v → u.encoding ≡ v.encoding
 unfolding older_at
 older-encoding p q format version whole i u v h k =
     let a = bind-was (offset_at format i) _ u h in
@@ -45,7 +45,7 @@ older-encoding p q format version whole i u v h k =
 
 header-encoding : (p q : UnitSection) (format : Format) (whole i : Input) (u v : Header)
     → header_at p format whole i ≡ Ok u → header_at q format whole i ≡ Ok v
-    → u.source.encoding ≡ v.encoding
+    → u.encoding ≡ v.encoding
 unfolding header_at
 header-encoding p q format whole i u v h k =
     let a = bind-was (number_at 2 i) _ u h in
