@@ -78,7 +78,10 @@ fn told(
     ensures ended_alone { result ≡ pos 11 → TellsOfEnd report.old report.new }
     ensures status { (result ≡ pos 0) ⊎ (result ≡ pos 11) }
 {
-    let SkeletonList { units, fault: error } = list;
+    let SkeletonList {
+        units,
+        fault: error,
+    } = list;
     write_names(&units, names);
     write_paths(text, paths);
     *count = units.len() as u64;

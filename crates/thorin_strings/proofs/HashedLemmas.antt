@@ -189,8 +189,11 @@ hashed_kept e new table is_new is_count indexed more = record {
 related_push : (R : ℕ → ℕ → Type 0) (xs ys : List ℕ) (x y : ℕ) → length ys ≡ length xs
     → AreRelated R xs ys → R x y → AreRelated R (xs ++ x ∷ []) (ys ++ y ∷ [])
 related_push R xs ys x y long related last = λ k less. ⊎_elim
-    (λ old. rw (get_or_append_left xs (x ∷ []) 0 k old, get_or_append_left ys (y ∷ []) 0 k
-    (omega (arith, long))) (related k old))
+    (λ old. rw (
+      get_or_append_left xs (x ∷ []) 0 k old,
+      get_or_append_left ys (y ∷ []) 0 k
+          (omega (arith, long)),
+    ) (related k old))
     (λ past.
     let end : length xs ≡ k = omega (arith, less, past, length-append xs (x ∷ [])) in
     rw (get_or_push xs x 0 k end, get_or_push ys y 0 k (long ∙ end)) last)

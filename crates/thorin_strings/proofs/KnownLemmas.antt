@@ -100,8 +100,12 @@ module _ (order : Endianness) (encoding : Encoding) (section bytes : List ℕ) (
   unfolding named_at remapped_entry fitting_offset
   entry_read named place old new entry h fits =
       let r = was_read section named place old new h in
-      rw (entry, r.read, le-ltb (offset_limit encoding.format) (offset_of old r.string)
-      (rw r.offset at fits)) (ap₂ (λ n l. Ok (n, l)) (sym r.offset) (sym r.strings))
+      rw (
+        entry,
+        r.read,
+        le-ltb (offset_limit encoding.format) (offset_of old r.string)
+            (rw r.offset at fits),
+      ) (ap₂ (λ n l. Ok (n, l)) (sym r.offset) (sym r.strings))
 
   pub entry_told : (place : ℕ) (old new : List (List ℕ)) (named : Option ℕ)
       → IfSome named (λ n. entry_at order encoding bytes index ≡ Ok n)
@@ -120,8 +124,12 @@ module _ (order : Endianness) (encoding : Encoding) (section bytes : List ℕ) (
   unfolding named_at remapped_entry fitting_offset
   entry_large named place old new entry h large =
       let r = was_read section named place old new h in
-      rw (entry, r.read, lt-ltb (offset_limit encoding.format) (offset_of old r.string)
-      (rw r.offset at large))
+      rw (
+        entry,
+        r.read,
+        lt-ltb (offset_limit encoding.format) (offset_of old r.string)
+            (rw r.offset at large),
+      )
       (ap (λ n. Err (NumberTooLarge (codes "string offset") n)) (sym r.offset))
 
   pub entry_unread : (named : ℕ) (old : List (List ℕ)) (error : ErrorValue)

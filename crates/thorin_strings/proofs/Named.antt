@@ -100,8 +100,12 @@ used ss s table free = cond_both (has ss s) ss (ss ++ s ∷ []) (λ l. IsUsed ss
     (λ h. record {
       table = record {
         distinct = all_pairs_push (λ s t. s ≢ t) ss s table.distinct (λ k d within same.
-            false≢true (sym h ∙ (has_Decides ss s).1 (k, within, get_or_default ss k s d within ∙
-            same)));
+            false≢true (sym h ∙ (has_Decides ss s).1 (
+              k,
+              within,
+              get_or_default ss k s d within ∙
+                  same,
+            )));
         zero_free = All-push IsZeroFree ss s table.zero_free free;
       };
       kept = take_at ss (s ∷ []) (length ss) refl;
@@ -121,6 +125,7 @@ stands_behind (t ∷ ss) s h = by (bytes_eq t s) refl h (stands_behind ss s)
   where
     long : length (terminated t) ≡ length t + 1
     long = length-append t (0 ∷ [])
+
     by : (b : Bool) → bytes_eq t s ≡ b → (b || has ss s) ≡ true
         → (has ss s ≡ true → StandsBehind ss s) → StandsBehind (t ∷ ss) s
     by true first h later =
