@@ -2,6 +2,7 @@
 use Rattle.std.proofs.Common.{◌≡◌, ◌∙◌, ℕ, zero, suc, ◌+◌, ◌-◌, ◌<◌, ◌≤◌, false, nat_eq, List, []}
 use Rattle.std.proofs.Common.{◌∷◌, ◌++◌, length, map, ap, sym, refl, subst, Result, Ok, Option}
 use Rattle.std.proofs.Common.{Some, arith, length-append, append_assoc}
+use Rattle.std.specs.List.{All}
 use Rattle.std.proofs.lemmas.Option.{none-some, same_Some}
 use Rattle.std.proofs.Math.Dec.{eqb-suc-zero}
 use Rattle.std.proofs.Math.Seq.{drop-append_seam, take-append_seam}
@@ -34,11 +35,6 @@ use Rattle.thorin_join.proofs.Moved.Units.{Moved, unit-moves}
 use Rattle.thorin_join.proofs.Units.HeadersRead.{Reads}
 use Rattle.thorin_again.proofs.Meant.UnitsBySection.{AreTested}
 use Rattle.dwp_base.proofs.Steps.{bind-was, same-ok}
-
--- what rows of one encoding mean
-abbrev pub Encoded : Source → (IndexEntry → Meaning) → List IndexEntry → Type 0
-Encoded source mean [] = Unit {0}
-Encoded source mean (r ∷ rs) = (source.encoding ≡ (mean r).encoding) × Encoded source mean rs
 
 -- rows as units, by their names
 abbrev pub with_names : (IndexEntry → Meaning) → List IndexEntry → List (DwarfObject × Meaning)
@@ -164,7 +160,7 @@ module _ (taken : UnitsAreTaken) (first_law : FirstLaw) (find_law : FindLaw) (so
       (n : ℕ) (us : Reads)
       → rows ≡ before ++ todo
       → AreRowsOf order contents strings todo (with_names mean todo)
-      → Encoded source mean todo
+      → All (λ unit. source.encoding ≡ unit.1.encoding) (with_names mean todo)
       → HaveOneRange todo
       → Below kind offset before
       → Lie order place offset (rows_at place todo) bytes
@@ -180,6 +176,9 @@ module _ (taken : UnitsAreTaken) (first_law : FirstLaw) (find_law : FindLaw) (so
       (sym (no-reads n place (plain order offset bytes) lie)) ∙ named))
   rows-again before (r ∷ rs) offset pre bytes n us split are encoded once below lie content at
       fuel named tested =
+      let now_encoded = encoded 0 (r.id, mean r) (omega arith) in
+      let others_encoded : All (λ unit. source.encoding ≡ unit.1.encoding) (with_names mean rs) =
+      λ k d within. encoded (suc k) d (omega (arith, within)) in
       let next : rows ≡ (before ++ r ∷ []) ++ rs = split ∙ sym (append_assoc before (r ∷ []) rs) in
       by-bool _ (is_at place r)
       (λ here.
@@ -203,17 +202,17 @@ module _ (taken : UnitsAreTaken) (first_law : FirstLaw) (find_law : FindLaw) (so
       let means = row-means-again first_law find_law source contents strings rows again before
       rs r split (mean r) are.0 place offset own below here head.range
       (part-middle pre own rest (content_of kind contents) offset now at)
-      h read.whole found.name encoded.0 (ap type_signature (sym read.moved.type) ∙ head.is.sort)
+      h read.whole found.name now_encoded (ap type_signature (sym read.moved.type) ∙ head.is.sort)
       found.named both.0 in
       let others = rows-again (before ++ r ∷ []) rs (offset + length own) (pre ++ own) rest m.0
-      found.others next are.1 encoded.1 once.1
+      found.others next are.1 others_encoded once.1
       (below-more kind offset (offset + length own) before r (omega arith) below read.below)
       l.1 (now ∙ sym (append_assoc pre own rest))
       (length-append pre own ∙ ap (λ k. k + length own) at)
       (omega (arith, read.long, m.1)) found.rest both.1 in
       rw here (ap units_meant found.are ∙ (λ i. (means.0 i, means.1 i) ∷ others i)))
       (λ other. rw other (rows-again (before ++ r ∷ []) rs offset pre bytes n us next are.1
-      encoded.1 once.1
+      others_encoded once.1
       (below-more kind offset offset before r (omega arith) below (λ c e.
       absurd (none-some c (sym (once.0 place other) ∙ e))))
       (rw other at lie) content at fuel named tested))
@@ -221,7 +220,7 @@ module _ (taken : UnitsAreTaken) (first_law : FirstLaw) (find_law : FindLaw) (so
   -- all of a section
   pub section-again : (us : Reads)
       → AreRowsOf order contents strings rows (with_names mean rows)
-      → Encoded source mean rows
+      → All (λ unit. source.encoding ≡ unit.1.encoding) (with_names mean rows)
       → HaveOneRange rows
       → Lie order place 0 (rows_at place rows) (content_of kind contents)
       → named_each source kind (units place (section order (content_of kind contents))) ≡ Ok us

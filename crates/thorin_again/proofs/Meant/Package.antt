@@ -1,6 +1,6 @@
 -- A finished package, taken as an input, means the units that were joined in it.
-use Rattle.std.proofs.Common.{◌≡◌, ◌∙◌, ℕ, suc, true, false, not, List, [], ◌∷◌, ◌++◌, map, ap, ap₂}
-use Rattle.std.proofs.Common.{sym, refl, subst, Ok, Option, arith}
+use Rattle.std.proofs.Common.{◌≡◌, ◌∙◌, true, false, not, List, [], ◌∷◌, ◌++◌, map, ap, ap₂, sym}
+use Rattle.std.proofs.Common.{refl, subst, Ok, Option, arith}
 use Rattle.std.specs.List.Sorted.{IsPermutation}
 use Rattle.std.proofs.lemmas.List.{map-append}
 use Rattle.std.proofs.lemmas.List.Sorted.{IsPermutation-refl, IsPermutation-trans}
@@ -18,8 +18,7 @@ use Rattle.dwp_elf_read.specs.Elf.{elf_of}
 use Rattle.dwp_index.specs.Package.{place_of}
 use Rattle.dwp_table.specs.declared.object.DwarfObject.{DwarfObject}
 use Rattle.thorin_index.specs.declared.entry.IndexEntry.{IndexEntry}
-use Rattle.thorin_again.specs.Again.{input_encoding, HaveEncodingOf, all_meant, MeansWhereTaken}
-use Rattle.thorin_again.specs.Again.{MeansOnceWritten}
+use Rattle.thorin_again.specs.Again.{HaveEncodingOf, all_meant, MeansWhereTaken, MeansOnceWritten}
 use Rattle.thorin_join.specs.Builder.{State, IdentifiersFit, IsFinished, IsFinishedState}
 use Rattle.thorin_join.specs.Builder.{finish_test, package_or_new, order_test, with_source_or_new}
 use Rattle.thorin_join.specs.Builder.{with_units, with_input, taken}
@@ -39,7 +38,7 @@ use Rattle.thorin_join.proofs.Files.Indexes.{IndexIsRead, IndexHasEntries}
 use Rattle.thorin_join.proofs.Units.JoinedByName.{units-joined}
 use Rattle.thorin_join.proofs.Rows.Stay.{keep-rows}
 use Rattle.thorin_again.proofs.Meant.RowPlaces.{FirstLaw, FindLaw, IsAgain}
-use Rattle.thorin_again.proofs.Meant.OneSection.{Encoded, with_names, section-again}
+use Rattle.thorin_again.proofs.Meant.OneSection.{with_names, section-again}
 use Rattle.thorin_again.proofs.Meant.UnitsBySection.{AreTested, Split, joined-tested}
 use Rattle.thorin_again.proofs.Meant.UnitsBySection.{sections-split}
 use Rattle.thorin_join.proofs.Files.Finished.{Tested, tested-state, finished-order, finished-grows}
@@ -127,16 +126,6 @@ encoding-none : (object : InputFile) (e : Encoding) → first kinds.Info object.
     → encoding_of object ≡ Ok e → ⊥
 unfolding encoding_of units units_within
 encoding-none object e none h = let no = rw none at h in absurd cc
-
--- rows whose units have the encoding of an input
-encoded-rows : (bytes : List ℕ) (source : Source) (mean : IndexEntry → Meaning)
-    → input_encoding bytes ≡ Ok source.encoding → (rows : List IndexEntry)
-    → HaveEncodingOf bytes (with_names mean rows) → Encoded source mean rows
-encoded-rows bytes source mean is [] h = tt
-encoded-rows bytes source mean is (r ∷ rs) h = (
-  same-ok _ _ (sym is ∙ h 0 (r.id, mean r) (omega arith)),
-  encoded-rows bytes source mean is rs (λ k d within. h (suc k) d (omega (arith, within))),
-)
 
 -- a written file that was taken as an input, and its units
 pub record Taken (file : File) : Type 0 where
@@ -233,8 +222,8 @@ module _ (reads : UnitsAreTaken) (first_law : FirstLaw) (find_law : FindLaw) (is
         (with_names mean (rows_at place made.rows))
     units-are place = section-again reads first_law find_law source file.contents made.strings
         made.rows mean again place (split.of place) (rows-again made file sound f)
-        (encoded-rows (file_text file) source mean (input-encoding file differ back
-        ∙ t.encoding_is) made.rows one)
+        (λ k d within. same-ok _ _ (sym t.encoding_is ∙ sym (input-encoding file differ back)
+        ∙ one k d within))
         sound.laid.once (lie-again made file sound.laid f place) (split.read place)
         (split.tested place)
 

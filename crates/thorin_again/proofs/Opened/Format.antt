@@ -69,7 +69,7 @@ column-of version kind at (r ∷ rs) have h used =
     let s2 = bind-was (each (encoding_test r.encoding) (r ∷ rs)) _ tt s1.2 in
     let s3 = bind-was (each (parts_test (format_test (index_version_of r.encoding.version)))
     (r ∷ rs)) _ tt s2.2 in
-    rw (← have.0) (column-in (index_version_of r.encoding.version) kind at (r ∷ rs) s3.1 used)
+    rw (← have 0 r (omega arith)) (column-in (index_version_of r.encoding.version) kind at (r ∷ rs) s3.1 used)
 
 column-at : (kind : SectionKind) → counts_once kind ≡ false
     → slice_get contribution_kinds (rank_of kind) ≡ Some kind

@@ -1,8 +1,13 @@
 -- The indexes of a written package are taken, where its rows have the version of the input.
-use Rattle.std.proofs.Common.{◌||◌, ◌≡◌, ◌∙◌, ℕ, suc, ◌<◌, ◌^◌, Bool, true, false, leb, List, []}
-use Rattle.std.proofs.Common.{◌∷◌, length, refl, sym, ap, Ok, Option, Some, None, arith}
+use Rattle.std.proofs.Common.{◌||◌, ◌≡◌, ◌∙◌, ℕ, ◌<◌, ◌^◌, Bool, true, false, leb, List, [], ◌∷◌}
+use Rattle.std.proofs.Common.{length, refl, sym, ap, Ok, Option, Some, None, arith}
 use Rattle.std.specs.Prelude.{slice_index, is_some}
-use Rattle.std.proofs.lemmas.Bool.{cond_both}
+use Rattle.std.proofs.lemmas.List.Elements.{All-filter}
+use Rattle.std.proofs.Math.ListN.{get_or-map}
+use Rattle.std.specs.List.{All}
+use Rattle.dwp_table.specs.declared.object.DwarfObject.{DwarfObject}
+use Rattle.thorin_join.specs.Meaning.{Meaning}
+use Rattle.thorin_join.specs.Represents.{meaning_at, IsSound, units_of}
 use Rattle.std.proofs.lemmas.List.{length-map}
 use Rattle.std.proofs.Math.Dec.{eqb-suc-zero}
 use Rattle.dwp_base.specs.declared.endian.Endianness.{Endianness}
@@ -25,13 +30,10 @@ use Rattle.thorin_index.specs.IndexText.{IsIndexOf, entry_ids, used_sections}
 use Rattle.thorin_index.specs.ReadBack.{index_with}
 use Rattle.thorin_join.specs.Builder.{State, IdentifiersFit, IsFinished, rows_of, is_chosen}
 use Rattle.thorin_join.specs.Builder.{order_of, same_order, order_test, with_units, with_input}
-use Rattle.thorin_input.specs.Growing.{Contents}
-use Rattle.thorin_join.specs.Meaning.{Members}
 use Rattle.thorin_input.specs.Indexes.{Indexes, is_package, index_in, version_test, indexes_of}
 use Rattle.thorin_input.specs.Names.{is_compilation}
 use Rattle.thorin_again.specs.OwnInput.{written_object, IsOwn, TakesUpToParts}
 use Rattle.thorin_again.specs.OwnUnits.{AllOf}
-use Rattle.thorin_join.specs.Represents.{IsSound, AreRowsOf, units_of}
 use Rattle.thorin_join.specs.State.{InProgress}
 use Rattle.thorin_input.specs.Used.{first}
 use Rattle.thorin_join.proofs.Files.Indexes.{IndexIsRead, IndexHasEntries, HasRows, chosen-fit}
@@ -44,8 +46,7 @@ use Rattle.thorin_join.proofs.Files.Finished.{finished-compilations, finished-ty
 
 -- rows come from inputs of this version
 abbrev pub HaveVersion : ℕ → List IndexEntry → Type 0
-HaveVersion version [] = Unit {0}
-HaveVersion version (row ∷ rows) = (row.encoding.version ≡ version) × HaveVersion version rows
+HaveVersion version rows = All (λ row. row.encoding.version ≡ version) rows
 
 -- ---- an index is read again
 
@@ -91,7 +92,7 @@ index-taken is_read order (row ∷ rows) bytes text tested fit =
     record {
       index = Some index;
       taken = λ kind. some-taken order kind bytes index read;
-      fits = λ encoding kind have. rw (have.0, compatible encoding.version) refl;
+      fits = λ encoding kind have. rw (have 0 row (omega arith), compatible encoding.version) refl;
       none = λ e. absurd cc;
       has = λ law distinct. (
         version,
@@ -104,24 +105,8 @@ index-taken is_read order (row ∷ rows) bytes text tested fit =
 
 pub version-chosen : (b : Bool) (version : ℕ) (rows : List IndexEntry) → HaveVersion version rows
     → HaveVersion version (rows_of b rows)
-version-chosen b version [] h = tt
-version-chosen b version (row ∷ rows) h =
-    cond_both (is_chosen b row) (row ∷ rows_of b rows) (rows_of b rows) (HaveVersion version)
-    (λ chosen. (h.0, version-chosen b version rows h.1))
-    (λ other. version-chosen b version rows h.1)
-
--- a row has the encoding of its unit
-pub rows-version : (order : Endianness) (c : Contents) (strings : List (List ℕ))
-    (rows : List IndexEntry) (units : Members) (encoding : Encoding)
-    → AreRowsOf order c strings rows units → AllOf encoding units
-    → HaveVersion encoding.version rows
-rows-version order c strings [] units encoding are all = tt
-rows-version order c strings (row ∷ rows) [] encoding are all = absurd are
-rows-version order c strings (row ∷ rows) (unit ∷ units) encoding are all = (
-  ap (λ (e : Encoding). e.version) (are.0.encoding ∙ all 0 unit (omega arith)),
-  rows-version order c strings rows units encoding are.1 (λ k d within.
-      all (suc k) d (omega (arith, within))),
-)
+version-chosen b version rows have =
+    All-filter (is_chosen b) (λ row. row.encoding.version ≡ version) rows have
 
 no-rows : (rows : List IndexEntry) → rows_of true rows ≡ [] → rows_of false rows ≡ [] → rows ≡ []
 no-rows [] h k = refl
@@ -198,14 +183,19 @@ own-made state encoding file own =
     let sound : IsSound made = rw begun at own.sound in
     let all : AllOf encoding (units_of made) = rw begun at own.all in
     let some : 0 < length (units_of made) = rw begun at own.some in
-    let long : length (units_of made) ≡ length made.rows = length-map made.rows _ in
+    let unit : IndexEntry → DwarfObject × Meaning = λ row. (
+      row.id,
+      meaning_at made.file.order made.file.contents made.strings row,
+    ) in
+    let long : length (units_of made) ≡ length made.rows = length-map made.rows unit in
     record {
       sound = sound;
       tests = tested-state state made begun own.tested;
       all = all;
       some = λ none. omega (arith, some, long, ap length none);
-      version = rows-version made.file.order made.file.contents made.strings made.rows
-          (units_of made) encoding sound.units.rows all;
+      version = λ k d within. ap (λ (e : Encoding). e.version)
+          (ap (λ (u : DwarfObject × Meaning). u.1.encoding) (sym (get_or-map unit made.rows k d))
+          ∙ all k (unit d) (omega (arith, within, long)));
     }
 
 same-itself : (order : Endianness) → same_order order order ≡ true
