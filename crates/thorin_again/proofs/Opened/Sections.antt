@@ -22,7 +22,7 @@ use Rattle.dwp_elf_read.specs.declared.kind.FileKind.{FileKind}
 use Rattle.dwp_elf_read.specs.declared.kind.FileKind.TheVariants.{Archive, Elf32, Elf64}
 use Rattle.dwp_index.specs.Contents as contents
 use Rattle.dwp_index.specs.Contents.{is_of_kind}
-use Rattle.thorin_errors.specs.Errors.{ParseFileKind, ParseObjectFile}
+use Rattle.thorin_errors.specs.Errors.{ParseObjectFile}
 use Rattle.thorin_errors.specs.Answers.{as_error}
 use Rattle.thorin_input.specs.Growing.{Contents}
 use Rattle.thorin_again.specs.OwnInput.{written_used, written_object}
@@ -47,17 +47,12 @@ in-kind Archive f x bytes file h e = absurd (err-ok NotElf x h)
 in-kind Elf32 f x bytes file h e = ap (as_error ParseObjectFile) e
 in-kind Elf64 f x bytes file h e = ap (as_error ParseObjectFile) e
 
-identity-is : (bytes : List ℕ) (file : Elf) → elf_of bytes ≡ Ok file → (i : _)
-    × (identity_of bytes ≡ Ok i)
-unfolding elf_of
-identity-is bytes file h = let s = bind-was (identity_of bytes) _ file h in (s.0, s.1)
-
 pub opened-elf : (bytes : List ℕ) (file : Elf) → elf_of bytes ≡ Ok file → opened bytes ≡ Ok file
-unfolding opened identity_of
+unfolding opened elf_of identity_of
 opened-elf bytes file h =
-    let i = identity-is bytes file h in
+    let i = bind-was (identity_of bytes) _ file h in
     let k = bind-was (kind_of bytes) _ i.0 i.1 in
-    ap (λ r. as_error ParseFileKind r >>= elf_in bytes) k.1 ∙ in-kind k.0 _ i.0 bytes file k.2 h
+    rw k.1 (in-kind k.0 _ i.0 bytes file k.2 h)
 
 -- ---- the sections of written contents
 
