@@ -23,7 +23,6 @@ use Rattle.thorin_index.specs.IndexText.{is_used}
 use Rattle.thorin_strings.specs.Strings.{data_of}
 use Rattle.thorin_join.specs.Builder.{State, IsFinished, IsFinishedState, finish_test, order_of}
 use Rattle.thorin_join.specs.Builder.{package_or_new, with_source_or_new, taken, start, begun_by}
-use Rattle.thorin_join.specs.Builder.{with_input}
 use Rattle.thorin_input.specs.Encodings.{one_encoding, file_encoding, own_encoding}
 use Rattle.thorin_input.specs.Indexes.{Indexes, indexes_of}
 use Rattle.thorin_input.specs.NewUnits.{new_units, unit_section}
@@ -61,6 +60,7 @@ use Rattle.thorin_again.specs.Again.{HaveEncodingOf, MeansOnceWritten}
 use Rattle.thorin_join.specs.Meaning.{Meaning, pieces_by, keys}
 use Rattle.thorin_input.specs.Names.{same_name}
 use Rattle.thorin_join.proofs.Units.NamesApart.{apart-none}
+use Rattle.thorin_again.proofs.Lists.PlainInputs.{InputsSound}
 use Rattle.thorin_again.proofs.Lists.StringsWhole.{own-encoded, alone-whole, FinishedLaw}
 use Rattle.thorin_again.proofs.Lists.HeadersEncoded.{AreEncoded}
 use Rattle.thorin_again.proofs.Accepted.Alone.{apart-distinct, taken-input, alone-units}
@@ -225,11 +225,7 @@ module _ (state : State) (file : File) (w : OwnWritten state file) where
 
 -- ---- by any package, and by a new one
 
--- the laws of inputs, of packing again, and of finished packages
-abbrev SoundLaw : Type 0
-SoundLaw = (bytes : List ℕ) (begun now : Option InProgress) → IsSoundBegun begun
-    → with_input bytes begun ≡ Ok now → IsSoundBegun now
-
+-- the law of packing again
 abbrev MeansLaw : Type 0
 MeansLaw = (state : State) (file : File) → IsSoundBegun state.begun → finish_test state ≡ Ok tt
     → IsFinishedState state file → MeansOnceWritten (units_in state) file
@@ -279,7 +275,7 @@ module _ (names : NamesTheSameLaw) (law : PackagedLaw) (reads : UnitsAreTaken)
       )))
 
   -- and has their units then
-  pub own-by-new : SoundLaw → InputsJoined → MeansLaw → FinishedLaw → (state : State) (file : File)
+  pub own-by-new : InputsSound → InputsJoined → MeansLaw → FinishedLaw → (state : State) (file : File)
       → IsSoundBegun state.begun → HoldsOwn state → HoldsPlain state → finish_test state ≡ Ok tt
       → IsFinishedState state file → IsAcceptedByNewOnceWritten state file
   own-by-new sounds joins means finishes state file sound holds holds_plain tested f packs differ back =

@@ -127,16 +127,6 @@ encoding-none : (object : InputFile) (e : Encoding) → first kinds.Info object.
 unfolding encoding_of units units_within
 encoding-none object e none h = let no = rw none at h in absurd cc
 
--- a written file that was taken as an input, and its units
-pub record Taken (file : File) : Type 0 where
-  pub encoding : Encoding
-  pub indexes : Indexes
-  pub all : Reads
-  pub encoding_is : encoding_of (written_object file) ≡ Ok encoding
-  pub indexes_are : indexes_of (written_object file) encoding ≡ Ok indexes
-  pub units_are : source_units (own_source file encoding indexes) ≡ Ok all
-  pub tested : AreTested (own_source file encoding indexes) all
-
 -- rows in the order of the sections
 types-rest : (place : UnitSection) → same_place places.Types place ≡ not
     (same_place places.Info place)
@@ -155,33 +145,6 @@ module _ (reads : UnitsAreTaken) (first_law : FirstLaw) (find_law : FindLaw) (is
   opens : opened (file_text file) ≡ Ok (written_elf file)
   opens = opened-elf (file_text file) (written_elf file) back
 
-  units-taken : (begun now : Option InProgress) → has_info (written_elf file) ≡ true
-      → with_input (file_text file) begun ≡ Ok now → Taken file
-  unfolding with_input with_units with_source_or_new with_source
-  units-taken begun now info h =
-      let object = written_object file in
-      let s1 = bind-was (encoding_of object) _ now
-      (rw (opens, info, object-written file differ) at h) in
-      let s2 = bind-was (order_test object.order begun) _ now s1.2 in
-      let s3 = bind-was (indexes_of object s1.0) _ now s2.2 in
-      let source = own_source file s1.0 s3.0 in
-      let before = package_or_new (written_elf file) begun in
-      let s4 = bind-was (with_source source before) _ now s3.2 in
-      let t1 = bind-was (parts_of source before.strings) _ s4.0 s4.1 in
-      let t2 = bind-was (abbreviations_test object) _ s4.0 t1.2 in
-      let t3 = bind-was (new_units (adding source before t1.0.0)) _ s4.0 t2.2 in
-      let j = units-joined (adding source before t1.0.0) t3.0 t3.1 in
-      record {
-        encoding = s1.0;
-        indexes = s3.0;
-        all = j.all;
-        encoding_is = s1.1;
-        indexes_are = s3.1;
-        units_are = j.is;
-        tested = joined-tested (adding source before t1.0.0)
-            (keys (adding source before t1.0.0).held) j.all t3.0.units j.defined j.are;
-      }
-
   -- without content of info nothing was joined
   no-units : (rows : List IndexEntry) → HaveEncodingOf (file_text file) (with_names mean rows)
       → content_of kinds.Info file.contents ≡ [] → rows ≡ []
@@ -190,44 +153,49 @@ module _ (reads : UnitsAreTaken) (first_law : FirstLaw) (find_law : FindLaw) (is
       (first-written kinds.Info file.contents differ ∙ none)
       (sym (input-encoding file differ back) ∙ h 0 (r.id, mean r) (omega arith)))
 
-  module _ (t : Taken file) where
+  -- what is read of it as an input
+  module _ (encoding : Encoding) (indexes : Indexes) (all : Reads)
+      (encoding_is : encoding_of (written_object file) ≡ Ok encoding)
+      (indexes_are : indexes_of (written_object file) encoding ≡ Ok indexes)
+      (units_are : source_units (own_source file encoding indexes) ≡ Ok all)
+      (tested : AreTested (own_source file encoding indexes) all) where
     abbrev source : Source
-    source = own_source file t.encoding t.indexes
+    source = own_source file encoding indexes
 
     abbrev units_meant : Reads → List (DwarfObject × Option Meaning)
     units_meant us = map {B = DwarfObject × Option Meaning} (meant source) us
 
     meaning-is : has_info (written_elf file) ≡ true
-        → input_meaning (file_text file) ≡ Ok (units_meant t.all)
+        → input_meaning (file_text file) ≡ Ok (units_meant all)
     unfolding input_meaning object_meaning source_meaning
-    meaning-is info = rw (opens, info, object-written file differ, t.encoding_is, t.indexes_are)
-        (rw t.units_are refl)
+    meaning-is info = rw (opens, info, object-written file differ, encoding_is, indexes_are)
+        (rw units_are refl)
 
     -- an input with units has rows
     some-rows : made.rows ≡ [] → ⊥
-    some-rows none = encoding-none (written_object file) t.encoding
+    some-rows none = encoding-none (written_object file) encoding
         (first-written kinds.Info file.contents differ
         ∙ subst (λ rows. Lie file.order places.Info 0 (rows_at places.Info rows)
         (content_of kinds.Info file.contents)) none (lie-again made file sound.laid f places.Info))
-        t.encoding_is
+        encoding_is
 
     again : IsAgain source file.contents made.strings made.rows
-    again = own-again is_read has_entries made file sound tests fits f differ t.encoding t.indexes
-        t.indexes_are some-rows
+    again = own-again is_read has_entries made file sound tests fits f differ encoding indexes
+        indexes_are some-rows
 
-    split : Split source file.contents t.all
-    split = sections-split source file.contents t.all differ t.units_are t.tested
+    split : Split source file.contents all
+    split = sections-split source file.contents all differ units_are tested
 
     units-are : (place : UnitSection) → units_meant (split.of place) ≡ all_meant
         (with_names mean (rows_at place made.rows))
     units-are place = section-again reads first_law find_law source file.contents made.strings
         made.rows mean again place (split.of place) (rows-again made file sound f)
-        (λ k d within. same-ok _ _ (sym t.encoding_is ∙ sym (input-encoding file differ back)
+        (λ k d within. same-ok _ _ (sym encoding_is ∙ sym (input-encoding file differ back)
         ∙ one k d within))
         sound.laid.once (lie-again made file sound.laid f place) (split.read place)
         (split.tested place)
 
-    rows-meant : IsPermutation (all_meant (units_of made)) (units_meant t.all)
+    rows-meant : IsPermutation (all_meant (units_of made)) (units_meant all)
     rows-meant =
         let infos = rows_at places.Info made.rows in
         let types = rows_at places.Types made.rows in
@@ -241,16 +209,37 @@ module _ (reads : UnitsAreTaken) (first_law : FirstLaw) (find_law : FindLaw) (is
         (split.of places.Info) (split.of places.Types)) in
         IsPermutation-trans _ _ _
         (IsPermutation-map _ _ _ (IsPermutation-map _ made.rows _ apart))
-        (rw joined (IsPermutation-map (meant source) _ t.all split.are))
+        (rw joined (IsPermutation-map (meant source) _ all split.are))
+
+  units-again : (begun now : Option InProgress) → has_info (written_elf file) ≡ true
+      → with_input (file_text file) begun ≡ Ok now → (units : List (DwarfObject × Option Meaning))
+      → input_meaning (file_text file) ≡ Ok units → IsPermutation (all_meant (units_of made)) units
+  unfolding with_input with_units with_source_or_new with_source
+  units-again begun now info h units meaning =
+      let object = written_object file in
+      let s1 = bind-was (encoding_of object) _ now
+      (rw (opens, info, object-written file differ) at h) in
+      let s2 = bind-was (order_test object.order begun) _ now s1.2 in
+      let s3 = bind-was (indexes_of object s1.0) _ now s2.2 in
+      let source = own_source file s1.0 s3.0 in
+      let before = package_or_new (written_elf file) begun in
+      let s4 = bind-was (with_source source before) _ now s3.2 in
+      let t1 = bind-was (parts_of source before.strings) _ s4.0 s4.1 in
+      let t2 = bind-was (abbreviations_test object) _ s4.0 t1.2 in
+      let t3 = bind-was (new_units (adding source before t1.0.0)) _ s4.0 t2.2 in
+      let j = units-joined (adding source before t1.0.0) t3.0 t3.1 in
+      let tested = joined-tested (adding source before t1.0.0)
+      (keys (adding source before t1.0.0).held) j.all t3.0.units j.defined j.are in
+      subst (IsPermutation (all_meant (units_of made)))
+      (same-ok _ _ (sym (meaning-is s1.0 s3.0 j.all s1.1 s3.1 j.is tested info) ∙ meaning))
+      (rows-meant s1.0 s3.0 j.all s1.1 s3.1 j.is tested)
 
   pub made-again : MeansWhereTaken (units_of made) (file_text file)
   unfolding taken input_meaning
   made-again before after took units meaning =
       let s = bind-was (with_input (file_text file) before.begun) _ after took in
       by-bool _ (has_info (written_elf file))
-      (λ info.
-      let t = units-taken before.begun s.0 info s.1 in
-      rw (same-ok _ _ (sym meaning ∙ meaning-is t info)) (rows-meant t))
+      (λ info. units-again before.begun s.0 info s.1 units meaning)
       (λ none.
       let no_units : units ≡ [] = same-ok _ _ (sym meaning ∙ rw (opens, none) refl) in
       rw (no_units, no-units made.rows one (no-info file none)) (IsPermutation-refl []))
