@@ -3,5 +3,3 @@ pub mod Unless
 pub mod Sections
 pub mod Parts
 pub mod Indexes
-pub mod Format
-pub mod FirstEncoding

@@ -41,8 +41,7 @@ use Rattle.thorin_input.specs.Used.{counts_once}
 use Rattle.thorin_join.proofs.Files.Indexes.{IndexIsRead, IndexHasEntries, SomeIndex, NoIndex}
 use Rattle.thorin_join.proofs.Joined.Input.{new-sound}
 use Rattle.thorin_again.proofs.Offsets.OfPackage.{finished-shared, own-offsets, own-offsets-alone}
-use Rattle.thorin_again.proofs.Opened.Format.{in-format, lie-used}
-use Rattle.thorin_again.proofs.Opened.Indexes.{up-to-parts, OwnMade, own-made}
+use Rattle.thorin_again.proofs.Opened.Indexes.{in-format, lie-used, up-to-parts, OwnMade, own-made}
 use Rattle.thorin_again.proofs.Opened.Sections.{present-written, info-written, object-written}
 use Rattle.thorin_again.proofs.Opened.Sections.{opened-elf}
 use Rattle.thorin_again.proofs.Taken.ByAnyPackage.{own-units}
@@ -50,7 +49,7 @@ use Rattle.thorin_join.proofs.Parts.OffsetLaws.{NamesTheSameLaw, PackagedLaw}
 use Rattle.thorin_again.proofs.Meant.RowPlaces.{FirstLaw, FindLaw}
 use Rattle.thorin_join.proofs.Files.Finished.{finished-own, finished-strings, finished-order}
 use Rattle.thorin_join.proofs.Units.HeadersRead.{kind-place}
-use Rattle.thorin_again.proofs.Opened.FirstEncoding.{EncodesItself, first-of, input-encoding}
+use Rattle.thorin_again.proofs.Meant.OneSection.{EncodesItself, first-of, input-encoding}
 use Rattle.thorin_again.proofs.Opened.Unless.{Unless, and-then, answered, unless-ok}
 use Rattle.thorin_again.proofs.Meant.Package.{lie-again}
 use Rattle.thorin_again.proofs.Opened.Parts.{own-parts-tried}

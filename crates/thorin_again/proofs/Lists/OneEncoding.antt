@@ -40,7 +40,7 @@ use Rattle.thorin_join.proofs.Units.HeadersRead.{ReadAlone}
 use Rattle.thorin_again.proofs.Kept.InfoThere.{info-there}
 use Rattle.thorin_again.proofs.Kept.OneEncoding.{InputsJoined, begun-now, MeantOf, source-encoding}
 use Rattle.thorin_again.proofs.Kept.OneEncoding.{joined-encoding, there-encoding}
-use Rattle.thorin_again.proofs.Opened.FirstEncoding.{EncodesItself, first-of}
+use Rattle.thorin_again.proofs.Meant.OneSection.{EncodesItself, first-of}
 use Rattle.thorin_again.proofs.Opened.Sections.{object-written, opened-elf}
 use Rattle.thorin_again.proofs.Lists.PlainInputs.{InputsSound}
 use Rattle.thorin_join.proofs.Files.Finished.{finished-own}

@@ -1,7 +1,8 @@
--- The units of a section of a written package are those of its rows, in their order.
-use Rattle.std.proofs.Common.{◌≡◌, ◌∙◌, ℕ, zero, suc, ◌+◌, ◌-◌, ◌<◌, ◌≤◌, false, nat_eq, List, []}
-use Rattle.std.proofs.Common.{◌∷◌, ◌++◌, length, map, ap, sym, refl, subst, Result, Ok, Option}
-use Rattle.std.proofs.Common.{Some, arith, length-append, append_assoc}
+-- The units of a section of a written package are those of its rows, in their order, and the first
+-- has their encoding.
+use Rattle.std.proofs.Common.{◌≡◌, ◌∙◌, ℕ, zero, suc, ◌+◌, ◌-◌, ◌<◌, ◌≤◌, List, [], ◌∷◌, ◌++◌}
+use Rattle.std.proofs.Common.{length, map, ap, sym, refl, subst, Result, Ok, Option, Some, arith}
+use Rattle.std.proofs.Common.{length-append, append_assoc}
 use Rattle.std.specs.List.{All}
 use Rattle.std.proofs.lemmas.Option.{none-some, same_Some}
 use Rattle.std.proofs.Math.Dec.{eqb-suc-zero}
@@ -14,27 +15,39 @@ use Rattle.dwp_bytes.specs.Input.{Input, section, after}
 use Rattle.dwp_bytes.specs.declared.error.ReadError.{ReadError}
 use Rattle.dwp_dwarf.specs.Units.{Unit as Header, UnitsAreTaken, unit_at, units_within, units}
 use Rattle.dwp_dwarf.specs.declared.unit.UnitSection.{UnitSection}
-use Rattle.dwp_elf.specs.Contents.{content_of}
-use Rattle.dwp_index.specs.Package.{part_of}
+use Rattle.dwp_elf.specs.Contents.{content_of, KindsDiffer}
+use Rattle.dwp_index.specs.Package.{part_of, place_of}
 use Rattle.dwp_table.specs.declared.object.DwarfObject.{DwarfObject}
 use Rattle.thorin_index.specs.Entries.{contribution_to}
 use Rattle.thorin_index.specs.declared.entry.IndexEntry.{IndexEntry}
 use Rattle.thorin_input.specs.Growing.{Contents}
 use Rattle.thorin_input.specs.Indexes.{Source}
 use Rattle.thorin_join.specs.Laid.{type_signature, Heads, Lie, HaveOneRange, is_at, rows_at}
-use Rattle.thorin_again.specs.Again.{all_meant}
+use Rattle.thorin_again.specs.Again.{all_meant, input_encoding}
 use Rattle.thorin_join.specs.Meaning.{Meaning, named_unit, named_each, meant}
 use Rattle.thorin_input.specs.NewUnits.{name_for}
-use Rattle.thorin_join.specs.Represents.{AreRowsOf}
-use Rattle.thorin_join.specs.State.{kind_at}
+use Rattle.thorin_join.specs.Represents.{AreRowsOf, IsSound}
+use Rattle.thorin_join.specs.State.{kind_at, InProgress, unit_bytes}
 use Rattle.thorin_join.proofs.Rows.Stay.{part-inside}
 use Rattle.thorin_again.proofs.Meant.OneRow.{row-means-again}
 use Rattle.thorin_again.proofs.Meant.RowPlaces.{FirstLaw, FindLaw, IsAgain, Below, range_at}
+use Rattle.thorin_again.proofs.Meant.RowPlaces.{place-eq}
 use Rattle.thorin_join.proofs.Moved.Readings.{plain}
 use Rattle.thorin_join.proofs.Moved.Units.{Moved, unit-moves}
 use Rattle.thorin_join.proofs.Units.HeadersRead.{Reads}
 use Rattle.thorin_again.proofs.Meant.UnitsBySection.{AreTested}
 use Rattle.dwp_base.proofs.Steps.{bind-was, same-ok}
+use Rattle.dwp_bytes.specs.declared.encoding.Encoding.{Encoding}
+use Rattle.dwp_dwarf.specs.declared.unit.UnitSection.TheVariants as places
+use Rattle.dwp_elf.specs.FileText.{Object as File, file_text}
+use Rattle.thorin_join.specs.Builder.{IsFinished}
+use Rattle.thorin_input.specs.Encodings.{first_encoding, encoding_of}
+use Rattle.thorin_again.specs.OwnInput.{written_object}
+use Rattle.thorin_join.specs.StandApart.{EachRow}
+use Rattle.thorin_again.proofs.Opened.Sections.{first-written, object-written, opened-elf}
+use Rattle.thorin_join.proofs.Files.Finished.{finished-order, finished-own}
+use Rattle.dwp_elf_read.specs.Elf.{elf_of}
+use Rattle.dwp_elf.specs.Written.{written_elf}
 
 -- rows as units, by their names
 abbrev pub with_names : (IndexEntry → Meaning) → List IndexEntry → List (DwarfObject × Meaning)
@@ -65,15 +78,17 @@ unfolding units_within
 no-reads zero place i h = refl
 no-reads (suc n) place i h = rw h refl
 
+-- a number that isn't none
+suc-of : (n : ℕ) → 0 < n → (m : ℕ) × (n ≡ suc m)
+suc-of zero h = absurd (omega arith)
+suc-of (suc m) h = (m, refl)
+
 pub one-read : (n : ℕ) (place : UnitSection) (i : Input) (u : Header) (rest : Input)
     → 0 < length i.bytes → unit_at place i ≡ Ok (u, rest) → units_within (suc n) place i ≡ Ok u ∷
     units_within n place rest
 unfolding units_within
-one-read n place i u rest some h = rw (not-zero (length i.bytes) some, h) refl
-  where
-    not-zero : (k : ℕ) → 0 < k → nat_eq k 0 ≡ false
-    not-zero zero l = absurd (omega arith)
-    not-zero (suc k) l = eqb-suc-zero k
+one-read n place i u rest some h = let m = suc-of (length i.bytes) some in
+    rw (m.1, eqb-suc-zero m.0, h) refl
 
 -- the unit that bytes begin with, read where they lie
 pub record HeadRead (order : Endianness) (place : UnitSection) (offset : ℕ) (r : IndexEntry)
@@ -137,11 +152,6 @@ no-named : (source : Source) (kind : SectionKind) (us : Reads) → named_each so
     ≡ Ok us → us ≡ []
 unfolding named_each
 no-named source kind us h = sym (same-ok [] us h)
-
--- fuel that isn't none
-suc-of : (n : ℕ) → 0 < n → (m : ℕ) × (n ≡ suc m)
-suc-of zero h = absurd (omega arith)
-suc-of (suc m) h = (m, refl)
 
 module _ (taken : UnitsAreTaken) (first_law : FirstLaw) (find_law : FindLaw) (source : Source)
     (contents : Contents) (strings : List (List ℕ)) (rows : List IndexEntry)
@@ -230,3 +240,66 @@ module _ (taken : UnitsAreTaken) (first_law : FirstLaw) (find_law : FindLaw) (so
   section-again us are encoded once lie named tested =
       rows-again [] rows 0 [] (content_of kind contents) (length (content_of kind contents)) us refl
       are encoded once tt lie refl refl (omega arith) named tested
+
+-- ---- the encoding of a written package, as an input
+
+-- a row's unit, read of its own bytes alone, has the encoding
+abbrev pub EncodesItself : Endianness → Encoding → Contents → IndexEntry → Type 0
+EncodesItself order encoding contents row = (unit : Header) (rest : Input) → unit_at
+    (place_of row.id row.debug_types) (section order (unit_bytes contents row)) ≡ Ok (unit, rest)
+    → unit.encoding ≡ encoding
+
+-- so does the first unit that is read of a section
+first-lies : UnitsAreTaken → (order : Endianness) (place : UnitSection) (encoding : Encoding)
+    (contents : Contents) (rows : List IndexEntry) → Lie order place 0 (rows_at place rows)
+    (content_of (kind_at place) contents)
+    → EachRow (EncodesItself order encoding contents) rows
+    → (n : ℕ) → n ≡ length (content_of (kind_at place) contents) → 0 < n
+    → first_encoding (units_within n place (section order (content_of (kind_at place) contents))) ≡
+    Ok encoding
+first-lies taken order place encoding contents [] lie names n long some =
+    absurd (omega (arith, long, some, ap length lie))
+first-lies taken order place encoding contents (r ∷ rs) lie names zero long some =
+    absurd (omega arith)
+first-lies taken order place encoding contents (r ∷ rs) lie names (suc n) long some =
+    by-bool _ (is_at place r)
+    (λ here.
+    let l = rw here at lie in
+    let head = l.0 in
+    let bytes = content_of (kind_at place) contents in
+    let read = head-read taken order place 0 r bytes head in
+    let place_is = place-eq place (place_of r.id r.debug_types) here in
+    let bytes_are : unit_bytes contents r ≡ head.own =
+    ap (λ p. part_of (content_of (kind_at p) contents) (contribution_to (kind_at p) r))
+    (sym place_is) ∙ ap (part_of bytes) head.range
+    ∙ part-middle [] head.own head.rest bytes 0 head.are refl in
+    let is = names.0 head.is.unit head.is.rest
+    ((λ i. unit_at (sym place_is i) (section order (bytes_are i))) ∙ head.is.read) in
+    ap first_encoding (one-read n place (plain order 0 bytes) read.moved.unit
+    (plain order (0 + length head.own) head.rest) (omega (arith, long)) read.read)
+    ∙ ap Ok (sym read.moved.encoding ∙ is))
+    (λ other. first-lies taken order place encoding contents rs (rw other at lie) names.1 (suc n)
+    long some)
+
+pub first-of : UnitsAreTaken → (made : InProgress) (file : File) (encoding : Encoding)
+    → IsSound made → IsFinished made file → KindsDiffer file.contents
+    → EachRow (EncodesItself made.file.order encoding made.file.contents) made.rows
+    → 0 < length (content_of (kind_at places.Info) file.contents)
+    → encoding_of (written_object file) ≡ Ok encoding
+unfolding encoding_of units
+first-of taken made file encoding sound fin differ encoded some =
+    let same = finished-own made file fin places.Info in
+    let held = first-written (kind_at places.Info) file.contents differ ∙ same in
+    (λ i. first_encoding (units places.Info (section (finished-order made file fin i) (held i))))
+    ∙ first-lies taken made.file.order places.Info encoding made.file.contents made.rows
+    sound.laid.info encoded _ refl (rw same at some)
+
+-- it is what the encoding of the written bytes is
+pub input-encoding : (file : File) → KindsDiffer file.contents
+    → elf_of (file_text file) ≡ Ok (written_elf file)
+    → input_encoding (file_text file) ≡ encoding_of (written_object file)
+unfolding input_encoding
+input-encoding file differ back = rw (
+  opened-elf (file_text file) (written_elf file) back,
+  object-written file differ,
+) refl

@@ -38,7 +38,7 @@ use Rattle.thorin_join.proofs.Files.Indexes.{IndexIsRead, IndexHasEntries}
 use Rattle.thorin_join.proofs.Units.JoinedByName.{units-joined}
 use Rattle.thorin_join.proofs.Rows.Stay.{keep-rows}
 use Rattle.thorin_again.proofs.Meant.RowPlaces.{FirstLaw, FindLaw, IsAgain}
-use Rattle.thorin_again.proofs.Meant.OneSection.{with_names, section-again}
+use Rattle.thorin_again.proofs.Meant.OneSection.{with_names, section-again, input-encoding}
 use Rattle.thorin_again.proofs.Meant.UnitsBySection.{AreTested, Split, joined-tested}
 use Rattle.thorin_again.proofs.Meant.UnitsBySection.{sections-split}
 use Rattle.thorin_join.proofs.Files.Finished.{Tested, tested-state, finished-order, finished-grows}
@@ -50,7 +50,6 @@ use Rattle.thorin_again.specs.OwnInput.{written_object, own_source}
 use Rattle.dwp_base.proofs.Steps.{bind-was, same-ok}
 use Rattle.dwp_base.proofs.Bools.{by-bool}
 use Rattle.thorin_again.proofs.Opened.Indexes.{compilations-taken, indexes-packed, types-taken}
-use Rattle.thorin_again.proofs.Opened.FirstEncoding.{input-encoding}
 
 -- ---- the package, read again
 
