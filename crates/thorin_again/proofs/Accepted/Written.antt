@@ -51,7 +51,7 @@ use Rattle.thorin_join.proofs.Files.Finished.{finished-own, finished-strings, fi
 use Rattle.thorin_join.proofs.Units.HeadersRead.{kind-place}
 use Rattle.thorin_again.proofs.Meant.OneSection.{EncodesItself, first-of, input-encoding}
 use Rattle.thorin_again.proofs.Opened.Unless.{Unless, and-then, answered, unless-ok}
-use Rattle.thorin_again.proofs.Meant.Package.{lie-again}
+use Rattle.thorin_again.proofs.Meant.Package.{lie-kept}
 use Rattle.thorin_again.proofs.Opened.Parts.{own-parts-tried}
 use Rattle.thorin_again.proofs.Offsets.Tiled.{weaker}
 use Rattle.std.specs.List.{IsDistinct}
@@ -174,7 +174,7 @@ module _ (state : State) (file : File) (w : OwnWritten state file) where
       by false (Some place) s at =
           let same = kind-place kind place at in
           rw same (lie-used file.order place 0 made.rows
-          (content_of (kind_at place) file.contents) (lie-again made file has.sound.laid fin place)
+          (content_of (kind_at place) file.contents) (lie-kept made file has.sound.laid fin place)
           (rw same at some))
       by false None s at = absurd (true≢false (sym (every (λ k. is_shared k || counts_once k
           || is_some (unit_section k)) refl kind)

@@ -1,7 +1,7 @@
 -- What a unit of a written package means as an input: just what was joined.
 use Rattle.std.proofs.Common.{nat_eq, true≢false, ◌≡◌, ◌∙◌, ℕ, zero, suc, ◌+◌, ◌<◌, ◌≢◌, Bool, true}
-use Rattle.std.proofs.Common.{false, cond, List, ◌∷◌, ◌++◌, length, ap, ap₂, sym, refl, Ok, Some}
-use Rattle.std.proofs.Common.{None, is_none, arith}
+use Rattle.std.proofs.Common.{false, List, ◌∷◌, ◌++◌, length, ap, ap₂, sym, refl, Ok, Some, is_none}
+use Rattle.std.proofs.Common.{arith}
 use Rattle.std.specs.Prelude.{slice_get, slice_index}
 use Rattle.std.proofs.lemmas.Bool.{eq-eqb, eqb-true}
 use Rattle.std.proofs.lemmas.List.Elements.{filter-append}
@@ -172,17 +172,12 @@ module _ (first_law : FirstLaw) (find_law : FindLaw) (source : Source) (contents
       ∙ strings-are source.object.order unit.encoding (data_of strings)
       (part_of (content_of kinds.StrOffsets contents) (contribution_to kinds.StrOffsets row))
       unit.strings (is.shares.string strings again.table (take-length strings)) in
-      ap (λ b. cond b (meaning_with source own (Some parts.row) (strings_of source.object.order
-      source.encoding (first kinds.Str source.object.sections)
-      (part_of (first kinds.StrOffsets source.object.sections)
-      (range_in parts.row kinds.StrOffsets)))) None) inside
-      ∙ ap (meaning_with source own (Some parts.row)) strings_are
-      ∙ (λ i. Some (record {
+      rw inside (ap (meaning_with source own (Some parts.row)) strings_are ∙ (λ i. Some (record {
         bytes = own-is i;
         pieces = pieces-same _ unit.pieces (λ k copied. bytes-are k ∙ is.shares.content k copied) i;
         strings = unit.strings;
         encoding = same_encoding i;
-      }))
+      })))
 
   -- ---- the row of its identifier
 

@@ -39,7 +39,7 @@ use Rattle.thorin_join.proofs.Units.JoinedByName.{units-joined}
 use Rattle.thorin_join.proofs.Rows.Stay.{keep-rows}
 use Rattle.thorin_again.proofs.Meant.RowPlaces.{FirstLaw, FindLaw, IsAgain}
 use Rattle.thorin_again.proofs.Meant.OneSection.{with_names, section-again, input-encoding}
-use Rattle.thorin_again.proofs.Meant.UnitsBySection.{AreTested, Split, joined-tested}
+use Rattle.thorin_again.proofs.Meant.UnitsBySection.{each-place, AreTested, Split, joined-tested}
 use Rattle.thorin_again.proofs.Meant.UnitsBySection.{sections-split}
 use Rattle.thorin_join.proofs.Files.Finished.{Tested, tested-state, finished-order, finished-grows}
 use Rattle.thorin_join.proofs.Files.Finished.{finished-own, finished-strings}
@@ -98,25 +98,22 @@ own-again is_read has_entries made file sound tests fits f differ encoding index
     }
 
 -- its rows are those of its units
-pub rows-again : (made : InProgress) (file : File) → IsSound made → IsFinished made file
+pub rows-kept : (made : InProgress) (file : File) → IsSound made → IsFinished made file
     → AreRowsOf file.order file.contents made.strings made.rows (with_names (λ row.
     meaning_at made.file.order made.file.contents made.strings row) made.rows)
-rows-again made file sound f =
+rows-kept made file sound f =
     rw (finished-order made file f) (keep-rows made.file.order made.file.contents file.contents
     made.strings made.strings made.rows _ (finished-grows made file f) (take-length made.strings)
     sound.units.rows)
 
 -- and they lie in turn
-pub lie-again : (made : InProgress) (file : File) → IsLaid made → IsFinished made file
+pub lie-kept : (made : InProgress) (file : File) → IsLaid made → IsFinished made file
     → (place : UnitSection) → Lie file.order place 0 (rows_at place made.rows)
     (content_of (kind_at place) file.contents)
-lie-again made file laid f place =
-    rw (finished-order made file f, finished-own made file f place) (at place)
-  where
-    at : (place : UnitSection) → Lie made.file.order place 0 (rows_at place made.rows)
-        (content_of (kind_at place) made.file.contents)
-    at places.Info = laid.info
-    at places.Types = laid.types
+lie-kept made file laid f place =
+    rw (finished-order made file f, finished-own made file f place) (each-place
+    (λ p. Lie made.file.order p 0 (rows_at p made.rows) (content_of (kind_at p) made.file.contents))
+    laid.info laid.types place)
 
 -- ---- the file, taken as an input
 
@@ -175,7 +172,7 @@ module _ (reads : UnitsAreTaken) (first_law : FirstLaw) (find_law : FindLaw) (is
     some-rows none = encoding-none (written_object file) encoding
         (first-written kinds.Info file.contents differ
         ∙ subst (λ rows. Lie file.order places.Info 0 (rows_at places.Info rows)
-        (content_of kinds.Info file.contents)) none (lie-again made file sound.laid f places.Info))
+        (content_of kinds.Info file.contents)) none (lie-kept made file sound.laid f places.Info))
         encoding_is
 
     again : IsAgain source file.contents made.strings made.rows
@@ -188,10 +185,10 @@ module _ (reads : UnitsAreTaken) (first_law : FirstLaw) (find_law : FindLaw) (is
     units-are : (place : UnitSection) → units_meant (split.of place) ≡ all_meant
         (with_names mean (rows_at place made.rows))
     units-are place = section-again reads first_law find_law source file.contents made.strings
-        made.rows mean again place (split.of place) (rows-again made file sound f)
+        made.rows mean again place (split.of place) (rows-kept made file sound f)
         (λ k d within. same-ok _ _ (sym encoding_is ∙ sym (input-encoding file differ back)
         ∙ one k d within))
-        sound.laid.once (lie-again made file sound.laid f place) (split.read place)
+        sound.laid.once (lie-kept made file sound.laid f place) (split.read place)
         (split.tested place)
 
     rows-meant : IsPermutation (all_meant (units_of made)) (units_meant all)
