@@ -1,7 +1,6 @@
--- A written package as an input: its sections, encoding and indexes.
+-- A written package as an input: its sections, parts and indexes.
 pub mod Unless
 pub mod Sections
 pub mod Parts
 pub mod Indexes
-pub mod Format
 pub mod FirstEncoding

@@ -1,8 +1,8 @@
 -- The units of a package that took one input alone are the input's, and what is packed of it
 -- answers as they do.
 use Rattle.std.proofs.Common.{◌≡◌, ◌∙◌, ℕ, suc, Bool, false, cond, List, [], ◌∷◌, ◌++◌, map, refl}
-use Rattle.std.proofs.Common.{sym, ap, subst, Ok, Option, Some, None, arith}
-use Rattle.std.specs.Prelude.{MatchOption}
+use Rattle.std.proofs.Common.{sym, ap, subst, Ok, Option, None, arith}
+use Rattle.std.specs.Prelude.{MatchOption, unwrap_or}
 use Rattle.std.specs.Cmp.{IsEquivalence}
 use Rattle.std.specs.List.{list_any, IsDistinct, AllByRecursion}
 use Rattle.std.specs.List.Sorted.{IsPermutation}
@@ -83,14 +83,8 @@ keys-meant : (us : Members) → keys (all_meant us) ≡ keys us
 keys-meant [] = refl
 keys-meant (u ∷ us) = ap (λ l. u.0 ∷ l) (keys-meant us)
 
--- a unit with all that belongs to it
-meant-or : Meaning → DwarfObject × Option Meaning → DwarfObject × Meaning
-meant-or other (name, None) = (name, other)
-meant-or other (name, Some meaning) = (name, meaning)
-
-meant-back : (other : Meaning) (us : Members) → map {B = DwarfObject × Meaning} (meant-or other)
-    (all_meant us) ≡ us
-unfolding meant-or
+meant-back : (other : Meaning) (us : Members) → map {B = DwarfObject × Meaning} (λ u.
+    (u.0, unwrap_or u.1 other)) (all_meant us) ≡ us
 meant-back other [] = refl
 meant-back other (u ∷ us) = ap (λ l. u ∷ l) (meant-back other us)
 
@@ -114,8 +108,9 @@ alone-units bytes other us now distinct joins means =
     (rw (keys-meant us) distinct) in
     let units : joins.units ≡ all_meant joins.added = sym (joining-apart [] joins.units apart)
     ∙ joins.joined in
-    let back = IsPermutation-map (meant-or other) (all_meant us) (all_meant joins.added)
-    (rw units at perm) in
+    let full : DwarfObject × Option Meaning → DwarfObject × Meaning = λ u.
+    (u.0, unwrap_or u.1 other) in
+    let back = IsPermutation-map full (all_meant us) (all_meant joins.added) (rw units at perm) in
     rw joins.is (rw (meant-back other us, meant-back other joins.added) at back)
 
 -- ---- answers

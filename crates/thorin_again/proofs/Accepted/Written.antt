@@ -23,7 +23,6 @@ use Rattle.thorin_index.specs.IndexText.{is_used}
 use Rattle.thorin_strings.specs.Strings.{data_of}
 use Rattle.thorin_join.specs.Builder.{State, IsFinished, IsFinishedState, finish_test, order_of}
 use Rattle.thorin_join.specs.Builder.{package_or_new, with_source_or_new, taken, start, begun_by}
-use Rattle.thorin_join.specs.Builder.{with_input}
 use Rattle.thorin_input.specs.Encodings.{one_encoding, file_encoding, own_encoding}
 use Rattle.thorin_input.specs.Indexes.{Indexes, indexes_of}
 use Rattle.thorin_input.specs.NewUnits.{new_units, unit_section}
@@ -42,8 +41,7 @@ use Rattle.thorin_input.specs.Used.{counts_once}
 use Rattle.thorin_join.proofs.Files.Indexes.{IndexIsRead, IndexHasEntries, SomeIndex, NoIndex}
 use Rattle.thorin_join.proofs.Joined.Input.{new-sound}
 use Rattle.thorin_again.proofs.Offsets.OfPackage.{finished-shared, own-offsets, own-offsets-alone}
-use Rattle.thorin_again.proofs.Opened.Format.{in-format, lie-used}
-use Rattle.thorin_again.proofs.Opened.Indexes.{up-to-parts, OwnMade, own-made}
+use Rattle.thorin_again.proofs.Opened.Indexes.{in-format, lie-used, up-to-parts, OwnMade, own-made}
 use Rattle.thorin_again.proofs.Opened.Sections.{present-written, info-written, object-written}
 use Rattle.thorin_again.proofs.Opened.Sections.{opened-elf}
 use Rattle.thorin_again.proofs.Taken.OwnUnits.{own-units}
@@ -53,7 +51,7 @@ use Rattle.thorin_join.proofs.Files.Finished.{finished-own, finished-strings, fi
 use Rattle.thorin_join.proofs.Units.HeadersRead.{kind-place}
 use Rattle.thorin_again.proofs.Opened.FirstEncoding.{EncodesItself, first-of, input-encoding}
 use Rattle.thorin_again.proofs.Opened.Unless.{Unless, and-then, answered, unless-ok}
-use Rattle.thorin_again.proofs.Meant.Package.{lie-again}
+use Rattle.thorin_again.proofs.Meant.Package.{lie-kept}
 use Rattle.thorin_again.proofs.Opened.Parts.{own-parts-tried}
 use Rattle.thorin_again.proofs.Offsets.Tiled.{weaker}
 use Rattle.std.specs.List.{IsDistinct}
@@ -61,6 +59,7 @@ use Rattle.thorin_again.specs.Again.{HaveEncodingOf, MeansOnceWritten}
 use Rattle.thorin_join.specs.Meaning.{Meaning, pieces_by, keys}
 use Rattle.thorin_input.specs.Names.{same_name}
 use Rattle.thorin_join.proofs.Units.NamesApart.{apart-none}
+use Rattle.thorin_again.proofs.Lists.PlainInputs.{InputsSound}
 use Rattle.thorin_again.proofs.Lists.StringsWhole.{own-encoded, alone-whole, FinishedLaw}
 use Rattle.thorin_again.proofs.Lists.HeadersEncoded.{AreEncoded}
 use Rattle.thorin_again.proofs.Accepted.Alone.{apart-distinct, taken-input, alone-units}
@@ -175,7 +174,7 @@ module _ (state : State) (file : File) (w : OwnWritten state file) where
       by false (Some place) s at =
           let same = kind-place kind place at in
           rw same (lie-used file.order place 0 made.rows
-          (content_of (kind_at place) file.contents) (lie-again made file has.sound.laid fin place)
+          (content_of (kind_at place) file.contents) (lie-kept made file has.sound.laid fin place)
           (rw same at some))
       by false None s at = absurd (true≢false (sym (every (λ k. is_shared k || counts_once k
           || is_some (unit_section k)) refl kind)
@@ -223,53 +222,9 @@ module _ (state : State) (file : File) (w : OwnWritten state file) where
       (and-then E _ _ (and-then E _ _ parts (λ p e. rw abbreviations-tested
       (and-then E _ _ (given.1 p e) (λ new h. tt)))) (λ m h. tt)) (λ now h. tt))
 
--- a package of its byte order takes them, unless it is foreseen otherwise
-pub own-all : NamesTheSameLaw → PackagedLaw → UnitsAreTaken → FirstLaw → FindLaw → IndexIsRead
-    → IndexHasEntries → SomeIndex → NoIndex → (state : State) (file : File)
-    → IsSoundBegun state.begun → HoldsOwn state → HoldsPlain state → finish_test state ≡ Ok tt
-    → IsFinishedState state file → IsAcceptedOnceWritten state file
-own-all names law reads first_law find_law is_read has_entries some_index none_index state file
-    sound holds holds_plain tested f packs differ back before fine same =
-    let w = own-written reads state file sound holds holds_plain tested f packs differ back in
-    let g = w.own.finished in
-    let now = package_or_new (written_elf file) before.begun in
-    let table = (new-sound (written_elf file) before.begun fine).units.table in
-    taken-unless state file w is_read IsForeseen before same (λ indexes read. (
-      foreseen _ (own-offsets is_read has_entries some_index none_index state w.encoding file w.own
-          g.made g.begun w.plain indexes read now.strings),
-      λ p e. own-units names law reads first_law find_law is_read has_entries some_index none_index
-          state w.encoding file w.own g.made g.begun w.plain indexes read now p.0 p.1 table e,
-    ))
+-- ---- by any package, and by a new one
 
--- ---- by a new package
-
--- the package once it was taken
-new-accepted : NamesTheSameLaw → PackagedLaw → UnitsAreTaken → FirstLaw → FindLaw → IndexIsRead
-    → IndexHasEntries → SomeIndex → NoIndex → (state : State) (file : File)
-    → OwnWritten state file → (after : State) × (taken (file_text file) start ≡ Ok after)
-new-accepted names law reads first_law find_law is_read has_entries some_index none_index state file
-    w =
-    let g = w.own.finished in
-    let new = begun_by (written_elf file) in
-    let table = (new-sound (written_elf file) None tt).units.table in
-    answered (taken (file_text file) start) (taken-unless state file w is_read (λ e. ⊥) start refl
-    (λ indexes read.
-    let o = own-offsets-alone is_read has_entries some_index none_index state w.encoding file w.own
-    g.made g.begun w.plain indexes read in (
-      unless-ok (λ e. ⊥) _ o.0 o.1,
-      λ p e. let all = own-units-new names law reads first_law find_law is_read has_entries
-          some_index none_index state w.encoding file w.own g.made g.begun w.plain indexes read new
-          refl p.0 p.1 table e in
-          unless-ok (λ e. ⊥) _ all.0 all.1,
-    )))
-
--- ---- its units, and what is packed of it
-
--- the laws of inputs, of packing again, and of finished packages
-abbrev SoundLaw : Type 0
-SoundLaw = (bytes : List ℕ) (begun now : Option InProgress) → IsSoundBegun begun
-    → with_input bytes begun ≡ Ok now → IsSoundBegun now
-
+-- the law of packing again
 abbrev MeansLaw : Type 0
 MeansLaw = (state : State) (file : File) → IsSoundBegun state.begun → finish_test state ≡ Ok tt
     → IsFinishedState state file → MeansOnceWritten (units_in state) file
@@ -280,46 +235,81 @@ names-distinct : (begun : Option InProgress) → IsSoundBegun begun → IsDistin
 names-distinct None sound = apart-distinct [] apart-none
 names-distinct (Some made) sound = rw (keys-units made) (apart-distinct (names_of made) sound.apart)
 
-pub own-by-new : NamesTheSameLaw → PackagedLaw → UnitsAreTaken → FirstLaw → FindLaw → IndexIsRead
-    → IndexHasEntries → SomeIndex → NoIndex → SoundLaw → InputsJoined → MeansLaw → FinishedLaw
-    → (state : State) (file : File)
-    → IsSoundBegun state.begun → HoldsOwn state → HoldsPlain state → finish_test state ≡ Ok tt
-    → IsFinishedState state file → IsAcceptedByNewOnceWritten state file
-own-by-new names law reads first_law find_law is_read has_entries some_index none_index sounds joins
-    means finishes state file sound holds holds_plain tested f packs differ back =
-    let w = own-written reads state file sound holds holds_plain tested f packs differ back in
-    let g = w.own.finished in
-    let t = new-accepted names law reads first_law find_law is_read has_entries some_index
-    none_index state file w in
-    let after = t.0 in
-    let bytes = file_text file in
-    let input = taken-input bytes after t.1 in
-    let encoded : HaveEncodingOf bytes (units_in state) = λ k d within.
-    input-encoding file differ back ∙ w.own.first ∙ ap Ok (sym (w.own.all k d within)) in
-    let distinct = names-distinct state.begun sound in
-    let none : Meaning = record {
-      bytes = [];
-      pieces = pieces_by (λ kind. []);
-      strings = [];
-      encoding = w.encoding;
-    } in
-    let perm = alone-units bytes none (units_in state) (units_in after) distinct
-    (joins bytes None after.begun tt input) (means state file sound tested f differ back encoded
-    start after t.1) in
-    let m = has state file w in
-    let made = g.made in
-    let encoded_units : AreEncoded made.file.order (units_in state) =
-    subst (λ b. AreEncoded made.file.order (units_begun b)) (sym g.begun)
-    (own-encoded made w.encoding m.sound w.plain m.all) in
-    record {
-      after = after;
-      is = t.1;
-      units_are = perm;
-      answers = λ alone passed finished kinds_differ read.
-          let p = finishes after alone (sounds bytes None after.begun tt input) passed finished
-          kinds_differ read in
-          alone-whole (units_in state) file alone made after encoded_units
-          (finished-order made file g.finished) back input
-          finished read p.pack p.parsed (alone-finds (units_in state) (units_in after)
-          (file_text alone) perm distinct p);
-    }
+module _ (names : NamesTheSameLaw) (law : PackagedLaw) (reads : UnitsAreTaken)
+    (first_law : FirstLaw) (find_law : FindLaw) (is_read : IndexIsRead)
+    (has_entries : IndexHasEntries) (some_index : SomeIndex) (none_index : NoIndex) where
+  -- a package of its byte order takes them, unless it is foreseen otherwise
+  pub own-all : (state : State) (file : File)
+      → IsSoundBegun state.begun → HoldsOwn state → HoldsPlain state → finish_test state ≡ Ok tt
+      → IsFinishedState state file → IsAcceptedOnceWritten state file
+  own-all state file sound holds holds_plain tested f packs differ back before fine same =
+      let w = own-written reads state file sound holds holds_plain tested f packs differ back in
+      let g = w.own.finished in
+      let now = package_or_new (written_elf file) before.begun in
+      let table = (new-sound (written_elf file) before.begun fine).units.table in
+      taken-unless state file w is_read IsForeseen before same (λ indexes read. (
+        foreseen _ (own-offsets is_read has_entries some_index none_index state w.encoding file
+            w.own g.made g.begun w.plain indexes read now.strings),
+        λ p e. own-units names law reads first_law find_law is_read has_entries some_index
+            none_index state w.encoding file w.own g.made g.begun w.plain indexes read now p.0 p.1
+            table e,
+      ))
+
+  -- a new one takes them
+  new-accepted : (state : State) (file : File) → OwnWritten state file
+      → (after : State) × (taken (file_text file) start ≡ Ok after)
+  new-accepted state file w =
+      let g = w.own.finished in
+      let new = begun_by (written_elf file) in
+      let table = (new-sound (written_elf file) None tt).units.table in
+      answered (taken (file_text file) start) (taken-unless state file w is_read (λ e. ⊥) start refl
+      (λ indexes read.
+      let o = own-offsets-alone is_read has_entries some_index none_index state w.encoding file
+      w.own g.made g.begun w.plain indexes read in (
+        unless-ok (λ e. ⊥) _ o.0 o.1,
+        λ p e. let all = own-units-new names law reads first_law find_law is_read has_entries
+            some_index none_index state w.encoding file w.own g.made g.begun w.plain indexes read
+            new refl p.0 p.1 table e in
+            unless-ok (λ e. ⊥) _ all.0 all.1,
+      )))
+
+  -- and has their units then
+  pub own-by-new : InputsSound → InputsJoined → MeansLaw → FinishedLaw → (state : State) (file : File)
+      → IsSoundBegun state.begun → HoldsOwn state → HoldsPlain state → finish_test state ≡ Ok tt
+      → IsFinishedState state file → IsAcceptedByNewOnceWritten state file
+  own-by-new sounds joins means finishes state file sound holds holds_plain tested f packs differ back =
+      let w = own-written reads state file sound holds holds_plain tested f packs differ back in
+      let g = w.own.finished in
+      let t = new-accepted state file w in
+      let after = t.0 in
+      let bytes = file_text file in
+      let input = taken-input bytes after t.1 in
+      let encoded : HaveEncodingOf bytes (units_in state) = λ k d within.
+      input-encoding file differ back ∙ w.own.first ∙ ap Ok (sym (w.own.all k d within)) in
+      let distinct = names-distinct state.begun sound in
+      let none : Meaning = record {
+        bytes = [];
+        pieces = pieces_by (λ kind. []);
+        strings = [];
+        encoding = w.encoding;
+      } in
+      let perm = alone-units bytes none (units_in state) (units_in after) distinct
+      (joins bytes None after.begun tt input) (means state file sound tested f differ back encoded
+      start after t.1) in
+      let m = has state file w in
+      let made = g.made in
+      let encoded_units : AreEncoded made.file.order (units_in state) =
+      subst (λ b. AreEncoded made.file.order (units_begun b)) (sym g.begun)
+      (own-encoded made w.encoding m.sound w.plain m.all) in
+      record {
+        after = after;
+        is = t.1;
+        units_are = perm;
+        answers = λ alone passed finished kinds_differ read.
+            let p = finishes after alone (sounds bytes None after.begun tt input) passed finished
+            kinds_differ read in
+            alone-whole (units_in state) file alone made after encoded_units
+            (finished-order made file g.finished) back input
+            finished read p.pack p.parsed (alone-finds (units_in state) (units_in after)
+            (file_text alone) perm distinct p);
+      }

@@ -1,9 +1,9 @@
 -- What a unit of a written package means as an input: just what was joined.
-use Rattle.std.proofs.Common.{◌≡◌, ◌∙◌, inl, inr, ℕ, zero, suc, ◌+◌, ◌<◌, ◌≢◌, Bool, true, false}
-use Rattle.std.proofs.Common.{cond, List, ◌∷◌, ◌++◌, length, ap, ap₂, sym, refl, Ok, Some, None}
-use Rattle.std.proofs.Common.{is_none, arith}
+use Rattle.std.proofs.Common.{nat_eq, true≢false, ◌≡◌, ◌∙◌, ℕ, zero, suc, ◌+◌, ◌<◌, ◌≢◌, Bool, true}
+use Rattle.std.proofs.Common.{false, List, ◌∷◌, ◌++◌, length, ap, ap₂, sym, refl, Ok, Some, is_none}
+use Rattle.std.proofs.Common.{arith}
 use Rattle.std.specs.Prelude.{slice_get, slice_index}
-use Rattle.std.proofs.lemmas.Bool.{eq-eqb}
+use Rattle.std.proofs.lemmas.Bool.{eq-eqb, eqb-true}
 use Rattle.std.proofs.lemmas.List.Elements.{filter-append}
 use Rattle.std.proofs.lemmas.Option.{none-some, same_Some, slice_get_within}
 use Rattle.std.proofs.Math.Seq.{take-length}
@@ -45,7 +45,7 @@ use Rattle.thorin_join.proofs.Units.HeadersRead.{name-identity}
 use Rattle.thorin_join.proofs.Units.Sorts.{identity-sort}
 use Rattle.thorin_join.proofs.Files.UnitsFound.{part-there}
 use Rattle.thorin_again.proofs.Meant.RowPlaces.{FirstLaw, FindLaw, IsAgain, Below, below-chosen}
-use Rattle.thorin_again.proofs.Meant.RowPlaces.{below-at, get-seam, get-left, get-there, among}
+use Rattle.thorin_again.proofs.Meant.RowPlaces.{below-at, get-seam, get-left, get-there}
 use Rattle.thorin_again.proofs.Meant.RowPlaces.{non_empty-some, first-row, chosen-self, place-eq}
 use Rattle.thorin_again.proofs.Meant.RowPlaces.{sort-rows, some-index, same-number, compile-sort}
 use Rattle.thorin_again.proofs.Meant.RowPlaces.{identity-any, find-none, inside-by, signature-name}
@@ -172,17 +172,12 @@ module _ (first_law : FirstLaw) (find_law : FindLaw) (source : Source) (contents
       ∙ strings-are source.object.order unit.encoding (data_of strings)
       (part_of (content_of kinds.StrOffsets contents) (contribution_to kinds.StrOffsets row))
       unit.strings (is.shares.string strings again.table (take-length strings)) in
-      ap (λ b. cond b (meaning_with source own (Some parts.row) (strings_of source.object.order
-      source.encoding (first kinds.Str source.object.sections)
-      (part_of (first kinds.StrOffsets source.object.sections)
-      (range_in parts.row kinds.StrOffsets)))) None) inside
-      ∙ ap (meaning_with source own (Some parts.row)) strings_are
-      ∙ (λ i. Some (record {
+      rw inside (ap (meaning_with source own (Some parts.row)) strings_are ∙ (λ i. Some (record {
         bytes = own-is i;
         pieces = pieces-same _ unit.pieces (λ k copied. bytes-are k ∙ is.shares.content k copied) i;
         strings = unit.strings;
         encoding = same_encoding i;
-      }))
+      })))
 
   -- ---- the row of its identifier
 
@@ -206,14 +201,14 @@ module _ (first_law : FirstLaw) (find_law : FindLaw) (source : Source) (contents
   same-id name found =
       let id = (id-at (rows_of sort rows) number row at).1 in
       let row_is = rw there.1 at found in
-      elim (among (entry_ids (rows_of sort rows)) (identifier_of name)) [
-        | inl r ↦
-            let n : r.0 + 1 ≡ number + 1 =
-            same_Some _ _ (sym ((finds name).present_row r.0 r.1 r.2) ∙ row_is) in
-            let same : r.0 ≡ number = omega arith in
-            sym id ∙ ap (slice_index (entry_ids (rows_of sort rows))) (sym same) ∙ r.2
-        | inr none ↦ absurd (none-some (number + 1) (sym ((finds name).absent_row none) ∙ row_is))
-      ]
+      by-bool _ (nat_eq (identifier_of row.id) (identifier_of name))
+      (λ same. eqb-true _ _ same)
+      (λ other. absurd (none-some (number + 1) (sym ((finds name).absent_row (λ r within is_there.
+      let next : r + 1 ≡ number + 1 = same_Some _ _ (sym ((finds name).present_row r within
+      is_there) ∙ row_is) in
+      let here : number ≡ r = omega arith in
+      true≢false (sym (eq-eqb _ _ (sym id ∙ ap (slice_index (entry_ids (rows_of sort rows))) here
+      ∙ is_there)) ∙ other))) ∙ row_is)))
 
   module _ (h : Header) (whole : h.whole ≡ plain source.object.order offset own) where
     own-range : own_range h ≡ range

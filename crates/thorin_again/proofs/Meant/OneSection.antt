@@ -23,11 +23,7 @@ use Rattle.thorin_join.proofs.Units.HeadersRead.{Reads}
 use Rattle.thorin_again.proofs.Meant.UnitsBySection.{AreTested}
 use Rattle.dwp_base.proofs.Steps.{bind-was, same-ok}
 
--- what rows of one encoding mean
-abbrev pub Encoded : Source → (IndexEntry → Meaning) → List IndexEntry → Type 0
-Encoded source mean [] = Unit {0}
-Encoded source mean (r ∷ rs) = (source.encoding ≡ (mean r).encoding) × Encoded source mean rs
-
+-- rows as units, by their names
 abbrev pub with_names : (IndexEntry → Meaning) → List IndexEntry → List (DwarfObject × Meaning)
 with_names mean rows = map {B = DwarfObject × Meaning} (λ r. (r.id, mean r)) rows
 
@@ -69,16 +65,22 @@ module _ (taken : UnitsAreTaken) (first_law : FirstLaw) (find_law : FindLaw) (so
   abbrev MeansRows : List IndexEntry → List (Result Header ReadError) → Type 0
   MeansRows todo reads = (us : Reads)
       → AreRowsOf source.object.order contents strings todo (with_names mean todo)
-      → Encoded source mean todo
+      → All (λ unit. source.encoding ≡ unit.1.encoding) (with_names mean todo)
       → named_each source (kind_at place) reads ≡ Ok us
       → AreTested source us
       → map {B = DwarfObject × Option Meaning} (meant source) us ≡ all_meant (with_names mean
       (rows_at place todo))
 
+  abbrev AreEncoded : List IndexEntry → Type 0
+  AreEncoded todo = All (λ unit. source.encoding ≡ unit.1.encoding) (with_names mean todo)
+
+  rest-encoded : (r : IndexEntry) (rs : List IndexEntry) → AreEncoded (r ∷ rs) → AreEncoded rs
+  rest-encoded r rs encoded = λ k d within. encoded (suc k) d (omega (arith, within))
+
   -- all of a section
   pub section-again : (us : Reads)
       → AreRowsOf source.object.order contents strings rows (with_names mean rows)
-      → Encoded source mean rows
+      → All (λ unit. source.encoding ≡ unit.1.encoding) (with_names mean rows)
       → HaveOneRange rows
       → Lie source.object.order place 0 (rows_at place rows) (content_of (kind_at place) contents)
       → named_each source (kind_at place) (units place (section source.object.order
@@ -97,7 +99,7 @@ module _ (taken : UnitsAreTaken) (first_law : FirstLaw) (find_law : FindLaw) (so
           (reads : List (Result Header ReadError)) → is_at place r ≡ false → MeansRows rs reads
           → MeansRows (r ∷ rs) reads
       elsewhere-means r rs reads not_here later us are encoded named tested =
-          later us are.1 encoded.1 named tested ∙ ap (λ b. all_meant (with_names mean
+          later us are.1 (rest-encoded r rs encoded) named tested ∙ ap (λ b. all_meant (with_names mean
           (cond b (r ∷ rows_at place rs) (rows_at place rs)))) (sym not_here)
 
       one-means : (before : List IndexEntry) (r : IndexEntry) (rs : List IndexEntry) (h : Header)
@@ -109,9 +111,10 @@ module _ (taken : UnitsAreTaken) (first_law : FirstLaw) (find_law : FindLaw) (so
           let both = subst (AreTested source) found.are tested in
           let means = row-means-again first_law find_law source contents strings rows again before
           rs r split (mean r) are.0 place u.offset u.own u.below u.here u.range u.part h u.whole
-          found.name encoded.0 u.sort found.named both.0 in
+          found.name (encoded 0 (r.id, mean r) (omega arith)) u.sort found.named both.0 in
           ap (map {B = DwarfObject × Option Meaning} (meant source)) found.are
-          ∙ (λ i. (means.0 i, means.1 i) ∷ later found.others are.1 encoded.1 found.rest both.1 i)
+          ∙ (λ i. (means.0 i, means.1 i) ∷ later found.others are.1 (rest-encoded r rs encoded)
+          found.rest both.1 i)
           ∙ ap (λ b. all_meant (with_names mean (cond b (r ∷ rows_at place rs)
           (rows_at place rs))))
           (sym u.here)

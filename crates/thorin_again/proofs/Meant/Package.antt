@@ -1,6 +1,6 @@
 -- A finished package, taken as an input, means the units that were joined in it.
-use Rattle.std.proofs.Common.{◌≡◌, ◌∙◌, ℕ, suc, true, false, not, List, [], ◌∷◌, ◌++◌, map, ap, ap₂}
-use Rattle.std.proofs.Common.{sym, refl, subst, Ok, Option, arith}
+use Rattle.std.proofs.Common.{◌≡◌, ◌∙◌, true, false, not, List, [], ◌∷◌, ◌++◌, map, ap, ap₂, sym}
+use Rattle.std.proofs.Common.{refl, subst, Ok, Option, arith}
 use Rattle.std.specs.List.Sorted.{IsPermutation}
 use Rattle.std.proofs.lemmas.List.{map-append}
 use Rattle.std.proofs.lemmas.List.Sorted.{IsPermutation-refl, IsPermutation-trans}
@@ -18,8 +18,7 @@ use Rattle.dwp_elf_read.specs.Elf.{elf_of}
 use Rattle.dwp_index.specs.Package.{place_of}
 use Rattle.dwp_table.specs.declared.object.DwarfObject.{DwarfObject}
 use Rattle.thorin_index.specs.declared.entry.IndexEntry.{IndexEntry}
-use Rattle.thorin_again.specs.Again.{input_encoding, HaveEncodingOf, all_meant, MeansWhereTaken}
-use Rattle.thorin_again.specs.Again.{MeansOnceWritten}
+use Rattle.thorin_again.specs.Again.{HaveEncodingOf, all_meant, MeansWhereTaken, MeansOnceWritten}
 use Rattle.thorin_join.specs.Builder.{State, IdentifiersFit, IsFinished, IsFinishedState}
 use Rattle.thorin_join.specs.Builder.{finish_test, package_or_new, order_test, with_source_or_new}
 use Rattle.thorin_join.specs.Builder.{with_units, with_input, taken}
@@ -39,8 +38,9 @@ use Rattle.thorin_join.proofs.Files.Indexes.{IndexIsRead, IndexHasEntries}
 use Rattle.thorin_join.proofs.Units.JoinedByName.{units-joined}
 use Rattle.thorin_join.proofs.Rows.Stay.{keep-rows}
 use Rattle.thorin_again.proofs.Meant.RowPlaces.{FirstLaw, FindLaw, IsAgain}
-use Rattle.thorin_again.proofs.Meant.OneSection.{Encoded, with_names, section-again}
-use Rattle.thorin_again.proofs.Meant.UnitsBySection.{AreTested, Split, joined-tested}
+use Rattle.thorin_again.proofs.Meant.OneSection.{with_names, section-again}
+use Rattle.thorin_again.proofs.Opened.FirstEncoding.{input-encoding}
+use Rattle.thorin_again.proofs.Meant.UnitsBySection.{each-place, AreTested, Split, joined-tested}
 use Rattle.thorin_again.proofs.Meant.UnitsBySection.{sections-split}
 use Rattle.thorin_join.proofs.Files.Finished.{Tested, tested-state, finished-order, finished-grows}
 use Rattle.thorin_join.proofs.Files.Finished.{finished-own, finished-strings}
@@ -51,7 +51,6 @@ use Rattle.thorin_again.specs.OwnInput.{written_object, own_source}
 use Rattle.dwp_base.proofs.Steps.{bind-was, same-ok}
 use Rattle.dwp_base.proofs.Bools.{by-bool}
 use Rattle.thorin_again.proofs.Opened.Indexes.{compilations-taken, indexes-packed, types-taken}
-use Rattle.thorin_again.proofs.Opened.FirstEncoding.{input-encoding}
 
 -- ---- the package, read again
 
@@ -100,25 +99,22 @@ own-again is_read has_entries made file sound tests fits f differ encoding index
     }
 
 -- its rows are those of its units
-pub rows-again : (made : InProgress) (file : File) → IsSound made → IsFinished made file
+pub rows-kept : (made : InProgress) (file : File) → IsSound made → IsFinished made file
     → AreRowsOf file.order file.contents made.strings made.rows (with_names (λ row.
     meaning_at made.file.order made.file.contents made.strings row) made.rows)
-rows-again made file sound f =
+rows-kept made file sound f =
     rw (finished-order made file f) (keep-rows made.file.order made.file.contents file.contents
     made.strings made.strings made.rows _ (finished-grows made file f) (take-length made.strings)
     sound.units.rows)
 
 -- and they lie in turn
-pub lie-again : (made : InProgress) (file : File) → IsLaid made → IsFinished made file
+pub lie-kept : (made : InProgress) (file : File) → IsLaid made → IsFinished made file
     → (place : UnitSection) → Lie file.order place 0 (rows_at place made.rows)
     (content_of (kind_at place) file.contents)
-lie-again made file laid f place =
-    rw (finished-order made file f, finished-own made file f place) (at place)
-  where
-    at : (place : UnitSection) → Lie made.file.order place 0 (rows_at place made.rows)
-        (content_of (kind_at place) made.file.contents)
-    at places.Info = laid.info
-    at places.Types = laid.types
+lie-kept made file laid f place =
+    rw (finished-order made file f, finished-own made file f place) (each-place
+    (λ p. Lie made.file.order p 0 (rows_at p made.rows) (content_of (kind_at p) made.file.contents))
+    laid.info laid.types place)
 
 -- ---- the file, taken as an input
 
@@ -127,26 +123,6 @@ encoding-none : (object : InputFile) (e : Encoding) → first kinds.Info object.
     → encoding_of object ≡ Ok e → ⊥
 unfolding encoding_of units units_within
 encoding-none object e none h = let no = rw none at h in absurd cc
-
--- rows whose units have the encoding of an input
-encoded-rows : (bytes : List ℕ) (source : Source) (mean : IndexEntry → Meaning)
-    → input_encoding bytes ≡ Ok source.encoding → (rows : List IndexEntry)
-    → HaveEncodingOf bytes (with_names mean rows) → Encoded source mean rows
-encoded-rows bytes source mean is [] h = tt
-encoded-rows bytes source mean is (r ∷ rs) h = (
-  same-ok _ _ (sym is ∙ h 0 (r.id, mean r) (omega arith)),
-  encoded-rows bytes source mean is rs (λ k d within. h (suc k) d (omega (arith, within))),
-)
-
--- a written file that was taken as an input, and its units
-pub record Taken (file : File) : Type 0 where
-  pub encoding : Encoding
-  pub indexes : Indexes
-  pub all : Reads
-  pub encoding_is : encoding_of (written_object file) ≡ Ok encoding
-  pub indexes_are : indexes_of (written_object file) encoding ≡ Ok indexes
-  pub units_are : source_units (own_source file encoding indexes) ≡ Ok all
-  pub tested : AreTested (own_source file encoding indexes) all
 
 -- rows in the order of the sections
 types-rest : (place : UnitSection) → same_place places.Types place ≡ not
@@ -166,33 +142,6 @@ module _ (reads : UnitsAreTaken) (first_law : FirstLaw) (find_law : FindLaw) (is
   opens : opened (file_text file) ≡ Ok (written_elf file)
   opens = opened-elf (file_text file) (written_elf file) back
 
-  units-taken : (begun now : Option InProgress) → has_info (written_elf file) ≡ true
-      → with_input (file_text file) begun ≡ Ok now → Taken file
-  unfolding with_input with_units with_source_or_new with_source
-  units-taken begun now info h =
-      let object = written_object file in
-      let s1 = bind-was (encoding_of object) _ now
-      (rw (opens, info, object-written file differ) at h) in
-      let s2 = bind-was (order_test object.order begun) _ now s1.2 in
-      let s3 = bind-was (indexes_of object s1.0) _ now s2.2 in
-      let source = own_source file s1.0 s3.0 in
-      let before = package_or_new (written_elf file) begun in
-      let s4 = bind-was (with_source source before) _ now s3.2 in
-      let t1 = bind-was (parts_of source before.strings) _ s4.0 s4.1 in
-      let t2 = bind-was (abbreviations_test object) _ s4.0 t1.2 in
-      let t3 = bind-was (new_units (adding source before t1.0.0)) _ s4.0 t2.2 in
-      let j = units-joined (adding source before t1.0.0) t3.0 t3.1 in
-      record {
-        encoding = s1.0;
-        indexes = s3.0;
-        all = j.all;
-        encoding_is = s1.1;
-        indexes_are = s3.1;
-        units_are = j.is;
-        tested = joined-tested (adding source before t1.0.0)
-            (keys (adding source before t1.0.0).held) j.all t3.0.units j.defined j.are;
-      }
-
   -- without content of info nothing was joined
   no-units : (rows : List IndexEntry) → HaveEncodingOf (file_text file) (with_names mean rows)
       → content_of kinds.Info file.contents ≡ [] → rows ≡ []
@@ -201,44 +150,49 @@ module _ (reads : UnitsAreTaken) (first_law : FirstLaw) (find_law : FindLaw) (is
       (first-written kinds.Info file.contents differ ∙ none)
       (sym (input-encoding file differ back) ∙ h 0 (r.id, mean r) (omega arith)))
 
-  module _ (t : Taken file) where
+  -- what is read of it as an input
+  module _ (encoding : Encoding) (indexes : Indexes) (all : Reads)
+      (encoding_is : encoding_of (written_object file) ≡ Ok encoding)
+      (indexes_are : indexes_of (written_object file) encoding ≡ Ok indexes)
+      (units_are : source_units (own_source file encoding indexes) ≡ Ok all)
+      (tested : AreTested (own_source file encoding indexes) all) where
     abbrev source : Source
-    source = own_source file t.encoding t.indexes
+    source = own_source file encoding indexes
 
     abbrev units_meant : Reads → List (DwarfObject × Option Meaning)
     units_meant us = map {B = DwarfObject × Option Meaning} (meant source) us
 
     meaning-is : has_info (written_elf file) ≡ true
-        → input_meaning (file_text file) ≡ Ok (units_meant t.all)
+        → input_meaning (file_text file) ≡ Ok (units_meant all)
     unfolding input_meaning object_meaning source_meaning
-    meaning-is info = rw (opens, info, object-written file differ, t.encoding_is, t.indexes_are)
-        (rw t.units_are refl)
+    meaning-is info = rw (opens, info, object-written file differ, encoding_is, indexes_are)
+        (rw units_are refl)
 
     -- an input with units has rows
     some-rows : made.rows ≡ [] → ⊥
-    some-rows none = encoding-none (written_object file) t.encoding
+    some-rows none = encoding-none (written_object file) encoding
         (first-written kinds.Info file.contents differ
         ∙ subst (λ rows. Lie file.order places.Info 0 (rows_at places.Info rows)
-        (content_of kinds.Info file.contents)) none (lie-again made file sound.laid f places.Info))
-        t.encoding_is
+        (content_of kinds.Info file.contents)) none (lie-kept made file sound.laid f places.Info))
+        encoding_is
 
     again : IsAgain source file.contents made.strings made.rows
-    again = own-again is_read has_entries made file sound tests fits f differ t.encoding t.indexes
-        t.indexes_are some-rows
+    again = own-again is_read has_entries made file sound tests fits f differ encoding indexes
+        indexes_are some-rows
 
-    split : Split source file.contents t.all
-    split = sections-split source file.contents t.all differ t.units_are t.tested
+    split : Split source file.contents all
+    split = sections-split source file.contents all differ units_are tested
 
     units-are : (place : UnitSection) → units_meant (split.of place) ≡ all_meant
         (with_names mean (rows_at place made.rows))
     units-are place = section-again reads first_law find_law source file.contents made.strings
-        made.rows mean again place (split.of place) (rows-again made file sound f)
-        (encoded-rows (file_text file) source mean (input-encoding file differ back
-        ∙ t.encoding_is) made.rows one)
-        sound.laid.once (lie-again made file sound.laid f place) (split.read place)
+        made.rows mean again place (split.of place) (rows-kept made file sound f)
+        (λ k d within. same-ok _ _ (sym encoding_is ∙ sym (input-encoding file differ back)
+        ∙ one k d within))
+        sound.laid.once (lie-kept made file sound.laid f place) (split.read place)
         (split.tested place)
 
-    rows-meant : IsPermutation (all_meant (units_of made)) (units_meant t.all)
+    rows-meant : IsPermutation (all_meant (units_of made)) (units_meant all)
     rows-meant =
         let infos = rows_at places.Info made.rows in
         let types = rows_at places.Types made.rows in
@@ -252,16 +206,37 @@ module _ (reads : UnitsAreTaken) (first_law : FirstLaw) (find_law : FindLaw) (is
         (split.of places.Info) (split.of places.Types)) in
         IsPermutation-trans _ _ _
         (IsPermutation-map _ _ _ (IsPermutation-map _ made.rows _ apart))
-        (rw joined (IsPermutation-map (meant source) _ t.all split.are))
+        (rw joined (IsPermutation-map (meant source) _ all split.are))
+
+  units-again : (begun now : Option InProgress) → has_info (written_elf file) ≡ true
+      → with_input (file_text file) begun ≡ Ok now → (units : List (DwarfObject × Option Meaning))
+      → input_meaning (file_text file) ≡ Ok units → IsPermutation (all_meant (units_of made)) units
+  unfolding with_input with_units with_source_or_new with_source
+  units-again begun now info h units meaning =
+      let object = written_object file in
+      let s1 = bind-was (encoding_of object) _ now
+      (rw (opens, info, object-written file differ) at h) in
+      let s2 = bind-was (order_test object.order begun) _ now s1.2 in
+      let s3 = bind-was (indexes_of object s1.0) _ now s2.2 in
+      let source = own_source file s1.0 s3.0 in
+      let before = package_or_new (written_elf file) begun in
+      let s4 = bind-was (with_source source before) _ now s3.2 in
+      let t1 = bind-was (parts_of source before.strings) _ s4.0 s4.1 in
+      let t2 = bind-was (abbreviations_test object) _ s4.0 t1.2 in
+      let t3 = bind-was (new_units (adding source before t1.0.0)) _ s4.0 t2.2 in
+      let j = units-joined (adding source before t1.0.0) t3.0 t3.1 in
+      let tested = joined-tested (adding source before t1.0.0)
+      (keys (adding source before t1.0.0).held) j.all t3.0.units j.defined j.are in
+      subst (IsPermutation (all_meant (units_of made)))
+      (same-ok _ _ (sym (meaning-is s1.0 s3.0 j.all s1.1 s3.1 j.is tested info) ∙ meaning))
+      (rows-meant s1.0 s3.0 j.all s1.1 s3.1 j.is tested)
 
   pub made-again : MeansWhereTaken (units_of made) (file_text file)
   unfolding taken input_meaning
   made-again before after took units meaning =
       let s = bind-was (with_input (file_text file) before.begun) _ after took in
       by-bool _ (has_info (written_elf file))
-      (λ info.
-      let t = units-taken before.begun s.0 info s.1 in
-      rw (same-ok _ _ (sym meaning ∙ meaning-is t info)) (rows-meant t))
+      (λ info. units-again before.begun s.0 info s.1 units meaning)
       (λ none.
       let no_units : units ≡ [] = same-ok _ _ (sym meaning ∙ rw (opens, none) refl) in
       rw (no_units, no-units made.rows one (no-info file none)) (IsPermutation-refl []))

@@ -1,10 +1,10 @@
 -- What the rows of a written package are for an input: which begin before a place, and what they
 -- name.
-use Rattle.std.proofs.Common.{◌≡◌, ◌∙◌, ◌⊎◌, inl, inr, ℕ, zero, suc, ◌+◌, ◌<◌, ◌≤◌, ◌≢◌, Bool, true}
-use Rattle.std.proofs.Common.{false, true≢false, not, nat_eq, List, [], ◌∷◌, ◌++◌, length, ap, sym}
-use Rattle.std.proofs.Common.{refl, Ok, Option, Some, None, arith}
-use Rattle.std.specs.Prelude.{slice_get, slice_index, find}
-use Rattle.std.proofs.lemmas.Bool.{eqb-true, eq-eqb, le-leb, cond_both}
+use Rattle.std.proofs.Common.{◌≡◌, ◌∙◌, ℕ, zero, suc, ◌+◌, ◌<◌, ◌≤◌, Bool, true, false, not, nat_eq}
+use Rattle.std.proofs.Common.{List, [], ◌∷◌, ◌++◌, length, ap, sym, refl, Ok, Option, Some, None}
+use Rattle.std.proofs.Common.{arith}
+use Rattle.std.specs.Prelude.{slice_get, find}
+use Rattle.std.proofs.lemmas.Bool.{eqb-true, le-leb, cond_both}
 use Rattle.std.proofs.lemmas.Option.{none-some, same_Some}
 use Rattle.dwp_base.specs.declared.section.Contribution.{Contribution}
 use Rattle.dwp_base.specs.declared.section.SectionKind.{SectionKind}
@@ -99,23 +99,6 @@ pub get-left : {X : Type 0} (xs ys : List X) (l : ℕ) (y : X) → slice_get xs 
 get-left [] ys l y h = absurd cc
 get-left (x ∷ xs) ys zero y h = h
 get-left (x ∷ xs) ys (suc l) y h = get-left xs ys l y h
-
--- a number is among others, or isn't
-pub among : (ids : List ℕ) (x : ℕ) → ((r : ℕ) × (r < length ids) × (slice_index ids r ≡ x))
-    ⊎ ((r : ℕ) → r < length ids → slice_index ids r ≢ x)
-among [] x = inr (λ r within same. absurd (omega arith))
-among (i ∷ ids) x =
-    by-bool _ (nat_eq i x)
-    (λ e. inl (0, omega arith, eqb-true i x e))
-    (λ e. elim (among ids x) [
-      | inl rest ↦ inl (suc rest.0, omega (arith, rest.1), rest.2)
-      | inr rest ↦ inr (λ r. none e rest r)
-    ])
-  where
-    none : nat_eq i x ≡ false → ((r : ℕ) → r < length ids → slice_index ids r ≢ x)
-        → (r : ℕ) → r < length (i ∷ ids) → slice_index (i ∷ ids) r ≢ x
-    none e rest zero within same = true≢false (sym (eq-eqb i x same) ∙ e)
-    none e rest (suc r) within same = rest r (omega arith) same
 
 pub non_empty-some : (part : Option Contribution) (range : Contribution) → non_empty part ≡ Some
     range → part ≡ Some range

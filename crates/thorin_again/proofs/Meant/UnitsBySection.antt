@@ -105,7 +105,7 @@ no-units source cs all rest place none =
     same-ok _ _ (sym (rw (nothing (kind_at place) cs none) at (rest.read place)))
 
 -- what there is at either place
-abbrev each-place : (P : UnitSection → Type 0) → P places.Info → P places.Types
+abbrev pub each-place : (P : UnitSection → Type 0) → P places.Info → P places.Types
     → (place : UnitSection) → P place
 each-place P info types places.Info = info
 each-place P info types places.Types = types

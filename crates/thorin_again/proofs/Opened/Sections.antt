@@ -1,7 +1,7 @@
 -- A written file is opened as an input, its sections are taken, and what is not empty is there
 -- under its name.
-use Rattle.std.proofs.Common.{◌||◌, ◌≡◌, ◌∙◌, ℕ, ◌+◌, ◌≤◌, Bool, true, false, cond, eqb, List, []}
-use Rattle.std.proofs.Common.{◌∷◌, ◌++◌, length, Result, Ok, Some, None, refl, sym, ap, arith, ◌<◌}
+use Rattle.std.proofs.Common.{◌≡◌, ◌∙◌, ℕ, ◌+◌, ◌≤◌, Bool, true, false, cond, eqb, List, [], ◌∷◌}
+use Rattle.std.proofs.Common.{◌++◌, length, Result, Ok, Some, None, refl, sym, ap, arith, ◌<◌}
 use Rattle.std.proofs.Common.{true≢false}
 use Rattle.std.specs.Prelude.{find, is_some, codes}
 use Rattle.std.proofs.lemmas.Bool.{eqb-true, or_left, or_right}
@@ -22,7 +22,7 @@ use Rattle.dwp_elf_read.specs.declared.kind.FileKind.{FileKind}
 use Rattle.dwp_elf_read.specs.declared.kind.FileKind.TheVariants.{Archive, Elf32, Elf64}
 use Rattle.dwp_index.specs.Contents as contents
 use Rattle.dwp_index.specs.Contents.{is_of_kind}
-use Rattle.thorin_errors.specs.Errors.{ParseFileKind, ParseObjectFile}
+use Rattle.thorin_errors.specs.Errors.{ParseObjectFile}
 use Rattle.thorin_errors.specs.Answers.{as_error}
 use Rattle.thorin_input.specs.Growing.{Contents}
 use Rattle.thorin_again.specs.OwnInput.{written_used, written_object}
@@ -31,7 +31,7 @@ use Rattle.thorin_input.specs.Used.{used_from, input_file_of, first, has_info, i
 use Rattle.thorin_join.proofs.Steps.{err-ok}
 use Rattle.thorin_join.proofs.Files.Contents.{fewer-one, nothing}
 use Rattle.dwp_base.proofs.Steps.{bind-was}
-use Rattle.std.proofs.Math.Bool.{and-false}
+use Rattle.std.proofs.Math.Bool.{and-false, or-false}
 use Rattle.dwp_base.proofs.Bools.{by-bool}
 use Rattle.std.specs.List.{list_any}
 use Rattle.std.proofs.lemmas.List.Folds.{list_any-append}
@@ -47,17 +47,12 @@ in-kind Archive f x bytes file h e = absurd (err-ok NotElf x h)
 in-kind Elf32 f x bytes file h e = ap (as_error ParseObjectFile) e
 in-kind Elf64 f x bytes file h e = ap (as_error ParseObjectFile) e
 
-identity-is : (bytes : List ℕ) (file : Elf) → elf_of bytes ≡ Ok file → (i : _)
-    × (identity_of bytes ≡ Ok i)
-unfolding elf_of
-identity-is bytes file h = let s = bind-was (identity_of bytes) _ file h in (s.0, s.1)
-
 pub opened-elf : (bytes : List ℕ) (file : Elf) → elf_of bytes ≡ Ok file → opened bytes ≡ Ok file
-unfolding opened identity_of
+unfolding opened elf_of identity_of
 opened-elf bytes file h =
-    let i = identity-is bytes file h in
+    let i = bind-was (identity_of bytes) _ file h in
     let k = bind-was (kind_of bytes) _ i.0 i.1 in
-    ap (λ r. as_error ParseFileKind r >>= elf_in bytes) k.1 ∙ in-kind k.0 _ i.0 bytes file k.2 h
+    rw k.1 (in-kind k.0 _ i.0 bytes file k.2 h)
 
 -- ---- the sections of written contents
 
@@ -107,10 +102,6 @@ pub fresh-rest : (seen : SectionKind → Bool) (c : SectionKind × List ℕ) (cs
 fresh-rest seen c cs fresh kind there = fewer (same_kind c.0 kind) (count_of kind cs)
     (fresh kind there)
 
-only-left : (a b : Bool) → (a || b) ≡ true → b ≡ false → a ≡ true
-only-left true b h e = refl
-only-left false b h e = absurd cc
-
 -- one more was seen, of the kind of the first
 pub fresh-more : {X : Type 0} (test : SectionKind → X → Bool) (xs : List X) (x : X)
     (c : SectionKind × List ℕ) (cs : Contents)
@@ -120,8 +111,8 @@ pub fresh-more : {X : Type 0} (test : SectionKind → X → Bool) (xs : List X) 
 fresh-more test xs x c cs same differ fresh kind there =
     by-bool _ (same_kind c.0 kind)
     (λ e. last-counts (same_kind c.0 kind) (count_of kind cs) e (differ kind))
-    (λ e. fresh-rest (λ k. list_any (test k) xs) c cs fresh kind (only-left _ _
-    (sym (list_any-append (test kind) xs (x ∷ [])) ∙ there) (rw (same kind, e) refl)))
+    (λ e. fresh-rest (λ k. list_any (test k) xs) c cs fresh kind
+    (rw (list_any-append (test kind) xs (x ∷ []), same kind, e, or-false) at there))
 
 pub not-seen : (seen : SectionKind → Bool) (c : SectionKind × List ℕ) (cs : Contents)
     → Fresh seen (c ∷ cs) → seen c.0 ≡ false
