@@ -59,7 +59,7 @@ use Rattle.thorin_again.specs.Again.{HaveEncodingOf, MeansOnceWritten}
 use Rattle.thorin_join.specs.Meaning.{Meaning, pieces_by, keys}
 use Rattle.thorin_input.specs.Names.{same_name}
 use Rattle.thorin_join.proofs.Units.NamesApart.{apart-none}
-use Rattle.thorin_again.proofs.Lists.PlainInputs.{InputsSound}
+use Rattle.thorin_again.proofs.Lists.Held.{InputsSound}
 use Rattle.thorin_again.proofs.Lists.StringsWhole.{own-encoded, alone-whole, FinishedLaw}
 use Rattle.thorin_again.proofs.Lists.HeadersEncoded.{AreEncoded}
 use Rattle.thorin_again.proofs.Accepted.Alone.{apart-distinct, taken-input, alone-units}
