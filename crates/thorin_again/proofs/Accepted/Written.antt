@@ -38,7 +38,7 @@ use Rattle.thorin_join.specs.Represents.{IsSoundBegun, units_of, units_begun, un
 use Rattle.thorin_join.specs.State.{InProgress, adding, abbreviations_test, with_source, kind_at}
 use Rattle.thorin_join.specs.State.{names_of}
 use Rattle.thorin_input.specs.Used.{counts_once}
-use Rattle.thorin_join.proofs.Files.Indexes.{IndexIsRead, IndexHasEntries, SomeIndex, NoIndex}
+use Rattle.thorin_join.proofs.Files.Indexes.{IndexIsRead, IndexHasEntries}
 use Rattle.thorin_join.proofs.Joined.Input.{new-sound}
 use Rattle.thorin_again.proofs.Offsets.OfPackage.{finished-shared, own-offsets, own-offsets-alone}
 use Rattle.thorin_again.proofs.Opened.Indexes.{in-format, lie-used, up-to-parts, OwnMade, own-made}
@@ -237,7 +237,7 @@ names-distinct (Some made) sound = rw (keys-units made) (apart-distinct (names_o
 
 module _ (names : NamesTheSameLaw) (law : PackagedLaw) (reads : UnitsAreTaken)
     (first_law : FirstLaw) (find_law : FindLaw) (is_read : IndexIsRead)
-    (has_entries : IndexHasEntries) (some_index : SomeIndex) (none_index : NoIndex) where
+    (has_entries : IndexHasEntries) where
   -- a package of its byte order takes them, unless it is foreseen otherwise
   pub own-all : (state : State) (file : File)
       → IsSoundBegun state.begun → HoldsOwn state → HoldsPlain state → finish_test state ≡ Ok tt
@@ -248,10 +248,9 @@ module _ (names : NamesTheSameLaw) (law : PackagedLaw) (reads : UnitsAreTaken)
       let now = package_or_new (written_elf file) before.begun in
       let table = (new-sound (written_elf file) before.begun fine).units.table in
       taken-unless state file w is_read IsForeseen before same (λ indexes read. (
-        foreseen _ (own-offsets is_read has_entries some_index none_index state w.encoding file
+        foreseen _ (own-offsets is_read has_entries state w.encoding file
             w.own g.made g.begun w.plain indexes read now.strings),
-        λ p e. own-units names law reads first_law find_law is_read has_entries some_index
-            none_index state w.encoding file w.own g.made g.begun w.plain indexes read now p.0 p.1
+        λ p e. own-units names law reads first_law find_law is_read has_entries state w.encoding file w.own g.made g.begun w.plain indexes read now p.0 p.1
             table e,
       ))
 
@@ -264,11 +263,10 @@ module _ (names : NamesTheSameLaw) (law : PackagedLaw) (reads : UnitsAreTaken)
       let table = (new-sound (written_elf file) None tt).units.table in
       answered (taken (file_text file) start) (taken-unless state file w is_read (λ e. ⊥) start refl
       (λ indexes read.
-      let o = own-offsets-alone is_read has_entries some_index none_index state w.encoding file
+      let o = own-offsets-alone is_read has_entries state w.encoding file
       w.own g.made g.begun w.plain indexes read in (
         unless-ok (λ e. ⊥) _ o.0 o.1,
-        λ p e. let all = own-units-new names law reads first_law find_law is_read has_entries
-            some_index none_index state w.encoding file w.own g.made g.begun w.plain indexes read
+        λ p e. let all = own-units-new names law reads first_law find_law is_read has_entries state w.encoding file w.own g.made g.begun w.plain indexes read
             new refl p.0 p.1 table e in
             unless-ok (λ e. ⊥) _ all.0 all.1,
       )))

@@ -1,6 +1,6 @@
 -- The units of a section of a written package mean what its rows do, in their order.
 use Rattle.std.proofs.Common.{◌≡◌, ◌∙◌, false, cond, List, [], ◌∷◌, ◌++◌, map, ap, sym}
-use Rattle.std.proofs.Common.{subst, ℕ, suc, arith, All, Result, Ok, Option, Some}
+use Rattle.std.proofs.Common.{subst, ℕ, suc, arith, All, Result, Ok, Option}
 use Rattle.dwp_bytes.specs.Input.{section}
 use Rattle.dwp_bytes.specs.declared.error.ReadError.{ReadError}
 use Rattle.dwp_dwarf.specs.Units.{Unit as Header, UnitsAreTaken, units}

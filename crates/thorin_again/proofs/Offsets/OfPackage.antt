@@ -36,7 +36,7 @@ use Rattle.thorin_input.specs.Used.{first}
 use Rattle.thorin_packaged.specs.PackagedOffsets.{packaged_offsets, rewritten_from}
 use Rattle.thorin_packaged.specs.PackagedReading.{range_bytes}
 use Rattle.thorin_join.proofs.Parts.FirstUses.{slice-long}
-use Rattle.thorin_join.proofs.Files.Indexes.{IndexIsRead, IndexHasEntries, SomeIndex, NoIndex}
+use Rattle.thorin_join.proofs.Files.Indexes.{IndexIsRead, IndexHasEntries}
 use Rattle.thorin_join.proofs.Rows.Stay.{part-inside}
 use Rattle.thorin_again.proofs.Offsets.RangesApart.{AreNamed, CanRewrite, are-named, all-rewritten}
 use Rattle.thorin_again.proofs.Offsets.RangesApart.{packaged-are}
@@ -112,8 +112,7 @@ pub record IsReadOf (state : State) (encoding : Encoding) (file : File)
   pub all : AllOf encoding (units_of made)
   pub again : IsAgain (own_source file encoding indexes) file.contents made.strings made.rows
 
-module _ (is_read : IndexIsRead) (has_entries : IndexHasEntries) (some_index : SomeIndex)
-    (none_index : NoIndex) (state : State) (encoding : Encoding) (file : File)
+module _ (is_read : IndexIsRead) (has_entries : IndexHasEntries) (state : State) (encoding : Encoding) (file : File)
     (own : IsOwn state encoding file) (other : InProgress) (begun : state.begun ≡ Some other)
     (plain : IsPlain encoding other) (indexes : Indexes)
     (read : indexes_of (written_object file) encoding ≡ Ok indexes) where

@@ -13,7 +13,7 @@ use Rattle.thorin_input.specs.Indexes.{Indexes, indexes_of}
 use Rattle.thorin_input.specs.NewUnits.{New, with_each_read, new_units}
 use Rattle.thorin_input.specs.Parts.{parts_of}
 use Rattle.thorin_join.specs.State.{InProgress, adding}
-use Rattle.thorin_join.proofs.Files.Indexes.{IndexIsRead, IndexHasEntries, SomeIndex, NoIndex}
+use Rattle.thorin_join.proofs.Files.Indexes.{IndexIsRead, IndexHasEntries}
 use Rattle.thorin_join.proofs.Parts.OffsetLaws.{NamesTheSameLaw, PackagedLaw}
 use Rattle.thorin_again.specs.OwnInput.{written_object, IsOwn, own_source}
 use Rattle.thorin_again.specs.OwnRefusals.{UnlessForeseen}
@@ -25,7 +25,7 @@ use Rattle.thorin_again.proofs.Taken.ReadAgain.{read-again}
 
 module _ (names : NamesTheSameLaw) (law : PackagedLaw) (taken : UnitsAreTaken)
     (first_law : FirstLaw) (find_law : FindLaw) (is_read : IndexIsRead)
-    (has_entries : IndexHasEntries) (some_index : SomeIndex) (none_index : NoIndex)
+    (has_entries : IndexHasEntries)
     (state : State) (encoding : Encoding) (file : File) (own : IsOwn state encoding file)
     (made : InProgress) (begun : state.begun ≡ Some made) (plain : IsPlain encoding made)
     (indexes : Indexes) (read : indexes_of (written_object file) encoding ≡ Ok indexes)
@@ -36,7 +36,7 @@ module _ (names : NamesTheSameLaw) (law : PackagedLaw) (taken : UnitsAreTaken)
       → Fares is_new (λ new. Unit {0})
       (new_units (adding (own_source file encoding indexes) before parts))
   own-fare is_new none_there parts after table parts_are =
-      let is = read-again is_read has_entries some_index none_index state encoding file own made
+      let is = read-again is_read has_entries state encoding file own made
       begun plain indexes read in
       let add = adding (own_source file encoding indexes) before parts in
       new-taken is_new add file.contents is.made.rows

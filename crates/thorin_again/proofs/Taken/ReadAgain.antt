@@ -23,7 +23,7 @@ use Rattle.thorin_again.specs.Plain.{NamesItself, IsPlain}
 use Rattle.thorin_join.specs.Represents.{IsSound, LieInside, AreRowsOf, meaning_at}
 use Rattle.thorin_join.specs.StandApart.{EachRow}
 use Rattle.thorin_join.specs.State.{InProgress, kind_at}
-use Rattle.thorin_join.proofs.Files.Indexes.{IndexIsRead, IndexHasEntries, SomeIndex, NoIndex}
+use Rattle.thorin_join.proofs.Files.Indexes.{IndexIsRead, IndexHasEntries}
 use Rattle.thorin_join.proofs.Rows.Stay.{Grows, keep-rows, keep-lie}
 use Rattle.thorin_again.proofs.Kept.Names.{keep-names, both-rows}
 use Rattle.thorin_again.proofs.Offsets.Tiled.{weaker}
@@ -75,14 +75,14 @@ pub laid-at : (made : InProgress) → IsSound made → (place : UnitSection)
 laid-at made sound places.Info = sound.laid.info
 laid-at made sound places.Types = sound.laid.types
 
-pub read-again : IndexIsRead → IndexHasEntries → SomeIndex → NoIndex → (state : State)
+pub read-again : IndexIsRead → IndexHasEntries → (state : State)
     (encoding : Encoding) (file : File) → IsOwn state encoding file
     → (made : InProgress) → state.begun ≡ Some made → IsPlain encoding made → (indexes : Indexes)
     → indexes_of (written_object file) encoding ≡ Ok indexes
     → IsReadAgain encoding file indexes
-read-again is_read has_entries some_index none_index state encoding file own other begun plain
+read-again is_read has_entries state encoding file own other begun plain
     indexes read =
-    let is = read-of is_read has_entries some_index none_index state encoding file own other begun
+    let is = read-of is_read has_entries state encoding file own other begun
     plain indexes read in
     let made = is.made in
     let f = is.finished in

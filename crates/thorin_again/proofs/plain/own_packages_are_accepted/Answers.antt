@@ -10,5 +10,3 @@ returns c = own-all
     c.look_up_finds_exactly.ensures.exact
     c.written_index_is_read.ensures
     c.written_index_has_the_entries.ensures
-    c.contents_are_read.ensures.index
-    c.contents_are_read.ensures.no_index

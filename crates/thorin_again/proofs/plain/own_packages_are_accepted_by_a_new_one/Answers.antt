@@ -10,8 +10,6 @@ returns c = own-by-new
     c.look_up_finds_exactly.ensures.exact
     c.written_index_is_read.ensures
     c.written_index_has_the_entries.ensures
-    c.contents_are_read.ensures.index
-    c.contents_are_read.ensures.no_index
     c.inputs_are_joined.ensures.sound
     c.inputs_are_joined.ensures.joins
     c.written_packages_mean_their_units.ensures

@@ -3,4 +3,3 @@ use Rattle.thorin_again.proofs.plain.own_string_offsets_are_rewritten.Goals as g
 
 pub returns : goal.returns
 returns c = own-offsets c.written_index_is_read.ensures c.written_index_has_the_entries.ensures
-    c.contents_are_read.ensures.index c.contents_are_read.ensures.no_index
