@@ -71,100 +71,90 @@ first-front kind (s ∷ ss) =
 
 -- ---- units that are added name themselves
 
--- what is so of a unit that is added behind contents in which abbreviations are these
-record CanName (order : Endianness) (encoding : Encoding) (c : Contents) (u : DwarfObject
-    × NewUnit) : Type 0 where
-  fits : Fits u.1.row u.0 u.1.bytes u.1.place
-  lie : LieInside c u.1.row
-  named : (alone : Header) (rest : Input) → unit_at u.1.place (section order u.1.bytes) ≡
-      Ok (alone, rest)
-      → (alone.encoding ≡ encoding)
-      × (identity (section order (part_of (content_of kinds.Abbrev c) u.1.row.debug_abbrev)) alone
-      ≡ Ok (Some u.0))
+module _ (order : Endianness) (encoding : Encoding) where
+  -- what is so of a unit that is added behind contents in which abbreviations are these
+  record CanName (c : Contents) (u : DwarfObject × NewUnit) : Type 0 where
+    fits : Fits u.1.row u.0 u.1.bytes u.1.place
+    lie : LieInside c u.1.row
+    named : (alone : Header) (rest : Input)
+        → unit_at u.1.place (section order u.1.bytes) ≡ Ok (alone, rest)
+        → (alone.encoding ≡ encoding)
+        × (identity (section order (part_of (content_of kinds.Abbrev c) u.1.row.debug_abbrev)) alone
+        ≡ Ok (Some u.0))
 
--- a row that lies inside, and whose unit names itself
-abbrev Stands : Endianness → Encoding → Contents → IndexEntry → Type 0
-Stands order encoding c row = LieInside c row × NamesItself order encoding c row
+  -- a row that lies inside, and whose unit names itself
+  abbrev Stands : Contents → IndexEntry → Type 0
+  Stands c row = LieInside c row × NamesItself order encoding c row
 
-pub keep-names : (order : Endianness) (encoding : Encoding) (c d : Contents) (row : IndexEntry)
-    → Grows c d → LieInside c row → NamesItself order encoding c row
-    → NamesItself order encoding d row
-keep-names order encoding c d row grows lie names unit rest read =
-    let own : unit_bytes d row ≡ unit_bytes c row = keep-part c d row grows lie
-    (kind_at (place_of row.id row.debug_types)) in
-    let there = names unit rest (ap (λ l. unit_at (place_of row.id row.debug_types)
-    (section order l)) (sym own) ∙ read) in
-    (there.0, rw (keep-part c d row grows lie kinds.Abbrev) there.1)
+  pub keep-names : (c d : Contents) (row : IndexEntry) → Grows c d → LieInside c row
+      → NamesItself order encoding c row → NamesItself order encoding d row
+  keep-names c d row grows lie names unit rest read =
+      let place = place_of row.id row.debug_types in
+      let own : unit_bytes d row ≡ unit_bytes c row = keep-part c d row grows lie (kind_at place) in
+      let there = names unit rest (ap (λ l. unit_at place (section order l)) (sym own) ∙ read) in
+      (there.0, rw (keep-part c d row grows lie kinds.Abbrev) there.1)
 
-keep-stands : (order : Endianness) (encoding : Encoding) (c d : Contents) (rows : List IndexEntry)
-    → Grows c d → EachRow (Stands order encoding c) rows → EachRow (Stands order encoding d) rows
-keep-stands order encoding c d rows grows h =
-    weaker (Stands order encoding c) (Stands order encoding d) (λ row s.
-    (keep-lie c d row grows s.0, keep-names order encoding c d row grows s.0 s.1)) rows h
+  keep-stands : (c d : Contents) → Grows c d → (row : IndexEntry) → Stands c row → Stands d row
+  keep-stands c d grows row s = (keep-lie c d row grows s.0, keep-names c d row grows s.0 s.1)
 
-keep-can : (order : Endianness) (encoding : Encoding) (c d : Contents) → Grows c d
-    → (u : DwarfObject × NewUnit) → CanName order encoding c u → CanName order encoding d u
-keep-can order encoding c d grows u h = record {
-  fits = h.fits;
-  lie = keep-lie c d u.1.row grows h.lie;
-  named = λ alone rest read. let there = h.named alone rest read in
-      (there.0, rw (keep-part c d u.1.row grows h.lie kinds.Abbrev) there.1);
-}
+  keep-can : (c d : Contents) → Grows c d → (u : DwarfObject × NewUnit) → CanName c u → CanName d u
+  keep-can c d grows u h = record {
+    fits = h.fits;
+    lie = keep-lie c d u.1.row grows h.lie;
+    named = λ alone rest read. let there = h.named alone rest read in
+        (there.0, rw (keep-part c d u.1.row grows h.lie kinds.Abbrev) there.1);
+  }
 
-new-stands : (order : Endianness) (encoding : Encoding) (c : Contents) (u : DwarfObject × NewUnit)
-    → CanName order encoding c u
-    → Stands order encoding (with_bytes (kind_at u.1.place) u.1.bytes c)
-    (row_at u.1.row c u.0 u.1.bytes u.1.place)
-new-stands order encoding c u can =
-    let place = u.1.place in
-    let x = u.1.bytes in
-    let shared = u.1.row in
-    let k = kind_at place in
-    let d = with_bytes k x c in
-    let row = row_at shared c u.0 x place in
-    let grows = grows-with_bytes k x c in
-    let id = row-name shared c u.0 x place in
-    let place_is : place_of row.id row.debug_types ≡ place = ap (λ n. place_of n row.debug_types) id
-    ∙ sym (own-place shared c u.0 x place can.fits) in
-    let own : unit_bytes d row ≡ x = ap (λ p. part_of (content_of (kind_at p) d)
-    (contribution_to (kind_at p) row)) place_is ∙ ap (part_of (content_of k d))
-    (row-own shared c u.0 x place) ∙ part-put k x c can.fits.some in
-    let abbreviations : part_of (content_of kinds.Abbrev d) row.debug_abbrev ≡ part_of
-    (content_of kinds.Abbrev c) shared.debug_abbrev =
-    ap (part_of (content_of kinds.Abbrev d)) (shared-row shared c u.0 x place kinds.Abbrev refl) ∙
-    keep-part c d shared grows can.lie kinds.Abbrev in (
-      record {
-        inside = λ kind range is. (lie-by shared c k x kind (contribution_to kind row) range
-            can.fits.some can.lie is (row-part shared c u.0 x place kind)).0;
-        some = λ kind range is. (lie-by shared c k x kind (contribution_to kind row) range
-            can.fits.some can.lie is (row-part shared c u.0 x place kind)).1;
-      },
-      λ unit rest read.
-          let there = can.named unit rest
-          ((λ i. unit_at (sym place_is i) (section order (sym own i))) ∙ read) in (
-            there.0,
-            ap (λ l. identity (section order l) unit) abbreviations ∙ there.1 ∙ ap (λ n.
-                Ok (Some n)) (sym id),
-          ),
-    )
+  new-stands : (c : Contents) (u : DwarfObject × NewUnit) → CanName c u
+      → Stands (with_bytes (kind_at u.1.place) u.1.bytes c)
+      (row_at u.1.row c u.0 u.1.bytes u.1.place)
+  new-stands c u can =
+      let place = u.1.place in
+      let x = u.1.bytes in
+      let shared = u.1.row in
+      let k = kind_at place in
+      let d = with_bytes k x c in
+      let row = row_at shared c u.0 x place in
+      let id = row-name shared c u.0 x place in
+      let lies = λ (kind : SectionKind) (range : Contribution)
+      (is : contribution_to kind row ≡ Some range). lie-by shared c k x kind
+      (contribution_to kind row) range can.fits.some can.lie is (row-part shared c u.0 x place kind)
+      in
+      let place_is : place_of row.id row.debug_types ≡ place =
+      ap (λ n. place_of n row.debug_types) id ∙ sym (own-place shared c u.0 x place can.fits) in
+      let own : unit_bytes d row ≡ x = ap (λ p. part_of (content_of (kind_at p) d)
+      (contribution_to (kind_at p) row)) place_is ∙ ap (part_of (content_of k d))
+      (row-own shared c u.0 x place) ∙ part-put k x c can.fits.some in
+      let abbreviations : part_of (content_of kinds.Abbrev d) row.debug_abbrev ≡ part_of
+      (content_of kinds.Abbrev c) shared.debug_abbrev =
+      ap (part_of (content_of kinds.Abbrev d)) (shared-row shared c u.0 x place kinds.Abbrev refl)
+      ∙ keep-part c d shared (grows-with_bytes k x c) can.lie kinds.Abbrev in (
+        record {
+          inside = λ kind range is. (lies kind range is).0;
+          some = λ kind range is. (lies kind range is).1;
+        },
+        λ unit rest read.
+            let there = can.named unit rest
+            ((λ i. unit_at (sym place_is i) (section order (sym own i))) ∙ read) in
+            (there.0, rw (abbreviations, id) there.1),
+      )
 
-units-stand : (order : Endianness) (encoding : Encoding) (p : InProgress)
-    (us : List (DwarfObject × NewUnit)) → Each (CanName order encoding p.file.contents) us
-    → EachRow (Stands order encoding p.file.contents) p.rows
-    → EachRow (Stands order encoding (with_new_units p us).file.contents) (with_new_units p us).rows
-units-stand order encoding p us can h =
-    (in-turn (λ q vs. Each (CanName order encoding q.file.contents) vs
-    × EachRow (Stands order encoding q.file.contents) q.rows)
-    (λ q v vs there k. (k.0.1, k.1))
-    (λ q v vs k.
-    let c = q.file.contents in
-    let d : Contents = with_bytes (kind_at v.1.place) v.1.bytes c in
-    let grows : Grows c d = grows-with_bytes (kind_at v.1.place) v.1.bytes c in (
-      each-weaker (CanName order encoding c) (CanName order encoding d) (keep-can order encoding c d
-          grows) vs k.0.1,
-      row-append (Stands order encoding d) q.rows (row_at v.1.row c v.0 v.1.bytes v.1.place)
-          (keep-stands order encoding c d q.rows grows k.1) (new-stands order encoding c v k.0.0),
-    )) p us (can, h)).1
+  units-stand : (p : InProgress) (us : List (DwarfObject × NewUnit))
+      → Each (CanName p.file.contents) us → EachRow (Stands p.file.contents) p.rows
+      → EachRow (Stands (with_new_units p us).file.contents) (with_new_units p us).rows
+  units-stand p us can h =
+      (in-turn (λ q vs. Each (CanName q.file.contents) vs
+      × EachRow (Stands q.file.contents) q.rows)
+      (λ q v vs there k. (k.0.1, k.1))
+      (λ q v vs k.
+      let c = q.file.contents in
+      let d : Contents = with_bytes (kind_at v.1.place) v.1.bytes c in
+      let grows : Grows c d = grows-with_bytes (kind_at v.1.place) v.1.bytes c in (
+        each-weaker (CanName c) (CanName d) (keep-can c d grows) vs k.0.1,
+        row-append (Stands d) q.rows (row_at v.1.row c v.0 v.1.bytes v.1.place)
+            (weaker (Stands c) (Stands d) (keep-stands c d grows) q.rows k.1)
+            (new-stands c v k.0.0),
+      )) p us (can, h)).1
 
 -- ---- those of a plain object
 
@@ -278,8 +268,9 @@ names-kept taken alone source before now plain has sound same h named =
     let old : EachRow (Stands order encoding c) before.rows =
     both-rows (LieInside c) (NamesItself order encoding c) before.rows (sound-inside before sound)
     (subst (λ o. EachRow (NamesItself o encoding c) before.rows) (sym same) named) in
-    let stand = units-stand order encoding q a.new.units can (keep-stands order encoding c
-    q.file.contents before.rows (grows-with_parts a.parts c) old) in
+    let stand = units-stand order encoding q a.new.units can (weaker (Stands order encoding c)
+    (Stands order encoding q.file.contents) (keep-stands order encoding c q.file.contents
+    (grows-with_parts a.parts c)) before.rows old) in
     let order_is : order ≡ now.file.order = same ∙ sym (order-added source before now a) in
     subst (λ o. EachRow (NamesItself o encoding now.file.contents) now.rows) order_is
     (subst (λ (p : InProgress). EachRow (NamesItself order encoding p.file.contents)

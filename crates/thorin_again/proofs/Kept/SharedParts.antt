@@ -94,24 +94,32 @@ abbrev pub parted : (source : Source) (before now : InProgress) → PlainAdded s
 parted source before now a =
     with_all_parts before a.parts a.after (before.differing ++ a.new.differing)
 
-pub order-added : (source : Source) (before now : InProgress) → PlainAdded source before now
-    → now.file.order ≡ before.file.order
-order-added source before now a =
-    ap (λ (p : InProgress). p.file.order) a.is ∙ each-unit (λ p. p.file.order ≡ before.file.order)
-    (λ p u h. h) (parted source before now a) a.new.units refl
+module _ (source : Source) (before now : InProgress) (a : PlainAdded source before now) where
+  pub order-added : now.file.order ≡ before.file.order
+  order-added = ap (λ (p : InProgress). p.file.order) a.is ∙ each-unit (λ p. p.file.order ≡
+      before.file.order) (λ p u h. h) (parted source before now a) a.new.units refl
 
--- the content of a shared section is then what was there, and the part
-pub content-added : (source : Source) (before now : InProgress) (a : PlainAdded source before now)
-    (kind : SectionKind) → is_shared kind ≡ true
-    → content_of kind now.file.contents ≡ content_of kind before.file.contents ++
-    joined_parts kind a.parts
-content-added source before now a kind shared =
-    let q = parted source before now a in
-    ap (λ (p : InProgress). content_of kind p.file.contents) a.is
-    ∙ each-unit (λ p. content_of kind p.file.contents ≡ content_of kind q.file.contents)
-    (λ p u h. content-with_bytes kind (kind_at u.1.place) u.1.bytes p.file.contents
-    ∙ rw (shared-apart u.1.place kind shared) h) q a.new.units refl
-    ∙ content-with_parts kind a.parts before.file.contents
+  -- the content of a shared section is then what was there, and the part
+  pub content-added : (kind : SectionKind) → is_shared kind ≡ true → content_of kind
+      now.file.contents ≡ content_of kind before.file.contents ++ joined_parts kind a.parts
+  content-added kind shared =
+      let q = parted source before now a in
+      ap (λ (p : InProgress). content_of kind p.file.contents) a.is
+      ∙ each-unit (λ p. content_of kind p.file.contents ≡ content_of kind q.file.contents)
+      (λ p u h. content-with_bytes kind (kind_at u.1.place) u.1.bytes p.file.contents
+      ∙ rw (shared-apart u.1.place kind shared) h) q a.new.units refl
+      ∙ content-with_parts kind a.parts before.file.contents
+
+  -- what a unit more makes so, where one was added
+  pub once-more : length before.rows < length now.rows
+      → (P : InProgress → Type 0) (Q : DwarfObject × NewUnit → Type 0)
+      → ((p : InProgress) (u : DwarfObject × NewUnit) → Q u → P (with_unit_added p u))
+      → Each Q a.new.units → P now
+  once-more more P Q makes new =
+      let q = parted source before now a in
+      subst P (sym a.is) (each-added (λ p. length q.rows < length p.rows → P p) Q (λ p u has k less.
+      makes p u has) q a.new.units new (λ less. absurd (omega (arith, less)))
+      (subst (λ (p : InProgress). length before.rows < length p.rows) a.is more))
 
 -- ---- the rows of a plain object's units
 
@@ -144,18 +152,6 @@ rows-share source before now a plain kind shared P h =
     kind shared ∙ plain-part source before a.parts n r plain is kind shared)) h) a.new.units
     (joining (keys (adding source before a.parts).held) a.all) a.are
     (each-all (λ r. Unit {0}) (λ r. tt) (joining (keys (adding source before a.parts).held) a.all))
-
--- what a unit more makes so, where one was added
-pub once-more : (source : Source) (before now : InProgress) (a : PlainAdded source before now)
-    → length before.rows < length now.rows
-    → (P : InProgress → Type 0) (Q : DwarfObject × NewUnit → Type 0)
-    → ((p : InProgress) (u : DwarfObject × NewUnit) → Q u → P (with_unit_added p u))
-    → Each Q a.new.units → P now
-once-more source before now a more P Q makes new =
-    let q = parted source before now a in
-    subst P (sym a.is) (each-added (λ p. length q.rows < length p.rows → P p) Q (λ p u has k less.
-    makes p u has) q a.new.units new (λ less. absurd (omega (arith, less)))
-    (subst (λ (p : InProgress). length before.rows < length p.rows) a.is more))
 
 pub named-kept : (source : Source) (before now : InProgress) → is_package source.indexes ≡ false
     → with_source source before ≡ Ok now → length before.rows < length now.rows
