@@ -26,7 +26,8 @@ use Rattle.thorin_again.proofs.Kept.EachUnit.{each-added, each-unit}
 use Rattle.thorin_again.proofs.Kept.SharedParts.{PlainAdded, plain-added, parted, order-added}
 use Rattle.thorin_again.proofs.Kept.SharedParts.{content-added, RowHas, rows-share, once-more}
 use Rattle.thorin_join.proofs.Rows.OneAdded.{place-put, range_for, own-bytes}
-use Rattle.thorin_again.proofs.Offsets.WholeRanges.{PartFills, part-fills, unchanged}
+use Rattle.thorin_again.proofs.Offsets.WholeRanges.{MadeBy, part-made, made-fills, unchanged}
+use Rattle.thorin_input.specs.Parts.{has_part}
 use Rattle.thorin_join.proofs.Parts.FirstUses.{units-strings}
 
 -- ---- rows that are added
@@ -113,8 +114,8 @@ module _ (names : NamesTheSameLaw) (source : Source) (before now : InProgress)
   abbrev range : Contribution
   range = range_for StrOffsets joined before.file.contents
 
-  abbrev part : PartFills names source plain before.strings joined a.after
-  part = part-fills names source plain before.strings a.parts a.after table a.parts_are
+  abbrev part : MadeBy names source plain before.strings (a.parts, a.after)
+  part = part-made names source plain before.strings a.parts a.after table a.parts_are
 
   -- where a range is put, the ranges give the strings after it
   more-strings : IsWholeRange order source.encoding (length joined)
@@ -172,33 +173,35 @@ module _ (names : NamesTheSameLaw) (source : Source) (before now : InProgress)
       a.new.units (tiled.named r there))
 
   pub tiled-kept : HasTiledOffsets source.encoding now
-  tiled-kept = elim part.fills [
-    | inl none ↦
-        let empty = no-bytes joined none in
-        let same_strings =
-        unchanged names source plain before.strings joined a.after none part in
-        made-so tiled.ranges (rw (none, add-zero (length old)) tiled.tile) (λ row has. has)
-        (λ r e. absurd (none-some r (rw none at e)))
-        named-before (gives-same order order source.encoding old (old ++ joined) tiled.ranges
-        before.strings a.after refl (ap (λ l. old ++ l) empty ∙ append-nil old) same_strings
-        tiled.strings)
-    | inr whole ↦
-        let is_whole = subst (λ o. IsWholeRange o source.encoding (length joined)) same whole in
-        let put = place-put StrOffsets joined before.file.contents whole.some in
-        made-so (tiled.ranges ++ range ∷ [])
-        (tile-append order source.encoding 0 tiled.ranges (length old) range tiled.tile refl
-        is_whole)
-        (λ row has r e. among-more r range tiled.ranges (has r e))
-        (λ r e. subst (λ x. IsAmong x (tiled.ranges ++ range ∷ []))
-        (same_Some range r (sym put ∙ e)) (among-last range tiled.ranges))
-        (λ r there. elim (among-or r range tiled.ranges there) [
-          | inl k ↦ named-before r k
-          | inr e ↦ subst (λ x. IsOfSome x now.rows) (sym e) (once-more source before now a more
-              (λ p. IsOfSome range p.rows) (RowHas (λ row. row.debug_str_offsets ≡ Some range))
-              (λ p u has. some-last range p.rows (row_at u.1.row p.file.contents u.0 u.1.bytes
-              u.1.place) (has p.file.contents))
-              (rows-share source before now a plain StrOffsets refl (λ part. part ≡ Some range)
-              put))
-        ])
-        (more-strings is_whole)
-  ]
+  tiled-kept = elim (made-fills names source plain before.strings joined a.after
+      (has_part StrOffsets a.parts) part) [
+        | inl none ↦
+            let empty = no-bytes joined none in
+            let same_strings =
+            unchanged names source plain before.strings joined a.after
+            (has_part StrOffsets a.parts) none part in
+            made-so tiled.ranges (rw (none, add-zero (length old)) tiled.tile) (λ row has. has)
+            (λ r e. absurd (none-some r (rw none at e)))
+            named-before (gives-same order order source.encoding old (old ++ joined) tiled.ranges
+            before.strings a.after refl (ap (λ l. old ++ l) empty ∙ append-nil old) same_strings
+            tiled.strings)
+        | inr whole ↦
+            let is_whole = subst (λ o. IsWholeRange o source.encoding (length joined)) same whole in
+            let put = place-put StrOffsets joined before.file.contents whole.some in
+            made-so (tiled.ranges ++ range ∷ [])
+            (tile-append order source.encoding 0 tiled.ranges (length old) range tiled.tile refl
+            is_whole)
+            (λ row has r e. among-more r range tiled.ranges (has r e))
+            (λ r e. subst (λ x. IsAmong x (tiled.ranges ++ range ∷ []))
+            (same_Some range r (sym put ∙ e)) (among-last range tiled.ranges))
+            (λ r there. elim (among-or r range tiled.ranges there) [
+              | inl k ↦ named-before r k
+              | inr e ↦ subst (λ x. IsOfSome x now.rows) (sym e) (once-more source before now a more
+                  (λ p. IsOfSome range p.rows) (RowHas (λ row. row.debug_str_offsets ≡ Some range))
+                  (λ p u has. some-last range p.rows (row_at u.1.row p.file.contents u.0 u.1.bytes
+                  u.1.place) (has p.file.contents))
+                  (rows-share source before now a plain StrOffsets refl (λ part. part ≡ Some range)
+                  put))
+            ])
+            (more-strings is_whole)
+      ]
