@@ -55,13 +55,10 @@ use Rattle.thorin_join.specs.State.{InProgress, kind_at, names_of, adding, with_
 use Rattle.thorin_join.specs.State.{with_new_units, with_source}
 use Rattle.thorin_join.proofs.Units.JoinedByName.{added-keys}
 use Rattle.thorin_join.proofs.Parts.Appended.{content-with_bytes, content-with_parts, differ}
-use Rattle.thorin_again.proofs.Kept.EachUnit.{Each, News, each-added, each-both, each-go}
-use Rattle.thorin_again.proofs.Kept.EachUnit.{each-joining, each-new, each-weaker, in-turn}
-use Rattle.thorin_again.proofs.Kept.EachUnit.{units-are, WasRead}
-use Rattle.thorin_again.proofs.Kept.SharedParts.{plain-added, parted}
+use Rattle.thorin_again.proofs.Kept.EachUnit.{Each, News, each-added, in-turn, WasRead}
+use Rattle.thorin_again.proofs.Kept.SharedParts.{plain-added, parted, news-are}
 use Rattle.thorin_join.proofs.Joined.Source.{keys-held}
 use Rattle.thorin_join.proofs.Rows.AllAdded.{names-added}
-use Rattle.thorin_join.proofs.Units.Whole.{Goes, units-go}
 
 -- ---- a unit in info is of version 5, or no type unit
 
@@ -146,10 +143,10 @@ any-behind test (u ∷ us) vs h = or-right (test u.0) _ (any-behind test us vs h
 
 module _ (source : Source) (encoding : Encoding) where
   -- a name is there, of a unit that stands in info
-  pub record FirstNamed (all : Reads) : Type 0 where
-    pub name : DwarfObject
-    pub there : list_any (same_name name) (keys all) ≡ true
-    pub sort : (encoding.version ≡ 5) ⊎ (name_signature name ≡ None)
+  record FirstNamed (all : Reads) : Type 0 where
+    name : DwarfObject
+    there : list_any (same_name name) (keys all) ≡ true
+    sort : (encoding.version ≡ 5) ⊎ (name_signature name ≡ None)
 
   record HeadNamed (u : Header) (us : Reads) : Type 0 where
     read : DwarfObject × UnitRead
@@ -176,7 +173,7 @@ module _ (source : Source) (encoding : Encoding) where
             (f.1 ∙ ap (λ x. Ok x) (ok-some NotSplitUnit f.0 d.0 f.2)) ∙ ap name_signature name;
       }
 
-  pub first-named : (sections : List Used) (all : Reads) → named_sections source sections ≡ Ok all
+  first-named : (sections : List Used) (all : Reads) → named_sections source sections ≡ Ok all
       → first_encoding (units places.Info (section source.object.order (first kinds.Info sections)))
       ≡ Ok encoding → FirstNamed all
   unfolding named_sections
@@ -358,21 +355,16 @@ info-there taken alone source before now is h info =
     let a = plain-added source before now h in
     let q = parted source before now a in
     let add = adding source before a.parts in
-    let order = source.object.order in
     let held = keys add.held in
     let n = first-named source source.encoding source.object.sections a.all a.all_are is in
     let format = each-format source source.object.sections ([], before.strings)
     (a.parts, a.after) a.parts_are in
-    let go = each-weaker (WasRead source (InFormat source.encoding)) (GoesToInfo n.name)
-    (read-goes source n.name n.sort) a.all (units-are source (InFormat source.encoding) a.all format
-    a.all_are) in
-    let whole = each-go order a.all (units-go taken alone source a.all a.all_are) in
-    let put = each-new add (PutInInfo n.name) (λ r. GoesToInfo n.name r × Goes order r)
-    (λ u r are k same. (
-      are.place ∙ k.0 (subst (λ m. same_name n.name m ≡ true) are.name same),
-      subst (λ l. 0 < length l) (sym are.bytes) k.1.some,
-    )) a.new.units (joining held a.all) a.are (each-joining (λ r. GoesToInfo n.name r
-    × Goes order r) held a.all (each-both (GoesToInfo n.name) (Goes order) a.all go whole)) in
+    let put = news-are source before now a taken alone (InFormat source.encoding) format
+    (PutInInfo n.name) (λ u r are goes read same. (
+      are.place ∙ read-goes source n.name n.sort r read
+          (subst (λ m. same_name n.name m ≡ true) are.name same),
+      subst (λ l. 0 < length l) (sym are.bytes) goes.some,
+    )) in
     let has : HasInfo n.name q =
     λ there. omega (
       arith,

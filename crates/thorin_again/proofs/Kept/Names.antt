@@ -16,7 +16,7 @@ use Rattle.dwp_table.specs.declared.object.DwarfObject.TheVariants.{Compilation,
 use Rattle.thorin_identity.specs.Identity.{identity}
 use Rattle.thorin_input.specs.Indexes.{Source, is_package}
 use Rattle.thorin_join.specs.Laid.{type_signature, name_signature}
-use Rattle.thorin_join.specs.Meaning.{UnitRead, keys, joining, joined_content}
+use Rattle.thorin_join.specs.Meaning.{UnitRead, joined_content}
 use Rattle.thorin_input.specs.NewUnits.{name_for, place_for, NewUnit}
 use Rattle.thorin_input.specs.Rows.{abbreviations_for, whole_row}
 use Rattle.thorin_join.specs.State.{kind_at, InProgress, row_at, unit_bytes, adding, with_new_units}
@@ -24,12 +24,11 @@ use Rattle.thorin_join.specs.State.{with_source}
 use Rattle.thorin_input.specs.Used.{first, Used}
 use Rattle.thorin_join.proofs.Units.HeadersRead.{ReadAlone, name-identity, kind-place}
 use Rattle.thorin_join.proofs.Units.Sorts.{identity-sort}
-use Rattle.thorin_again.proofs.Kept.EachUnit.{WasRead, Has, read-encoding, Each, each-both, each-go}
-use Rattle.thorin_again.proofs.Kept.EachUnit.{each-joining, each-new, each-passed, each-weaker}
-use Rattle.thorin_again.proofs.Kept.EachUnit.{in-turn, units-are}
+use Rattle.thorin_again.proofs.Kept.EachUnit.{WasRead, Has, read-encoding, Each, each-passed}
+use Rattle.thorin_again.proofs.Kept.EachUnit.{each-weaker, in-turn}
 use Rattle.thorin_join.proofs.Moved.RootEntries.{identity-shifted}
 use Rattle.thorin_join.proofs.Units.Whole.{ReadsAlone, IsKnown, known-in, other-alone, five-named}
-use Rattle.thorin_join.proofs.Units.Whole.{Goes, units-go}
+use Rattle.thorin_join.proofs.Units.Whole.{Goes}
 use Rattle.thorin_again.proofs.Kept.LongerTables.{ok-some, identity-stays}
 use Rattle.thorin_errors.specs.Errors.{NotSplitUnit}
 use Rattle.dwp_base.proofs.Steps.{bind-was, same-ok}
@@ -57,7 +56,7 @@ use Rattle.thorin_again.proofs.Offsets.Tiled.{row-append, weaker}
 use Rattle.thorin_join.proofs.Rows.OfUnits.{is-unit_row, whole-else}
 use Rattle.thorin_join.proofs.Parts.Appended.{content-with_parts, parts-copied}
 use Rattle.thorin_again.proofs.Kept.SharedParts.{shared-row, plain-part, plain-added, order-added}
-use Rattle.thorin_again.proofs.Kept.SharedParts.{parted}
+use Rattle.thorin_again.proofs.Kept.SharedParts.{parted, news-are}
 use Rattle.thorin_join.proofs.Joined.Source.{grows-with_parts}
 use Rattle.thorin_join.proofs.Rows.StandApart.{sound-inside}
 use Rattle.thorin_join.proofs.Rows.OneAdded.{Fits, content-put, part-put, range_for, row-name}
@@ -68,7 +67,7 @@ use Rattle.thorin_join.proofs.Rows.Meaning.{unshared}
 
 -- a unit, read of its own bytes alone where it goes to, has the encoding, and by these
 -- abbreviations its name
-abbrev pub NamedAlone : Endianness → Encoding → List ℕ → DwarfObject × UnitRead → Type 0
+abbrev NamedAlone : Endianness → Encoding → List ℕ → DwarfObject × UnitRead → Type 0
 NamedAlone order encoding table read = (alone : Header) (rest : Input)
     → unit_at (place_for read.0 read.1.from) (section order read.1.unit.whole.bytes) ≡
     Ok (alone, rest)
@@ -94,7 +93,7 @@ goes-alone order places.Types (Compilation id) unit known sort = other-alone ord
     places.Info unit (five-named unit sort (known.1 refl)) known.0
 goes-alone order places.Types (TypeUnit signature) unit known sort = known.0
 
-pub named-alone : UnitsAreTaken → ReadAlone → (source : Source)
+named-alone : UnitsAreTaken → ReadAlone → (source : Source)
     → is_package source.indexes ≡ false → (read : DwarfObject × UnitRead)
     → WasRead source (Has source) read → NamedAlone source.object.order source.encoding
     (first kinds.Abbrev source.object.sections) read
@@ -250,7 +249,7 @@ module _ (source : Source) (made : InProgress) (parts : Contents) (plain : is_pa
       (λ other. absurd (none-some range (sym (unshared n.1.row (row.info ∙ else.1)
       (row.types ∙ else.2) kind other) ∙ e)))
 
-  pub new-inside : LieInside c n.1.row
+  new-inside : LieInside c n.1.row
   new-inside = record {
     inside = λ kind range e. (all-inside kind range e).0;
     some = λ kind range e.
@@ -312,17 +311,12 @@ names-kept taken alone source before now plain has sound same h named =
     let a = plain-added source before now h in
     let order = source.object.order in
     let encoding = source.encoding in
-    let table = first kinds.Abbrev source.object.sections in
     let q = parted source before now a in
-    let held = keys (adding source before a.parts).held in
-    let can = each-new (adding source before a.parts) (CanName order encoding
-    (with_parts a.parts before.file.contents)) (λ r. Goes order r × NamedAlone order encoding
-    table r) (λ n r is k. can-name source before a.parts a.after n r plain a.parts_are is k.0 k.1)
-    a.new.units (joining held a.all) a.are (each-joining _ held a.all (each-both (Goes order)
-    (NamedAlone order encoding table) a.all (each-go order a.all (units-go taken alone source a.all
-    a.all_are)) (each-weaker (WasRead source (Has source)) (NamedAlone order encoding table)
-    (named-alone taken alone source plain) a.all (units-are source (Has source) a.all
-    (each-passed (section_has encoding order) source.object.sections has) a.all_are)))) in
+    let can = news-are source before now a taken alone (Has source)
+    (each-passed (section_has encoding order) source.object.sections has)
+    (CanName order encoding (with_parts a.parts before.file.contents)) (λ n r is goes read.
+    can-name source before a.parts a.after n r plain a.parts_are is goes
+    (named-alone taken alone source plain r read)) in
     let c = before.file.contents in
     let old : EachRow (Stands order encoding c) before.rows =
     both-rows (LieInside c) (NamesItself order encoding c) before.rows (sound-inside before sound)

@@ -36,9 +36,14 @@ use Rattle.thorin_join.proofs.Parts.Appended.{differ}
 use Rattle.thorin_join.proofs.Joined.Source.{with_all_parts, all-is}
 use Rattle.thorin_join.proofs.Rows.OneAdded.{row-other}
 use Rattle.thorin_again.proofs.Kept.EachUnit.{Each, each-all, each-new, each-added, each-unit}
+use Rattle.thorin_again.proofs.Kept.EachUnit.{each-joining, go-both, units-are, WasRead}
+use Rattle.dwp_dwarf.specs.Units.{UnitsAreTaken}
+use Rattle.thorin_input.specs.Used.{Used}
+use Rattle.thorin_join.proofs.Units.HeadersRead.{ReadAlone}
+use Rattle.thorin_join.proofs.Units.Whole.{Goes, units-go}
 
 -- units' own bytes go to other sections
-pub shared-apart : (place : UnitSection) (kind : SectionKind) → is_shared kind ≡ true
+shared-apart : (place : UnitSection) (kind : SectionKind) → is_shared kind ≡ true
     → same_kind (kind_at place) kind ≡ false
 shared-apart place kind shared = differ (kind_at place) kind (λ e. true≢false (sym shared
     ∙ ap is_shared (sym e) ∙ not-shared place))
@@ -120,6 +125,20 @@ module _ (source : Source) (before now : InProgress) (a : PlainAdded source befo
       subst P (sym a.is) (each-added (λ p. length q.rows < length p.rows → P p) Q (λ p u has k less.
       makes p u has) q a.new.units new (λ less. absurd (omega (arith, less)))
       (subst (λ (p : InProgress). length before.rows < length p.rows) a.is more))
+
+  -- what holds of each unit that was added, for the unit that was read
+  pub news-are : UnitsAreTaken → ReadAlone → (S : Used → Type 0) → Each S source.object.sections
+      → (P : DwarfObject × NewUnit → Type 0)
+      → ((n : DwarfObject × NewUnit) (r : DwarfObject × UnitRead)
+      → IsAdded (adding source before a.parts) n r → Goes source.object.order r
+      → WasRead source S r → P n) → Each P a.new.units
+  news-are taken alone S so P f =
+      let order = source.object.order in
+      let held = keys (adding source before a.parts).held in
+      each-new (adding source before a.parts) P (λ r. Goes order r × WasRead source S r)
+      (λ n r is k. f n r is k.0 k.1) a.new.units (joining held a.all) a.are
+      (each-joining _ held a.all (go-both order (WasRead source S) a.all
+      (units-go taken alone source a.all a.all_are) (units-are source S a.all so a.all_are)))
 
 -- ---- the rows of a plain object's units
 
