@@ -324,10 +324,7 @@ names-kept taken alone source before now plain has sound same h named =
     let stand = units-stand order encoding q a.new.units can (weaker (Stands order encoding c)
     (Stands order encoding q.file.contents) (keep-stands order encoding c q.file.contents
     (grows-with_parts a.parts c)) before.rows old) in
-    let order_is : order ≡ now.file.order = same ∙ sym (order-added source before now a) in
-    subst (λ o. EachRow (NamesItself o encoding now.file.contents) now.rows) order_is
-    (subst (λ (p : InProgress). EachRow (NamesItself order encoding p.file.contents)
-    p.rows) (sym a.is)
-    (weaker (Stands order encoding (with_new_units q a.new.units).file.contents)
-    (NamesItself order encoding (with_new_units q a.new.units).file.contents) (λ row s. s.1)
-    (with_new_units q a.new.units).rows stand))
+    let all = with_new_units q a.new.units in
+    rw (order-added source before now a ∙ sym same, a.is)
+    (weaker (Stands order encoding all.file.contents) (NamesItself order encoding
+    all.file.contents) (λ row s. s.1) all.rows stand)

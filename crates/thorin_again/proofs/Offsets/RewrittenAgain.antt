@@ -90,20 +90,6 @@ module _ (order : Endianness) (encoding : Encoding) where
 
   -- ---- joined ranges without a header
 
-  offset-front : (xs ys : List ℕ) (at : ℕ) → at + width ≤ length xs
-      → offset_at order encoding.format (xs ++ ys) at ≡ offset_at order encoding.format xs at
-  unfolding offset_at
-  offset-front xs ys at room =
-      let here = le-ltb (length (xs ++ ys)) (at + width) (omega (arith, room, length-append xs ys)) in
-      let there = le-ltb (length xs) (at + width) room in
-      let front = drop-append-le at xs ys (omega (arith, room)) in
-      let same = number_front order encoding.format (drop at xs) ys (omega (
-        arith,
-        room,
-        length-drop at xs,
-      )) in
-      rw (here, there, front, same) refl
-
   offset-back : (xs ys : List ℕ) (at : ℕ) → offset_at order encoding.format (xs ++ ys)
       (length xs + at) ≡ offset_at order encoding.format ys at
   unfolding offset_at
@@ -116,11 +102,21 @@ module _ (order : Endianness) (encoding : Encoding) where
       (long : length xs ≡ n * width) where
     named-front : (k : ℕ) → k < n → named_at order encoding section (xs ++ ys) k ≡ named_at order
         encoding section xs k
-    unfolding named_at
+    unfolding named_at offset_at
     named-front k less =
-        let room : k * width + width ≤ n * width = row_fits k width n width less (omega arith) in
-        rw (offset-front xs ys (header_size encoding + k * width)
-        (omega (arith, no_header encoding old, room, long))) refl
+        let at = header_size encoding + k * width in
+        let fits : k * width + width ≤ n * width = row_fits k width n width less (omega arith) in
+        let room : at + width ≤ length xs = omega (arith, no_header encoding old, fits, long) in
+        let here = le-ltb (length (xs ++ ys)) (at + width) (omega (arith, room, length-append xs ys))
+        in
+        let there = le-ltb (length xs) (at + width) room in
+        let front = drop-append-le at xs ys (omega (arith, room)) in
+        let same = number_front order encoding.format (drop at xs) ys (omega (
+          arith,
+          room,
+          length-drop at xs,
+        )) in
+        rw (here, there, front, same) refl
 
     named-back : (k : ℕ) (string : List ℕ) → named_at order encoding section ys k ≡ Ok string
         → named_at order encoding section (xs ++ ys) (n + k) ≡ Ok string
