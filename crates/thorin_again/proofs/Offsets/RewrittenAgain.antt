@@ -1,7 +1,7 @@
 -- String offsets that were rewritten, rewritten once more from the same strings on, give the same
 -- strings.
 use Rattle.std.proofs.Common.{◌≡◌, ◌∙◌, ℕ, zero, suc, ◌+◌, ◌*◌, ◌<◌, ◌≤◌, inl, inr, ltb, List, []}
-use Rattle.std.proofs.Common.{◌∷◌, ◌++◌, length, take, drop, refl, sym, ap, subst, Ok, arith}
+use Rattle.std.proofs.Common.{◌∷◌, ◌++◌, length, take, drop, refl, sym, ap, Ok, arith}
 use Rattle.std.proofs.Common.{length-append, add-mul}
 use Rattle.std.specs.Prelude.{slice_range}
 use Rattle.std.proofs.Math.Seq.{drop-append-add}
@@ -199,8 +199,7 @@ module _ (order : Endianness) (encoding : Encoding) where
   grown section old new place at end [] tail before middle after here tile fits first second =
       let same : before ≡ middle = ap (λ (w : Written). w.1)
       (same-ok {E = ErrorValue} (drop place old, before) (first.0, middle) first.1) in
-      subst (λ n. InTurn section (old ++ new) n tail before after) (sym (here ∙ tile))
-      (subst (λ s. InTurn section (old ++ new) end tail s after) (sym same) second)
+      rw (here ∙ tile, same) second
   grown section old new place at end (r ∷ ranges) tail before middle after here tile fits first
       second =
       let s1 = bind-was (remapped order encoding section (range_bytes old r) r.size before) _

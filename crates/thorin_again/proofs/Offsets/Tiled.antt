@@ -1,6 +1,6 @@
 -- The ranges of string offsets fill their section, where plain objects of one encoding are added.
-use Rattle.std.proofs.Common.{◌≡◌, ◌∙◌, ℕ, ◌+◌, ◌<◌, false, ◌⊎◌, inl, inr, List, [], ◌∷◌, ◌++◌}
-use Rattle.std.proofs.Common.{length, refl, sym, ap, subst, Ok, Some, arith, length-append}
+use Rattle.std.proofs.Common.{◌≡◌, ◌∙◌, ℕ, ◌+◌, ◌<◌, false, inl, inr, List, [], ◌∷◌, ◌++◌, length}
+use Rattle.std.proofs.Common.{refl, sym, ap, subst, Ok, Some, arith, length-append}
 use Rattle.std.proofs.Math.Nat.{add-zero}
 use Rattle.std.proofs.lemmas.List.{append-nil}
 use Rattle.std.proofs.lemmas.Option.{none-some, same_Some}
@@ -77,15 +77,13 @@ some-last : (range : Contribution) (rows : List IndexEntry) (row : IndexEntry)
 some-last range [] row h = inl h
 some-last range (r ∷ rs) row h = inr (some-last range rs row h)
 
-among-or : (range more : Contribution) (ranges : List Contribution)
-    → IsAmong range (ranges ++ more ∷ []) → IsAmong range ranges ⊎ (range ≡ more)
-among-or range more [] (inl e) = inr e
-among-or range more [] (inr h) = absurd h
-among-or range more (r ∷ rs) (inl e) = inl (inl e)
-among-or range more (r ∷ rs) (inr h) = elim (among-or range more rs h) [
-  | inl k ↦ inl (inr k)
-  | inr e ↦ inr e
-]
+among-by : (P : Contribution → Type 0) (ranges : List Contribution) (more : Contribution)
+    → ((r : Contribution) → IsAmong r ranges → P r) → P more
+    → (r : Contribution) → IsAmong r (ranges ++ more ∷ []) → P r
+among-by P [] more h own r (inl e) = subst P (sym e) own
+among-by P [] more h own r (inr k) = absurd k
+among-by P (x ∷ xs) more h own r (inl e) = h r (inl e)
+among-by P (x ∷ xs) more h own r (inr k) = among-by P xs more (λ z l. h z (inr l)) own r k
 
 gives-same : (o p : Endianness) (encoding : Encoding) (xs ys : List ℕ) (ranges : List Contribution)
     (s t : List (List ℕ)) → p ≡ o → ys ≡ xs → t ≡ s → GiveStrings o encoding xs ranges s
@@ -194,14 +192,11 @@ module _ (names : NamesTheSameLaw) (source : Source) (before now : InProgress)
             (λ row has r e. among-more r range tiled.ranges (has r e))
             (λ r e. subst (λ x. IsAmong x (tiled.ranges ++ range ∷ []))
             (same_Some range r (sym put ∙ e)) (among-last range tiled.ranges))
-            (λ r there. elim (among-or r range tiled.ranges there) [
-              | inl k ↦ named-before r k
-              | inr e ↦ subst (λ x. IsOfSome x now.rows) (sym e) (once-more source before now a more
-                  (λ p. IsOfSome range p.rows) (RowHas (λ row. row.debug_str_offsets ≡ Some range))
-                  (λ p u has. some-last range p.rows (row_at u.1.row p.file.contents u.0 u.1.bytes
-                  u.1.place) (has p.file.contents))
-                  (rows-share source before now a plain StrOffsets refl (λ part. part ≡ Some range)
-                  put))
-            ])
+            (among-by (λ r. IsOfSome r now.rows) tiled.ranges range named-before
+            (once-more source before now a more (λ p. IsOfSome range p.rows)
+            (RowHas (λ row. row.debug_str_offsets ≡ Some range))
+            (λ p u has. some-last range p.rows (row_at u.1.row p.file.contents u.0 u.1.bytes u.1.place)
+            (has p.file.contents))
+            (rows-share source before now a plain StrOffsets refl (λ part. part ≡ Some range) put)))
             (more-strings is_whole)
       ]
