@@ -36,14 +36,6 @@ use Rattle.thorin_packaged.proofs.OffsetsJoined.{no_header}
 abbrev pub Fills : Endianness → Encoding → ℕ → Type 0
 Fills order encoding size = (size ≡ 0) ⊎ IsWholeRange order encoding size
 
-standard-header : (encoding : Encoding) → leb 5 encoding.version ≡ true → 0 < header_size encoding
-standard-header encoding h = rw h (omega arith)
-
-old-header : (order : Endianness) (encoding : Encoding) (size : ℕ) → encoding.version < 5
-    → header_of order encoding size ≡ Ok []
-unfolding header_of
-old-header order encoding size old = rw (lt-ltb encoding.version 5 old) refl
-
 module _ (names : NamesTheSameLaw) (source : Source) (plain : is_package source.indexes ≡ false)
     (start : List (List ℕ)) where
   abbrev pub order : Endianness
@@ -85,8 +77,9 @@ module _ (names : NamesTheSameLaw) (source : Source) (plain : is_package source.
             let law = names order encoding section bytes (length bytes) strings written.0 written.1
             table h in
             let long = law.long (eqb-false (length bytes) 0 r.some) in
+            let least : 0 < header_size encoding = rw standard (omega arith) in
             inr (record {
-              some = omega (arith, long, standard-header encoding standard);
+              some = omega (arith, long, least);
               count = entry_count encoding (length bytes);
               long = long;
               header = r.header;
@@ -219,6 +212,7 @@ module _ (names : NamesTheSameLaw) (source : Source) (plain : is_package source.
 
   older-fills : (new : List ℕ) (n : ℕ) → encoding.version < 5 → length new ≡ n * offset_size
       encoding.format → Fills order encoding (length new)
+  unfolding header_of
   older-fills new n old long = elim (either (eqb (length new) 0)) [
     | inl empty ↦ inl (eqb-true (length new) 0 empty)
     | inr some ↦ inr (record {
@@ -226,7 +220,7 @@ module _ (names : NamesTheSameLaw) (source : Source) (plain : is_package source.
       count = n;
       long = omega (arith, long, no_header encoding old);
       header = [];
-      written = old-header order encoding (n * offset_size encoding.format) old;
+      written = rw (lt-ltb encoding.version 5 old) refl;
     })
   ]
 
