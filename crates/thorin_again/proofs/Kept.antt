@@ -4,8 +4,6 @@ pub mod EachUnit
 pub mod OneEncoding
 pub mod LongerTables
 pub mod SharedParts
-pub mod ObjectNames
 pub mod Names
-pub mod FirstHeaders
 pub mod InfoThere
 pub mod PlainPackage

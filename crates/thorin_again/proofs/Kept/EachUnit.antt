@@ -43,12 +43,7 @@ pub each-all : {X : Type 0} (P : X → Type 0) → ((x : X) → P x) → (xs : L
 each-all P f [] = tt
 each-all P f (x ∷ xs) = (f x, each-all P f xs)
 
-pub each-both : {X : Type 0} (P Q : X → Type 0) (xs : List X) → Each P xs → Each Q xs
-    → Each (λ x. P x × Q x) xs
-each-both P Q [] h k = tt
-each-both P Q (x ∷ xs) h k = ((h.0, k.0), each-both P Q xs h.1 k.1)
-
-pub each-append : {X : Type 0} (P : X → Type 0) (xs ys : List X) → Each P xs → Each P ys
+each-append : {X : Type 0} (P : X → Type 0) (xs ys : List X) → Each P xs → Each P ys
     → Each P (xs ++ ys)
 each-append P [] ys h k = k
 each-append P (x ∷ xs) ys h k = (h.0, each-append P xs ys h.1 k)
@@ -156,9 +151,10 @@ read-encoding source r w =
     (each-passed (has_encoding source.encoding) reads all) w.there)
 
 -- they are whole ones where they go to
-pub each-go : (order : Endianness) (rs : Reads) → AllGo order rs → Each (Goes order) rs
-each-go order [] go = tt
-each-go order (r ∷ rs) go = (go.0, each-go order rs go.1)
+pub go-both : (order : Endianness) (Q : DwarfObject × UnitRead → Type 0) (rs : Reads)
+    → AllGo order rs → Each Q rs → Each (λ r. Goes order r × Q r) rs
+go-both order Q [] go h = tt
+go-both order Q (r ∷ rs) go h = ((go.0, h.0), go-both order Q rs go.1 h.1)
 
 -- ---- units that are added
 

@@ -1,52 +1,213 @@
 -- Info of a package of plain objects of one encoding has bytes, where it has units: the first unit
--- of an object stands in info, and its name's unit goes there.
-use Rattle.std.proofs.Common.{◌≡◌, ◌∙◌, ◌<◌, Bool, true, false, cond, is_some, ◌&&◌, ◌||◌, ◌⊎◌, inl}
-use Rattle.std.proofs.Common.{inr, List, [], ◌∷◌, ◌++◌, length, map, refl, sym, ap, subst, Ok, None}
-use Rattle.std.proofs.Common.{arith, true≢false, length-append}
+-- of an object stands in info, with the object's encoding, and its name's unit goes there.
+use Rattle.std.proofs.Common.{◌≡◌, ◌∙◌, ℕ, zero, suc, ◌-◌, Bool, true, false, cond, eqb, leb, ◌&&◌}
+use Rattle.std.proofs.Common.{◌||◌, ◌⊎◌, inl, inr, List, [], ◌∷◌, ◌++◌, length, refl, sym, ap}
+use Rattle.std.proofs.Common.{subst, Result, Ok, Err, None, ◌<◌, is_some, map, arith, true≢false}
+use Rattle.std.proofs.Common.{length-append}
 use Rattle.std.specs.List.{list_any}
-use Rattle.std.proofs.lemmas.List.{append-nil, append_assoc}
-use Rattle.std.proofs.lemmas.List.Folds.{list_any-append}
-use Rattle.std.proofs.lemmas.Option.{none-some}
+use Rattle.dwp_base.specs.declared.endian.Endianness.{Endianness}
 use Rattle.dwp_base.specs.declared.section.SectionKind.{SectionKind}
 use Rattle.dwp_base.specs.declared.section.SectionKind.TheVariants as kinds
 use Rattle.dwp_base.specs.Sections.{same_kind}
+use Rattle.dwp_base.proofs.EveryKind.{is-same, same-each}
 use Rattle.dwp_base.proofs.Bools.{by-bool, or-right}
+use Rattle.dwp_bytes.specs.Input.{Input, section, number_at, split_at, offset_at}
 use Rattle.dwp_bytes.specs.declared.encoding.Encoding.{Encoding}
-use Rattle.dwp_dwarf.specs.Units.{UnitsAreTaken}
+use Rattle.dwp_bytes.specs.declared.encoding.Format.{Format}
+use Rattle.dwp_bytes.specs.declared.error.ReadError.{ReadError}
+use Rattle.dwp_bytes.specs.declared.error.ReadError.TheVariants.{UnknownVersion}
+use Rattle.dwp_dwarf.specs.Units.{Unit as Header, initial_length_at, address_size_at, older_type_at}
+use Rattle.dwp_dwarf.specs.Units.{older_at, newer_at, header_at, unit_at, listed, units_within}
+use Rattle.dwp_dwarf.specs.Units.{units, UnitsAreTaken}
 use Rattle.dwp_dwarf.specs.declared.unit.UnitSection.TheVariants as places
-use Rattle.dwp_elf.specs.Contents.{content_of}
 use Rattle.dwp_table.specs.declared.object.DwarfObject.{DwarfObject}
+use Rattle.thorin_errors.specs.Errors.{ErrorValue, ParseUnitHeader, NotSplitUnit}
+use Rattle.thorin_errors.specs.Errors.{NoCompilationUnits}
+use Rattle.thorin_identity.specs.Identity.{identity}
+use Rattle.thorin_input.specs.Encodings.{first_encoding, encoding_of}
+use Rattle.thorin_input.specs.Indexes.{Source}
+use Rattle.thorin_join.specs.Laid.{type_signature, name_signature}
+use Rattle.thorin_join.specs.Meaning.{UnitRead, keys, named_unit, named_each, named_at}
+use Rattle.thorin_join.specs.Meaning.{named_sections, joining}
+use Rattle.thorin_input.specs.Names.{same_name}
+use Rattle.thorin_input.specs.NewUnits.{name_for, unit_section, NewUnit, place_for}
+use Rattle.thorin_input.specs.Rows.{abbreviations_for}
+use Rattle.thorin_input.specs.Used.{Used, first}
+use Rattle.thorin_join.proofs.Units.NamesApart.{same_name-self, same_name-true}
+use Rattle.thorin_join.proofs.Units.HeadersRead.{no_header, Reads, ReadAlone}
+use Rattle.thorin_join.proofs.Units.Sorts.{identity-sort}
+use Rattle.thorin_join.proofs.Steps.{err-ok, past, unless}
+use Rattle.thorin_join.proofs.Moved.Units.{newer-five}
+use Rattle.thorin_again.proofs.Kept.LongerTables.{ok-some}
+use Rattle.dwp_base.proofs.Steps.{bind-was, same-ok, by-choice}
+use Rattle.std.proofs.lemmas.List.{append-nil, append_assoc}
+use Rattle.std.proofs.lemmas.List.Folds.{list_any-append}
+use Rattle.std.proofs.lemmas.Option.{none-some}
+use Rattle.dwp_elf.specs.Contents.{content_of}
 use Rattle.dwp_table.specs.declared.object.DwarfObject.TheVariants.{Compilation, TypeUnit}
 use Rattle.thorin_index.specs.declared.entry.IndexEntry.{IndexEntry}
-use Rattle.thorin_input.specs.Encodings.{encoding_of}
 use Rattle.thorin_input.specs.Growing.{joined_parts}
-use Rattle.thorin_input.specs.Indexes.{Source}
-use Rattle.thorin_join.specs.Laid.{name_signature}
-use Rattle.thorin_join.specs.Meaning.{UnitRead, keys, joining}
-use Rattle.thorin_input.specs.Names.{same_name}
-use Rattle.thorin_input.specs.NewUnits.{NewUnit, place_for}
 use Rattle.dwp_bytes.specs.Encoding.{index_version_of}
 use Rattle.dwp_table.specs.Columns.{column_of}
 use Rattle.thorin_input.specs.Format.{is_in_format}
 use Rattle.thorin_input.specs.Parts.{Parts, has_part, stands_once, with_part, with_each_part}
 use Rattle.thorin_join.specs.State.{InProgress, kind_at, names_of, adding, with_unit_added}
 use Rattle.thorin_join.specs.State.{with_new_units, with_source}
-use Rattle.thorin_input.specs.Used.{Used}
-use Rattle.thorin_join.proofs.Units.NamesApart.{same_name-true}
-use Rattle.thorin_join.proofs.Units.HeadersRead.{ReadAlone, Reads}
-use Rattle.thorin_again.proofs.Kept.FirstHeaders.{first-named}
 use Rattle.thorin_join.proofs.Units.JoinedByName.{added-keys}
 use Rattle.thorin_join.proofs.Parts.Appended.{content-with_bytes, content-with_parts, differ}
-use Rattle.thorin_again.proofs.Kept.EachUnit.{Each, News, each-added, each-both, each-go}
-use Rattle.thorin_again.proofs.Kept.EachUnit.{each-joining, each-new, each-weaker, in-turn}
-use Rattle.thorin_again.proofs.Kept.EachUnit.{units-are, WasRead}
-use Rattle.thorin_again.proofs.Kept.SharedParts.{plain-added, parted}
+use Rattle.thorin_again.proofs.Kept.EachUnit.{Each, News, each-added, in-turn, WasRead}
+use Rattle.thorin_again.proofs.Kept.SharedParts.{plain-added, parted, news-are}
 use Rattle.thorin_join.proofs.Joined.Source.{keys-held}
-use Rattle.thorin_join.proofs.Steps.{past, unless}
 use Rattle.thorin_join.proofs.Rows.AllAdded.{names-added}
-use Rattle.thorin_join.proofs.Units.Whole.{Goes, units-go}
-use Rattle.dwp_base.proofs.Steps.{bind-was}
-use Rattle.dwp_base.proofs.EveryKind.{same-each}
+
+-- ---- a unit in info is of version 5, or no type unit
+
+abbrev FiveOrNone : Header → Type 0
+FiveOrNone unit = (unit.encoding.version ≡ 5) ⊎ (type_signature unit.unit_type ≡ None)
+
+older-none : (format : Format) (version : ℕ) (whole i : Input) (u : Header) → older_at places.Info
+    format version whole i ≡ Ok u → FiveOrNone u
+unfolding older_at older_type_at
+older-none format version whole i u h =
+    let a = bind-was (offset_at format i) _ u h in
+    let b = bind-was (address_size_at a.0.1) _ u a.2 in
+    inr (ap (λ (x : Header). type_signature x.unit_type) (sym (same-ok {E = ReadError} _ u b.2)))
+
+header-none : (format : Format) (whole i : Input) (u : Header) → header_at places.Info format whole
+    i ≡ Ok u → FiveOrNone u
+unfolding header_at
+header-none format whole i u h =
+    let a = bind-was (number_at 2 i) _ u h in
+    let older : Result Header ReadError = older_at places.Info format a.0.0 whole a.0.1 in
+    let others : Result Header ReadError = cond (leb 2 a.0.0 && leb a.0.0 4) older
+    (Err UnknownVersion) in
+    by-choice (FiveOrNone u) (eqb a.0.0 5) (newer_at format whole a.0.1) others (Ok u) a.2
+    (λ newer. inl (newer-five format whole a.0.1 u newer))
+    (λ other. by-choice (FiveOrNone u) (leb 2 a.0.0 && leb a.0.0 4) older (Err UnknownVersion)
+    (Ok u) other (older-none format a.0.0 whole a.0.1 u) (no_header (FiveOrNone u) u))
+
+unit-none : (i : Input) (x : Header × Input) → unit_at places.Info i ≡ Ok x → FiveOrNone x.0
+unfolding unit_at
+unit-none i x h =
+    let a = bind-was (initial_length_at i) _ x h in
+    let b = bind-was (split_at a.0.0.1 a.0.1) _ x a.2 in
+    let c = bind-was (split_at (b.0.1.place - i.place) i) _ x b.2 in
+    let d = bind-was (header_at places.Info a.0.0.0 c.0.0 b.0.0) _ x c.2 in
+    subst FiveOrNone (ap (λ (y : Header × Input). y.0) (same-ok {E = ReadError} _ x d.2))
+    (header-none a.0.0.0 c.0.0 b.0.0 d.0 d.1)
+
+-- what is read first, where its encoding is that
+record FirstUnit (reads : List (Result Header ReadError)) (encoding : Encoding) : Type 0 where
+  unit : Header
+  others : List (Result Header ReadError)
+  are : reads ≡ Ok unit ∷ others
+  is : unit.encoding ≡ encoding
+  sort : FiveOrNone unit
+
+first-of : (n : ℕ) (i : Input) (encoding : Encoding) → first_encoding (units_within n places.Info i)
+    ≡ Ok encoding → FirstUnit (units_within n places.Info i) encoding
+unfolding units_within
+first-of zero i encoding h = absurd (err-ok NoCompilationUnits encoding h)
+first-of (suc n) i encoding h = by (eqb (length i.bytes) 0) (unit_at places.Info i) refl h
+  where
+    by : (b : Bool) (r : Result (Header × Input) ReadError) → unit_at places.Info i ≡ r
+        → first_encoding (cond b [] (listed r (units_within n places.Info))) ≡ Ok encoding
+        → FirstUnit (cond b [] (listed r (units_within n places.Info))) encoding
+    by true r k e = absurd (err-ok NoCompilationUnits encoding e)
+    by false (Ok x) k e = record {
+      unit = x.0;
+      others = units_within n places.Info x.1;
+      are = refl;
+      is = same-ok {E = ErrorValue} _ encoding e;
+      sort = unit-none i x k;
+    }
+    by false (Err f) k e = absurd (err-ok (ParseUnitHeader f) encoding e)
+
+first-units : (order : Endianness) (bytes : List ℕ) (encoding : Encoding)
+    → first_encoding (units places.Info (section order bytes)) ≡ Ok encoding
+    → FirstUnit (units places.Info (section order bytes)) encoding
+unfolding units
+first-units order bytes encoding h = first-of (length bytes) (section order bytes) encoding h
+
+no-units : (order : Endianness) (encoding : Encoding)
+    → first_encoding (units places.Info (section order [])) ≡ Ok encoding → ⊥
+unfolding units units_within
+no-units order encoding h = err-ok NoCompilationUnits encoding h
+
+-- ---- its name
+
+any-behind : (test : DwarfObject → Bool) (us vs : Reads) → list_any test (keys vs) ≡ true
+    → list_any test (keys (us ++ vs)) ≡ true
+any-behind test [] vs h = h
+any-behind test (u ∷ us) vs h = or-right (test u.0) _ (any-behind test us vs h)
+
+module _ (source : Source) (encoding : Encoding) where
+  -- a name is there, of a unit that stands in info
+  record FirstNamed (all : Reads) : Type 0 where
+    name : DwarfObject
+    there : list_any (same_name name) (keys all) ≡ true
+    sort : (encoding.version ≡ 5) ⊎ (name_signature name ≡ None)
+
+  record HeadNamed (u : Header) (us : Reads) : Type 0 where
+    read : DwarfObject × UnitRead
+    rest : Reads
+    are : us ≡ read ∷ rest
+    sort : type_signature u.unit_type ≡ name_signature read.0
+
+  head-named : (kind : SectionKind) (u : Header) (others : List (Result Header ReadError))
+      (us : Reads) → named_each source kind (Ok u ∷ others) ≡ Ok us → HeadNamed u us
+  unfolding named_each named_unit name_for
+  head-named kind u others us h =
+      let a = bind-was (named_unit source kind (Ok u)) _ us h in
+      let b = bind-was (named_each source kind others) _ us a.2 in
+      let d = bind-was (name_for source kind u) _ a.0 a.1 in
+      let e = bind-was (abbreviations_for source kind u) _ d.0 d.1 in
+      let f = bind-was (identity (section source.object.order e.0) u) _ d.0 e.2 in
+      let name : d.0 ≡ a.0.0 = ap (λ (x : DwarfObject × UnitRead). x.0)
+      (same-ok {E = ErrorValue} _ a.0 d.2) in
+      record {
+        read = a.0;
+        rest = b.0;
+        are = sym (same-ok {E = ErrorValue} _ us b.2);
+        sort = identity-sort (section source.object.order e.0) u d.0
+            (f.1 ∙ ap (λ x. Ok x) (ok-some NotSplitUnit f.0 d.0 f.2)) ∙ ap name_signature name;
+      }
+
+  first-named : (sections : List Used) (all : Reads) → named_sections source sections ≡ Ok all
+      → first_encoding (units places.Info (section source.object.order (first kinds.Info sections)))
+      ≡ Ok encoding → FirstNamed all
+  unfolding named_sections
+  first-named [] all h e = absurd (no-units source.object.order encoding e)
+  first-named (from ∷ rest) all h e =
+      let a = bind-was (named_at source from (unit_section from.kind)) _ all h in
+      let b = bind-was (named_sections source rest) _ all a.2 in
+      subst FirstNamed (same-ok {E = ErrorValue} (a.0 ++ b.0) all b.2)
+      (by-bool (FirstNamed (a.0 ++ b.0)) (same_kind from.kind kinds.Info)
+      (λ is.
+      let kind = is-same from.kind kinds.Info is in
+      let f = first-units source.object.order from.bytes encoding (rw is at e) in
+      let each : named_each source from.kind (units places.Info (section source.object.order
+      from.bytes)) ≡ Ok a.0 = ap (λ n. named_at source from (unit_section n)) (sym kind) ∙ a.1 in
+      let head = head-named from.kind f.unit f.others a.0 (ap (named_each source from.kind)
+      (sym f.are) ∙ each) in
+      let version = ap (λ (x : Encoding). x.version) f.is in
+      record {
+        name = head.read.0;
+        there = ap (λ (l : Reads). list_any (same_name head.read.0) (keys (l ++ b.0))) head.are
+            ∙ ap (λ c. c || list_any (same_name head.read.0) (keys (head.rest ++ b.0)))
+            (same_name-self head.read.0);
+        sort = elim f.sort [
+          | inl five ↦ inl (sym version ∙ five)
+          | inr none ↦ inr (sym head.sort ∙ none)
+        ];
+      })
+      (λ other.
+      let l = first-named rest b.0 b.1 (rw other at e) in
+      record {
+        name = l.name;
+        there = any-behind (same_name l.name) a.0 b.0 l.there;
+        sort = l.sort;
+      }))
 
 -- ---- where units of that name go
 
@@ -194,21 +355,16 @@ info-there taken alone source before now is h info =
     let a = plain-added source before now h in
     let q = parted source before now a in
     let add = adding source before a.parts in
-    let order = source.object.order in
     let held = keys add.held in
     let n = first-named source source.encoding source.object.sections a.all a.all_are is in
     let format = each-format source source.object.sections ([], before.strings)
     (a.parts, a.after) a.parts_are in
-    let go = each-weaker (WasRead source (InFormat source.encoding)) (GoesToInfo n.name)
-    (read-goes source n.name n.sort) a.all (units-are source (InFormat source.encoding) a.all format
-    a.all_are) in
-    let whole = each-go order a.all (units-go taken alone source a.all a.all_are) in
-    let put = each-new add (PutInInfo n.name) (λ r. GoesToInfo n.name r × Goes order r)
-    (λ u r are k same. (
-      are.place ∙ k.0 (subst (λ m. same_name n.name m ≡ true) are.name same),
-      subst (λ l. 0 < length l) (sym are.bytes) k.1.some,
-    )) a.new.units (joining held a.all) a.are (each-joining (λ r. GoesToInfo n.name r
-    × Goes order r) held a.all (each-both (GoesToInfo n.name) (Goes order) a.all go whole)) in
+    let put = news-are source before now a taken alone (InFormat source.encoding) format
+    (PutInInfo n.name) (λ u r are goes read same. (
+      are.place ∙ read-goes source n.name n.sort r read
+          (subst (λ m. same_name n.name m ≡ true) are.name same),
+      subst (λ l. 0 < length l) (sym are.bytes) goes.some,
+    )) in
     let has : HasInfo n.name q =
     λ there. omega (
       arith,

@@ -1,59 +1,117 @@
--- Each unit of a package names itself by the abbreviations of its row, where plain objects of one
--- encoding are added.
-use Rattle.std.proofs.Common.{◌≡◌, ◌∙◌, ℕ, ◌+◌, ◌<◌, ◌≤◌, true, false, List, [], ◌∷◌, ◌++◌, length}
-use Rattle.std.proofs.Common.{refl, sym, ap, subst, Ok, Some, arith, length-append, eqb}
+-- Each unit of a plain object of one encoding names itself by the object's first abbreviations, and
+-- so by those of its row each unit of a package that such objects are added to.
+use Rattle.std.proofs.Common.{◌≡◌, ◌∙◌, ℕ, false, List, refl, sym, ap, Ok, Some, ◌+◌, ◌<◌, ◌≤◌}
+use Rattle.std.proofs.Common.{true, [], ◌∷◌, ◌++◌, length, subst, arith, length-append, eqb}
+use Rattle.dwp_base.specs.declared.endian.Endianness.{Endianness}
+use Rattle.dwp_base.specs.declared.section.SectionKind.{SectionKind}
+use Rattle.dwp_base.specs.declared.section.SectionKind.TheVariants as kinds
+use Rattle.dwp_bytes.specs.Input.{Input, section}
+use Rattle.dwp_bytes.specs.declared.encoding.Encoding.{Encoding}
+use Rattle.dwp_bytes.specs.declared.error.ReadError.{ReadError}
+use Rattle.dwp_dwarf.specs.Units.{Unit as Header, UnitsAreTaken, unit_at}
+use Rattle.dwp_dwarf.specs.declared.unit.UnitSection.{UnitSection}
+use Rattle.dwp_dwarf.specs.declared.unit.UnitSection.TheVariants as places
+use Rattle.dwp_table.specs.declared.object.DwarfObject.{DwarfObject}
+use Rattle.dwp_table.specs.declared.object.DwarfObject.TheVariants.{Compilation, TypeUnit}
+use Rattle.thorin_identity.specs.Identity.{identity}
+use Rattle.thorin_input.specs.Indexes.{Source, is_package}
+use Rattle.thorin_join.specs.Laid.{type_signature, name_signature}
+use Rattle.thorin_join.specs.Meaning.{UnitRead, joined_content}
+use Rattle.thorin_input.specs.NewUnits.{name_for, place_for, NewUnit}
+use Rattle.thorin_input.specs.Rows.{abbreviations_for, whole_row}
+use Rattle.thorin_join.specs.State.{kind_at, InProgress, row_at, unit_bytes, adding, with_new_units}
+use Rattle.thorin_join.specs.State.{with_source}
+use Rattle.thorin_input.specs.Used.{first, Used}
+use Rattle.thorin_join.proofs.Units.HeadersRead.{ReadAlone, name-identity, kind-place}
+use Rattle.thorin_join.proofs.Units.Sorts.{identity-sort}
+use Rattle.thorin_again.proofs.Kept.EachUnit.{WasRead, Has, read-encoding, Each, each-passed}
+use Rattle.thorin_again.proofs.Kept.EachUnit.{each-weaker, in-turn}
+use Rattle.thorin_join.proofs.Moved.RootEntries.{identity-shifted}
+use Rattle.thorin_join.proofs.Units.Whole.{ReadsAlone, IsKnown, known-in, other-alone, five-named}
+use Rattle.thorin_join.proofs.Units.Whole.{Goes}
+use Rattle.thorin_again.proofs.Kept.LongerTables.{ok-some, identity-stays}
+use Rattle.thorin_errors.specs.Errors.{NotSplitUnit}
+use Rattle.dwp_base.proofs.Steps.{bind-was, same-ok}
 use Rattle.std.specs.List.{list_all}
 use Rattle.std.proofs.lemmas.Bool.{eqb-false}
 use Rattle.std.proofs.lemmas.Option.{none-some, same_Some}
-use Rattle.dwp_base.specs.declared.endian.Endianness.{Endianness}
 use Rattle.dwp_base.specs.declared.section.Contribution.{Contribution}
-use Rattle.dwp_base.specs.declared.section.SectionKind.{SectionKind}
-use Rattle.dwp_base.specs.declared.section.SectionKind.TheVariants as kinds
 use Rattle.dwp_base.specs.Sections.{same_kind}
 use Rattle.dwp_base.proofs.Bools.{by-bool}
-use Rattle.dwp_bytes.specs.Input.{Input, section}
-use Rattle.dwp_bytes.specs.declared.encoding.Encoding.{Encoding}
-use Rattle.dwp_dwarf.specs.Units.{Unit as Header, UnitsAreTaken, unit_at}
 use Rattle.dwp_elf.specs.Contents.{content_of}
 use Rattle.dwp_index.specs.Package.{part_of, place_of}
-use Rattle.dwp_table.specs.declared.object.DwarfObject.{DwarfObject}
-use Rattle.thorin_identity.specs.Identity.{identity}
 use Rattle.thorin_index.specs.Entries.{contribution_to}
 use Rattle.thorin_index.specs.declared.entry.IndexEntry.{IndexEntry}
 use Rattle.thorin_input.specs.Encodings.{section_has}
 use Rattle.thorin_input.specs.Growing.{Contents, with_bytes, with_parts, joined_parts, range_put}
-use Rattle.thorin_input.specs.Indexes.{Source, is_package}
-use Rattle.thorin_join.specs.Meaning.{UnitRead, keys, joining, joined_content}
-use Rattle.thorin_input.specs.NewUnits.{NewUnit}
 use Rattle.thorin_input.specs.Parts.{parts_of}
 use Rattle.thorin_input.specs.Format.{is_shared}
 use Rattle.thorin_again.specs.Plain.{NamesItself, HasNamedUnits}
 use Rattle.thorin_join.specs.Represents.{IsSound, LieInside}
-use Rattle.thorin_input.specs.Rows.{whole_row}
 use Rattle.thorin_join.specs.StandApart.{EachRow}
-use Rattle.thorin_join.specs.State.{InProgress, kind_at, row_at, unit_bytes, adding, with_new_units}
-use Rattle.thorin_join.specs.State.{with_source}
-use Rattle.thorin_input.specs.Used.{Used, first}
-use Rattle.thorin_join.proofs.Units.HeadersRead.{ReadAlone}
 use Rattle.thorin_join.proofs.Units.JoinedByName.{IsAdded}
 use Rattle.thorin_join.proofs.Rows.Stay.{Grows, grows-with_bytes, keep-part, keep-lie}
 use Rattle.thorin_join.proofs.Rows.LieInTurn.{can-lie}
-use Rattle.thorin_again.proofs.Kept.LongerTables.{identity-stays}
 use Rattle.thorin_again.proofs.Offsets.Tiled.{row-append, weaker}
 use Rattle.thorin_join.proofs.Rows.OfUnits.{is-unit_row, whole-else}
 use Rattle.thorin_join.proofs.Parts.Appended.{content-with_parts, parts-copied}
-use Rattle.thorin_again.proofs.Kept.EachUnit.{Each, each-both, each-go, each-joining, each-new}
-use Rattle.thorin_again.proofs.Kept.EachUnit.{each-passed, each-weaker, in-turn, units-are, WasRead}
-use Rattle.thorin_again.proofs.Kept.EachUnit.{Has}
-use Rattle.thorin_again.proofs.Kept.ObjectNames.{NamedAlone, named-alone}
 use Rattle.thorin_again.proofs.Kept.SharedParts.{shared-row, plain-part, plain-added, order-added}
-use Rattle.thorin_again.proofs.Kept.SharedParts.{parted}
+use Rattle.thorin_again.proofs.Kept.SharedParts.{parted, news-are}
 use Rattle.thorin_join.proofs.Joined.Source.{grows-with_parts}
 use Rattle.thorin_join.proofs.Rows.StandApart.{sound-inside}
 use Rattle.thorin_join.proofs.Rows.OneAdded.{Fits, content-put, part-put, range_for, row-name}
 use Rattle.thorin_join.proofs.Rows.OneAdded.{row-own, own-place, row-part, lie-by}
-use Rattle.thorin_join.proofs.Units.Whole.{Goes, units-go}
 use Rattle.thorin_join.proofs.Rows.Meaning.{unshared}
+
+-- ---- the units of a plain object by its first section of abbreviations
+
+-- a unit, read of its own bytes alone where it goes to, has the encoding, and by these
+-- abbreviations its name
+abbrev NamedAlone : Endianness → Encoding → List ℕ → DwarfObject × UnitRead → Type 0
+NamedAlone order encoding table read = (alone : Header) (rest : Input)
+    → unit_at (place_for read.0 read.1.from) (section order read.1.unit.whole.bytes) ≡
+    Ok (alone, rest)
+    → (alone.encoding ≡ encoding) × (identity (section order table) alone ≡ Ok (Some read.0))
+
+plain-name : (source : Source) (kind : SectionKind) (unit : Header) (name : DwarfObject)
+    → is_package source.indexes ≡ false → name_for source kind unit ≡ Ok name
+    → identity (section source.object.order (first kinds.Abbrev source.object.sections)) unit
+    ≡ Ok (Some name)
+unfolding name_for abbreviations_for
+plain-name source kind unit name plain h =
+    let s = bind-was (identity (section source.object.order (first kinds.Abbrev
+    source.object.sections)) unit) _ name (rw plain at h) in
+    s.1 ∙ ap Ok (ok-some NotSplitUnit s.0 name s.2)
+
+-- where it goes to it is read alone
+goes-alone : (order : Endianness) (place : UnitSection) (name : DwarfObject) (unit : Header)
+    → IsKnown order place unit → type_signature unit.unit_type ≡ name_signature name
+    → ReadsAlone order (place_for name (kind_at place)) unit
+goes-alone order places.Info (Compilation id) unit known sort = known.0
+goes-alone order places.Info (TypeUnit signature) unit known sort = known.0
+goes-alone order places.Types (Compilation id) unit known sort = other-alone order places.Types
+    places.Info unit (five-named unit sort (known.1 refl)) known.0
+goes-alone order places.Types (TypeUnit signature) unit known sort = known.0
+
+named-alone : UnitsAreTaken → ReadAlone → (source : Source)
+    → is_package source.indexes ≡ false → (read : DwarfObject × UnitRead)
+    → WasRead source (Has source) read → NamedAlone source.object.order source.encoding
+    (first kinds.Abbrev source.object.sections) read
+named-alone taken alone source plain read w other rest is =
+    let order = source.object.order in
+    let table = section order (first kinds.Abbrev source.object.sections) in
+    let unit = read.1.unit in
+    let known = known-in taken alone order w.place w.used.bytes w.number unit w.there in
+    let id = name-identity source w.used.kind unit read.0 w.named in
+    let a = goes-alone order w.place read.0 unit known (identity-sort id.0 unit read.0 id.1) in
+    let from : read.1.from ≡ kind_at w.place = sym w.from ∙ kind-place w.used.kind w.place w.at in
+    let same : other ≡ a.alone = ap (λ (x : Header × Input). x.0) (same-ok {E = ReadError} _ _
+    (sym is ∙ ap (λ k. unit_at (place_for read.0 k) (section order unit.whole.bytes)) from
+    ∙ a.read)) in (
+      ap (λ (u : Header). u.encoding) same ∙ a.encoding ∙ read-encoding source read w,
+      ap (identity table) same ∙ sym (identity-shifted table a.behind a.alone unit a.shifted)
+          ∙ plain-name source w.used.kind unit read.0 plain w.named,
+    )
 
 -- ---- the abbreviations of a row begin with those of the first section
 
@@ -71,100 +129,90 @@ first-front kind (s ∷ ss) =
 
 -- ---- units that are added name themselves
 
--- what is so of a unit that is added behind contents in which abbreviations are these
-record CanName (order : Endianness) (encoding : Encoding) (c : Contents) (u : DwarfObject
-    × NewUnit) : Type 0 where
-  fits : Fits u.1.row u.0 u.1.bytes u.1.place
-  lie : LieInside c u.1.row
-  named : (alone : Header) (rest : Input) → unit_at u.1.place (section order u.1.bytes) ≡
-      Ok (alone, rest)
-      → (alone.encoding ≡ encoding)
-      × (identity (section order (part_of (content_of kinds.Abbrev c) u.1.row.debug_abbrev)) alone
-      ≡ Ok (Some u.0))
+module _ (order : Endianness) (encoding : Encoding) where
+  -- what is so of a unit that is added behind contents in which abbreviations are these
+  record CanName (c : Contents) (u : DwarfObject × NewUnit) : Type 0 where
+    fits : Fits u.1.row u.0 u.1.bytes u.1.place
+    lie : LieInside c u.1.row
+    named : (alone : Header) (rest : Input)
+        → unit_at u.1.place (section order u.1.bytes) ≡ Ok (alone, rest)
+        → (alone.encoding ≡ encoding)
+        × (identity (section order (part_of (content_of kinds.Abbrev c) u.1.row.debug_abbrev)) alone
+        ≡ Ok (Some u.0))
 
--- a row that lies inside, and whose unit names itself
-abbrev Stands : Endianness → Encoding → Contents → IndexEntry → Type 0
-Stands order encoding c row = LieInside c row × NamesItself order encoding c row
+  -- a row that lies inside, and whose unit names itself
+  abbrev Stands : Contents → IndexEntry → Type 0
+  Stands c row = LieInside c row × NamesItself order encoding c row
 
-pub keep-names : (order : Endianness) (encoding : Encoding) (c d : Contents) (row : IndexEntry)
-    → Grows c d → LieInside c row → NamesItself order encoding c row
-    → NamesItself order encoding d row
-keep-names order encoding c d row grows lie names unit rest read =
-    let own : unit_bytes d row ≡ unit_bytes c row = keep-part c d row grows lie
-    (kind_at (place_of row.id row.debug_types)) in
-    let there = names unit rest (ap (λ l. unit_at (place_of row.id row.debug_types)
-    (section order l)) (sym own) ∙ read) in
-    (there.0, rw (keep-part c d row grows lie kinds.Abbrev) there.1)
+  pub keep-names : (c d : Contents) (row : IndexEntry) → Grows c d → LieInside c row
+      → NamesItself order encoding c row → NamesItself order encoding d row
+  keep-names c d row grows lie names unit rest read =
+      let place = place_of row.id row.debug_types in
+      let own : unit_bytes d row ≡ unit_bytes c row = keep-part c d row grows lie (kind_at place) in
+      let there = names unit rest (ap (λ l. unit_at place (section order l)) (sym own) ∙ read) in
+      (there.0, rw (keep-part c d row grows lie kinds.Abbrev) there.1)
 
-keep-stands : (order : Endianness) (encoding : Encoding) (c d : Contents) (rows : List IndexEntry)
-    → Grows c d → EachRow (Stands order encoding c) rows → EachRow (Stands order encoding d) rows
-keep-stands order encoding c d rows grows h =
-    weaker (Stands order encoding c) (Stands order encoding d) (λ row s.
-    (keep-lie c d row grows s.0, keep-names order encoding c d row grows s.0 s.1)) rows h
+  keep-stands : (c d : Contents) → Grows c d → (row : IndexEntry) → Stands c row → Stands d row
+  keep-stands c d grows row s = (keep-lie c d row grows s.0, keep-names c d row grows s.0 s.1)
 
-keep-can : (order : Endianness) (encoding : Encoding) (c d : Contents) → Grows c d
-    → (u : DwarfObject × NewUnit) → CanName order encoding c u → CanName order encoding d u
-keep-can order encoding c d grows u h = record {
-  fits = h.fits;
-  lie = keep-lie c d u.1.row grows h.lie;
-  named = λ alone rest read. let there = h.named alone rest read in
-      (there.0, rw (keep-part c d u.1.row grows h.lie kinds.Abbrev) there.1);
-}
+  keep-can : (c d : Contents) → Grows c d → (u : DwarfObject × NewUnit) → CanName c u → CanName d u
+  keep-can c d grows u h = record {
+    fits = h.fits;
+    lie = keep-lie c d u.1.row grows h.lie;
+    named = λ alone rest read. let there = h.named alone rest read in
+        (there.0, rw (keep-part c d u.1.row grows h.lie kinds.Abbrev) there.1);
+  }
 
-new-stands : (order : Endianness) (encoding : Encoding) (c : Contents) (u : DwarfObject × NewUnit)
-    → CanName order encoding c u
-    → Stands order encoding (with_bytes (kind_at u.1.place) u.1.bytes c)
-    (row_at u.1.row c u.0 u.1.bytes u.1.place)
-new-stands order encoding c u can =
-    let place = u.1.place in
-    let x = u.1.bytes in
-    let shared = u.1.row in
-    let k = kind_at place in
-    let d = with_bytes k x c in
-    let row = row_at shared c u.0 x place in
-    let grows = grows-with_bytes k x c in
-    let id = row-name shared c u.0 x place in
-    let place_is : place_of row.id row.debug_types ≡ place = ap (λ n. place_of n row.debug_types) id
-    ∙ sym (own-place shared c u.0 x place can.fits) in
-    let own : unit_bytes d row ≡ x = ap (λ p. part_of (content_of (kind_at p) d)
-    (contribution_to (kind_at p) row)) place_is ∙ ap (part_of (content_of k d))
-    (row-own shared c u.0 x place) ∙ part-put k x c can.fits.some in
-    let abbreviations : part_of (content_of kinds.Abbrev d) row.debug_abbrev ≡ part_of
-    (content_of kinds.Abbrev c) shared.debug_abbrev =
-    ap (part_of (content_of kinds.Abbrev d)) (shared-row shared c u.0 x place kinds.Abbrev refl) ∙
-    keep-part c d shared grows can.lie kinds.Abbrev in (
-      record {
-        inside = λ kind range is. (lie-by shared c k x kind (contribution_to kind row) range
-            can.fits.some can.lie is (row-part shared c u.0 x place kind)).0;
-        some = λ kind range is. (lie-by shared c k x kind (contribution_to kind row) range
-            can.fits.some can.lie is (row-part shared c u.0 x place kind)).1;
-      },
-      λ unit rest read.
-          let there = can.named unit rest
-          ((λ i. unit_at (sym place_is i) (section order (sym own i))) ∙ read) in (
-            there.0,
-            ap (λ l. identity (section order l) unit) abbreviations ∙ there.1 ∙ ap (λ n.
-                Ok (Some n)) (sym id),
-          ),
-    )
+  new-stands : (c : Contents) (u : DwarfObject × NewUnit) → CanName c u
+      → Stands (with_bytes (kind_at u.1.place) u.1.bytes c)
+      (row_at u.1.row c u.0 u.1.bytes u.1.place)
+  new-stands c u can =
+      let place = u.1.place in
+      let x = u.1.bytes in
+      let shared = u.1.row in
+      let k = kind_at place in
+      let d = with_bytes k x c in
+      let row = row_at shared c u.0 x place in
+      let id = row-name shared c u.0 x place in
+      let lies = λ (kind : SectionKind) (range : Contribution)
+      (is : contribution_to kind row ≡ Some range). lie-by shared c k x kind
+      (contribution_to kind row) range can.fits.some can.lie is (row-part shared c u.0 x place kind)
+      in
+      let place_is : place_of row.id row.debug_types ≡ place =
+      ap (λ n. place_of n row.debug_types) id ∙ sym (own-place shared c u.0 x place can.fits) in
+      let own : unit_bytes d row ≡ x = ap (λ p. part_of (content_of (kind_at p) d)
+      (contribution_to (kind_at p) row)) place_is ∙ ap (part_of (content_of k d))
+      (row-own shared c u.0 x place) ∙ part-put k x c can.fits.some in
+      let abbreviations : part_of (content_of kinds.Abbrev d) row.debug_abbrev ≡ part_of
+      (content_of kinds.Abbrev c) shared.debug_abbrev =
+      ap (part_of (content_of kinds.Abbrev d)) (shared-row shared c u.0 x place kinds.Abbrev refl)
+      ∙ keep-part c d shared (grows-with_bytes k x c) can.lie kinds.Abbrev in (
+        record {
+          inside = λ kind range is. (lies kind range is).0;
+          some = λ kind range is. (lies kind range is).1;
+        },
+        λ unit rest read.
+            let there = can.named unit rest
+            ((λ i. unit_at (sym place_is i) (section order (sym own i))) ∙ read) in
+            (there.0, rw (abbreviations, id) there.1),
+      )
 
-units-stand : (order : Endianness) (encoding : Encoding) (p : InProgress)
-    (us : List (DwarfObject × NewUnit)) → Each (CanName order encoding p.file.contents) us
-    → EachRow (Stands order encoding p.file.contents) p.rows
-    → EachRow (Stands order encoding (with_new_units p us).file.contents) (with_new_units p us).rows
-units-stand order encoding p us can h =
-    (in-turn (λ q vs. Each (CanName order encoding q.file.contents) vs
-    × EachRow (Stands order encoding q.file.contents) q.rows)
-    (λ q v vs there k. (k.0.1, k.1))
-    (λ q v vs k.
-    let c = q.file.contents in
-    let d : Contents = with_bytes (kind_at v.1.place) v.1.bytes c in
-    let grows : Grows c d = grows-with_bytes (kind_at v.1.place) v.1.bytes c in (
-      each-weaker (CanName order encoding c) (CanName order encoding d) (keep-can order encoding c d
-          grows) vs k.0.1,
-      row-append (Stands order encoding d) q.rows (row_at v.1.row c v.0 v.1.bytes v.1.place)
-          (keep-stands order encoding c d q.rows grows k.1) (new-stands order encoding c v k.0.0),
-    )) p us (can, h)).1
+  units-stand : (p : InProgress) (us : List (DwarfObject × NewUnit))
+      → Each (CanName p.file.contents) us → EachRow (Stands p.file.contents) p.rows
+      → EachRow (Stands (with_new_units p us).file.contents) (with_new_units p us).rows
+  units-stand p us can h =
+      (in-turn (λ q vs. Each (CanName q.file.contents) vs
+      × EachRow (Stands q.file.contents) q.rows)
+      (λ q v vs there k. (k.0.1, k.1))
+      (λ q v vs k.
+      let c = q.file.contents in
+      let d : Contents = with_bytes (kind_at v.1.place) v.1.bytes c in
+      let grows : Grows c d = grows-with_bytes (kind_at v.1.place) v.1.bytes c in (
+        each-weaker (CanName c) (CanName d) (keep-can c d grows) vs k.0.1,
+        row-append (Stands d) q.rows (row_at v.1.row c v.0 v.1.bytes v.1.place)
+            (weaker (Stands c) (Stands d) (keep-stands c d grows) q.rows k.1)
+            (new-stands c v k.0.0),
+      )) p us (can, h)).1
 
 -- ---- those of a plain object
 
@@ -201,7 +249,7 @@ module _ (source : Source) (made : InProgress) (parts : Contents) (plain : is_pa
       (λ other. absurd (none-some range (sym (unshared n.1.row (row.info ∙ else.1)
       (row.types ∙ else.2) kind other) ∙ e)))
 
-  pub new-inside : LieInside c n.1.row
+  new-inside : LieInside c n.1.row
   new-inside = record {
     inside = λ kind range e. (all-inside kind range e).0;
     some = λ kind range e.
@@ -263,27 +311,20 @@ names-kept taken alone source before now plain has sound same h named =
     let a = plain-added source before now h in
     let order = source.object.order in
     let encoding = source.encoding in
-    let table = first kinds.Abbrev source.object.sections in
     let q = parted source before now a in
-    let held = keys (adding source before a.parts).held in
-    let can = each-new (adding source before a.parts) (CanName order encoding
-    (with_parts a.parts before.file.contents)) (λ r. Goes order r × NamedAlone order encoding
-    table r) (λ n r is k. can-name source before a.parts a.after n r plain a.parts_are is k.0 k.1)
-    a.new.units (joining held a.all) a.are (each-joining _ held a.all (each-both (Goes order)
-    (NamedAlone order encoding table) a.all (each-go order a.all (units-go taken alone source a.all
-    a.all_are)) (each-weaker (WasRead source (Has source)) (NamedAlone order encoding table)
-    (named-alone taken alone source plain) a.all (units-are source (Has source) a.all
-    (each-passed (section_has encoding order) source.object.sections has) a.all_are)))) in
+    let can = news-are source before now a taken alone (Has source)
+    (each-passed (section_has encoding order) source.object.sections has)
+    (CanName order encoding (with_parts a.parts before.file.contents)) (λ n r is goes read.
+    can-name source before a.parts a.after n r plain a.parts_are is goes
+    (named-alone taken alone source plain r read)) in
     let c = before.file.contents in
     let old : EachRow (Stands order encoding c) before.rows =
     both-rows (LieInside c) (NamesItself order encoding c) before.rows (sound-inside before sound)
     (subst (λ o. EachRow (NamesItself o encoding c) before.rows) (sym same) named) in
-    let stand = units-stand order encoding q a.new.units can (keep-stands order encoding c
-    q.file.contents before.rows (grows-with_parts a.parts c) old) in
-    let order_is : order ≡ now.file.order = same ∙ sym (order-added source before now a) in
-    subst (λ o. EachRow (NamesItself o encoding now.file.contents) now.rows) order_is
-    (subst (λ (p : InProgress). EachRow (NamesItself order encoding p.file.contents)
-    p.rows) (sym a.is)
-    (weaker (Stands order encoding (with_new_units q a.new.units).file.contents)
-    (NamesItself order encoding (with_new_units q a.new.units).file.contents) (λ row s. s.1)
-    (with_new_units q a.new.units).rows stand))
+    let stand = units-stand order encoding q a.new.units can (weaker (Stands order encoding c)
+    (Stands order encoding q.file.contents) (keep-stands order encoding c q.file.contents
+    (grows-with_parts a.parts c)) before.rows old) in
+    let all = with_new_units q a.new.units in
+    rw (order-added source before now a ∙ sym same, a.is)
+    (weaker (Stands order encoding all.file.contents) (NamesItself order encoding
+    all.file.contents) (λ row s. s.1) all.rows stand)

@@ -124,8 +124,7 @@ source-means bytes file begun now u opens info =
 pub units-hold : (P : Meaning → Type 0) (bytes : List ℕ) (begun now : Option InProgress)
     → Joins bytes (units_begun begun) (units_begun now) → with_input bytes begun ≡ Ok now
     → ((file : Elf) (u : TakesUnits file begun now) → opened bytes ≡ Ok file
-    → has_info file ≡ true → (all : Reads) → source_units u.source ≡ Ok all
-    → CanMean P u.source all)
+    → (all : Reads) → source_units u.source ≡ Ok all → CanMean P u.source all)
     → HoldsOf P (units_begun begun) → HoldsOf P (units_begun now)
 units-hold P bytes begun now j h can before =
     let t = takes bytes begun now h in
@@ -134,7 +133,7 @@ units-hold P bytes begun now j h can before =
           (units_begun begun) j.added before (added-hold P w.1.source
           (keys (units_begun begun)) j.units j.added
           (sym (source-means bytes t.file begun now w.1 t.opens w.0) ∙ j.meaning) j.joined
-          (can t.file w.1 t.opens w.0)))
+          (can t.file w.1 t.opens)))
       | inr none ↦ subst (HoldsOf P) (sym (new-units t.file begun) ∙ ap units_begun none.1) before
     ]
 
@@ -259,7 +258,7 @@ taken-holds joined bytes old new sound holds h =
           let a = own-adds bytes old new e h k in
           units-hold (λ unit. unit.encoding ≡ e) bytes old.begun new.begun
           (joined bytes old.begun new.begun sound now) now
-          (λ file u opens info all read. each-all _ (λ r unit made. made.0
+          (λ file u opens all read. each-all _ (λ r unit made. made.0
           ∙ (own-units bytes e a.found file old.begun new.begun u opens).is) all)
           (all-before old.begun old.own e a.before (holds.all e));
     }

@@ -36,9 +36,14 @@ use Rattle.thorin_join.proofs.Parts.Appended.{differ}
 use Rattle.thorin_join.proofs.Joined.Source.{with_all_parts, all-is}
 use Rattle.thorin_join.proofs.Rows.OneAdded.{row-other}
 use Rattle.thorin_again.proofs.Kept.EachUnit.{Each, each-all, each-new, each-added, each-unit}
+use Rattle.thorin_again.proofs.Kept.EachUnit.{each-joining, go-both, units-are, WasRead}
+use Rattle.dwp_dwarf.specs.Units.{UnitsAreTaken}
+use Rattle.thorin_input.specs.Used.{Used}
+use Rattle.thorin_join.proofs.Units.HeadersRead.{ReadAlone}
+use Rattle.thorin_join.proofs.Units.Whole.{Goes, units-go}
 
 -- units' own bytes go to other sections
-pub shared-apart : (place : UnitSection) (kind : SectionKind) → is_shared kind ≡ true
+shared-apart : (place : UnitSection) (kind : SectionKind) → is_shared kind ≡ true
     → same_kind (kind_at place) kind ≡ false
 shared-apart place kind shared = differ (kind_at place) kind (λ e. true≢false (sym shared
     ∙ ap is_shared (sym e) ∙ not-shared place))
@@ -94,24 +99,46 @@ abbrev pub parted : (source : Source) (before now : InProgress) → PlainAdded s
 parted source before now a =
     with_all_parts before a.parts a.after (before.differing ++ a.new.differing)
 
-pub order-added : (source : Source) (before now : InProgress) → PlainAdded source before now
-    → now.file.order ≡ before.file.order
-order-added source before now a =
-    ap (λ (p : InProgress). p.file.order) a.is ∙ each-unit (λ p. p.file.order ≡ before.file.order)
-    (λ p u h. h) (parted source before now a) a.new.units refl
+module _ (source : Source) (before now : InProgress) (a : PlainAdded source before now) where
+  pub order-added : now.file.order ≡ before.file.order
+  order-added = ap (λ (p : InProgress). p.file.order) a.is ∙ each-unit (λ p. p.file.order ≡
+      before.file.order) (λ p u h. h) (parted source before now a) a.new.units refl
 
--- the content of a shared section is then what was there, and the part
-pub content-added : (source : Source) (before now : InProgress) (a : PlainAdded source before now)
-    (kind : SectionKind) → is_shared kind ≡ true
-    → content_of kind now.file.contents ≡ content_of kind before.file.contents ++
-    joined_parts kind a.parts
-content-added source before now a kind shared =
-    let q = parted source before now a in
-    ap (λ (p : InProgress). content_of kind p.file.contents) a.is
-    ∙ each-unit (λ p. content_of kind p.file.contents ≡ content_of kind q.file.contents)
-    (λ p u h. content-with_bytes kind (kind_at u.1.place) u.1.bytes p.file.contents
-    ∙ rw (shared-apart u.1.place kind shared) h) q a.new.units refl
-    ∙ content-with_parts kind a.parts before.file.contents
+  -- the content of a shared section is then what was there, and the part
+  pub content-added : (kind : SectionKind) → is_shared kind ≡ true → content_of kind
+      now.file.contents ≡ content_of kind before.file.contents ++ joined_parts kind a.parts
+  content-added kind shared =
+      let q = parted source before now a in
+      ap (λ (p : InProgress). content_of kind p.file.contents) a.is
+      ∙ each-unit (λ p. content_of kind p.file.contents ≡ content_of kind q.file.contents)
+      (λ p u h. content-with_bytes kind (kind_at u.1.place) u.1.bytes p.file.contents
+      ∙ rw (shared-apart u.1.place kind shared) h) q a.new.units refl
+      ∙ content-with_parts kind a.parts before.file.contents
+
+  -- what a unit more makes so, where one was added
+  pub once-more : length before.rows < length now.rows
+      → (P : InProgress → Type 0) (Q : DwarfObject × NewUnit → Type 0)
+      → ((p : InProgress) (u : DwarfObject × NewUnit) → Q u → P (with_unit_added p u))
+      → Each Q a.new.units → P now
+  once-more more P Q makes new =
+      let q = parted source before now a in
+      subst P (sym a.is) (each-added (λ p. length q.rows < length p.rows → P p) Q (λ p u has k less.
+      makes p u has) q a.new.units new (λ less. absurd (omega (arith, less)))
+      (subst (λ (p : InProgress). length before.rows < length p.rows) a.is more))
+
+  -- what holds of each unit that was added, for the unit that was read
+  pub news-are : UnitsAreTaken → ReadAlone → (S : Used → Type 0) → Each S source.object.sections
+      → (P : DwarfObject × NewUnit → Type 0)
+      → ((n : DwarfObject × NewUnit) (r : DwarfObject × UnitRead)
+      → IsAdded (adding source before a.parts) n r → Goes source.object.order r
+      → WasRead source S r → P n) → Each P a.new.units
+  news-are taken alone S so P f =
+      let order = source.object.order in
+      let held = keys (adding source before a.parts).held in
+      each-new (adding source before a.parts) P (λ r. Goes order r × WasRead source S r)
+      (λ n r is k. f n r is k.0 k.1) a.new.units (joining held a.all) a.are
+      (each-joining _ held a.all (go-both order (WasRead source S) a.all
+      (units-go taken alone source a.all a.all_are) (units-are source S a.all so a.all_are)))
 
 -- ---- the rows of a plain object's units
 
@@ -144,18 +171,6 @@ rows-share source before now a plain kind shared P h =
     kind shared ∙ plain-part source before a.parts n r plain is kind shared)) h) a.new.units
     (joining (keys (adding source before a.parts).held) a.all) a.are
     (each-all (λ r. Unit {0}) (λ r. tt) (joining (keys (adding source before a.parts).held) a.all))
-
--- what a unit more makes so, where one was added
-pub once-more : (source : Source) (before now : InProgress) (a : PlainAdded source before now)
-    → length before.rows < length now.rows
-    → (P : InProgress → Type 0) (Q : DwarfObject × NewUnit → Type 0)
-    → ((p : InProgress) (u : DwarfObject × NewUnit) → Q u → P (with_unit_added p u))
-    → Each Q a.new.units → P now
-once-more source before now a more P Q makes new =
-    let q = parted source before now a in
-    subst P (sym a.is) (each-added (λ p. length q.rows < length p.rows → P p) Q (λ p u has k less.
-    makes p u has) q a.new.units new (λ less. absurd (omega (arith, less)))
-    (subst (λ (p : InProgress). length before.rows < length p.rows) a.is more))
 
 pub named-kept : (source : Source) (before now : InProgress) → is_package source.indexes ≡ false
     → with_source source before ≡ Ok now → length before.rows < length now.rows

@@ -1,7 +1,6 @@
 -- The header of a unit that was read has the encoding that is recorded of it, wherever its bytes
 -- are read again.
-use Rattle.std.proofs.Common.{◌≡◌, ◌∙◌, ℕ, true, nat_eq, ◌&&◌, List, sym, ap}
-use Rattle.std.proofs.Common.{Result, Ok, ◌-◌}
+use Rattle.std.proofs.Common.{◌≡◌, ◌∙◌, ℕ, true, nat_eq, ◌&&◌, List, sym, ap, Result, Ok, ◌-◌}
 use Rattle.std.specs.Prelude.{All, nat_le}
 use Rattle.std.specs.List.{list_all}
 use Rattle.dwp_base.specs.Reading.{◌>>=◌}
@@ -12,8 +11,7 @@ use Rattle.dwp_bytes.specs.declared.encoding.Format.{Format}
 use Rattle.dwp_bytes.specs.declared.error.ReadError.{ReadError}
 use Rattle.dwp_bytes.specs.declared.error.ReadError.TheVariants.{UnknownVersion}
 use Rattle.dwp_dwarf.specs.Units.{Unit as Header, UnitsAreTaken, unit_at, units, header_at}
-use Rattle.dwp_dwarf.specs.Units.{older_at, older_type_at, address_size_at}
-use Rattle.dwp_dwarf.specs.Units.{initial_length_at}
+use Rattle.dwp_dwarf.specs.Units.{older_at, older_type_at, address_size_at, initial_length_at}
 use Rattle.dwp_dwarf.specs.declared.unit.UnitSection.{UnitSection}
 use Rattle.dwp_index.specs.Package.{encoding_in}
 use Rattle.dwp_table.specs.declared.object.DwarfObject.{DwarfObject}

@@ -131,63 +131,63 @@ record Each (e : Encoding) (accepted : List (List ℕ)) (old new : State) : Type
   adds : EachAdds accepted (units_in old) (units_in new)
   before : Before old.begun old.own e
 
-module _ (sound : InputsSound) (joins : InputsJoined) (e : Encoding) where
-  joined : (bytes : List ℕ) (old new : State) → IsSoundBegun old.begun → taken bytes old ≡ Ok new
-      → Joins bytes (units_in old) (units_in new)
-  joined bytes old new fine h = joins bytes old.begun new.begun fine (begun-now bytes old new h)
-
-  each-of : (accepted : List (List ℕ)) (old new : State) → IsSoundBegun old.begun
-      → AreTaken accepted old new → Before new.begun new.own e → Each e accepted old new
-  each-of [] old new fine are h = record {
+-- what holds at the end says what each input was, and the other way round
+exactly : InputsSound → InputsJoined → (e : Encoding) → (accepted : List (List ℕ))
+    (old new : State) → IsSoundBegun old.begun → AreTaken accepted old new
+    → Before new.begun new.own e ↔ Each e accepted old new
+exactly sound joins e [] old new fine are = (
+  λ h. record {
     plain = All-nil (IsPlainOf e);
     adds = ap units_in are.1;
     before = subst (λ (s : State). Before s.begun s.own e) are.1 h;
-  }
-  each-of (bytes ∷ rest) old new fine are h =
-      let from : State = record old { targets = are.0 } in
-      let next = are.1 in
-      let took : taken bytes from ≡ Ok next = are.2 in
-      let later = each-of rest next new (sound bytes old.begun next.begun fine
-      (begun-now bytes from next took)) are.3 h in
-      let begun = begun-some bytes from next took in
-      let own = own-before next.begun begun.0 next.own e begun.1 later.before in
-      let a = own-adds bytes from next e took own in
-      let j = joined bytes from next fine took in
-      record {
-        plain = All-cons (IsPlainOf e) bytes rest (plain-of bytes from next e took a.found) later.plain;
-        adds = (units_in next, j, omega (arith, joins-more bytes from next j, a.more), later.adds);
-        before = a.before;
-      }
-
-  of-each : (accepted : List (List ℕ)) (old new : State) → IsSoundBegun old.begun
-      → AreTaken accepted old new → Each e accepted old new → Before new.begun new.own e
-  of-each [] old new fine are each =
-      subst (λ (s : State). Before s.begun s.own e) (sym are.1) each.before
-  of-each (bytes ∷ rest) old new fine are each =
-      let from : State = record old { targets = are.0 } in
-      let next = are.1 in
-      let took : taken bytes from ≡ Ok next = are.2 in
-      let j = joined bytes from next fine took in
-      let here = each.adds.1 in
-      let same = joins-same bytes (units_in old) each.adds.0 (units_in next) here j in
-      let own = adds-own bytes from next e took (record {
-        found = own-of bytes e (All-head (IsPlainOf e) bytes rest each.plain);
-        more = omega (
-          arith,
-          ap length here.is ∙ length-append (units_in old) here.added,
-          ap length same,
-          units-names old.begun,
-          units-names next.begun,
-          each.adds.2,
-        );
-        before = each.before;
-      }) in
-      of-each rest next new (sound bytes old.begun next.begun fine
-      (begun-now bytes from next took)) are.3 (record {
-        plain = All-tail (IsPlainOf e) bytes rest each.plain;
-        adds = subst (λ m. EachAdds rest m (units_in new)) same each.adds.3;
-        before = before-own next.begun next.own e own;
-      })
+  },
+  λ each. subst (λ (s : State). Before s.begun s.own e) (sym are.1) each.before,
+)
+exactly sound joins e (bytes ∷ rest) old new fine are =
+    let from : State = record old { targets = are.0 } in
+    let next = are.1 in
+    let took : taken bytes from ≡ Ok next = are.2 in
+    let now = begun-now bytes from next took in
+    let j = joins bytes old.begun next.begun fine now in
+    let others = exactly sound joins e rest next new (sound bytes old.begun next.begun fine now)
+    are.3 in (
+      λ h.
+          let later = others.0 h in
+          let begun = begun-some bytes from next took in
+          let a = own-adds bytes from next e took (own-before next.begun begun.0 next.own e begun.1
+          later.before) in
+          record {
+            plain = All-cons (IsPlainOf e) bytes rest (plain-of bytes from next e took a.found)
+                later.plain;
+            adds = (
+              units_in next,
+              j,
+              omega (arith, joins-more bytes from next j, a.more),
+              later.adds,
+            );
+            before = a.before;
+          },
+      λ each.
+          let here = each.adds.1 in
+          let same = joins-same bytes (units_in old) each.adds.0 (units_in next) here j in
+          let own = adds-own bytes from next e took (record {
+            found = own-of bytes e (All-head (IsPlainOf e) bytes rest each.plain);
+            more = omega (
+              arith,
+              ap length here.is ∙ length-append (units_in old) here.added,
+              ap length same,
+              units-names old.begun,
+              units-names next.begun,
+              each.adds.2,
+            );
+            before = each.before;
+          }) in
+          others.1 (record {
+            plain = All-tail (IsPlainOf e) bytes rest each.plain;
+            adds = subst (λ m. EachAdds rest m (units_in new)) same each.adds.3;
+            before = before-own next.begun next.own e own;
+          }),
+    )
 
 -- ---- from a new builder
 
@@ -208,13 +208,13 @@ again-exactly sound joins accepted state are = (there, back)
     there h =
         let two = both (is_some state.own) (has_sections state.begun) h in
         let own = some-own state.own two.0 in
-        let each = each-of sound joins own.0 accepted start state tt are
+        let each = (exactly sound joins own.0 accepted start state tt are).0
         (before-own state.begun state.own own.0 own.1) in
         record { encoding = own.0; plain = each.plain; adds = each.adds; sections = two.1 }
 
     back : IsOfPlainObjects accepted state → packs_again state ≡ true
     back is =
-        let before = of-each sound joins is.encoding accepted start state tt are (record {
+        let before = (exactly sound joins is.encoding accepted start state tt are).1 (record {
           plain = is.plain;
           adds = is.adds;
           before = tt;

@@ -111,7 +111,7 @@ input-encoded reads alone bytes begun now one j h before order is =
     let from = λ (file : Elf) (opens : opened bytes ≡ Ok file).
     sym (input-order bytes file begun now order opens h) ∙ is in
     let t = takes bytes begun now h in
-    units-hold (IsEncoded order) bytes begun now j h (λ file u opens info all read.
+    units-hold (IsEncoded order) bytes begun now j h (λ file u opens all read.
     subst (λ o. CanMean (IsEncoded o) u.source all)
     (made-order file u.source.object begun u.object_is u.order_is ∙ new-order file begun
     ∙ from file opens)
@@ -211,7 +211,7 @@ pack-order bytes file pack is h =
     ap (λ (p : Package). p.order) (sym (same-ok {E = PackageError} _ pack s4.2))
     ∙ ap (λ (f : Elf). f.order) same
 
-pub answers-whole : (order : Endianness) (units : Members) (file : File)
+answers-whole : (order : Endianness) (units : Members) (file : File)
     → elf_of (file_text file) ≡ Ok (written_elf file) → file.order ≡ order
     → AreEncoded order units → (pack : Package) → package_of (file_text file) ≡ Ok pack
     → Finds pack units → AnswersAs units (file_text file)

@@ -1,6 +1,6 @@
 -- A written package of plain objects as an input: its indexes, and its string offsets.
-use Rattle.std.proofs.Common.{◌≡◌, ◌∙◌, ℕ, ◌+◌, ◌<◌, true, false, cond, List, [], ◌∷◌, ◌++◌, length}
-use Rattle.std.proofs.Common.{refl, sym, ap, subst, Ok, Some, arith, inl, inr, true≢false}
+use Rattle.std.proofs.Common.{◌≡◌, ◌∙◌, ℕ, ◌<◌, true, false, List, [], ◌∷◌, length, refl, sym, ap}
+use Rattle.std.proofs.Common.{subst, Ok, Some, arith, inl, inr, true≢false}
 use Rattle.std.specs.Prelude.{slice_get}
 use Rattle.std.proofs.lemmas.List.{length-map}
 use Rattle.std.proofs.lemmas.List.Elements.{All-tail}
@@ -61,9 +61,8 @@ finished-shared made file f kind shared =
   where
     other : (k : SectionKind) (x : List ℕ) (d : Contents) → is_shared k ≡ false
         → content_of kind (with_bytes k x d) ≡ content_of kind d
-    other k x d h = content-with_bytes kind k x d ∙ ap (λ b. cond b (content_of kind d ++ x)
-        (content_of kind d)) (differ k kind (λ e. true≢false (sym shared ∙ ap is_shared (sym e)
-        ∙ h)))
+    other k x d h = content-with_bytes kind k x d
+        ∙ rw (differ k kind (λ e. true≢false (sym shared ∙ ap is_shared (sym e) ∙ h))) refl
 
 -- ---- string offsets
 

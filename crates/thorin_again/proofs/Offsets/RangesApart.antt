@@ -83,7 +83,7 @@ module _ (order : Endianness) (encoding : Encoding) where
   -- ---- a whole range
 
   -- has its entries behind its header
-  pub whole-count : (size : ℕ) (whole : IsWholeRange order encoding size)
+  whole-count : (size : ℕ) (whole : IsWholeRange order encoding size)
       → entry_count encoding size ≡ whole.count
   whole-count size whole =
       count-again encoding.format size (header_size encoding) whole.count whole.long

@@ -9,7 +9,7 @@ use Rattle.std.specs.Option.{option_and_then}
 use Rattle.std.specs.Result.{result_ok}
 use Rattle.std.specs.BTreeSet.{insert_key}
 use Rattle.std.specs.Cmp.{nat_cmp_is}
-use Rattle.std.specs.Ordering.{is_eq, match_ordering, nat_cmp, ordering_then}
+use Rattle.std.specs.Ordering.{is_eq, nat_cmp, ordering_then}
 use Rattle.std.specs.declared.cmp.Ordering.{Ordering}
 use Rattle.std.specs.declared.cmp.Ordering.TheVariants.{Less, Equal, Greater}
 use Rattle.std.proofs.lemmas.Bool.{ne_eqb}
@@ -69,28 +69,27 @@ cmp-self x = λ i. ordering_then (sym (nat_cmp_is x.offset.0 x.offset.0 Equal re
 cmp-equal : (r x : Contribution) → place_cmp r x ≡ Equal → r ≡ x
 cmp-equal r x h = same_Some r x (range_is x (Some r) (sym (key_test r x) ∙ ap is_eq h))
 
+by-order : (P : Type 0) (o : Ordering) → (o ≡ Less → P) → (o ≡ Equal → P) → (o ≡ Greater → P) → P
+by-order P Less less equal greater = less refl
+by-order P Equal less equal greater = equal refl
+by-order P Greater less equal greater = greater refl
+
 put-there : (xs : List Contribution) (r : Contribution) → IsAmong r (insert_key place_cmp xs r)
 put-there [] r = inl refl
-put-there (x ∷ xs) r = by (place_cmp r x) refl (put-there xs r)
-  where
-    by : (o : Ordering) → place_cmp r x ≡ o → IsAmong r (insert_key place_cmp xs r) → IsAmong r
-        (match_ordering o (r ∷ x ∷ xs) (x ∷ xs) (x ∷ insert_key place_cmp xs r))
-    by Less e later = inl refl
-    by Equal e later = inl (cmp-equal r x e)
-    by Greater e later = inr later
+put-there (x ∷ xs) r =
+    by-order _ (place_cmp r x) (λ less. rw less (inl refl))
+    (λ equal. rw equal (inl (cmp-equal r x equal)))
+    (λ greater. rw greater (inr (put-there xs r)))
 
 put-kept : (xs : List Contribution) (r z : Contribution) → IsAmong z xs
     → IsAmong z (insert_key place_cmp xs r)
 put-kept [] r z h = absurd h
-put-kept (x ∷ xs) r z h = by (place_cmp r x) h (put-kept xs r z)
-  where
-    by : (o : Ordering) → IsAmong z (x ∷ xs)
-        → (IsAmong z xs → IsAmong z (insert_key place_cmp xs r)) → IsAmong z
-        (match_ordering o (r ∷ x ∷ xs) (x ∷ xs) (x ∷ insert_key place_cmp xs r))
-    by Less k later = inr k
-    by Equal k later = k
-    by Greater (inl e) later = inl e
-    by Greater (inr k) later = inr (later k)
+put-kept (x ∷ xs) r z (inl e) =
+    by-order _ (place_cmp r x) (λ less. rw less (inr (inl e))) (λ equal. rw equal (inl e))
+    (λ greater. rw greater (inl e))
+put-kept (x ∷ xs) r z (inr k) =
+    by-order _ (place_cmp r x) (λ less. rw less (inr (inr k))) (λ equal. rw equal (inr k))
+    (λ greater. rw greater (inr (put-kept xs r z k)))
 
 ranges-kept : (ranges : List (Option Contribution)) (xs : List Contribution) (z : Contribution)
     → IsAmong z xs → IsAmong z (with_ranges ranges xs)
@@ -126,6 +125,11 @@ rows-are (Some index) rows xs has =
     ap read (next l) ∙ ap (λ r. option_and_then (λ found. range_in found StrOffsets) (result_ok r))
     parts.there ∙ parts.parts StrOffsets))
 
+by-option : {X : Type 0} (P : Type 0) (o : Option X) → (o ≡ None → P)
+    → ((x : X) → o ≡ Some x → P) → P
+by-option P None none some = none refl
+by-option P (Some x) none some = some x refl
+
 some-own : (row : IndexEntry) (range : Contribution) → row.debug_str_offsets ≡ Some range
     → 0 < range.size → own row ≡ Some range
 some-own row range e some =
@@ -137,13 +141,9 @@ ranges-there [] xs z some h = absurd h
 ranges-there (row ∷ rows) xs z some (inl e) =
     rw (some-own row z e some) (ranges-kept (map own rows) (insert_key place_cmp xs z) z
     (put-there xs z))
-ranges-there (row ∷ rows) xs z some (inr h) = by (own row) (λ l. ranges-there rows l z some h)
-  where
-    by : (o : Option Contribution)
-        → ((l : List Contribution) → IsAmong z (with_ranges (map own rows) l))
-        → IsAmong z (with_ranges (o ∷ map own rows) xs)
-    by None later = later xs
-    by (Some r) later = later (insert_key place_cmp xs r)
+ranges-there (row ∷ rows) xs z some (inr h) =
+    by-option _ (own row) (λ none. rw none (ranges-there rows xs z some h))
+    (λ r is. rw is (ranges-there rows (insert_key place_cmp xs r) z some h))
 
 -- ---- compilation units and type units
 
@@ -236,14 +236,9 @@ module _ (order : Endianness) (encoding : Encoding) where
         → IsPartOf xs ys → IsPartOf (with_ranges (map own rows) xs) ys
     ranges-part [] xs has part = part
     ranges-part (row ∷ rows) xs has part =
-        by (own row) refl (λ l some. ranges-part rows l has.1 some)
-      where
-        by : (o : Option Contribution) → own row ≡ o → ((l : List Contribution) → IsPartOf l ys
-            → IsPartOf (with_ranges (map own rows) l) ys)
-            → IsPartOf (with_ranges (o ∷ map own rows) xs) ys
-        by None e later = later xs part
-        by (Some r) e later = later (insert_key place_cmp xs r) (put-part 0 end ys xs r tile part
-            (has.0 r (non_empty-some row.debug_str_offsets r e)))
+        by-option _ (own row) (λ none. rw none (ranges-part rows xs has.1 part))
+        (λ r is. rw is (ranges-part rows (insert_key place_cmp xs r) has.1
+        (put-part 0 end ys xs r tile part (has.0 r (non_empty-some row.debug_str_offsets r is)))))
 
     -- those of the rows of both indexes are all of them
     pub ranges-are : (compilations types : Option Index) (rows : List IndexEntry)

@@ -1,7 +1,7 @@
 -- String offsets that were rewritten, rewritten once more from the same strings on, give the same
 -- strings.
 use Rattle.std.proofs.Common.{◌≡◌, ◌∙◌, ℕ, zero, suc, ◌+◌, ◌*◌, ◌<◌, ◌≤◌, inl, inr, ltb, List, []}
-use Rattle.std.proofs.Common.{◌∷◌, ◌++◌, length, take, drop, refl, sym, ap, subst, Ok, arith}
+use Rattle.std.proofs.Common.{◌∷◌, ◌++◌, length, take, drop, refl, sym, ap, Ok, arith}
 use Rattle.std.proofs.Common.{length-append, add-mul}
 use Rattle.std.specs.Prelude.{slice_range}
 use Rattle.std.proofs.Math.Seq.{drop-append-add}
@@ -90,20 +90,6 @@ module _ (order : Endianness) (encoding : Encoding) where
 
   -- ---- joined ranges without a header
 
-  offset-front : (xs ys : List ℕ) (at : ℕ) → at + width ≤ length xs
-      → offset_at order encoding.format (xs ++ ys) at ≡ offset_at order encoding.format xs at
-  unfolding offset_at
-  offset-front xs ys at room =
-      let here = le-ltb (length (xs ++ ys)) (at + width) (omega (arith, room, length-append xs ys)) in
-      let there = le-ltb (length xs) (at + width) room in
-      let front = drop-append-le at xs ys (omega (arith, room)) in
-      let same = number_front order encoding.format (drop at xs) ys (omega (
-        arith,
-        room,
-        length-drop at xs,
-      )) in
-      rw (here, there, front, same) refl
-
   offset-back : (xs ys : List ℕ) (at : ℕ) → offset_at order encoding.format (xs ++ ys)
       (length xs + at) ≡ offset_at order encoding.format ys at
   unfolding offset_at
@@ -116,11 +102,21 @@ module _ (order : Endianness) (encoding : Encoding) where
       (long : length xs ≡ n * width) where
     named-front : (k : ℕ) → k < n → named_at order encoding section (xs ++ ys) k ≡ named_at order
         encoding section xs k
-    unfolding named_at
+    unfolding named_at offset_at
     named-front k less =
-        let room : k * width + width ≤ n * width = row_fits k width n width less (omega arith) in
-        rw (offset-front xs ys (header_size encoding + k * width)
-        (omega (arith, no_header encoding old, room, long))) refl
+        let at = header_size encoding + k * width in
+        let fits : k * width + width ≤ n * width = row_fits k width n width less (omega arith) in
+        let room : at + width ≤ length xs = omega (arith, no_header encoding old, fits, long) in
+        let here = le-ltb (length (xs ++ ys)) (at + width) (omega (arith, room, length-append xs ys))
+        in
+        let there = le-ltb (length xs) (at + width) room in
+        let front = drop-append-le at xs ys (omega (arith, room)) in
+        let same = number_front order encoding.format (drop at xs) ys (omega (
+          arith,
+          room,
+          length-drop at xs,
+        )) in
+        rw (here, there, front, same) refl
 
     named-back : (k : ℕ) (string : List ℕ) → named_at order encoding section ys k ≡ Ok string
         → named_at order encoding section (xs ++ ys) (n + k) ≡ Ok string
@@ -203,8 +199,7 @@ module _ (order : Endianness) (encoding : Encoding) where
   grown section old new place at end [] tail before middle after here tile fits first second =
       let same : before ≡ middle = ap (λ (w : Written). w.1)
       (same-ok {E = ErrorValue} (drop place old, before) (first.0, middle) first.1) in
-      subst (λ n. InTurn section (old ++ new) n tail before after) (sym (here ∙ tile))
-      (subst (λ s. InTurn section (old ++ new) end tail s after) (sym same) second)
+      rw (here ∙ tile, same) second
   grown section old new place at end (r ∷ ranges) tail before middle after here tile fits first
       second =
       let s1 = bind-was (remapped order encoding section (range_bytes old r) r.size before) _

@@ -1,6 +1,6 @@
 -- The ranges of string offsets fill their section, where plain objects of one encoding are added.
-use Rattle.std.proofs.Common.{◌≡◌, ◌∙◌, ℕ, ◌+◌, ◌<◌, false, ◌⊎◌, inl, inr, List, [], ◌∷◌, ◌++◌}
-use Rattle.std.proofs.Common.{length, refl, sym, ap, subst, Ok, Some, arith, length-append}
+use Rattle.std.proofs.Common.{◌≡◌, ◌∙◌, ℕ, ◌+◌, ◌<◌, false, inl, inr, List, [], ◌∷◌, ◌++◌, length}
+use Rattle.std.proofs.Common.{refl, sym, ap, subst, Ok, Some, arith, length-append}
 use Rattle.std.proofs.Math.Nat.{add-zero}
 use Rattle.std.proofs.lemmas.List.{append-nil}
 use Rattle.std.proofs.lemmas.Option.{none-some, same_Some}
@@ -26,7 +26,8 @@ use Rattle.thorin_again.proofs.Kept.EachUnit.{each-added, each-unit}
 use Rattle.thorin_again.proofs.Kept.SharedParts.{PlainAdded, plain-added, parted, order-added}
 use Rattle.thorin_again.proofs.Kept.SharedParts.{content-added, RowHas, rows-share, once-more}
 use Rattle.thorin_join.proofs.Rows.OneAdded.{place-put, range_for, own-bytes}
-use Rattle.thorin_again.proofs.Offsets.WholeRanges.{PartFills, part-fills, unchanged}
+use Rattle.thorin_again.proofs.Offsets.WholeRanges.{MadeBy, part-made, made-fills, unchanged}
+use Rattle.thorin_input.specs.Parts.{has_part}
 use Rattle.thorin_join.proofs.Parts.FirstUses.{units-strings}
 
 -- ---- rows that are added
@@ -76,15 +77,13 @@ some-last : (range : Contribution) (rows : List IndexEntry) (row : IndexEntry)
 some-last range [] row h = inl h
 some-last range (r ∷ rs) row h = inr (some-last range rs row h)
 
-among-or : (range more : Contribution) (ranges : List Contribution)
-    → IsAmong range (ranges ++ more ∷ []) → IsAmong range ranges ⊎ (range ≡ more)
-among-or range more [] (inl e) = inr e
-among-or range more [] (inr h) = absurd h
-among-or range more (r ∷ rs) (inl e) = inl (inl e)
-among-or range more (r ∷ rs) (inr h) = elim (among-or range more rs h) [
-  | inl k ↦ inl (inr k)
-  | inr e ↦ inr e
-]
+among-by : (P : Contribution → Type 0) (ranges : List Contribution) (more : Contribution)
+    → ((r : Contribution) → IsAmong r ranges → P r) → P more
+    → (r : Contribution) → IsAmong r (ranges ++ more ∷ []) → P r
+among-by P [] more h own r (inl e) = subst P (sym e) own
+among-by P [] more h own r (inr k) = absurd k
+among-by P (x ∷ xs) more h own r (inl e) = h r (inl e)
+among-by P (x ∷ xs) more h own r (inr k) = among-by P xs more (λ z l. h z (inr l)) own r k
 
 gives-same : (o p : Endianness) (encoding : Encoding) (xs ys : List ℕ) (ranges : List Contribution)
     (s t : List (List ℕ)) → p ≡ o → ys ≡ xs → t ≡ s → GiveStrings o encoding xs ranges s
@@ -113,8 +112,8 @@ module _ (names : NamesTheSameLaw) (source : Source) (before now : InProgress)
   abbrev range : Contribution
   range = range_for StrOffsets joined before.file.contents
 
-  abbrev part : PartFills names source plain before.strings joined a.after
-  part = part-fills names source plain before.strings a.parts a.after table a.parts_are
+  abbrev part : MadeBy names source plain before.strings (a.parts, a.after)
+  part = part-made names source plain before.strings a.parts a.after table a.parts_are
 
   -- where a range is put, the ranges give the strings after it
   more-strings : IsWholeRange order source.encoding (length joined)
@@ -172,33 +171,32 @@ module _ (names : NamesTheSameLaw) (source : Source) (before now : InProgress)
       a.new.units (tiled.named r there))
 
   pub tiled-kept : HasTiledOffsets source.encoding now
-  tiled-kept = elim part.fills [
-    | inl none ↦
-        let empty = no-bytes joined none in
-        let same_strings =
-        unchanged names source plain before.strings joined a.after none part in
-        made-so tiled.ranges (rw (none, add-zero (length old)) tiled.tile) (λ row has. has)
-        (λ r e. absurd (none-some r (rw none at e)))
-        named-before (gives-same order order source.encoding old (old ++ joined) tiled.ranges
-        before.strings a.after refl (ap (λ l. old ++ l) empty ∙ append-nil old) same_strings
-        tiled.strings)
-    | inr whole ↦
-        let is_whole = subst (λ o. IsWholeRange o source.encoding (length joined)) same whole in
-        let put = place-put StrOffsets joined before.file.contents whole.some in
-        made-so (tiled.ranges ++ range ∷ [])
-        (tile-append order source.encoding 0 tiled.ranges (length old) range tiled.tile refl
-        is_whole)
-        (λ row has r e. among-more r range tiled.ranges (has r e))
-        (λ r e. subst (λ x. IsAmong x (tiled.ranges ++ range ∷ []))
-        (same_Some range r (sym put ∙ e)) (among-last range tiled.ranges))
-        (λ r there. elim (among-or r range tiled.ranges there) [
-          | inl k ↦ named-before r k
-          | inr e ↦ subst (λ x. IsOfSome x now.rows) (sym e) (once-more source before now a more
-              (λ p. IsOfSome range p.rows) (RowHas (λ row. row.debug_str_offsets ≡ Some range))
-              (λ p u has. some-last range p.rows (row_at u.1.row p.file.contents u.0 u.1.bytes
-              u.1.place) (has p.file.contents))
-              (rows-share source before now a plain StrOffsets refl (λ part. part ≡ Some range)
-              put))
-        ])
-        (more-strings is_whole)
-  ]
+  tiled-kept = elim (made-fills names source plain before.strings joined a.after
+      (has_part StrOffsets a.parts) part) [
+        | inl none ↦
+            let empty = no-bytes joined none in
+            let same_strings =
+            unchanged names source plain before.strings joined a.after
+            (has_part StrOffsets a.parts) none part in
+            made-so tiled.ranges (rw (none, add-zero (length old)) tiled.tile) (λ row has. has)
+            (λ r e. absurd (none-some r (rw none at e)))
+            named-before (gives-same order order source.encoding old (old ++ joined) tiled.ranges
+            before.strings a.after refl (ap (λ l. old ++ l) empty ∙ append-nil old) same_strings
+            tiled.strings)
+        | inr whole ↦
+            let is_whole = subst (λ o. IsWholeRange o source.encoding (length joined)) same whole in
+            let put = place-put StrOffsets joined before.file.contents whole.some in
+            made-so (tiled.ranges ++ range ∷ [])
+            (tile-append order source.encoding 0 tiled.ranges (length old) range tiled.tile refl
+            is_whole)
+            (λ row has r e. among-more r range tiled.ranges (has r e))
+            (λ r e. subst (λ x. IsAmong x (tiled.ranges ++ range ∷ []))
+            (same_Some range r (sym put ∙ e)) (among-last range tiled.ranges))
+            (among-by (λ r. IsOfSome r now.rows) tiled.ranges range named-before
+            (once-more source before now a more (λ p. IsOfSome range p.rows)
+            (RowHas (λ row. row.debug_str_offsets ≡ Some range))
+            (λ p u has. some-last range p.rows (row_at u.1.row p.file.contents u.0 u.1.bytes u.1.place)
+            (has p.file.contents))
+            (rows-share source before now a plain StrOffsets refl (λ part. part ≡ Some range) put)))
+            (more-strings is_whole)
+      ]

@@ -36,14 +36,6 @@ use Rattle.thorin_packaged.proofs.OffsetsJoined.{no_header}
 abbrev pub Fills : Endianness → Encoding → ℕ → Type 0
 Fills order encoding size = (size ≡ 0) ⊎ IsWholeRange order encoding size
 
-standard-header : (encoding : Encoding) → leb 5 encoding.version ≡ true → 0 < header_size encoding
-standard-header encoding h = rw h (omega arith)
-
-old-header : (order : Endianness) (encoding : Encoding) (size : ℕ) → encoding.version < 5
-    → header_of order encoding size ≡ Ok []
-unfolding header_of
-old-header order encoding size old = rw (lt-ltb encoding.version 5 old) refl
-
 module _ (names : NamesTheSameLaw) (source : Source) (plain : is_package source.indexes ≡ false)
     (start : List (List ℕ)) where
   abbrev pub order : Endianness
@@ -63,15 +55,15 @@ module _ (names : NamesTheSameLaw) (source : Source) (plain : is_package source.
       strings
 
   -- in DWARF 5 it is the only one
-  record Made (new : List ℕ) (strings : List (List ℕ)) (has : Bool) : Type 0 where
-    table : IsTable strings
+  pub record Made (new : List ℕ) (strings : List (List ℕ)) (has : Bool) : Type 0 where
+    pub table : IsTable strings
     older : encoding.version < 5 → (n : ℕ) × (length new ≡ n * offset_size encoding.format)
     fresh : leb 5 encoding.version ≡ true → has ≡ false → (new ≡ []) × (strings ≡ start)
     standard : leb 5 encoding.version ≡ true → Fills order encoding (length new)
-    kept : take (length start) strings ≡ start
-    again : Again new strings
+    pub kept : take (length start) strings ≡ start
+    pub again : Again new strings
 
-  abbrev MadeBy : Parts → Type 0
+  abbrev pub MadeBy : Parts → Type 0
   MadeBy parts = Made (joined_parts StrOffsets parts.0) parts.1 (has_part StrOffsets parts.0)
 
   one-fills : (bytes : List ℕ) (strings : List (List ℕ)) (written : List ℕ × List (List ℕ))
@@ -85,8 +77,9 @@ module _ (names : NamesTheSameLaw) (source : Source) (plain : is_package source.
             let law = names order encoding section bytes (length bytes) strings written.0 written.1
             table h in
             let long = law.long (eqb-false (length bytes) 0 r.some) in
+            let least : 0 < header_size encoding = rw standard (omega arith) in
             inr (record {
-              some = omega (arith, long, standard-header encoding standard);
+              some = omega (arith, long, least);
               count = entry_count encoding (length bytes);
               long = long;
               header = r.header;
@@ -219,6 +212,7 @@ module _ (names : NamesTheSameLaw) (source : Source) (plain : is_package source.
 
   older-fills : (new : List ℕ) (n : ℕ) → encoding.version < 5 → length new ≡ n * offset_size
       encoding.format → Fills order encoding (length new)
+  unfolding header_of
   older-fills new n old long = elim (either (eqb (length new) 0)) [
     | inl empty ↦ inl (eqb-true (length new) 0 empty)
     | inr some ↦ inr (record {
@@ -226,39 +220,32 @@ module _ (names : NamesTheSameLaw) (source : Source) (plain : is_package source.
       count = n;
       long = omega (arith, long, no_header encoding old);
       header = [];
-      written = old-header order encoding (n * offset_size encoding.format) old;
+      written = rw (lt-ltb encoding.version 5 old) refl;
     })
   ]
 
-  -- the part is whole, and gives the strings after it
-  pub record PartFills (new : List ℕ) (after : List (List ℕ)) : Type 0 where
-    pub fills : Fills order encoding (length new)
-    pub table : IsTable after
-    pub kept : take (length start) after ≡ start
-    pub again : Again new after
+  -- the part of an input gives the strings after it
+  pub part-made : (parts : Contents) (after : List (List ℕ)) → IsTable start
+      → parts_of source start ≡ Ok (parts, after) → MadeBy (parts, after)
+  part-made parts after table h =
+      made-each source.object.sections ([], start) (parts, after) (none-made table) h
 
-  pub part-fills : (parts : Contents) (after : List (List ℕ)) → IsTable start
-      → parts_of source start ≡ Ok (parts, after) → PartFills (joined_parts StrOffsets parts) after
-  part-fills parts after table h =
-      let made = made-each source.object.sections ([], start) (parts, after) (none-made table) h in
-      record {
-        fills = elim (either (leb 5 encoding.version)) [
-          | inl standard ↦ made.standard standard
-          | inr gnu ↦
-              let old = leb-false 5 encoding.version gnu in
-              let o = made.older old in
-              older-fills (joined_parts StrOffsets parts) o.0 old o.1
-        ];
-        table = made.table;
-        kept = made.kept;
-        again = made.again;
-      }
+  -- and is whole
+  pub made-fills : (new : List ℕ) (after : List (List ℕ)) (has : Bool) → Made new after has
+      → Fills order encoding (length new)
+  made-fills new after has made = elim (either (leb 5 encoding.version)) [
+    | inl standard ↦ made.standard standard
+    | inr gnu ↦
+        let old = leb-false 5 encoding.version gnu in
+        let o = made.older old in
+        older-fills new o.0 old o.1
+  ]
 
   -- without bytes the strings stay
-  pub unchanged : (new : List ℕ) (after : List (List ℕ)) → length new ≡ 0
-      → PartFills new after → after ≡ start
+  pub unchanged : (new : List ℕ) (after : List (List ℕ)) (has : Bool) → length new ≡ 0
+      → Made new after has → after ≡ start
   unfolding remapped_entries
-  unchanged new after none part =
+  unchanged new after has none part =
       let lead = subst (λ k. Lead order encoding (data_of after) new k start after)
       (ap (entry_count encoding) none ∙ no-entries encoding) (part.again after part.table
       (take-length after)) in
