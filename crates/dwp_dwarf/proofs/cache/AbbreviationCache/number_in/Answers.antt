@@ -1,6 +1,5 @@
-use Rattle.std.proofs.Common.{◌≡◌, ℕ, Option, Result, Ok, Some, ap, sym}
+use Rattle.std.proofs.Common.{refl, ◌≡◌, Ok, Some}
 use Rattle.dwp_bytes.specs.Input.{Input}
-use Rattle.dwp_bytes.specs.declared.error.ReadError.{ReadError}
 use Rattle.dwp_dwarf.specs.Abbreviations.{declaration}
 use Rattle.dwp_dwarf.specs.Chains.{StandsAt}
 use Rattle.dwp_dwarf.specs.Declarations.{declaration_of}
@@ -40,5 +39,4 @@ returns-in-Some-first-clause-numbered g c = λ table is.
     let said = rw c.in-Some.is at (c.in_ok-abbreviation.ensures.declared table is) in
     let number = c.number-number.ensures.number (g.R.Reader.input c.self-2.inside.section)
     (stands g c) c.self-2.invariant.2 in
-    rw said (ap (λ (n : Result (Option ℕ) ReadError). Ok (Some (c.in-Some.abbreviation.tag, n)))
-    (sym number))
+    rw (said, number) refl

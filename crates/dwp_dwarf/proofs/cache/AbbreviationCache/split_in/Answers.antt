@@ -1,4 +1,4 @@
-use Rattle.std.proofs.Common.{◌≡◌, Result, Ok, Some, sym, subst}
+use Rattle.std.proofs.Common.{◌≡◌, Result, Ok, Some, subst}
 use Rattle.dwp_base.specs.Reading.{Answers}
 use Rattle.dwp_bytes.specs.Input.{Input}
 use Rattle.dwp_bytes.specs.declared.error.ReadError.{ReadError}
@@ -57,8 +57,7 @@ returns-clause-split g c = λ table is.
     (entry c.args.encoding d (input c.args.values)).attributes in
     let says : Answers (attributes_of input) c.match-first.split read =
     elim c.match-first.branch [
-      | in-Some-first w ↦ subst (λ (r : Result _ ReadError). Answers (attributes_of input) r read)
-          (sym w.split-is) (w.split-split.ensures.split (input c.self-2.inside.section)
+      | in-Some-first w ↦ rw w.split-is (w.split-split.ensures.split (input c.self-2.inside.section)
           (stands_first (input c.self-2.inside.section) c.args.offset c.args.code
           w.in-Some-first.first d (w.in-Some-first.ensures c.self-2.invariant.2) declared)
           c.self-2.invariant.2)
@@ -66,12 +65,10 @@ returns-clause-split g c = λ table is.
           let table = c.self-2.invariant.0 in
           let same : c.args.offset ≡ c.self-2.inside.tables.offset =
           w.is_at_hand.ensures w.if-is_at_hand.true in
-          subst (λ (r : Result _ ReadError). Answers (attributes_of input) r read)
-          (sym w.split-is) (w.split.ensures.split table.table
+          rw w.split-is (w.split.ensures.split table.table
           (declared table.table (rw same table.is)) table.lists)
       | in_default-first+else-is_known w ↦
-          subst (λ (r : Result _ ReadError). Answers (attributes_of input) r read)
-          (sym w.split-is) (subst (λ (e : DebugEntry). Answers (attributes_of input)
+          rw w.split-is (subst (λ (e : DebugEntry). Answers (attributes_of input)
           w.split_read.result (split_in c.args.encoding.format e.attributes)) w.entry.ensures
           w.split_read.ensures)
     ] in
