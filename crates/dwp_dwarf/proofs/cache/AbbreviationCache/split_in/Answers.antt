@@ -15,23 +15,18 @@ use Rattle.dwp_dwarf.proofs.cache.AbbreviationCache.split_in.Goals.{in-Some-firs
 use Rattle.dwp_dwarf.proofs.cache.AbbreviationCache.split_in.Goals.{in_default-first+else-is_known}
 use Rattle.dwp_dwarf.proofs.cache.AbbreviationCache.split_in.Goals.{in_default-first+then-is_known+then-is_at_hand}
 
--- what the table says of the code
-found : (g : Over) (c : goal.After-split-split g) (table : Input)
-    → from_at c.args.offset (g.R.Reader.input c.self-2.inside.section) ≡ Ok table
-    → declaration c.args.code table
-    ≡ Ok (Some (declaration_of g.R.Reader.input c.in-Some.declared))
-found g c table is =
-    let view = c.self-2.view_is in
-    let kept = c.in_ok-declared.ensures.kept in
-    let same : c.self-2.inside.section ≡ c.args.self.now = cc in
-    rw c.in-Some.is at (c.in_ok-declared.ensures.declared table (rw same at is))
-
+-- the declaration of the code stands where it was first found
 stands : (g : Over) (c : goal.After-split-split g)
     → StandsAt (g.R.Reader.input c.self-2.inside.section) c.in-Some-first.first
     (declaration_of g.R.Reader.input c.in-Some.declared)
-stands g c = stands_first (g.R.Reader.input c.self-2.inside.section) c.args.offset c.args.code
+stands g c =
+    let view = c.self-2.view_is in
+    let kept = c.in_ok-declared.ensures.kept in
+    let same : c.self-2.inside.section ≡ c.args.self.now = cc in
+    stands_first (g.R.Reader.input c.self-2.inside.section) c.args.offset c.args.code
     c.in-Some-first.first (declaration_of g.R.Reader.input c.in-Some.declared)
-    (c.in-Some-first.ensures c.self-2.invariant.2) (found g c)
+    (c.in-Some-first.ensures c.self-2.invariant.2)
+    (λ table is. rw c.in-Some.is at (c.in_ok-declared.ensures.declared table (rw same at is)))
 
 pub invariant_of-self : goal.invariant_of-self
 invariant_of-self g c = (
