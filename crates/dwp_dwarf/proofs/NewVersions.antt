@@ -1,9 +1,9 @@
 -- A new version has what the older one has but for one key, and older versions stay.
-use Rattle.std.proofs.Common.{◌≡◌, ◌≢◌, ℕ, zero, suc, ◌<◌, ◌≤◌, ◌-◌, ◌%◌, true, false, cond, List}
-use Rattle.std.proofs.Common.{[], ◌∷◌, ◌++◌, length, Bool, Option, Some, None, eqb, ltb, refl, ap, sym}
+use Rattle.std.proofs.Common.{◌≡◌, ◌≢◌, ℕ, zero, suc, ◌<◌, ◌≤◌, ◌-◌, ◌%◌, false, cond, List}
+use Rattle.std.proofs.Common.{[], ◌∷◌, ◌++◌, length, Option, Some, None, eqb, ltb, refl, ap, sym}
 use Rattle.std.proofs.Common.{◌∙◌, arith, append_assoc}
 use Rattle.std.specs.Prelude.{slice_get}
-use Rattle.std.proofs.lemmas.Bool.{eqb-true, eqb-false, ne_eqb, lt-ltb, ltb-true}
+use Rattle.std.proofs.lemmas.Bool.{cond_both, eqb-true, eqb-false, ne_eqb, lt-ltb, ltb-true}
 use Rattle.std.proofs.lemmas.List.{length-append, append-nil}
 use Rattle.std.proofs.lemmas.Option.{slice_get_within}
 use Rattle.std.proofs.Math.Nat.{div-add-mod}
@@ -113,15 +113,11 @@ by_copy : (levels : ℕ) (nodes : List Node) (version key : ℕ) → levels ≢ 
 by_copy levels nodes version key some = one_level levels nodes version key some
     ∙ of_node (node_of nodes version)
   where
-    none_alike : (b : Bool) → None ≡ cond {A = Option ℕ} b None None
-    none_alike true = refl
-    none_alike false = refl
-
     of_node : (o : Option Node) → value_by o key (λ node. value_below (levels - 1) nodes
         (older version (side_of node key)) (half key))
         ≡ node_has levels nodes (copy_by version o) key
     of_node None = rw (none_side version key, below_none (levels - 1) nodes 0 (half key) refl)
-        (none_alike (eqb key 0))
+        (cond_both (eqb key 0) None None (λ (o : Option ℕ). None ≡ o) (λ _. refl) (λ _. refl))
     of_node (Some node) = rw (copy_side version key node) refl
 
 -- a node that was added

@@ -1,5 +1,5 @@
 -- The units of a section one after the other.
-use Rattle.std.proofs.Common.{◌≡◌, ◌↔◌, ℕ, ◌<◌, Bool, true, false, cond, List}
+use Rattle.std.proofs.Common.{◌≡◌, ◌↔◌, ℕ, ◌<◌, true, false, cond, List}
 use Rattle.std.proofs.Common.{[], ◌∷◌, ◌++◌, length, drop, Result, Ok, Err, eqb, map}
 use Rattle.std.proofs.Common.{append_assoc, length-append, refl, ap, sym, ◌∙◌, arith}
 use Rattle.std.specs.Result.{is_err}
@@ -7,7 +7,7 @@ use Rattle.std.specs.List.{flat_map}
 use Rattle.std.proofs.lemmas.List.{length-take-le, take-append-drop, append-nil}
 use Rattle.std.proofs.lemmas.List.{nil_from_length}
 use Rattle.std.proofs.lemmas.List.Concat.{flat_map-cons}
-use Rattle.std.proofs.lemmas.Bool.{eqb-true, ne_eqb}
+use Rattle.std.proofs.lemmas.Bool.{cond_both, eqb-true, ne_eqb}
 use Rattle.dwp_base.specs.Reading.{Reads}
 use Rattle.dwp_bytes.specs.declared.error.ReadError.{ReadError}
 use Rattle.dwp_bytes.specs.Input.{Input, Goes, front, after}
@@ -69,11 +69,8 @@ no_unit section i e = units-cases section i ∙ rw e refl
 
 pub nothing_left : {R : Type 0} (input : R → Input) (h : UnitHeaders R)
     → eqb (length (input h.reader).bytes) 0 ≡ true → units_left input h ≡ []
-nothing_left input h e = rw (no_unit h.section (input h.reader) e) (both_ways h.ended)
-  where
-    both_ways : (b : Bool) → (cond {A = List (Result Unit ReadError)} b [] []) ≡ []
-    both_ways true = refl
-    both_ways false = refl
+nothing_left input h e = rw (no_unit h.section (input h.reader) e) (cond_both h.ended [] []
+    (λ (l : List (Result Unit ReadError)). l ≡ []) (λ _. refl) (λ _. refl))
 
 -- ---- the bytes of the units, joined
 

@@ -22,8 +22,4 @@ loop-specification-preserved g c =
     ∙ sym (after-listed format c.args.encoding (attributes_of input c.loop-specification.found)
     (specification_of s) (map specification_of left) (input c.loop-specification.values)
     (input c.read_attribute.new.values) (attribute_of input c.in_ok-attribute.attribute)
-    c.in_ok-attribute.ensures)
-    ∙ sym (ap (λ (ss : List AttributeSpecification). after format
-    (attributes_of input c.loop-specification.found) (attributes c.args.encoding
-    (map specification_of ss) (input c.loop-specification.values))) dropped)
-    ∙ c.loop-specification.invariant
+    c.in_ok-attribute.ensures) ∙ (rw dropped at c.loop-specification.invariant)

@@ -14,6 +14,4 @@ loop-attribute-preserved g c =
     ap (λ b. after c.args.format b (attributes_left input c.next.new.self)) c.add.ensures
     ∙ sym (after-first c.args.format (attributes_of input c.loop-attribute.found)
     (attribute_of input c.in_ok-attribute.attribute) (attributes_left input c.next.new.self))
-    ∙ sym (ap (after c.args.format (attributes_of input c.loop-attribute.found))
-    (left ∙ ap (λ read. attribute_seen input read ∷ attributes_left input c.next.new.self) was))
-    ∙ c.loop-attribute.invariant
+    ∙ (rw (left, was) at c.loop-attribute.invariant)

@@ -1,4 +1,4 @@
-use Rattle.std.proofs.Common.{◌≡◌, Result, Ok, Some, sym, subst}
+use Rattle.std.proofs.Common.{◌≡◌, Result, Ok, Some, subst}
 use Rattle.dwp_base.specs.Reading.{Answers}
 use Rattle.dwp_bytes.specs.Input.{Input}
 use Rattle.dwp_bytes.specs.declared.error.ReadError.{ReadError}
@@ -15,23 +15,18 @@ use Rattle.dwp_dwarf.proofs.cache.AbbreviationCache.split_in.Goals.{in-Some-firs
 use Rattle.dwp_dwarf.proofs.cache.AbbreviationCache.split_in.Goals.{in_default-first+else-is_known}
 use Rattle.dwp_dwarf.proofs.cache.AbbreviationCache.split_in.Goals.{in_default-first+then-is_known+then-is_at_hand}
 
--- what the table says of the code
-found : (g : Over) (c : goal.After-split-split g) (table : Input)
-    → from_at c.args.offset (g.R.Reader.input c.self-2.inside.section) ≡ Ok table
-    → declaration c.args.code table
-    ≡ Ok (Some (declaration_of g.R.Reader.input c.in-Some.declared))
-found g c table is =
-    let view = c.self-2.view_is in
-    let kept = c.in_ok-declared.ensures.kept in
-    let same : c.self-2.inside.section ≡ c.args.self.now = cc in
-    rw c.in-Some.is at (c.in_ok-declared.ensures.declared table (rw same at is))
-
+-- the declaration of the code stands where it was first found
 stands : (g : Over) (c : goal.After-split-split g)
     → StandsAt (g.R.Reader.input c.self-2.inside.section) c.in-Some-first.first
     (declaration_of g.R.Reader.input c.in-Some.declared)
-stands g c = stands_first (g.R.Reader.input c.self-2.inside.section) c.args.offset c.args.code
+stands g c =
+    let view = c.self-2.view_is in
+    let kept = c.in_ok-declared.ensures.kept in
+    let same : c.self-2.inside.section ≡ c.args.self.now = cc in
+    stands_first (g.R.Reader.input c.self-2.inside.section) c.args.offset c.args.code
     c.in-Some-first.first (declaration_of g.R.Reader.input c.in-Some.declared)
-    (c.in-Some-first.ensures c.self-2.invariant.2) (found g c)
+    (c.in-Some-first.ensures c.self-2.invariant.2)
+    (λ table is. rw c.in-Some.is at (c.in_ok-declared.ensures.declared table (rw same at is)))
 
 pub invariant_of-self : goal.invariant_of-self
 invariant_of-self g c = (
@@ -57,8 +52,7 @@ returns-clause-split g c = λ table is.
     (entry c.args.encoding d (input c.args.values)).attributes in
     let says : Answers (attributes_of input) c.match-first.split read =
     elim c.match-first.branch [
-      | in-Some-first w ↦ subst (λ (r : Result _ ReadError). Answers (attributes_of input) r read)
-          (sym w.split-is) (w.split-split.ensures.split (input c.self-2.inside.section)
+      | in-Some-first w ↦ rw w.split-is (w.split-split.ensures.split (input c.self-2.inside.section)
           (stands_first (input c.self-2.inside.section) c.args.offset c.args.code
           w.in-Some-first.first d (w.in-Some-first.ensures c.self-2.invariant.2) declared)
           c.self-2.invariant.2)
@@ -66,12 +60,10 @@ returns-clause-split g c = λ table is.
           let table = c.self-2.invariant.0 in
           let same : c.args.offset ≡ c.self-2.inside.tables.offset =
           w.is_at_hand.ensures w.if-is_at_hand.true in
-          subst (λ (r : Result _ ReadError). Answers (attributes_of input) r read)
-          (sym w.split-is) (w.split.ensures.split table.table
+          rw w.split-is (w.split.ensures.split table.table
           (declared table.table (rw same table.is)) table.lists)
       | in_default-first+else-is_known w ↦
-          subst (λ (r : Result _ ReadError). Answers (attributes_of input) r read)
-          (sym w.split-is) (subst (λ (e : DebugEntry). Answers (attributes_of input)
+          rw w.split-is (subst (λ (e : DebugEntry). Answers (attributes_of input)
           w.split_read.result (split_in c.args.encoding.format e.attributes)) w.entry.ensures
           w.split_read.ensures)
     ] in

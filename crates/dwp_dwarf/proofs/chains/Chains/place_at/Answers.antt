@@ -1,12 +1,9 @@
-use Rattle.std.proofs.Common.{◌≡◌, ℕ, length, Some, refl, ap, ◌∙◌}
-use Rattle.std.specs.Ordering.{nat_cmp}
-use Rattle.std.specs.BTreeMap.{get}
+use Rattle.std.proofs.Common.{length, refl, ◌∙◌}
 use Rattle.dwp_dwarf.specs.Chains.{RemembersPlace}
 use Rattle.dwp_dwarf.specs.Declarations.{declaration_of}
 use Rattle.dwp_dwarf.proofs.Places.{place_stays, place_end, place_next}
 use Rattle.dwp_dwarf.proofs.Keys.{if_there}
 use Rattle.dwp_dwarf.proofs.NewVersions.{grows_none}
-use Rattle.dwp_dwarf.specs.Versions.{value_in}
 use Rattle.dwp_dwarf.proofs.chains.Chains.place_at.Goals as goal
 
 pub returns-in_ok-version-in-Ok-Some-clause-place :
@@ -14,13 +11,8 @@ pub returns-in_ok-version-in-Ok-Some-clause-place :
 returns-in_ok-version-in-Ok-Some-clause-place g c = λ section all is.
     let e = c.in_ok-next-in-Ok-Some.ensures in
     let left = length (g.R.Reader.input c.in-Ok-Some.behind).bytes in
-    let next : get nat_cmp c.args.self.now.places (length (g.R.Reader.input
-    c.in-Ok-Some.behind).bytes) ≡ Some c.in_ok-next-in-Ok-Some.next = cc in
     let read = rw c.in-Ok-Some.field-0-is at c.in-Ok-Some.ensures in
-    let first : value_in c.insert.new.self.nodes.items c.in_ok-version-in-Ok-Some.version
-    c.in_ok-number-in-Ok-Some.number ≡ Some c.args.left =
-    c.in_ok-version-in-Ok-Some.ensures.value
-    ∙ ap (λ (k : ℕ). Some k) c.in_ok-first-in-Ok-Some.ensures in
+    let first = rw c.in_ok-first-in-Ok-Some.ensures at c.in_ok-version-in-Ok-Some.ensures.value in
     place_next section (g.R.Reader.input c.args.at)
     (g.R.Reader.input c.in-Ok-Some.behind) c.number_or_next.new.self
     c.args.self.now.firsts.nodes.items c.insert.new.self.nodes.items c.args.left c.in-Ok-Some.code
@@ -32,7 +24,7 @@ returns-in_ok-version-in-Ok-Some-clause-place g c = λ section all is.
     c.in_ok-next-in-Ok-Some.next c.number_or_next.ensures.grows
     (grows_none c.args.self.now.firsts.nodes.items)
     (if_there (RemembersPlace section c.args.self.now.codes c.args.self.now.firsts.nodes.items left)
-    next (all.each left)))
+    (cc) (all.each left)))
     refl (c.in_ok-end-in-Ok-Some.ensures ∙ c.len.ensures)
     c.in_ok-version-in-Ok-Some.ensures.fits first
     c.in_ok-version-in-Ok-Some.ensures.others
