@@ -1,8 +1,7 @@
 -- What is remembered of strings that were read.
-use Rattle.std.proofs.Common.{◌≡◌, ℕ, ◌+◌, ◌<◌, ◌≤◌, Bool, true, false, cond, ltb, List, [], ◌∷◌}
-use Rattle.std.proofs.Common.{◌++◌, length, take, drop, codes, arith, Option, None, Some, Result}
-use Rattle.std.proofs.Common.{Ok, Err, ap, ap₂, sym, subst, refl, ◌∙◌}
-use Rattle.std.proofs.lemmas.List.{take-append-drop}
+use Rattle.std.proofs.Common.{◌≡◌, ℕ, ◌+◌, ◌<◌, ◌≤◌, true, List, [], ◌∷◌}
+use Rattle.std.proofs.Common.{length, take, codes, arith, Option, None, Some, Result}
+use Rattle.std.proofs.Common.{Ok, Err, ap, ap₂, sym, refl, ◌∙◌}
 use Rattle.std.proofs.lemmas.List.Elements.{All-weaker}
 use Rattle.std.proofs.lemmas.Bool.{cond-true, cond_both, lt-ltb, le-ltb}
 use Rattle.dwp_base.specs.declared.endian.Endianness.{Endianness}
@@ -17,7 +16,7 @@ use Rattle.thorin_strings.specs.StringOffsets.{fitting_offset, remapped_entry}
 use Rattle.thorin_strings.specs.Known.{offset_read, IsKnown, AreKnown}
 use Rattle.thorin_strings.proofs.Named.{has, there_later, there_once_used, there_if_same}
 use Rattle.thorin_strings.proofs.OffsetLemmas.{length-data_of-cons}
-use Rattle.dwp_base.proofs.Steps.{bind-was, same-ok}
+use Rattle.dwp_base.proofs.Steps.{bind-was}
 
 -- a string that was read and used
 pub record WasRead (section : List ℕ) (at place : ℕ) (old new : List (List ℕ)) : Type 0 where
@@ -100,8 +99,12 @@ module _ (order : Endianness) (encoding : Encoding) (section bytes : List ℕ) (
   unfolding named_at remapped_entry fitting_offset
   entry_read named place old new entry h fits =
       let r = was_read section named place old new h in
-      rw (entry, r.read, le-ltb (offset_limit encoding.format) (offset_of old r.string)
-      (rw r.offset at fits)) (ap₂ (λ n l. Ok (n, l)) (sym r.offset) (sym r.strings))
+      rw (
+        entry,
+        r.read,
+        le-ltb (offset_limit encoding.format) (offset_of old r.string)
+            (rw r.offset at fits),
+      ) (ap₂ (λ n l. Ok (n, l)) (sym r.offset) (sym r.strings))
 
   pub entry_told : (place : ℕ) (old new : List (List ℕ)) (named : Option ℕ)
       → IfSome named (λ n. entry_at order encoding bytes index ≡ Ok n)
@@ -120,8 +123,12 @@ module _ (order : Endianness) (encoding : Encoding) (section bytes : List ℕ) (
   unfolding named_at remapped_entry fitting_offset
   entry_large named place old new entry h large =
       let r = was_read section named place old new h in
-      rw (entry, r.read, lt-ltb (offset_limit encoding.format) (offset_of old r.string)
-      (rw r.offset at large))
+      rw (
+        entry,
+        r.read,
+        lt-ltb (offset_limit encoding.format) (offset_of old r.string)
+            (rw r.offset at large),
+      )
       (ap (λ n. Err (NumberTooLarge (codes "string offset") n)) (sym r.offset))
 
   pub entry_unread : (named : ℕ) (old : List (List ℕ)) (error : ErrorValue)

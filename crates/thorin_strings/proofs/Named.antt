@@ -1,7 +1,7 @@
 -- A string of a table is read where its offset says, also once more strings have come.
-use Rattle.std.proofs.Common.{◌≡◌, ◌≢◌, ℕ, suc, ◌+◌, ◌-◌, ◌<◌, Bool, true, false, ◌||◌, cond, eqb}
-use Rattle.std.proofs.Common.{ltb, List, [], ◌∷◌, ◌++◌, length, take, drop, get_or, Ok, Err, Contains}
-use Rattle.std.proofs.Common.{ap, sym, subst, refl, ◌∙◌, ⊎_elim, arith, length-append}
+use Rattle.std.proofs.Common.{◌≡◌, ◌≢◌, ℕ, ◌+◌, ◌-◌, ◌<◌, Bool, true, false, ◌||◌, cond, eqb}
+use Rattle.std.proofs.Common.{ltb, List, [], ◌∷◌, ◌++◌, length, take, drop, get_or, Ok, Err}
+use Rattle.std.proofs.Common.{ap, sym, refl, ◌∙◌, ⊎_elim, arith, length-append}
 use Rattle.std.specs.List.{list_any, before_first, position_or_len}
 use Rattle.std.specs.Str.{bytes_eq}
 use Rattle.std.proofs.lemmas.List.{take_all, take_at, take-append-drop, drop_at, drop-drop}
@@ -100,8 +100,12 @@ used ss s table free = cond_both (has ss s) ss (ss ++ s ∷ []) (λ l. IsUsed ss
     (λ h. record {
       table = record {
         distinct = all_pairs_push (λ s t. s ≢ t) ss s table.distinct (λ k d within same.
-            false≢true (sym h ∙ (has_Decides ss s).1 (k, within, get_or_default ss k s d within ∙
-            same)));
+            false≢true (sym h ∙ (has_Decides ss s).1 (
+              k,
+              within,
+              get_or_default ss k s d within ∙
+                  same,
+            )));
         zero_free = All-push IsZeroFree ss s table.zero_free free;
       };
       kept = take_at ss (s ∷ []) (length ss) refl;
@@ -121,6 +125,7 @@ stands_behind (t ∷ ss) s h = by (bytes_eq t s) refl h (stands_behind ss s)
   where
     long : length (terminated t) ≡ length t + 1
     long = length-append t (0 ∷ [])
+
     by : (b : Bool) → bytes_eq t s ≡ b → (b || has ss s) ≡ true
         → (has ss s ≡ true → StandsBehind ss s) → StandsBehind (t ∷ ss) s
     by true first h later =

@@ -1,7 +1,7 @@
 -- Places of strings by their hashes, in slots.
 use Rattle.std.proofs.Common.{◌≡◌, ◌≢◌, ℕ, zero, suc, ◌+◌, ◌-◌, ◌<◌, ◌≤◌, Bool, true, false, cond}
-use Rattle.std.proofs.Common.{eqb, List, ◌++◌, length, take, drop, get_or, set, Option, Some, None}
-use Rattle.std.proofs.Common.{inl, inr, ◌⊎◌, ⊎_elim, ap, ap₂, sym, subst, refl, ◌∙◌, arith}
+use Rattle.std.proofs.Common.{eqb, List, length, get_or, set, Option, Some, None}
+use Rattle.std.proofs.Common.{inl, inr, ◌⊎◌, ⊎_elim, ap, ap₂, sym, refl, ◌∙◌, arith}
 use Rattle.std.proofs.lemmas.Grind.{get_or-set_at}
 use Rattle.std.proofs.lemmas.List.{get_or-set_other, get_or_past}
 use Rattle.std.proofs.lemmas.Bool.{cond-true, cond-false, ne_eqb, eq-eqb, eqb-true, eqb-false}
@@ -99,8 +99,11 @@ set_from : (slots : List Slot) (s : Slot) (k at n h : ℕ) → k < length slots 
 set_from slots s k at zero h within low high passed some same = absurd (omega arith)
 set_from slots s k at (suc n) h within low high passed some same =
     same_or _ at k
-    (λ here. rw (get_or-set_at slots k at s free here within, ne_eqb s.behind 0 some,
-    eq-eqb s.hash h same) refl)
+    (λ here. rw (
+      get_or-set_at slots k at s free here within,
+      ne_eqb s.behind 0 some,
+      eq-eqb s.hash h same,
+    ) refl)
     (λ before.
     let here = passed at (omega arith) (omega (arith, before)) in
     rw (get_or-set_other slots k at s free before, ne_eqb _ 0 here.0, ne_eqb _ h here.1)
@@ -128,9 +131,15 @@ shared_at slots s k at zero h within same was some other = refl
 shared_at slots s k at (suc n) h within same was some other =
     let rest = shared_at slots s k (at + 1) n h within same was some other in
     same_or _ at k
-    (λ here. rw (get_or-set_at slots k at s free here within, here, ne_eqb _ 0 some, ne_eqb _ 0 was,
-    ne_eqb s.hash h (λ e. other (sym e)), ne_eqb (get_or slots k free).hash h (λ e.
-    other (sym (same ∙ e)))) (rw here at rest))
+    (λ here. rw (
+      get_or-set_at slots k at s free here within,
+      here,
+      ne_eqb _ 0 some,
+      ne_eqb _ 0 was,
+      ne_eqb s.hash h (λ e. other (sym e)),
+      ne_eqb (get_or slots k free).hash h (λ e.
+          other (sym (same ∙ e))),
+    ) (rw here at rest))
     (λ apart. rw (get_or-set_other slots k at s free apart) (ap (look (get_or slots at free) h) rest))
 
 -- the next slot for a hash

@@ -1,7 +1,7 @@
 -- Rewriting one entry after another.
-use Rattle.std.proofs.Common.{◌≡◌, ℕ, zero, suc, ◌+◌, ◌*◌, ◌<◌, ◌≤◌, false, eqb, ltb, List, [], ◌∷◌}
-use Rattle.std.proofs.Common.{◌++◌, length, take, Ok, Err, ap, ap₂, sym, subst, refl, ◌∙◌, ⊎_elim}
-use Rattle.std.proofs.Common.{arith, append_assoc, add-one, length-append, drop, ◌-◌, ◌/◌, ◌^◌}
+use Rattle.std.proofs.Common.{◌≡◌, ℕ, zero, suc, ◌+◌, ◌*◌, ◌<◌, ◌≤◌, List, [], ◌∷◌}
+use Rattle.std.proofs.Common.{◌++◌, length, take, Ok, Err, ap, sym, subst, refl, ◌∙◌, ⊎_elim}
+use Rattle.std.proofs.Common.{arith, add-one, length-append, drop, ◌-◌, ◌/◌, ◌^◌}
 use Rattle.dwp_base.specs.declared.endian.Endianness.{Endianness}
 use Rattle.dwp_base.specs.declared.endian.Endianness.TheVariants.{Little}
 use Rattle.dwp_base.specs.Numbers.{number, number_bytes}
@@ -9,8 +9,7 @@ use Rattle.dwp_bytes.specs.Encoding.{offset_size}
 use Rattle.dwp_bytes.specs.declared.encoding.Format.{Format}
 use Rattle.dwp_bytes.specs.declared.encoding.Format.TheVariants.{Dwarf32}
 use Rattle.dwp_bytes.specs.declared.encoding.Encoding.{Encoding}
-use Rattle.thorin_errors.specs.Errors.{ErrorValue, OffsetAtIndex}
-use Rattle.thorin_errors.specs.Answers.{as_error}
+use Rattle.thorin_errors.specs.Errors.{ErrorValue}
 use Rattle.std.proofs.lemmas.List.{take-take, flat_map_more, length-take, take_at, length-drop}
 use Rattle.std.proofs.lemmas.List.{length-take-le}
 use Rattle.std.proofs.lemmas.Bool.{cases_eq, ne_eqb, le-ltb}

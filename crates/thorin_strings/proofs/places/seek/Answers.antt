@@ -1,5 +1,5 @@
 use Rattle.std.proofs.Common.{◌+◌, ◌-◌, ◌∙◌, arith}
-use Rattle.thorin_strings.proofs.PlacesLemmas.{begun, at_free, at_hash, at_other, at_last, next_for}
+use Rattle.thorin_strings.proofs.PlacesLemmas.{begun, at_hash, at_other, at_last, next_for}
 use Rattle.thorin_strings.proofs.PlacesLemmas.{passed_more}
 use Rattle.thorin_strings.proofs.places.seek.Goals as goal
 

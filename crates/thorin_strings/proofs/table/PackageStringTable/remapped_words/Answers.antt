@@ -1,9 +1,8 @@
-use Rattle.std.proofs.Common.{◌≡◌, ◌+◌, ◌*◌, ◌++◌, ◌∙◌, sym, ap, take, length, arith}
+use Rattle.std.proofs.Common.{◌≡◌, ◌+◌, ◌*◌, ◌∙◌, sym, ap, take, length, arith}
 use Rattle.std.specs.Vec.{with_items}
 use Rattle.std.proofs.lemmas.List.{take_all, with_items_is}
 use Rattle.std.proofs.lemmas.Result.{err_from_is_err_and}
 use Rattle.dwp_base.specs.declared.endian.Endianness.TheVariants.{Little}
-use Rattle.dwp_base.specs.Numbers.{number_bytes}
 use Rattle.dwp_bytes.specs.Encoding.{offset_size}
 use Rattle.thorin_strings.proofs.KnownLemmas.{are_known_later}
 use Rattle.dwp_bytes.specs.StringOffsets.{header_size}
