@@ -10,7 +10,7 @@ use Rattle.dwp_bytes.specs.declared.encoding.Format.{Format}
 use Rattle.dwp_bytes.specs.declared.encoding.Format.TheVariants.{Dwarf32}
 use Rattle.dwp_bytes.specs.declared.encoding.Encoding.{Encoding}
 use Rattle.thorin_errors.specs.Errors.{ErrorValue}
-use Rattle.std.proofs.lemmas.List.{take-take, flat_map_more, length-take, take_at, length-drop}
+use Rattle.std.proofs.lemmas.List.{take-take, flat_map_more, length-take, length-drop}
 use Rattle.std.proofs.lemmas.List.{length-take-le}
 use Rattle.std.proofs.lemmas.Bool.{cases_eq, ne_eqb, le-ltb}
 use Rattle.dwp_bytes.specs.StringOffsets.{header_size, entry_count}
@@ -68,11 +68,8 @@ bytes_more order format first out out' before offset so_far more =
 
 -- a list behind which other bytes went
 pub room_made : (items new like : List ℕ) (m : ℕ) → m ≡ length items → new ≡ items ++ like
-    → (length new ≡ m + length like) × (take m new ≡ items)
-room_made items new like m e is = (
-  omega (arith, ap length is, length-append items like),
-  ap (take m) is ∙ take_at items like m (sym e),
-)
+    → length new ≡ m + length like
+room_made items new like m e is = omega (arith, ap length is, length-append items like)
 
 -- the whole entries of four bytes are within the range
 pub entries_within : (encoding : Encoding) (count size first : ℕ) → encoding.format ≡ Dwarf32
