@@ -110,14 +110,14 @@ starts_grown n (p ∷ ps) (suc k) q within long = ap (λ l. n ∷ l) (starts_gro
 module _ (ps : List (List ℕ)) (starts : List ℕ) (rank at start : ℕ)
     (begun : starts ≡ starts_from 0 ps) (piece : IsPieceOf starts rank at)
     (is : start ≡ get_or starts at 0) (within : rank ≤ length (concat ps)) where
-  pub record IsPlaced : Type 0 where
+  pub record IsInPiece : Type 0 where
     pub there : at < length ps
     pub begins : start ≡ length (concat (take at ps))
     pub low : start ≤ rank
     pub high : rank - start ≤ length (get_or ps at [])
     pub inside : rank < length (concat ps) → rank - start < length (get_or ps at [])
 
-  pub placed : IsPlaced
+  pub placed : IsInPiece
   placed =
       let there : at < length ps = omega (
         arith,

@@ -6,7 +6,7 @@ use Rattle.std.proofs.Math.Seq.{take-suc}
 use Rattle.std.proofs.lemmas.Bool.{le-ltb, eq-eqb, eqb-true, ne_eqb}
 use Rattle.std.proofs.lemmas.List.{take_more_same, get_or_default, get_or-take, length-take}
 use Rattle.thorin_strings.proofs.CompareLemmas.{front_string, front_string-cons}
-use Rattle.std.specs.List.{before_first, list_any, HoldsAt}
+use Rattle.std.specs.List.{list_any, HoldsAt}
 use Rattle.std.proofs.lemmas.List.Sums.{position_or_len_is}
 use Rattle.std.proofs.lemmas.Bool.Decides.{Decides-by_or, Decides-eqb}
 use Rattle.memchr.specs.Find.{IsFirstByte, is_byte}

@@ -1,6 +1,6 @@
 -- Strings of entries, which are found by their hashes, or else by their order.
-use Rattle.std.proofs.Common.{◌≡◌, ◌≢◌, ℕ, suc, ◌+◌, ◌<◌, ◌≤◌, Bool, true, false, cond, ltb, eqb, List}
-use Rattle.std.proofs.Common.{[], ◌∷◌, ◌++◌, length, take, drop, map, filter, get_or, Contains, insert}
+use Rattle.std.proofs.Common.{◌≡◌, ◌≢◌, ℕ, suc, ◌+◌, ◌<◌, ◌≤◌, Bool, true, false, ltb, List}
+use Rattle.std.proofs.Common.{[], ◌∷◌, ◌++◌, length, take, map, filter, get_or, Contains, insert}
 use Rattle.std.proofs.Common.{Some, None, Option, inl, inr, ⊎_elim, ap, sym, subst, refl, ◌∙◌, arith}
 use Rattle.std.proofs.Common.{length-append, Result, Ok, Err, IfOk, IfErr, OnOk, OnErr}
 use Rattle.std.specs.declared.alloc.AllocError.{AllocError}
@@ -10,8 +10,7 @@ use Rattle.std.proofs.lemmas.List.{length-map, length-take, map-append, take-map
 use Rattle.std.proofs.lemmas.List.Elements.{All-contains, Contains-get_or}
 use Rattle.std.proofs.lemmas.List.Sorted.{IsPermutation-insert, Contains-permutation}
 use Rattle.std.proofs.lemmas.Bool.{cases_lt, lt-ltb}
-use Rattle.dwp_bytes.specs.StringOffsets.{string_from, string_at}
-use Rattle.std.specs.List.{list_any}
+use Rattle.dwp_bytes.specs.StringOffsets.{string_from}
 use Rattle.thorin_strings.specs.Places.{hash, place_of, shared, IsOrdered, IsFound, AreRelated}
 use Rattle.thorin_strings.specs.Places.{AreFound}
 use Rattle.thorin_strings.specs.Strings.{terminated, data_of, offset_of, strings_in, offsets_from}

@@ -1,8 +1,7 @@
 -- What is remembered of strings that were read.
-use Rattle.std.proofs.Common.{◌≡◌, ℕ, ◌+◌, ◌<◌, ◌≤◌, Bool, true, false, cond, ltb, List, [], ◌∷◌}
-use Rattle.std.proofs.Common.{◌++◌, length, take, drop, codes, arith, Option, None, Some, Result}
-use Rattle.std.proofs.Common.{Ok, Err, ap, ap₂, sym, subst, refl, ◌∙◌}
-use Rattle.std.proofs.lemmas.List.{take-append-drop}
+use Rattle.std.proofs.Common.{◌≡◌, ℕ, ◌+◌, ◌<◌, ◌≤◌, true, List, [], ◌∷◌}
+use Rattle.std.proofs.Common.{length, take, codes, arith, Option, None, Some, Result}
+use Rattle.std.proofs.Common.{Ok, Err, ap, ap₂, sym, refl, ◌∙◌}
 use Rattle.std.proofs.lemmas.List.Elements.{All-weaker}
 use Rattle.std.proofs.lemmas.Bool.{cond-true, cond_both, lt-ltb, le-ltb}
 use Rattle.dwp_base.specs.declared.endian.Endianness.{Endianness}
@@ -17,7 +16,7 @@ use Rattle.thorin_strings.specs.StringOffsets.{fitting_offset, remapped_entry}
 use Rattle.thorin_strings.specs.Known.{offset_read, IsKnown, AreKnown}
 use Rattle.thorin_strings.proofs.Named.{has, there_later, there_once_used, there_if_same}
 use Rattle.thorin_strings.proofs.OffsetLemmas.{length-data_of-cons}
-use Rattle.dwp_base.proofs.Steps.{bind-was, same-ok}
+use Rattle.dwp_base.proofs.Steps.{bind-was}
 
 -- a string that was read and used
 pub record WasRead (section : List ℕ) (at place : ℕ) (old new : List (List ℕ)) : Type 0 where
@@ -58,20 +57,14 @@ there_known : (section : List ℕ) (at place : ℕ) (strings : List (List ℕ)) 
 there_known section at place strings string read there offset =
     read_is section at strings string read ∙ ap₂ (λ n l. Ok (n, l)) offset (cond-true _ _ _ there)
 
--- what was read is known
-pub known_read : (section : List ℕ) (at place : ℕ) (old new : List (List ℕ)) → offset_read section
-    at old ≡ Ok (place, new) → IsKnown section new (at, place)
-known_read section at place old new h =
-    let r = was_read section at place old new h in
-    let used = there_once_used old r.string in
-    rw r.strings (there_known section at place (with_string old r.string) r.string r.read used.0
-    (used.1 ∙ sym r.offset))
-
+-- what was read and used is known
 pub known_used : (section : List ℕ) (at place : ℕ) (old new : List (List ℕ)) (string : List ℕ)
     → string_read section at ≡ Ok string → (place ≡ offset_of old string)
     × (new ≡ with_string old string) → IsKnown section new (at, place)
 known_used section at place old new string read used =
-    known_read section at place old new (read_used section at place old new string read used)
+    let there = there_once_used old string in
+    rw used.1 (there_known section at place (with_string old string) string read there.0
+    (there.1 ∙ sym used.0))
 
 -- what is known stays so once more strings have come
 pub known_later : (section : List ℕ) (old new : List (List ℕ)) → take (length old) new ≡ old

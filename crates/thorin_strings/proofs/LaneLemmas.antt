@@ -40,10 +40,6 @@ module _ (f : ℕ → ℕ → Bool) (l m : List ℕ) (same : length l ≡ length
       (cases_lt 0 (mask_of f l m))))
       (by_bit _ _ (bit k within))
 
-  -- everywhere if none is
-  none_set : (k : ℕ) → k < length l → mask_of f l m ≡ 0 → f (get_or l k 0) (get_or m k 0) ≡ false
-  none_set k within none = clear k within (rw none (omega (arith, trailing_of_zero 64)))
-
   -- and passes at that bit
   first_set : (k : ℕ) → k < length l → k ≡ trailing_zeros w64 (mask_of f l m)
       → f (get_or l k 0) (get_or m k 0) ≡ true

@@ -1,7 +1,7 @@
 -- A string of a table is read where its offset says, also once more strings have come.
-use Rattle.std.proofs.Common.{◌≡◌, ◌≢◌, ℕ, suc, ◌+◌, ◌-◌, ◌<◌, Bool, true, false, ◌||◌, cond, eqb}
-use Rattle.std.proofs.Common.{ltb, List, [], ◌∷◌, ◌++◌, length, take, drop, get_or, Ok, Err, Contains}
-use Rattle.std.proofs.Common.{ap, sym, subst, refl, ◌∙◌, ⊎_elim, arith, length-append}
+use Rattle.std.proofs.Common.{◌≡◌, ◌≢◌, ℕ, ◌+◌, ◌-◌, ◌<◌, Bool, true, false, ◌||◌, cond, eqb}
+use Rattle.std.proofs.Common.{ltb, List, [], ◌∷◌, ◌++◌, length, take, drop, get_or, Ok, Err}
+use Rattle.std.proofs.Common.{ap, sym, refl, ◌∙◌, ⊎_elim, arith, length-append}
 use Rattle.std.specs.List.{list_any, before_first, position_or_len}
 use Rattle.std.specs.Str.{bytes_eq}
 use Rattle.std.proofs.lemmas.List.{take_all, take_at, take-append-drop, drop_at, drop-drop}

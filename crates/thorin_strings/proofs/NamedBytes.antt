@@ -1,6 +1,6 @@
 -- The entries of a rewritten range are read as the offsets that were written.
-use Rattle.std.proofs.Common.{◌≡◌, ℕ, zero, suc, ◌+◌, ◌-◌, ◌*◌, ◌/◌, ◌<◌, ◌≤◌, Bool, true, false}
-use Rattle.std.proofs.Common.{cond, eqb, ltb, List, [], ◌∷◌, ◌++◌, length, drop, get_or, Ok, Err}
+use Rattle.std.proofs.Common.{◌≡◌, ℕ, zero, suc, ◌+◌, ◌-◌, ◌*◌, ◌/◌, ◌<◌, ◌≤◌, true, false}
+use Rattle.std.proofs.Common.{eqb, ltb, List, [], ◌∷◌, ◌++◌, length, drop, get_or, Ok}
 use Rattle.std.proofs.Common.{ap, ap₂, sym, refl, ◌∙◌, inl, inr, ⊎_elim, arith, append_assoc, length-append}
 use Rattle.std.proofs.lemmas.List.{drop_at, drop-drop, take_all}
 use Rattle.std.proofs.Math.Nat.{zero-mul, suc-mul}
@@ -12,12 +12,10 @@ use Rattle.std.proofs.lemmas.Nat.{from_be_bytes-to_be_bytes_8}
 use Rattle.dwp_base.specs.declared.endian.Endianness.{Endianness}
 use Rattle.dwp_base.specs.declared.endian.Endianness.TheVariants.{Little, Big}
 use Rattle.dwp_base.specs.Numbers.{number, number_bytes}
-use Rattle.dwp_base.specs.Reading.{◌>>=◌}
 use Rattle.dwp_bytes.specs.declared.encoding.Encoding.{Encoding}
 use Rattle.dwp_bytes.specs.declared.encoding.Format.{Format}
 use Rattle.dwp_bytes.specs.declared.encoding.Format.TheVariants.{Dwarf32, Dwarf64}
 use Rattle.dwp_bytes.specs.Encoding.{offset_size}
-use Rattle.thorin_errors.specs.Errors.{ErrorValue}
 use Rattle.thorin_strings.specs.Strings.{IsTable}
 use Rattle.dwp_bytes.specs.StringOffsets.{length_size, header_size, entry_count}
 use Rattle.thorin_strings.specs.StringOffsets.{offset_limit, initial_length, header_of, offset_at}

@@ -1,8 +1,8 @@
 -- The strings that rewritten entries name.
-use Rattle.std.proofs.Common.{◌≡◌, ℕ, zero, suc, ◌+◌, ◌*◌, ◌<◌, ◌≤◌, Bool, true, false, cond, ltb}
-use Rattle.std.proofs.Common.{List, [], ◌∷◌, ◌++◌, length, take, drop, get_or, Result, Ok, Err, ap}
-use Rattle.std.proofs.Common.{sym, subst, refl, ◌∙◌, ⊎_elim, arith, length-append}
-use Rattle.std.proofs.lemmas.List.{take_all, take-append-drop, get_or_append_left, get_or_push}
+use Rattle.std.proofs.Common.{◌≡◌, ℕ, zero, suc, ◌+◌, ◌*◌, ◌<◌, ◌≤◌, true, ltb}
+use Rattle.std.proofs.Common.{List, [], ◌∷◌, ◌++◌, length, take, get_or, Result, Ok, Err}
+use Rattle.std.proofs.Common.{sym, refl, ◌∙◌, ⊎_elim, arith, length-append}
+use Rattle.std.proofs.lemmas.List.{take_all, get_or_append_left, get_or_push}
 use Rattle.std.proofs.lemmas.Bool.{cases_eq, ltb-false}
 use Rattle.dwp_base.specs.declared.endian.Endianness.{Endianness}
 use Rattle.dwp_bytes.specs.declared.encoding.Encoding.{Encoding}
@@ -10,7 +10,7 @@ use Rattle.dwp_bytes.specs.declared.encoding.Format.{Format}
 use Rattle.dwp_bytes.specs.Encoding.{offset_size}
 use Rattle.thorin_errors.specs.Errors.{ErrorValue}
 use Rattle.thorin_errors.specs.Answers.{as_error}
-use Rattle.dwp_bytes.specs.StringOffsets.{header_size, string_from, string_at}
+use Rattle.dwp_bytes.specs.StringOffsets.{header_size, string_at}
 use Rattle.thorin_strings.specs.Strings.{offset_of, with_string, IsZeroFree, IsTable}
 use Rattle.thorin_strings.specs.StringOffsets.{offset_limit, offset_at, named_at, fitting_offset}
 use Rattle.thorin_strings.specs.StringOffsets.{remapped_entry, remapped_entries}

@@ -1,11 +1,11 @@
 -- A place of a section of ended strings at which a string begins.
-use Rattle.std.proofs.Common.{◌≡◌, ◌≢◌, AllPairs, ℕ, zero, suc, ◌+◌, ◌-◌, ◌<◌, Bool, true, false}
-use Rattle.std.proofs.Common.{cond, eqb, List, [], ◌∷◌, ◌++◌, length, take, drop, get_or, All}
+use Rattle.std.proofs.Common.{◌≡◌, ◌≢◌, AllPairs, ℕ, zero, suc, ◌+◌, ◌-◌, ◌<◌}
+use Rattle.std.proofs.Common.{eqb, List, [], ◌∷◌, ◌++◌, length, take, drop, get_or, All}
 use Rattle.std.proofs.Common.{Contains, ap, sym, subst, refl, ◌∙◌, arith, append_assoc}
 use Rattle.std.specs.List.{onto_first}
 use Rattle.std.proofs.lemmas.List.{take-append-drop, length-take-le, length-drop}
 use Rattle.std.proofs.lemmas.List.Elements.{All-head, All-tail, Contains-append_right}
-use Rattle.std.proofs.lemmas.Bool.{eqb-true}
+use Rattle.std.proofs.lemmas.Bool.{eqb-true, cond_both}
 use Rattle.dwp_bytes.specs.StringOffsets.{string_from}
 use Rattle.thorin_strings.specs.Strings.{data_of, offset_of, offsets_from, strings_in, IsZeroFree}
 use Rattle.thorin_strings.specs.Strings.{BeginsAt}
@@ -23,15 +23,14 @@ ended_at : (m : ℕ) (bytes : List ℕ) → m < length bytes → get_or bytes m 
     → data_of (strings_in (take (suc m) bytes)) ≡ take (suc m) bytes
 ended_at m [] within here = absurd (omega arith)
 ended_at zero (b ∷ bytes) within here = rw here refl
-ended_at (suc m) (b ∷ bytes) within here = by (eqb b 0) refl (ended_at m bytes (omega arith) here)
-  where
-    by : (t : Bool) → eqb b 0 ≡ t → data_of (strings_in (take (suc m) bytes)) ≡ take (suc m) bytes
-        → data_of (cond t ([] ∷ strings_in (take (suc m) bytes))
-        (onto_first b (strings_in (take (suc m) bytes)))) ≡ b ∷ take (suc m) bytes
-    by true zero_here rest = ap (λ l. 0 ∷ l) rest ∙ ap (λ n. n ∷ take (suc m) bytes)
-        (sym (eqb-true b 0 zero_here))
-    by false other rest = onto_ended b (strings_in (take (suc m) bytes)) (take (suc m) bytes) rest
-        (omega (arith, length-take-le (suc m) bytes (omega arith)))
+ended_at (suc m) (b ∷ bytes) within here =
+    let front = take (suc m) bytes in
+    let rest = ended_at m bytes (omega arith) here in
+    cond_both (eqb b 0) ([] ∷ strings_in front) (onto_first b (strings_in front)) (λ ss.
+    data_of ss ≡ b ∷ front)
+    (λ none. rw (eqb-true b 0 none) (ap (λ l. 0 ∷ l) rest))
+    (λ other. onto_ended b (strings_in front) front rest
+    (omega (arith, length-take-le (suc m) bytes (omega arith))))
 
 ended_before : (at : ℕ) (bytes : List ℕ) → BeginsAt bytes at
     → data_of (strings_in (take at bytes)) ≡ take at bytes
@@ -50,14 +49,15 @@ strings_behind (s ∷ ss) rest free =
     ∙ strings_in-ended s (data_of ss ++ rest) (All-head IsZeroFree s ss free)
     ∙ ap (λ l. s ∷ l) (strings_behind ss rest (All-tail IsZeroFree s ss free))
 
+onto_some : (b : ℕ) (ss : List (List ℕ)) → 0 < length (onto_first b ss)
+onto_some b [] = omega arith
+onto_some b (s ∷ ss) = omega arith
+
 some_string : (bytes : List ℕ) → 0 < length bytes → 0 < length (strings_in bytes)
 some_string [] some = absurd (omega arith)
-some_string (b ∷ bytes) some = by (eqb b 0) (strings_in bytes)
-  where
-    by : (t : Bool) (ss : List (List ℕ)) → 0 < length (cond t ([] ∷ ss) (onto_first b ss))
-    by true ss = omega arith
-    by false [] = omega arith
-    by false (s ∷ ss) = omega arith
+some_string (b ∷ bytes) some = cond_both (eqb b 0) ([] ∷ strings_in bytes)
+    (onto_first b (strings_in bytes)) (λ ss. 0 < length ss) (λ _. omega arith)
+    (λ _. onto_some b (strings_in bytes))
 
 first_offset : (n : ℕ) (ss : List (List ℕ)) → 0 < length ss → Contains (offsets_from n ss) n
 first_offset n [] some = absurd (omega arith)

@@ -1,7 +1,7 @@
 -- Places of strings by their hashes, in slots.
 use Rattle.std.proofs.Common.{◌≡◌, ◌≢◌, ℕ, zero, suc, ◌+◌, ◌-◌, ◌<◌, ◌≤◌, Bool, true, false, cond}
-use Rattle.std.proofs.Common.{eqb, List, ◌++◌, length, take, drop, get_or, set, Option, Some, None}
-use Rattle.std.proofs.Common.{inl, inr, ◌⊎◌, ⊎_elim, ap, ap₂, sym, subst, refl, ◌∙◌, arith}
+use Rattle.std.proofs.Common.{eqb, List, length, get_or, set, Option, Some, None}
+use Rattle.std.proofs.Common.{inl, inr, ◌⊎◌, ⊎_elim, ap, ap₂, sym, refl, ◌∙◌, arith}
 use Rattle.std.proofs.lemmas.Grind.{get_or-set_at}
 use Rattle.std.proofs.lemmas.List.{get_or-set_other, get_or_past}
 use Rattle.std.proofs.lemmas.Bool.{cond-true, cond-false, ne_eqb, eq-eqb, eqb-true, eqb-false}

@@ -1,7 +1,7 @@
 -- Rewriting one entry after another.
-use Rattle.std.proofs.Common.{◌≡◌, ℕ, zero, suc, ◌+◌, ◌*◌, ◌<◌, ◌≤◌, false, eqb, ltb, List, [], ◌∷◌}
-use Rattle.std.proofs.Common.{◌++◌, length, take, Ok, Err, ap, ap₂, sym, subst, refl, ◌∙◌, ⊎_elim}
-use Rattle.std.proofs.Common.{arith, append_assoc, add-one, length-append, drop, ◌-◌, ◌/◌, ◌^◌}
+use Rattle.std.proofs.Common.{◌≡◌, ℕ, zero, suc, ◌+◌, ◌*◌, ◌<◌, ◌≤◌, List, [], ◌∷◌}
+use Rattle.std.proofs.Common.{◌++◌, length, take, Ok, Err, ap, sym, subst, refl, ◌∙◌, ⊎_elim}
+use Rattle.std.proofs.Common.{arith, add-one, length-append, drop, ◌-◌, ◌/◌, ◌^◌}
 use Rattle.dwp_base.specs.declared.endian.Endianness.{Endianness}
 use Rattle.dwp_base.specs.declared.endian.Endianness.TheVariants.{Little}
 use Rattle.dwp_base.specs.Numbers.{number, number_bytes}
@@ -9,9 +9,8 @@ use Rattle.dwp_bytes.specs.Encoding.{offset_size}
 use Rattle.dwp_bytes.specs.declared.encoding.Format.{Format}
 use Rattle.dwp_bytes.specs.declared.encoding.Format.TheVariants.{Dwarf32}
 use Rattle.dwp_bytes.specs.declared.encoding.Encoding.{Encoding}
-use Rattle.thorin_errors.specs.Errors.{ErrorValue, OffsetAtIndex}
-use Rattle.thorin_errors.specs.Answers.{as_error}
-use Rattle.std.proofs.lemmas.List.{take-take, flat_map_more, length-take, take_at, length-drop}
+use Rattle.thorin_errors.specs.Errors.{ErrorValue}
+use Rattle.std.proofs.lemmas.List.{take-take, flat_map_more, length-take, length-drop}
 use Rattle.std.proofs.lemmas.List.{length-take-le}
 use Rattle.std.proofs.lemmas.Bool.{cases_eq, ne_eqb, le-ltb}
 use Rattle.dwp_bytes.specs.StringOffsets.{header_size, entry_count}
@@ -69,11 +68,8 @@ bytes_more order format first out out' before offset so_far more =
 
 -- a list behind which other bytes went
 pub room_made : (items new like : List ℕ) (m : ℕ) → m ≡ length items → new ≡ items ++ like
-    → (length new ≡ m + length like) × (take m new ≡ items)
-room_made items new like m e is = (
-  omega (arith, ap length is, length-append items like),
-  ap (take m) is ∙ take_at items like m (sym e),
-)
+    → length new ≡ m + length like
+room_made items new like m e is = omega (arith, ap length is, length-append items like)
 
 -- the whole entries of four bytes are within the range
 pub entries_within : (encoding : Encoding) (count size first : ℕ) → encoding.format ≡ Dwarf32

@@ -1,6 +1,6 @@
 -- Halving a sorted list of positions.
 use Rattle.std.proofs.Common.{◌≡◌, ℕ, ◌+◌, ◌<◌, ◌≤◌, List, [], ◌∷◌, length, get_or, AllPairs}
-use Rattle.std.proofs.Common.{Ordering, Less, Equal, Greater, ap, ap₂, sym, subst, refl, ◌∙◌}
+use Rattle.std.proofs.Common.{Ordering, Less, Equal, Greater, ap, ap₂, sym, refl, ◌∙◌}
 use Rattle.std.proofs.Common.{⊎_elim, arith}
 use Rattle.std.specs.Ordering.{nat_cmp, ordering_then, ordering_reverse}
 use Rattle.std.specs.Cmp.Lexicographic.{slice_cmp}
@@ -18,8 +18,7 @@ before_more bytes positions s m sorted within less = λ k below.
     ⊎_elim
     (λ k_below. nat_list_cmp_total.trans _ (string_from bytes (get_or positions m 0)) s
     (sorted k m 0 k_below within) less)
-    (λ k_above. let e : m ≡ k = omega arith in
-    subst (λ n. IsBefore (string_from bytes (get_or positions n 0)) s) e less)
+    (λ k_above. let e : m ≡ k = omega arith in rw e at less)
     (cases_lt k m)
 
 pub behind_more : (bytes positions s : List ℕ) (m : ℕ)
@@ -30,8 +29,7 @@ behind_more bytes positions s m sorted more = λ k above within.
     ⊎_elim
     (λ k_above. nat_list_cmp_total.trans s (string_from bytes (get_or positions m 0)) _ more
     (sorted m k 0 k_above within))
-    (λ k_below. let e : m ≡ k = omega arith in
-    subst (λ n. IsBefore s (string_from bytes (get_or positions n 0))) e more)
+    (λ k_below. let e : m ≡ k = omega arith in rw e at more)
     (cases_lt m k)
 
 pub turned : (s t : List ℕ) → slice_cmp nat_cmp t s ≡ Greater → IsBefore s t

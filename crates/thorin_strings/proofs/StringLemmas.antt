@@ -1,20 +1,16 @@
 -- The strings of a section in which each is ended by a zero byte.
-use Rattle.std.proofs.Common.{◌≡◌, ◌≢◌, ℕ, ◌-◌, Bool, true, false, cond, eqb, List, [], ◌∷◌, ◌++◌}
-use Rattle.std.proofs.Common.{length, take, drop, Option, Some, None, All, ap, sym, refl, ◌∙◌}
+use Rattle.std.proofs.Common.{◌≡◌, ◌≢◌, ℕ, true, false, eqb, List, [], ◌∷◌, ◌++◌}
+use Rattle.std.proofs.Common.{length, take, Option, Some, None, All, ap, sym, refl, ◌∙◌}
 use Rattle.std.proofs.Common.{arith, append_assoc, length-append}
 use Rattle.std.specs.Option.{is_some}
 use Rattle.std.specs.List.{before_first, onto_first}
-use Rattle.std.proofs.lemmas.List.{take_rest, take_at, drop_at, get_or_at, get_or_append_left}
+use Rattle.std.proofs.lemmas.List.{take_at, drop_at, get_or_at, get_or_append_left}
 use Rattle.std.proofs.lemmas.List.Sums.{position_or_len_is}
 use Rattle.std.proofs.lemmas.List.Elements.{All-nil, All-cons, All-head, All-tail}
-use Rattle.std.proofs.lemmas.Bool.{ne_eqb, eq-eqb, eqb-false, eqb-true}
+use Rattle.std.proofs.lemmas.Bool.{ne_eqb, eq-eqb, eqb-false, eqb-true, cond_both}
 use Rattle.memchr.specs.Find.{IsFirstByte, is_byte}
 use Rattle.dwp_bytes.specs.StringOffsets.{string_from}
 use Rattle.thorin_strings.specs.Strings.{data_of, IsZeroFree, strings_in}
-
--- `&s[at..]`
-pub drop_whole : (at : ℕ) (xs : List ℕ) → take (length xs - at) (drop at xs) ≡ drop at xs
-drop_whole at xs = take_rest xs at
 
 pub before_first-ended : (s rest : List ℕ) → IsZeroFree s → before_first (λ b. eqb b 0)
     (s ++ 0 ∷ rest) ≡ s
@@ -58,15 +54,14 @@ onto_first-zero_free b (s ∷ ss) other free =
     All-cons IsZeroFree (b ∷ s) ss (All-cons (λ c. c ≢ 0) b s other (All-head IsZeroFree s ss free))
     (All-tail IsZeroFree s ss free)
 
-zero_free-by_byte : (t : Bool) (b : ℕ) (ss : List (List ℕ)) → (t ≡ false → b ≢ 0)
-    → All IsZeroFree ss → All IsZeroFree (cond t ([] ∷ ss) (onto_first b ss))
-zero_free-by_byte true b ss other free = All-cons IsZeroFree [] ss (All-nil _) free
-zero_free-by_byte false b ss other free = onto_first-zero_free b ss (other refl) free
-
 pub zero_free-strings_in : (bytes : List ℕ) → All IsZeroFree (strings_in bytes)
 zero_free-strings_in [] = All-nil _
-zero_free-strings_in (b ∷ bytes) = zero_free-by_byte (eqb b 0) b (strings_in bytes) (λ e.
-    eqb-false b 0 e) (zero_free-strings_in bytes)
+zero_free-strings_in (b ∷ bytes) =
+    let ss = strings_in bytes in
+    let rest = zero_free-strings_in bytes in
+    cond_both (eqb b 0) ([] ∷ ss) (onto_first b ss) (All IsZeroFree)
+    (λ _. All-cons IsZeroFree [] ss (All-nil _) rest)
+    (λ other. onto_first-zero_free b ss (eqb-false b 0 other) rest)
 
 -- bytes in which one was found aren't a table's string
 pub zero_within : (xs : List ℕ) (r : Option ℕ) → IsFirstByte (is_byte 0) xs r → is_some r ≡ true

@@ -1,9 +1,7 @@
 -- Some positions of a table's strings, in the strings' order.
 use Rattle.std.proofs.Common.{◌≡◌, ◌≢◌, ℕ, zero, suc, ◌+◌, ◌<◌, ◌≤◌, ltb, List, [], ◌∷◌, ◌++◌, length}
 use Rattle.std.proofs.Common.{take, drop, get_or, map, filter, insert, All, AllPairs, length-append}
-use Rattle.std.proofs.Common.{Contains, Less, Equal, ap, sym, subst, refl, ◌∙◌, ⊎_elim, arith}
-use Rattle.std.specs.Ordering.{nat_cmp}
-use Rattle.std.specs.Cmp.Lexicographic.{slice_cmp}
+use Rattle.std.proofs.Common.{Contains, ap, sym, subst, refl, ◌∙◌, ⊎_elim, arith}
 use Rattle.std.proofs.lemmas.List.{append-nil, take-append-drop, get_or-map, get_or_default}
 use Rattle.std.proofs.lemmas.List.{take_at, length-take, get_or-take}
 use Rattle.std.proofs.lemmas.List.Elements.{All-nil, All-cons, All-weaker, All-take, All-push}

@@ -1,18 +1,13 @@
 -- A string of a section that is used.
-use Rattle.std.proofs.Common.{◌≡◌, ◌≢◌, ℕ, false, List, [], ◌∷◌, ◌++◌, length, take, ltb, Ok, Err}
-use Rattle.std.proofs.Common.{AllPairs, Contains, ap, ap₂, sym, subst, refl, ◌≤◌, ◌∙◌, append_assoc}
+use Rattle.std.proofs.Common.{◌≡◌, ℕ, false, List, [], ◌∷◌, ◌++◌, length, Ok, Err}
+use Rattle.std.proofs.Common.{Contains, ap, sym, ◌∙◌, append_assoc}
 use Rattle.std.proofs.Common.{Result, Some}
 use Rattle.std.specs.Result.{result_ok}
 use Rattle.std.specs.List.{list_any}
 use Rattle.std.specs.Str.{bytes_eq}
-use Rattle.dwp_base.specs.declared.endian.Endianness.{Endianness}
-use Rattle.dwp_bytes.specs.declared.encoding.Encoding.{Encoding}
-use Rattle.std.proofs.lemmas.List.{take_at}
-use Rattle.std.proofs.lemmas.Bool.{false_from_ne_true, cond-true, cond-false, le-ltb}
+use Rattle.std.proofs.lemmas.Bool.{false_from_ne_true, cond-true, cond-false}
 use Rattle.dwp_bytes.specs.StringOffsets.{string_from}
-use Rattle.thorin_strings.specs.StringOffsets.{offset_limit, named_at, fitting_offset}
-use Rattle.thorin_strings.specs.StringOffsets.{remapped_entry}
-use Rattle.thorin_strings.specs.Strings.{terminated, data_of, offset_of, with_string, strings_in}
+use Rattle.thorin_strings.specs.Strings.{terminated, data_of, offset_of, strings_in}
 use Rattle.thorin_strings.specs.Strings.{IsZeroFree, BeginsAt, IsIndexed}
 use Rattle.thorin_strings.specs.Hashed.{IsPlaced}
 use Rattle.thorin_strings.proofs.OffsetLemmas.{offset_of-absent, has_Decides}

@@ -1,7 +1,7 @@
 use Rattle.std.proofs.Common.{◌+◌, ◌-◌, ℕ, List, length, take, drop, arith}
 use Rattle.std.specs.Hash.FoldHasher.{read_u64}
 use Rattle.thorin_strings.proofs.HashLemmas.{read_behind}
-use Rattle.thorin_strings.proofs.StringLemmas.{drop_whole}
+use Rattle.std.proofs.lemmas.List.{take_rest}
 use Rattle.thorin_strings.proofs.hash.word_at.Goals as goal
 
 pub returns : goal.returns
@@ -13,6 +13,6 @@ returns c =
     rw (
       c.half_at.ensures,
       c.half_at-2.ensures,
-      read_behind bytes rest at 0 at (drop_whole at bytes) (omega arith),
-      read_behind bytes rest at 4 (at + 4) (drop_whole at bytes) (omega arith),
+      read_behind bytes rest at 0 at (take_rest bytes at) (omega arith),
+      read_behind bytes rest at 4 (at + 4) (take_rest bytes at) (omega arith),
     )

@@ -1,5 +1,4 @@
-use Rattle.std.proofs.Common.{◌≡◌, ◌∙◌, get_or, refl, arith}
-use Rattle.thorin_strings.specs.Places.{free}
+use Rattle.std.proofs.Common.{◌∙◌, refl, arith}
 use Rattle.thorin_strings.proofs.PlacesLemmas.{same_or, there_of}
 use Rattle.thorin_strings.proofs.places.put_again.Goals as goal
 

@@ -7,8 +7,7 @@ use Rattle.thorin_strings.proofs.places.put_over.Goals as goal
 pub loop-number-init : goal.loop-number-init
 loop-number-init c = record {
   passed = λ j low less. absurd (omega arith);
-  looked = begun c.args.slots.now c.args.size c.args.hash _ _ c.home-home.ensures.value
-      (omega arith);
+  looked = begun _ _ _ _ _ c.home-home.ensures.value (omega arith);
   same = refl;
 }
 
@@ -32,8 +31,7 @@ returns-then-slots-number-eq0-clause-given c = λ n is.
 
 pub returns-then-slots-number-clause-given : goal.returns-then-slots-number-clause-given
 returns-then-slots-number-clause-given c = λ n is.
-    shared_of c.loop-number.slots c.args.size c.args.hash _ c.home-home.result c.loop-number.number
-    c.home-home.ensures.value (omega arith) (omega arith) (omega arith)
+    shared_of _ _ _ _ _ _ c.home-home.ensures.value (omega arith) (omega arith) (omega arith)
     c.loop-number.invariant.passed c.requires.some c.if-slots-number.true
 
 pub returns-then-slots-number-clause-others : goal.returns-then-slots-number-clause-others

@@ -1,13 +1,12 @@
 use Rattle.std.proofs.Common.{◌+◌, ◌-◌, ◌∙◌, arith}
-use Rattle.thorin_strings.proofs.PlacesLemmas.{begun, at_free, at_hash, at_other, at_last, next_for}
+use Rattle.thorin_strings.proofs.PlacesLemmas.{begun, at_hash, at_other, at_last, next_for}
 use Rattle.thorin_strings.proofs.PlacesLemmas.{passed_more}
 use Rattle.thorin_strings.proofs.places.seek.Goals as goal
 
 pub loop-number-init : goal.loop-number-init
 loop-number-init c = record {
   passed = λ j low less. absurd (omega arith);
-  looked = begun c.args.slots.now c.args.size c.args.hash _ _
-      c.home-home.ensures.value (omega arith);
+  looked = begun _ _ _ _ _ c.home-home.ensures.value (omega arith);
 }
 
 pub loop-number-preserved : goal.loop-number-preserved
@@ -22,16 +21,16 @@ loop-number-preserved c = record {
 
 pub returns-then-slot-eq0-clause-next : goal.returns-then-slot-eq0-clause-next
 returns-then-slot-eq0-clause-next c = λ _.
-    next_for c.args.slots.now c.args.size c.args.hash c.home-home.result c.loop-number.number
-    c.home-home.ensures.value (omega arith) (omega arith)
+    next_for _ _ _ _ _ c.home-home.ensures.value (omega arith) (omega arith)
     (λ j low less. (c.loop-number.invariant.passed j low less).0) c.if-slot-eq0.true
 
 pub returns-then-slot-hash-clause-found : goal.returns-then-slot-hash-clause-found
 returns-then-slot-hash-clause-found c =
-    c.loop-number.invariant.looked ∙ at_hash c.args.slots.now c.loop-number.number _ c.args.hash
-    (omega arith) c.if-slot-eq0.false c.if-slot-hash.true
+    c.loop-number.invariant.looked ∙ at_hash c.args.slots.now c.loop-number.number
+    (c.home-home.result + 128 - c.loop-number.number) c.args.hash (omega arith)
+    c.if-slot-eq0.false c.if-slot-hash.true
 
 pub returns-clause-none : goal.returns-clause-none
 returns-clause-none c =
-    c.loop-number.invariant.looked ∙ at_last c.args.slots.now c.loop-number.number _ c.args.hash
-    c.behind_last-last.result (λ more. c.behind_last-last.ensures.far (omega arith)) (omega arith)
+    c.loop-number.invariant.looked ∙ at_last _ _ _ _ c.behind_last-last.result
+    (λ more. c.behind_last-last.ensures.far (omega arith)) (omega arith)

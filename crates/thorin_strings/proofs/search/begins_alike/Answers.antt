@@ -1,7 +1,7 @@
 use Rattle.std.proofs.Common.{◌-◌, ◌∙◌, ℕ, List, length, take, drop, get_or, ap, sym, arith}
 use Rattle.std.proofs.lemmas.Bool.{eqb-true}
 use Rattle.std.proofs.lemmas.List.{get_or-drop, length-drop}
-use Rattle.thorin_strings.proofs.StringLemmas.{drop_whole}
+use Rattle.std.proofs.lemmas.List.{take_rest}
 use Rattle.thorin_strings.proofs.EndLemmas.{alike_front}
 use Rattle.thorin_strings.proofs.search.begins_alike.Goals as goal
 use Rattle.thorin_strings.proofs.search.begins_alike.Goals.{then-at-eq0, else-at-eq0}
@@ -19,10 +19,10 @@ returns-then-bytes-at-eq0 c = λ is.
         ];
       },
       alike_front (drop at bytes) rest c.args.other.now c.args.end
-          (drop_whole at bytes)
-          (omega (arith, ap length (drop_whole at bytes), length-drop at bytes, c.if-at-end.false))
+          (take_rest bytes at)
+          (omega (arith, ap length (take_rest bytes at), length-drop at bytes, c.if-at-end.false))
           c.requires.within
-          (ap (λ l. get_or l c.args.end 0) (drop_whole at bytes) ∙ get_or-drop at bytes c.args.end 0
+          (ap (λ l. get_or l c.args.end 0) (take_rest bytes at) ∙ get_or-drop at bytes c.args.end 0
           ∙ c.if-bytes-at-ne0.false)
           c.requires.ended (c.begins_same.ensures is),
     )

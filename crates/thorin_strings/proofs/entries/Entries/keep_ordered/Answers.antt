@@ -1,4 +1,4 @@
-use Rattle.std.proofs.Common.{◌∙◌, length, Contains, sym, refl, arith}
+use Rattle.std.proofs.Common.{◌∙◌, sym, refl, arith}
 use Rattle.thorin_strings.proofs.PlaceLemmas.{offset_there, known_place_in}
 use Rattle.thorin_strings.proofs.HashedLemmas.{hashed_kept, entries_few, carried_among, found_there}
 use Rattle.thorin_strings.proofs.HashedLemmas.{absent_there, inserted_or}

@@ -1,4 +1,4 @@
-use Rattle.std.proofs.Common.{◌≡◌, ◌+◌, ◌∙◌, inr, length, insert, ap, refl, arith}
+use Rattle.std.proofs.Common.{◌≡◌, ◌+◌, inr, length, insert, refl, arith}
 use Rattle.thorin_strings.specs.Hashed.{held}
 use Rattle.thorin_strings.specs.declared.entries.Entries.{Entries}
 use Rattle.thorin_strings.proofs.UsedLemmas.{used_found, two_pushes}

@@ -1,5 +1,5 @@
 use Rattle.std.proofs.Common.{rules}
-use Rattle.thorin_strings.proofs.KnownLemmas.{read_used, known_read, are_known_later, offset_within}
+use Rattle.thorin_strings.proofs.KnownLemmas.{are_known_later}
 use Rattle.thorin_strings.proofs.table.PackageStringTable.other_offset.Goals as goal
 
 pub returns-in-Some-short_offset-clause-known : goal.returns-in-Some-short_offset-clause-known

@@ -1,4 +1,4 @@
-use Rattle.std.proofs.Common.{◌≡◌, [], ◌∷◌, ◌++◌, Ok, sym, ap₂, take, length, ◌∙◌, arith}
+use Rattle.std.proofs.Common.{◌≡◌, [], ◌∷◌, ◌++◌, Ok, sym, take, length, arith}
 use Rattle.std.proofs.lemmas.List.{append-nil, take_all}
 use Rattle.std.proofs.lemmas.Result.{err_from_is_err_and}
 use Rattle.thorin_strings.specs.StringOffsets.{remapped_entry}
@@ -33,17 +33,11 @@ loop-index-preserved c =
     c.args.range.now.strings.now
     c.args.range.now.offsets.now c.loop-index.index c.loop-index.self ≡ Ok
     (c.match-entry_told.offset, c.match-entry_told.self) = elim c.match-entry_told.branch [
-      | in-Some w ↦ entry_told c.args.order c.args.encoding
-          c.args.range.now.strings.now c.args.range.now.offsets.now c.loop-index.index _
-          c.loop-index.self _ c.known_entry-named.result c.known_entry-named.ensures
-          w.in-Some.ensures.meaning (omega (
-            arith,
-            w.in-Some.ensures.fits,
-            c.offset_limit-limit.ensures,
-          )) ∙ ap₂ (λ n l. Ok (n, l)) (sym w.offset-is) (sym w.self-is)
-      | in-None+in_ok-offset-in-None w ↦ (rw w.in-None.ensures.none at
-          w.in_ok-offset-in-None.ensures.meaning) ∙ ap₂ (λ n l. Ok (n, l)) (sym w.offset-is)
-          (sym w.self-is)
+      | in-Some w ↦ rw (w.offset-is, w.self-is) (entry_told _ _ _ _ _ _ _ _
+          c.known_entry-named.result c.known_entry-named.ensures w.in-Some.ensures.meaning
+          (omega (arith, w.in-Some.ensures.fits, c.offset_limit-limit.ensures)))
+      | in-None+in_ok-offset-in-None w ↦ rw (w.offset-is, w.self-is)
+          (rw w.in-None.ensures.none at w.in_ok-offset-in-None.ensures.meaning)
     ] in
     let kept : take (length c.loop-index.self) c.match-entry_told.self ≡ c.loop-index.self =
     elim c.match-entry_told.branch [

@@ -1,9 +1,8 @@
-use Rattle.std.proofs.Common.{◌≡◌, ◌+◌, ◌*◌, ◌++◌, ◌∙◌, sym, ap, take, length, arith}
+use Rattle.std.proofs.Common.{◌≡◌, ◌≤◌, ◌+◌, ◌*◌, ◌∙◌, sym, ap, take, length, arith}
 use Rattle.std.specs.Vec.{with_items}
 use Rattle.std.proofs.lemmas.List.{take_all, with_items_is}
 use Rattle.std.proofs.lemmas.Result.{err_from_is_err_and}
 use Rattle.dwp_base.specs.declared.endian.Endianness.TheVariants.{Little}
-use Rattle.dwp_base.specs.Numbers.{number_bytes}
 use Rattle.dwp_bytes.specs.Encoding.{offset_size}
 use Rattle.thorin_strings.proofs.KnownLemmas.{are_known_later}
 use Rattle.dwp_bytes.specs.StringOffsets.{header_size}
@@ -12,38 +11,37 @@ use Rattle.thorin_strings.proofs.RemapLemmas.{kept_more, remapped_refuses, room_
 use Rattle.thorin_strings.proofs.RemapLemmas.{length_part, entries_within}
 use Rattle.thorin_strings.proofs.WrittenLemmas.{none_written, one_written}
 use Rattle.thorin_strings.proofs.table.PackageStringTable.remapped_words.Goals as goal
+use Rattle.thorin_strings.proofs.table.PackageStringTable.remapped_words.Goals.{After-len-first}
+
+is_first : (c : goal.After-len-first) → c.len-first.result ≡ header_size c.args.encoding
+is_first c = c.len-first.ensures ∙ c.in_ok-out.out.ok.0
+    ∙ header_long Little c.args.encoding _ c.in_ok-out.out.items c.in_ok-out.ensures
+
+fits : (c : goal.After-len-first) → c.len-first.result + c.string_offsets_count-count.result * 4
+    ≤ length c.args.debug_str_offsets.now
+fits c = omega (
+  arith,
+  entries_within c.args.encoding c.string_offsets_count-count.result c.args.section_size _
+      c.requires.form c.string_offsets_count-count.ensures (omega arith) (is_first c),
+  c.requires.whole,
+)
 
 pub slice_bounds-append_by_pieces-end : goal.slice_bounds-append_by_pieces-end
 slice_bounds-append_by_pieces-end c =
-    let is_first : c.len-first.result ≡ header_size c.args.encoding =
-    (c.len-first.ensures ∙ c.in_ok-out.out.ok.0)
-    ∙ header_long Little c.args.encoding _ c.in_ok-out.out.items c.in_ok-out.ensures in
-    omega (
-      arith,
-      entries_within c.args.encoding c.string_offsets_count-count.result c.args.section_size _
-          c.requires.form c.string_offsets_count-count.ensures (omega arith) is_first,
-      c.requires.whole,
-    )
+    omega (arith, fits (goal.at.slice_bounds-append_by_pieces-end c).After-len-first)
 
 pub loop-index-init : goal.loop-index-init
 loop-index-init c =
-    let room = room_made c.in_ok-out.out.items c.append_by_pieces.new.out.items _ c.len-first.result
-    (c.len-first.ensures ∙ c.in_ok-out.out.ok.0) c.in_ok-append_by_pieces.ensures in
-    let is_first : c.len-first.result ≡ header_size c.args.encoding =
-    (c.len-first.ensures ∙ c.in_ok-out.out.ok.0)
-    ∙ header_long Little c.args.encoding _ c.in_ok-out.out.items c.in_ok-out.ensures in
+    let at = (goal.at.loop-index-init c).After-len-first in
     record {
       within = omega arith;
-      first = is_first;
+      first = is_first at;
       kept = take_all _ c.args.self.now (omega arith);
-      so_far = none_written _ _ _ _ _ _ is_first;
-      long = room.0 ∙ ap (λ n. c.len-first.result + n) (length_part c.args.debug_str_offsets.now
-          c.len-first.result (c.string_offsets_count-count.result * 4) (omega (
-            arith,
-            entries_within c.args.encoding c.string_offsets_count-count.result c.args.section_size _
-                c.requires.form c.string_offsets_count-count.ensures (omega arith) is_first,
-            c.requires.whole,
-          )));
+      so_far = none_written _ _ _ _ _ _ (is_first at);
+      long = room_made c.in_ok-out.out.items c.append_by_pieces.new.out.items _ c.len-first.result
+          (c.len-first.ensures ∙ c.in_ok-out.out.ok.0) c.in_ok-append_by_pieces.ensures
+          ∙ ap (λ n. c.len-first.result + n) (length_part c.args.debug_str_offsets.now
+          c.len-first.result (c.string_offsets_count-count.result * 4) (fits at));
       known = c.requires.known;
     }
 
