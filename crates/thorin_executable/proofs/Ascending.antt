@@ -32,9 +32,9 @@ firsts [] = refl
 firsts (e ∷ es) = ap (λ (l : List ℕ). e.offset ∷ l) (firsts es)
 
 -- a list of the pairs of a map in order of their places
-pub ascends-pairs : (es : List RelocationEntry) (pairs : List (ℕ × Relocation))
+pub ascends_pairs : (es : List RelocationEntry) (pairs : List (ℕ × Relocation))
     → map pair_of es ≡ pairs → IsStrictlySortedBy nat_cmp (map (λ (p : ℕ × Relocation). p.0) pairs)
     → IsTrue (ascends es)
-ascends-pairs es pairs same sorted =
+ascends_pairs es pairs same sorted =
     ascends-sorted es (subst (IsStrictlySortedBy nat_cmp)
     (sym (ap (map (λ (p : ℕ × Relocation). p.0)) same) ∙ firsts es) sorted)

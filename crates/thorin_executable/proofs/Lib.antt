@@ -1,6 +1,5 @@
-mod Texts
-mod Loads
-mod Finds
-mod NamedSteps
-mod Places
+pub mod Texts
+pub mod Loads
+pub mod NamedSteps
+pub mod Places
 pub mod Ascending

@@ -1,5 +1,5 @@
 -- What there is to read of a section.
-use Rattle.std.proofs.Common.{◌≡◌, ◌∙◌, ℕ, List, [], ◌∷◌, map, Ok, refl, ap, sym}
+use Rattle.std.proofs.Common.{◌≡◌, ℕ, List, [], ◌∷◌, map, Ok, refl, ap, sym}
 use Rattle.dwp_elf_read.specs.Elf.{Elf, SectionMeaning}
 use Rattle.dwp_elf_read.specs.Relocation.{relocations_of}
 use Rattle.dwp_bytes.specs.declared.relocation.RelocationEntry.{RelocationEntry}
@@ -13,7 +13,7 @@ pub entries-again : (entries : List RelocationEntry) → map entry_of (map pair_
 entries-again [] = refl
 entries-again (e ∷ es) = ap (λ rest. e ∷ rest) (entries-again es)
 
-pub loaded-is : (file target : Elf) (kind : DebugSection) (section : SectionMeaning)
+pub loaded_is : (file target : Elf) (kind : DebugSection) (section : SectionMeaning)
     (bytes : List ℕ) (entries placed : List RelocationEntry) → target ≡ file
     → debug_content kind section ≡ Ok bytes
     → with_relocations file section.name (relocations_of target section.number) [] ≡ Ok
@@ -21,8 +21,5 @@ pub loaded-is : (file target : Elf) (kind : DebugSection) (section : SectionMean
     → placed ≡ entries
     → loaded file kind section ≡ Ok (relocated_input placed 0 (input_section file.order bytes))
 unfolding loaded
-loaded-is file target kind section bytes entries placed same content found is =
-    let here : with_relocations file section.name (relocations_of file section.number) [] ≡ Ok
-    (map pair_of entries) = ap (λ (f : Elf). with_relocations file section.name
-    (relocations_of f section.number) []) (sym same) ∙ found in
-    rw (content, here, entries-again entries, sym is)
+loaded_is file target kind section bytes entries placed same content found is =
+    let here = rw same at found in rw (content, here, entries-again entries, sym is)

@@ -1,5 +1,5 @@
 -- A list of split units, one unit after the other.
-use Rattle.std.proofs.Common.{◌≡◌, ◌∙◌, List, [], ◌∷◌, ◌++◌, Option, Result, Ok, Err, ap, sym, refl}
+use Rattle.std.proofs.Common.{◌≡◌, ◌∙◌, List, [], ◌∷◌, ◌++◌, Option, Result, Ok, Err, ap, refl}
 use Rattle.std.proofs.Common.{length, map, take}
 use Rattle.dwp_bytes.specs.declared.error.ReadError.{ReadError}
 use Rattle.dwp_dwarf.specs.Units.{Unit as UnitMeaning}
@@ -13,27 +13,24 @@ use Rattle.thorin_executable.specs.declared.listing.NamelessUnits.{NamelessUnits
 use Rattle.thorin_executable.specs.declared.listing.Skeleton.{Skeleton}
 
 -- what comes first, and what the units behind it stand for
-pub first-then : (nameless : NamelessUnits) (debug : DebugData)
+pub first_then : (nameless : NamelessUnits) (debug : DebugData)
     (read : Result UnitMeaning ReadError)
     (left rest : List (Result UnitMeaning ReadError)) (found : Result (Option Named)
     ErrorValue) (all : Listed)
     → skeletons_from nameless debug left ≡ all → left ≡ read ∷ rest
     → skeleton_read nameless debug read ≡ found
     → all ≡ with_first found (skeletons_from nameless debug rest)
-first-then nameless debug read left rest found all so_far is e =
-    sym so_far ∙ ap (skeletons_from nameless debug) is ∙ ap
-    (λ (r : Result (Option Named) ErrorValue).
-    with_first r (skeletons_from nameless debug rest)) e
+first_then nameless debug read left rest found all so_far is e = rw (← so_far, is, e) refl
 
 -- those before, and a list behind them
 abbrev pub put : List Named → Listed → Listed
 put before rest = (before ++ rest.0, rest.1)
 
 -- what was added of a list is the first of it
-pub pushed-front : (meaning : Listed) (result : Result (Unit {0}) Error) (units : List Skeleton)
+pub pushed_front : (meaning : Listed) (result : Result (Unit {0}) Error) (units : List Skeleton)
     → IsPushed meaning result units → take (length units) meaning.0 ≡ map named units
-pushed-front meaning (Err e) units is = is.1
-pushed-front meaning (Ok x) units is = ap (λ (l : Listed). take (length units) l.0) is ∙ by units
+pushed_front meaning (Err e) units is = is.1
+pushed_front meaning (Ok x) units is = ap (λ (l : Listed). take (length units) l.0) is ∙ by units
   where
     by : (xs : List Skeleton) → take (length xs) (map named xs) ≡ map named xs
     by [] = refl

@@ -1,5 +1,5 @@
 -- The same places name the same path.
-use Rattle.std.proofs.Common.{◌≡◌, ◌∙◌, ℕ, List, Option, Some, None, Result, Ok, ap, sym, subst}
+use Rattle.std.proofs.Common.{◌≡◌, ◌∙◌, ℕ, List, Option, Some, None, Result, Ok, sym}
 use Rattle.std.specs.Prelude.{IfSome, string_bytes}
 use Rattle.dwp_bytes.specs.declared.encoding.Format.{Format}
 use Rattle.dwp_dwarf.specs.Entries.{DebugAttribute}
@@ -33,8 +33,7 @@ module _ (strings : Strings) (format : Format) (root : SplitAttributes) (name : 
 pub kept_is : (strings : Strings) (last : LastPath) (p : PathPlaces)
     (path : Result (List ℕ) ErrorValue) → IsKept strings last → last.places ≡ Some p
     → path ≡ path_at strings p → path ≡ Ok (string_bytes last.text)
-kept_is strings last p path kept is same = same ∙ subst (λ o.
-    IfSome o (λ q. path_at strings q ≡ Ok (string_bytes last.text))) is kept
+kept_is strings last p path kept is same = same ∙ rw is at kept
 
 -- a path that was made is that of its places
 pub kept_anew : (strings : Strings) (format : Format) (root : SplitAttributes)
@@ -48,11 +47,7 @@ kept_anew strings format root name (Some p) text at made = sym (at strings) ∙ 
 pub index_is : (a b : StringIndex) → a.format ≡ b.format → a.base ≡ b.base → a.index ≡ b.index
     → a ≡ b
 index_is a b format base index =
-    ap (λ x. record { format = x; base = a.base; index = a.index }) format
-    ∙ ap (λ x. record { format = b.format; base = x; index = a.index }) base
-    ∙ ap (λ x. record { format = b.format; base = b.base; index = x }) index
+    λ i. record { format = format i; base = base i; index = index i }
 
 pub places_are : (a b : PathPlaces) → a.name ≡ b.name → a.directory ≡ b.directory → a ≡ b
-places_are a b name directory =
-    ap (λ x. record { name = x; directory = a.directory }) name
-    ∙ ap (λ x. record { name = b.name; directory = x }) directory
+places_are a b name directory = λ i. record { name = name i; directory = directory i }

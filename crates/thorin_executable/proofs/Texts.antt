@@ -11,11 +11,11 @@ use Rattle.thorin_executable.specs.Paths.{text_of}
 text_by : List ℕ → Bool → Result (List ℕ) ErrorValue
 text_by bytes b = cond b (Ok bytes) (Err (GimliRead BadUtf8))
 
-pub text_of-some : (i : Input) → IsUtf8 i.bytes → text_of i ≡ Ok i.bytes
+pub text_of_some : (i : Input) → IsUtf8 i.bytes → text_of i ≡ Ok i.bytes
 unfolding text_of text_by
-text_of-some i h = ap (text_by i.bytes) (is_utf8-from_IsUtf8 i.bytes h)
+text_of_some i h = ap (text_by i.bytes) (is_utf8-from_IsUtf8 i.bytes h)
 
-pub text_of-none : (i : Input) → ¬ IsUtf8 i.bytes → text_of i ≡ Err (GimliRead BadUtf8)
+pub text_of_none : (i : Input) → ¬ IsUtf8 i.bytes → text_of i ≡ Err (GimliRead BadUtf8)
 unfolding text_of text_by
-text_of-none i h = ap (text_by i.bytes) (false_from_ne_true (is_utf8 i.bytes) (λ e.
+text_of_none i h = ap (text_by i.bytes) (false_from_ne_true (is_utf8 i.bytes) (λ e.
     h (IsUtf8-from_is_utf8 i.bytes e)))

@@ -151,6 +151,7 @@ impl PathPlaces {
 
     /// Those of the path that an attribute of a root entry names; none where one of them is in the
     /// unit.
+    #[tactic(auto, using(crate::proofs::Places::path_with, crate::proofs::Places::path_without))]
     fn of<R: Reader>(
         format: Format,
         root: &SplitAttributes<R>,

@@ -145,6 +145,7 @@ fn skeleton_read<R: Reader>(
 }
 
 /// The first split unit that one of the units left stands for.
+#[tactic(auto, using(crate::proofs::NamedSteps::first_then))]
 fn next_named<R: Reader>(
     last: &mut LastPath,
     debug: &DebugData<R>,
@@ -348,6 +349,7 @@ fn push_all(left: &mut SkeletonUnits<'_>, units: &mut Vec<Skeleton>) -> Result<(
 /// `UnsupportedRelocation`; of a unit `ParseUnitHeader`, those of `dwo_identifier_of_unit`,
 /// `NoDie`, `ParseUnit`, `MissingDwoName` and, for strings, `GimliRead`. Where memory ran out the
 /// error is `Memory`, and the units are the first of the list.
+#[tactic(auto, using(crate::proofs::NamedSteps::pushed_front))]
 pub fn skeletons<'a, Sess: Session<RelocationEntry>>(
     alloc: Global,
     session: &'a Sess,

@@ -74,6 +74,7 @@ fn is_used(section: &Section<'_>, name: &str) -> bool
 }
 
 /// The first section of a name that isn't empty.
+#[tactic(auto, using(dwp_base::proofs::Finds::find_hit, dwp_base::proofs::Finds::find_miss, dwp_base::proofs::Finds::slice_get_none))]
 fn find_named<'a>(file: &ElfFile<'a>, name: &str) -> Option<Section<'a>>
     ensures found { option_map meaning result ≡ find (spec.is_used name.now) (elf file.now).sections }
     ensures in_file { IfSome result (λ s. file_of s ≡ elf file.now) }
@@ -114,7 +115,7 @@ fn content<'a>(section: &Section<'a>, kind: DebugSection) -> Result<&'a [u8], Er
 }
 
 /// A reader of a section; its relocations are placed in the session.
-#[tactic(auto, unfolding(crate::specs::Sections::loaded))]
+#[tactic(auto, using(crate::proofs::Loads::loaded_is), unfolding(crate::specs::Sections::loaded))]
 fn load<'a, Sess: Session<RelocationEntry>>(
     alloc: Global,
     session: &'a Sess,

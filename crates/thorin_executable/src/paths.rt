@@ -30,7 +30,7 @@ fn path_in(alloc: Global, directory: &str, name: &str) -> Result<String, AllocEr
 }
 
 /// A string as text.
-#[tactic(auto, unfolding(crate::specs::Paths::text_of))]
+#[tactic(auto, using(crate::proofs::Texts::text_of_some, crate::proofs::Texts::text_of_none), unfolding(crate::specs::Paths::text_of))]
 fn text<R: Reader>(string: &R) -> Result<&str, Error>
     ensures { Gives (λ text. text.now) result (spec.text_of (R.input string.now)) }
 {

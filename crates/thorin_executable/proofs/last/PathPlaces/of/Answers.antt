@@ -1,34 +1,19 @@
-use Rattle.std.proofs.Common.{◌≡◌, Some, None, ap, subst, rules}
+use Rattle.std.proofs.Common.{◌≡◌, Some, ap, rules}
 use Rattle.std.specs.Prelude.{option_map}
 use Rattle.dwp_dwarf.specs.Attributes.{attribute_of}
-use Rattle.thorin_executable.specs.Paths.{base_of}
-use Rattle.thorin_executable.specs.Places.{IsStringAt}
 use Rattle.dwp_dwarf.specs.Split.{attributes_of}
-use Rattle.thorin_executable.proofs.Places.{path_with, path_without}
+use Rattle.thorin_executable.specs.Paths.{base_of}
+use Rattle.thorin_executable.proofs.Places.{path_with}
 use Rattle.thorin_executable.proofs.last.PathPlaces.of.Goals as goal
 
 pub returns-in_ok-string_place-in-Some : goal.returns-in_ok-string_place-in-Some
 returns-in_ok-string_place-in-Some g c =
     let input = g.R.Reader.input in
     let root = attributes_of input c.args.root.now in
-    let name = attribute_of input c.args.name.now in
-    let place = c.in_ok-string_place-in-Some.field-0 in
     let base : c.unwrap_or-base.result ≡ base_of root = search (rules, c.unwrap_or-base.ensures) in
     let some : c.args.root.now.comp_dir ≡ Some c.in-Some.directory =
     search (rules, c.in-Some.is) in
-    λ strings. path_with strings c.args.format root name c.in_ok-name.name
-    (attribute_of input c.in-Some.directory) place (ap (option_map (attribute_of input)) some)
-    (subst (λ b. IsStringAt c.args.format b name c.in_ok-name.name) base c.in_ok-name.ensures)
-    (subst (λ b. IsStringAt c.args.format b (attribute_of input c.in-Some.directory) place) base
-    c.in_ok-string_place-in-Some.ensures)
-
-pub returns-in-None : goal.returns-in-None
-returns-in-None g c =
-    let input = g.R.Reader.input in
-    let root = attributes_of input c.args.root.now in
-    let name = attribute_of input c.args.name.now in
-    let base : c.unwrap_or-base.result ≡ base_of root = search (rules, c.unwrap_or-base.ensures) in
-    let none : c.args.root.now.comp_dir ≡ None = search (rules, c.in-None.is) in
-    λ strings. path_without strings c.args.format root name c.in_ok-name.name
-    (ap (option_map (attribute_of input)) none)
-    (subst (λ b. IsStringAt c.args.format b name c.in_ok-name.name) base c.in_ok-name.ensures)
+    λ strings. path_with strings c.args.format root (attribute_of input c.args.name.now)
+    c.in_ok-name.name (attribute_of input c.in-Some.directory)
+    c.in_ok-string_place-in-Some.field-0 (ap (option_map (attribute_of input)) some)
+    (rw base at c.in_ok-name.ensures) (rw base at c.in_ok-string_place-in-Some.ensures)
