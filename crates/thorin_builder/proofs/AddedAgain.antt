@@ -1,5 +1,5 @@
 -- What an input adds that adds no unit, however often it is taken.
-use Rattle.std.proofs.Common.{◌≡◌, ◌∙◌, ℕ, Bool, true, false, cond, List, [], ◌∷◌, ◌++◌, refl, sym}
+use Rattle.std.proofs.Common.{◌≡◌, ◌∙◌, ℕ, true, false, cond, List, [], ◌∷◌, ◌++◌, refl, sym}
 use Rattle.std.proofs.Common.{ap, inl, inr, true≢false, arith, Result, Ok, Err, Option, Some}
 use Rattle.std.proofs.Common.{None, map}
 use Rattle.std.specs.Prelude.{is_some, IfOk, IfSome, String, string_bytes, string_eq, length}
@@ -221,18 +221,15 @@ taken-found : (offer : List ℕ → Result (List ℕ) IoError → Type 0)
     → IsTaken (offer path) again begun
 taken-found offer [] begun path again k h = absurd (none-some again h)
 taken-found offer (e ∷ es) begun path again k h =
-    by (bytes_eq path (string_bytes e.0)) refl h (taken-found offer es begun path again k.1)
-  where
-    by : (b : Bool) → bytes_eq path (string_bytes e.0) ≡ b
-        → cond b (Some e.1) (lookup (λ k. bytes_eq path (string_bytes k)) es) ≡ Some again
-        → (lookup (λ k. bytes_eq path (string_bytes k)) es ≡ Some again
-        → IsTaken (offer path) again begun)
-        → IsTaken (offer path) again begun
-    by true same is rest =
-        let path_is : path ≡ string_bytes e.0 =
-        (bytes_eq-Decides path (string_bytes e.0)).0 same in
-        rw (path_is, ← same_Some e.1 again is) k.0
-    by false same is rest = rest is
+    (elim (bytes_eq path (string_bytes e.0)) as (λ b. bytes_eq path (string_bytes e.0) ≡ b
+    → cond b (Some e.1) (lookup (λ k. bytes_eq path (string_bytes k)) es) ≡ Some again
+    → IsTaken (offer path) again begun) [
+      | true ↦ λ same is.
+          let path_is : path ≡ string_bytes e.0 =
+          (bytes_eq-Decides path (string_bytes e.0)).0 same in
+          rw (path_is, ← same_Some e.1 again is) k.0
+      | false ↦ λ same is. taken-found offer es begun path again k.1 is
+    ]) refl h
 
 -- and with one more
 taken-more : (offer : List ℕ → Result (List ℕ) IoError → Type 0)
@@ -242,17 +239,15 @@ taken-more : (offer : List ℕ → Result (List ℕ) IoError → Type 0)
     → AreTaken offer (insert_entry string_eq es key again) begun
 taken-more offer [] begun key again k one = (one, tt)
 taken-more offer (e ∷ es) begun key again k one =
-    by (string_eq key e.0) refl (taken-more offer es begun key again k.1 one)
-  where
-    by : (b : Bool) → string_eq key e.0 ≡ b
-        → AreTaken offer (insert_entry string_eq es key again) begun
-        → AreTaken offer (cond b ((e.0, again) ∷ es) (e ∷ insert_entry string_eq es key again))
-        begun
-    by true same rest = (
-      rw (← (bytes_eq-Decides (string_bytes key) (string_bytes e.0)).0 same) one,
-      k.1,
-    )
-    by false same rest = (k.0, rest)
+    (elim (string_eq key e.0) as (λ b. string_eq key e.0 ≡ b
+    → AreTaken offer (cond b ((e.0, again) ∷ es) (e ∷ insert_entry string_eq es key again))
+    begun) [
+      | true ↦ λ same. (
+        rw (← (bytes_eq-Decides (string_bytes key) (string_bytes e.0)).0 same) one,
+        k.1,
+      )
+      | false ↦ λ same. (k.0, taken-more offer es begun key again k.1 one)
+    ]) refl
 
 -- and with what bytes that may be read at a path add
 pub taken-remembered : (offer : List ℕ → Result (List ℕ) IoError → Type 0)

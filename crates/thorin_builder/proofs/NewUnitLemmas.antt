@@ -115,17 +115,3 @@ added_last rows more before now e nameless row h numbered there named is =
       get_or_from_slice_get more e.1.row nameless blank there,
       named,
     ) refl)
-
--- a row that was left without its name, with it again
-pub named_again : (row : IndexEntry) (name other : DwarfObject) → row.id ≡ name
-    → record (record row { id = other }) { id = name } ≡ row
-named_again row name other h = ap (λ (n : DwarfObject). record row { id = n }) (sym h)
-
--- of the first unit, and of the others
-pub first_of : (rows : List IndexEntry) (e : DwarfObject × CodeUnit)
-    (es : List (DwarfObject × CodeUnit)) → AreNumbered rows (e ∷ es) → e.1.row < length rows
-first_of rows e es numbered = numbered 0 e (omega arith)
-
-pub rest_of : (rows : List IndexEntry) (e : DwarfObject × CodeUnit)
-    (es : List (DwarfObject × CodeUnit)) → AreNumbered rows (e ∷ es) → AreNumbered rows es
-rest_of rows e es numbered k d less = numbered (suc k) d (omega arith)

@@ -58,14 +58,12 @@ passed-over false new other next s h = sym s ∙ ap (λ (n : New). n.units) (sam
 lookup-later : (test : DwarfObject → Bool) (held more : List (DwarfObject × List ℕ))
     (bytes : List ℕ) → lookup test held ≡ Some bytes → lookup test (held ++ more) ≡ Some bytes
 lookup-later test [] more bytes h = absurd (none-some bytes h)
-lookup-later test (unit ∷ held) more bytes h =
-    by (test unit.0) h (lookup-later test held more bytes)
-  where
-    by : (b : Bool) → cond b (Some unit.1) (lookup test held) ≡ Some bytes
-        → (lookup test held ≡ Some bytes → lookup test (held ++ more) ≡ Some bytes)
-        → cond b (Some unit.1) (lookup test (held ++ more)) ≡ Some bytes
-    by true h rest = h
-    by false h rest = rest h
+lookup-later test (unit ∷ held) more bytes h = (elim (test unit.0) as (λ b.
+    cond b (Some unit.1) (lookup test held) ≡ Some bytes
+    → cond b (Some unit.1) (lookup test (held ++ more)) ≡ Some bytes) [
+      | true ↦ λ h. h
+      | false ↦ lookup-later test held more bytes
+    ]) h
 
 or_held-later : (unit : Option NewUnit) (held more : Option (List ℕ)) (bytes : List ℕ)
     → (held ≡ Some bytes → more ≡ Some bytes) → or_held unit held ≡ Some bytes

@@ -1,13 +1,13 @@
 use Rattle.std.proofs.Common.{◌≡◌, ◌∙◌, ap, sym, subst, None, rules}
 use Rattle.std.specs.Map.{lookup}
 use Rattle.indexmap.proofs.CallerLemmas.{insert_entry-new}
-use Rattle.dwp_table.specs.declared.object.DwarfObject.TheVariants.{TypeUnit}
+use Rattle.dwp_table.specs.declared.object.DwarfObject.{DwarfObject}
 use Rattle.thorin_input.specs.Names.{same_name}
 use Rattle.thorin_input.specs.NewUnits.{with_first}
 use Rattle.thorin_builder.specs.UnitView.{adding_of}
 use Rattle.thorin_builder.proofs.Extending.{either_way}
 use Rattle.thorin_builder.proofs.Names.{same_name-is}
-use Rattle.thorin_builder.proofs.NewUnitLemmas.{AreNumbered, not_added, added_last, named_again}
+use Rattle.thorin_builder.proofs.NewUnitLemmas.{AreNumbered, not_added, added_last}
 use Rattle.thorin_builder.proofs.NewUnitLemmas.{numbered_last, numbered_still}
 use Rattle.thorin_builder.proofs.new_units.NewUnits.add_first.Goals as goal
 
@@ -46,6 +46,6 @@ returns c =
     let units = added_last c.args.self.now.rows.items c.share.new.entries.items
     c.args.self.now.units.entries c.insert.new.self.entries _ _ c.in_ok-row.row
     c.share.ensures.kept c.args.self.now.numbered c.in_ok-row-2.ensures.there
-    (named_again c.in_ok-row.row c.args.name (TypeUnit (record { 0 = 0 }))
-    c.in_ok-row.ensures.name) entries in
+    (ap (λ (name : DwarfObject). record c.in_ok-row.row { id = name })
+    (sym c.in_ok-row.ensures.name)) entries in
     rw (units, c.place_for-place.ensures) (search rules)
