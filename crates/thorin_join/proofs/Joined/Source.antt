@@ -31,7 +31,7 @@ use Rattle.thorin_join.proofs.Rows.LieInTurn.{AllCanLie, units-lie, can-lie, all
 use Rattle.thorin_join.proofs.Rows.LieInTurn.{laid-lies}
 use Rattle.thorin_join.proofs.Parts.Appended.{content-with_parts, parts-none}
 use Rattle.thorin_join.proofs.Parts.Strings.{PartsKept, PartsLaw}
-use Rattle.thorin_join.proofs.Rows.Shares.{RowsLaw}
+use Rattle.thorin_join.proofs.Rows.Meaning.{RowsLaw}
 use Rattle.thorin_join.proofs.Rows.AllAdded.{AllNew, joined-new, new-by-keys, units-added}
 use Rattle.thorin_join.proofs.Rows.AllAdded.{other-kind, Added, AllCanBeAdded}
 use Rattle.thorin_join.proofs.Units.Whole.{AllGo, go-joining, units-go}

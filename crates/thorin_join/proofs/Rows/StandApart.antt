@@ -28,7 +28,7 @@ use Rattle.thorin_join.proofs.Rows.OneAdded.{row-part}
 use Rattle.dwp_base.proofs.Bools.{by-bool}
 use Rattle.thorin_join.proofs.Joined.Taken.{takes}
 use Rattle.thorin_join.proofs.Rows.Ranges.{lies-whole}
-use Rattle.thorin_join.proofs.Rows.Shares.{row-behind}
+use Rattle.thorin_join.proofs.Rows.Meaning.{row-behind}
 
 -- ---- the rows of an input's units
 -- with its own bytes behind contents that grew
