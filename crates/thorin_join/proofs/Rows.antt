@@ -5,6 +5,5 @@ pub mod AllAdded
 pub mod Ranges
 pub mod OfUnits
 pub mod Meaning
-pub mod Shares
 pub mod StandApart
 pub mod LieInTurn

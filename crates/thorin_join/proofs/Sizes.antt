@@ -1,4 +1,3 @@
 pub mod Contents
-pub mod Units
 pub mod Input
 pub mod Finished

@@ -5,7 +5,6 @@ use Rattle.std.proofs.Common.{subst₂}
 use Rattle.std.specs.Prelude.{slice_index, slice_get}
 use Rattle.std.specs.Map.{lookup}
 use Rattle.std.proofs.lemmas.Option.{none-some, same_Some}
-use Rattle.std.proofs.lemmas.Bool.{eq-eqb}
 use Rattle.dwp_base.specs.declared.endian.Endianness.{Endianness}
 use Rattle.dwp_table.specs.Objects.{identifier_of}
 use Rattle.dwp_table.specs.declared.object.DwarfObject.{DwarfObject}
@@ -19,7 +18,7 @@ use Rattle.thorin_join.specs.Join.{same_sort}
 use Rattle.thorin_join.specs.Meaning.{Meaning, Members}
 use Rattle.thorin_input.specs.Names.{same_name, is_compilation}
 use Rattle.thorin_join.specs.Represents.{IsRowOf, AreRowsOf}
-use Rattle.thorin_join.proofs.Units.NamesApart.{same_name-true}
+use Rattle.thorin_join.proofs.Units.NamesApart.{same_name-true, same-sort, chosen-sort}
 use Rattle.dwp_base.proofs.Bools.{by-bool}
 use Rattle.std.proofs.lemmas.List.{length-map}
 
@@ -49,21 +48,15 @@ id-at (r ∷ rs) zero row h = (
 )
 id-at (r ∷ rs) (suc place) row h = let rest = id-at rs place row h in (omega arith, rest.1)
 
--- two names of one sort with one identifier are the same
-one-name : (name id : DwarfObject) → same_sort name id ≡ true → identifier_of id ≡ identifier_of
-    name → same_name name id ≡ true
-one-name (Compilation a) (Compilation b) sort same = eq-eqb a.0 b.0 (sym same)
-one-name (TypeUnit a) (TypeUnit b) sort same = eq-eqb a.0 b.0 (sym same)
-one-name (Compilation a) (TypeUnit b) sort same = absurd (true≢false (sym sort))
-one-name (TypeUnit a) (Compilation b) sort same = absurd (true≢false (sym sort))
-
+-- a name that isn't looked up has no row
 absent-cond : (name : DwarfObject) (row : IndexEntry) (rows : List IndexEntry) (e : Bool)
     → is_chosen (is_compilation name) row ≡ e → same_name name row.id ≡ false
     → IsNotNamed name (entry_ids (rows_of (is_compilation name) rows))
     → IsNotNamed name (entry_ids (cond e (row ∷ rows_of (is_compilation name) rows)
     (rows_of (is_compilation name) rows)))
 absent-cond name row rows true chosen other rest zero within same =
-    true≢false (sym (one-name name row.id (sym (sort-chosen name row) ∙ chosen) same) ∙ other)
+    let sort = sym (chosen-sort (is_compilation name) row chosen) in
+    true≢false (sym (same-sort name row.id sort (sym same)) ∙ other)
 absent-cond name row rows true chosen other rest (suc r) within same = rest r (omega arith) same
 absent-cond name row rows false chosen other rest r within same = rest r within same
 

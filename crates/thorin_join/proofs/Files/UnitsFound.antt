@@ -1,11 +1,10 @@
 -- A written package means the units that it represents.
 use Rattle.std.proofs.Common.{◌≡◌, ◌∙◌, ℕ, zero, suc, ◌+◌, ◌<◌, ◌≤◌, true, false, List, length, ap}
-use Rattle.std.proofs.Common.{sym, refl, subst, Ok, Option, Some, None, arith, cond, nat_eq, filter}
+use Rattle.std.proofs.Common.{sym, refl, subst, Ok, Option, Some, None, arith, nat_eq, filter}
 use Rattle.std.specs.Prelude.{slice_get, MatchOption}
 use Rattle.std.specs.Map.{lookup}
 use Rattle.std.proofs.Math.Seq.{take-length}
 use Rattle.std.proofs.lemmas.Option.{none-some}
-use Rattle.std.proofs.Math.Dec.{eqb-suc-zero}
 use Rattle.dwp_base.specs.declared.section.SectionKind.{SectionKind}
 use Rattle.dwp_base.specs.declared.section.SectionKind.TheVariants as kinds
 use Rattle.dwp_base.specs.declared.section.Contribution.{Contribution}
@@ -41,6 +40,8 @@ use Rattle.thorin_join.proofs.Files.Indexes.{HasRows}
 use Rattle.thorin_join.proofs.Files.RowsFound.{RowFound, find-row, id-at, no-row, rows-counted}
 use Rattle.thorin_join.proofs.Files.RowsFound.{ids-counted}
 use Rattle.dwp_index.proofs.HeldContents.{held_content}
+use Rattle.std.proofs.lemmas.Bool.{eqb-true}
+use Rattle.dwp_base.proofs.Bools.{by-bool}
 
 -- the laws of look-ups in packages
 abbrev pub PresentLaw : Type 0
@@ -76,12 +77,11 @@ kind-same places.Types = refl
 pub part-there : (part : Option Contribution) → ((range : Contribution) → part ≡ Some range
     → 0 < range.size) → non_empty part ≡ part
 part-there None some = refl
-part-there (Some part) some = by part.size refl
-  where
-    by : (n : ℕ) → part.size ≡ n → non_empty (Some part) ≡ Some part
-    by zero e = absurd (let h = some part refl in omega arith)
-    by (suc n) e = ap (λ m. cond (nat_eq m 0) None (Some part)) e ∙ ap (λ b.
-        cond b None (Some part)) (eqb-suc-zero n)
+part-there (Some part) some =
+    let several = some part refl in
+    by-bool _ (nat_eq part.size 0)
+    (λ none. absurd (omega (arith, eqb-true part.size 0 none)))
+    (λ sized. rw sized)
 
 module _ (pack : Package) (order : Endianness) (contents : Contents) (rows : List IndexEntry)
     (strings : List (List ℕ)) (name : DwarfObject) (unit : Meaning)

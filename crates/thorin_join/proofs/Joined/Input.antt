@@ -27,7 +27,7 @@ use Rattle.thorin_input.specs.Used.{InputFile, opened, has_info, input_file_of, 
 use Rattle.thorin_join.proofs.Units.NamesApart.{apart-none}
 use Rattle.thorin_join.proofs.Units.HeadersRead.{ReadAlone}
 use Rattle.thorin_join.proofs.Parts.Strings.{PartsLaw}
-use Rattle.thorin_join.proofs.Rows.Shares.{RowsLaw}
+use Rattle.thorin_join.proofs.Rows.Meaning.{RowsLaw}
 use Rattle.thorin_join.proofs.Joined.Source.{source-joins}
 use Rattle.thorin_join.proofs.Units.InRows.{units-are, keys-units}
 use Rattle.dwp_base.proofs.Steps.{bind-was, bind-ok, same-ok}

@@ -31,7 +31,7 @@ use Rattle.thorin_join.proofs.Rows.LieInTurn.{AllCanLie, units-lie, can-lie, all
 use Rattle.thorin_join.proofs.Rows.LieInTurn.{laid-lies}
 use Rattle.thorin_join.proofs.Parts.Appended.{content-with_parts, parts-none}
 use Rattle.thorin_join.proofs.Parts.Strings.{PartsKept, PartsLaw}
-use Rattle.thorin_join.proofs.Rows.Shares.{RowsLaw}
+use Rattle.thorin_join.proofs.Rows.Meaning.{RowsLaw}
 use Rattle.thorin_join.proofs.Rows.AllAdded.{AllNew, joined-new, new-by-keys, units-added}
 use Rattle.thorin_join.proofs.Rows.AllAdded.{other-kind, Added, AllCanBeAdded}
 use Rattle.thorin_join.proofs.Units.Whole.{AllGo, go-joining, units-go}
@@ -74,40 +74,40 @@ record Ready (source : Source) (c : Contents) (after : List (List ℕ))
   are : map {B = DwarfObject × Option Meaning} (meant source) rs ≡ all_there members
   can : AllCanBeAdded source.object.order c after ns members
 
-ready : RowsLaw → (source : Source) (before : InProgress) (parts : Contents) (after : List (List ℕ))
-    (ns : List (DwarfObject × NewUnit)) (rs : List (DwarfObject × UnitRead))
-    → IsTable before.strings → parts_of source before.strings ≡ Ok (parts, after)
-    → AreAdded (adding source before parts) ns rs → AllGo source.object.order rs
-    → Ready source (with_parts parts before.file.contents) after ns rs
-unfolding encoding_in
-ready rows_law source before parts after [] [] table h are go =
-    record { members = []; are = refl; can = tt }
-ready rows_law source before parts after [] (r ∷ rs) table h are go = absurd are
-ready rows_law source before parts after (n ∷ ns) [] table h are go = absurd are
-ready rows_law source before parts after (n ∷ ns) (r ∷ rs) table h are go =
-    let s = rows_law source before.file.contents before.strings parts after r n.1.row table h
-    are.0.tested are.0.row in
-    let lies = can-lie source before parts n r are.0 go.0 in
-    let whole = lies.whole in
-    let rest = ready rows_law source before parts after ns rs table h are.1 go.1 in
-    record {
-      members = (r.0, s.unit) ∷ rest.members;
-      are = λ i. (r.0, s.meaning_is i) ∷ rest.are i;
-      can = (
-        record {
-          name = are.0.name;
-          bytes = are.0.bytes ∙ sym s.bytes_are;
-          encoded = s.encoding;
-          lie = s.lie;
-          shares = s.shares;
-          fits = lies.fits;
-          encoding = whole.unit.encoding;
-          header = bind-ok (unit_at n.1.place (section source.object.order n.1.bytes))
-              (whole.unit, whole.rest) _ whole.read;
-        },
-        rest.can,
-      );
-    }
+module _ (rows_law : RowsLaw) (source : Source) (before : InProgress) (parts : Contents)
+    (after : List (List ℕ)) (table : IsTable before.strings)
+    (h : parts_of source before.strings ≡ Ok (parts, after)) where
+  ready : (ns : List (DwarfObject × NewUnit)) (rs : List (DwarfObject × UnitRead))
+      → AreAdded (adding source before parts) ns rs → AllGo source.object.order rs
+      → Ready source (with_parts parts before.file.contents) after ns rs
+  unfolding encoding_in
+  ready [] [] are go = record { members = []; are = refl; can = tt }
+  ready [] (r ∷ rs) are go = absurd are
+  ready (n ∷ ns) [] are go = absurd are
+  ready (n ∷ ns) (r ∷ rs) are go =
+      let s = rows_law source before.file.contents before.strings parts after r n.1.row table h
+      are.0.tested are.0.row in
+      let lies = can-lie source before parts n r are.0 go.0 in
+      let whole = lies.whole in
+      let rest = ready ns rs are.1 go.1 in
+      record {
+        members = (r.0, s.unit) ∷ rest.members;
+        are = λ i. (r.0, s.meaning_is i) ∷ rest.are i;
+        can = (
+          record {
+            name = are.0.name;
+            bytes = are.0.bytes ∙ sym s.bytes_are;
+            encoded = s.encoding;
+            lie = s.lie;
+            shares = s.shares;
+            fits = lies.fits;
+            encoding = whole.unit.encoding;
+            header = bind-ok (unit_at n.1.place (section source.object.order n.1.bytes))
+                (whole.unit, whole.rest) _ whole.read;
+          },
+          rest.can,
+        );
+      }
 
 -- the names of a package's units
 pub keys-held : (made : InProgress) → keys (held_units made) ≡ names_of made
@@ -211,8 +211,8 @@ source-joins parts_law rows_law alone taken source before now ms rep named apart
     let held = keys (held_units before) in
     let kept = parts_law source before.strings parts after rep.table m.parts_are in
     let go = go-joining source.object.order held j.all (units-go taken alone source j.all j.is) in
-    let r = ready rows_law source before parts after new.units (joining held j.all) rep.table
-    m.parts_are j.are go in
+    let r = ready rows_law source before parts after rep.table m.parts_are new.units
+    (joining held j.all) j.are go in
     let c = with_parts parts before.file.contents in
     let q = with_all_parts before parts after (before.differing ++ new.differing) in
     let can : AllCanBeAdded q.file.order q.file.contents q.strings new.units r.members =

@@ -37,14 +37,11 @@ plain order place bytes = record {
 
 number-2 : (order : Endianness) (a b : List ℕ) → 2 ≤ length a → number order 2 (a ++ b) ≡
     number order 2 a
-number-2 Little a b h =
+number-2 order a b h =
     let c = get_or_append_left a b 0 0 (omega arith) in
     let d = get_or_append_left a b 0 1 (omega arith) in
-    rw (c, d) refl
-number-2 Big a b h =
-    let c = get_or_append_left a b 0 0 (omega arith) in
-    let d = get_or_append_left a b 0 1 (omega arith) in
-    rw (c, d) refl
+    elim order as (λ o. number o 2 (a ++ b) ≡ number o 2 a)
+    [ Little ↦ rw (c, d) | Big ↦ rw (c, d) ]
 
 -- numbers of this size don't depend on what follows them
 abbrev Sized : ℕ → Type 0

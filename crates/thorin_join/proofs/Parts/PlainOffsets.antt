@@ -1,7 +1,7 @@
 -- The string offsets of the parts of a plain input read alike.
 use Rattle.std.proofs.Common.{◌≡◌, ◌∙◌, ℕ, ◌+◌, ◌-◌, ◌<◌, Bool, true, false, cond, leb, List, []}
 use Rattle.std.proofs.Common.{◌∷◌, ◌++◌, length, take, subst, ◌*◌, ◌&&◌, ◌||◌, IsOk, nat_lt, Ok}
-use Rattle.std.proofs.Common.{refl, sym, ap, inl, inr, ⊎_elim, true≢false, arith, length-append}
+use Rattle.std.proofs.Common.{refl, sym, ap, inl, inr, true≢false, arith, length-append}
 use Rattle.std.proofs.lemmas.List.{append_assoc, append-nil}
 use Rattle.std.proofs.lemmas.Bool.{leb-true, leb-false}
 use Rattle.dwp_base.specs.declared.section.SectionKind.{SectionKind}
@@ -21,7 +21,7 @@ use Rattle.thorin_input.specs.Parts.{Parts, has_part, stands_once, with_each_par
 use Rattle.thorin_input.specs.Used.{Used, InputFile, first}
 use Rattle.thorin_join.proofs.Parts.OffsetRanges.{whole-long, whole-read, empty-alike}
 use Rattle.thorin_join.proofs.Parts.OffsetRanges.{rewritten-long, IsWhole}
-use Rattle.thorin_join.proofs.Parts.Appended.{either, each-part, joined-front, joined_parts-more}
+use Rattle.thorin_join.proofs.Parts.Appended.{each-part, joined-front, joined_parts-more}
 use Rattle.thorin_join.proofs.Parts.Appended.{joined_parts-other, Rewritten, Adds}
 use Rattle.thorin_join.proofs.Parts.OffsetLaws.{NamesTheSameLaw, ReadsAlikeLaw, ReadInTurnLaw}
 use Rattle.thorin_join.proofs.Parts.Strings.{front-front, rewritten-plain}
@@ -153,21 +153,18 @@ module _ (names : NamesTheSameLaw) (alike : ReadsAlikeLaw) (in_turn : ReadInTurn
       → ReadsBy before old → (leb 5 encoding.version ≡ true → has_part StrOffsets before.0 ≡ false)
       → Rewritten source before bytes next → ReadsBy next (old ++ whole_entries encoding bytes)
   reads-rewritten before bytes next old so_far once w =
-      let joined_is : joined_parts StrOffsets (before.0 ++ (StrOffsets, w.written.0) ∷ []) ≡
-      joined_parts StrOffsets before.0 ++ w.written.0 = joined_parts-more StrOffsets before.0
-      StrOffsets w.written.0 in
-      let has = has-more before.0 w.written.0 in
-      let is = w.is in
       let rewrites : remapped object.order encoding section bytes (length bytes) before.1 ≡ Ok
       w.written = sym (rewritten-plain source bytes before.1 plain) ∙ w.rewrites in
-      rw is (rw (joined_is, has) (⊎_elim
+      let new = joined_parts StrOffsets before.0 in
+      rw (
+        w.is,
+        joined_parts-more StrOffsets before.0 StrOffsets w.written.0,
+        has-more before.0 w.written.0,
+      ) (by-bool _ (leb 5 encoding.version)
       (λ standard. let empty = so_far.fresh standard (once standard) in
-      reads-only (joined_parts StrOffsets before.0) old bytes before.1 w.written standard
-      so_far.table rewrites empty.0 empty.1)
-      (λ gnu. reads-joined (joined_parts StrOffsets before.0) old bytes before.1
-      (has_part StrOffsets before.0) w.written (leb-false 5 encoding.version gnu)
-      so_far rewrites)
-      (either (leb 5 encoding.version))))
+      reads-only new old bytes before.1 w.written standard so_far.table rewrites empty.0 empty.1)
+      (λ gnu. reads-joined new old bytes before.1 (has_part StrOffsets before.0) w.written
+      (leb-false 5 encoding.version gnu) so_far rewrites))
 
   step-reads : (before : Parts) (s : Used) (next : Parts) (old : List ℕ) → ReadsBy before old
       → (stands_once source s.kind && has_part s.kind before.0) ≡ false → Adds source before s next

@@ -1,31 +1,53 @@
--- What a row means, where each of its ranges was put behind the contents before.
+-- What a row means, where each of its ranges was put behind the contents before; and that a unit
+-- which passed the tests stands in its row.
 use Rattle.std.proofs.Common.{◌≡◌, ◌∙◌, ℕ, true, false, cond, List, length, take, Option, Some}
-use Rattle.std.proofs.Common.{None, refl, sym, ap}
+use Rattle.std.proofs.Common.{None, refl, sym, ap, ◌+◌, ◌≤◌, [], Ok, subst, arith, Bool, ◌∷◌}
+use Rattle.std.proofs.Common.{is_none}
 use Rattle.std.proofs.Math.Seq.{take-length}
 use Rattle.std.proofs.lemmas.Option.{none-some}
 use Rattle.dwp_base.specs.declared.section.SectionKind.{SectionKind}
 use Rattle.dwp_base.specs.declared.section.SectionKind.TheVariants.{StrOffsets, Str}
 use Rattle.dwp_elf.specs.Contents.{content_of}
-use Rattle.dwp_index.specs.Index.{Ranges}
+use Rattle.dwp_index.specs.Index.{Ranges, range_in}
 use Rattle.thorin_index.specs.Entries.{contribution_to}
 use Rattle.thorin_packaged.specs.ReadStrings.{ReadsAlike}
 use Rattle.thorin_index.specs.declared.entry.IndexEntry.{IndexEntry}
 use Rattle.thorin_strings.specs.Strings.{IsTable, data_of}
 use Rattle.thorin_input.specs.Growing.{Contents, with_parts, joined_parts}
-use Rattle.thorin_input.specs.Indexes.{Source}
+use Rattle.thorin_input.specs.Indexes.{Source, is_package, index_for}
 use Rattle.thorin_join.specs.Meaning.{Meaning, pieces_by, part_by, offsets_by, lie_inside}
-use Rattle.thorin_join.specs.Meaning.{meaning_with, meaning_by}
+use Rattle.thorin_join.specs.Meaning.{meaning_with, meaning_by, UnitRead, placed_row, unit_meaning}
+use Rattle.thorin_join.specs.Meaning.{shared_kinds}
 use Rattle.thorin_input.specs.Format.{is_copied, is_shared}
 use Rattle.thorin_join.specs.Represents.{LieInside, Shares}
 use Rattle.thorin_join.specs.Strings.{strings_of}
 use Rattle.thorin_input.specs.Used.{first}
-use Rattle.thorin_join.proofs.Rows.OfUnits.{shared-copied}
-use Rattle.thorin_join.proofs.Rows.Ranges.{Lies}
+use Rattle.thorin_join.proofs.Rows.OfUnits.{shared-copied, OwnRow, one-of, adjusted-plain}
+use Rattle.thorin_join.proofs.Rows.OfUnits.{placed-part, IsUnitRow, is-unit_row, whole-part}
+use Rattle.thorin_join.proofs.Rows.OfUnits.{whole-else, own-row}
+use Rattle.thorin_join.proofs.Rows.Ranges.{Lies, Placed, lies-whole, not-outside, range-some}
 use Rattle.thorin_join.proofs.Parts.StringLists.{strings-there, strings-read}
 use Rattle.dwp_base.proofs.EveryKind.{same-each}
 use Rattle.dwp_base.specs.declared.section.Contribution.{Contribution}
-use Rattle.dwp_base.proofs.Bools.{by-bool}
-use Rattle.thorin_join.proofs.Parts.Appended.{content-with_parts}
+use Rattle.dwp_base.proofs.Bools.{by-bool, both}
+use Rattle.thorin_join.proofs.Parts.Appended.{content-with_parts, parts-copied}
+use Rattle.std.specs.List.{list_all, find}
+use Rattle.dwp_index.specs.Package.{part_of}
+use Rattle.dwp_table.specs.Objects.{identifier_of}
+use Rattle.dwp_table.specs.declared.object.DwarfObject.{DwarfObject}
+use Rattle.thorin_input.specs.Parts.{parts_of}
+use Rattle.thorin_input.specs.Rows.{whole_row, adjusted_part, unit_row, own_range, row_test}
+use Rattle.thorin_join.proofs.Parts.OffsetRanges.{empty-alike}
+use Rattle.thorin_join.proofs.Parts.OfPackages.{RowsRead, parts-first, rows-read}
+use Rattle.thorin_join.proofs.Parts.OffsetLaws.{NamesTheSameLaw, ReadsAlikeLaw, ReadInTurnLaw}
+use Rattle.thorin_join.proofs.Parts.OffsetLaws.{PackagedLaw}
+use Rattle.thorin_join.proofs.Parts.PlainOffsets.{parts-read}
+use Rattle.thorin_join.proofs.Parts.Strings.{parts-kept}
+use Rattle.thorin_join.proofs.EachKind.{copied-or-offsets}
+use Rattle.thorin_errors.specs.Errors.{ErrorValue}
+use Rattle.dwp_base.proofs.Steps.{same-ok}
+use Rattle.thorin_join.proofs.Rows.Stay.{part-inside}
+use Rattle.thorin_join.specs.StandApart.{LieBehind}
 
 -- the unit of a row, which is this of these bytes, with all that belongs to it
 pub record RowMeans (source : Source) (before parts : Contents) (after : List (List ℕ))
@@ -110,3 +132,167 @@ row-means source before parts after bytes ranges row part lies copied inside rea
             ∙ strings-read order source.encoding old offsets strings.0 strings.1 i);
       };
     }
+
+-- ---- units that passed the tests
+-- a unit that passed the tests stands in its row
+abbrev pub RowShares : Source → (before parts : Contents) → List (List ℕ) → DwarfObject × UnitRead
+    → IndexEntry → Type 0
+RowShares source before parts after read row = RowMeans source before parts after
+    read.1.unit.whole.bytes (unit_meaning source read) row
+
+abbrev pub RowsLaw : Type 0
+RowsLaw = (source : Source) (before : Contents) (strings : List (List ℕ)) (parts : Contents)
+    (after : List (List ℕ)) (read : DwarfObject × UnitRead) (row : IndexEntry)
+    → IsTable strings → parts_of source strings ≡ Ok (parts, after)
+    → row_test source.indexes read.1.from read.0 read.1.unit ≡ Ok tt
+    → unit_row source.indexes (whole_row source.encoding before parts) read.0 ≡ Ok row
+    → RowShares source before parts after read row
+
+-- a test that no kind that units share passes
+none-found : (test : SectionKind → Bool) → ((kind : SectionKind) → is_shared kind ≡ true
+    → test kind ≡ false) → (kinds : List SectionKind) → list_all is_shared kinds ≡ true
+    → is_none (find test kinds) ≡ true
+none-found test fails [] shared = refl
+none-found test fails (kind ∷ kinds) shared =
+    let each = both (is_shared kind) (list_all is_shared kinds) shared in
+    rw (fails kind each.0) (none-found test fails kinds each.1)
+
+-- what a unit means, by its input
+unit-plain : (source : Source) (read : DwarfObject × UnitRead) → is_package source.indexes ≡ false
+    → unit_meaning source read ≡ meaning_by source read.1.unit.whole.bytes None
+unfolding unit_meaning
+unit-plain source read plain = rw plain
+
+unit-packed : (source : Source) (read : DwarfObject × UnitRead) (row : Ranges)
+    → is_package source.indexes ≡ true → placed_row (index_for source.indexes read.0) read.1.from
+    (own_range read.1.unit) ≡ Some row
+    → unit_meaning source read ≡ meaning_by source read.1.unit.whole.bytes (Some row)
+unfolding unit_meaning
+unit-packed source read row packed placed = rw (packed, placed)
+
+module _ (source : Source) (before parts : Contents) (read : DwarfObject × UnitRead)
+    (row : IndexEntry) (made : IsUnitRow source.indexes (whole_row source.encoding before parts)
+    read.0 row) where
+  abbrev name : DwarfObject
+  name = read.0
+
+  -- what became of the whole of a kind
+  abbrev whole : IndexEntry
+  whole = whole_row source.encoding before parts
+
+  row-info : row.debug_info ≡ None
+  row-info = made.info ∙ (whole-else source.encoding before parts).1
+
+  row-types : row.debug_types ≡ None
+  row-types = made.types ∙ (whole-else source.encoding before parts).2
+
+  -- ---- a plain input
+  plain-lies : is_package source.indexes ≡ false
+      → SharedLie before parts row (λ kind. joined_parts kind parts)
+  plain-lies plain kind shared =
+      let is : contribution_to kind whole ≡ contribution_to kind row = same-ok {E = ErrorValue} _ _
+      (sym (adjusted-plain source.indexes name kind (contribution_to kind whole) plain) ∙
+      made.parts kind shared) in
+      rw (← is, whole-part source.encoding before parts kind shared)
+      (lies-whole (content_of kind before) (joined_parts kind parts))
+
+  -- ---- a package
+  module _ (test : row_test source.indexes read.1.from name read.1.unit ≡ Ok tt)
+      (packed : is_package source.indexes ≡ true) where
+    own : OwnRow (index_for source.indexes name) read.1.from (own_range read.1.unit)
+        (identifier_of name)
+    own = own-row source.indexes whole read.1.from name read.1.unit row packed test made
+
+    each-placed : (kind : SectionKind) → is_shared kind ≡ true → Placed (content_of kind before)
+        (joined_parts kind parts) (range_in own.row kind) (contribution_to kind row)
+    each-placed kind shared =
+        placed-part source.indexes name read.1.from (own_range read.1.unit) kind
+        (content_of kind before) (joined_parts kind parts) (contribution_to kind row) packed own
+        (ap (adjusted_part source.indexes name kind)
+        (sym (whole-part source.encoding before parts kind shared)) ∙ made.parts kind shared)
+
+    -- its ranges lie inside the sections of the input
+    packed-inside : ((kind : SectionKind) → is_shared kind ≡ true
+        → length (first kind source.object.sections) ≡ length (joined_parts kind parts))
+        → lie_inside source (Some own.row) ≡ true
+    packed-inside long =
+        none-found _ (λ kind shared. not-outside (first kind source.object.sections)
+        (joined_parts kind parts) (range_in own.row kind) (long kind shared)
+        (each-placed kind shared).within) shared_kinds refl
+
+    -- its string offsets read alike
+    packed-reads : (after : List (List ℕ))
+        → RowsRead source (first StrOffsets source.object.sections)
+        (joined_parts StrOffsets parts) after
+        → OffsetsRead source (Some own.row) after (part_of (joined_parts StrOffsets parts)
+        (range_in own.row StrOffsets))
+    packed-reads after reads final table kept i = by-range (range_in own.row StrOffsets) refl
+      where
+        by-range : (range : Option Contribution) → range_in own.row StrOffsets ≡ range
+            → ReadsAlike source.object.order source.encoding (first Str source.object.sections)
+            (part_of (first StrOffsets source.object.sections) range) (data_of final)
+            (part_of (joined_parts StrOffsets parts) range) i
+        by-range None is = empty-alike source.object.order source.encoding
+            (first Str source.object.sections) (data_of final) i
+        by-range (Some range) is =
+            let size = reads.size in
+            let there = (each-placed StrOffsets refl).within range is in
+            let inside : range.offset.0 + range.size
+            ≤ length (first StrOffsets source.object.sections) = omega arith in
+            rw (part-inside _ range inside, part-inside _ range there)
+            (reads.rows own.index (one-of source.indexes name own.index own.is) own.number own.row
+            range own.there is inside (range-some own.row StrOffsets range is) final table kept i)
+
+  -- ---- both
+  -- the ranges of a unit that passed the tests lie behind the contents before
+  pub row-behind : row_test source.indexes read.1.from name read.1.unit ≡ Ok tt
+      → LieBehind before row
+  row-behind test kind range is =
+      by-bool _ (is_shared kind)
+      (λ shared. by-bool _ (is_package source.indexes)
+      (λ packed. (each-placed test packed kind shared).lies.behind range is)
+      (λ plain. (plain-lies plain kind shared).behind range is))
+      (λ other. absurd (none-some range (sym (unshared row row-info row-types kind other) ∙ is)))
+
+  module _ (names : NamesTheSameLaw) (alike : ReadsAlikeLaw) (in_turn : ReadInTurnLaw)
+      (law : PackagedLaw) (strings after : List (List ℕ)) (table : IsTable strings)
+      (h : parts_of source strings ≡ Ok (parts, after)) where
+    -- the unit by these ranges, which has these parts
+    shares-by : (ranges : Option Ranges) (part : SectionKind → List ℕ)
+        → unit_meaning source read ≡ meaning_by source read.1.unit.whole.bytes ranges
+        → SharedLie before parts row part → ((kind : SectionKind)
+        → is_copied kind ≡ true → part kind ≡ part_by source ranges kind)
+        → lie_inside source ranges ≡ true → OffsetsRead source ranges after (part StrOffsets)
+        → RowShares source before parts after read row
+    shares-by ranges part is lies copied inside reads =
+        subst (λ m. RowMeans source before parts after read.1.unit.whole.bytes m row) (sym is)
+        (row-means source before parts after read.1.unit.whole.bytes ranges row part lies copied
+        inside reads (parts-kept names law source strings parts after table h).table
+        (made.encoding ∙ (whole-else source.encoding before parts).0) row-info row-types)
+
+    shares-packed : row_test source.indexes read.1.from name read.1.unit ≡ Ok tt
+        → is_package source.indexes ≡ true → RowShares source before parts after read row
+    shares-packed test packed =
+        let row = (own test packed).row in
+        let firsts = parts-first source packed strings parts after h in
+        let reads = rows-read names law source packed strings parts after table h in
+        let longs = copied-or-offsets (λ kind. length (first kind source.object.sections) ≡ length
+        (joined_parts kind parts)) (λ kind copied. ap length (sym (firsts kind copied)))
+        (sym reads.size) in
+        shares-by (Some row) (λ kind. part_of (joined_parts kind parts) (range_in row kind))
+        (unit-packed source read row packed (own test packed).placed)
+        (λ kind shared. (each-placed test packed kind shared).lies)
+        (λ kind copied. ap (λ v. part_of v (range_in row kind)) (firsts kind copied))
+        (packed-inside test packed longs) (packed-reads test packed after reads)
+
+    shares : row_test source.indexes read.1.from name read.1.unit ≡ Ok tt
+        → RowShares source before parts after read row
+    shares test = by-bool _ (is_package source.indexes) (shares-packed test)
+        (λ plain. shares-by None (λ kind. joined_parts kind parts) (unit-plain source read plain)
+        (plain-lies plain) (parts-copied source strings parts after h) refl
+        (parts-read names alike in_turn source plain strings parts after table h))
+
+pub row-shares : NamesTheSameLaw → ReadsAlikeLaw → ReadInTurnLaw → PackagedLaw → RowsLaw
+row-shares names alike in_turn law source before strings parts after read row table h test is =
+    shares source before parts read row (is-unit_row source.indexes _ read.0 row is) names alike
+    in_turn law strings after table h test

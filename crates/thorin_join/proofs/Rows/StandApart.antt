@@ -28,7 +28,7 @@ use Rattle.thorin_join.proofs.Rows.OneAdded.{row-part}
 use Rattle.dwp_base.proofs.Bools.{by-bool}
 use Rattle.thorin_join.proofs.Joined.Taken.{takes}
 use Rattle.thorin_join.proofs.Rows.Ranges.{lies-whole}
-use Rattle.thorin_join.proofs.Rows.Shares.{row-behind}
+use Rattle.thorin_join.proofs.Rows.Meaning.{row-behind}
 
 -- ---- the rows of an input's units
 -- with its own bytes behind contents that grew
@@ -115,13 +115,11 @@ first-inside None sound = tt
 first-inside (Some made) sound = sound-inside made sound
 
 -- a package that an input begins has nothing
-is-made : (begun : Option InProgress) (file : Elf) (made next : InProgress)
-    → Appended (package_or_new file begun).file.contents (package_or_new file begun).rows
-    next.rows → next ≡ made
-    → Appended (contents_begun begun) (rows_begun begun) made.rows
-is-made None file made next a h = subst (λ (n : InProgress). Appended [] [] n.rows) h a
-is-made (Some p) file made next a h =
-    subst (λ (n : InProgress). Appended p.file.contents p.rows n.rows) h a
+is-made : (begun : Option InProgress) (file : Elf) (now : InProgress)
+    → Appended (package_or_new file begun).file.contents (package_or_new file begun).rows now.rows
+    → Appended (contents_begun begun) (rows_begun begun) now.rows
+is-made None file now a = a
+is-made (Some p) file now a = a
 
 pub stand-apart : (bytes : List ℕ) (begun : Option InProgress) (now : InProgress)
     → IsSoundBegun begun → IsSound now → with_input bytes begun ≡ Ok (Some now)
@@ -129,13 +127,12 @@ pub stand-apart : (bytes : List ℕ) (begun : Option InProgress) (now : InProgre
 stand-apart bytes begun now sound fine h =
     let t = takes bytes begun (Some now) h in
     let before = package_or_new t.file begun in
-    let a : Appended (contents_begun begun) (rows_begun begun) now.rows = elim t.does [
-      | inl u ↦ is-made begun t.file now u.1.made (source-behind _ before u.1.made u.1.with)
-          (same_Some _ _ u.1.is)
-      | inr n ↦ is-made begun t.file now before
+    let from = λ (n : InProgress). Appended before.file.contents before.rows n.rows in
+    let a = is-made begun t.file now (elim t.does [
+      | inl u ↦ subst from (same_Some _ _ u.1.is) (source-behind _ before u.1.made u.1.with)
+      | inr n ↦ subst from (same_Some _ _ n.1)
           (record { added = []; is = sym (append-nil before.rows); behind = tt })
-          (same_Some _ _ n.1)
-    ] in
+    ]) in
     record {
       added = a.added;
       rows = a.is;

@@ -23,7 +23,7 @@ use Rattle.dwp_base.proofs.Bools.{by-bool}
 use Rattle.thorin_join.specs.State.{InProgress, adding, with_source}
 use Rattle.thorin_join.proofs.Joined.Source.{with_all_parts, source-made}
 use Rattle.thorin_join.proofs.Sizes.Contents.{with_parts-long, units-within, part_bytes}
-use Rattle.thorin_join.proofs.Sizes.Units.{placed_bytes, unit_bytes, new-within}
+use Rattle.thorin_join.proofs.Sizes.Contents.{placed_bytes, unit_bytes, new-within}
 use Rattle.thorin_join.proofs.Parts.FirstUses.{source-named, each-brings, used-most}
 use Rattle.dwp_base.proofs.Steps.{bind-was, same-ok}
 use Rattle.dwp_base.proofs.EveryKind.{same-each}

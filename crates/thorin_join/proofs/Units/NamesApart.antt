@@ -72,17 +72,17 @@ joined_distinct names (u ∷ rest) h =
 
 -- two rows of one kind with one identifier have one name
 
-same-sort : (a b : DwarfObject) → is_compilation a ≡ is_compilation b
+pub same-sort : (a b : DwarfObject) → is_compilation a ≡ is_compilation b
     → identifier_of a ≡ identifier_of b → same_name a b ≡ true
 same-sort (Compilation a) (Compilation b) sort e = eq-eqb a.0 b.0 e
 same-sort (TypeUnit a) (TypeUnit b) sort e = eq-eqb a.0 b.0 e
 same-sort (Compilation a) (TypeUnit b) sort e = absurd cc
 same-sort (TypeUnit a) (Compilation b) sort e = absurd cc
 
-same_row : (b : Bool) (r s : IndexEntry) → is_chosen b r ≡ true → is_chosen b s ≡ true
-    → identifier_of r.id ≡ identifier_of s.id → same_name r.id s.id ≡ true
-same_row true r s hr hs h = same-sort r.id s.id (hr ∙ sym hs) h
-same_row false r s hr hs h = same-sort r.id s.id (is-false _ hr ∙ sym (is-false _ hs)) h
+-- rows of one sort have names of it
+pub chosen-sort : (b : Bool) (row : IndexEntry) → is_chosen b row ≡ true → is_compilation row.id ≡ b
+chosen-sort true row h = h
+chosen-sort false row h = is-false _ h
 
 rows-apart : (rows : List IndexEntry) (names : List DwarfObject) → map (λ r. r.id) rows ≡ names
     → AreApart names → AllPairs (λ r s. same_name r.id s.id ≡ false) rows
@@ -103,8 +103,10 @@ ids-differ b rows d i j chosen apart before within h =
     get_or-at (λ r. identifier_of r.id) rows i d 0 (omega arith) in
     let to : get_or (entry_ids rows) j 0 ≡ identifier_of (get_or rows j d).id =
     get_or-at (λ r. identifier_of r.id) rows j d 0 within in
-    true≢false (sym (same_row b (get_or rows i d) (get_or rows j d) (chosen i d (omega arith))
-    (chosen j d within) (sym at ∙ h ∙ to)) ∙ apart i j d before within)
+    let sort = chosen-sort b (get_or rows i d) (chosen i d (omega arith))
+    ∙ sym (chosen-sort b (get_or rows j d) (chosen j d within)) in
+    true≢false (sym (same-sort (get_or rows i d).id (get_or rows j d).id sort (sym at ∙ h ∙ to))
+    ∙ apart i j d before within)
 
 -- the identifiers of rows of one kind with names that are apart are distinct
 chosen-distinct : (b : Bool) (rows : List IndexEntry) → All (λ r. is_chosen b r ≡ true) rows

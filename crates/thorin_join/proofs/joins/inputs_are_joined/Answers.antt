@@ -1,5 +1,5 @@
 use Rattle.thorin_join.proofs.Parts.Strings.{parts-kept}
-use Rattle.thorin_join.proofs.Rows.Shares.{row-shares}
+use Rattle.thorin_join.proofs.Rows.Meaning.{row-shares}
 use Rattle.thorin_join.proofs.Joined.Input.{input-keeps}
 use Rattle.thorin_join.proofs.joins.inputs_are_joined.Goals as goal
 
