@@ -49,7 +49,10 @@ Goes-trans m n i j k p q =
 byte_at-goes : (i : Input) (x : ℕ × Input) → byte_at i ≡ Ok x → Goes 1 i x.1
 unfolding byte_at
 byte_at-goes i x e =
-    let g = guard-ok (ltb (length i.bytes) 1) UnexpectedEof (slice_index i.bytes 0, after 1 i) x e in
+    let g = guard-ok (ltb (length i.bytes) 1) UnexpectedEof (
+      slice_index i.bytes 0,
+      after 1 i,
+    ) x e in
     Goes-after 1 i x.1 (ltb-false _ _ g.0) (ap (λ (y : ℕ × Input). y.1) (sym g.1))
 
 -- to where reading went, as the last step answers it

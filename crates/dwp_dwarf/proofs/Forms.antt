@@ -15,9 +15,11 @@ use Rattle.dwp_dwarf.specs.declared.form.BlockLength.TheVariants.{One, Two, Four
 use Rattle.dwp_dwarf.specs.Forms.{layout_of, block_length_at, text_at, past_value, value_at}
 use Rattle.dwp_dwarf.specs.Forms.{named_within, named_form_at}
 use Rattle.dwp_dwarf.proofs.Enough.{Steps, by_step}
-use Rattle.dwp_dwarf.proofs.Readings.{Answer, Gives, then_gives, value_gives, error_gives, test_gives}
+use Rattle.dwp_dwarf.proofs.Readings.{Answer, Gives, then_gives, value_gives, error_gives}
+use Rattle.dwp_dwarf.proofs.Readings.{test_gives}
 use Rattle.dwp_dwarf.proofs.Readings.{more_gives, was, then_split, bind_alike, size, shorter}
-use Rattle.dwp_dwarf.proofs.Readings.{after-zero, goes_some, goes_then, goes_after, byte_goes, skip_goes}
+use Rattle.dwp_dwarf.proofs.Readings.{after-zero, goes_some, goes_then, goes_after, byte_goes}
+use Rattle.dwp_dwarf.proofs.Readings.{skip_goes}
 use Rattle.dwp_dwarf.proofs.Readings.{number_goes, reads_uleb, reads_sleb}
 use Rattle.dwp_dwarf.proofs.Units.{Onward}
 
@@ -83,7 +85,8 @@ named_form_gives form i = named_gives (size i) form i
 text_goes : (i : Input) → Onward Input i (text_at i)
 unfolding text_at
 text_goes i = then_gives (was (found_at 0 i.bytes)) (λ n _. then_split _ n i (λ fits. then_gives
-    (skip_goes 1 (after n i)) (λ rest q. value_gives (goes_some (goes_then (goes_after n fits) q)))))
+    (skip_goes 1 (after n i)) (λ rest q.
+    value_gives (goes_some (goes_then (goes_after n fits) q)))))
 
 block_length_goes : (wide : BlockLength) (i : Input) → Onward ℕ i (block_length_at wide i)
 unfolding block_length_at

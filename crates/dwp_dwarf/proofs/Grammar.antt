@@ -1,5 +1,6 @@
 -- A table's declarations one after the other, and which of them a look-up finds.
-use Rattle.std.proofs.Common.{◌≡◌, ◌≢◌, ◌↔◌, ℕ, zero, suc, ◌<◌, List, [], ◌∷◌, Option, Some, None, Result}
+use Rattle.std.proofs.Common.{◌≡◌, ◌≢◌, ◌↔◌, ℕ, zero, suc, ◌<◌, List, [], ◌∷◌, Option, Some, None}
+use Rattle.std.proofs.Common.{Result}
 use Rattle.std.proofs.Common.{Ok, Err, eqb, refl, sym, ap, ◌∙◌, subst, arith}
 use Rattle.std.specs.List.{AllByRecursion}
 use Rattle.std.proofs.lemmas.Bool.{eqb-true, eqb-false}
@@ -10,7 +11,8 @@ use Rattle.dwp_dwarf.specs.Abbreviations.{Declaration, declaration}
 use Rattle.dwp_dwarf.specs.Grammar.{next_at, DeclarationsLie, IsBehindOthers, FoundIsFirst}
 use Rattle.dwp_dwarf.specs.Grammar.{AbsentIsNowhere, ErrorIsBefore}
 use Rattle.dwp_dwarf.proofs.Readings.{size}
-use Rattle.dwp_dwarf.proofs.Tables.{Next, Found, next_shorter, look_up-end, look_up-error, look_up-here}
+use Rattle.dwp_dwarf.proofs.Tables.{Next, Found, next_shorter, look_up-end, look_up-error}
+use Rattle.dwp_dwarf.proofs.Tables.{look_up-here}
 use Rattle.dwp_dwarf.proofs.Tables.{look_up-other}
 
 -- what the rest of a table says of a code by its next declaration
@@ -58,7 +60,8 @@ says code rest (Ok None) h = look_up-end code rest h
 says code rest (Err e) h = look_up-error code rest e h
 says code rest (Ok (Some d)) h = look_up-here rest ((code, d), h.0) h.1
 
-said : (code : ℕ) (i : Input) (found : Found) → (declaration code i ≡ found) ↔ SaidBehind code i found
+said : (code : ℕ) (i : Input) (found : Found) → (declaration code i ≡ found) ↔
+    SaidBehind code i found
 said code i found = (
   (λ e. subst (SaidBehind code i) e (by_next (suc (size i)) code i (next_at i) refl (omega arith))),
   (λ s. passed_over code s.1.others i s.0 s.1.lie s.1.other ∙ says code s.0 found s.2),

@@ -199,7 +199,8 @@ pub value_beside : {old mid new : List Node} {version added low key : ℕ} {b co
     (levels value : ℕ) → levels ≢ 0 → Beside old mid new version added low key b copy
     → value_below (levels - 1) mid low (half key) ≡ Some value
     → value_below levels new added key ≡ Some value
-value_beside {mid = mid} {new = new} {added = added} {low = low} {key = key} {b = b} levels value some
+value_beside {mid = mid} {new = new} {added = added} {low = low} {key = key} {b = b}
+    levels value some
     r has =
     added_has levels new added key b some r.now (omega (arith, r.side, r.fits, r.above))
     ∙ rw (ne_eqb key 0 r.some, r.side) (value_stays (levels - 1) mid new low (half key) r.after

@@ -1,7 +1,9 @@
 -- Readings made of others: what is left stands behind what was read, and the same is read where
 -- bytes that were left are missing.
-use Rattle.std.proofs.Common.{◌≡◌, ◌∙◌, ℕ, suc, ◌+◌, ◌^◌, ◌<◌, ◌≤◌, zero, Bool, true, false, cond, List, [], ◌∷◌}
-use Rattle.std.proofs.Common.{◌++◌, length, drop, Result, Ok, Err, ltb, refl, ap, sym, subst, add_assoc}
+use Rattle.std.proofs.Common.{◌≡◌, ◌∙◌, ℕ, suc, ◌+◌, ◌^◌, ◌<◌, ◌≤◌, zero, Bool, true, false, cond}
+use Rattle.std.proofs.Common.{List, [], ◌∷◌}
+use Rattle.std.proofs.Common.{◌++◌, length, drop, Result, Ok, Err, ltb, refl, ap, sym, subst}
+use Rattle.std.proofs.Common.{add_assoc}
 use Rattle.std.proofs.Common.{add-zero, arith}
 use Rattle.std.specs.Prelude.{ℤ}
 use Rattle.std.proofs.lemmas.Bool.{ltb-false, le-ltb}
@@ -79,7 +81,13 @@ pub after-zero : (i : Input) → after 0 i ≡ i
 after-zero i = rw add-zero refl
 
 pub goes_none : {i : Input} → Goes 0 i i
-goes_none {i} = record { taken = 0; some = omega arith; enough = omega arith; is = sym (after-zero i) }
+goes_none {i} = record {
+  taken = 0;
+  some = omega arith;
+  enough = omega arith;
+  is =
+      sym (after-zero i);
+}
 
 pub goes_some : {n : ℕ} {i j : Input} → Goes n i j → Goes 0 i j
 goes_some g = record { taken = g.taken; some = omega arith; enough = g.enough; is = g.is }
@@ -173,7 +181,8 @@ then_reads {B = B} {read = read} next first second = record {
       let s = bind-was (read (more i rest)) next x h in
       let left = goes_length (((second s.0.0).goes s.0.1).gives x s.2) in
       let one = first.cut i rest s.0 s.1 (omega (arith, left)) in
-      let two = (second s.0.0).cut one.0 rest x (subst (λ (j : Input). next (s.0.0, j) ≡ Ok x) one.1 s.2) le in
+      let two = (second s.0.0).cut one.0 rest x (subst (λ (j : Input). next (s.0.0, j) ≡ Ok x)
+      one.1 s.2) le in
       (two.0, two.1, rw one.2 two.2);
 }
 

@@ -17,10 +17,13 @@ use Rattle.dwp_dwarf.specs.Abbreviations.{pairs_from, pairs_within, pairs_in, de
 use Rattle.dwp_dwarf.specs.Abbreviations.{declaration}
 use Rattle.dwp_dwarf.specs.Grammar.{next_at}
 use Rattle.dwp_dwarf.proofs.Enough.{Steps, enough, by_step}
-use Rattle.dwp_dwarf.proofs.Readings.{Answer, Gives, then_gives, value_gives, error_gives, test_gives}
+use Rattle.dwp_dwarf.proofs.Readings.{Answer, Gives, then_gives, value_gives, error_gives}
+use Rattle.dwp_dwarf.proofs.Readings.{test_gives}
 use Rattle.dwp_dwarf.proofs.Readings.{more_gives, was, bind_alike, bind-bind, bind-cond, size}
-use Rattle.dwp_dwarf.proofs.Readings.{goes_none, goes_some, goes_then, goes_length, more, ReadWithout, Reads, then_reads, value_reads, error_reads}
-use Rattle.dwp_dwarf.proofs.Readings.{test_reads, some_reads, reads_byte, reads_uleb, reads_sleb, shorter}
+use Rattle.dwp_dwarf.proofs.Readings.{goes_none, goes_some, goes_then, goes_length, more}
+use Rattle.dwp_dwarf.proofs.Readings.{ReadWithout, Reads, then_reads, value_reads, error_reads}
+use Rattle.dwp_dwarf.proofs.Readings.{test_reads, some_reads, reads_byte, reads_uleb, reads_sleb}
+use Rattle.dwp_dwarf.proofs.Readings.{shorter}
 use Rattle.dwp_base.proofs.Steps.{bind-was}
 
 reads_constant : (form : ℕ) → Reads 0 (Unit {0}) (constant_at form)
@@ -61,9 +64,11 @@ before_others first rest = Ok (first ∷ rest.0, rest.1)
 
 abbrev after_first : (Input → Answer (List Specification)) → Specification × Input
     → Answer (List Specification)
-after_first others first = cond (is_last first.0) (Ok ([], first.1)) (others first.1 >>= before_others first.0)
+after_first others first = cond (is_last first.0) (Ok ([], first.1))
+    (others first.1 >>= before_others first.0)
 
-list_steps : Steps size specifications_within (λ others i. specification_at i >>= after_first others)
+list_steps : Steps size specifications_within (λ others i. specification_at i >>=
+    after_first others)
 unfolding specifications_within
 list_steps = record {
   none = λ others i e. rw (no_specification i e) refl;
@@ -108,7 +113,8 @@ unfolding specifications_within pairs_within
 pairs_are zero i = error_gives
 pairs_are (suc n) i = then_gives (was (specification_at i)) (λ first is. test_gives
     (is_last first.0) (λ last. value_gives (rw (is, last) refl))
-    (λ other. then_gives (pairs_are n first.1) (λ rest same. value_gives (rw (is, other, same) refl))))
+    (λ other. then_gives (pairs_are n first.1) (λ rest same.
+    value_gives (rw (is, other, same) refl))))
 
 pub list_pairs : (i : Input)
     → Gives (List Specification × Input) (specifications_at i) (λ p. pairs_in i ≡ p.0)

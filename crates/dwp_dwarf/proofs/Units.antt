@@ -12,7 +12,8 @@ use Rattle.dwp_dwarf.specs.declared.unit.UnitSection.TheVariants.{Info, Types}
 use Rattle.dwp_dwarf.specs.Units.{Unit, initial_length_at, address_size_at, type_at, older_type_at}
 use Rattle.dwp_dwarf.specs.Units.{unit_code_at, unit_type_at, older_at, newer_at, header_at}
 use Rattle.dwp_dwarf.specs.Units.{unit_at, listed}
-use Rattle.dwp_dwarf.proofs.Readings.{Answer, Gives, then_gives, value_gives, error_gives, test_gives}
+use Rattle.dwp_dwarf.proofs.Readings.{Answer, Gives, then_gives, value_gives, error_gives}
+use Rattle.dwp_dwarf.proofs.Readings.{test_gives}
 use Rattle.dwp_dwarf.proofs.Readings.{more_gives, goes_none, goes_some, goes_then, goes_both}
 use Rattle.dwp_dwarf.proofs.Readings.{goes_after}
 use Rattle.dwp_dwarf.proofs.Readings.{byte_goes, number_goes, relocated_goes, then_split}
@@ -144,7 +145,8 @@ pub unit_takes : (section : UnitSection) (i : Input)
     → Gives (Unit × Input) (unit_at section i) (TakesUnit i)
 unfolding unit_at
 unit_takes section i = then_gives (initial_length_goes i) (λ length first. then_split _
-    length.0.1 length.1 (λ fits. then_split _ _ i (λ _. then_gives (header_heads section length.0.0 _ _)
+    length.0.1 length.1 (λ fits.
+    then_split _ _ i (λ _. then_gives (header_heads section length.0.0 _ _)
     (λ u heads. value_gives (unit_made i length.1 u length.0.1 first fits heads)))))
 
 -- ---- what was read and others behind it

@@ -99,5 +99,6 @@ root_values_lie section i rest table u e read others unit root list =
       fits = start.enough;
       is = r.is;
       tag = ap (λ (x : DebugEntry). x.tag) r.made;
-      lie = rw start.is at (values_lie u.encoding read r.declared.specifications r.code.1 others all);
+      lie = rw start.is at (values_lie u.encoding read r.declared.specifications
+          r.code.1 others all);
     }

@@ -139,7 +139,8 @@ pub cut_more : (xs : List (SectionKind × Vec ℕ)) (cs : List (SectionKind × L
 cut_more xs cs ns i x y e is kind content =
     let pair : SectionKind × Vec ℕ → SectionKind × List ℕ = λ s. (s.0, s.1.items) in
     let n = get_or ns i 0 in
-    let here : pair x ≡ get_or (contents_of xs) i (pair x) = ap pair is ∙ sym (get_or-map pair xs i x)
+    let here : pair x ≡ get_or (contents_of xs) i (pair x) =
+    ap pair is ∙ sym (get_or-map pair xs i x)
     in
     map-set pair xs i y
     ∙ ap (set (contents_of xs) i) (pair_of _ _ _ _ kind content ∙ ap (kept n) here)

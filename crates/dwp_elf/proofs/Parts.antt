@@ -73,7 +73,8 @@ pub headers_from-drop : (class : Class) (order : Endianness)
     → headers_from class order size name place (contents_of (drop i xs))
     ≡ header ++ headers_from class order size name' place' (contents_of (drop (i + 1) xs))
 unfolding headers_from
-headers_from-drop class order size name place length_here name' place' header xs i x h e l made n p =
+headers_from-drop class order size name place length_here name' place' header xs i x
+    h e l made n p =
     rw (drop-item xs i x h e, made, n, p, l) refl
 
 pub headers_from-end : (class : Class) (order : Endianness) (size name place : ℕ)

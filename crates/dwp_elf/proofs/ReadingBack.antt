@@ -107,7 +107,8 @@ module _ (o : Object) where
   contents-behind : drop (header_size o.class) text ≡ from_contents o
   contents-behind = past text (file_header o.class o.order o.machine headers
       (section_count o.contents)) (from_contents o) 0 _ _ (file_text-split o)
-      (length-file_header o.class o.order o.machine headers (section_count o.contents)) (omega arith)
+      (length-file_header o.class o.order o.machine headers (section_count o.contents))
+      (omega arith)
 
   headers-behind : drop headers text ≡ from_headers o
   headers-behind =

@@ -1,5 +1,6 @@
 -- The parts of a file, written one after the other.
-use Rattle.std.proofs.Common.{◌≡◌, ℕ, ◌+◌, List, ◌++◌, length, replicate, append_assoc, subst, sym, refl}
+use Rattle.std.proofs.Common.{◌≡◌, ℕ, ◌+◌, List, ◌++◌, length, replicate, append_assoc, subst, sym}
+use Rattle.std.proofs.Common.{refl}
 use Rattle.std.proofs.Common.{◌∙◌}
 use Rattle.dwp_elf_read.specs.Layout.{header_size, entry_size}
 use Rattle.dwp_elf.specs.declared.places.Places.{Places}

@@ -1,5 +1,6 @@
 -- Texts in a string table: what `memchr` and `from_utf8` say, as the definitions put it.
-use Rattle.std.proofs.Common.{refl, Result, Ok, Err, MatchResult, option_map, ◌≡◌, ℕ, ◌==◌, Bool, cond, List, Option, Some, None, length}
+use Rattle.std.proofs.Common.{refl, Result, Ok, Err, MatchResult, option_map, ◌≡◌, ℕ, ◌==◌, Bool}
+use Rattle.std.proofs.Common.{cond, List, Option, Some, None, length}
 use Rattle.std.proofs.Common.{take, drop, get_or, position, ap, ◌∙◌, sym, arith}
 use Rattle.std.specs.Option.{option_and_then}
 use Rattle.std.specs.Result.{result_ok}

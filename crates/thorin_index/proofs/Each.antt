@@ -67,7 +67,8 @@ kind_test : (test : SectionKind → Option Contribution → Result (Unit {0}) Er
     → test kind (contribution_to kind entry) ≡ Ok tt
 kind_test test entry e none =
     by_part (λ kind. test kind (contribution_to kind entry) ≡ Ok tt)
-    (each_passed (λ kind. test kind (contribution_to kind entry)) contribution_kinds e) (none Str) (none CuIndex) (none TuIndex)
+    (each_passed (λ kind. test kind (contribution_to kind entry)) contribution_kinds e) (none Str)
+    (none CuIndex) (none TuIndex)
 
 -- a test that passed all parts of entries gives a bound on each of their numbers
 pub rows_fit : (measure : Option Contribution → ℕ) (what : List ℕ) (entries : List IndexEntry)

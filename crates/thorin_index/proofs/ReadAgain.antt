@@ -1,5 +1,6 @@
 -- The bytes of an index whose entries passed the tests are read as the index.
-use Rattle.std.proofs.Common.{◌≡◌, ℕ, zero, suc, ◌*◌, ◌^◌, ◌<◌, ◌≤◌, true, false, leb, List, [], ◌∷◌}
+use Rattle.std.proofs.Common.{◌≡◌, ℕ, zero, suc, ◌*◌, ◌^◌, ◌<◌, ◌≤◌, true, false, leb, List, []}
+use Rattle.std.proofs.Common.{◌∷◌}
 use Rattle.std.proofs.Common.{◌++◌, length, get_or, drop, Ok, inl, inr, refl, ap, ◌∙◌, cond, Bool}
 use Rattle.std.proofs.Common.{append_assoc, arith}
 use Rattle.std.proofs.lemmas.List.{append-nil, length-map, map-id, get_or_default}
@@ -72,7 +73,8 @@ module _ (columns units slots : ℕ) (few_columns : columns < 2 ^ 32) (few_units
       record {
         version_is = is;
         counts_are = counts_at Little (a ∷ b ∷ c ∷ d ∷ behind Little) columns units slots
-            (omega arith) (one.again columns (units_on Little) few_columns) (one.again units (slots_on Little) few_units)
+            (omega arith) (one.again columns (units_on Little) few_columns)
+            (one.again units (slots_on Little) few_units)
             (one.again slots rest few_slots);
         left = refl;
       }
@@ -81,7 +83,8 @@ module _ (columns units slots : ℕ) (few_columns : columns < 2 ^ 32) (few_units
       record {
         version_is = is;
         counts_are = counts_at Big (a ∷ b ∷ c ∷ d ∷ behind Big) columns units slots
-            (omega arith) (one.again columns (units_on Big) few_columns) (one.again units (slots_on Big) few_units)
+            (omega arith) (one.again columns (units_on Big) few_columns)
+            (one.again units (slots_on Big) few_units)
             (one.again slots rest few_slots);
         left = refl;
       }

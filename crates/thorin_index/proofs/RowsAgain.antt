@@ -1,6 +1,8 @@
 -- The rows of an index of entries have the entries' parts.
-use Rattle.std.proofs.Common.{◌≡◌, ℕ, suc, ◌+◌, ◌-◌, ◌^◌, ◌<◌, Bool, true, false, ◌||◌, ◌&&◌, cond, eqb}
-use Rattle.std.proofs.Common.{List, [], ◌∷◌, length, get_or, map, filter, Option, Some, None, Ok, ◌⊎◌}
+use Rattle.std.proofs.Common.{◌≡◌, ℕ, suc, ◌+◌, ◌-◌, ◌^◌, ◌<◌, Bool, true, false, ◌||◌, ◌&&◌, cond}
+use Rattle.std.proofs.Common.{eqb}
+use Rattle.std.proofs.Common.{List, [], ◌∷◌, length, get_or, map, filter, Option, Some, None, Ok}
+use Rattle.std.proofs.Common.{◌⊎◌}
 use Rattle.std.proofs.Common.{inl, inr, refl, sym, ap, subst, ◌∙◌, arith}
 use Rattle.std.specs.Prelude.{is_some, unwrap_or}
 use Rattle.std.specs.List.{list_any, position_from, slice_get}

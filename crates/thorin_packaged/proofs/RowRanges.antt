@@ -79,7 +79,8 @@ module _ (index : Index) (number : ℕ) (row : Ranges) (r : Contribution) (there
   pub compilation_there : (types : Option Index) → IsIn r (offset_ranges (Some index) types)
   unfolding offset_ranges
   compilation_there types = index_still types (with_rows (Some index) []) r
-      (rows_there (ranges_of index StrOffsets) [] r (number - 1) (row_at index number row r there has))
+      (rows_there (ranges_of index StrOffsets) [] r (number - 1)
+      (row_at index number row r there has))
 
   pub type_there : (compilations : Option Index) → IsIn r (offset_ranges compilations (Some index))
   unfolding offset_ranges

@@ -250,7 +250,8 @@ module _ (names : NamesTheSameLaw) (law : PackagedLaw) (reads : UnitsAreTaken)
       taken-unless state file w is_read IsForeseen before same (λ indexes read. (
         foreseen _ (own-offsets is_read has_entries state w.encoding file
             w.own g.made g.begun w.plain indexes read now.strings),
-        λ p e. own-units names law reads first_law find_law is_read has_entries state w.encoding file w.own g.made g.begun w.plain indexes read now p.0 p.1
+        λ p e. own-units names law reads first_law find_law is_read has_entries state w.encoding
+            file w.own g.made g.begun w.plain indexes read now p.0 p.1
             table e,
       ))
 
@@ -266,16 +267,19 @@ module _ (names : NamesTheSameLaw) (law : PackagedLaw) (reads : UnitsAreTaken)
       let o = own-offsets-alone is_read has_entries state w.encoding file
       w.own g.made g.begun w.plain indexes read in (
         unless-ok (λ e. ⊥) _ o.0 o.1,
-        λ p e. let all = own-units-new names law reads first_law find_law is_read has_entries state w.encoding file w.own g.made g.begun w.plain indexes read
+        λ p e. let all = own-units-new names law reads first_law find_law is_read has_entries state
+            w.encoding file w.own g.made g.begun w.plain indexes read
             new refl p.0 p.1 table e in
             unless-ok (λ e. ⊥) _ all.0 all.1,
       )))
 
   -- and has their units then
-  pub own-by-new : InputsSound → InputsJoined → MeansLaw → FinishedLaw → (state : State) (file : File)
+  pub own-by-new : InputsSound → InputsJoined → MeansLaw → FinishedLaw
+      → (state : State) (file : File)
       → IsSoundBegun state.begun → HoldsOwn state → HoldsPlain state → finish_test state ≡ Ok tt
       → IsFinishedState state file → IsAcceptedByNewOnceWritten state file
-  own-by-new sounds joins means finishes state file sound holds holds_plain tested f packs differ back =
+  own-by-new sounds joins means finishes state file sound holds holds_plain tested f
+      packs differ back =
       let w = own-written reads state file sound holds holds_plain tested f packs differ back in
       let g = w.own.finished in
       let t = new-accepted state file w in

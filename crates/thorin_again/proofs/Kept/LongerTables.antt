@@ -84,7 +84,8 @@ module _ (rest : List ℕ) where
 
   stays-uleb : (i : Input) → Stays (uleb_at i) (uleb_at (more i rest))
   unfolding uleb_at
-  stays-uleb i = then _ _ _ _ (stays-leb 10 i) (λ n j. choice Stays (ltb n (2 ^ 64)) _ _ _ _ refl tt)
+  stays-uleb i = then _ _ _ _ (stays-leb 10 i) (λ n j. choice Stays (ltb n (2 ^ 64))
+      _ _ _ _ refl tt)
 
   stays-signed : (n : ℕ) (i : Input) → Stays (signed_leb_at n i) (signed_leb_at n (more i rest))
   unfolding signed_leb_at
@@ -162,7 +163,8 @@ module _ (rest : List ℕ) where
       (stays-declaration j) (λ first k. choice Found (eqb code wanted) _ _ _ _ refl
       (found-within wanted n m k (omega (arith, le))))))))
 
-  declaration-stays : (wanted : ℕ) (i : Input) (d : Declaration) → declaration wanted i ≡ Ok (Some d)
+  declaration-stays : (wanted : ℕ) (i : Input) (d : Declaration)
+      → declaration wanted i ≡ Ok (Some d)
       → declaration wanted (more i rest) ≡ Ok (Some d)
   unfolding declaration
   declaration-stays wanted i d h =
@@ -223,7 +225,8 @@ module _ (rest : List ℕ) where
       ∙ e.2
 
   by-type : (section : Input) (unit : Header) (name : Option DwarfObject) (type : UnitType)
-      → identity_by section unit type ≡ Ok name → identity_by (more section rest) unit type ≡ Ok name
+      → identity_by section unit type ≡ Ok name → identity_by (more section rest)
+      unit type ≡ Ok name
   by-type section unit name (unit_types.Skeleton id) h = h
   by-type section unit name (unit_types.SplitCompilation id) h = h
   by-type section unit name (unit_types.TypeUnit signature offset) h = h

@@ -195,9 +195,12 @@ module _ (bytes : List ℕ) (e : Encoding) (found : own_encoding bytes ≡ Ok (S
       → opened bytes ≡ Ok file → OwnUnits u.source.object u.source.encoding e
   unfolding file_encoding
   own-units file begun now u opens =
-      let one = some-or-none (is_plain u.source.object.sections && list_all (section_has u.source.encoding
-      u.source.object.order) u.source.object.sections) (Some u.source.encoding) e (same-ok {E = ErrorValue} _ (Some e)
-      (sym (bind-ok (input_file_of file) u.source.object _ u.object_is ∙ bind-ok (encoding_of u.source.object)
+      let one = some-or-none (is_plain u.source.object.sections && list_all
+      (section_has u.source.encoding
+      u.source.object.order) u.source.object.sections) (Some u.source.encoding) e
+      (same-ok {E = ErrorValue} _ (Some e)
+      (sym (bind-ok (input_file_of file) u.source.object _ u.object_is ∙ bind-ok
+      (encoding_of u.source.object)
       u.source.encoding _ u.encoding_is) ∙ (info-read file opens).1)) in
       let two = both (is_plain u.source.object.sections) _ one.0 in
       record { is = same_Some u.source.encoding e one.1; plain = two.0; all = two.1 }

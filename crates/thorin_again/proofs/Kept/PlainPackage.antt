@@ -30,7 +30,8 @@ use Rattle.thorin_join.proofs.Joined.Input.{made-order, new-sound}
 use Rattle.thorin_join.proofs.Parts.OffsetLaws.{NamesTheSameLaw}
 use Rattle.thorin_again.proofs.Kept.InfoThere.{info-there}
 use Rattle.thorin_again.proofs.Kept.Names.{names-kept}
-use Rattle.thorin_again.proofs.Kept.OneEncoding.{Before, begun-now, own-adds, own-units, takes-units}
+use Rattle.thorin_again.proofs.Kept.OneEncoding.{Before, begun-now, own-adds, own-units}
+use Rattle.thorin_again.proofs.Kept.OneEncoding.{takes-units}
 use Rattle.thorin_again.proofs.Kept.SharedParts.{named-kept}
 use Rattle.thorin_again.proofs.Meant.Package.{are-indexes}
 use Rattle.thorin_again.proofs.Offsets.RewrittenAgain.{no-turn}
@@ -102,7 +103,8 @@ taken-plain names reads alone bytes old new sound holds h = record {
       let is = own-units bytes encoding a.found w.0 old.begun new.begun u w.1 in
       let before = package_or_new w.0 old.begun in
       let source = u.source in
-      let plain = plain-indexes u.source.object u.source.encoding u.source.indexes is.plain u.indexes_are in
+      let plain = plain-indexes u.source.object u.source.encoding u.source.indexes is.plain
+      u.indexes_are in
       let order = made-order w.0 u.source.object old.begun u.object_is u.order_is in
       let before_sound = new-sound w.0 old.begun sound in
       let now : names_in new.begun ≡ names_in (Some u.made) = ap names_in (sym u.is) in

@@ -74,7 +74,8 @@ input-filled reads alone e bytes begun now one j h before =
     let t = takes bytes begun now h in (
       units-hold (λ unit. unit.encoding ≡ e) bytes begun now j h
           (λ file u opens all read. each-all _ (λ r unit made. made.0 ∙ one.1 u.source.encoding
-          (encoding-read bytes file u.source.object u.source.encoding opens u.object_is u.encoding_is)) all)
+          (encoding-read bytes file u.source.object u.source.encoding opens u.object_is
+          u.encoding_is)) all)
           before.0,
       elim t.does [
         | inl w ↦

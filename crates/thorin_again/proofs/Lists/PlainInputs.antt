@@ -42,7 +42,8 @@ plain-of bytes old new e h found =
       used = u.object_is;
       plain = is.plain;
       first = u.encoding_is ∙ ap Ok is.is;
-      all = subst (λ x. list_all (section_has x u.source.object.order) u.source.object.sections ≡ true) is.is
+      all = subst (λ x. list_all (section_has x u.source.object.order)
+          u.source.object.sections ≡ true) is.is
           is.all;
     }
 

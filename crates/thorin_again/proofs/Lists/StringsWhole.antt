@@ -128,7 +128,8 @@ error-was f (Err e) x h = absurd cc
 
 found-was : (o : Option index.FoundUnit) (b : index.FoundUnit) (m n : ℕ) → ◌≡◌ {A = Result
     (Option index.FoundUnit × ℕ) PackageError} (Ok (o, m)) (Ok (Some b, n)) → o ≡ Some b
-found-was o b m n h = ap (λ (x : Option index.FoundUnit × ℕ). x.0) (same-ok {E = PackageError} _ _ h)
+found-was o b m n h = ap (λ (x : Option index.FoundUnit × ℕ). x.0)
+    (same-ok {E = PackageError} _ _ h)
 
 -- the header of a unit that was found
 abbrev HasHeader : Package → index.FoundUnit → Type 0

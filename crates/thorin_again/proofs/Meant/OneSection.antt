@@ -93,13 +93,15 @@ module _ (taken : UnitsAreTaken) (first_law : FirstLaw) (find_law : FindLaw) (so
     where
       end-means : MeansRows [] []
       end-means us are encoded named tested =
-          ap (map {B = DwarfObject × Option Meaning} (meant source)) (no-named source place us named)
+          ap (map {B = DwarfObject × Option Meaning} (meant source))
+          (no-named source place us named)
 
       elsewhere-means : (r : IndexEntry) (rs : List IndexEntry)
           (reads : List (Result Header ReadError)) → is_at place r ≡ false → MeansRows rs reads
           → MeansRows (r ∷ rs) reads
       elsewhere-means r rs reads not_here later us are encoded named tested =
-          later us are.1 (rest-encoded r rs encoded) named tested ∙ ap (λ b. all_meant (with_names mean
+          later us are.1 (rest-encoded r rs encoded) named tested ∙ ap (λ b.
+          all_meant (with_names mean
           (cond b (r ∷ rows_at place rs) (rows_at place rs)))) (sym not_here)
 
       one-means : (before : List IndexEntry) (r : IndexEntry) (rs : List IndexEntry) (h : Header)

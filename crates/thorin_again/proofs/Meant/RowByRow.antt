@@ -162,7 +162,8 @@ module _ (taken : UnitsAreTaken) (order : Endianness) (contents : Contents) (pla
       let some : 0 < length bytes = omega (arith, head.is.some, read.long) in
       let m = suc-of n (omega (arith, some, begins.fuel)) in
       let end = offset + length own in
-      let content : content_of kind contents ≡ begins.pre ++ (own ++ head.rest) = begins.content ∙ ap
+      let content : content_of kind contents ≡ begins.pre ++ (own ++ head.rest) =
+      begins.content ∙ ap
       (λ l. begins.pre ++ l) head.are in
       subst (P (r ∷ rs)) (sym (ap (λ k. units_within k place (plain order offset bytes)) m.1
       ∙ one-read m.0 place (plain order offset bytes) read.moved.unit (plain order end head.rest)

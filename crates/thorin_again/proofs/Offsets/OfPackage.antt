@@ -111,7 +111,8 @@ pub record IsReadOf (state : State) (encoding : Encoding) (file : File)
   pub all : AllOf encoding (units_of made)
   pub again : IsAgain (own_source file encoding indexes) file.contents made.strings made.rows
 
-module _ (is_read : IndexIsRead) (has_entries : IndexHasEntries) (state : State) (encoding : Encoding) (file : File)
+module _ (is_read : IndexIsRead) (has_entries : IndexHasEntries) (state : State)
+    (encoding : Encoding) (file : File)
     (own : IsOwn state encoding file) (other : InProgress) (begun : state.begun ≡ Some other)
     (plain : IsPlain encoding other) (indexes : Indexes)
     (read : indexes_of (written_object file) encoding ≡ Ok indexes) where

@@ -1,5 +1,5 @@
--- The ranges of string offsets of a written package pass the tests, and each is rewritten unless the
--- offset of a string doesn't fit.
+-- The ranges of string offsets of a written package pass the tests, and each is rewritten unless
+-- the offset of a string doesn't fit.
 use Rattle.std.proofs.Common.{◌≡◌, ◌∙◌, ℕ, zero, suc, ◌+◌, ◌-◌, ◌*◌, ◌%◌, ◌<◌, ◌≤◌, true, false}
 use Rattle.std.proofs.Common.{◌&&◌, inl, inr, List, [], ◌∷◌, ◌++◌, length, drop, refl, sym, ap}
 use Rattle.std.proofs.Common.{subst, Result, Ok, Err, Option, arith}

@@ -53,7 +53,11 @@ module _ (order : Endianness) (encoding : Encoding) where
   unfolding remapped_entries remapped_entry
   entries-alike s t xs ys zero strings h = refl
   entries-alike s t xs ys (suc n) strings h =
-      rw (entries-alike s t xs ys n strings (λ k less. h k (omega (arith, less))), h n (omega arith))
+      rw (
+        entries-alike s t xs ys n strings (λ k less. h k (omega (arith, less))),
+        h
+            n (omega arith),
+      )
       refl
 
   entries-of : (section bytes : List ℕ) (size : ℕ) (strings : List (List ℕ)) (written : Written)
@@ -107,7 +111,8 @@ module _ (order : Endianness) (encoding : Encoding) where
         let at = header_size encoding + k * width in
         let fits : k * width + width ≤ n * width = row_fits k width n width less (omega arith) in
         let room : at + width ≤ length xs = omega (arith, no_header encoding old, fits, long) in
-        let here = le-ltb (length (xs ++ ys)) (at + width) (omega (arith, room, length-append xs ys))
+        let here = le-ltb (length (xs ++ ys)) (at + width)
+        (omega (arith, room, length-append xs ys))
         in
         let there = le-ltb (length xs) (at + width) room in
         let front = drop-append-le at xs ys (omega (arith, room)) in

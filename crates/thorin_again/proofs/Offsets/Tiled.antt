@@ -88,7 +88,8 @@ among-by P (x ∷ xs) more h own r (inr k) = among-by P xs more (λ z l. h z (in
 gives-same : (o p : Endianness) (encoding : Encoding) (xs ys : List ℕ) (ranges : List Contribution)
     (s t : List (List ℕ)) → p ≡ o → ys ≡ xs → t ≡ s → GiveStrings o encoding xs ranges s
     → GiveStrings p encoding ys ranges t
-gives-same o p encoding xs ys ranges s t order bytes strings gives = rw (order, bytes, strings) gives
+gives-same o p encoding xs ys ranges s t order bytes strings gives =
+    rw (order, bytes, strings) gives
 
 -- ---- a plain object that was added
 
@@ -152,7 +153,8 @@ module _ (names : NamesTheSameLaw) (source : Source) (before now : InProgress)
       record {
         ranges = ranges;
         tile = rw (order_is, content, length-append old joined) tile;
-        rows = rw a.is (each-added (λ p. EachRow (HasOneOf ranges) p.rows) (RowHas (HasOneOf ranges))
+        rows = rw a.is (each-added (λ p. EachRow (HasOneOf ranges) p.rows)
+            (RowHas (HasOneOf ranges))
             (λ p u has rows. row-append (HasOneOf ranges) p.rows (row_at u.1.row p.file.contents u.0
             u.1.bytes u.1.place) rows (has p.file.contents)) q a.new.units
             (rows-share source before now a plain StrOffsets refl (λ part. (r : Contribution)
@@ -195,7 +197,8 @@ module _ (names : NamesTheSameLaw) (source : Source) (before now : InProgress)
             (among-by (λ r. IsOfSome r now.rows) tiled.ranges range named-before
             (once-more source before now a more (λ p. IsOfSome range p.rows)
             (RowHas (λ row. row.debug_str_offsets ≡ Some range))
-            (λ p u has. some-last range p.rows (row_at u.1.row p.file.contents u.0 u.1.bytes u.1.place)
+            (λ p u has. some-last range p.rows (row_at u.1.row p.file.contents u.0
+            u.1.bytes u.1.place)
             (has p.file.contents))
             (rows-share source before now a plain StrOffsets refl (λ part. part ≡ Some range) put)))
             (more-strings is_whole)

@@ -233,7 +233,8 @@ up-to-parts is_read state encoding file own before same =
     let read = indexes-read is_read f.made file m.sound m.tests f.identifiers f.finished own.kinds
     encoding m.version in
     record {
-      indexes = indexes-taken is_read f.made file m.sound m.tests f.identifiers f.finished own.kinds;
+      indexes = indexes-taken is_read f.made file m.sound m.tests f.identifiers
+          f.finished own.kinds;
       read = read;
       finished = indexes-packed is_read f.made file m.sound m.tests f.identifiers f.finished
           own.kinds m.some;
@@ -288,7 +289,8 @@ column-of version kind at (r ∷ rs) have h used =
     let s2 = bind-was (each (encoding_test r.encoding) (r ∷ rs)) _ tt s1.2 in
     let s3 = bind-was (each (parts_test (format_test (index_version_of r.encoding.version)))
     (r ∷ rs)) _ tt s2.2 in
-    rw (← have 0 r (omega arith)) (column-in (index_version_of r.encoding.version) kind at (r ∷ rs) s3.1 used)
+    rw (← have 0 r (omega arith)) (column-in (index_version_of r.encoding.version) kind at
+    (r ∷ rs) s3.1 used)
 
 column-at : (kind : SectionKind) → counts_once kind ≡ false
     → slice_get contribution_kinds (rank_of kind) ≡ Some kind

@@ -1,5 +1,5 @@
--- The sections of a written package are taken as parts, or refused with an error of some sort, where
--- its string offsets are.
+-- The sections of a written package are taken as parts, or refused with an error of some sort,
+-- where its string offsets are.
 use Rattle.std.proofs.Common.{subst, not, Ok, ◌≡◌, ℕ, ◌<◌, Bool, true, eqb, List, [], ◌∷◌, ◌++◌}
 use Rattle.std.proofs.Common.{length, refl, sym, ap, arith}
 use Rattle.std.proofs.Math.Bool.{and-false}

@@ -1,6 +1,7 @@
 -- The units of each section of a written package are taken: no section of units comes twice.
 use Rattle.std.proofs.Common.{◌≡◌, ◌∙◌, ℕ, ◌<◌, Bool, true, false, cond, eqb, ◌&&◌, List, []}
-use Rattle.std.proofs.Common.{◌∷◌, length, refl, sym, ap, subst, Result, Ok, Err, Option, Some, None}
+use Rattle.std.proofs.Common.{◌∷◌, length, refl, sym, ap, subst, Result, Ok, Err, Option, Some}
+use Rattle.std.proofs.Common.{None}
 use Rattle.std.proofs.Common.{arith, true≢false}
 use Rattle.std.proofs.lemmas.Bool.{eqb-false}
 use Rattle.dwp_base.specs.Reading.{◌>>=◌}
@@ -167,7 +168,8 @@ module _ (is_new : Bool) (add : Adding) (contents : Contents) (rows : List Index
           cs) (free place h)
 
       placed : (place : Option UnitSection) → unit_section c.0 ≡ place → 0 < length c.1
-          → Later cs → Fares is_new Done (with_section_in add (section_of c) place before >>= λ next.
+          → Later cs → Fares is_new Done (with_section_in add (section_of c) place
+          before >>= λ next.
           with_each_section add next (written_used cs))
       placed None e some later = later before rest-free opened
       placed (Some place) e some later =

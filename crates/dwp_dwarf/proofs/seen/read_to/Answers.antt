@@ -7,7 +7,8 @@ use Rattle.dwp_dwarf.proofs.seen.read_to.Goals as goal
 pub returns-in_err-found : goal.returns-in_err-found
 returns-in_err-found g c =
     let p = err_from_is_err_and c.from_residual.result c.from_residual.ensures.1 in
-    rw (p.1, p.2) (sym c.loop-found.invariant ∙ look_up-error c.args.code _ _ c.in_err-found.ensures)
+    rw (p.1, p.2) (sym c.loop-found.invariant ∙ look_up-error c.args.code _ _
+    c.in_err-found.ensures)
 
 pub returns-then-code-found : goal.returns-then-code-found
 returns-then-code-found g c =
@@ -22,7 +23,8 @@ loop-found-smaller g c =
 pub loop-found-preserved : goal.loop-found-preserved
 loop-found-preserved g c =
     let read = rw c.in-Some.is at c.in_ok-found.ensures in
-    sym (look_up-other c.args.code _ _ read (λ e. c.if-code-found.false (sym e))) ∙ c.loop-found.invariant
+    sym (look_up-other c.args.code _ _ read (λ e. c.if-code-found.false (sym e))) ∙
+    c.loop-found.invariant
 
 pub returns : goal.returns
 returns g c =

@@ -7,25 +7,30 @@ use Rattle.dwp_elf.proofs.contents.move_to.Goals as goal
 pub returns-in_err-extend_from_slice-in-Some-clause-unchanged :
     goal.returns-in_err-extend_from_slice-in-Some-clause-unchanged
 returns-in_err-extend_from_slice-in-Some-clause-unchanged c =
-    rw (err_from_is_err_and c.from_residual.result c.from_residual.ensures.1).1 (contents_of-set_same _ _ _ _ c.index_mut-section.ensures.value refl
+    rw (err_from_is_err_and c.from_residual.result c.from_residual.ensures.1).1
+    (contents_of-set_same _ _ _ _ c.index_mut-section.ensures.value refl
     c.in_err-extend_from_slice-in-Some.ensures.items)
 
 pub returns-in_ok-extend_from_slice-in-Some-clause-contents :
     goal.returns-in_ok-extend_from_slice-in-Some-clause-contents
 returns-in_ok-extend_from_slice-in-Some-clause-contents c =
-    appended-first _ _ _ _ _ _ (rw c.deref.ensures.value at c.in-Some.ensures) c.index_mut-section.ensures.value refl
+    appended-first _ _ _ _ _ _ (rw c.deref.ensures.value at c.in-Some.ensures)
+    c.index_mut-section.ensures.value refl
     (rw c.deref-in-Some.ensures.value at c.in_ok-extend_from_slice-in-Some.ensures.items)
 
 pub returns-in_ok-extend_from_slice-in-Some-clause-place :
     goal.returns-in_ok-extend_from_slice-in-Some-clause-place
 returns-in_ok-extend_from_slice-in-Some-clause-place c =
-    let content = ap length (content_of-first _ _ _ _ (rw c.deref.ensures.value at c.in-Some.ensures) c.index_mut-section.ensures.value) in
+    let content = ap length (content_of-first _ _ _ _ (rw c.deref.ensures.value at
+    c.in-Some.ensures) c.index_mut-section.ensures.value) in
     omega (arith, content, c.index_mut-section.result.now.1.ok.0, c.len-place.ensures)
 
 pub returns-in_ok-push-in-None-clause-contents : goal.returns-in_ok-push-in-None-clause-contents
 returns-in_ok-push-in-None-clause-contents c =
-    rw c.in_ok-push-in-None.ensures.items (appended-absent _ _ _ _ (rw c.deref.ensures.value at c.in-None.ensures) refl refl)
+    rw c.in_ok-push-in-None.ensures.items (appended-absent _ _ _ _ (rw c.deref.ensures.value at
+    c.in-None.ensures) refl refl)
 
 pub returns-in_ok-push-in-None-clause-place : goal.returns-in_ok-push-in-None-clause-place
 returns-in_ok-push-in-None-clause-place c =
-    ap length (sym (content_of-absent c.args.kind c.args.sections.now.items (rw c.deref.ensures.value at c.in-None.ensures)))
+    ap length (sym (content_of-absent c.args.kind c.args.sections.now.items
+    (rw c.deref.ensures.value at c.in-None.ensures)))

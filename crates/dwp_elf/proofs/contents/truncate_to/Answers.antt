@@ -6,7 +6,8 @@ pub loop-number-preserved : goal.loop-number-preserved
 loop-number-preserved c =
     let now = c.loop-number.invariant in
     record {
-      cut_so_far = cut_more _ _ _ _ _ _ now.cut_so_far c.index_mut-section.ensures.value refl c.truncate-in-loop-number.ensures.items;
+      cut_so_far = cut_more _ _ _ _ _ _ now.cut_so_far c.index_mut-section.ensures.value refl
+          c.truncate-in-loop-number.ensures.items;
       as_many = length-set _ _ _ ∙ now.as_many;
       as_many_at_first = now.as_many_at_first;
       sized = now.sized;

@@ -7,7 +7,8 @@ use Rattle.dwp_elf.proofs.output.write_name_table.Goals as goal
 
 pub returns-in_err-write_names-clause-text : goal.returns-in_err-write_names-clause-text
 returns-in_err-write_names-clause-text g c =
-    failed _ _ c.from_residual-in_err-write_names.ensures.1 (part_after (0 ∷ []) c.in_ok-write_whole.ensures.text
+    failed _ _ c.from_residual-in_err-write_names.ensures.1
+    (part_after (0 ∷ []) c.in_ok-write_whole.ensures.text
     (part_before (codes ".shstrtab" ++ 0 ∷ []) c.in_err-write_names.ensures.text))
 
 pub returns-clause-text : goal.returns-clause-text

@@ -24,7 +24,8 @@ loop-i-preserved g c =
     let before = c.loop-i.invariant in
     record {
       table = rw more (placed.table ids before.table (omega (arith, count)) (omega arith));
-      looked = rw (more, c.in_ok-push.ensures.items) (looked_more ids c.loop-i.slots c.place_row.new.slots
+      looked = rw (more, c.in_ok-push.ensures.items) (looked_more ids c.loop-i.slots
+          c.place_row.new.slots
           c.loop-i.looked.items c.index.result c.unwrap.result placed.kept
           (rw count (rw c.unwrap.ensures at (placed.last ids before.table
           (omega (arith, count))))) (rw c.unwrap.ensures at (placed.count ids before.table))

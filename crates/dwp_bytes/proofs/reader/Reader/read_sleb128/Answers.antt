@@ -18,12 +18,18 @@ returns-in_err-byte g c =
 pub overflow_cast-result : goal.overflow_cast-result
 overflow_cast-result g c =
     let far = c.loop.invariant.1 in
-    omega (arith, ints, seven_more _ _ _ c.from.result far.scaled c.loop-test.true far.below (omega arith))
+    omega (
+      arith,
+      ints,
+      seven_more _ _ _ c.from.result far.scaled c.loop-test.true
+          far.below (omega arith),
+    )
 
 pub returns-then-byte-lt64 : goal.returns-then-byte-lt64
 returns-then-byte-lt64 g c =
     let far = c.loop.invariant.1 in
-    let m = seven_more _ _ _ c.in_ok-byte.byte far.scaled c.loop-test.true far.below (omega arith) in
+    let m = seven_more _ _ _ c.in_ok-byte.byte far.scaled c.loop-test.true far.below
+    (omega arith) in
     rw c.from.ensures (renamed _ _ _ _ (sleb_low _ _ _ _ _ _ _ far (omega arith)
     c.in_ok-byte.ensures c.if-byte-lt64.true m) (cast_low _ m))
 
@@ -35,12 +41,22 @@ overflow_cast-result-then-byte-lt128 g c =
 pub overflow_cast-result-then-byte-lt128-2 : goal.overflow_cast-result-then-byte-lt128-2
 overflow_cast-result-then-byte-lt128-2 g c =
     let far = c.loop.invariant.1 in
-    omega (arith, ints, seven_more _ _ _ c.from-then-byte-lt128.result far.scaled c.loop-test.true far.below (omega arith))
+    omega (
+      arith,
+      ints,
+      seven_more _ _ _ c.from-then-byte-lt128.result far.scaled c.loop-test.true
+          far.below (omega arith),
+    )
 
 pub overflow_sub-result : goal.overflow_sub-result
 overflow_sub-result g c =
     let far = c.loop.invariant.1 in
-    omega (arith, ints, seven_more _ _ _ c.from-then-byte-lt128.result far.scaled c.loop-test.true far.below (omega arith))
+    omega (
+      arith,
+      ints,
+      seven_more _ _ _ c.from-then-byte-lt128.result far.scaled c.loop-test.true
+          far.below (omega arith),
+    )
 
 pub returns-then-byte-lt128 : goal.returns-then-byte-lt128
 returns-then-byte-lt128 g c =

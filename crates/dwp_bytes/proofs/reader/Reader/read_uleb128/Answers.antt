@@ -16,7 +16,8 @@ returns-in_err-byte g c =
 pub returns-then-byte-lt128 : goal.returns-then-byte-lt128
 returns-then-byte-lt128 g c =
     let far = c.loop.invariant.1 in
-    let m = seven_more _ _ _ c.in_ok-byte.byte far.scaled c.loop-test.true far.below (omega arith) in
+    let m = seven_more _ _ _ c.in_ok-byte.byte far.scaled c.loop-test.true far.below
+    (omega arith) in
     rw c.from.ensures (uleb_ends _ _ _ _ _ _ _ far (omega arith) c.in_ok-byte.ensures (omega arith)
     (omega (arith, m)))
 

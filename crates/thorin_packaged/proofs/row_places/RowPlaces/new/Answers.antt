@@ -30,7 +30,8 @@ loop-number-preserved c =
 pub invariant_of-result : goal.invariant_of-result
 invariant_of-result c = elim c.match-index.branch [
   | in-Some+else-loop-number-test w ↦ record {
-    each = rw (w.rows-is, ap option_copied w.in-Some.is) (of_some w.loop-number.rows w.in-Some.index.now c.args.section w.loop-number.number
+    each = rw (w.rows-is, ap option_copied w.in-Some.is) (of_some w.loop-number.rows
+        w.in-Some.index.now c.args.section w.loop-number.number
         w.loop-number.invariant
         (omega (arith, w.loop-number-test.false)));
   }
