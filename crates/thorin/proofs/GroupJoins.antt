@@ -1,11 +1,12 @@
 -- Joining in groups: joining what groups joined is joining all of them.
 use Rattle.std.proofs.Common.{◌≡◌, ◌∙◌, Bool, true, false, not, cond, ◌||◌, ◌&&◌, List, [], ◌∷◌}
-use Rattle.std.proofs.Common.{◌++◌, filter, true≢false, ap, ap₂, sym, subst, refl}
+use Rattle.std.proofs.Common.{◌++◌, filter, true≢false, ap, ap₂, sym, refl}
 use Rattle.std.proofs.Common.{append_assoc, append-nil}
 use Rattle.std.specs.Cmp.{IsEquivalence}
 use Rattle.std.specs.List.{IsDistinct, AllByRecursion, list_any, flat_map}
 use Rattle.std.specs.List.Sorted.{IsPermutation}
-use Rattle.std.proofs.lemmas.List.Folds.{list_any-append}
+use Rattle.std.proofs.lemmas.List.Folds.{list_any-append, list_any_at, Any-from_list_any}
+use Rattle.std.proofs.Math.Bool.{or-false, and_assoc}
 use Rattle.std.proofs.lemmas.List.Sorted.{IsPermutation-refl, IsPermutation-append}
 use Rattle.std.proofs.lemmas.List.Sorted.{IsPermutation-map, list_any-IsPermutation}
 use Rattle.std.proofs.lemmas.Map.Keys.{IsDistinct-IsPermutation, IsDistinct-push}
@@ -23,12 +24,12 @@ both true b f g = sym (f refl)
 both false true f g = g refl
 both false false f g = refl
 
-same-flips : (a b : DwarfObject) → same_name a b ≡ same_name b a
+pub same-flips : (a b : DwarfObject) → same_name a b ≡ same_name b a
 same-flips a b = both (same_name a b) (same_name b a) (λ h.
     same_name-equal b a (sym (same_name-true a b h)))
     (λ h. same_name-equal a b (sym (same_name-true b a h)))
 
-names-equal : IsEquivalence same_name
+pub names-equal : IsEquivalence same_name
 names-equal = record {
   refl = same_name-self;
   symm = same-flips;
@@ -47,27 +48,13 @@ alike-more : (a b : List DwarfObject) (name : DwarfObject) → Alike a b → Ali
     (b ++ name ∷ [])
 alike-more a b name h = alike-append a b (name ∷ []) (name ∷ []) h (λ test. refl)
 
-or-true : (a : Bool) → (a || true) ≡ true
-or-true true = refl
-or-true false = refl
-
-or-false : (a : Bool) → (a || false) ≡ a
-or-false true = refl
-or-false false = refl
-
 -- a test that a name passes is passed where the name is
 passed-there : (names : List DwarfObject) (name : DwarfObject) (test : DwarfObject → Bool)
     → list_any (same_name name) names ≡ true → test name ≡ true → list_any test names ≡ true
-passed-there [] name test h k = absurd (true≢false (sym h))
-passed-there (n ∷ ns) name test h k = by (same_name name n) refl h (λ later.
-    passed-there ns name test later k)
-  where
-    by : (b : Bool) → same_name name n ≡ b → (b || list_any (same_name name) ns) ≡ true
-        → (list_any (same_name name) ns ≡ true → list_any test ns ≡ true)
-        → (test n || list_any test ns) ≡ true
-    by true e h later = ap (λ t. t || list_any test ns)
-        (ap test (sym (same_name-true name n e)) ∙ k)
-    by false e h later = ap (λ t. test n || t) (later h) ∙ or-true (test n)
+passed-there names name test there passes =
+    let any = Any-from_list_any (same_name name) names there in
+    list_any_at test names any.0 any.1 any.2
+    (rw (any.3, ← same_name-true name any.1 any.4) passes)
 
 -- a name that is there changes nothing
 alike-known : (names : List DwarfObject) (name : DwarfObject) → list_any (same_name name) names ≡
@@ -77,10 +64,8 @@ alike-known names name h = λ test. by test (test name) refl ∙ sym
   where
     by : (test : DwarfObject → Bool) (b : Bool) → test name ≡ b → list_any test names ≡
         (list_any test names || (test name || false))
-    by test true e = passed-there names name test h e ∙ sym
-        (ap (λ t. list_any test names || (t || false)) e ∙ or-true (list_any test names))
-    by test false e = sym (ap (λ t. list_any test names || (t || false)) e ∙ or-false
-        (list_any test names))
+    by test true e = rw (e, passed-there names name test h e) refl
+    by test false e = rw (e, or-false) refl
 
 joining-alike : {X : Type 0} (a b : List DwarfObject) (us : List (DwarfObject × X)) → Alike a b
     → joining a us ≡ joining b us
@@ -123,13 +108,8 @@ joining-new {X} names more (u ∷ us) =
         alike-known (names ++ more) u.0 (list_any-append (same_name u.0) names more ∙ ap (λ t.
         t || list_any (same_name u.0) more) e) test ∙ ap (list_any test)
         (append_assoc names more (u.0 ∷ [])))
-        ∙ there
-        ∙ sym (ap (λ t. cond (not t) (u ∷ filter (is_new names) (joining (more ++ u.0 ∷ []) us))
-        (filter (is_new names) (joining (more ++ u.0 ∷ []) us))) e)
-    by false false e here there =
-        ap (λ l. u ∷ l) (ap (λ n. joining n us) (append_assoc names more (u.0 ∷ [])) ∙ there)
-        ∙ sym (ap (λ t. cond (not t) (u ∷ filter (is_new names) (joining (more ++ u.0 ∷ []) us))
-        (filter (is_new names) (joining (more ++ u.0 ∷ []) us))) e)
+        ∙ there ∙ rw e refl
+    by false false e here there = rw (append_assoc names more (u.0 ∷ []), there, e) refl
 
 abbrev clashes : List DwarfObject → DwarfObject → Bool
 clashes names name = is_compilation name && list_any (same_name name) names
@@ -177,86 +157,71 @@ can_join-new {X} names more (u ∷ us) h =
 names-joined : {X : Type 0} (names : List DwarfObject) (us : List (DwarfObject × X))
     → Alike (names ++ keys (joining names us)) (names ++ keys us)
 names-joined names [] = λ test. refl
-names-joined {X} names (u ∷ us) = by (list_any (same_name u.0) names) refl (names-joined names us)
-    (names-joined (names ++ u.0 ∷ []) us)
-  where
-    by : (b : Bool) → list_any (same_name u.0) names ≡ b
-        → Alike (names ++ keys (joining names us)) (names ++ keys us)
-        → Alike ((names ++ u.0 ∷ []) ++ keys (joining (names ++ u.0 ∷ []) us))
-        ((names ++ u.0 ∷ []) ++ keys us)
-        → Alike (names ++ keys (cond b (joining names us) (u ∷ joining (names ++ u.0 ∷ []) us)))
-        (names ++ u.0 ∷ keys us)
-    by true e here there = λ test.
-        here test
-        ∙ alike-append names (names ++ u.0 ∷ []) (keys us) (keys us) (alike-known names u.0 e)
-        (λ t. refl) test
-        ∙ ap (list_any test) (append_assoc names (u.0 ∷ []) (keys us))
-    by false e here there = λ test.
-        ap (list_any test) (sym (append_assoc names (u.0 ∷ [])
-        (keys (joining (names ++ u.0 ∷ []) us))))
-        ∙ there test
-        ∙ ap (list_any test) (append_assoc names (u.0 ∷ []) (keys us))
+names-joined {X} names (u ∷ us) =
+    let more = names ++ u.0 ∷ [] in
+    (elim (list_any (same_name u.0) names) as (λ b. list_any (same_name u.0) names ≡ b
+    → Alike (names ++ keys (cond b (joining names us) (u ∷ joining more us)))
+    (names ++ u.0 ∷ keys us)) [
+      | true ↦ λ e test. names-joined names us test
+          ∙ alike-append names more (keys us) (keys us) (alike-known names u.0 e) (λ t. refl) test
+          ∙ ap (list_any test) (append_assoc names (u.0 ∷ []) (keys us))
+      | false ↦ λ e test. ap (list_any test) (sym (append_assoc names (u.0 ∷ [])
+          (keys (joining more us))))
+          ∙ names-joined more us test
+          ∙ ap (list_any test) (append_assoc names (u.0 ∷ []) (keys us))
+    ]) refl
 
 -- more units are joined to the names of those before them, too
 pub joining-append : {X : Type 0} (names : List DwarfObject) (us vs : List (DwarfObject × X))
     → joining names (us ++ vs) ≡ joining names us ++ joining (names ++ keys (joining names us)) vs
 joining-append names [] vs = ap (λ n. joining n vs) (sym (append-nil names))
-joining-append {X} names (u ∷ us) vs = by (list_any (same_name u.0) names) (joining-append names us
-    vs) (joining-append (names ++ u.0 ∷ []) us vs)
-  where
-    by : (b : Bool)
-        → joining names (us ++ vs) ≡ joining names us ++ joining
-        (names ++ keys (joining names us)) vs
-        → joining (names ++ u.0 ∷ []) (us ++ vs) ≡ joining (names ++ u.0 ∷ []) us ++ joining
-        ((names ++ u.0 ∷ []) ++ keys (joining (names ++ u.0 ∷ []) us)) vs
-        → cond b (joining names (us ++ vs)) (u ∷ joining (names ++ u.0 ∷ []) (us ++ vs))
-        ≡ cond b (joining names us) (u ∷ joining (names ++ u.0 ∷ []) us) ++ joining
-        (names ++ keys (cond b (joining names us) (u ∷ joining (names ++ u.0 ∷ []) us))) vs
-    by true here there = here
-    by false here there = ap (λ l. u ∷ l) (there ∙ ap (λ n. joining (names ++ u.0 ∷ []) us ++
-        joining n vs) (append_assoc names (u.0 ∷ []) (keys (joining (names ++ u.0 ∷ []) us))))
+joining-append {X} names (u ∷ us) vs =
+    let more = names ++ u.0 ∷ [] in
+    elim (list_any (same_name u.0) names) as (λ b.
+    cond b (joining names (us ++ vs)) (u ∷ joining more (us ++ vs))
+    ≡ cond b (joining names us) (u ∷ joining more us)
+    ++ joining (names ++ keys (cond b (joining names us) (u ∷ joining more us))) vs) [
+      | true ↦ joining-append names us vs
+      | false ↦ rw (
+        joining-append more us vs,
+        append_assoc names (u.0 ∷ [])
+            (keys (joining more us)),
+      ) refl
+    ]
 
 -- a list can be joined where its front can, and then what follows
 pub can_join-append : {X : Type 0} (names : List DwarfObject) (us vs : List (DwarfObject × X))
     → can_join names (us ++ vs) ≡ (can_join names us && can_join
     (names ++ keys (joining names us)) vs)
 can_join-append names [] vs = ap (λ n. can_join n vs) (sym (append-nil names))
-can_join-append {X} names (u ∷ us) vs = by (list_any (same_name u.0) names)
-    (not (is_compilation u.0)) (can_join-append names us vs)
-    (can_join-append (names ++ u.0 ∷ []) us vs)
-  where
-    by : (b c : Bool)
-        → can_join names (us ++ vs) ≡ (can_join names us && can_join
-        (names ++ keys (joining names us)) vs)
-        → can_join (names ++ u.0 ∷ []) (us ++ vs) ≡ (can_join (names ++ u.0 ∷ []) us && can_join
-        ((names ++ u.0 ∷ []) ++ keys (joining (names ++ u.0 ∷ []) us)) vs)
-        → cond b (c && can_join names (us ++ vs)) (can_join (names ++ u.0 ∷ []) (us ++ vs))
-        ≡ (cond b (c && can_join names us) (can_join (names ++ u.0 ∷ []) us) && can_join
-        (names ++ keys (cond b (joining names us) (u ∷ joining (names ++ u.0 ∷ []) us))) vs)
-    by true true here there = here
-    by true false here there = refl
-    by false c here there = there ∙ ap (λ n. can_join (names ++ u.0 ∷ []) us && can_join n vs)
-        (append_assoc names (u.0 ∷ []) (keys (joining (names ++ u.0 ∷ []) us)))
+can_join-append {X} names (u ∷ us) vs =
+    let more = names ++ u.0 ∷ [] in
+    elim (list_any (same_name u.0) names) as (λ b.
+    cond b (not (is_compilation u.0) && can_join names (us ++ vs)) (can_join more (us ++ vs))
+    ≡ (cond b (not (is_compilation u.0) && can_join names us) (can_join more us) && can_join
+    (names ++ keys (cond b (joining names us) (u ∷ joining more us))) vs)) [
+      | true ↦ rw (can_join-append names us vs)
+          (sym (and_assoc (not (is_compilation u.0)) (can_join names us) _))
+      | false ↦ rw (
+        can_join-append more us vs,
+        append_assoc names (u.0 ∷ [])
+            (keys (joining more us)),
+      ) refl
+    ]
 
 -- ---- lists without a name twice
 
 pub joined-distinct : {X : Type 0} (names : List DwarfObject) (us : List (DwarfObject × X))
     → IsDistinct same_name names → IsDistinct same_name (names ++ keys (joining names us))
-joined-distinct names [] h = subst (IsDistinct same_name) (sym (append-nil names)) h
-joined-distinct {X} names (u ∷ us) h = by (list_any (same_name u.0) names) refl
-    (joined-distinct names us h) (joined-distinct (names ++ u.0 ∷ []) us)
-  where
-    by : (b : Bool) → list_any (same_name u.0) names ≡ b
-        → IsDistinct same_name (names ++ keys (joining names us))
-        → (IsDistinct same_name (names ++ u.0 ∷ []) → IsDistinct same_name ((names ++ u.0 ∷ []) ++
-        keys (joining (names ++ u.0 ∷ []) us)))
-        → IsDistinct same_name
-        (names ++ keys (cond b (joining names us) (u ∷ joining (names ++ u.0 ∷ []) us)))
-    by true e here there = here
-    by false e here there =
-        subst (IsDistinct same_name) (append_assoc names (u.0 ∷ [])
-        (keys (joining (names ++ u.0 ∷ []) us)))
-        (there (IsDistinct-push names-equal names u.0 h e))
+joined-distinct names [] h = rw (append-nil names) h
+joined-distinct {X} names (u ∷ us) h =
+    let more = names ++ u.0 ∷ [] in
+    (elim (list_any (same_name u.0) names) as (λ b. list_any (same_name u.0) names ≡ b
+    → IsDistinct same_name (names ++ keys (cond b (joining names us) (u ∷ joining more us)))) [
+      | true ↦ λ e. joined-distinct names us h
+      | false ↦ λ e. rw (← append_assoc names (u.0 ∷ []) (keys (joining more us)))
+          (joined-distinct more us (IsDistinct-push names-equal names u.0 h e))
+    ]) refl
 
 -- a name that comes later isn't among those before
 not-before : (names : List DwarfObject) (name : DwarfObject) (rest : List DwarfObject)
@@ -275,19 +240,18 @@ joining-distinct : {X : Type 0} (names : List DwarfObject) (us : List (DwarfObje
     → IsDistinct same_name (names ++ keys us) → joining names us ≡ us
 joining-distinct names [] h = refl
 joining-distinct names (u ∷ us) h =
-    ap (λ b. cond b (joining names us) (u ∷ joining (names ++ u.0 ∷ []) us))
-    (not-before names u.0 (keys us) h)
-    ∙ ap (λ l. u ∷ l) (joining-distinct (names ++ u.0 ∷ []) us (subst (IsDistinct same_name)
-    (sym (append_assoc names (u.0 ∷ []) (keys us))) h))
+    rw (
+      not-before names u.0 (keys us) h,
+      joining-distinct (names ++ u.0 ∷ []) us
+          (rw (append_assoc names (u.0 ∷ []) (keys us)) h),
+    ) refl
 
 can_join-distinct : {X : Type 0} (names : List DwarfObject) (us : List (DwarfObject × X))
     → IsDistinct same_name (names ++ keys us) → can_join names us ≡ true
 can_join-distinct names [] h = refl
 can_join-distinct names (u ∷ us) h =
-    ap (λ b. cond b (not (is_compilation u.0) && can_join names us) (can_join (names ++ u.0 ∷ [])
-    us)) (not-before names u.0 (keys us) h)
-    ∙ can_join-distinct (names ++ u.0 ∷ []) us (subst (IsDistinct same_name)
-    (sym (append_assoc names (u.0 ∷ []) (keys us))) h)
+    rw (not-before names u.0 (keys us) h) (can_join-distinct (names ++ u.0 ∷ []) us
+    (rw (append_assoc names (u.0 ∷ []) (keys us)) h))
 
 pub none-distinct : IsDistinct same_name []
 unfolding IsDistinct
@@ -321,13 +285,11 @@ adds-same {X} names others group result h same =
     ap (λ n. joining n group) (sym (append-nil names)) ∙ joining-new names [] group in
     let whole : joining [] result ≡ result = joining-distinct [] result
     (result-same group result same).apart in
-    let right : joining others result ≡ filter (is_new names) result =
-    ap (λ n. joining n result) (sym (append-nil others)) ∙ joining-new others [] result ∙ ap
-    (filter (is_new others)) whole ∙ sym (λ i. filter (λ (u : DwarfObject × X).
-    not (h (same_name u.0) i)) result) in
-    subst (λ l. IsPermutation (joining names group) l) (sym right)
-    (subst (λ l. IsPermutation l (filter (is_new names) result)) (sym left)
-    (IsPermutation-filter (is_new names) (joining [] group) result same))
+    let right : joining names result ≡ filter (is_new names) result =
+    ap (λ n. joining n result) (sym (append-nil names)) ∙ joining-new names [] result
+    ∙ ap (filter (is_new names)) whole in
+    rw (← joining-alike names others result h, left, right)
+    (IsPermutation-filter (is_new names) (joining [] group) result same)
 
 can-same : {X : Type 0} (names others : List DwarfObject) (group result : List (DwarfObject × X))
     → Alike names others → can_join [] group ≡ true → IsPermutation (joining [] group) result
@@ -368,17 +330,14 @@ groups-same {X} names others (g ∷ gs) (r ∷ rs) h are =
     let later = groups-same (names ++ keys (joining names g)) (others ++ keys (joining others r)) gs
     rs (names-after names others g r h are.1) are.2 in
     record {
-      defined = can_join-append names g all ∙ ap₂ (λ a b. a && b) (can-same names others g r h are.0
-          are.1) later.defined ∙ sym (can_join-append others r results);
-      joined =
-          subst (λ l. IsPermutation l (joining others (r ++ results)))
-          (sym (joining-append names g all))
-          (subst (λ l. IsPermutation (joining names g ++ joining (names ++ keys (joining names g))
-          all) l) (sym (joining-append others r results))
-          (IsPermutation-append (joining names g) (joining others r)
-          (joining (names ++ keys (joining names g)) all)
-          (joining (others ++ keys (joining others r)) results) (adds-same names others g r h
-          are.1) later.joined));
+      defined = rw (
+        can_join-append names g all,
+        can_join-append others r results,
+        can-same names others g r h are.0 are.1,
+        later.defined,
+      ) refl;
+      joined = rw (joining-append names g all, joining-append others r results)
+          (IsPermutation-append _ _ _ _ (adds-same names others g r h are.1) later.joined);
     }
 
 pub groups-defined : {X : Type 0} (groups results : List (List (DwarfObject × X)))
