@@ -242,39 +242,28 @@ module _ (adding : Adding) where
       more-reads before here.0 after (Ok (one.0 ∷ [])) (named_each adding.source from.kind rest) _
       first others (rw (one.1, others.is) refl)
 
-  section_at-reads : (from : Used) (place : UnitSection) (before after : Met × New)
-      → with_section_at adding from place before ≡ Ok after
-      → Reads before.1 after.1 (named_at adding.source from (Some place))
+  section-reads : (from : Used) (place : Option UnitSection) (before after : Met × New)
+      → with_section_in adding from place before ≡ Ok after
+      → Reads before.1 after.1 (named_at adding.source from place)
   unfolding with_section_at
-  section_at-reads from place before after h =
+  section-reads from None before after h = none-reads before.1 after.1
+      (ap (λ (m : Met × New). m.1) (same-ok before after h))
+  section-reads from (Some place) before after h =
       let s1 = bind-was (once_test adding place before.0) _ after h in
       let list = units place (section adding.source.object.order from.bytes) in
       let s2 = bind-was (with_each_read adding from before.1 list) _ after s1.2 in
       rw (← same-ok (with_met place before.0, s2.0) after s2.2)
       (each-reads from before.1 s2.0 list s2.1)
 
-  section_in-reads : (from : Used) (place : Option UnitSection) (before after : Met × New)
-      → with_section_in adding from place before ≡ Ok after
-      → Reads before.1 after.1 (named_at adding.source from place)
-  section_in-reads from None before after h = none-reads before.1 after.1
-      (ap (λ (m : Met × New). m.1) (same-ok before after h))
-  section_in-reads from (Some place) before after h = section_at-reads from place before after h
-
-  section-reads : (from : Used) (before after : Met × New)
-      → with_section adding before from ≡ Ok after
-      → Reads before.1 after.1 (named_at adding.source from (unit_section from.kind))
-  unfolding with_section
-  section-reads from before after h = section_in-reads from (unit_section from.kind) before after h
-
   sections-reads : (before after : Met × New) (sections : List Used)
       → with_each_section adding before sections ≡ Ok after
       → Reads before.1 after.1 (named_sections adding.source sections)
-  unfolding with_each_section named_sections
+  unfolding with_each_section with_section named_sections
   sections-reads before after [] h = none-reads before.1 after.1
       (ap (λ (m : Met × New). m.1) (same-ok before after h))
   sections-reads before after (from ∷ rest) h =
       let here = bind-was (with_section adding before from) _ after h in
-      let one = section-reads from before here.0 here.1 in
+      let one = section-reads from (unit_section from.kind) before here.0 here.1 in
       let others = sections-reads here.0 after rest here.2 in
       more-reads before.1 here.0.1 after.1 (named_at adding.source from (unit_section from.kind))
       (named_sections adding.source rest) _ one others (rw (one.is, others.is) refl)

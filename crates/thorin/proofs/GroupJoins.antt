@@ -10,6 +10,7 @@ use Rattle.std.proofs.Math.Bool.{or-false, and_assoc}
 use Rattle.std.proofs.lemmas.List.Sorted.{IsPermutation-refl, IsPermutation-append}
 use Rattle.std.proofs.lemmas.List.Sorted.{IsPermutation-map, list_any-IsPermutation}
 use Rattle.std.proofs.lemmas.Map.Keys.{IsDistinct-IsPermutation, IsDistinct-push}
+use Rattle.dwp_base.proofs.Bools.{by-bool}
 use Rattle.dwp_table.specs.declared.object.DwarfObject.{DwarfObject}
 use Rattle.thorin.specs.Groups.{AreJoined}
 use Rattle.thorin_join.specs.Meaning.{keys, joining, can_join}
@@ -59,13 +60,10 @@ passed-there names name test there passes =
 -- a name that is there changes nothing
 alike-known : (names : List DwarfObject) (name : DwarfObject) → list_any (same_name name) names ≡
     true → Alike names (names ++ name ∷ [])
-alike-known names name h = λ test. by test (test name) refl ∙ sym
-    (list_any-append test names (name ∷ []))
-  where
-    by : (test : DwarfObject → Bool) (b : Bool) → test name ≡ b → list_any test names ≡
-        (list_any test names || (test name || false))
-    by test true e = rw (e, passed-there names name test h e) refl
-    by test false e = rw (e, or-false) refl
+alike-known names name h test =
+    let more = list_any-append test names (name ∷ []) in
+    by-bool _ (test name) (λ e. rw (more, e, passed-there names name test h e) refl)
+    (λ e. rw (more, e, or-false) refl)
 
 joining-alike : {X : Type 0} (a b : List DwarfObject) (us : List (DwarfObject × X)) → Alike a b
     → joining a us ≡ joining b us

@@ -11,7 +11,7 @@ use Rattle.dwp_base.specs.Reading.{◌>>=◌}
 use Rattle.dwp_base.specs.Sections.{name_of, compressed_name_of, is_named, all_kinds, rank_of}
 use Rattle.dwp_base.specs.Sections.{same_kind}
 use Rattle.dwp_base.specs.declared.section.SectionKind.{SectionKind}
-use Rattle.dwp_base.proofs.Bools.{both}
+use Rattle.dwp_base.proofs.Bools.{both, by-bool}
 use Rattle.dwp_base.proofs.EveryKind.{at-rank, every-two, is-same, same-self}
 use Rattle.dwp_base.proofs.Steps.{bind-was, same-ok}
 use Rattle.dwp_elf_read.specs.Elf.{SectionMeaning}
@@ -37,12 +37,9 @@ no-other spelling all name j k e g =
 
 one-kind : (name : List ℕ) (j k : SectionKind) → is_named name j ≡ true → is_named name k ≡ true
     → k ≡ j
-one-kind name j k h g = by (bytes_eq name (name_of j)) refl
-  where
-    by : (b : Bool) → bytes_eq name (name_of j) ≡ b → k ≡ j
-    by true e = no-other name_of refl name j k e g
-    by false e = no-other compressed_name_of refl name j k
-        (sym (ap (λ b. b || bytes_eq name (compressed_name_of j)) e) ∙ h) g
+one-kind name j k h g = by-bool (k ≡ j) (bytes_eq name (name_of j))
+    (λ e. no-other name_of refl name j k e g)
+    (λ e. no-other compressed_name_of refl name j k (rw e at h) g)
 
 kinds-of : (name : Option (List ℕ)) (j k : SectionKind) → has_name j name ≡ true
     → has_name k name ≡ true → k ≡ j
