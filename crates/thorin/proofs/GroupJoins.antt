@@ -1,21 +1,21 @@
 -- Joining in groups: joining what groups joined is joining all of them.
 use Rattle.std.proofs.Common.{◌≡◌, ◌∙◌, Bool, true, false, not, cond, ◌||◌, ◌&&◌, List, [], ◌∷◌}
-use Rattle.std.proofs.Common.{◌++◌, filter, true≢false, ap, ap₂, sym, refl}
+use Rattle.std.proofs.Common.{◌++◌, filter, true≢false, ap, ap₂, sym, subst, refl}
 use Rattle.std.proofs.Common.{append_assoc, append-nil}
 use Rattle.std.specs.Cmp.{IsEquivalence}
 use Rattle.std.specs.List.{IsDistinct, AllByRecursion, list_any, flat_map}
 use Rattle.std.specs.List.Sorted.{IsPermutation}
 use Rattle.std.proofs.lemmas.List.Folds.{list_any-append, list_any_at, Any-from_list_any}
-use Rattle.std.proofs.Math.Bool.{or-false, and_assoc}
+use Rattle.std.proofs.Math.Bool.{or-false, or-true}
 use Rattle.std.proofs.lemmas.List.Sorted.{IsPermutation-refl, IsPermutation-append}
 use Rattle.std.proofs.lemmas.List.Sorted.{IsPermutation-map, list_any-IsPermutation}
 use Rattle.std.proofs.lemmas.Map.Keys.{IsDistinct-IsPermutation, IsDistinct-push}
-use Rattle.dwp_base.proofs.Bools.{by-bool}
 use Rattle.dwp_table.specs.declared.object.DwarfObject.{DwarfObject}
 use Rattle.thorin.specs.Groups.{AreJoined}
 use Rattle.thorin_join.specs.Meaning.{keys, joining, can_join}
 use Rattle.thorin_input.specs.Names.{same_name, is_compilation}
 use Rattle.thorin.proofs.Shuffled.{IsPermutation-filter}
+use Rattle.dwp_base.proofs.Bools.{by-bool}
 use Rattle.thorin_join.proofs.Units.NamesApart.{same_name-self, same_name-true, same_name-equal}
 
 -- ---- names
@@ -65,6 +65,13 @@ alike-known names name h test =
     by-bool _ (test name) (λ e. rw (more, e, passed-there names name test h e) refl)
     (λ e. rw (more, e, or-false) refl)
 
+-- nor behind others
+alike-behind : (names more : List DwarfObject) (name : DwarfObject)
+    → list_any (same_name name) names ≡ true → Alike (names ++ more) (names ++ (more ++ name ∷ []))
+alike-behind names more name known = λ test. alike-known (names ++ more) name
+    (rw (list_any-append (same_name name) names more, known) refl) test
+    ∙ ap (list_any test) (append_assoc names more (name ∷ []))
+
 joining-alike : {X : Type 0} (a b : List DwarfObject) (us : List (DwarfObject × X)) → Alike a b
     → joining a us ≡ joining b us
 joining-alike a b [] h = refl
@@ -87,30 +94,22 @@ is_new names u = not (list_any (same_name u.0) names)
 joining-new : {X : Type 0} (names more : List DwarfObject) (us : List (DwarfObject × X))
     → joining (names ++ more) us ≡ filter (is_new names) (joining more us)
 joining-new names more [] = refl
-joining-new {X} names more (u ∷ us) =
-    ap (λ b. cond b (joining (names ++ more) us) (u ∷ joining ((names ++ more) ++ u.0 ∷ []) us))
-    (list_any-append (same_name u.0) names more)
-    ∙ by (list_any (same_name u.0) names) (list_any (same_name u.0) more) refl
-    (joining-new names more us) (joining-new names (more ++ u.0 ∷ []) us)
-  where
-    by : (a b : Bool) → list_any (same_name u.0) names ≡ a
-        → joining (names ++ more) us ≡ filter (is_new names) (joining more us)
-        → joining (names ++ (more ++ u.0 ∷ [])) us ≡ filter (is_new names)
-        (joining (more ++ u.0 ∷ []) us)
-        → cond (a || b) (joining (names ++ more) us) (u ∷ joining ((names ++ more) ++ u.0 ∷ []) us)
-        ≡ filter (is_new names) (cond b (joining more us) (u ∷ joining (more ++ u.0 ∷ []) us))
-    by true true e here there = here
-    by false true e here there = here
-    by true false e here there =
-        joining-alike (names ++ more) (names ++ (more ++ u.0 ∷ [])) us (λ test.
-        alike-known (names ++ more) u.0 (list_any-append (same_name u.0) names more ∙ ap (λ t.
-        t || list_any (same_name u.0) more) e) test ∙ ap (list_any test)
-        (append_assoc names more (u.0 ∷ [])))
-        ∙ there ∙ rw e refl
-    by false false e here there = rw (append_assoc names more (u.0 ∷ []), there, e) refl
+joining-new names more (u ∷ us) = rw (list_any-append (same_name u.0) names more) (by-bool _
+    (list_any (same_name u.0) more)
+    (λ there. rw (there, or-true (list_any (same_name u.0) names)) (joining-new names more us))
+    (λ new. rw (new, or-false (list_any (same_name u.0) names)) (by-bool _
+    (list_any (same_name u.0) names)
+    (λ known. rw known (joining-alike (names ++ more) (names ++ (more ++ u.0 ∷ [])) us
+    (alike-behind names more u.0 known) ∙ joining-new names (more ++ u.0 ∷ []) us))
+    (λ fresh. rw fresh (ap (λ l. u ∷ l) (ap (λ n. joining n us) (append_assoc names more (u.0 ∷ []))
+    ∙ joining-new names (more ++ u.0 ∷ []) us))))))
 
 abbrev clashes : List DwarfObject → DwarfObject → Bool
 clashes names name = is_compilation name && list_any (same_name name) names
+
+-- whether there is none of these among some units
+abbrev Clashing : {X : Type 0} → List DwarfObject → List (DwarfObject × X) → Bool → Type 0
+Clashing names us b = b ≡ not (list_any (clashes names) (keys us))
 
 -- a list that can be joined can be joined to more names where none of its compilation units is
 -- there
@@ -118,108 +117,84 @@ can_join-new : {X : Type 0} (names more : List DwarfObject) (us : List (DwarfObj
     → can_join more us ≡ true → can_join (names ++ more) us ≡ not
     (list_any (clashes names) (keys us))
 can_join-new names more [] h = refl
-can_join-new {X} names more (u ∷ us) h =
-    ap (λ b. cond b (not (is_compilation u.0) && can_join (names ++ more) us)
-    (can_join ((names ++ more) ++ u.0 ∷ []) us)) (list_any-append (same_name u.0) names more)
-    ∙ by (list_any (same_name u.0) names) (list_any (same_name u.0) more) (is_compilation u.0) refl
-    h (can_join-new names more us) (can_join-new names (more ++ u.0 ∷ []) us)
+can_join-new names more (u ∷ us) h = rw (list_any-append (same_name u.0) names more)
+    (by (list_any (same_name u.0) names) (list_any (same_name u.0) more) (is_compilation u.0) refl h
+    (can_join-new names more us) (λ k. ap (λ n. can_join n us) (append_assoc names more (u.0 ∷ []))
+    ∙ can_join-new names (more ++ u.0 ∷ []) us k) (λ known k. can_join-alike (names ++ more)
+    (names ++ (more ++ u.0 ∷ [])) us (alike-behind names more u.0 known)
+    ∙ can_join-new names (more ++ u.0 ∷ []) us k))
   where
-    rest : Bool
-    rest = list_any (clashes names) (keys us)
-
     by : (a b c : Bool) → list_any (same_name u.0) names ≡ a
         → cond b (not c && can_join more us) (can_join (more ++ u.0 ∷ []) us) ≡ true
-        → (can_join more us ≡ true → can_join (names ++ more) us ≡ not
-        (list_any (clashes names) (keys us)))
-        → (can_join (more ++ u.0 ∷ []) us ≡ true → can_join (names ++ (more ++ u.0 ∷ [])) us ≡ not
-        (list_any (clashes names) (keys us)))
+        → (can_join more us ≡ true → Clashing names us (can_join (names ++ more) us))
+        → (can_join (more ++ u.0 ∷ []) us ≡ true
+        → Clashing names us (can_join ((names ++ more) ++ u.0 ∷ []) us))
+        → (list_any (same_name u.0) names ≡ true → can_join (more ++ u.0 ∷ []) us ≡ true
+        → Clashing names us (can_join (names ++ more) us))
         → cond (a || b) (not c && can_join (names ++ more) us)
-        (can_join ((names ++ more) ++ u.0 ∷ []) us) ≡ not
-        ((c && a) || list_any (clashes names) (keys us))
-    by a true true e h here there = absurd (true≢false (sym h))
-    by true true false e h here there = here h
-    by false true false e h here there = here h
-    by true false true e h here there = refl
-    by true false false e h here there =
-        can_join-alike (names ++ more) (names ++ (more ++ u.0 ∷ [])) us (λ test.
-        alike-known (names ++ more) u.0 (list_any-append (same_name u.0) names more ∙ ap (λ t.
-        t || list_any (same_name u.0) more) e) test ∙ ap (list_any test)
-        (append_assoc names more (u.0 ∷ [])))
-        ∙ there h
-    by false false true e h here there = ap (λ n. can_join n us) (append_assoc names more
-        (u.0 ∷ [])) ∙ there h
-    by false false false e h here there = ap (λ n. can_join n us) (append_assoc names more
-        (u.0 ∷ [])) ∙ there h
+        (can_join ((names ++ more) ++ u.0 ∷ []) us)
+        ≡ not ((c && a) || list_any (clashes names) (keys us))
+    by a true true e h here there known = absurd (true≢false (sym h))
+    by true true false e h here there known = here h
+    by false true false e h here there known = here h
+    by true false true e h here there known = refl
+    by true false false e h here there known = known e h
+    by false false true e h here there known = there h
+    by false false false e h here there known = there h
 
 -- the names that are there once a list was joined are those before and the list's
 names-joined : {X : Type 0} (names : List DwarfObject) (us : List (DwarfObject × X))
     → Alike (names ++ keys (joining names us)) (names ++ keys us)
 names-joined names [] = λ test. refl
-names-joined {X} names (u ∷ us) =
-    let more = names ++ u.0 ∷ [] in
-    (elim (list_any (same_name u.0) names) as (λ b. list_any (same_name u.0) names ≡ b
-    → Alike (names ++ keys (cond b (joining names us) (u ∷ joining more us)))
-    (names ++ u.0 ∷ keys us)) [
-      | true ↦ λ e test. names-joined names us test
-          ∙ alike-append names more (keys us) (keys us) (alike-known names u.0 e) (λ t. refl) test
-          ∙ ap (list_any test) (append_assoc names (u.0 ∷ []) (keys us))
-      | false ↦ λ e test. ap (list_any test) (sym (append_assoc names (u.0 ∷ [])
-          (keys (joining more us))))
-          ∙ names-joined more us test
-          ∙ ap (list_any test) (append_assoc names (u.0 ∷ []) (keys us))
-    ]) refl
+names-joined names (u ∷ us) =
+    by-bool _ (list_any (same_name u.0) names)
+    (λ known. rw known (λ test. names-joined names us test
+    ∙ alike-append names (names ++ u.0 ∷ []) (keys us) (keys us) (alike-known names u.0 known)
+    (λ t. refl) test
+    ∙ ap (list_any test) (append_assoc names (u.0 ∷ []) (keys us))))
+    (λ new. rw new (λ test. ap (list_any test) (sym (append_assoc names (u.0 ∷ [])
+    (keys (joining (names ++ u.0 ∷ []) us))))
+    ∙ names-joined (names ++ u.0 ∷ []) us test
+    ∙ ap (list_any test) (append_assoc names (u.0 ∷ []) (keys us))))
 
 -- more units are joined to the names of those before them, too
 pub joining-append : {X : Type 0} (names : List DwarfObject) (us vs : List (DwarfObject × X))
     → joining names (us ++ vs) ≡ joining names us ++ joining (names ++ keys (joining names us)) vs
 joining-append names [] vs = ap (λ n. joining n vs) (sym (append-nil names))
-joining-append {X} names (u ∷ us) vs =
-    let more = names ++ u.0 ∷ [] in
-    elim (list_any (same_name u.0) names) as (λ b.
-    cond b (joining names (us ++ vs)) (u ∷ joining more (us ++ vs))
-    ≡ cond b (joining names us) (u ∷ joining more us)
-    ++ joining (names ++ keys (cond b (joining names us) (u ∷ joining more us))) vs) [
-      | true ↦ joining-append names us vs
-      | false ↦ rw (
-        joining-append more us vs,
-        append_assoc names (u.0 ∷ [])
-            (keys (joining more us)),
-      ) refl
-    ]
+joining-append names (u ∷ us) vs =
+    by-bool _ (list_any (same_name u.0) names)
+    (λ there. rw there (joining-append names us vs))
+    (λ new. rw new (ap (λ l. u ∷ l) (joining-append (names ++ u.0 ∷ []) us vs ∙ ap (λ n.
+    joining (names ++ u.0 ∷ []) us ++ joining n vs) (append_assoc names (u.0 ∷ [])
+    (keys (joining (names ++ u.0 ∷ []) us))))))
+
+and_assoc : (a b c : Bool) → ((a && b) && c) ≡ (a && (b && c))
+and_assoc true b c = refl
+and_assoc false b c = refl
 
 -- a list can be joined where its front can, and then what follows
 pub can_join-append : {X : Type 0} (names : List DwarfObject) (us vs : List (DwarfObject × X))
-    → can_join names (us ++ vs) ≡ (can_join names us && can_join
-    (names ++ keys (joining names us)) vs)
+    → can_join names (us ++ vs) ≡ (can_join names us && can_join (names ++ keys (joining names us)) vs)
 can_join-append names [] vs = ap (λ n. can_join n vs) (sym (append-nil names))
-can_join-append {X} names (u ∷ us) vs =
-    let more = names ++ u.0 ∷ [] in
-    elim (list_any (same_name u.0) names) as (λ b.
-    cond b (not (is_compilation u.0) && can_join names (us ++ vs)) (can_join more (us ++ vs))
-    ≡ (cond b (not (is_compilation u.0) && can_join names us) (can_join more us) && can_join
-    (names ++ keys (cond b (joining names us) (u ∷ joining more us))) vs)) [
-      | true ↦ rw (can_join-append names us vs)
-          (sym (and_assoc (not (is_compilation u.0)) (can_join names us) _))
-      | false ↦ rw (
-        can_join-append more us vs,
-        append_assoc names (u.0 ∷ [])
-            (keys (joining more us)),
-      ) refl
-    ]
+can_join-append names (u ∷ us) vs =
+    by-bool _ (list_any (same_name u.0) names)
+    (λ there. rw there (ap (λ b. not (is_compilation u.0) && b) (can_join-append names us vs)
+    ∙ sym (and_assoc (not (is_compilation u.0)) _ _)))
+    (λ new. rw new (can_join-append (names ++ u.0 ∷ []) us vs ∙ ap (λ n.
+    can_join (names ++ u.0 ∷ []) us && can_join n vs) (append_assoc names (u.0 ∷ [])
+    (keys (joining (names ++ u.0 ∷ []) us)))))
 
 -- ---- lists without a name twice
 
 pub joined-distinct : {X : Type 0} (names : List DwarfObject) (us : List (DwarfObject × X))
     → IsDistinct same_name names → IsDistinct same_name (names ++ keys (joining names us))
 joined-distinct names [] h = rw (append-nil names) h
-joined-distinct {X} names (u ∷ us) h =
-    let more = names ++ u.0 ∷ [] in
-    (elim (list_any (same_name u.0) names) as (λ b. list_any (same_name u.0) names ≡ b
-    → IsDistinct same_name (names ++ keys (cond b (joining names us) (u ∷ joining more us)))) [
-      | true ↦ λ e. joined-distinct names us h
-      | false ↦ λ e. rw (← append_assoc names (u.0 ∷ []) (keys (joining more us)))
-          (joined-distinct more us (IsDistinct-push names-equal names u.0 h e))
-    ]) refl
+joined-distinct names (u ∷ us) h =
+    by-bool _ (list_any (same_name u.0) names)
+    (λ known. rw known (joined-distinct names us h))
+    (λ new. rw new (subst (IsDistinct same_name) (append_assoc names (u.0 ∷ [])
+    (keys (joining (names ++ u.0 ∷ []) us))) (joined-distinct (names ++ u.0 ∷ []) us
+    (IsDistinct-push names-equal names u.0 h new))))
 
 -- a name that comes later isn't among those before
 not-before : (names : List DwarfObject) (name : DwarfObject) (rest : List DwarfObject)
