@@ -5,7 +5,8 @@ use Rattle.std.proofs.Common.{append_assoc, append-nil}
 use Rattle.std.specs.Cmp.{IsEquivalence}
 use Rattle.std.specs.List.{IsDistinct, AllByRecursion, list_any, flat_map}
 use Rattle.std.specs.List.Sorted.{IsPermutation}
-use Rattle.std.proofs.lemmas.List.Folds.{list_any-append}
+use Rattle.std.proofs.lemmas.List.Folds.{list_any-append, list_any_at, Any-from_list_any}
+use Rattle.std.proofs.Math.Bool.{or-false, or-true}
 use Rattle.std.proofs.lemmas.List.Sorted.{IsPermutation-refl, IsPermutation-append}
 use Rattle.std.proofs.lemmas.List.Sorted.{IsPermutation-map, list_any-IsPermutation}
 use Rattle.std.proofs.lemmas.Map.Keys.{IsDistinct-IsPermutation, IsDistinct-push}
@@ -24,12 +25,12 @@ both true b f g = sym (f refl)
 both false true f g = g refl
 both false false f g = refl
 
-same-flips : (a b : DwarfObject) → same_name a b ≡ same_name b a
+pub same-flips : (a b : DwarfObject) → same_name a b ≡ same_name b a
 same-flips a b = both (same_name a b) (same_name b a) (λ h.
     same_name-equal b a (sym (same_name-true a b h)))
     (λ h. same_name-equal a b (sym (same_name-true b a h)))
 
-names-equal : IsEquivalence same_name
+pub names-equal : IsEquivalence same_name
 names-equal = record {
   refl = same_name-self;
   symm = same-flips;
@@ -48,29 +49,21 @@ alike-more : (a b : List DwarfObject) (name : DwarfObject) → Alike a b → Ali
     (b ++ name ∷ [])
 alike-more a b name h = alike-append a b (name ∷ []) (name ∷ []) h (λ test. refl)
 
-or-true : (a : Bool) → (a || true) ≡ true
-or-true true = refl
-or-true false = refl
-
-or-false : (a : Bool) → (a || false) ≡ a
-or-false true = refl
-or-false false = refl
-
 -- a test that a name passes is passed where the name is
 passed-there : (names : List DwarfObject) (name : DwarfObject) (test : DwarfObject → Bool)
     → list_any (same_name name) names ≡ true → test name ≡ true → list_any test names ≡ true
-passed-there [] name test h k = absurd (true≢false (sym h))
-passed-there (n ∷ ns) name test h k = by-bool _ (same_name name n)
-    (λ e. rw (← same_name-true name n e, k) refl)
-    (λ e. rw (passed-there ns name test (rw e at h) k) (or-true (test n)))
+passed-there names name test there passes =
+    let any = Any-from_list_any (same_name name) names there in
+    list_any_at test names any.0 any.1 any.2
+    (rw (any.3, ← same_name-true name any.1 any.4) passes)
 
 -- a name that is there changes nothing
 alike-known : (names : List DwarfObject) (name : DwarfObject) → list_any (same_name name) names ≡
     true → Alike names (names ++ name ∷ [])
-alike-known names name h = λ test. by-bool _ (test name)
-    (λ e. passed-there names name test h e ∙ sym (list_any-append test names (name ∷ [])
-    ∙ rw e (or-true (list_any test names))))
-    (λ e. sym (list_any-append test names (name ∷ []) ∙ rw e (or-false (list_any test names))))
+alike-known names name h test =
+    let more = list_any-append test names (name ∷ []) in
+    by-bool _ (test name) (λ e. rw (more, e, passed-there names name test h e) refl)
+    (λ e. rw (more, e, or-false) refl)
 
 -- nor behind others
 alike-behind : (names more : List DwarfObject) (name : DwarfObject)
@@ -195,7 +188,7 @@ can_join-append names (u ∷ us) vs =
 
 pub joined-distinct : {X : Type 0} (names : List DwarfObject) (us : List (DwarfObject × X))
     → IsDistinct same_name names → IsDistinct same_name (names ++ keys (joining names us))
-joined-distinct names [] h = subst (IsDistinct same_name) (sym (append-nil names)) h
+joined-distinct names [] h = rw (append-nil names) h
 joined-distinct names (u ∷ us) h =
     by-bool _ (list_any (same_name u.0) names)
     (λ known. rw known (joined-distinct names us h))
@@ -220,19 +213,18 @@ joining-distinct : {X : Type 0} (names : List DwarfObject) (us : List (DwarfObje
     → IsDistinct same_name (names ++ keys us) → joining names us ≡ us
 joining-distinct names [] h = refl
 joining-distinct names (u ∷ us) h =
-    ap (λ b. cond b (joining names us) (u ∷ joining (names ++ u.0 ∷ []) us))
-    (not-before names u.0 (keys us) h)
-    ∙ ap (λ l. u ∷ l) (joining-distinct (names ++ u.0 ∷ []) us (subst (IsDistinct same_name)
-    (sym (append_assoc names (u.0 ∷ []) (keys us))) h))
+    rw (
+      not-before names u.0 (keys us) h,
+      joining-distinct (names ++ u.0 ∷ []) us
+          (rw (append_assoc names (u.0 ∷ []) (keys us)) h),
+    ) refl
 
 can_join-distinct : {X : Type 0} (names : List DwarfObject) (us : List (DwarfObject × X))
     → IsDistinct same_name (names ++ keys us) → can_join names us ≡ true
 can_join-distinct names [] h = refl
 can_join-distinct names (u ∷ us) h =
-    ap (λ b. cond b (not (is_compilation u.0) && can_join names us) (can_join (names ++ u.0 ∷ [])
-    us)) (not-before names u.0 (keys us) h)
-    ∙ can_join-distinct (names ++ u.0 ∷ []) us (subst (IsDistinct same_name)
-    (sym (append_assoc names (u.0 ∷ []) (keys us))) h)
+    rw (not-before names u.0 (keys us) h) (can_join-distinct (names ++ u.0 ∷ []) us
+    (rw (append_assoc names (u.0 ∷ []) (keys us)) h))
 
 pub none-distinct : IsDistinct same_name []
 unfolding IsDistinct
@@ -266,13 +258,11 @@ adds-same {X} names others group result h same =
     ap (λ n. joining n group) (sym (append-nil names)) ∙ joining-new names [] group in
     let whole : joining [] result ≡ result = joining-distinct [] result
     (result-same group result same).apart in
-    let right : joining others result ≡ filter (is_new names) result =
-    ap (λ n. joining n result) (sym (append-nil others)) ∙ joining-new others [] result ∙ ap
-    (filter (is_new others)) whole ∙ sym (λ i. filter (λ (u : DwarfObject × X).
-    not (h (same_name u.0) i)) result) in
-    subst (λ l. IsPermutation (joining names group) l) (sym right)
-    (subst (λ l. IsPermutation l (filter (is_new names) result)) (sym left)
-    (IsPermutation-filter (is_new names) (joining [] group) result same))
+    let right : joining names result ≡ filter (is_new names) result =
+    ap (λ n. joining n result) (sym (append-nil names)) ∙ joining-new names [] result
+    ∙ ap (filter (is_new names)) whole in
+    rw (← joining-alike names others result h, left, right)
+    (IsPermutation-filter (is_new names) (joining [] group) result same)
 
 can-same : {X : Type 0} (names others : List DwarfObject) (group result : List (DwarfObject × X))
     → Alike names others → can_join [] group ≡ true → IsPermutation (joining [] group) result
@@ -313,17 +303,14 @@ groups-same {X} names others (g ∷ gs) (r ∷ rs) h are =
     let later = groups-same (names ++ keys (joining names g)) (others ++ keys (joining others r)) gs
     rs (names-after names others g r h are.1) are.2 in
     record {
-      defined = can_join-append names g all ∙ ap₂ (λ a b. a && b) (can-same names others g r h are.0
-          are.1) later.defined ∙ sym (can_join-append others r results);
-      joined =
-          subst (λ l. IsPermutation l (joining others (r ++ results)))
-          (sym (joining-append names g all))
-          (subst (λ l. IsPermutation (joining names g ++ joining (names ++ keys (joining names g))
-          all) l) (sym (joining-append others r results))
-          (IsPermutation-append (joining names g) (joining others r)
-          (joining (names ++ keys (joining names g)) all)
-          (joining (others ++ keys (joining others r)) results) (adds-same names others g r h
-          are.1) later.joined));
+      defined = rw (
+        can_join-append names g all,
+        can_join-append others r results,
+        can-same names others g r h are.0 are.1,
+        later.defined,
+      ) refl;
+      joined = rw (joining-append names g all, joining-append others r results)
+          (IsPermutation-append _ _ _ _ (adds-same names others g r h are.1) later.joined);
     }
 
 pub groups-defined : {X : Type 0} (groups results : List (List (DwarfObject × X)))

@@ -1,71 +1,47 @@
 -- Lists in another order: look-ups by name, and swaps.
-use Rattle.std.proofs.Common.{◌≡◌, ◌∙◌, ℕ, zero, suc, ◌<◌, ◌≤◌, Bool, false, cond, List, []}
-use Rattle.std.proofs.Common.{◌∷◌, length, map, filter, get_or, refl, sym, ap, subst, arith}
+use Rattle.std.proofs.Common.{◌≡◌, ◌∙◌, ℕ, ◌<◌, List, [], ◌∷◌, length, map, get_or, Option, Some, None}
+use Rattle.std.proofs.Common.{refl, sym, ap, arith}
 use Rattle.std.proofs.Math.ListN.{set, get_or-map}
-use Rattle.std.specs.List.{swap, IsDistinct, AllByRecursion}
+use Rattle.std.specs.List.{swap, IsDistinct}
 use Rattle.std.specs.List.Sorted.{IsPermutation}
 use Rattle.std.specs.Map.{lookup}
 use Rattle.std.proofs.lemmas.List.{map-set, length-map}
 use Rattle.std.proofs.lemmas.List.Edits.{swap_is}
-use Rattle.std.proofs.lemmas.List.Sorted.{IsPermutation-keeps}
+use Rattle.std.proofs.lemmas.List.Sorted.{Contains-permutation, IsPermutation-map}
+use Rattle.std.proofs.lemmas.List.Sorted.{IsPermutation-sym}
+use Rattle.std.proofs.lemmas.Map.Keys.{IsDistinct-IsPermutation}
+use Rattle.std.proofs.lemmas.Map.Views.{Contains-from_lookup, lookup-from_Contains}
 use Rattle.dwp_table.specs.declared.object.DwarfObject.{DwarfObject}
 use Rattle.thorin_join.specs.Meaning.{keys}
 use Rattle.thorin_input.specs.Names.{same_name}
-use Rattle.thorin.proofs.Shuffled.{IsPermutation-filter}
-use Rattle.dwp_base.proofs.Bools.{by-bool}
+use Rattle.thorin.proofs.GroupJoins.{names-equal, same-flips}
 use Rattle.thorin_join.proofs.Units.NamesApart.{same_name-true}
 
--- a list of one element has one order
-short-step : {X : Type 0} (xs l : List X) (i j : ℕ) → length xs ≤ 1 → i < length l → j < length l
-    → l ≡ xs → swap l i j ≡ xs
-short-step xs [] i j short hi hj h = absurd (omega arith)
-short-step xs (x ∷ y ∷ l) i j short hi hj h = let long = ap length h in absurd (omega arith)
-short-step xs (x ∷ []) zero zero short hi hj h = h
-short-step xs (x ∷ []) zero (suc j) short hi hj h = absurd (omega arith)
-short-step xs (x ∷ []) (suc i) j short hi hj h = absurd (omega arith)
-
-short-same : {X : Type 0} (xs ys : List X) → length xs ≤ 1 → IsPermutation xs ys → ys ≡ xs
-short-same xs ys short h = IsPermutation-keeps xs (λ l. l ≡ xs) refl (λ l i j hi hj e.
-    short-step xs l i j short hi hj e) ys h
-
-abbrev is_named : {X : Type 0} → DwarfObject → DwarfObject × X → Bool
-is_named name unit = same_name name unit.0
-
--- a look-up sees the units of its name alone
-lookup-named : {X : Type 0} (name : DwarfObject) (us : List (DwarfObject × X))
-    → lookup (same_name name) us ≡ lookup (same_name name) (filter (is_named name) us)
-lookup-named name [] = refl
-lookup-named name (u ∷ us) = by-bool _ (same_name name u.0)
-    (λ e. rw e (rw e refl))
-    (λ e. rw e (lookup-named name us))
-
-none-named : {X : Type 0} (name : DwarfObject) (us : List (DwarfObject × X))
-    → AllByRecursion (λ other. same_name name other ≡ false) (keys us)
-    → filter (is_named name) us ≡ []
-none-named name [] h = refl
-none-named name (u ∷ us) h = ap (λ b. cond b (u ∷ filter (is_named name) us) (filter (is_named name)
-    us)) h.0 ∙ none-named name us h.1
-
-one-named : {X : Type 0} (name : DwarfObject) (us : List (DwarfObject × X)) → IsDistinct same_name
-    (keys us) → length (filter (is_named name) us) ≤ 1
-unfolding IsDistinct
-one-named name [] h = omega arith
-one-named name (u ∷ us) h = by-bool _ (same_name name u.0)
-    (λ e. let none = ap length (none-named name us (subst (λ n. AllByRecursion (λ other.
-    same_name n other ≡ false) (keys us)) (sym (same_name-true name u.0 e)) h.0)) in
-    rw e (omega arith))
-    (λ e. rw e (one-named name us h.1))
+-- what is found by a name is found in another order
+still-found : {X : Type 0} (us vs : List (DwarfObject × X)) → IsDistinct same_name (keys vs)
+    → IsPermutation us vs → (name : DwarfObject) (x : X) → lookup (same_name name) us ≡ Some x
+    → lookup (same_name name) vs ≡ Some x
+still-found us vs apart h name x found =
+    lookup-from_Contains names-equal name x vs apart (Contains-permutation us vs (name, x) h
+    (Contains-from_lookup same_name-true name x us found))
 
 -- units of distinct names are found alike in any order
 pub units-found : {X : Type 0} (us vs : List (DwarfObject × X)) → IsDistinct same_name (keys us)
     → IsPermutation us vs → (name : DwarfObject) → lookup (same_name name) us ≡ lookup
     (same_name name) vs
-units-found us vs apart h name =
-    lookup-named name us
-    ∙ ap (lookup (same_name name))
-    (sym (short-same (filter (is_named name) us) (filter (is_named name) vs)
-    (one-named name us apart) (IsPermutation-filter (is_named name) us vs h)))
-    ∙ sym (lookup-named name vs)
+units-found {X} us vs apart h name = by (lookup (same_name name) us) refl
+    (lookup (same_name name) vs) refl
+  where
+    also : IsDistinct same_name (keys vs)
+    also = IsDistinct-IsPermutation same_name same-flips (keys us) (keys vs)
+        (IsPermutation-map (λ (u : DwarfObject × X). u.0) us vs h) apart
+
+    by : (a : Option X) → lookup (same_name name) us ≡ a → (b : Option X)
+        → lookup (same_name name) vs ≡ b → a ≡ b
+    by (Some x) found b is = sym (still-found us vs also h name x found) ∙ is
+    by None none None is = refl
+    by None none (Some y) is =
+        sym none ∙ still-found vs us apart (IsPermutation-sym us vs h) name y is
 
 -- two elements change places before or after a function of each
 pub swap-map : {A B : Type 0} (f : A → B) (xs : List A) (i j : ℕ) → i < length xs → j < length xs

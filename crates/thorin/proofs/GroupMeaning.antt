@@ -1,5 +1,5 @@
 -- What packing in groups means: the join of all inputs at once.
-use Rattle.std.proofs.Common.{◌≡◌, ◌∙◌, ℕ, ◌<◌, true, List, [], ◌∷◌, ◌++◌, length, Option, Some, Ok}
+use Rattle.std.proofs.Common.{◌≡◌, ◌∙◌, ℕ, ◌<◌, true, List, [], ◌∷◌, ◌++◌, length, Option, Ok}
 use Rattle.std.proofs.Common.{refl, sym, ap, subst, arith}
 use Rattle.std.specs.List.{swap, flat_map, IsDistinct}
 use Rattle.std.specs.List.Sorted.{IsPermutation}
@@ -7,14 +7,10 @@ use Rattle.std.proofs.lemmas.List.{length-map}
 use Rattle.std.proofs.lemmas.List.Sorted.{IsPermutation-refl, IsPermutation-sym}
 use Rattle.std.proofs.lemmas.List.Sorted.{IsPermutation-trans, IsPermutation-swap}
 use Rattle.std.proofs.lemmas.List.Sorted.{IsPermutation-keeps}
-use Rattle.dwp_elf.specs.FileText.{Object as File, file_text}
-use Rattle.dwp_elf.specs.Written.{written_elf}
-use Rattle.dwp_elf_read.specs.Elf.{elf_of}
-use Rattle.dwp_table.specs.declared.object.DwarfObject.{DwarfObject}
+use Rattle.dwp_elf.specs.FileText.{Object as File}
 use Rattle.thorin_join.specs.Builder.{State, start, taken, with_input, finish_test, IsFinishedState}
-use Rattle.thorin_input.specs.Encodings.{own_encoding}
 use Rattle.thorin_join.specs.Join.{IsPackageOf}
-use Rattle.thorin_join.specs.Meaning.{Meaning, Members, keys, joining, can_join}
+use Rattle.thorin_join.specs.Meaning.{Members, keys, joining, can_join}
 use Rattle.thorin_input.specs.Names.{same_name}
 use Rattle.thorin_join.specs.Represents.{IsSoundBegun, units_in}
 use Rattle.thorin_join.specs.State.{InProgress}
@@ -23,7 +19,9 @@ use Rattle.thorin.specs.Groups.{taken_each, IsPackedAlone, ArePackedAlone, IsPac
 use Rattle.thorin.specs.Groups.{AreJoined, HaveTheirEncodings, inputs_of, IsPackageOfAll}
 use Rattle.thorin.proofs.GroupJoins.{groups-defined, groups-joined, joined-distinct, none-distinct}
 use Rattle.thorin.proofs.GroupLookups.{units-found, swap-map}
-use Rattle.thorin.proofs.GroupUnits.{Units, AllMean, keys-meant, mean-append, join-of, joins-all}
+use Rattle.thorin.proofs.GroupUnits.{Units, AllMean, meant_one, keys-meant, mean-append, join-of, joins-all}
+use Rattle.thorin_again.specs.PlainInputs.{AreTaken}
+use Rattle.thorin.proofs.RunTaken.{begun-then, each-taken}
 use Rattle.dwp_base.proofs.Steps.{bind-was as bound}
 
 -- what the laws of the builder say
@@ -37,28 +35,17 @@ MeansAgain = (state : State) (file : File) → IsSoundBegun state.begun → fini
 
 -- ---- inputs that were taken
 
-step-sound : KeepsSound → (bytes : List ℕ) (old new : State) → IsSoundBegun old.begun
-    → taken bytes old ≡ Ok new → IsSoundBegun new.begun
-unfolding taken
-step-sound keeps bytes old new sound h =
-    let begun = bound (with_input bytes old.begun) _ new h in
-    let own = bound (own_encoding bytes) _ new begun.2 in
-    let is : begun.0 ≡ new.begun = cc own.2 in
-    subst IsSoundBegun is (keeps bytes old.begun begun.0 sound begun.1)
+pub sound-taken : KeepsSound → (list : List (List ℕ)) (old new : State) → IsSoundBegun old.begun
+    → AreTaken list old new → IsSoundBegun new.begun
+sound-taken keeps [] old new sound are = rw are.1 sound
+sound-taken keeps (bytes ∷ rest) old new sound are =
+    sound-taken keeps rest are.1 new (keeps bytes old.begun are.1.begun sound
+    (begun-then bytes (record old { targets = are.0 }) are.1 are.2)) are.3
 
 taken-parts : (bytes : List ℕ) (rest : List (List ℕ)) (old new : State) → taken_each (bytes ∷ rest)
     old ≡ Ok new → (next : State) × (taken bytes old ≡ Ok next) × (taken_each rest next ≡ Ok new)
 unfolding taken_each
 taken-parts bytes rest old new h = bound (taken bytes old) (λ next. taken_each rest next) new h
-
-each-sound : KeepsSound → (inputs : List (List ℕ)) (old new : State) → IsSoundBegun old.begun
-    → taken_each inputs old ≡ Ok new → IsSoundBegun new.begun
-unfolding taken_each
-each-sound keeps [] old new sound h = let is : old ≡ new = cc in
-    subst (λ s. IsSoundBegun s.begun) is sound
-each-sound keeps (bytes ∷ rest) old new sound h =
-    let parts = taken-parts bytes rest old new h in
-    each-sound keeps rest parts.0 new (step-sound keeps bytes old parts.0 sound parts.1) parts.2
 
 -- ---- a package that was written
 
@@ -68,12 +55,10 @@ means-units : KeepsSound → MeansAgain → (inputs : List (List ℕ)) (file : L
     → MeansWhereTaken (units_in alone.state) file
 means-units keeps again inputs file alone have =
     let written = alone.written in
-    let sound = each-sound keeps inputs start alone.state tt alone.taken in
-    let means : MeansWhereTaken (units_in alone.state) (file_text written.file) =
-    again alone.state written.file sound written.tested written.finished written.kinds
-    (subst (λ b. elf_of b ≡ Ok (written_elf written.file)) written.text written.read_back)
-    (subst (λ b. HaveEncodingOf b (units_in alone.state)) written.text have) in
-    subst (MeansWhereTaken (units_in alone.state)) (sym written.text) means
+    let sound = sound-taken keeps inputs start alone.state tt
+    (each-taken inputs start alone.state alone.taken) in
+    rw written.text (again alone.state written.file sound written.tested written.finished
+    written.kinds (rw written.text at written.read_back) (rw written.text at have))
 
 -- ---- groups
 
@@ -112,7 +97,7 @@ grouped keeps again (g ∷ gs) (p ∷ ps) old new all packed has took mean =
       results = mean.0.here ∷ rest.results;
       meant = mean-append g (inputs_of gs) join.all (flat_map (λ units. units) rest.lists)
           join.meant rest.meant;
-      are = (join.defined, subst (λ l. IsPermutation l mean.0.here) (sym joined) same, rest.are);
+      are = (join.defined, rw joined same, rest.are);
       whole = mean.3 ∙ ap (λ l. mean.0.here ++ l) rest.whole;
     }
 
@@ -126,15 +111,13 @@ record Reordered (units : Members) (list : Units) : Type 0 where
 reordered-step : (units : Members) (list : Units) (i j : ℕ) → i < length list → j < length list
     → Reordered units list → Reordered units (swap list i j)
 reordered-step units list i j hi hj h =
-    let long : length list ≡ length h.members = ap length h.is ∙ length-map h.members
-    (λ (u : DwarfObject × Meaning). let v : DwarfObject × Option Meaning =
-    (u.0, Some u.1) in v) in
+    let long : length list ≡ length h.members =
+    ap length h.is ∙ length-map h.members meant_one in
     let first : i < length h.members = omega arith in
     let second : j < length h.members = omega arith in
     record {
       members = swap h.members i j;
-      is = ap (λ l. swap l i j) h.is ∙ swap-map (λ (u : DwarfObject × Meaning). let v : DwarfObject
-          × Option Meaning = (u.0, Some u.1) in v) h.members i j first second;
+      is = ap (λ l. swap l i j) h.is ∙ swap-map meant_one h.members i j first second;
       same = IsPermutation-trans units h.members (swap h.members i j) h.same
           (IsPermutation-swap h.members (swap h.members i j) i j first second refl);
     }

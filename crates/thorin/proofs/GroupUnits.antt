@@ -1,7 +1,9 @@
 -- Inputs that are joined, as the list of all their units; and back.
 use Rattle.std.proofs.Common.{◌≡◌, ◌∙◌, ℕ, true, ◌&&◌, List, [], ◌∷◌, ◌++◌, Option, Some, Ok, refl}
-use Rattle.std.proofs.Common.{sym, ap, ap₂, subst, append_assoc, append-nil}
-use Rattle.std.proofs.lemmas.List.{map-append}
+use Rattle.std.proofs.Common.{length, take, drop, sym, ap, ap₂, subst, append_assoc, append-nil}
+use Rattle.std.specs.List.{take-map, drop-map}
+use Rattle.std.proofs.Math.Seq.{take-append_seam}
+use Rattle.std.proofs.lemmas.List.{map-append, drop_at, take-append-drop}
 use Rattle.dwp_table.specs.declared.object.DwarfObject.{DwarfObject}
 use Rattle.thorin_join.specs.Join.{Joins, JoinAll}
 use Rattle.thorin_join.specs.Meaning.{Meaning, Members, keys, input_meaning, joining, can_join}
@@ -11,6 +13,10 @@ use Rattle.dwp_base.proofs.Bools.{both as both-true}
 
 abbrev pub Units : Type 0
 Units = List (DwarfObject × Option Meaning)
+
+-- a unit with all that belongs to it
+abbrev pub meant_one : DwarfObject × Meaning → DwarfObject × Option Meaning
+meant_one unit = (unit.0, Some unit.1)
 
 -- the units of the first input, and those of the others
 pub record Split : Type 0 where
@@ -25,7 +31,7 @@ AllMean (bytes ∷ rest) all = (s : Split) × (input_meaning bytes ≡ Ok s.here
 
 pub mean-append : (cs bs : List (List ℕ)) (us vs : Units) → AllMean cs us → AllMean bs vs
     → AllMean (cs ++ bs) (us ++ vs)
-mean-append [] bs us vs h k = subst (λ l. AllMean bs l) (sym (ap (λ l. l ++ vs) h)) k
+mean-append [] bs us vs h k = rw h k
 mean-append (c ∷ cs) bs us vs h k = (
   record { here = h.0.here; later = h.0.later ++ vs },
   h.1,
@@ -77,8 +83,7 @@ join-of (bytes ∷ rest) before now h =
           joining-append (keys before) h.1.units later.all
           ∙ ap₂ (λ a b. a ++ b) h.1.joined (ap (λ n. joining n later.all)
           (sym names) ∙ later.joined)
-          ∙ sym (map-append (λ (u : DwarfObject × Meaning). let v : DwarfObject × Option Meaning =
-          (u.0, Some u.1) in v) h.1.added later.added);
+          ∙ sym (map-append meant_one h.1.added later.added);
       is = later.is ∙ ap (λ l. l ++ later.added) h.1.is ∙ append_assoc before h.1.added later.added;
     }
 
@@ -92,25 +97,14 @@ record Parted (front back : Units) (units : Members) : Type 0 where
 
 parted : (front back : Units) (units : Members) → front ++ back ≡ all_meant units
     → Parted front back units
-parted [] back units h = record {
-  first = [];
-  second = units;
-  first_is = refl;
-  second_is =
-      h;
-  whole = refl;
-}
-parted (u ∷ us) back [] h = absurd cc
-parted (u ∷ us) back (v ∷ vs) h =
-    let head : u ≡ (v.0, Some v.1) = cc in
-    let tail : us ++ back ≡ all_meant vs = cc in
-    let rest = parted us back vs tail in
+parted front back units h =
+    let n = length front in
     record {
-      first = v ∷ rest.first;
-      second = rest.second;
-      first_is = λ i. head i ∷ rest.first_is i;
-      second_is = rest.second_is;
-      whole = ap (λ l. v ∷ l) rest.whole;
+      first = take n units;
+      second = drop n units;
+      first_is = sym (take-append_seam front back) ∙ ap (take n) h ∙ take-map meant_one n units;
+      second_is = sym (drop_at front back n refl) ∙ ap (drop n) h ∙ drop-map meant_one n units;
+      whole = sym (take-append-drop n units);
     }
 
 none-meant : (units : Members) → [] ≡ all_meant units → units ≡ []

@@ -1,8 +1,8 @@
 -- Inputs that are all taken, and groups that are all packed, one after the other.
 use Rattle.std.proofs.Common.{◌≡◌, ◌∙◌, ℕ, ◌<◌, ◌+◌, List, [], ◌∷◌, ◌++◌, length, take, drop}
-use Rattle.std.proofs.Common.{get_or, map, refl, sym, ap, Result, Ok, Err, inr, add-one, drop-cons}
+use Rattle.std.proofs.Common.{get_or, map, refl, sym, ap, Result, Ok, Err, inr}
 use Rattle.std.specs.Prelude.{IfOk}
-use Rattle.std.proofs.lemmas.List.{map-append, take-append-drop}
+use Rattle.std.proofs.lemmas.List.{map-append, take-append-drop, drop_more}
 use Rattle.dwp_base.specs.Reading.{◌>>=◌}
 use Rattle.thorin_errors.specs.Errors.{ErrorValue}
 use Rattle.thorin_errors.specs.declared.error.Error.{Error}
@@ -13,25 +13,17 @@ use Rattle.thorin.specs.Groups.{taken_each, IsPackedAlone, ArePackedAlone, Packs
 use Rattle.thorin.specs.Groups.{PacksInGroups, IsPackedInGroups, HaveTheirEncodings, IsPackageOfAll}
 use Rattle.thorin.specs.Groups.{inputs_of}
 use Rattle.thorin.specs.Run.{Writes}
-use Rattle.thorin.proofs.Running.{taken-next}
 
 pub taken-append : (done rest : List (List ℕ)) (old : State) → taken_each (done ++ rest) old ≡
     (taken_each done old >>= taken_each rest)
 unfolding taken_each
 taken-append [] rest old = refl
-taken-append (bytes ∷ done) rest old = by (taken bytes old) (λ next. taken-append done rest next)
-  where
-    by : (r : Result State ErrorValue) → ((next : State) → taken_each (done ++ rest) next ≡
-        (taken_each done next >>= taken_each rest))
-        → (r >>= (λ next. taken_each (done ++ rest) next)) ≡ ((r >>= (λ next. taken_each done next))
-        >>= taken_each rest)
-    by (Ok next) later = later next
-    by (Err e) later = refl
-
-taken-first : (bytes : List ℕ) (rest : List (List ℕ)) (old : State) → taken_each (bytes ∷ rest) old
-    ≡ (taken bytes old >>= taken_each rest)
-unfolding taken_each
-taken-first bytes rest old = refl
+taken-append (bytes ∷ done) rest old = elim (taken bytes old) as (λ r.
+    (r >>= (λ next. taken_each (done ++ rest) next))
+    ≡ ((r >>= (λ next. taken_each done next)) >>= taken_each rest)) [
+      | Ok next ↦ taken-append done rest next
+      | Err e ↦ refl
+    ]
 
 pub taken-start : taken_each [] start ≡ Ok start
 unfolding taken_each
@@ -47,36 +39,25 @@ pub taken-more : (done : List (List ℕ)) (bytes : List ℕ) (old middle : State
     (answer : Result State ErrorValue) → taken_each done old ≡ Ok middle
     → taken bytes middle ≡ answer
     → taken_each (done ++ bytes ∷ []) old ≡ answer
+unfolding taken_each
 taken-more done bytes old middle answer before here =
-    taken-append done (bytes ∷ []) old
-    ∙ ap (λ r. r >>= taken_each (bytes ∷ [])) before
-    ∙ taken-first bytes [] middle
-    ∙ taken-none (taken bytes middle)
-    ∙ here
+    taken-append done (bytes ∷ []) old ∙ rw (before, here) (taken-none answer)
 
 -- a refusal is that of the whole list
 pub taken-refused : (done : List (List ℕ)) (bytes : List ℕ) (rest : List (List ℕ))
     (old middle : State) (error : ErrorValue) → taken_each done old ≡ Ok middle
     → taken bytes middle ≡
     Err error → taken_each (done ++ bytes ∷ rest) old ≡ Err error
+unfolding taken_each
 taken-refused done bytes rest old middle error before here =
-    taken-append done (bytes ∷ rest) old
-    ∙ ap (λ r. r >>= taken_each (bytes ∷ rest)) before
-    ∙ taken-first bytes rest middle
-    ∙ ap (λ r. r >>= taken_each rest) here
+    taken-append done (bytes ∷ rest) old ∙ rw (before, here) refl
 
--- a list up to one element and that one; and what follows
-pub mapped-next : {A B : Type 0} (f : A → B) (xs : List A) (i : ℕ) (d : A) → i < length xs
-    → map f (take (i + 1) xs) ≡ map f (take i xs) ++ f (get_or xs i d) ∷ []
-mapped-next f xs i d h = ap (map f) (taken-next xs i d h) ∙ map-append f (take i xs)
-    (get_or xs i d ∷ [])
-
+-- a list up to one element, that one, and what follows
 pub mapped-around : {A B : Type 0} (f : A → B) (xs : List A) (i : ℕ) (d : A) → i < length xs
     → map f xs ≡ map f (take i xs) ++ f (get_or xs i d) ∷ map f (drop (i + 1) xs)
 mapped-around f xs i d h =
-    ap (map f) (sym (take-append-drop i xs) ∙ ap (λ l. take i xs ++ l) (drop-cons xs i d h ∙ ap
-    (λ n. get_or xs i d ∷ drop n xs) (sym (add-one i))))
-    ∙ map-append f (take i xs) (get_or xs i d ∷ drop (i + 1) xs)
+    ap (map f) (sym (take-append-drop i xs)) ∙ map-append f (take i xs) (drop i xs)
+    ∙ rw (drop_more xs i d h) refl
 
 -- one more group is packed
 pub packed-more : (groups : List (List (List ℕ))) (packages : List (List ℕ)) (group : List (List ℕ))

@@ -14,7 +14,6 @@ use Rattle.dwp_bytes.specs.declared.encoding.Encoding.{Encoding}
 use Rattle.dwp_bytes.specs.declared.error.ReadError.{ReadError}
 use Rattle.dwp_elf_read.specs.Elf.{Elf, SectionMeaning, elf_of}
 use Rattle.dwp_elf_read.specs.Identification as identification
-use Rattle.dwp_elf_read.specs.declared.error.ReadError as elf_error
 use Rattle.dwp_elf_read.specs.declared.kind.FileKind.{FileKind}
 use Rattle.dwp_elf_read.specs.declared.kind.FileKind.TheVariants.{Archive, Elf32, Elf64}
 use Rattle.dwp_index.specs.Contents.{Sections, content, content_among, contents_of}
@@ -82,16 +81,11 @@ parsed bytes pack h =
 
 -- ---- the input
 
-elf-ok : (f : elf_error.ReadError → ErrorValue) (r : Result Elf elf_error.ReadError) (file w : Elf)
-    → as_error f r ≡ Ok file → r ≡ Ok w → file ≡ w
-elf-ok f (Ok x) file w h k = cc
-elf-ok f (Err e) file w h k = absurd cc
-
 elf-by : (bytes : List ℕ) (kind : FileKind) (file w : Elf) → elf_in bytes kind ≡ Ok file
     → elf_of bytes ≡ Ok w → file ≡ w
 elf-by bytes Archive file w h k = absurd cc
-elf-by bytes Elf32 file w h k = elf-ok _ (elf_of bytes) file w h k
-elf-by bytes Elf64 file w h k = elf-ok _ (elf_of bytes) file w h k
+elf-by bytes Elf32 file w h k = sym (was w file (rw k at h))
+elf-by bytes Elf64 file w h k = sym (was w file (rw k at h))
 
 opened-is : (bytes : List ℕ) (file w : Elf) → opened bytes ≡ Ok file → elf_of bytes ≡ Ok w
     → file ≡ w

@@ -1,17 +1,16 @@
 -- What a written package means as an input is what a reader finds in it, whoever takes it.
-use Rattle.std.proofs.Common.{◌≡◌, ◌∙◌, ℕ, true, List, [], ◌∷◌, sym, ap, subst, Result, Ok, Option}
+use Rattle.std.proofs.Common.{◌≡◌, ◌∙◌, ℕ, true, List, sym, ap, subst, Ok, Option}
 use Rattle.std.specs.Prelude.{All, ◌↔◌}
 use Rattle.std.specs.List.{list_all}
 use Rattle.dwp_bytes.specs.declared.encoding.Encoding.{Encoding}
 use Rattle.dwp_elf.specs.FileText.{Object as File, file_text}
 use Rattle.dwp_elf.specs.Written.{written_elf}
 use Rattle.dwp_elf_read.specs.Elf.{Elf, elf_of}
-use Rattle.thorin_errors.specs.Errors.{ErrorValue}
 use Rattle.thorin_input.specs.Encodings.{encoding_of, section_has}
 use Rattle.thorin_input.specs.Used.{InputFile, opened, input_file_of}
 use Rattle.thorin_again.specs.Again.{HaveEncodingOf, MeansWhereTaken, input_encoding}
 use Rattle.thorin_join.specs.Builder.{State, start, taken, with_input, finish_test, IsFinishedState}
-use Rattle.thorin_join.specs.Join.{Joins, IsPackageOf, IsPackageOnceWritten}
+use Rattle.thorin_join.specs.Join.{Joins, IsPackageOnceWritten}
 use Rattle.thorin_again.specs.OneEncoding.{IsOfOneEncoding, IsOfEncoding}
 use Rattle.thorin_again.specs.Own.{packs_again}
 use Rattle.thorin_again.specs.PlainInputs.{AreTaken, IsPlainOf, IsOfPlainObjects}
@@ -19,9 +18,9 @@ use Rattle.thorin_join.specs.Represents.{IsSoundBegun, units_begun, units_in}
 use Rattle.thorin_join.specs.State.{InProgress}
 use Rattle.thorin.specs.Again.{MeansAsRead}
 use Rattle.thorin.specs.Run.{IsWritten}
-use Rattle.thorin.proofs.GroupMeaning.{KeepsSound, MeansAgain}
+use Rattle.thorin.proofs.GroupMeaning.{KeepsSound, MeansAgain, sound-taken}
 use Rattle.thorin.proofs.TakenAgain.{ByNewLaw, EncodingLaw, read-text}
-use Rattle.dwp_base.proofs.Steps.{bind-was}
+use Rattle.dwp_base.proofs.Steps.{bind-was, same-ok}
 use Rattle.thorin.proofs.RunTaken.{begun-then}
 
 abbrev pub JoinsLaw : Type 0
@@ -38,19 +37,16 @@ PlainLaw = (accepted : List (List ℕ)) (state : State) → AreTaken accepted st
 
 -- ---- inputs of one encoding
 
-was : {A : Type 0} (x y : A) → ◌≡◌ {A = Result A ErrorValue} (Ok x) (Ok y) → x ≡ y
-was x y h = cc
-
 module _ (encoding : Encoding) (bytes : List ℕ) (p : IsPlainOf encoding bytes) where
   same-object : (file : Elf) (object : InputFile) → opened bytes ≡ Ok file
       → input_file_of file ≡ Ok object → object ≡ p.object
   same-object file object h k =
-      let f : file ≡ p.file = was file p.file (sym h ∙ p.opens) in
-      was object p.object (sym k ∙ ap input_file_of f ∙ p.used)
+      let f : file ≡ p.file = same-ok file p.file (sym h ∙ p.opens) in
+      same-ok object p.object (sym k ∙ ap input_file_of f ∙ p.used)
 
   same-encoding : (object : InputFile) (e : Encoding) → object ≡ p.object
       → encoding_of object ≡ Ok e → e ≡ encoding
-  same-encoding object e o h = was e encoding (sym h ∙ ap encoding_of o ∙ p.first)
+  same-encoding object e o h = same-ok e encoding (sym h ∙ ap encoding_of o ∙ p.first)
 
   of-one : IsOfOneEncoding bytes
   of-one file object e h k l =
@@ -74,13 +70,6 @@ all-plain encoding accepted all = λ k d within. plain-encoding encoding _ (all 
 
 -- ---- what was written
 
-sound-taken : KeepsSound → (list : List (List ℕ)) (old new : State) → IsSoundBegun old.begun
-    → AreTaken list old new → IsSoundBegun new.begun
-sound-taken keeps [] old new sound are = subst (λ s. IsSoundBegun s.begun) (sym are.1) sound
-sound-taken keeps (bytes ∷ rest) old new sound are =
-    sound-taken keeps rest are.1 new (keeps bytes old.begun are.1.begun sound
-    (begun-then bytes (record old { targets = are.0 }) are.1 are.2)) are.3
-
 module _ (keeps : KeepsSound) (joins : JoinsLaw) (means : MeansAgain) (reads : ReadLaw)
     (accepted : List (List ℕ)) (state : State) (bytes : List ℕ)
     (are : AreTaken accepted start state) (w : IsWritten state bytes) where
@@ -96,15 +85,12 @@ module _ (keeps : KeepsSound) (joins : JoinsLaw) (means : MeansAgain) (reads : R
   once-taken before after have other took =
       let j = joins bytes before.begun after.begun other (begun-then bytes before after took) in
       let here : MeansWhereTaken (units_in state) bytes =
-      subst (MeansWhereTaken (units_in state)) (sym w.text)
-      (means state w.file sound w.tested w.finished w.kinds back
-      (subst (λ b. HaveEncodingOf b (units_in state)) w.text have)) in
+      rw w.text (means state w.file sound w.tested w.finished w.kinds back (rw w.text at have)) in
       record {
         meant = j.units;
         meaning = j.meaning;
         same = here before after took j.units j.meaning;
-        package_of = subst (IsPackageOf (units_in state)) (sym w.text)
-            (reads state w.file sound w.tested w.finished w.kinds back);
+        package_of = rw w.text (reads state w.file sound w.tested w.finished w.kinds back);
       }
 
   pub own-means : PlainLaw → EncodingLaw → ByNewLaw → packs_again state ≡ true

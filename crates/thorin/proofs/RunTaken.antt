@@ -1,15 +1,16 @@
 -- What a run accepted was taken, one input after another.
-use Rattle.std.proofs.Common.{◌≡◌, ◌∙◌, ℕ, List, [], ◌∷◌, ◌++◌, refl, sym, ap, subst}
+use Rattle.std.proofs.Common.{◌≡◌, ◌∙◌, ℕ, List, [], ◌∷◌, ◌++◌, refl, sym, ap}
 use Rattle.std.proofs.Common.{Ok}
 use Rattle.dwp_table.specs.declared.object.DwarfObject.{DwarfObject}
+use Rattle.dwp_table.specs.declared.object.DwarfObject.TheVariants.{Compilation, TypeUnit}
 use Rattle.thorin.specs.declared.packing.Input.{Input}
 use Rattle.thorin_input.specs.Encodings.{own_encoding}
 use Rattle.thorin_join.specs.Builder.{State, taken, with_input}
 use Rattle.thorin_again.specs.PlainInputs.{AreTaken}
-use Rattle.thorin_builder.specs.Taking.{Outcome}
+use Rattle.thorin_builder.specs.Taking.{Outcome, with_target}
 use Rattle.thorin.specs.Groups.{taken_each}
 use Rattle.thorin.specs.Run.{Ran}
-use Rattle.thorin.proofs.Runs.{Offer, run-so}
+use Rattle.thorin.proofs.Running.{Offer, run-goes}
 use Rattle.dwp_base.proofs.Steps.{bind-was, same-ok}
 
 -- ---- lists of inputs
@@ -40,16 +41,20 @@ other-targets (bytes ∷ rest) targets old new h = h
 
 taken-append : (a b : List (List ℕ)) (x y z : State) → AreTaken a x y → AreTaken b y z
     → AreTaken (a ++ b) x z
-taken-append [] b x y z h k = other-targets b h.0 x z (subst (λ m. AreTaken b m z) h.1 k)
+taken-append [] b x y z h k = other-targets b h.0 x z (rw h.1 at k)
 taken-append (bytes ∷ a) b x y z h k = (h.0, h.1, h.2, taken-append a b h.1 y z h.3 k)
 
--- ---- what was accepted
+from-target : (name : DwarfObject) (list : List (List ℕ)) (old new : State)
+    → AreTaken list (with_target name old) new → AreTaken list old new
+from-target (Compilation id) list old new h = other-targets list _ old new h
+from-target (TypeUnit signature) list old new h = h
 
 pub run-taken : (offer : Offer) (list : List Input) (old new : State) (outcomes : List Outcome)
     (accepted : List (List ℕ)) → Ran offer list old outcomes new accepted → AreTaken accepted old
     new
-run-taken = run-so AreTaken
-    (λ state. (state.targets, refl))
-    (λ bytes old new x takes. (old.targets, new, takes.meaning, (new.targets, refl)))
-    taken-append
-    (λ targets accepted old new. other-targets accepted targets old new)
+run-taken = run-goes AreTaken (record {
+  none = λ state. (state.targets, refl);
+  one = λ bytes old new takes. (old.targets, new, takes.meaning, (new.targets, refl));
+  more = taken-append;
+  target = from-target;
+})

@@ -1,6 +1,6 @@
 -- Packages that are packed again, and inputs of one encoding, as packing has them.
-use Rattle.std.proofs.Common.{◌≡◌, ◌∙◌, ℕ, true, List, [], ◌∷◌, refl, sym, ap, subst, Result, Ok}
-use Rattle.std.proofs.Common.{Err, inl, inr, ◌⊎◌, ⊎_elim}
+use Rattle.std.proofs.Common.{◌≡◌, ◌∙◌, ℕ, true, List, [], ◌∷◌, refl, sym, ap, Result, Ok}
+use Rattle.std.proofs.Common.{Err, inl, inr, ⊎_elim}
 use Rattle.std.specs.Prelude.{All, IfOk}
 use Rattle.std.proofs.lemmas.List.Elements.{All-head, All-tail}
 use Rattle.dwp_base.specs.Reading.{◌>>=◌}
@@ -11,7 +11,6 @@ use Rattle.dwp_elf.specs.Written.{written_elf}
 use Rattle.dwp_elf_read.specs.Elf.{Elf, elf_of}
 use Rattle.thorin_errors.specs.Errors.{ErrorValue}
 use Rattle.thorin_errors.specs.declared.error.Error.{Error}
-use Rattle.thorin_again.specs.Again.{HaveEncodingOf}
 use Rattle.thorin_join.specs.Builder.{State, start, taken, order_of, finish_test, IsFinishedState}
 use Rattle.thorin_again.specs.OneEncoding.{IsOfOneEncoding, IsOfEncoding, AnswersAs}
 use Rattle.thorin_again.specs.OneEncoding.{AnswersOnceWritten, HaveEncodingOnceWritten}
@@ -65,8 +64,7 @@ pub answers-written : StringsLaw → (accepted : List (List ℕ)) (state : State
     → AreTaken accepted start state → All IsOfOneEncoding accepted → IsWritten state bytes
     → AnswersAs (units_in state) bytes
 answers-written strings accepted state bytes are one w =
-    subst (AnswersAs (units_in state)) (sym w.text)
-    (strings accepted state are one w.file w.tested w.finished w.kinds (read-text state bytes w))
+    rw w.text (strings accepted state are one w.file w.tested w.finished w.kinds (read-text state bytes w))
 
 -- of a file that may have been written
 pub if-written : {V : Type 0} (view : V → List ℕ) (state : State) (P : List ℕ → Type 0)
@@ -115,20 +113,19 @@ module _ (keeps : KeepsSound) (any : AcceptedLaw) (orders : OrderLaw) (order : E
       let back = read-text state bytes w in
       let accepted = any group state w.file (each-taken group start state each.0.taken) w.tested
       w.finished can.0 w.kinds back in
-      let here : UnlessForeseen (taken bytes old) = subst (λ b. UnlessForeseen (taken b old))
-      (sym w.text) (accepted old sound (ap (order_of old.begun) can.1 ∙ same ∙ sym can.1)) in
+      let here : UnlessForeseen (taken bytes old) =
+      rw w.text (accepted old sound (rw can.1 same)) in
       then-foreseen (taken bytes old) (taken_each files) here (λ next took.
       each-foreseen groups files each.1 can.2 next
       (keeps bytes old.begun next.begun sound (begun-then bytes old next took))
-      (orders bytes (written_elf w.file) old next order w.read_back took ∙ ap
-      (order_of old.begun) can.1 ∙ same))
+      (orders bytes (written_elf w.file) old next order w.read_back took ∙ rw can.1 same))
 
   pub groups-left : (groups : List (List (List ℕ))) (error : ErrorValue)
       (refused : RefusesPackages groups error)
       → CanBePackedAgain order groups refused.packages refused.each
       → IsLeft refused.packages error
   groups-left groups error refused can = ⊎_elim
-      (λ h. inl (subst UnlessForeseen h (each-foreseen groups refused.packages refused.each can
+      (λ h. inl (rw h at (each-foreseen groups refused.packages refused.each can
       start tt refl)))
       (λ u. inr u) refused.refused
 
@@ -149,8 +146,7 @@ theirs law (group ∷ groups) (bytes ∷ files) each all =
     let state = each.0.state in
     let w = each.0.written in
     let here = All-head HasCommonEncoding group groups all in (
-      subst (λ b. HaveEncodingOf b (units_in state)) (sym w.text)
-          (law here.0 group state (each-taken group start state each.0.taken) here.1 w.file
+      rw w.text (law here.0 group state (each-taken group start state each.0.taken) here.1 w.file
           w.finished w.kinds (read-text state bytes w)),
       theirs law groups files each.1 (All-tail HasCommonEncoding group groups all),
     )

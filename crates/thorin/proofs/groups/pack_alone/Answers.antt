@@ -1,12 +1,12 @@
 use Rattle.std.proofs.Common.{◌≡◌, ◌∙◌, ℕ, ◌+◌, List, [], ◌∷◌, ◌++◌, take, drop, get_or, Ok, Bor}
 use Rattle.std.proofs.Common.{inl, subst, sym, ap, refl}
-use Rattle.std.proofs.lemmas.List.{take_all}
+use Rattle.std.proofs.lemmas.List.{map_more, take_all}
 use Rattle.std.proofs.lemmas.Result.{err_from_is_err_and}
 use Rattle.thorin_join.specs.Builder.{start, taken}
 use Rattle.thorin_join.specs.Join.{JoinAll, Joins}
 use Rattle.thorin_join.specs.Represents.{units_in}
 use Rattle.thorin.specs.Groups.{taken_each, bytes_in}
-use Rattle.thorin.proofs.Grouping.{taken-more, taken-refused, mapped-next, mapped-around}
+use Rattle.thorin.proofs.Grouping.{taken-more, taken-refused, mapped-around}
 use Rattle.thorin.proofs.Grouping.{packs-alone, taken-start}
 use Rattle.thorin.proofs.Running.{join-append}
 use Rattle.thorin.proofs.groups.pack_alone.Goals as goal
@@ -30,15 +30,13 @@ loop-input-preserved g c =
     let before = c.loop-input.builder.state in
     let after = c.add_object_bytes.new.self.state in
     let next : bytes_in (take (i + 1) inputs) ≡ done ++ item.now ∷ [] =
-    mapped-next (λ (input : Bor (List ℕ)). input.now) inputs i none c.loop-input-test.true in
+    map_more (λ (input : Bor (List ℕ)). input.now) inputs i none c.loop-input-test.true in
     let took : taken item.now before ≡ Ok after = c.in_ok-add_object_bytes.ensures.meaning in
     let joins : Joins item.now (units_in before) (units_in after) =
     c.in_ok-add_object_bytes.ensures.joins in (
-      ap (λ l. taken_each l start) next ∙ taken-more done item.now start before (Ok after)
-          c.loop-input.invariant.0 took,
-      subst (λ l. JoinAll l [] (units_in after)) (sym next) (join-append done (item.now ∷ []) []
-          (units_in before) (units_in after) c.loop-input.invariant.1
-          (units_in after, joins, refl)),
+      rw next (taken-more done item.now start before (Ok after) c.loop-input.invariant.0 took),
+      rw next (join-append done (item.now ∷ []) [] (units_in before) (units_in after)
+          c.loop-input.invariant.1 (units_in after, joins, refl)),
     )
 
 pub returns-in_err-add_object_bytes : goal.returns-in_err-add_object_bytes

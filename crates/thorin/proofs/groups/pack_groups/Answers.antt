@@ -1,9 +1,9 @@
 use Rattle.std.proofs.Common.{◌≡◌, ◌∙◌, ℕ, ◌+◌, List, [], ◌∷◌, ◌++◌, take, drop, get_or, Bor, inl}
 use Rattle.std.proofs.Common.{subst, subst₂, sym, ap, rules}
-use Rattle.std.proofs.lemmas.List.{take_all, map-append}
+use Rattle.std.proofs.lemmas.List.{take_all, map-append, map_more}
 use Rattle.std.proofs.lemmas.Result.{err_from_is_err_and}
 use Rattle.thorin.specs.Groups.{bytes_in, groups_in, ArePackedAlone, IsPackedAlone}
-use Rattle.thorin.proofs.Grouping.{mapped-next, mapped-around, packed-more, packs-together}
+use Rattle.thorin.proofs.Grouping.{mapped-around, packed-more, packs-together}
 use Rattle.thorin.proofs.Grouping.{if-joined}
 use Rattle.thorin.proofs.groups.pack_groups.Goals as goal
 
@@ -19,7 +19,7 @@ loop-group-preserved g c =
     let packages = bytes_in c.loop-group.packages.items in
     let file = c.in_ok-package.package.items in
     let next : groups_in (take (i + 1) groups) ≡ done ++ bytes_in item.now ∷ [] =
-    mapped-next (λ (group : Bor (List (Bor (List ℕ)))). bytes_in group.now) groups i none
+    map_more (λ (group : Bor (List (Bor (List ℕ)))). bytes_in group.now) groups i none
     c.loop-group-test.true in
     let placed : c.in_ok-alloc_data.field-0.now ≡ file = c.in_ok-alloc_data.ensures in
     let pushed : c.push.new.self.items ≡ c.loop-group.packages.items ++ c.in_ok-alloc_data.field-0 ∷

@@ -2,9 +2,9 @@ use Rattle.std.proofs.Common.{◌≡◌, subst, rules, ◌++◌, ◌∷◌, [], 
 use Rattle.thorin_join.specs.Builder.{start}
 use Rattle.thorin.specs.declared.packing.Input.{Input}
 use Rattle.thorin.specs.declared.packing.Input.TheVariants.{Object}
-use Rattle.std.proofs.lemmas.List.{take_all}
+use Rattle.std.proofs.lemmas.List.{take_all, take_more}
 use Rattle.thorin.specs.Run.{Ran, Took}
-use Rattle.thorin.proofs.Running.{ran-next, taken-next, run-joined}
+use Rattle.thorin.proofs.Running.{ran-next, run-joined}
 use Rattle.thorin.proofs.packing.pack.Goals as goal
 
 pub loop-input-preserved : goal.loop-input-preserved
@@ -12,7 +12,7 @@ loop-input-preserved g c =
     let offer = g.Sess.Session.offer c.args.session.now in
     let none : Input = Object (record { text = record { ref_ptr = (0, 0); now = [] } }) in
     let input = get_or c.args.inputs.now c.loop-input.input-index none in
-    let more = taken-next c.args.inputs.now c.loop-input.input-index none c.loop-input-test.true in
+    let more = take_more c.args.inputs.now c.loop-input.input-index none c.loop-input-test.true in
     let took : Took offer input c.loop-input.builder.state c.take_input-outcome.result
     c.take_input-outcome.new.builder.state =
     c.take_input-outcome.ensures.taken in

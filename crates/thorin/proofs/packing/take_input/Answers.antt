@@ -1,38 +1,41 @@
-use Rattle.std.proofs.Common.{rules}
-use Rattle.thorin.proofs.Running.{took-object, took-bytes, took-executable, took-skipping}
+use Rattle.std.proofs.Common.{◌≡◌, refl, rules}
+use Rattle.thorin.specs.declared.packing.Input.TheVariants as inputs
+use Rattle.thorin_builder.specs.Taking.{accepted_of}
 use Rattle.thorin.proofs.packing.take_input.Goals as goal
 
 pub returns-in-Object-clause-taken : goal.returns-in-Object-clause-taken
 returns-in-Object-clause-taken g c =
-    took-object (g.R.InputReader.offer c.args.reader.now) c.args.input c.in-Object.path
-    c.args.builder.now.state c.add_input_by.new.self.state c.add_input_by.result
-    (search (rules, c.in-Object.is)) c.add_input_by.ensures.taken
+    let is : c.args.input ≡ inputs.Object c.in-Object.path = search (rules, c.in-Object.is) in
+    let takes = c.add_input_by.ensures.taken in
+    rw is (record { accepted = takes.accepted; takes = (takes, refl) })
 
 pub returns-in-Bytes-clause-taken : goal.returns-in-Bytes-clause-taken
 returns-in-Bytes-clause-taken g c =
-    took-bytes (g.R.InputReader.offer c.args.reader.now) c.args.input c.in-Bytes.bytes
-    c.args.builder.now.state c.add_object_bytes.new.self.state c.add_object_bytes.result
-    (search (rules, c.in-Bytes.is))
-    (record {
-      meaning = c.add_object_bytes.ensures.meaning;
-      joins =
-          c.add_object_bytes.ensures.joins;
-      unchanged = c.add_object_bytes.ensures.err;
+    let is : c.args.input ≡ inputs.Bytes c.in-Bytes.bytes = search (rules, c.in-Bytes.is) in
+    rw is (record {
+      accepted = accepted_of c.add_object_bytes.result c.in-Bytes.bytes.now;
+      takes = (
+        record {
+          meaning = c.add_object_bytes.ensures.meaning;
+          joins = c.add_object_bytes.ensures.joins;
+          unchanged = c.add_object_bytes.ensures.err;
+        },
+        refl,
+      );
     })
 
 pub returns-in-Executable-clause-taken : goal.returns-in-Executable-clause-taken
 returns-in-Executable-clause-taken g c =
-    took-executable (g.R.InputReader.offer c.args.reader.now) c.args.input c.in-Executable.path
-    c.in-Executable.missing c.args.builder.now.state c.add_executable_by.new.self.state
-    c.add_executable_by.result (search (rules, c.in-Executable.is))
-    c.add_executable_by.ensures.taken
+    let is : c.args.input ≡ inputs.Executable c.in-Executable.path c.in-Executable.missing =
+    search (rules, c.in-Executable.is) in
+    let takes = c.add_executable_by.ensures.taken in
+    rw is (record { accepted = takes.accepted; takes = (takes, refl) })
 
 pub returns-in-ExecutableSkippingNameless-clause-taken :
     goal.returns-in-ExecutableSkippingNameless-clause-taken
 returns-in-ExecutableSkippingNameless-clause-taken g c =
-    took-skipping (g.R.InputReader.offer c.args.reader.now) c.args.input
-    c.in-ExecutableSkippingNameless.path c.in-ExecutableSkippingNameless.missing
-    c.args.builder.now.state c.add_executable_skipping_nameless_by.new.self.state
-    c.add_executable_skipping_nameless_by.result
-    (search (rules, c.in-ExecutableSkippingNameless.is))
-    c.add_executable_skipping_nameless_by.ensures.taken
+    let is : c.args.input ≡ inputs.ExecutableSkippingNameless c.in-ExecutableSkippingNameless.path
+    c.in-ExecutableSkippingNameless.missing =
+    search (rules, c.in-ExecutableSkippingNameless.is) in
+    let takes = c.add_executable_skipping_nameless_by.ensures.taken in
+    rw is (record { accepted = takes.accepted; takes = (takes, refl) })
