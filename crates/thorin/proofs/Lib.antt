@@ -1,4 +1,3 @@
-pub mod Runs
 pub mod Running
 pub mod Grouping
 pub mod Shuffled

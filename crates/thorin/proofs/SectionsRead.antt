@@ -13,7 +13,7 @@ use Rattle.dwp_base.specs.Sections.{same_kind}
 use Rattle.dwp_base.specs.declared.section.SectionKind.{SectionKind}
 use Rattle.dwp_base.proofs.Bools.{both, by-bool}
 use Rattle.dwp_base.proofs.EveryKind.{at-rank, every-two, is-same, same-self}
-use Rattle.dwp_base.proofs.Steps.{bind-was, by-choice, same-ok}
+use Rattle.dwp_base.proofs.Steps.{bind-was, same-ok}
 use Rattle.dwp_elf_read.specs.Elf.{SectionMeaning}
 use Rattle.dwp_index.specs.Contents as reader
 use Rattle.dwp_index.specs.Contents.{has_name, is_of_kind, content_among}
