@@ -1,5 +1,5 @@
 -- Comparing the string at a place without looking for its end.
-use Rattle.std.proofs.Common.{◌≡◌, ◌≢◌, ℕ, ◌+◌, ◌<◌, ◌≤◌, Bool, true, false, cond, not, eqb, List}
+use Rattle.std.proofs.Common.{◌≡◌, ◌≢◌, ℕ, ◌+◌, ◌<◌, ◌≤◌, cond, not, eqb, List}
 use Rattle.std.proofs.Common.{[], ◌∷◌, length, take, drop, get_or, Ordering, Less, Equal, Greater}
 use Rattle.std.proofs.Common.{ap, sym, refl, ◌∙◌, arith}
 use Rattle.std.specs.List.{before_first}
@@ -9,7 +9,7 @@ use Rattle.std.specs.Cmp.Lexicographic.{slice_cmp}
 use Rattle.std.proofs.lemmas.List.{take_all, drop_all, drop_more}
 use Rattle.std.proofs.lemmas.List.Elements.{All-head, All-tail}
 use Rattle.std.proofs.lemmas.List.Sums.{take_while-cons}
-use Rattle.std.proofs.lemmas.Bool.{eqb-true, eqb-false}
+use Rattle.std.proofs.lemmas.Bool.{eqb-true, eqb-false, cond_both, not-false, not-true}
 use Rattle.thorin_strings.specs.Strings.{IsZeroFree}
 
 -- the string at the front of some bytes
@@ -31,17 +31,6 @@ then-equal Less = refl
 then-equal Equal = refl
 then-equal Greater = refl
 
-by_byte : (t : Bool) (x y : ℕ) (string ys : List ℕ) (front rest : Ordering) → eqb x 0 ≡ t → y ≢ 0
-    → slice_cmp nat_cmp string ys ≡ ordering_then front rest
-    → slice_cmp nat_cmp (cond (not t) (x ∷ string) []) (y ∷ ys) ≡ ordering_then
-    (ordering_then (nat_cmp x y) front) rest
-by_byte true x y string ys front rest zero some others =
-    let e : x ≡ 0 = eqb-true x 0 zero in
-    let below : x < y = omega arith in
-    rw (sym (nat_cmp_is x y Less below)) refl
-by_byte false x y string ys front rest other some others = ap (ordering_then (nat_cmp x y)) others ∙
-    then-assoc (nat_cmp x y) front rest
-
 -- the bytes up to the other string's end decide, and then what follows them
 compared_front : (xs s : List ℕ) → IsZeroFree s → slice_cmp nat_cmp (front_string xs) s ≡
     ordering_then (slice_cmp nat_cmp (take (length s) xs) s)
@@ -49,9 +38,16 @@ compared_front : (xs s : List ℕ) → IsZeroFree s → slice_cmp nat_cmp (front
 compared_front xs [] free = refl
 compared_front [] (y ∷ ys) free = refl
 compared_front (x ∷ xs) (y ∷ ys) free =
-    rw (front_string-cons x xs)
-    (by_byte (eqb x 0) x y (front_string xs) ys _ _ refl (All-head (λ b. b ≢ 0) y ys free)
-    (compared_front xs ys (All-tail (λ b. b ≢ 0) y ys free)))
+    let some : y ≢ 0 = All-head (λ b. b ≢ 0) y ys free in
+    let front = slice_cmp nat_cmp (take (length ys) xs) ys in
+    let rest = slice_cmp nat_cmp (front_string (drop (length ys) xs)) [] in
+    rw (front_string-cons x xs) (cond_both (not (eqb x 0)) (x ∷ front_string xs) [] (λ l.
+    slice_cmp nat_cmp l (y ∷ ys) ≡ ordering_then (ordering_then (nat_cmp x y) front) rest)
+    (λ _. ap (ordering_then (nat_cmp x y)) (compared_front xs ys (All-tail (λ b. b ≢ 0) y ys free))
+    ∙ then-assoc (nat_cmp x y) front rest)
+    (λ none.
+    let below : x < y = omega (arith, eqb-true x 0 (not-false _ none), some) in
+    rw (sym (nat_cmp_is x y Less below)) refl))
 
 -- where no more bytes are left
 pub compared_short : (xs s : List ℕ) → IsZeroFree s → length xs ≤ length s → slice_cmp nat_cmp xs s
@@ -62,18 +58,12 @@ compared_short xs s free short =
     ∙ then-equal _ ∙ ap (λ l. slice_cmp nat_cmp l s) (take_all (length s) xs short))
 
 -- where a byte follows
-follows : (t : Bool) (x : ℕ) (xs : List ℕ) → eqb x 0 ≡ t → slice_cmp nat_cmp (front_string (x ∷ xs))
-    [] ≡ nat_cmp x 0
-follows t x xs test =
-    ap (λ l. slice_cmp nat_cmp l []) (front_string-cons x xs ∙ ap (λ u.
-    cond (not u) (x ∷ front_string xs) []) test) ∙ by t x test
-  where
-    by : (t : Bool) (x : ℕ) → eqb x 0 ≡ t → slice_cmp nat_cmp (cond (not t) (x ∷ front_string xs)
-        []) [] ≡ nat_cmp x 0
-    by true x zero = nat_cmp_is x 0 Equal (eqb-true x 0 zero)
-    by false x other =
-        let some : x ≢ 0 = eqb-false x 0 other in
-        nat_cmp_is x 0 Greater (omega arith)
+follows : (x : ℕ) (xs : List ℕ) → slice_cmp nat_cmp (front_string (x ∷ xs)) [] ≡ nat_cmp x 0
+follows x xs = rw (front_string-cons x xs) (cond_both (not (eqb x 0)) (x ∷ front_string xs) []
+    (λ l. slice_cmp nat_cmp l [] ≡ nat_cmp x 0)
+    (λ other. let some : x ≢ 0 = eqb-false x 0 (not-true _ other) in
+    nat_cmp_is x 0 Greater (omega arith))
+    (λ none. nat_cmp_is x 0 Equal (eqb-true x 0 (not-false _ none))))
 
 pub compared_long : (xs s : List ℕ) → IsZeroFree s → length s < length xs
     → slice_cmp nat_cmp (front_string xs) s ≡ ordering_then (slice_cmp nat_cmp (take (length s) xs)
@@ -82,7 +72,7 @@ compared_long xs s free long =
     compared_front xs s free
     ∙ ap (ordering_then (slice_cmp nat_cmp (take (length s) xs) s))
     (ap (λ l. slice_cmp nat_cmp (front_string l) []) (drop_more xs (length s) 0 long) ∙ follows
-    (eqb (get_or xs (length s) 0) 0) (get_or xs (length s) 0) (drop (length s + 1) xs) refl)
+    (get_or xs (length s) 0) (drop (length s + 1) xs))
 
 pub equal_so_far : (xs s : List ℕ) (o : Ordering) → IsZeroFree s → length s < length xs
     → o ≡ slice_cmp nat_cmp (take (length s) xs) s → o ≡ Equal → nat_cmp (get_or xs (length s) 0) 0
