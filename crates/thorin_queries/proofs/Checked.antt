@@ -1,11 +1,9 @@
 -- What was checked.
 use Rattle.std.proofs.Common.{◌≡◌, ◌∙◌, ℕ, zero, suc, get_or, ◌<◌, Bool, true, false, List, [], ◌∷◌}
-use Rattle.std.proofs.Common.{◌++◌, refl, sym, ap, subst, length, inl, inr, arith, append_assoc}
+use Rattle.std.proofs.Common.{◌++◌, refl, ap, length, inl, inr, arith, append_assoc}
 use Rattle.std.specs.Prelude.{Option, Result, Ok, Err}
 use Rattle.std.specs.Borrow.{Bor}
-use Rattle.std.specs.List.{concat}
 use Rattle.std.specs.declared.io.Error.{Error as IoError}
-use Rattle.std.specs.Io.KnownBytes.{Appends}
 use Rattle.std.proofs.KnownBytes.{Appends-trans, Keeps-refl}
 use Rattle.dwp_elf_read.specs.Elf.{elf_of}
 use Rattle.dwp_elf_read.specs.declared.error.ReadError.{ReadError as ElfError}
@@ -14,7 +12,7 @@ use Rattle.dwp_index.specs.declared.error.PackageError.{PackageError}
 use Rattle.dwp_index.specs.declared.units.UnitEntry.{UnitEntry}
 use Rattle.thorin_executable.specs.Skeletons.{skeletons_by}
 use Rattle.thorin_queries.specs.Answers.{FailsToRead}
-use Rattle.thorin_queries.specs.Checking.{counts_line, status_of, has_no_index, TellsTaken}
+use Rattle.thorin_queries.specs.Checking.{counts_line, has_no_index, TellsTaken}
 use Rattle.thorin_queries.specs.Checking.{TellsExecutable, TellsPackage, IsOfReading, IsOfChecking}
 use Rattle.thorin_queries.specs.Checking.{IsTaken, Finishes, ChecksIndexed, ChecksPackage}
 use Rattle.thorin_queries.specs.Checking.{ChecksBytes, Checks}
@@ -34,58 +32,19 @@ module _ (offer : List ℕ → Result (List ℕ) IoError → Type 0) where
       → IsOfChecking offer executables failure
   of_printing executables failures.Line h = tt
   of_printing executables failures.Memory h = tt
-  of_printing executables failures.Output h = absurd h
-  of_printing executables failures.Overwrites h = absurd h
-  of_printing executables failures.Input h = absurd h
-  of_printing executables failures.Malformed h = absurd h
-  of_printing executables failures.NoIndex h = absurd h
-  of_printing executables (failures.NoUnit id) h = absurd h
-  of_printing executables failures.BadKind h = absurd h
-  of_printing executables failures.BadIdentifier h = absurd h
-  of_printing executables failures.BadNumber h = absurd h
-  of_printing executables failures.BadSection h = absurd h
-  of_printing executables (failures.NoString i) h = absurd h
-  of_printing executables (failures.NoRange kind) h = absurd h
-  of_printing executables failures.BadCommand h = absurd h
-  of_printing executables failures.Response h = absurd h
+  of_printing executables _ h = absurd h
 
   pub of_reading : (path : List ℕ) (failure : Failure) → IsOfPrinting failure
       → IsOfReading offer path failure
   of_reading path failures.Line h = tt
   of_reading path failures.Memory h = tt
-  of_reading path failures.Output h = absurd h
-  of_reading path failures.Overwrites h = absurd h
-  of_reading path failures.Input h = absurd h
-  of_reading path failures.Malformed h = absurd h
-  of_reading path failures.NoIndex h = absurd h
-  of_reading path (failures.NoUnit id) h = absurd h
-  of_reading path failures.BadKind h = absurd h
-  of_reading path failures.BadIdentifier h = absurd h
-  of_reading path failures.BadNumber h = absurd h
-  of_reading path failures.BadSection h = absurd h
-  of_reading path (failures.NoString i) h = absurd h
-  of_reading path (failures.NoRange kind) h = absurd h
-  of_reading path failures.BadCommand h = absurd h
-  of_reading path failures.Response h = absurd h
+  of_reading path _ h = absurd h
 
   not_read : (path : List ℕ) (failure : Failure) → FailsToRead offer path failure
       → IsOfReading offer path failure
-  not_read path failures.Line h = absurd h
   not_read path failures.Memory h = tt
-  not_read path failures.Output h = absurd h
-  not_read path failures.Overwrites h = absurd h
   not_read path failures.Input h = h
-  not_read path failures.Malformed h = absurd h
-  not_read path failures.NoIndex h = absurd h
-  not_read path (failures.NoUnit id) h = absurd h
-  not_read path failures.BadKind h = absurd h
-  not_read path failures.BadIdentifier h = absurd h
-  not_read path failures.BadNumber h = absurd h
-  not_read path failures.BadSection h = absurd h
-  not_read path (failures.NoString i) h = absurd h
-  not_read path (failures.NoRange kind) h = absurd h
-  not_read path failures.BadCommand h = absurd h
-  not_read path failures.Response h = absurd h
+  not_read path _ h = absurd h
 
   pub executable_unread : (path : List ℕ) (failure : Failure) (a : Option (List ℕ))
       → FailsToRead offer path failure → IsOfReading offer path failure × Grows a a
@@ -97,38 +56,14 @@ module _ (offer : List ℕ → Result (List ℕ) IoError → Type 0) where
   first_of e es failures.Line h = tt
   first_of e es failures.Memory h = tt
   first_of e es failures.Input h = inl h
-  first_of e es failures.Output h = absurd h
-  first_of e es failures.Overwrites h = absurd h
-  first_of e es failures.Malformed h = absurd h
-  first_of e es failures.NoIndex h = absurd h
-  first_of e es (failures.NoUnit id) h = absurd h
-  first_of e es failures.BadKind h = absurd h
-  first_of e es failures.BadIdentifier h = absurd h
-  first_of e es failures.BadNumber h = absurd h
-  first_of e es failures.BadSection h = absurd h
-  first_of e es (failures.NoString i) h = absurd h
-  first_of e es (failures.NoRange kind) h = absurd h
-  first_of e es failures.BadCommand h = absurd h
-  first_of e es failures.Response h = absurd h
+  first_of e es _ h = absurd h
 
   pub other_of : (e : Bor (List ℕ)) (es : List (Bor (List ℕ))) (failure : Failure)
       → IsOfChecking offer es failure → IsOfChecking offer (e ∷ es) failure
   other_of e es failures.Line h = tt
   other_of e es failures.Memory h = tt
   other_of e es failures.Input h = inr h
-  other_of e es failures.Output h = absurd h
-  other_of e es failures.Overwrites h = absurd h
-  other_of e es failures.Malformed h = absurd h
-  other_of e es failures.NoIndex h = absurd h
-  other_of e es (failures.NoUnit id) h = absurd h
-  other_of e es failures.BadKind h = absurd h
-  other_of e es failures.BadIdentifier h = absurd h
-  other_of e es failures.BadNumber h = absurd h
-  other_of e es failures.BadSection h = absurd h
-  other_of e es (failures.NoString i) h = absurd h
-  other_of e es (failures.NoRange kind) h = absurd h
-  other_of e es failures.BadCommand h = absurd h
-  other_of e es failures.Response h = absurd h
+  other_of e es _ h = absurd h
 
   pub reading_one : (es : List (Bor (List ℕ))) (i : ℕ) (d : Bor (List ℕ)) (failure : Failure)
       → i < length es → IsOfReading offer (get_or es i d).now failure
@@ -147,13 +82,7 @@ module _ (offer : List ℕ → Result (List ℕ) IoError → Type 0) where
         → TellsOr (IsOfReading offer executable)
         (TellsExecutable offer reading pack executable) a b result
     executable_read (Ok done) bytes lent read same t =
-        told_as (TellsTaken reading pack executable lent)
-        (TellsExecutable offer reading pack executable) a b
-        (λ lines k. record {
-          bytes = bytes;
-          read = read;
-          tells = subst (λ bs. TellsTaken reading pack executable bs lines) same k;
-        }) t
+        told_as t (λ lines k. record { bytes = bytes; read = read; tells = rw same at k })
     executable_read (Err failure) bytes lent read same t =
         (of_reading executable failure t.0, t.1)
 
@@ -197,14 +126,15 @@ module _ (offer : List ℕ → Result (List ℕ) IoError → Type 0) (reading : 
         by_row = by_row;
         lines = t.lines;
         told = t.are;
-        printed = subst (Appends a.written c)
-            (sym (append_assoc t.handed b.waiting (counts_line (length entries) b.count))
-            ∙ ap (λ l. l ++ counts_line (length entries) b.count)
-            (sym t.split ∙ ap (λ l. l ++ concat t.lines) none)
-            ∙ ap (λ n. concat t.lines ++ counts_line (length entries) n) all)
-            (Appends-trans a.written b.written c t.handed
+        printed = rw (
+          ← append_assoc t.handed b.waiting (counts_line (length entries) b.count),
+          ← t.split,
+          none,
+          all,
+        )
+            at (Appends-trans a.written b.written c t.handed
             (b.waiting ++ counts_line (length entries) b.count) t.added f.0);
-        status_is = f.1 ∙ ap status_of all;
+        status_is = rw all at f.1;
       }
   checked a b c (Err failure) by_row none begun t f = (
     of_printing offer executables failure f.0,
@@ -218,8 +148,7 @@ pub gave_up : (offer : List ℕ → Result (List ℕ) IoError → Type 0) (readi
     → IsOfChecking offer executables failure × Grows a b → Grows b c
     → ChecksIndexed offer reading executables pack a c result
 gave_up offer reading executables pack a b c failure result e h g =
-    subst (ChecksIndexed offer reading executables pack a c) (sym e)
-    (h.0, grown a b c h.1 g)
+    rw e (h.0, grown a b c h.1 g)
 
 module _ (offer : List ℕ → Result (List ℕ) IoError → Type 0) (reading : Reading)
     (executables : List (Bor (List ℕ))) where
@@ -231,16 +160,13 @@ module _ (offer : List ℕ → Result (List ℕ) IoError → Type 0) (reading : 
       → b ≡ true
       → ChecksPackage offer reading executables pack a a (Err failures.NoIndex)
       (has_no_index pack)
-  no_index pack a b e f =
-      subst (ChecksPackage offer reading executables pack a a (Err failures.NoIndex))
-      (sym f ∙ e) (refl, Keeps-refl a)
+  no_index pack a b e f = rw (← e, f) (refl, Keeps-refl a)
 
   pub has_index : (pack : Package) (a c : Option (List ℕ)) (result : Result ℕ Failure) (b : Bool)
       → b ≡ has_no_index pack → b ≡ false
       → ChecksIndexed offer reading executables pack a c result
       → ChecksPackage offer reading executables pack a c result (has_no_index pack)
-  has_index pack a c result b e f h =
-      subst (ChecksPackage offer reading executables pack a c result) (sym f ∙ e) h
+  has_index pack a c result b e f h = rw (← e, f) h
 
   pub no_elf : (cause : ElfError) (bytes : List ℕ) (a : Option (List ℕ))
       → elf_of bytes ≡ Err cause
@@ -256,21 +182,14 @@ module _ (offer : List ℕ → Result (List ℕ) IoError → Type 0) (reading : 
       (result : Result ℕ Failure) → p ≡ Ok pack
       → ChecksPackage offer reading executables pack a c result (has_no_index pack)
       → ChecksBytes offer reading executables p a c result
-  a_package pack p a c result e h =
-      subst (λ q. ChecksBytes offer reading executables q a c result) (sym e) h
+  a_package pack p a c result e h = rw e h
 
   pub was_checked : (path : List ℕ) (a c : Option (List ℕ)) (result : Result ℕ Failure)
       (bytes lent : List ℕ) → offer path (Ok bytes) → lent ≡ bytes
       → ChecksBytes offer reading executables (package_of lent) a c result
       → Checks offer path reading executables a c result
   unfolding Checks
-  was_checked path a c result bytes lent read same h =
-      inl (
-        bytes,
-        read,
-        subst (λ bs. ChecksBytes offer reading executables (package_of bs) a c
-            result) same h,
-      )
+  was_checked path a c result bytes lent read same h = inl (bytes, read, rw same at h)
 
   pub not_checked : (path : List ℕ) (a : Option (List ℕ)) (failure : Failure)
       → FailsToRead offer path failure

@@ -1,8 +1,8 @@
 -- Names that are cut.
-use Rattle.std.proofs.Common.{◌≡◌, ◌∙◌, ◌⊎◌, inl, inr, ⊎_elim, ℕ, zero, suc, ◌-◌, ◌<◌, ◌≤◌, List}
+use Rattle.std.proofs.Common.{◌≡◌, ◌∙◌, ⊎_elim, ℕ, zero, suc, ◌-◌, ◌<◌, ◌≤◌, List}
 use Rattle.std.proofs.Common.{[], ◌++◌, codes, length, take, drop, true, false, refl, sym, ap}
 use Rattle.std.proofs.Common.{subst, arith, le-leb}
-use Rattle.std.proofs.lemmas.Bool.{lt-leb, lt-ltb, le-ltb, cases_order}
+use Rattle.std.proofs.lemmas.Bool.{lt-leb, lt-ltb, le-ltb, cases_lt}
 use Rattle.std.proofs.Math.Nat.{sub-zero}
 use Rattle.std.proofs.lemmas.List.{append-nil}
 use Rattle.std.specs.Prelude.{slice_range}
@@ -17,19 +17,15 @@ IsLastBoundary bs i kept =
     (kept ≤ i) × IsCharBoundary bs kept
     × ((j : ℕ) → kept < j → j ≤ i → ¬ (IsCharBoundary bs j))
 
-pub order : (a b : ℕ) → (a < b) ⊎ (b ≤ a)
-order a b = ⊎_elim (λ e. inr (omega arith)) (λ u. ⊎_elim inl (λ g. inr (omega arith)) u)
-    (cases_order a b)
-
 -- `IsCharBoundary`'s fact on a byte decides `is_char_start`
 starts : (b : ℕ) → (128 ≤ b → 192 ≤ b) → is_char_start b ≡ true
 starts b h = ⊎_elim (λ low. rw (lt-ltb b 128 low) refl)
-    (λ high. rw (le-ltb b 128 high, le-leb 192 b (h high)) refl) (order b 128)
+    (λ high. rw (le-ltb b 128 high, le-leb 192 b (h high)) refl) (cases_lt b 128)
 
 continues : (b : ℕ) → ¬ (128 ≤ b → 192 ≤ b) → is_char_start b ≡ false
 continues b h = ⊎_elim (λ low. absurd (h (λ high. omega arith)))
     (λ high. ⊎_elim (λ mid. rw (le-ltb b 128 high, lt-leb 192 b mid) refl)
-    (λ top. absurd (h (λ _. top))) (order b 192)) (order b 128)
+    (λ top. absurd (h (λ _. top))) (cases_lt b 192)) (cases_lt b 128)
 
 -- those clauses fix its result
 floor_is : (bs : List ℕ) (i kept : ℕ) → i < length bs → IsLastBoundary bs i kept
@@ -42,7 +38,7 @@ floor_is bs (suc i) kept within last = ⊎_elim
     (omega arith, last.1, λ j p q. last.2 j p (omega arith))))
     (λ above. let same : kept ≡ suc i = omega arith in
     rw (starts _ ((subst (IsCharBoundary bs) same last.1).1 within)) (sym same))
-    (order kept (suc i))
+    (cases_lt kept (suc i))
 
 pub is_whole : (name text : List ℕ) → length name ≤ 4096 → text ≡ name ++ ([] ++ [])
     → text ≡ cut name

@@ -1,10 +1,9 @@
 -- Faults that were told.
-use Rattle.std.proofs.Common.{◌≡◌, ◌≢◌, ℕ, List, [], ◌∷◌, ◌++◌, codes, map, refl, sym, ap, subst}
+use Rattle.std.proofs.Common.{◌≡◌, ◌≢◌, ℕ, List, [], ◌∷◌, ◌++◌, codes, map, refl}
 use Rattle.std.proofs.Common.{inl, inr, arith, ◌+◌}
 use Rattle.std.specs.List.{range_with_len}
 use Rattle.std.proofs.lemmas.List.FromFn.{map-range_with_len_more}
 use Rattle.thorin_queries.specs.Ends.{fault_of}
-use Rattle.thorin_queries.specs.Finding.{string_count}
 use Rattle.thorin_queries.specs.Faults.{string_of, fault_line, fault_lines, TellsText, IsTextOf}
 use Rattle.thorin_queries.specs.Faults.{IsSomeText, TellsOwn, TellsFound, string_text, IsUnreadText}
 use Rattle.thorin_queries.specs.Faults.{TellsString, row_line, AreRows, broken_line, IsBroken}
@@ -27,8 +26,7 @@ use Rattle.dwp_table.specs.declared.object.DwarfObject.{DwarfObject}
 use Rattle.thorin_queries.specs.Overlaps.{IsClash, overlap_text}
 use Rattle.thorin_queries.specs.Checking.{TellsSomeStrings}
 use Rattle.thorin_queries.specs.Telling.{Outcome, Progress, Told, Tells, Is, IsLine, ForEach}
-use Rattle.thorin_queries.proofs.Told.{none_told, tells_as, rows_more, then_or, told_then}
-use Rattle.thorin_queries.proofs.Told.{for_each_more}
+use Rattle.thorin_queries.proofs.Told.{none_told, tells_as, rows_more, then_or, told_more}
 
 -- ---- texts
 
@@ -38,9 +36,8 @@ pub text_told : {E : Type 0} (P : List (List ℕ) → Type 0) (object : DwarfObj
     (result : Outcome) → IsTextOf P object text → TellsText object text a b result
     → Tells P a b result
 text_told P object (Ok text) a b result is h =
-    tells_as (Is (fault_lines object text)) P a b result (λ lines e. subst P (sym e) is) h
-text_told P object (Err cause) a b result is h =
-    subst (Tells P a b) (sym h.0) (tt, h.1)
+    tells_as (Is (fault_lines object text)) P a b result (λ lines e. rw e is) h
+text_told P object (Err cause) a b result is h = rw h.0 (tt, h.1)
 
 -- a text of which something holds
 pub text_as : {E : Type 0} (P Q : List (List ℕ) → Type 0) (object : DwarfObject)
@@ -54,15 +51,14 @@ pub made : {E : Type 0} (P : List (List ℕ) → Type 0) (Q : List ℕ → Type 
     (text : Result (String Global) E) (result : Result (Option (String Global)) E)
     → ((t : List ℕ) → Q t → P (fault_line object t ∷ [])) → IfOk text (λ t. Q (string_bytes t))
     → IsSomeText text result → IsTextOf P object result
-made P Q object (Ok t) result goes is so =
-    subst (IsTextOf P object) (sym so) (goes (string_bytes t) is)
-made P Q object (Err cause) result goes is so = subst (IsTextOf P object) (sym so) tt
+made P Q object (Ok t) result goes is so = rw so (goes (string_bytes t) is)
+made P Q object (Err cause) result goes is so = rw so tt
 
 -- ---- units
 
 unread_line : (object : DwarfObject) (cause : PackageError) (text : List ℕ)
     → IsUnreadText cause text → IsUnread object cause (fault_line object text ∷ [])
-unread_line object (Range kind) text is = ap (λ x. fault_line object x ∷ []) is
+unread_line object (Range kind) text is = rw is refl
 unread_line object (Elf e) text is = (text, refl)
 unread_line object (Index e) text is = (text, refl)
 unread_line object (Unit e) text is = (text, refl)
@@ -72,7 +68,7 @@ module _ (pack : Package) (entry : UnitEntry) where
       → text ≡ codes "not found under its identifier"
       → TellsUnit pack entry (fault_line entry.object text ∷ [])
   unfolding TellsUnit
-  unit_none e text is = rw e (ap (λ x. fault_line entry.object x ∷ []) is)
+  unit_none e text is = rw (e, is) refl
 
   pub unit_unread : (cause : PackageError) → found pack entry.object ≡ Err cause
       → (text : List ℕ) → IsUnreadText cause text
@@ -96,13 +92,12 @@ module _ (pack : Package) (entry : UnitEntry) where
     pub other_row : unit.number ≢ entry.row → (text : List ℕ)
         → text ≡ codes "found in row " ++ decimal unit.number
         → TellsFound pack entry unit (fault_line entry.object text ∷ [])
-    other_row e text is = inl (e, ap (λ x. fault_line entry.object x ∷ []) is)
+    other_row e text is = inl (e, rw is refl)
 
     in_row : (bare : Bool) → bare ≡ is_bare pack unit → unit.number ≡ entry.row
         → (lines : List (List ℕ)) → TellsInRow pack entry.object unit bare lines
         → TellsFound pack entry unit lines
-    in_row bare is e lines h =
-        inr (e, subst (λ x. TellsInRow pack entry.object unit x lines) is h)
+    in_row bare is e lines h = inr (e, rw (← is) h)
 
     pub in_bare_row : (has bare : Bool) → has ≡ has_abbreviations pack
         → bare ≡ (has && is_none (range_in unit.row Abbrev)) → bare ≡ true
@@ -110,8 +105,7 @@ module _ (pack : Package) (entry : UnitEntry) where
         → TellsFound pack entry unit (fault_line entry.object text ∷ [])
     in_bare_row has bare some is e row text so =
         let bare_row : true ≡ is_bare pack unit = cc in
-        in_row true bare_row row (fault_line entry.object text ∷ [])
-        (ap (λ x. fault_line entry.object x ∷ []) so)
+        in_row true bare_row row (fault_line entry.object text ∷ []) (rw so refl)
 
     pub in_whole_row : {E : Type 0} (text : Result (Option (String Global)) E) (has bare : Bool)
         → has ≡ has_abbreviations pack → bare ≡ (has && is_none (range_in unit.row Abbrev))
@@ -131,7 +125,7 @@ module _ (pack : Package) (object : DwarfObject) (unit : FoundUnit) where
     kind = kind;
     other = other;
     clash = clash;
-    line = ap (λ x. fault_line object x ∷ []) is;
+    line = rw is refl;
   })
 
   pub of_its_own : {E : Type 0} (text : Result (Option (String Global)) E)
@@ -191,53 +185,34 @@ pub string_faulty : (object : DwarfObject) (i : ℕ) (read : Result (Option (Lis
     → ((cause : List ℕ) × (text ≡ string_text i cause))
     → TellsString object i read (fault_line object text ∷ [])
 string_faulty object i (Ok string) fault e text is = absurd cc
-string_faulty object i (Err cause) fault e text is =
-    (is.0, ap (λ x. fault_line object x ∷ []) is.1)
+string_faulty object i (Err cause) fault e text is = (is.0, rw is.1 refl)
 
 module _ (object : DwarfObject) (looked : Result (Option FoundUnit) PackageError)
     (a : Progress) where
   pub strings_none : looked ≡ Ok None → Told (TellsStringsOf object looked) a a
-  strings_none e = subst (λ r. Told (TellsStringsOf object r) a a) (sym e)
-      (none_told (TellsStringsOf object (Ok None)) refl a)
+  strings_none e = rw e (none_told (TellsStringsOf object (Ok None)) refl a)
 
   pub strings_unread : (cause : PackageError) → looked ≡ Err cause
       → Told (TellsStringsOf object looked) a a
-  strings_unread cause e = subst (λ r. Told (TellsStringsOf object r) a a) (sym e)
-      (none_told (TellsStringsOf object (Err cause)) refl a)
+  strings_unread cause e = rw e (none_told (TellsStringsOf object (Err cause)) refl a)
 
   pub strings_some : (b : Progress) (result : Outcome) (unit : FoundUnit)
       → looked ≡ Ok (Some unit) → Tells (TellsStrings object unit) a b result
       → Tells (TellsStringsOf object looked) a b result
-  strings_some b result unit e h =
-      subst (λ r. Tells (TellsStringsOf object r) a b result) (sym e) h
+  strings_some b result unit e h = rw e h
 
-module _ (object : DwarfObject) (unit : FoundUnit) (i : ℕ) {a b : Progress} where
-  -- one more string
-  pub string_told : {c : Progress}
-      → Told (ForEach (TellsNumbered object)
-      (map (λ k. (k, string_of unit k)) (range_with_len 0 i))) a b
-      → Told (TellsString object i (string_of unit i)) b c
-      → Told (ForEach (TellsNumbered object)
-      (map (λ k. (k, string_of unit k)) (range_with_len 0 (i + 1)))) a c
-  string_told p q =
-      told_then (ForEach (TellsNumbered object)
-      (map (λ k. (k, string_of unit k)) (range_with_len 0 i)))
-      (TellsString object i (string_of unit i))
-      (ForEach (TellsNumbered object)
-      (map (λ k. (k, string_of unit k)) (range_with_len 0 (i + 1))))
-      (λ ls ms h k. subst (λ l. ForEach (TellsNumbered object) l (ls ++ ms))
-      (sym (map-range_with_len_more (λ j. (j, string_of unit j)) 0 i i (omega arith)))
-      (for_each_more (TellsNumbered object)
-      (map (λ j. (j, string_of unit j)) (range_with_len 0 i)) (i, string_of unit i) ls ms h k))
-      p q
+-- the first strings of a unit, each with its number
+abbrev pub first_strings : FoundUnit → ℕ → List (ℕ × Result (Option (List ℕ)) ReadError)
+first_strings unit i = map (λ k. (k, string_of unit k)) (range_with_len 0 i)
 
-  -- all of them
-  pub strings_told : i ≡ string_count unit
-      → Told (ForEach (TellsNumbered object)
-      (map (λ k. (k, string_of unit k)) (range_with_len 0 i))) a b
-      → Told (TellsStrings object unit) a b
-  strings_told e t = subst (λ n. Told (ForEach (TellsNumbered object)
-      (map (λ k. (k, string_of unit k)) (range_with_len 0 n))) a b) e t
+-- one more string
+pub string_told : (object : DwarfObject) (unit : FoundUnit) (i : ℕ) {a b c : Progress}
+    → Told (ForEach (TellsNumbered object) (first_strings unit i)) a b
+    → Told (TellsString object i (string_of unit i)) b c
+    → Told (ForEach (TellsNumbered object) (first_strings unit (i + 1))) a c
+string_told object unit i p q = told_more (TellsNumbered object) (first_strings unit i) _
+    (i, string_of unit i)
+    (map-range_with_len_more (λ j. (j, string_of unit j)) 0 i i (omega arith)) p q
 
 for_each_of : {X Y : Type 0} (P : Y → List (List ℕ) → Type 0) (f : X → Y) (xs : List X)
     (lines : List (List ℕ)) → ForEach (λ x. P (f x)) xs lines → ForEach P (map f xs) lines

@@ -36,8 +36,8 @@ pub index_told : (file : Elf) (kind : SectionKind) (index : Option Index) (bytes
     → ((bs : List ℕ) → content_among file.sections kind ≡ Ok bs → bytes ≡ bs)
     → IsIndexIn file kind index → not (length bytes == 0) ≡ is_some index
 index_told file kind index bytes told h =
-    ap (λ bs. not (length bs == 0)) (told h.bytes h.content)
-    ∙ by_length file.order h.bytes index (length h.bytes == 0) refl h.is
+    rw (told h.bytes h.content)
+    (by_length file.order h.bytes index (length h.bytes == 0) refl h.is)
 
 some_first : (x y : Option Index) → is_some x ≡ true → false ≡ (is_none x && is_none y)
 some_first None y e = absurd cc
@@ -120,15 +120,6 @@ unfolding package_of
 has_indexes file bytes pack e p =
     indexes_by file pack (contents_of file.sections) refl (rw e at p)
 
--- the strings that were read for a package are its own
-pub has_strings : (file : Elf) (bytes strings : List ℕ) (order : Endianness)
-    → elf_of bytes ≡ Ok file
-    → ((pack : Package) → HasIndexes file pack
-    → (order ≡ pack.order) × (strings ≡ content pack.contents Str)) → (pack : Package)
-    → package_of bytes ≡ Ok pack → (order ≡ pack.order) × (strings ≡ content pack.contents Str)
-has_strings file bytes strings order e told pack p =
-    told pack (has_indexes file bytes pack e p)
-
 -- the strings of a file are those of its package
 pub file_strings : (file : Elf) (strings : List ℕ) (order : Endianness) → order ≡ file.order
     → ((bs : List ℕ) → content_among file.sections Str ≡ Ok bs → strings ≡ bs) → (pack : Package)
@@ -137,20 +128,7 @@ file_strings file strings order same told pack has =
     (same ∙ sym has.order, told (content pack.contents Str) has.strings)
 
 -- bytes that are no file are no package
-pub no_strings : (bytes strings : List ℕ) (order : Endianness) (cause : ElfError)
-    → elf_of bytes ≡ Err cause → (pack : Package) → package_of bytes ≡ Ok pack
-    → (order ≡ pack.order) × (strings ≡ content pack.contents Str)
-unfolding package_of
-no_strings bytes strings order cause e pack p = absurd (let q = rw e at p in cc)
-
--- what the file has no index of, a package of its bytes has none of
-pub lacks_indexes : (file : Elf) (bytes : List ℕ) (b : Bool) → elf_of bytes ≡ Ok file
-    → ((pack : Package) → HasIndexes file pack → b ≡ has_no_index pack) → (pack : Package)
-    → package_of bytes ≡ Ok pack → b ≡ has_no_index pack
-lacks_indexes file bytes b e told pack p = told pack (has_indexes file bytes pack e p)
-
--- bytes that are no file are no package
 pub no_package : (bytes : List ℕ) (cause : ElfError) → elf_of bytes ≡ Err cause → (pack : Package)
-    → package_of bytes ≡ Ok pack → false ≡ has_no_index pack
+    → package_of bytes ≡ Ok pack → ⊥
 unfolding package_of
-no_package bytes cause e pack p = absurd (let q = rw e at p in cc)
+no_package bytes cause e pack p = let q = rw e at p in cc

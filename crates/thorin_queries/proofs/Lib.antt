@@ -1,16 +1,16 @@
-mod Asked
-mod Checked
-mod Cuts
-mod Decimals
-mod Faulted
-mod Hex
-mod Indexed
-mod Lines
-mod Listed
-mod Naming
-mod Printed
-mod Reached
-mod Skeletons
-mod Spelling
-mod Told
-mod Walk
+pub mod Asked
+pub mod Checked
+pub mod Cuts
+pub mod Decimals
+pub mod Faulted
+pub mod Hex
+pub mod Indexed
+pub mod Lines
+pub mod Listed
+pub mod Naming
+pub mod Printed
+pub mod Reached
+pub mod Skeletons
+pub mod Spelling
+pub mod Told
+pub mod Walk

@@ -10,12 +10,10 @@ pub flat_map_next : {A : Type 0} (f : A → List ℕ) (xs : List A) (i : ℕ) (d
     (start old new : List ℕ) → i < length xs → old ≡ start ++ flat_map f (take i xs)
     → new ≡ old ++ f (get_or xs i d) → new ≡ start ++ flat_map f (take (i + 1) xs)
 flat_map_next f xs i d start old new lt so_far added =
-    added ∙ ap (λ l. l ++ f (get_or xs i d)) so_far
-    ∙ flat_map_more f start (take i xs) (get_or xs i d)
-    ∙ ap (λ l. start ++ flat_map f l) (sym (take_more xs i d lt))
+    added ∙ rw (so_far, take_more xs i d lt) (flat_map_more f start (take i xs) (get_or xs i d))
 
 -- what is left is one, and the rest
-pub drop-next : {A : Type 0} (xs : List A) (i : ℕ) (d : A) → i < length xs
+pub drop_next : {A : Type 0} (xs : List A) (i : ℕ) (d : A) → i < length xs
     → drop i xs ≡ get_or xs i d ∷ drop (i + 1) xs
-drop-next xs i d lt =
+drop_next xs i d lt =
     drop-cons xs i d lt ∙ ap (λ n. get_or xs i d ∷ drop n xs) (sym (add-one i))

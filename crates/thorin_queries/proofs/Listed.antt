@@ -1,5 +1,5 @@
 -- What was listed.
-use Rattle.std.proofs.Common.{◌≡◌, ◌∙◌, ℕ, Bool, true, false, List, [], ◌++◌, refl, sym, ap, subst}
+use Rattle.std.proofs.Common.{◌≡◌, ◌∙◌, ℕ, Bool, true, false, List, [], ◌++◌, refl, sym}
 use Rattle.std.proofs.Common.{inl, inr}
 use Rattle.std.specs.Prelude.{Option, Result, Ok, Err, ◌⊎◌}
 use Rattle.std.specs.declared.io.Error.{Error as IoError}
@@ -11,7 +11,7 @@ use Rattle.dwp_index.specs.Package.{Package, package_of}
 use Rattle.dwp_index.specs.declared.error.PackageError.{PackageError}
 use Rattle.dwp_index.specs.declared.units.UnitEntry.{UnitEntry}
 use Rattle.thorin_queries.specs.Answers.{Comes, FailsToRead, OrNoMemory}
-use Rattle.thorin_queries.specs.Listing.{AreByRow, ListView, Lines, lines_of, after_lines, IsListed}
+use Rattle.thorin_queries.specs.Listing.{AreByRow, ListView, Lines, lines_of, IsListed}
 use Rattle.thorin_queries.specs.Listing.{view_of, ListsPackage, ListsBytes, Lists}
 use Rattle.thorin_queries.specs.declared.listing.ListForm.{ListForm}
 use Rattle.thorin_queries.specs.declared.output.Failure.{Failure}
@@ -19,56 +19,36 @@ use Rattle.thorin_queries.specs.declared.output.Failure.TheVariants as failures
 
 -- ---- the text of a list
 
-after_part : (lines : Lines) (b : Bool) → lines.is_all ≡ b → b ≡ false → (totals : List ℕ)
-    → after_lines lines totals
-    ≡ record { printed = lines.printed; answer = Err failures.Malformed }
-after_part lines b e ends totals = rw (e ∙ ends) refl
-
-after_all : (lines : Lines) (b : Bool) → lines.is_all ≡ b → b ≡ true → (totals : List ℕ)
-    → after_lines lines totals ≡ record { printed = lines.printed ++ totals; answer = Ok 0 }
-after_all lines b e goes totals = rw (e ∙ goes) refl
-
 module _ (form : ListForm) (lines : Lines) (is_all : Bool) (old text : List ℕ) where
   -- up to a unit that can't be looked up
   pub listed_part : old ≡ [] → text ≡ old ++ lines.printed → is_all ≡ lines.is_all
       → is_all ≡ false
       → IsListed form lines (record { printed = text; answer = Err failures.Malformed })
-  listed_part none added all ends =
-      let same : text ≡ lines.printed = added ∙ ap (λ l. l ++ lines.printed) none in
-      record {
-        totals = [];
-        no_totals = λ e. refl;
-        is = after_part lines is_all (sym all) ends []
-            ∙ ap (λ l. record { printed = l; answer = Err failures.Malformed }) (sym same);
-      }
+  listed_part none added all ends = record {
+    totals = [];
+    no_totals = λ e. refl;
+    is = rw (← all, ends, added, none) refl;
+  }
 
   -- without totals
   pub listed_plain : old ≡ [] → text ≡ old ++ lines.printed → is_all ≡ lines.is_all
       → is_all ≡ true → IsListed form lines (record { printed = text; answer = Ok 0 })
-  listed_plain none added all goes =
-      let same : text ≡ lines.printed ++ [] =
-      added ∙ ap (λ l. l ++ lines.printed) none ∙ sym (append-nil lines.printed) in
-      record {
-        totals = [];
-        no_totals = λ e. refl;
-        is = after_all lines is_all (sym all) goes []
-            ∙ ap (λ l. record { printed = l; answer = Ok 0 }) (sym same);
-      }
+  listed_plain none added all goes = record {
+    totals = [];
+    no_totals = λ e. refl;
+    is = rw (← all, goes, added, none, append-nil) refl;
+  }
 
   -- with totals
   pub listed_sized : (new : List ℕ) → old ≡ [] → text ≡ old ++ lines.printed
       → is_all ≡ lines.is_all → is_all ≡ true → form.sizes ≡ true
       → ((totals : List ℕ) × (new ≡ text ++ totals))
       → IsListed form lines (record { printed = new; answer = Ok 0 })
-  listed_sized new none added all goes asked more =
-      let same : new ≡ lines.printed ++ more.0 =
-      more.1 ∙ ap (λ l. l ++ more.0) (added ∙ ap (λ l. l ++ lines.printed) none) in
-      record {
-        totals = more.0;
-        no_totals = λ e. absurd (true≢false (sym asked ∙ e));
-        is = after_all lines is_all (sym all) goes more.0
-            ∙ ap (λ l. record { printed = l; answer = Ok 0 }) (sym same);
-      }
+  listed_sized new none added all goes asked more = record {
+    totals = more.0;
+    no_totals = λ e. absurd (true≢false (sym asked ∙ e));
+    is = rw (← all, goes, more.1, added, none) refl;
+  }
 
 -- ---- what came of it
 
@@ -78,7 +58,7 @@ no_memory P a = inr (refl, Keeps-refl a)
 
 pub same_entries : (pack : Package) (entries lent : List UnitEntry) → lent ≡ entries
     → AreByRow pack entries → AreByRow pack lent
-same_entries pack entries lent same h = subst (AreByRow pack) (sym same) h
+same_entries pack entries lent same h = rw same h
 
 pub entries_listed : (form : ListForm) (pack : Package) (old new : Option (List ℕ))
     (result : Result ℕ Failure) (entries : List UnitEntry) (given : Result ℕ Failure)
@@ -93,17 +73,15 @@ entries_listed form pack old new result entries given text lent view seen by_row
       entries = entries;
       by_row = by_row;
       meant = record { printed = text; answer = given };
-      listed = subst (λ v. IsListed form (lines_of v pack entries)
-          (record { printed = text; answer = given })) seen listed;
-      comes = subst (λ l. Comes result (record { printed = l; answer = given }) old new) same comes;
+      listed = rw seen at listed;
+      comes = rw same at comes;
     })
 
 pub bytes_listed : (form : ListForm) (pack : Package) (p : Result Package PackageError)
     (old new : Option (List ℕ)) (result : Result ℕ Failure) → p ≡ Ok pack
     → OrNoMemory (ListsPackage form pack old new result) old new result
     → OrNoMemory (ListsBytes form p old new result) old new result
-bytes_listed form pack p old new result e h =
-    subst (λ q. OrNoMemory (ListsBytes form q old new result) old new result) (sym e) h
+bytes_listed form pack p old new result e h = rw e h
 
 pub bytes_malformed : (form : ListForm) (cause : PackageError) (p : Result Package PackageError)
     (a : Option (List ℕ)) → p ≡ Err cause
@@ -128,9 +106,7 @@ module _ (offer : List ℕ → Result (List ℕ) IoError → Type 0) (path : Lis
       → Lists offer path form old new result
   unfolding OrNoMemory
   was_listed old new result bytes lent read same h =
-      listed_or old new result bytes read
-      (subst (λ bs. ListsBytes form (package_of bs) old new result
-      ⊎ ((result ≡ Err failures.Memory) × Keeps old new)) same h)
+      listed_or old new result bytes read (rw same at h)
 
   pub not_listed : (a : Option (List ℕ)) (failure : Failure) → FailsToRead offer path failure
       → Lists offer path form a a (Err failure)

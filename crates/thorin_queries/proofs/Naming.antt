@@ -1,11 +1,10 @@
 -- What is read at most.
-use Rattle.std.proofs.Common.{◌≡◌, ◌∙◌, ◌⊎◌, ⊎_elim, ℕ, length, sym, ap, arith}
+use Rattle.std.proofs.Common.{◌≡◌, ◌∙◌, ⊎_elim, ℕ, length, sym, ap, arith}
 use Rattle.std.specs.Prelude.{Err}
-use Rattle.std.proofs.lemmas.Bool.{le-ltb}
+use Rattle.std.proofs.lemmas.Bool.{le-ltb, cases_lt}
 use Rattle.std.proofs.lemmas.List.{take_all}
 use Rattle.dwp_bytes.specs.Input.{Input, front, truncate_at}
 use Rattle.dwp_bytes.specs.declared.error.ReadError.{ReadError}
-use Rattle.thorin_queries.proofs.Cuts.{order}
 
 -- what has fewer bytes is its own beginning
 pub kept_whole : (n : ℕ) (i j : Input) (e : ReadError) → truncate_at n i ≡ Err e → j ≡ i
@@ -15,4 +14,4 @@ kept_whole n i j e cut same = ⊎_elim
     (λ short. same
     ∙ sym (ap (λ bs. record i { bytes = bs }) (take_all n i.bytes (omega arith))))
     (λ long. absurd (let q = rw (le-ltb (length i.bytes) n long) at cut in cc))
-    (order (length i.bytes) n)
+    (cases_lt (length i.bytes) n)

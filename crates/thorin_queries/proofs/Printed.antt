@@ -1,5 +1,5 @@
 -- What was printed, or begun.
-use Rattle.std.proofs.Common.{◌≡◌, ℕ, Bool, List, length, take, sym, ◌∙◌, ap, subst, arith, refl}
+use Rattle.std.proofs.Common.{◌≡◌, ℕ, Bool, List, length, take, sym, ◌∙◌, ap, arith, refl}
 use Rattle.std.proofs.Common.{inl, inr}
 use Rattle.std.specs.Prelude.{Option, Some, None, Result, Ok, Err, OnErr}
 use Rattle.std.specs.declared.io.Error.{Error as IoError}
@@ -19,20 +19,13 @@ use Rattle.dwp_table.specs.declared.object.DwarfObject.{DwarfObject}
 pub whole : (old new : Option (List ℕ)) (bytes : List ℕ) → Appends old new bytes
     → HasBeginning old new bytes
 unfolding HasBeginning
-whole old new bytes h = (
-  length bytes,
-  subst (λ bs. Appends old new bs) (sym (take_all (length bytes) bytes (omega arith))) h,
-)
+whole old new bytes h = (length bytes, rw (take_all (length bytes) bytes (omega arith)) h)
 
 -- what was handed over so far is a beginning
 pub part : (old new : Option (List ℕ)) (all rest : List ℕ) → SoFar old new all rest
     → HasBeginning old new all
 unfolding HasBeginning
-part old new all rest s = (
-  length s.done,
-  subst (λ bs. Appends old new bs)
-      (sym (ap (take (length s.done)) s.split ∙ take-append_seam s.done rest)) s.appended,
-)
+part old new all rest s = (length s.done, rw (s.split, take-append_seam s.done rest) s.appended)
 
 -- all was printed, and the answer is the one that is meant
 pub came : (given : Result ℕ Failure) (text : List ℕ) (old new : Option (List ℕ))
@@ -41,20 +34,7 @@ pub came : (given : Result ℕ Failure) (text : List ℕ) (old new : Option (Lis
 came (Ok status) text old new h = (refl, h)
 came (Err failures.Line) text old new h = whole old new text h
 came (Err failures.Memory) text old new h = whole old new text h
-came (Err failures.Output) text old new h = (refl, h)
-came (Err failures.Overwrites) text old new h = (refl, h)
-came (Err failures.Input) text old new h = (refl, h)
-came (Err failures.Malformed) text old new h = (refl, h)
-came (Err failures.NoIndex) text old new h = (refl, h)
-came (Err (failures.NoUnit id)) text old new h = (refl, h)
-came (Err failures.BadKind) text old new h = (refl, h)
-came (Err failures.BadIdentifier) text old new h = (refl, h)
-came (Err failures.BadNumber) text old new h = (refl, h)
-came (Err failures.BadSection) text old new h = (refl, h)
-came (Err (failures.NoString i)) text old new h = (refl, h)
-came (Err (failures.NoRange kind)) text old new h = (refl, h)
-came (Err failures.BadCommand) text old new h = (refl, h)
-came (Err failures.Response) text old new h = (refl, h)
+came (Err failure) text old new h = (refl, h)
 
 -- a write failed
 pub stopped : (given : Result ℕ Failure) (text : List ℕ) (old new : Option (List ℕ))
@@ -100,7 +80,7 @@ module _ (offer : List ℕ → Result (List ℕ) IoError → Type 0) (path : Lis
       → Reads offer path meant old new result
   unfolding Reads
   was_read old new result bytes lent read same comes =
-      inl (bytes, read, subst (λ bs. Comes result (meant bs) old new) same comes)
+      inl (bytes, read, rw same at comes)
 
   -- it can't be read
   pub unread : (a : Option (List ℕ)) (failure : Failure) → FailsToRead offer path failure

@@ -111,22 +111,7 @@ own_order ends order strings h = record {
 pub of_package : (ends : Ends) (order : Endianness) (strings : List ℕ) (pack : Package)
     → HasEnds ends order strings → order ≡ pack.order → strings ≡ content pack.contents Str
     → HasEnds ends pack.order (content pack.contents Str)
-of_package ends order strings pack h e f = record {
-  order_is = h.order_is ∙ e;
-  size = h.size ∙ ap length f;
-  inside = subst (λ s. ends.reach ≤ length s) f h.inside;
-  reach = subst (λ s. IsReach s ends.reach) f h.reach;
-}
-
-of_unit : (ends : Ends) (pack : Package) (unit : FoundUnit)
-    → HasEnds ends pack.order (content pack.contents Str) → unit.order ≡ pack.order
-    → unit.contents ≡ pack.contents → HasEnds ends unit.order (content unit.contents Str)
-of_unit ends pack unit h e f = record {
-  order_is = h.order_is ∙ sym e;
-  size = h.size ∙ ap (λ c. length (content c Str)) (sym f);
-  inside = subst (λ c. ends.reach ≤ length (content c Str)) (sym f) h.inside;
-  reach = subst (λ c. IsReach (content c Str) ends.reach) (sym f) h.reach;
-}
+of_package ends order strings pack h e f = rw (e, f) at h
 
 -- ---- a unit that is found has the byte order and the sections of its package
 
@@ -142,54 +127,42 @@ module _ (pack : Package) (object : DwarfObject) (unit : FoundUnit) where
   unfolding unit_in
   of_row number row e =
       let place = place_of object (range_in row Types) in
-      let bytes = row_bytes pack.contents row (kind_of place) in
       let inside = bind-was (all_inside (first_outside pack.contents row)) _ unit e in
-      let read = bind-was (as_error faults.Unit (encoding_in pack.order place bytes)) _ unit
-      inside.2 in
+      let read = bind-was (as_error faults.Unit (encoding_in pack.order place
+      (row_bytes pack.contents row (kind_of place)))) _ unit inside.2 in
       let made = ok_same {E = PackageError} _ unit _ refl read.2 in
       (sym (ap (λ (u : FoundUnit). u.order) made), sym (ap (λ (u : FoundUnit). u.contents) made))
 
-  at_row : (index : Index) (number count : ℕ) (x : Option FoundUnit × ℕ)
-      → unit_at_row pack object index number count ≡ Ok x → x.0 ≡ Some unit → IsOfPackage pack unit
+  at_row : (index : Index) (number : Option ℕ) (count : ℕ) (x : Option FoundUnit × ℕ)
+      → unit_found pack object index number count ≡ Ok x → x.0 ≡ Some unit
+      → IsOfPackage pack unit
   unfolding unit_at_row
-  at_row index number count x e is =
+  at_row index None count x e is =
+      let made = ok_same {E = PackageError} _ x _ refl e in
+      absurd (let no : None ≡ Some unit = ap (λ (y : Option FoundUnit × ℕ). y.0) made ∙ is in cc)
+  at_row index (Some number) count x e is =
       let row = bind-was (as_error faults.Index (row_in index number)) _ x e in
       let read = bind-was (unit_in pack object number row.0) _ x row.2 in
       let made = ok_same {E = PackageError} _ x _ refl read.2 in
       let same : read.0 ≡ unit = cc in
       of_row number row.0 (read.1 ∙ ap Ok same)
 
-  by_number : (index : Index) (number : Option ℕ) (count : ℕ) (x : Option FoundUnit × ℕ)
-      → unit_found pack object index number count ≡ Ok x → x.0 ≡ Some unit
-      → IsOfPackage pack unit
-  by_number index None count x e is =
-      let made = ok_same {E = PackageError} _ x _ refl e in
-      absurd (let no : None ≡ Some unit = ap (λ (y : Option FoundUnit × ℕ). y.0) made ∙ is in cc)
-  by_number index (Some number) count x e is = at_row index number count x e is
-
   by_index : (index : Option Index) (x : Option FoundUnit × ℕ) → found_by pack object index ≡ Ok x
       → x.0 ≡ Some unit → IsOfPackage pack unit
-  by_index None x e is =
-      let made = ok_same {E = PackageError} _ x _ refl e in
-      absurd (let no : None ≡ Some unit = ap (λ (y : Option FoundUnit × ℕ). y.0) made ∙ is in cc)
-  by_index (Some index) x e is = by_number index
+  by_index None x e is = absurd (let made = ok_same {E = PackageError} _ x _ refl e in
+      let no : None ≡ Some unit = ap (λ (y : Option FoundUnit × ℕ). y.0) made ∙ is in cc)
+  by_index (Some index) x e is = at_row index
       (found_row index.signatures index.rows (identifier_of object))
       (look_count index.signatures index.rows (identifier_of object)) x e is
 
-  counted : (x : Option FoundUnit × ℕ) → found_counted pack object ≡ Ok x → x.0 ≡ Some unit
-      → IsOfPackage pack unit
-  unfolding found_counted
-  counted x e is = by_index (index_for pack object) x e is
-
-  found_in : found pack object ≡ Ok (Some unit) → IsOfPackage pack unit
-  unfolding found
-  found_in e =
-      let counts = bind-was (found_counted pack object) _ (Some unit) e in
-      counted counts.0 counts.1 (ok_same {E = PackageError} _ (Some unit) _ refl counts.2)
-
   pub of_found : (ends : Ends) → HasEnds ends pack.order (content pack.contents Str)
       → found pack object ≡ Ok (Some unit) → HasEnds ends unit.order (content unit.contents Str)
-  of_found ends h e = let is = found_in e in of_unit ends pack unit h is.0 is.1
+  unfolding found found_counted
+  of_found ends h e =
+      let counts = bind-was (found_counted pack object) _ (Some unit) e in
+      let is = by_index (index_for pack object) counts.0 counts.1
+      (ok_same {E = PackageError} _ (Some unit) _ refl counts.2) in
+      rw (is.0, is.1) h
 
 -- ---- a string of a unit
 
@@ -200,21 +173,17 @@ fault_of-bound (Err e) = refl
 
 module _ (order other : Endianness) (encoding code : Encoding) (strings range bytes : List ℕ)
     (i : ℕ) (same : other ≡ order) (written : code ≡ encoding) (whole : bytes ≡ range) where
-  entry_is : (found : Option ℕ) → found ≡ entry_in other code bytes i
-      → entry_in order encoding range i ≡ found
-  entry_is found e = cc
-
   pub none_there : None ≡ entry_in other code bytes i
       → None ≡ fault_of (string_in order encoding strings range i)
   unfolding string_in
-  none_there e = let there = entry_is None e in rw there refl
+  none_there e = let there : entry_in order encoding range i ≡ None = cc in rw there refl
 
   pub one_there : (offset : ℕ) → Some offset ≡ entry_in other code bytes i
       → fault_of (string_at strings offset)
       ≡ fault_of (string_in order encoding strings range i)
   unfolding string_in
   one_there offset e =
-      let there = entry_is (Some offset) e in
+      let there : entry_in order encoding range i ≡ Some offset = cc in
       rw there (sym (fault_of-bound (string_at strings offset)))
 
 -- ---- all strings of a unit
@@ -254,6 +223,4 @@ module _ (ends : Ends) (order : Endianness) (encoding code : Encoding)
       → ((k : ℕ) → k < end → is_inside ends (entry_in ends.order code bytes k) ≡ true)
       → (i : ℕ) → fault_of (string_in order encoding strings range i) ≡ None
   all_read_of end le below i =
-      subst (λ e. fault_of (string_in order e strings range i) ≡ None) written
-      (subst (λ b. fault_of (string_in order code strings b i) ≡ None) whole
-      (all_read ends order strings h code bytes end le below i))
+      rw (← written, ← whole) (all_read ends order strings h code bytes end le below i)

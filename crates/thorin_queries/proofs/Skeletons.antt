@@ -1,9 +1,8 @@
 -- What was told of the units that an executable names.
-use Rattle.std.proofs.Common.{◌≡◌, ◌∙◌, ◌≢◌, ℕ, List, [], ◌∷◌, ◌++◌, refl, sym, ap, subst}
+use Rattle.std.proofs.Common.{◌≡◌, ◌≢◌, ℕ, List, [], ◌∷◌, ◌++◌, refl}
 use Rattle.std.proofs.Common.{append_assoc}
 use Rattle.std.proofs.lemmas.List.{append-nil}
 use Rattle.std.specs.Prelude.{Option, Some, None, Result, Ok, Err, OnOk}
-use Rattle.std.specs.List.{flat_map}
 use Rattle.dwp_index.specs.Package.{Package, FoundUnit, found}
 use Rattle.dwp_index.specs.declared.error.PackageError.{PackageError}
 use Rattle.thorin_executable.specs.Skeletons.{Named, Listed}
@@ -29,7 +28,7 @@ module _ (executable : List ℕ) (named : Named)
   pub missing_none : looked ≡ Ok None → (text : List ℕ)
       → text ≡ missing_text executable named.1
       → fault_line named.0 text ∷ [] ≡ missing_lines executable named looked
-  missing_none e text is = rw e (ap (λ x. fault_line named.0 x ∷ []) is)
+  missing_none e text is = rw (e, is) refl
 
 module _ (pack : Package) (executable : List ℕ) (all : Listed) where
   -- what is told of those that are left makes, behind these lines, what is told of all
@@ -44,32 +43,23 @@ module _ (pack : Package) (executable : List ℕ) (all : Listed) where
       → (ls ms : List (List ℕ)) → GoesOn before ls
       → Is (missing_lines executable first (found pack first.0)) ms → GoesOn after (ls ++ ms)
   on_next before after first e ls ms h k = record {
-    on = λ more t. subst (TellsListed pack executable all) (sym (append_assoc ls ms more))
-        (h.on (ms ++ more) (subst (λ l. TellsListed pack executable l (ms ++ more))
-        (sym e) (record {
-          ended = t.ended;
-          end = t.end;
-          all = ap (λ l. ms ++ l) t.all ∙ ap (λ l. l ++ (flat_map (λ named.
-              missing_lines executable named (found pack named.0)) after.0 ++ t.ended)) k
-              ∙ sym (append_assoc (missing_lines executable first (found pack first.0))
-              (flat_map (λ named. missing_lines executable named (found pack named.0)) after.0)
-              t.ended);
-        })));
+    on = λ more t. rw (append_assoc ls ms more) (h.on (ms ++ more) (rw e (record {
+      ended = t.ended;
+      end = t.end;
+      all = rw (t.all, k, append_assoc) refl;
+    })));
   }
 
   pub on_end : (before : Listed) → before ≡ ([], None) → (ls : List (List ℕ)) → GoesOn before ls
       → TellsListed pack executable all ls
-  on_end before e ls h =
-      subst (TellsListed pack executable all) (append-nil ls)
-      (h.on [] (subst (λ l. TellsListed pack executable l []) (sym e)
-      (record { ended = []; end = refl; all = refl })))
+  on_end before e ls h = rw (← append-nil ls)
+      (h.on [] (rw e (record { ended = []; end = refl; all = refl })))
 
   pub on_broken : (before : Listed) (fault : ErrorValue) → before ≡ ([], Some fault)
       → (ls ms : List (List ℕ)) → GoesOn before ls → IsBroken executable ms
       → TellsListed pack executable all (ls ++ ms)
   on_broken before fault e ls ms h k =
-      h.on ms (subst (λ l. TellsListed pack executable l ms) (sym e)
-      (record { ended = ms; end = k; all = refl }))
+      h.on ms (rw e (record { ended = ms; end = k; all = refl }))
 
 -- a list that begins with its fault
 pub only_broken : (pack : Package) (executable : List ℕ) (listed : Listed) (fault : ErrorValue)
@@ -77,8 +67,7 @@ pub only_broken : (pack : Package) (executable : List ℕ) (listed : Listed) (fa
     → Tells (IsBroken executable) a b result → Tells (TellsListed pack executable listed) a b result
 only_broken pack executable listed fault a b result e h =
     tells_as (IsBroken executable) (TellsListed pack executable listed) a b result
-    (λ lines k. subst (λ l. TellsListed pack executable l lines) (sym e)
-    (record { ended = lines; end = k; all = refl })) h
+    (λ lines k. rw e (record { ended = lines; end = k; all = refl })) h
 
 module _ (pack : Package) (executable : List ℕ) (listed : Listed) (a b : Progress) where
   -- the fault that a list begins with was told
@@ -90,12 +79,6 @@ module _ (pack : Package) (executable : List ℕ) (listed : Listed) (a b : Progr
       only_broken pack executable listed (error_of error) a b (Ok done) (aside known) h
   read_broken error (Err failure) aside known h = h
 
-  pub opened : (result : Outcome) (began : Listed) → listed ≡ began
-      → Tells (TellsListed pack executable began) a b result
-      → Tells (TellsListed pack executable listed) a b result
-  opened result began e h =
-      subst (λ l. Tells (TellsListed pack executable l) a b result) (sym e) h
-
 -- the fault that ends a list was told
 pub end_broken : (pack : Package) (executable : List ℕ) (all before : Listed) (a b c : Progress)
     (error : Error) (result : Outcome)
@@ -103,8 +86,7 @@ pub end_broken : (pack : Package) (executable : List ℕ) (all before : Listed) 
     → Told (GoesOn pack executable all before) a b → Tells (IsBroken executable) b c result
     → Tells (TellsListed pack executable all) a c result
 end_broken pack executable all before a b c error (Ok done) aside known p q =
-    told_then (GoesOn pack executable all before) (IsBroken executable)
-    (TellsListed pack executable all)
+    told_then
     (on_broken pack executable all before (error_of error) (aside known)) p q
 end_broken pack executable all before a b c error (Err failure) aside known p q =
     (q.0, stopped_behind c.written p q.1)

@@ -1,21 +1,17 @@
 -- Lines that were told.
 use Rattle.std.proofs.Common.{◌≡◌, ◌∙◌, ℕ, ◌+◌, ◌-◌, ◌^◌, ◌<◌, ◌≤◌, List, [], ◌∷◌, ◌++◌, length}
-use Rattle.std.proofs.Common.{map, min, refl, sym, ap, subst, arith, append_assoc, take, get_or}
+use Rattle.std.proofs.Common.{map, min, refl, sym, subst, arith, append_assoc, take, get_or}
 use Rattle.std.specs.Prelude.{Option, Result, Ok, Err, OnOk}
 use Rattle.std.specs.List.{concat}
 use Rattle.std.specs.Io.KnownBytes.{Appends, Keeps}
 use Rattle.std.proofs.KnownBytes.{Appends-nil, Appends-trans, Appends-kept}
+use Rattle.std.proofs.lemmas.List.Folds.{concat-append}
 use Rattle.std.proofs.lemmas.List.{append-nil, map-append, take_more, take_all}
 use Rattle.thorin_queries.specs.Answers.{HasBeginning}
 use Rattle.thorin_queries.specs.Telling.{Grows, fault_count, counted_on, Progress, Told, TellsOr}
 use Rattle.thorin_queries.specs.Telling.{Tells, IsLine, Prints, HandsOver, PassedOn, PassesOn}
 use Rattle.thorin_queries.specs.Telling.{Outcome, InTurn, ForEach}
 use Rattle.thorin_queries.specs.declared.output.Failure.{Failure}
-
-pub concat-append : (xs ys : List (List ℕ)) → concat (xs ++ ys) ≡ concat xs ++ concat ys
-concat-append [] ys = refl
-concat-append (x ∷ xs) ys =
-    ap (λ l. x ++ l) (concat-append xs ys) ∙ sym (append_assoc x (concat xs) (concat ys))
 
 -- ---- what was printed
 
@@ -45,10 +41,7 @@ counted_from n (line ∷ lines) fits =
 
 -- from none on
 pub all_counted : (lines : List (List ℕ)) → counted_on 0 lines ≡ fault_count lines
-all_counted lines =
-    let from : counted_on 0 lines ≡ min (0 + length lines) (2 ^ 64 - 1) =
-    counted_from 0 lines (omega arith) in
-    omega (arith, from)
+all_counted lines = omega (arith, counted_from 0 lines (omega arith))
 
 -- ---- lines
 
@@ -64,38 +57,36 @@ module _ (P : List (List ℕ) → Type 0) where
     counted = refl;
   }
 
-  pub told_as : (Q : List (List ℕ) → Type 0) (a b : Progress)
-      → ((lines : List (List ℕ)) → P lines → Q lines) → Told P a b → Told Q a b
-  told_as Q a b goes t = record {
-    lines = t.lines;
-    are = goes t.lines t.are;
-    handed = t.handed;
-    added = t.added;
-    split = t.split;
-    counted = t.counted;
-  }
+pub told_as : {P Q : List (List ℕ) → Type 0} {a b : Progress} → Told P a b
+    → ((lines : List (List ℕ)) → P lines → Q lines) → Told Q a b
+told_as t goes = record {
+  lines = t.lines;
+  are = goes t.lines t.are;
+  handed = t.handed;
+  added = t.added;
+  split = t.split;
+  counted = t.counted;
+}
 
-split_on : (held one two handed handed' mid left : List ℕ) → held ++ one ≡ handed ++ mid
-    → mid ++ two ≡ handed' ++ left → held ++ (one ++ two) ≡ (handed ++ handed') ++ left
-split_on held one two handed handed' mid left p q =
-    sym (append_assoc held one two) ∙ ap (λ l. l ++ two) p ∙ append_assoc handed mid two
-    ∙ ap (λ l. handed ++ l) q ∙ sym (append_assoc handed handed' left)
-
-module _ (P Q R : List (List ℕ) → Type 0) {a b c : Progress} where
-  -- lines of one kind, and behind them those of another
-  pub told_then : ((xs ys : List (List ℕ)) → P xs → Q ys → R (xs ++ ys)) → Told P a b
-      → Told Q b c → Told R a c
-  told_then joins p q = record {
-    lines = p.lines ++ q.lines;
-    are = joins p.lines q.lines p.are q.are;
-    handed = p.handed ++ q.handed;
-    added = Appends-trans a.written b.written c.written p.handed q.handed p.added q.added;
-    split = ap (λ l. a.waiting ++ l) (concat-append p.lines q.lines)
-        ∙ split_on a.waiting (concat p.lines) (concat q.lines) p.handed q.handed b.waiting
-        c.waiting p.split q.split;
-    counted = q.counted ∙ ap (λ n. counted_on n q.lines) p.counted
-        ∙ sym (counted-append a.count p.lines q.lines);
-  }
+-- lines of one kind, and behind them those of another
+pub told_then : {P Q R : List (List ℕ) → Type 0} {a b c : Progress}
+    → ((xs ys : List (List ℕ)) → P xs → Q ys → R (xs ++ ys)) → Told P a b → Told Q b c
+    → Told R a c
+told_then {a = a} {b = b} {c = c} joins p q = record {
+  lines = p.lines ++ q.lines;
+  are = joins p.lines q.lines p.are q.are;
+  handed = p.handed ++ q.handed;
+  added = Appends-trans a.written b.written c.written p.handed q.handed p.added q.added;
+  split = rw (
+    concat-append p.lines q.lines,
+    ← append_assoc a.waiting (concat p.lines) (concat q.lines),
+    p.split,
+    append_assoc p.handed b.waiting (concat q.lines),
+    q.split,
+  )
+      (sym (append_assoc p.handed q.handed c.waiting));
+  counted = rw (q.counted, p.counted) (sym (counted-append a.count p.lines q.lines));
+}
 
 in_turn : (P Q : List (List ℕ) → Type 0) (xs ys : List (List ℕ)) → P xs → Q ys
     → InTurn P Q (xs ++ ys)
@@ -112,7 +103,7 @@ module _ (P Q R : List (List ℕ) → Type 0) (Stops : Failure → Type 0) (a b 
   pub then_or : ((xs ys : List (List ℕ)) → P xs → Q ys → R (xs ++ ys))
       → (result : Outcome) → Told P a b → TellsOr Stops Q b c result
       → TellsOr Stops R a c result
-  then_or joins (Ok done) p q = told_then P Q R joins p q
+  then_or joins (Ok done) p q = told_then joins p q
   then_or joins (Err failure) p q = (q.0, stopped_behind c.written p q.1)
 
 module _ (P Q : List (List ℕ) → Type 0) (Stops : Failure → Type 0) (a b c : Progress) where
@@ -130,7 +121,7 @@ handed_over a b held lent left (Err failure) same none p = p
 -- what a text with a property tells
 pub tells_as : (P Q : List (List ℕ) → Type 0) (a b : Progress) (result : Outcome)
     → ((lines : List (List ℕ)) → P lines → Q lines) → Tells P a b result → Tells Q a b result
-tells_as P Q a b (Ok done) goes t = told_as P Q a b goes t
+tells_as P Q a b (Ok done) goes t = told_as t goes
 tells_as P Q a b (Err failure) goes t = t
 
 -- ---- one line
@@ -139,7 +130,7 @@ module _ (line : List ℕ) (written : Option (List ℕ)) (held more : List ℕ) 
     (new : Progress) where
   line_split : (handed : List ℕ) → more ≡ held ++ line → more ≡ handed ++ new.waiting
       → held ++ concat (line ∷ []) ≡ handed ++ new.waiting
-  line_split handed e split = ap (λ l. held ++ l) (append-nil line) ∙ sym e ∙ split
+  line_split handed e split = rw (append-nil line, ← e) split
 
   line_told : more ≡ held ++ line
       → PassedOn (record { written = written; waiting = more; count = count }) new
@@ -167,47 +158,44 @@ module _ (line : List ℕ) (written : Option (List ℕ)) (held more : List ℕ) 
 -- ---- lines for each of a list
 
 module _ {X : Type 0} (P : X → List (List ℕ) → Type 0) where
-  pub for_each_more : (xs : List X) (x : X) (lines more : List (List ℕ)) → ForEach P xs lines
+  for_each_more : (xs : List X) (x : X) (lines more : List (List ℕ)) → ForEach P xs lines
       → P x more → ForEach P (xs ++ (x ∷ [])) (lines ++ more)
-  for_each_more [] x lines more h p =
-      record {
-        first = more;
-        rest = [];
-        is_first = p;
-        is_rest = refl;
-        all = ap (λ l. l ++ more) h ∙ sym (append-nil more);
-      }
-  for_each_more (y ∷ ys) x lines more h p =
-      record {
-        first = h.first;
-        rest = h.rest ++ more;
-        is_first = h.is_first;
-        is_rest = for_each_more ys x h.rest more h.is_rest p;
-        all = ap (λ l. l ++ more) h.all ∙ append_assoc h.first h.rest more;
-      }
+  for_each_more [] x lines more h p = record {
+    first = more;
+    rest = [];
+    is_first = p;
+    is_rest = refl;
+    all = rw (h, append-nil more) refl;
+  }
+  for_each_more (y ∷ ys) x lines more h p = record {
+    first = h.first;
+    rest = h.rest ++ more;
+    is_first = h.is_first;
+    is_rest = for_each_more ys x h.rest more h.is_rest p;
+    all = rw h.all (append_assoc h.first h.rest more);
+  }
 
   -- those of one more
+  pub told_more : (xs ys : List X) (x : X) {a b c : Progress} → ys ≡ xs ++ (x ∷ [])
+      → Told (ForEach P xs) a b → Told (P x) b c → Told (ForEach P ys) a c
+  told_more xs ys x e p q = rw e (told_then (for_each_more xs x) p q)
+
   pub told_next : (xs : List X) (i : ℕ) (d : X) {a b c : Progress} → i < length xs
       → Told (ForEach P (take i xs)) a b → Told (P (get_or xs i d)) b c
       → Told (ForEach P (take (i + 1) xs)) a c
-  told_next xs i d lt p q =
-      told_then (ForEach P (take i xs)) (P (get_or xs i d)) (ForEach P (take (i + 1) xs))
-      (λ ls ms h k. subst (λ l. ForEach P l (ls ++ ms)) (sym (take_more xs i d lt))
-      (for_each_more (take i xs) (get_or xs i d) ls ms h k)) p q
+  told_next xs i d lt p q = told_more (take i xs) _ (get_or xs i d) (take_more xs i d lt) p q
 
   -- all of them
   pub told_all : (xs : List X) (i : ℕ) {a b : Progress} → length xs ≤ i
       → Told (ForEach P (take i xs)) a b → Told (ForEach P xs) a b
-  told_all xs i {a = a} {b = b} h t =
-      subst (λ l. Told (ForEach P l) a b) (take_all i xs h) t
+  told_all xs i h t = rw (take_all i xs h) at t
 
 -- ---- lines of a property that goes on
 
 -- lines of one function of each of a list
 pub rows_more : {X : Type 0} (f : X → List ℕ) (xs ys : List X) (ls ms : List (List ℕ))
     → ls ≡ map f xs → ms ≡ map f ys → ls ++ ms ≡ map f (xs ++ ys)
-rows_more f xs ys ls ms p q =
-    ap (λ l. l ++ ms) p ∙ ap (λ l. map f xs ++ l) q ∙ sym (map-append f xs ys)
+rows_more f xs ys ls ms p q = rw (p, q) (sym (map-append f xs ys))
 
 pub appended : (a b : Option (List ℕ)) (text : List ℕ) → Appends a b text → Grows a b
 appended a b text h = (text, h)

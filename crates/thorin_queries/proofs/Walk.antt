@@ -1,9 +1,8 @@
 -- The lines of a list, slot by slot.
-use Rattle.std.proofs.Common.{◌≡◌, ℕ, Bool, true, false, List, [], ◌∷◌, ◌++◌, ◌∙◌, refl, sym, ap}
+use Rattle.std.proofs.Common.{◌≡◌, ℕ, Bool, true, List, ◌∷◌, ◌++◌, ◌∙◌, refl, sym, ap}
 use Rattle.std.proofs.Common.{append_assoc, subst}
 use Rattle.std.specs.Prelude.{Option, Result, Ok, Err}
 use Rattle.std.proofs.lemmas.Bool.{true≢false}
-use Rattle.std.proofs.lemmas.List.{append-nil}
 use Rattle.dwp_index.specs.Package.{Package, FoundUnit, found}
 use Rattle.dwp_index.specs.declared.error.PackageError.{PackageError}
 use Rattle.dwp_index.specs.declared.units.UnitEntry.{UnitEntry}
@@ -53,25 +52,3 @@ module _ (view : ListView) (pack : Package) (all : List UnitEntry) (entry : Unit
       so_far_more
       (subst (λ b. AddsLine view entry (found pack entry.object) middle new b) found_it h)
       (subst (λ l. LinesSoFar view pack all l old middle) split s)
-
-  stop : (r : Result (Option FoundUnit) PackageError) → found pack entry.object ≡ r
-      → AddsLine view entry r middle new false
-      → LinesSoFar view pack all (entry ∷ rest) old middle
-      → (new ≡ old ++ (lines_of view pack all).printed)
-      × (false ≡ (lines_of view pack all).is_all)
-  stop (Ok unit) e h s = absurd (true≢false (sym h.0))
-  stop (Err cause) e h s =
-      let none : lines_of view pack all ≡ record { printed = s.done ++ []; is_all = false } =
-      s.split ∙ ap (λ r. behind s.done (behind_line view entry r
-      (lines_of view pack rest))) e in (
-        h.1 ∙ s.added ∙ ap (λ l. old ++ l) (sym (append-nil s.done))
-            ∙ ap (λ l. old ++ l) (sym (ap (λ l. l.printed) none)),
-        sym (ap (λ l. l.is_all) none),
-      )
-
-  -- the first unit that can't be looked up is the end of the lines
-  pub so_far_stop : AddsLine view entry (found pack entry.object) middle new false
-      → LinesSoFar view pack all (entry ∷ rest) old middle
-      → (new ≡ old ++ (lines_of view pack all).printed)
-      × (false ≡ (lines_of view pack all).is_all)
-  so_far_stop h s = stop (found pack entry.object) refl h s

@@ -95,6 +95,7 @@ pub fn check_by<F: FileReader, O: Write>(
 }
 
 /// Checks a package's bytes.
+#[tactic(auto, using(crate::proofs::Checked::no_elf))]
 fn check_bytes<F: FileReader, O: Write>(
     rt: &HostRuntime,
     files: &F,
@@ -126,6 +127,7 @@ pub(crate) struct Opened<'m, 'a> {
 }
 
 /// Checks a package, unless it has no index.
+#[tactic(auto, using(crate::proofs::Checked::no_index, crate::proofs::Checked::has_index, crate::proofs::Checked::no_memory_left))]
 fn check_package<F: FileReader, O: Write>(
     rt: &HostRuntime,
     files: &F,
@@ -175,6 +177,7 @@ fn check_entries<F: FileReader, O: Write>(
 }
 
 /// Checks the units, the sections that units need, the rows and the executables.
+#[tactic(auto, using(crate::proofs::Checked::of_printing, crate::proofs::Told::in_turn_or))]
 fn check_all<F: FileReader, O: Write>(
     rt: &HostRuntime,
     files: &F,
@@ -213,6 +216,7 @@ fn finish<O: Write>(units: usize, faults: &mut Faults, out: &mut O) -> Result<u8
 }
 
 /// Prints the last text, to its end. Answers the status.
+#[tactic(auto, using(crate::proofs::Told::flushed, crate::proofs::Told::not_flushed))]
 fn print_last<O: Write>(faults: u64, text: &str, out: &mut O) -> Result<u8, Failure>
     ensures { PrintsLast faults text.now (O.contents out.old) (O.contents out.new) result }
 {

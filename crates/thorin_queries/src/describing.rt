@@ -65,6 +65,7 @@ fn width(format: Format) -> u8
 }
 
 /// Adds the beginning of the object, up to the unit's encoding.
+#[tactic(auto, unfolding(crate::specs::Json::json_unit, crate::specs::Json::json_numbers, crate::specs::Finding::json_encoding))]
 fn put_json_encoding(
     object: DwarfObject,
     encoding: Encoding,

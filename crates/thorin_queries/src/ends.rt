@@ -42,6 +42,7 @@ impl Ends {
 
     /// Why the string of a number of a unit can't be read, where that is so: what
     /// `PackagedUnit::string` answers, but no string is read.
+    #[tactic(auto, using(crate::proofs::Reached::none_there, crate::proofs::Reached::one_there, crate::proofs::Reached::own_order))]
     pub(crate) fn fault_of(self, unit: &PackagedUnit<'_>, i: u64) -> Option<ReadError>
         requires { HasEnds self unit.now.order (content unit.now.contents SectionKind.Str) }
         ensures { result ≡ fault_of (string_of unit.now i) }
@@ -97,6 +98,7 @@ impl Ends {
 }
 
 /// The place behind the last zero byte of some strings; 0 where there is none.
+#[tactic(auto, using(crate::proofs::Reached::reached, crate::proofs::Reached::unreached))]
 fn reach_of(strings: &[u8]) -> u64
     ensures inside { result ≤ length strings.now }
     ensures reach { IsReach strings.now result }

@@ -54,6 +54,7 @@ struct Naming<'m, 'a> {
 }
 
 /// Each split unit that executables name is in the package.
+#[tactic(auto, using(crate::proofs::Told::none_told, crate::proofs::Told::told_all))]
 pub(crate) fn check_executables<F: FileReader, O: Write>(
     rt: &HostRuntime,
     files: &F,
@@ -81,6 +82,7 @@ pub(crate) fn check_executables<F: FileReader, O: Write>(
 }
 
 /// Each split unit that an executable names is in the package.
+#[tactic(auto, using(crate::proofs::Checked::executable_read, crate::proofs::Checked::executable_unread))]
 fn check_executable<F: FileReader, O: Write>(
     rt: &HostRuntime,
     files: &F,
@@ -101,6 +103,7 @@ fn check_executable<F: FileReader, O: Write>(
 }
 
 /// The same of the bytes of an executable, decompressed where that is asked for.
+#[tactic(auto, using(crate::proofs::Checked::taken_as_it_is, crate::proofs::Checked::taken_plain))]
 fn check_read<O: Write>(
     rt: &HostRuntime,
     naming: Naming<'_, '_>,
@@ -141,6 +144,7 @@ fn check_taken<O: Write>(
 }
 
 /// The same, with a session that holds what is made of them.
+#[tactic(auto, using(crate::proofs::Skeletons::read_broken))]
 fn check_named<'s, Sess: Session<RelocationEntry>, O: Write>(
     session: &'s Sess,
     naming: Naming<'_, '_>,
@@ -188,6 +192,7 @@ fn check_skeletons<O: Write>(
 
 /// What is told of a unit that an executable names, where it isn't in the package; what a slot names
 /// and can't be read was told with its unit.
+#[tactic(auto, using(crate::proofs::Faulted::made, crate::proofs::Skeletons::missing_none, crate::proofs::Skeletons::missing_some, crate::proofs::Skeletons::missing_unread))]
 fn skeleton_text(
     naming: Naming<'_, '_>,
     object: DwarfObject,
@@ -217,6 +222,7 @@ fn missing_text(alloc: Global, executable: &str, path: &str) -> Result<String, A
 }
 
 /// Tells why an executable can't be read to its end.
+#[tactic(auto, using(crate::proofs::Faulted::broken, crate::proofs::Told::passed))]
 fn tell_fault<O: Write>(
     executable: &str,
     fault: &Error,

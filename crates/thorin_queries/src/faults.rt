@@ -39,6 +39,7 @@ impl Faults {
 ///
 /// # Errors
 /// `Line` where the writer doesn't take all.
+#[tactic(auto, using(crate::proofs::Told::handed_over))]
 fn hand_over<O: Write>(waiting: &mut String, out: &mut O) -> Result<(), Failure>
     ensures { HandsOver (O.contents out.old) (string_bytes waiting.old) (O.contents out.new)
         (string_bytes waiting.new) result }
@@ -77,6 +78,7 @@ pub(crate) fn pass_on<O: Write>(
 ///
 /// # Errors
 /// `Memory` where there was none for the text, and those of `pass_on`.
+#[tactic(auto, using(crate::proofs::Told::passed))]
 pub(crate) fn tell<O: Write>(
     object: DwarfObject,
     text: Result<Option<String>, AllocError>,

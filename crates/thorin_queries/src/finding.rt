@@ -56,6 +56,7 @@ pub fn find<O: Write>(
 ///
 /// # Errors
 /// Those of `find`.
+#[tactic(auto, using(crate::proofs::Printed::not_sought))]
 pub fn find_by<F: FileReader, O: Write>(
     alloc: Global,
     files: &F,
@@ -134,6 +135,7 @@ fn find_in<O: Write>(
 }
 
 /// Prints a text of a unit of a package's bytes.
+#[tactic(auto, using(crate::proofs::Printed::nothing))]
 fn print_text<O: Write>(
     alloc: Global,
     bytes: &[u8],

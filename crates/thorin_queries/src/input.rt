@@ -63,6 +63,7 @@ fn has_index(file: &ElfFile<'_>, kind: SectionKind) -> bool
 }
 
 /// Whether a file has no index of either kind.
+#[tactic(auto, using(crate::proofs::Indexed::has_first, crate::proofs::Indexed::has_none_first))]
 pub(crate) fn has_no_index(file: &ElfFile<'_>) -> bool
     ensures { (pack : Package) → HasIndexes (elf file.now) pack → result ≡ has_no_index pack }
 {
@@ -121,6 +122,7 @@ pub(crate) fn strings_in(bytes: &[u8]) -> Strings<'_>
 }
 
 /// The strings of a file.
+#[tactic(auto, using(crate::proofs::Indexed::file_strings))]
 pub(crate) fn strings_of<'a>(file: &ElfFile<'a>) -> Strings<'a>
     ensures { (pack : Package) → HasIndexes (elf file.now) pack → HasStrings result pack }
 {

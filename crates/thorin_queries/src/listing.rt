@@ -172,6 +172,7 @@ fn put_listing(
 }
 
 /// Adds the lines of units, up to one that can't be looked up: then it answers false.
+#[tactic(auto, using(crate::proofs::Walk::so_far_next, crate::proofs::Lines::drop_next))]
 fn put_lines(
     listed: Listed<'_, '_>,
     entries: &[UnitEntry],

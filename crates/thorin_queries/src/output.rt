@@ -195,6 +195,7 @@ fn put_some<O: Write>(bytes: &[u8], out: &mut O) -> Result<usize, Failure>
 ///
 /// # Errors
 /// `Line` where the writer doesn't take all.
+#[tactic(auto, using(crate::proofs::Told::begun))]
 pub(crate) fn print<O: Write>(text: &str, out: &mut O) -> Result<(), Failure>
     ensures { Prints text.now (O.contents out.old) (O.contents out.new) result }
 {

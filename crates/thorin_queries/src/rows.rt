@@ -39,6 +39,7 @@ fn rows_of<'k>(kind: &'k str, is_types: bool, rows: u32) -> Rows<'k>
 }
 
 /// A slot names each row of both indexes; `entries` are in the order of rows.
+#[tactic(auto, using(crate::proofs::Told::in_turn_or))]
 pub(crate) fn check_indexes<O: Write>(
     file: &ElfFile<'_>,
     entries: &[UnitEntry],
@@ -59,6 +60,7 @@ pub(crate) fn check_indexes<O: Write>(
 /// A slot names each row of an index: tells each row before that of a slot of its kind, and then
 /// each row behind the last. A slot whose row isn't behind those of the slots before is passed
 /// over, as one whose row is past the rows.
+#[tactic(auto, using(crate::proofs::Faulted::no_rows))]
 fn check_rows<O: Write>(
     rows: Rows<'_>,
     entries: &[UnitEntry],
@@ -83,6 +85,7 @@ fn check_rows<O: Write>(
 }
 
 /// Tells that no slot names a row, of each row from one up to another, which isn't among them.
+#[tactic(auto, using(crate::proofs::Faulted::no_rows))]
 fn tell_rows<O: Write>(
     kind: &str,
     first: u64,

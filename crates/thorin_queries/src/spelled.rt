@@ -40,7 +40,7 @@ fn put_marked(bytes: &[u8], as_json: bool, text: &mut String) -> Result<(), Allo
 }
 
 /// Adds a text as it is spelled.
-#[tactic(auto, unfolding(crate::specs::Spelled::spelled))]
+#[tactic(auto, using(crate::proofs::Spelling::spelled_text, crate::proofs::Spelling::spelled_bytes), unfolding(crate::specs::Spelled::spelled))]
 pub(crate) fn put_spelled(bytes: &[u8], as_json: bool, text: &mut String) -> Result<(), AllocError>
     ensures { OnOk result (string_bytes text.new ≡ string_bytes text.old
         ++ spec.spelled as_json bytes.now) }
@@ -63,6 +63,7 @@ fn put_characters(name: &str, as_json: bool, text: &mut String) -> Result<(), Al
 }
 
 /// Adds each byte of a text that isn't UTF-8.
+#[tactic(auto, using(crate::proofs::Lines::flat_map_next))]
 fn put_bytes(bytes: &[u8], as_json: bool, text: &mut String) -> Result<(), AllocError>
     ensures { OnOk result (string_bytes text.new ≡ string_bytes text.old
         ++ flat_map (spelled_byte as_json) bytes.now) }

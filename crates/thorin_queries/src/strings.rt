@@ -116,6 +116,7 @@ pub(crate) fn check_strings<O: Write>(
 }
 
 /// Checks the strings of these units.
+#[tactic(auto, using(crate::proofs::Told::none_told, crate::proofs::Told::told_all))]
 fn check_distinct<O: Write>(
     pack: &PackageFile<'_>,
     ends: Ends,
@@ -138,6 +139,7 @@ fn check_distinct<O: Write>(
 }
 
 /// Checks the strings of a unit.
+#[tactic(auto, using(crate::proofs::Faulted::strings_some))]
 fn check_strings_of<O: Write>(
     pack: &PackageFile<'_>,
     ends: Ends,
@@ -158,6 +160,7 @@ fn check_strings_of<O: Write>(
 }
 
 /// Checks each string of a unit.
+#[tactic(auto, using(crate::proofs::Told::none_told))]
 fn check_each_string<O: Write>(
     ends: Ends,
     object: DwarfObject,
@@ -180,6 +183,7 @@ fn check_each_string<O: Write>(
 }
 
 /// What is told of a string of a unit, where it can't be read.
+#[tactic(auto, using(crate::proofs::Faulted::string_fine, crate::proofs::Faulted::string_faulty, crate::proofs::Faulted::made))]
 fn string_text(
     ends: Ends,
     unit: &PackagedUnit<'_>,

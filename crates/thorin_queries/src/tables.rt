@@ -70,6 +70,7 @@ pub(crate) fn check_tables<O: Write>(
 }
 
 /// Tells that a section is lacking, where it is.
+#[tactic(auto, using(crate::proofs::Told::none_told, crate::proofs::Told::passed))]
 fn check_section<O: Write>(
     kind: SectionKind,
     lacks: bool,

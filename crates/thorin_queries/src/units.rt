@@ -102,6 +102,7 @@ fn check_all<O: Write>(
 }
 
 /// Checks each unit that a slot names, and gathers those whose strings are still to be checked.
+#[tactic(auto, using(crate::proofs::Told::none_told, crate::proofs::Told::told_all))]
 fn check_each<'a, O: Write>(
     units: Units<'_, 'a>,
     entries: &[UnitEntry],
@@ -126,6 +127,7 @@ fn check_each<'a, O: Write>(
 }
 
 /// What is told of the unit that a slot names, if anything.
+#[tactic(auto, using(crate::proofs::Faulted::unit_none, crate::proofs::Faulted::unit_some, crate::proofs::Faulted::unit_unread, crate::proofs::Faulted::made))]
 fn text_of<'a>(
     units: Units<'_, 'a>,
     entry: UnitEntry,
@@ -144,6 +146,7 @@ fn text_of<'a>(
 
 /// What is told of the unit that is found under the identifier of a slot, if anything: it is to be
 /// that of the slot's row, and this row is to have abbreviations where the package has some.
+#[tactic(auto, using(crate::proofs::Faulted::other_row, crate::proofs::Faulted::in_bare_row, crate::proofs::Faulted::in_whole_row, crate::proofs::Faulted::made))]
 fn text_of_found<'a>(
     units: Units<'_, 'a>,
     entry: UnitEntry,
@@ -173,6 +176,7 @@ fn is_bare(has_any: bool, unit: &PackagedUnit<'_>) -> bool
 
 /// What is told of a unit by its ranges and its own bytes, if anything: none of its ranges is to
 /// overlap that of another, and its own identifier is to be that of the slot.
+#[tactic(auto, using(crate::proofs::Faulted::overlapped, crate::proofs::Faulted::of_its_own, crate::proofs::Faulted::made))]
 fn text_of_itself<'a>(
     pack: &PackageFile<'a>,
     object: DwarfObject,
@@ -208,6 +212,7 @@ fn clash_of(pack: &PackageFile<'_>, unit: &PackagedUnit<'_>, clash: Option<Clash
 
 /// What is told of a unit by the identifier that its own bytes give. Where that is its own, the unit
 /// is gathered for the check of its strings.
+#[tactic(auto, using(crate::proofs::Faulted::own_fault, crate::proofs::Faulted::made))]
 fn text_of_own<'a>(
     object: DwarfObject,
     unit: &PackagedUnit<'a>,

@@ -94,6 +94,7 @@ fn string_wanted(text: &str) -> Result<Wanted, Failure>
 }
 
 /// The number that decimal digits write.
+#[tactic(auto, using(crate::proofs::Decimals::number_read))]
 fn number(text: &str) -> Option<u64>
     ensures { MatchOption result (¬ (IsNumber text.now)) (λ n. IsNumber text.now
         × (n ≡ digits_value 10 text.now)) }

@@ -1,13 +1,7 @@
 use Rattle.dwp_elf_read.specs.View.{elf}
-use Rattle.thorin_queries.proofs.Checked.{no_elf}
 use Rattle.thorin_queries.proofs.Indexed.{has_indexes}
 use Rattle.thorin_queries.proofs.checking.check_bytes.Goals as goal
 
 pub check_package-requires : goal.check_package-requires
 check_package-requires g c = has_indexes (elf c.in-Ok.file) c.args.bytes.now c.in-Ok-parse.pack
     c.in-Ok.ensures c.in-Ok-parse.ensures
-
-pub returns-in-Err : goal.returns-in-Err
-returns-in-Err g c =
-    no_elf (g.F.FileReader.offer c.args.files.now) c.args.named.reading
-    c.args.named.executables.now _ c.args.bytes.now _ c.in-Err.ensures

@@ -1,12 +1,9 @@
-use Rattle.std.proofs.Common.{ℕ, List, arith, refl}
+use Rattle.std.proofs.Common.{ℕ, List}
 use Rattle.std.specs.Borrow.{Bor}
 use Rattle.thorin_queries.specs.Checking.{TellsExecutable}
 use Rattle.thorin_queries.proofs.Checked.{reading_one}
-use Rattle.thorin_queries.proofs.Told.{none_told, told_next, told_all, stopped_behind}
+use Rattle.thorin_queries.proofs.Told.{told_next, stopped_behind}
 use Rattle.thorin_queries.proofs.executables.check_executables.Goals as goal
-
-pub loop-i-init : goal.loop-i-init
-loop-i-init g c = none_told _ refl _
 
 pub loop-i-preserved : goal.loop-i-preserved
 loop-i-preserved g c =
@@ -20,9 +17,3 @@ returns-in-Err g c = (
       _ c.loop-i-test.true c.in-Err.ensures.0,
   stopped_behind _ c.loop-i.invariant c.in-Err.ensures.1,
 )
-
-pub returns : goal.returns
-returns g c =
-    told_all (λ (e : Bor (List ℕ)). TellsExecutable (g.F.FileReader.offer c.args.files.now)
-    c.args.named.reading c.args.pack.now e.now) c.args.named.executables.now c.loop-i.i
-    (omega arith) c.loop-i.invariant

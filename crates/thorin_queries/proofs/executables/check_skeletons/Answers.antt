@@ -1,16 +1,14 @@
 use Rattle.std.proofs.Common.{Ok, Err}
 use Rattle.dwp_index.specs.Package.{found}
-use Rattle.thorin_queries.specs.Faults.{TellsListed, missing_lines}
+use Rattle.thorin_queries.specs.Faults.{missing_lines}
 use Rattle.thorin_queries.specs.Telling.{progress, Is}
 use Rattle.thorin_queries.proofs.Faulted.{text_told}
-use Rattle.thorin_queries.proofs.Skeletons.{GoesOn, on_none, on_next, on_end, end_broken}
+use Rattle.thorin_queries.proofs.Skeletons.{on_none, on_next, on_end, end_broken}
 use Rattle.thorin_queries.proofs.Told.{none_told, told_then, told_as, stopped_behind}
 use Rattle.thorin_queries.proofs.executables.check_skeletons.Goals as goal
 
 pub loop-unit-init : goal.loop-unit-init
-loop-unit-init g c =
-    none_told (GoesOn c.args.naming.pack.now c.args.naming.executable.now
-    c.args.units.now.listed c.args.units.now.listed) (on_none _ _ _) _
+loop-unit-init g c = none_told _ (on_none _ _ _) _
 
 pub loop-unit-preserved : goal.loop-unit-preserved
 loop-unit-preserved g c =
@@ -20,8 +18,7 @@ loop-unit-preserved g c =
     let target = c.in-Ok-Some.unit.target in
     let path = c.next.new.self.path in
     let lines = missing_lines executable (target, path) (found pack target) in
-    told_then (GoesOn pack executable all c.loop-unit.units.listed) (Is lines)
-    (GoesOn pack executable all c.next.new.self.listed)
+    told_then
     (on_next pack executable all c.loop-unit.units.listed c.next.new.self.listed (target, path)
     (rw c.in-Ok-Some.field-0-is at c.in-Ok-Some.ensures.next)) c.loop-unit.invariant
     (text_told (Is lines) target c.skeleton_text-text.result _ _ (Ok tt)
@@ -43,12 +40,7 @@ returns-in-Err-tell g c =
 pub returns-in-Ok-None : goal.returns-in-Ok-None
 returns-in-Ok-None g c =
     let next = rw c.in-Ok-None.field-0-is at c.in-Ok-None.ensures.next in
-    told_as (GoesOn c.args.naming.pack.now c.args.naming.executable.now
-    c.args.units.now.listed c.loop-unit.units.listed)
-    (TellsListed c.args.naming.pack.now c.args.naming.executable.now c.args.units.now.listed) _ _
-    (on_end c.args.naming.pack.now c.args.naming.executable.now c.args.units.now.listed
-    c.loop-unit.units.listed next.0)
-    c.loop-unit.invariant
+    told_as c.loop-unit.invariant (on_end _ _ _ _ next.0)
 
 pub returns-in-Err : goal.returns-in-Err
 returns-in-Err g c =

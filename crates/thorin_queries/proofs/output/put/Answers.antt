@@ -1,11 +1,8 @@
 use Rattle.std.proofs.Common.{◌++◌, take, sym, ap, ◌∙◌, take-append-drop}
 use Rattle.std.proofs.lemmas.List.{take_rest}
-use Rattle.dwp_elf.proofs.SoFar.{so_far_none, so_far_more}
+use Rattle.dwp_elf.proofs.SoFar.{so_far_more}
 use Rattle.thorin_queries.proofs.Printed.{on_err, part, part_kept}
 use Rattle.thorin_queries.proofs.output.put.Goals as goal
-
-pub loop-turn-init : goal.loop-turn-init
-loop-turn-init g c = so_far_none _ _
 
 pub loop-turn-preserved : goal.loop-turn-preserved
 loop-turn-preserved g c =

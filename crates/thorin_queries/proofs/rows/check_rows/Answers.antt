@@ -1,10 +1,7 @@
 use Rattle.std.proofs.Common.{Ok, Err}
 use Rattle.thorin_queries.specs.Telling.{progress}
-use Rattle.thorin_queries.proofs.Faulted.{no_rows, rows_or}
+use Rattle.thorin_queries.proofs.Faulted.{rows_or}
 use Rattle.thorin_queries.proofs.rows.check_rows.Goals as goal
-
-pub loop-i-init : goal.loop-i-init
-loop-i-init g c = no_rows _ _
 
 pub loop-i-preserved : goal.loop-i-preserved
 loop-i-preserved g c =

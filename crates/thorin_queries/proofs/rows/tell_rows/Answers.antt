@@ -2,12 +2,9 @@ use Rattle.std.proofs.Common.{Ok, Err}
 use Rattle.std.specs.Prelude.{string_bytes}
 use Rattle.thorin_queries.specs.Faults.{AreRows, row_line}
 use Rattle.thorin_queries.specs.Telling.{progress, IsLine, IsOfPrinting}
-use Rattle.thorin_queries.proofs.Faulted.{no_rows, rows_next}
+use Rattle.thorin_queries.proofs.Faulted.{rows_next}
 use Rattle.thorin_queries.proofs.Told.{then_or, passed}
 use Rattle.thorin_queries.proofs.rows.tell_rows.Goals as goal
-
-pub loop-row-init : goal.loop-row-init
-loop-row-init g c = no_rows _ _
 
 pub loop-row-preserved : goal.loop-row-preserved
 loop-row-preserved g c =

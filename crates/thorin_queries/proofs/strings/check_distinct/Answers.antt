@@ -1,12 +1,9 @@
-use Rattle.std.proofs.Common.{ℕ, Bool, arith, refl}
+use Rattle.std.proofs.Common.{ℕ, Bool}
 use Rattle.dwp_index.specs.Package.{found}
 use Rattle.dwp_table.specs.declared.object.DwarfObject.{DwarfObject}
 use Rattle.thorin_queries.specs.Faults.{TellsStringsOf}
-use Rattle.thorin_queries.proofs.Told.{none_told, told_next, told_all, stopped_behind}
+use Rattle.thorin_queries.proofs.Told.{told_next, stopped_behind}
 use Rattle.thorin_queries.proofs.strings.check_distinct.Goals as goal
-
-pub loop-i-init : goal.loop-i-init
-loop-i-init g c = none_told _ refl _
 
 pub loop-i-preserved : goal.loop-i-preserved
 loop-i-preserved g c =
@@ -19,8 +16,3 @@ returns-in-Err g c = (
   c.in-Err.ensures.0,
   stopped_behind _ c.loop-i.invariant c.in-Err.ensures.1,
 )
-
-pub returns : goal.returns
-returns g c = told_all (λ (s : (ℕ × ℕ × ℕ × Bool) × DwarfObject).
-    TellsStringsOf s.1 (found c.args.pack.now s.1)) c.args.strings.now
-    c.loop-i.i (omega arith) c.loop-i.invariant

@@ -1,12 +1,9 @@
-use Rattle.std.proofs.Common.{◌≡◌, ◌∙◌, arith, refl, Ok, Err}
+use Rattle.std.proofs.Common.{Ok, Err}
 use Rattle.thorin_queries.specs.Faults.{TellsString, string_of}
 use Rattle.thorin_queries.specs.Telling.{progress}
-use Rattle.thorin_queries.proofs.Faulted.{string_told, strings_told, text_told}
-use Rattle.thorin_queries.proofs.Told.{none_told, stopped_behind}
+use Rattle.thorin_queries.proofs.Faulted.{string_told, text_told}
+use Rattle.thorin_queries.proofs.Told.{stopped_behind}
 use Rattle.thorin_queries.proofs.strings.check_each_string.Goals as goal
-
-pub loop-i-init : goal.loop-i-init
-loop-i-init g c = none_told _ refl _
 
 pub loop-i-preserved : goal.loop-i-preserved
 loop-i-preserved g c =
@@ -25,9 +22,3 @@ returns-in-Err g c =
     (progress (g.O.Write.contents c.tell.new.out) c.tell.new.faults)
     (Err c.in-Err.failure) (c.string_text-text.ensures c.args.object) c.in-Err.ensures in
     (stopped.0, stopped_behind _ c.loop-i.invariant stopped.1)
-
-pub returns : goal.returns
-returns g c =
-    let all : c.loop-i.i ≡ c.string_count-i-end.result = omega arith in
-    strings_told c.args.object c.args.unit.now c.loop-i.i (all ∙ c.string_count-i-end.ensures)
-    c.loop-i.invariant

@@ -1,4 +1,4 @@
-use Rattle.thorin_queries.proofs.Faulted.{strings_none, strings_unread, strings_some}
+use Rattle.thorin_queries.proofs.Faulted.{strings_none, strings_unread}
 use Rattle.thorin_queries.proofs.Reached.{of_found}
 use Rattle.thorin_queries.proofs.strings.check_strings_of.Goals as goal
 
@@ -6,10 +6,6 @@ pub check_each_string-requires : goal.check_each_string-requires
 check_each_string-requires g c =
     of_found c.args.pack.now c.args.object c.in-Ok-Some.unit c.args.ends c.requires
     (rw c.in-Ok-Some.field-0-is at c.in-Ok-Some.ensures)
-
-pub returns-in-Ok-Some : goal.returns-in-Ok-Some
-returns-in-Ok-Some g c = strings_some _ _ _ _ c.check_each_string.result c.in-Ok-Some.unit
-    (rw c.in-Ok-Some.field-0-is at c.in-Ok-Some.ensures) c.check_each_string.ensures
 
 pub returns-in-Ok-None : goal.returns-in-Ok-None
 returns-in-Ok-None g c =

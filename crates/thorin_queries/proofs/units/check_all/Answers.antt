@@ -4,14 +4,6 @@ use Rattle.thorin_queries.specs.Telling.{progress, IsOfPrinting, ForEach}
 use Rattle.thorin_queries.proofs.Told.{in_turn_or}
 use Rattle.thorin_queries.proofs.units.check_all.Goals as goal
 
-pub check_each-requires : goal.check_each-requires
-check_each-requires g c = c.has_abbreviations.ensures c.args.opened.pack.now c.requires
-
-pub check_strings-requires : goal.check_strings-requires
-check_strings-requires g c =
-    c.of-ends.ensures c.args.opened.pack.now
-    (c.strings_of.ensures c.args.opened.pack.now c.requires)
-
 pub returns-in-Ok : goal.returns-in-Ok
 returns-in-Ok g c =
     in_turn_or (ForEach (TellsUnit c.args.opened.pack.now) c.args.opened.entries.now)

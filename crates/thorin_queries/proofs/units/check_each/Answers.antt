@@ -1,14 +1,11 @@
-use Rattle.std.proofs.Common.{arith, refl, get_or, Ok, Err}
+use Rattle.std.proofs.Common.{get_or, Ok, Err}
 use Rattle.dwp_index.specs.declared.units.UnitEntry.{UnitEntry}
 use Rattle.dwp_table.specs.declared.object.DwarfObject.TheVariants.{Compilation}
 use Rattle.thorin_queries.specs.Faults.{TellsUnit}
 use Rattle.thorin_queries.specs.Telling.{progress}
 use Rattle.thorin_queries.proofs.Faulted.{text_told}
-use Rattle.thorin_queries.proofs.Told.{none_told, told_next, told_all, stopped_behind}
+use Rattle.thorin_queries.proofs.Told.{told_next, stopped_behind}
 use Rattle.thorin_queries.proofs.units.check_each.Goals as goal
-
-pub loop-i-init : goal.loop-i-init
-loop-i-init g c = none_told _ refl _
 
 pub loop-i-preserved : goal.loop-i-preserved
 loop-i-preserved g c =
@@ -28,7 +25,3 @@ returns-in-Err g c =
     (progress (g.O.Write.contents c.tell.new.out) c.tell.new.faults)
     (Err c.in-Err.failure) c.text_of-text.ensures c.in-Err.ensures in
     (stopped.0, stopped_behind _ c.loop-i.invariant stopped.1)
-
-pub returns : goal.returns
-returns g c = told_all (TellsUnit c.args.units.pack.now) c.args.entries.now c.loop-i.i (omega arith)
-    c.loop-i.invariant
