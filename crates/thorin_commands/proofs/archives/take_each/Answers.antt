@@ -1,5 +1,5 @@
 use Rattle.std.proofs.Common.{◌∷◌, ◌∙◌, [], List, ap, sym, subst, map, take, get_or}
-use Rattle.std.proofs.lemmas.List.{map-append, take_all}
+use Rattle.std.proofs.lemmas.List.{map-append, take_all, take_more}
 use Rattle.dwp_archive.specs.Entries.{Member}
 use Rattle.dwp_archive.specs.View.{member}
 use Rattle.dwp_archive.specs.declared.member.Member as declared
@@ -8,7 +8,6 @@ use Rattle.thorin_commands.specs.Archives.{split_contents}
 use Rattle.thorin_commands.specs.Opened.{TookEach}
 use Rattle.thorin_commands.proofs.Opened.{each_none, each_more}
 use Rattle.thorin_commands.proofs.archives.take_each.Goals as goal
-use Rattle.thorin.proofs.Running.{taken-next}
 
 pub loop-member-init : goal.loop-member-init
 loop-member-init g c = each_none (g.I.Inputs.plain c.args.files.now)
@@ -25,7 +24,7 @@ loop-member-preserved g c =
     let one = get_or c.args.members.now c.loop-member.member-index none in
     let plain = g.I.Inputs.plain c.args.files.now in
     let offer = g.I.InputReader.offer c.args.files.now in
-    let more = ap (map member) (taken-next c.args.members.now c.loop-member.member-index none
+    let more = ap (map member) (take_more c.args.members.now c.loop-member.member-index none
     c.loop-member-test.true) ∙ map-append member so_far (one ∷ []) in
     subst (λ (l : List Member). TookEach plain offer (split_contents l) c.args.builder.now.state
     c.take_split.new.builder.state) (sym more)

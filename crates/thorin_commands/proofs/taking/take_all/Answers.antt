@@ -1,11 +1,10 @@
 use Rattle.std.proofs.Common.{[], List, sym, subst, take, get_or}
-use Rattle.std.proofs.lemmas.List.{take_all}
+use Rattle.std.proofs.lemmas.List.{take_all, take_more}
 use Rattle.thorin.specs.declared.packing.Input.{Input}
 use Rattle.thorin.specs.declared.packing.Input.TheVariants.{Object}
 use Rattle.thorin_commands.specs.Opened.{TookInputs}
 use Rattle.thorin_commands.proofs.Opened.{took_none, took_more}
 use Rattle.thorin_commands.proofs.taking.take_all.Goals as goal
-use Rattle.thorin.proofs.Running.{taken-next}
 
 pub loop-input-init : goal.loop-input-init
 loop-input-init g c = took_none (g.I.Inputs.opens c.args.files.now)
@@ -22,7 +21,7 @@ loop-input-preserved g c =
     let offer = g.I.InputReader.offer c.args.files.now in
     subst (λ (l : List Input). TookInputs opens plain offer l c.args.builder.now.state
     c.take.new.builder.state)
-    (sym (taken-next c.args.inputs.now c.loop-input.input-index none c.loop-input-test.true))
+    (sym (take_more c.args.inputs.now c.loop-input.input-index none c.loop-input-test.true))
     (took_more opens plain offer so_far input c.args.builder.now.state c.loop-input.builder.state
     c.take.new.builder.state c.loop-input.invariant c.in_ok-take.ensures)
 
