@@ -1,11 +1,9 @@
 -- Reading the contents of a file whose sections hold them as they stand.
-use Rattle.std.proofs.Common.{◌≡◌, ℕ, zero, suc, ◌<◌, Bool, true, false, cond, not, eqb, ◌||◌, ◌&&◌}
+use Rattle.std.proofs.Common.{◌≡◌, ℕ, zero, suc, ◌<◌, Bool, true, false, cond, not, ◌||◌, ◌&&◌}
 use Rattle.std.proofs.Common.{inl, inr, List, [], ◌∷◌, length, refl, sym, ap, subst, ◌∙◌, arith}
-use Rattle.std.specs.Prelude.{Option, Some, None, Result, Ok, Err, slice_get}
+use Rattle.std.specs.Prelude.{Option, Some, None, Ok, slice_get}
 use Rattle.std.specs.List.{find}
-use Rattle.std.specs.Option.{ok_or}
 use Rattle.std.proofs.lemmas.Bool.{ne_eqb}
-use Rattle.dwp_base.specs.Reading.{◌>>=◌}
 use Rattle.dwp_base.specs.Sections.{name_of, is_named, kind_named, all_kinds, same_kind, rank_of}
 use Rattle.dwp_base.specs.declared.section.SectionKind.{SectionKind}
 use Rattle.dwp_base.specs.declared.section.SectionKind.TheVariants.{CuIndex, TuIndex}
@@ -14,15 +12,12 @@ use Rattle.dwp_base.proofs.EveryKind.{every-two, at-rank, is-same, named-itself,
 use Rattle.dwp_base.proofs.EveryKind.{value-of}
 use Rattle.dwp_base.proofs.Steps.{each-read}
 use Rattle.dwp_elf_read.specs.Elf.{Elf, SectionMeaning, SHT_NOBITS, elf_of}
-use Rattle.dwp_elf_read.specs.declared.error.ReadError.TheVariants.{SectionRange, Compressed}
-use Rattle.dwp_index.specs.declared.error.PackageError.TheVariants as errors
-use Rattle.dwp_index.specs.Contents.{content, has_name, is_of_kind, has_older_name, used_bytes}
-use Rattle.dwp_index.specs.Contents.{bytes_of, content_among, contents_of}
+use Rattle.dwp_index.specs.Contents.{content, has_name, is_of_kind, used_bytes}
+use Rattle.dwp_index.specs.Contents.{content_among, contents_of}
 use Rattle.dwp_base.specs.declared.endian.Endianness.{Endianness}
-use Rattle.dwp_bytes.specs.declared.error.ReadError.{ReadError as UnitError}
 use Rattle.dwp_index.specs.Index.{Index}
 use Rattle.dwp_index.specs.IndexBytes.{index_of}
-use Rattle.dwp_index.specs.Package.{as_error, index_in_section, package_of}
+use Rattle.dwp_index.specs.Package.{index_in_section, package_of}
 use Rattle.dwp_index.specs.Holding.{Holds, HasContent, HoldsInOrder, held_of, sections_of}
 
 -- ---- names
@@ -54,7 +49,8 @@ pub found-none : {X : Type 0} (p : X → Bool) (xs : List X) (i : ℕ) (x : X) �
 found-none p [] i x none at = absurd cc
 found-none p (y ∷ ys) i x none at = step (λ k. found-none p ys k x) (p y) refl none i at
   where
-    step : ((k : ℕ) → find p ys ≡ None → slice_get ys k ≡ Some x → p x ≡ false) → (b : Bool) → p y ≡ b → cond b (Some y) (find p ys) ≡ None → (k : ℕ)
+    step : ((k : ℕ) → find p ys ≡ None → slice_get ys k ≡ Some x → p x ≡ false) → (b : Bool)
+        → p y ≡ b → cond b (Some y) (find p ys) ≡ None → (k : ℕ)
         → slice_get (y ∷ ys) k ≡ Some x → p x ≡ false
     step later true e none k at = absurd cc
     step later false e none zero at = let same : y ≡ x = cc in ap p (sym same) ∙ e

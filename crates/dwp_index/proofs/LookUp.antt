@@ -1,9 +1,8 @@
 -- Where a look-up ends.
 use Rattle.std.proofs.Common.{◌≡◌, ℕ, zero, suc, ◌+◌, ◌-◌, ◌<◌, ◌≤◌, Bool, true, false, cond, eqb}
-use Rattle.std.proofs.Common.{◌||◌, List, length, get_or, refl, sym, ap, ◌∙◌, eq-eqb, arith}
+use Rattle.std.proofs.Common.{List, length, get_or, refl, ◌∙◌, eq-eqb, arith}
 use Rattle.std.specs.Prelude.{Option, Some, None}
 use Rattle.std.specs.List.{find, range_with_len}
-use Rattle.std.specs.Option.{option_map_or, option_and_then}
 use Rattle.std.proofs.lemmas.Bool.{ne_eqb}
 use Rattle.dwp_table.specs.Probing.{place, is_end, first_end, found_row, look_count, row_of}
 use Rattle.dwp_base.proofs.Bools.{or-right}

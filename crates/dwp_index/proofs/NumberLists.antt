@@ -1,6 +1,6 @@
 -- Numbers one after the other.
 use Rattle.std.proofs.Common.{◌≡◌, ℕ, zero, suc, ◌+◌, ◌-◌, ◌*◌, ◌<◌, Bool, true, false, cond, eqb}
-use Rattle.std.proofs.Common.{◌||◌, List, [], ◌∷◌, ◌++◌, length, get_or, drop, refl, sym, ap, ◌∙◌}
+use Rattle.std.proofs.Common.{◌||◌, List, [], ◌∷◌, ◌++◌, length, get_or, drop, refl, ap, ◌∙◌}
 use Rattle.std.proofs.Common.{eq-eqb, arith, add-one}
 use Rattle.std.specs.Prelude.{Some, is_some}
 use Rattle.std.specs.List.{position_from, list_any}

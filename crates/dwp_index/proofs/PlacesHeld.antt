@@ -3,7 +3,7 @@ use Rattle.std.proofs.Common.{◌≡◌, ℕ, ◌+◌, ◌<◌, Bool, true, fals
 use Rattle.std.proofs.Common.{◌∷◌, ◌++◌, length, refl, sym, ap, ◌∙◌, subst, eq-eqb, arith, add-zero}
 use Rattle.std.proofs.Common.{zero-add}
 use Rattle.std.proofs.lemmas.Bool.{ne_eqb, eqb-true, false≢true}
-use Rattle.std.specs.Prelude.{Option, Some, None, is_some}
+use Rattle.std.specs.Prelude.{Option, Some, None}
 use Rattle.std.specs.List.{find, list_all, list_any, position_from}
 use Rattle.std.specs.Option.{option_and_then}
 use Rattle.dwp_base.specs.Sections.{all_kinds, same_kind}

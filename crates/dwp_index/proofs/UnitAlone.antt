@@ -1,11 +1,10 @@
 -- A unit that was read from a section is read again from its own bytes alone.
 use Rattle.std.proofs.Common.{◌≡◌, ℕ, zero, suc, ◌+◌, ◌-◌, ◌≤◌, Bool, true, false, cond, leb, eqb}
 use Rattle.std.proofs.Common.{◌&&◌, List, length, take, drop, Result, Ok, Err, refl, sym, ap, subst}
-use Rattle.std.proofs.Common.{◌∙◌, inl, inr, arith}
+use Rattle.std.proofs.Common.{◌∙◌, arith}
 use Rattle.std.specs.Prelude.{[], Some, slice_get}
 use Rattle.std.proofs.lemmas.Bool.{eqb-false}
 use Rattle.std.proofs.lemmas.List.{drop-take, length-take-le, length-drop, take-take}
-use Rattle.std.proofs.Math.Seq.{take-length}
 use Rattle.dwp_base.specs.Reading.{◌>>=◌}
 use Rattle.dwp_base.specs.declared.endian.Endianness.{Endianness}
 use Rattle.dwp_bytes.specs.Input.{Input, section, split_at, number_at, offset_at}
@@ -81,7 +80,8 @@ unit_alone order place p bytes taken u rest e =
     let front' = take (m + n) bytes in
     let all : length front' ≡ m + n = length-take-le (m + n) bytes fits in
     let begins : drop m front' ≡ take n (drop m bytes) = drop-take m n bytes in
-    let body : take n (drop m front') ≡ take n (drop m bytes) = ap (take n) begins ∙ take-take n n (drop m bytes) (omega arith) in
+    let body : take n (drop m front') ≡ take n (drop m bytes) = ap (take n) begins ∙ take-take n n
+    (drop m bytes) (omega arith) in
     let whole : (m + n) - 0 ≡ m + n = omega arith in
     rw (
       own,

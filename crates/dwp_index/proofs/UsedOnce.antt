@@ -1,7 +1,7 @@
 -- The used slots of an index of distinct identifiers.
 use Rattle.std.proofs.Common.{◌≡◌, ℕ, zero, suc, ◌+◌, ◌<◌, ◌≤◌, Bool, true, cond, not, eqb, List}
 use Rattle.std.proofs.Common.{[], ◌∷◌, ◌++◌, length, map, get_or, take, drop, set, refl, sym, ap}
-use Rattle.std.proofs.Common.{subst, ◌∙◌, ◌⊎◌, inl, inr, arith, append_assoc, length-append}
+use Rattle.std.proofs.Common.{◌∙◌, ◌⊎◌, inl, inr, arith, append_assoc, length-append}
 use Rattle.std.proofs.Common.{drop-cons}
 use Rattle.std.specs.Prelude.{Option, Some, None, filter}
 use Rattle.std.specs.List.{range_with_len}
@@ -13,7 +13,7 @@ use Rattle.std.proofs.lemmas.Bool.{ne_eqb}
 use Rattle.std.proofs.lemmas.List.{take-append-drop, take-set, drop-set-lt, get_or-set_same}
 use Rattle.std.proofs.lemmas.List.{get_or-set_other, length-set, drop_all}
 use Rattle.std.proofs.lemmas.List.Elements.{filter-append}
-use Rattle.std.proofs.lemmas.List.Sorted.{IsPermutation-refl, IsPermutation-sym, IsPermutation-cons}
+use Rattle.std.proofs.lemmas.List.Sorted.{IsPermutation-refl, IsPermutation-sym}
 use Rattle.std.proofs.lemmas.List.Sorted.{IsPermutation-push_more}
 use Rattle.std.proofs.lemmas.List.Sorted.{IsPermutation-middle, IsPermutation-map}
 use Rattle.std.proofs.lemmas.List.Sorted.{IsPermutation-append}

@@ -1,14 +1,13 @@
 -- What the fields of an index and of a row hold.
-use Rattle.std.proofs.Common.{◌≡◌, ℕ, ◌-◌, ◌*◌, ◌<◌, ◌≤◌, Bool, true, false, cond, ltb, ◌&&◌, List}
-use Rattle.std.proofs.Common.{[], length, get_or, drop, refl, sym, ap, ◌∙◌, arith}
+use Rattle.std.proofs.Common.{◌≡◌, ℕ, ◌-◌, ◌*◌, ◌<◌, ◌≤◌, List}
+use Rattle.std.proofs.Common.{[], length, get_or, drop, refl, arith}
 use Rattle.std.specs.Prelude.{Some, None, Ok, Err}
-use Rattle.std.specs.Option.{option_and_then}
 use Rattle.std.proofs.lemmas.Bool.{lt-ltb, le-ltb}
 use Rattle.dwp_base.specs.declared.section.SectionKind.{SectionKind}
 use Rattle.dwp_bytes.specs.declared.error.ReadError.TheVariants.{RowOutOfRange}
 use Rattle.dwp_index.specs.declared.unit_index.UnitIndex.TheInside.{Inside}
 use Rattle.dwp_index.specs.Index.{Index, Ranges, row_in, column_place, contribution, range_in}
-use Rattle.dwp_index.specs.IndexBytes.{numbers, number_rows}
+use Rattle.dwp_index.specs.IndexBytes.{numbers}
 use Rattle.dwp_index.specs.Fields.{index_in}
 use Rattle.dwp_index.proofs.NumberLists.{length-numbers, length-number_rows, get_or-number_rows}
 

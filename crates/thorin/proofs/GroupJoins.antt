@@ -174,7 +174,8 @@ and_assoc false b c = refl
 
 -- a list can be joined where its front can, and then what follows
 pub can_join-append : {X : Type 0} (names : List DwarfObject) (us vs : List (DwarfObject × X))
-    → can_join names (us ++ vs) ≡ (can_join names us && can_join (names ++ keys (joining names us)) vs)
+    → can_join names (us ++ vs) ≡ (can_join names us && can_join
+    (names ++ keys (joining names us)) vs)
 can_join-append names [] vs = ap (λ n. can_join n vs) (sym (append-nil names))
 can_join-append names (u ∷ us) vs =
     by-bool _ (list_any (same_name u.0) names)

@@ -19,7 +19,8 @@ use Rattle.thorin.specs.Groups.{taken_each, IsPackedAlone, ArePackedAlone, IsPac
 use Rattle.thorin.specs.Groups.{AreJoined, HaveTheirEncodings, inputs_of, IsPackageOfAll}
 use Rattle.thorin.proofs.GroupJoins.{groups-defined, groups-joined, joined-distinct, none-distinct}
 use Rattle.thorin.proofs.GroupLookups.{units-found, swap-map}
-use Rattle.thorin.proofs.GroupUnits.{Units, AllMean, meant_one, keys-meant, mean-append, join-of, joins-all}
+use Rattle.thorin.proofs.GroupUnits.{Units, AllMean, meant_one, keys-meant, mean-append, join-of}
+use Rattle.thorin.proofs.GroupUnits.{joins-all}
 use Rattle.thorin_again.specs.PlainInputs.{AreTaken}
 use Rattle.thorin.proofs.RunTaken.{begun-then, each-taken}
 use Rattle.dwp_base.proofs.Steps.{bind-was as bound}

@@ -64,7 +64,8 @@ pub answers-written : StringsLaw → (accepted : List (List ℕ)) (state : State
     → AreTaken accepted start state → All IsOfOneEncoding accepted → IsWritten state bytes
     → AnswersAs (units_in state) bytes
 answers-written strings accepted state bytes are one w =
-    rw w.text (strings accepted state are one w.file w.tested w.finished w.kinds (read-text state bytes w))
+    rw w.text (strings accepted state are one w.file w.tested w.finished w.kinds
+    (read-text state bytes w))
 
 -- of a file that may have been written
 pub if-written : {V : Type 0} (view : V → List ℕ) (state : State) (P : List ℕ → Type 0)

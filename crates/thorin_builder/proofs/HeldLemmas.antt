@@ -1,6 +1,7 @@
 -- The bytes of a unit that a package has, by its name.
 use Rattle.std.proofs.Common.{◌≡◌, ◌∙◌, ℕ, ◌+◌, suc, Bool, true, false, cond, List, []}
-use Rattle.std.proofs.Common.{◌∷◌, map, ap, sym, refl, Option, Some, None, position, arith, ◌⊎◌, inl, inr}
+use Rattle.std.proofs.Common.{◌∷◌, map, ap, sym, refl, Option, Some, None, position, arith, ◌⊎◌}
+use Rattle.std.proofs.Common.{inl, inr}
 use Rattle.std.specs.Prelude.{slice_get}
 use Rattle.std.specs.List.{position_from}
 use Rattle.std.specs.Map.{lookup}

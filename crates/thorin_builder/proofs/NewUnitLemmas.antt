@@ -1,6 +1,7 @@
 -- The units that an input adds: what is kept for the name of one, and one that is added last.
 use Rattle.std.proofs.Common.{◌≡◌, ◌∙◌, ℕ, suc, ◌<◌, Bool, true, false, cond, List, Option, Some}
-use Rattle.std.proofs.Common.{None, ap, sym, refl, map, ◌⊎◌, inl, inr, take, length, get_or, [], ◌∷◌, ◌++◌, arith}
+use Rattle.std.proofs.Common.{None, ap, sym, refl, map, ◌⊎◌, inl, inr, take, length, get_or, []}
+use Rattle.std.proofs.Common.{◌∷◌, ◌++◌, arith}
 use Rattle.std.proofs.lemmas.List.{get_or-take, map_push}
 use Rattle.std.proofs.lemmas.List.Elements.{All-push}
 use Rattle.std.proofs.lemmas.Option.{same_Some, get_or_from_slice_get, slice_get_within}
@@ -25,7 +26,8 @@ with_rows rows units =
 -- a unit is found by its name among those with rows where it is found without, or is in neither
 abbrev IsFound : List IndexEntry → Option CodeUnit → Option NewUnit → Type 0
 IsFound rows unit found =
-    ((name : DwarfObject) × (u : CodeUnit) × (unit ≡ Some u) × (found ≡ Some (new_unit rows name u)))
+    ((name : DwarfObject) × (u : CodeUnit) × (unit ≡ Some u)
+    × (found ≡ Some (new_unit rows name u)))
     ⊎ ((unit ≡ None) × (found ≡ None))
 
 looked_up : (test : DwarfObject → Bool) (rows : List IndexEntry)

@@ -1,12 +1,15 @@
--- A list cut into pieces: where each begins, what a rank finds, and how the whole changes with them.
+-- A list cut into pieces: where each begins, what a rank finds, and how the whole changes with
+-- them.
 use Rattle.std.proofs.Common.{◌≡◌, ℕ, zero, suc, ◌+◌, ◌-◌, ◌<◌, ◌≤◌, Bool, List, [], ◌∷◌, ◌++◌}
 use Rattle.std.proofs.Common.{length, take, drop, get_or, set, map, filter, insert, All, ap, ap₂}
-use Rattle.std.proofs.Common.{sym, refl, ◌∙◌, ◌⊎◌, inl, inr, ⊎_elim, arith, append_assoc, length-append}
+use Rattle.std.proofs.Common.{sym, refl, ◌∙◌, ◌⊎◌, inl, inr, ⊎_elim, arith, append_assoc}
+use Rattle.std.proofs.Common.{length-append}
 use Rattle.std.proofs.Common.{add-one}
 use Rattle.std.specs.List.{concat}
 use Rattle.std.proofs.Math.Seq.{split_at}
 use Rattle.std.proofs.lemmas.List.{append-nil, get_or_append_left, get_or-append_right, get_or_at}
-use Rattle.std.proofs.lemmas.List.{get_or-map, get_or-drop, get_or_default, get_or-set_same, set_at, set_split}
+use Rattle.std.proofs.lemmas.List.{get_or-map, get_or-drop, get_or_default, get_or-set_same, set_at}
+use Rattle.std.proofs.lemmas.List.{set_split}
 use Rattle.std.proofs.lemmas.List.{take_all, take_more, take-append-drop, drop_all, drop_more}
 use Rattle.std.proofs.lemmas.List.{length-map, length-take-le, length-take, length-drop, length-set}
 use Rattle.std.proofs.lemmas.List.Edits.{insert-append_left, insert-append_right, length-insert}
@@ -184,7 +187,13 @@ module _ (ps : List (List ℕ)) (starts : List ℕ) (rank at start : ℕ)
         record {
           begun = raise ∙ ap₂ raised (add-one at) begun ∙ sym (starts_grown 0 ps at _ placed.there
               longer) ∙ ap (starts_from 0) (sym put);
-          counted = omega (arith, counted, ap length whole, length-insert (concat ps) rank v within);
+          counted = omega (
+            arith,
+            counted,
+            ap length whole,
+            length-insert
+                (concat ps) rank v within,
+          );
           short = rw put (All-set (λ p. length p ≤ 1024) ps at _ (omega (arith, longer)) short);
         },
       )
@@ -317,7 +326,8 @@ module _ (f : List ℕ → List ℕ) (ps now : List (List ℕ)) (old starts : Li
       let new = map f ps in
       rw (kept_all past) (record {
         begun = over_all (starts_from 0 new) old starts at
-            (length-starts_from 0 new ∙ length-map ps f ∙ sym so_far.long) so_far.begun (omega (arith, so_far.long));
+            (length-starts_from 0 new ∙ length-map ps f ∙ sym so_far.long) so_far.begun
+            (omega (arith, so_far.long));
         counted = so_far.counted ∙ ap (λ l. length (concat l))
             (take_all at new (omega (arith, so_far.long, length-map ps f)));
         short = short;

@@ -74,7 +74,8 @@ read_front section rest at end inside is within is_zero =
 pub ended_front : (rest : List ℕ) (end : ℕ) → IsFirstZero rest end → front_string rest ≡ take end
     rest
 ended_front rest end is_zero =
-    ap (λ m. take m rest) (position_or_len_is (λ b. eqb b 0) rest end 0 (omega (arith, is_zero.within))
+    ap (λ m. take m rest) (position_or_len_is (λ b. eqb b 0) rest end 0
+    (omega (arith, is_zero.within))
     (λ k below. ne_eqb _ 0 (is_zero.before k below)) (λ below. eq-eqb _ 0 is_zero.ended))
 
 pub ended_read : (section rest : List ℕ) (at end : ℕ) → at ≤ length section → rest ≡ drop at section
@@ -94,4 +95,5 @@ placed_front bytes end old new place is_zero placed =
 pub ended_take : (rest : List ℕ) (end : ℕ) → IsFirstZero rest end → take (end + 1) rest ≡
     terminated (take end rest)
 ended_take rest end is_zero =
-    rw add-one (take-suc rest end 0 is_zero.within ∙ ap (λ b. take end rest ++ b ∷ []) is_zero.ended)
+    rw add-one (take-suc rest end 0 is_zero.within ∙ ap (λ b. take end rest ++ b ∷
+    []) is_zero.ended)

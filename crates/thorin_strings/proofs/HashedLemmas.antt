@@ -1,7 +1,8 @@
 -- Strings of entries, which are found by their hashes, or else by their order.
 use Rattle.std.proofs.Common.{◌≡◌, ◌≢◌, ℕ, suc, ◌+◌, ◌<◌, ◌≤◌, Bool, true, false, ltb, List}
 use Rattle.std.proofs.Common.{[], ◌∷◌, ◌++◌, length, take, map, filter, get_or, Contains, insert}
-use Rattle.std.proofs.Common.{Some, None, Option, inl, inr, ⊎_elim, ap, sym, subst, refl, ◌∙◌, arith}
+use Rattle.std.proofs.Common.{Some, None, Option, inl, inr, ⊎_elim, ap, sym, subst, refl, ◌∙◌}
+use Rattle.std.proofs.Common.{arith}
 use Rattle.std.proofs.Common.{length-append, Result, Ok, Err, IfOk, IfErr, OnOk, OnErr}
 use Rattle.std.specs.declared.alloc.AllocError.{AllocError}
 use Rattle.std.proofs.lemmas.Result.{IfOk-at_ok, IfErr-at_err}
@@ -21,8 +22,10 @@ use Rattle.thorin_strings.specs.Hashed.{IsFindable, IsHashed, IsPlaced, held}
 use Rattle.thorin_strings.proofs.StringLemmas.{zero_free-strings_in}
 use Rattle.thorin_strings.proofs.Filters.{Contains-filter}
 use Rattle.thorin_strings.proofs.OffsetLemmas.{has_Decides, offset_of-at, offsets_from-append}
-use Rattle.thorin_strings.proofs.OffsetLemmas.{offsets_from-below, offsets_from-take, length-offsets_from}
-use Rattle.thorin_strings.proofs.TableLemmas.{strings_push, strings_few, positions_few, stands_apart}
+use Rattle.thorin_strings.proofs.OffsetLemmas.{offsets_from-below, offsets_from-take}
+use Rattle.thorin_strings.proofs.OffsetLemmas.{length-offsets_from}
+use Rattle.thorin_strings.proofs.TableLemmas.{strings_push, strings_few, positions_few}
+use Rattle.thorin_strings.proofs.TableLemmas.{stands_apart}
 use Rattle.thorin_strings.proofs.TableLemmas.{indexed_more, indexed_take}
 use Rattle.thorin_strings.proofs.PlacesLemmas.{same_or}
 use Rattle.thorin_strings.proofs.UsedLemmas.{used_new}
@@ -90,7 +93,8 @@ module _ (e : Entries) (table : IsHashed e) (s : List ℕ) (h : ℕ) (is_hash : 
         offset_of-at (held e) 0 k s 0 table.findable.indexed.distinct there.1,
         ap (offset_of (held e)) there.2,
       ) in
-      rw (same, place) at (table.findable.found k (omega (arith, there.1, length-map (held e) hash)))
+      rw (same, place) at (table.findable.found k
+      (omega (arith, there.1, length-map (held e) hash)))
 
   -- a string whose hash has no place isn't there, where more get one
   pub unplaced : e.places.is_full ≡ false → place_in e h ≡ None → Contains (held e) s → ⊥

@@ -1,4 +1,5 @@
--- What a mask of at most 64 bytes says of each, and what holds of the bytes of one range after another.
+-- What a mask of at most 64 bytes says of each, and what holds of the bytes of one range after
+-- another.
 use Rattle.std.proofs.Common.{◌≡◌, ◌≢◌, ℕ, ◌+◌, ◌-◌, ◌%◌, ◌^◌, ◌<◌, ◌≤◌, List, Bool, true, false}
 use Rattle.std.proofs.Common.{ltb, cond, eqb, length, get_or, map, replicate, refl, sym, ap, subst}
 use Rattle.std.proofs.Common.{◌∙◌, arith, w8, w64, ◌⊎◌, inl, inr, ⊎_elim, take, not}
@@ -15,7 +16,8 @@ use Rattle.std.proofs.lemmas.Bool.{eqb-false, eqb-true, ltb-false, ltb-true, cas
 abbrev mask_of : (ℕ → ℕ → Bool) → List ℕ → List ℕ → ℕ
 mask_of f l m = mask_l (map (top 7) (zip2 (λ a b. cond (f a b) 255 0) l m)) % 2 ^ 64
 
-by_bit : (b : Bool) (n : ℕ) → cond {A = ℕ} b 1 0 ≡ n → ((n ≡ 0) × (b ≡ false)) ⊎ ((n ≡ 1) × (b ≡ true))
+by_bit : (b : Bool) (n : ℕ) → cond {A = ℕ} b 1 0 ≡ n → ((n ≡ 0) × (b ≡ false))
+    ⊎ ((n ≡ 1) × (b ≡ true))
 by_bit true n e = inr (sym e, refl)
 by_bit false n e = inl (sym e, refl)
 
@@ -24,7 +26,8 @@ module _ (f : ℕ → ℕ → Bool) (l m : List ℕ) (same : length l ≡ length
   lanes = ap (λ bs. mask_l bs % 2 ^ 64) {y = zip2 f l m} (tops_compared w8 f l m)
       ∙ mask_l-mod (zip2 f l m) 64 (omega (arith, length-zip2 f l m same))
 
-  bit : (k : ℕ) → k < length l → cond (f (get_or l k 0) (get_or m k 0)) 1 0 ≡ bit_at (mask_of f l m) k
+  bit : (k : ℕ) → k < length l → cond (f (get_or l k 0) (get_or m k 0)) 1 0 ≡ bit_at
+      (mask_of f l m) k
   bit k within =
       ap (λ b. cond b 1 0) (sym (get_or-zip2 f l m k 0 0 false within (omega arith)))
       ∙ sym (bit_mask_l (zip2 f l m) k) ∙ ap (λ n. bit_at n k) (sym lanes)
@@ -45,7 +48,13 @@ module _ (f : ℕ → ℕ → Bool) (l m : List ℕ) (same : length l ≡ length
       → f (get_or l k 0) (get_or m k 0) ≡ true
   first_set k within is = ⊎_elim
       (λ zero. absurd (⊎_elim
-      (λ some. omega (arith, zero.0, (bit_at-trailing_zeros w64 _ some (omega arith)).1, ap (bit_at (mask_of f l m)) is))
+      (λ some. omega (
+        arith,
+        zero.0,
+        (bit_at-trailing_zeros w64 _ some (omega arith)).1,
+        ap
+            (bit_at (mask_of f l m)) is,
+      ))
       (λ none. let e : mask_of f l m ≡ 0 = omega arith in
       omega (arith, ap (trailing_zeros w64) e, trailing_of_zero 64))
       (cases_lt 0 (mask_of f l m))))
@@ -54,7 +63,8 @@ module _ (f : ℕ → ℕ → Bool) (l m : List ℕ) (same : length l ≡ length
 
 module _ (n : ℕ) (l : List ℕ) (few : n ≤ 64) (long : length l ≡ n) (k : ℕ) (within : k < n) where
   zero_at : eqb (get_or l k 0) (get_or (replicate n 0) k 0) ≡ eqb (get_or l k 0) 0
-  zero_at = ap (eqb (get_or l k 0)) {x = get_or (replicate n 0) k 0} (get_or-replicate n k 0 0 within)
+  zero_at = ap (eqb (get_or l k 0)) {x = get_or (replicate n 0) k 0}
+      (get_or-replicate n k 0 0 within)
 
   -- the bytes of a vector that aren't zero
   pub lanes_some : k < trailing_zeros w64 (mask_of eqb l (replicate n 0)) → get_or l k 0 ≢ 0
@@ -71,7 +81,8 @@ neither : (a b : ℕ) (t : Bool) → ltb a b ≡ t → cond t a b ≢ 0 → (a �
 neither a b true less some = (some, λ e. absurd (omega (arith, ltb-true a b less, e)))
 neither a b false more some = (λ e. some (omega (arith, ltb-false a b more, e)), some)
 
-module _ (l m : List ℕ) (long : length l ≡ 32) (long' : length m ≡ 32) (k : ℕ) (within : k < 32) where
+module _ (l m : List ℕ) (long : length l ≡ 32) (long' : length m ≡ 32) (k : ℕ)
+    (within : k < 32) where
   -- the bytes of two vectors of which no lesser one is zero
   pub both_some : mask_of eqb (sel_l (map (top 7) (zip2 (λ a b. cond (ltb a b) 255 0) l m)) l m)
       (replicate 32 0) ≡ 0 → (get_or l k 0 ≢ 0) × (get_or m k 0 ≢ 0)
@@ -82,7 +93,8 @@ module _ (l m : List ℕ) (long : length l ≡ 32) (long' : length m ≡ 32) (k 
       let long_least : length least ≡ 32 = length-sel_l less l m (long_less ∙ sym long)
       (long_less ∙ sym long') ∙ long_less in
       let none : mask_of eqb least (replicate 32 0) ≡ 0 =
-      ap (λ ls. mask_of eqb (sel_l ls l m) (replicate 32 0)) {x = less} (sym (tops_compared w8 ltb l m)) ∙ is in
+      ap (λ ls. mask_of eqb (sel_l ls l m) (replicate 32 0)) {x = less}
+      (sym (tops_compared w8 ltb l m)) ∙ is in
       let some = lanes_some 32 least (omega arith) long_least k within
       (rw none (omega (arith, trailing_of_zero 64))) in
       neither (get_or l k 0) (get_or m k 0) (get_or less k false)

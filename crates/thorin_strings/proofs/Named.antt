@@ -141,7 +141,8 @@ stands_behind (t ∷ ss) s h = by (bytes_eq t s) refl h (stands_behind ss s)
         record {
           rest = there.rest;
           here = rw other (sym (drop-drop at (length t + 1) (data_of (t ∷ ss)))
-              ∙ ap (drop at) (drop_at (terminated t) (data_of ss) (length t + 1) long) ∙ there.here);
+              ∙ ap (drop at) (drop_at (terminated t) (data_of ss) (length t + 1)
+              long) ∙ there.here);
           zero = rw other (λ some. ⊎_elim
               (λ more. (let e : length t + 1 + at - 1 ≡ length (terminated t) + (at - 1) =
               omega (arith, long) in ap (λ n. get_or (data_of (t ∷ ss)) n 0) e)

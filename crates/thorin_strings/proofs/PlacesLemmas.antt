@@ -140,7 +140,8 @@ shared_at slots s k at (suc n) h within same was some other =
       ne_eqb (get_or slots k free).hash h (λ e.
           other (sym (same ∙ e))),
     ) (rw here at rest))
-    (λ apart. rw (get_or-set_other slots k at s free apart) (ap (look (get_or slots at free) h) rest))
+    (λ apart. rw (get_or-set_other slots k at s free apart)
+    (ap (look (get_or slots at free) h) rest))
 
 -- the next slot for a hash
 pub next_for : (slots : List Slot) (size h at k : ℕ) → at ≡ home size h → at ≤ k → k < at + 128

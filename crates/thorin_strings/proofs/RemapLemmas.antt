@@ -19,7 +19,8 @@ use Rattle.thorin_strings.specs.StringOffsets.{entry_bytes, remapped, entry_at, 
 use Rattle.thorin_strings.specs.StringOffsets.{offset_limit}
 
 module _ (order : Endianness) (encoding : Encoding) (section bytes : List ℕ) where
-  pub entries_none : (old : List (List ℕ)) → remapped_entries order encoding section bytes 0 old ≡ Ok
+  pub entries_none : (old : List (List ℕ)) → remapped_entries order encoding section
+      bytes 0 old ≡ Ok
       ([], old)
   unfolding remapped_entries
   entries_none old = refl

@@ -1,5 +1,6 @@
 -- Some positions of a table's strings, in the strings' order.
-use Rattle.std.proofs.Common.{◌≡◌, ◌≢◌, ℕ, zero, suc, ◌+◌, ◌<◌, ◌≤◌, ltb, List, [], ◌∷◌, ◌++◌, length}
+use Rattle.std.proofs.Common.{◌≡◌, ◌≢◌, ℕ, zero, suc, ◌+◌, ◌<◌, ◌≤◌, ltb, List, [], ◌∷◌, ◌++◌}
+use Rattle.std.proofs.Common.{length}
 use Rattle.std.proofs.Common.{take, drop, get_or, map, filter, insert, All, AllPairs, length-append}
 use Rattle.std.proofs.Common.{Contains, ap, sym, subst, refl, ◌∙◌, ⊎_elim, arith}
 use Rattle.std.proofs.lemmas.List.{append-nil, take-append-drop, get_or-map, get_or_default}
@@ -81,7 +82,8 @@ pub known_position : (bytes positions s : List ℕ) (r p : ℕ) → IsIndexed by
     → r < length positions → p ≡ get_or positions r 0 → string_from bytes p ≡ s
     → Contains (strings_in bytes) s × (p ≡ offset_of (strings_in bytes) s)
 known_position bytes positions s r p table within is_position is =
-    known_offset_in bytes s p table.ended table.distinct (rw is_position (table.begun r 0 within)) is
+    known_offset_in bytes s p table.ended table.distinct (rw is_position (table.begun r 0 within))
+    is
 
 -- a string that would stand at a rank isn't at any position
 pub stands_apart : (bytes positions s : List ℕ) (r p : ℕ) → StandsAt bytes positions s r
@@ -98,7 +100,8 @@ stands_apart bytes positions s r p stands there is =
 distinct_positions : (bytes positions : List ℕ) → IsIndexed bytes positions
     → AllPairs (λ p q. p ≢ q) positions
 distinct_positions bytes positions table = λ i j d less within same.
-    not_before_itself (string_from bytes (get_or positions j d)) (rw same at (table.sorted i j d less within))
+    not_before_itself (string_from bytes (get_or positions j d))
+    (rw same at (table.sorted i j d less within))
 
 -- no more positions than strings
 pub positions_few : (bytes positions : List ℕ) → IsIndexed bytes positions
@@ -187,7 +190,8 @@ indexed_push bytes positions s table free absent =
       ended = push.1;
       distinct = rw push.0 (all_pairs_push (λ s t. s ≢ t) ss s table.distinct (λ k d within same.
           absent (k, within, get_or_default ss k s d within ∙ same)));
-      begun = rw (grown_offsets bytes s table.ended free) (All-weaker (λ p. Contains offsets p) (λ p. Contains (offsets ++ length bytes ∷ []) p)
+      begun = rw (grown_offsets bytes s table.ended free) (All-weaker (λ p. Contains offsets p)
+          (λ p. Contains (offsets ++ length bytes ∷ []) p)
           (λ p there. Contains-append_left offsets (length bytes ∷ []) p there) positions
           table.begun);
       sorted = order_agrees (string_from bytes) (string_from (bytes ++ terminated s)) positions

@@ -224,7 +224,8 @@ source-joins parts_law rows_law alone taken source before now ms rep named apart
     ms (grows-with_parts parts before.file.contents) kept.longer rep.rows in
     let a = units-added q new.units ms r.members fresh can rows in
     let can_lie : AllCanLie q.file.order new.units =
-    subst (λ o. AllCanLie o new.units) same (all-can-lie source before parts new.units (joining held j.all) j.are go) in
+    subst (λ o. AllCanLie o new.units) same (all-can-lie source before parts new.units
+    (joining held j.all) j.are go) in
     let none : (place : UnitSection) → joined_parts (kind_at place) parts ≡ [] = λ place.
     parts-none source before.strings parts after m.parts_are (kind_at place) (not-copied place)
     (not-offsets place).1 in

@@ -36,7 +36,8 @@ kind-unlike a b c h i = ne_eqb (rank_of b) (rank_of c) (λ e. eqb-false (rank_of
 pub content-appended : (kind k : SectionKind) (bytes : List ℕ) (c : Contents)
     → content_of kind (appended k bytes c) ≡ cond (same_kind k kind) (content_of kind c ++ bytes)
     (content_of kind c)
-content-appended kind k bytes [] = by-bool _ (same_kind k kind) (λ same. rw same) (λ other. rw other)
+content-appended kind k bytes [] = by-bool _ (same_kind k kind) (λ same. rw same)
+    (λ other. rw other)
 content-appended kind k bytes (d ∷ ds) =
     by-bool _ (same_kind d.0 k)
     (λ same. rw (same, ← is-same d.0 k same)

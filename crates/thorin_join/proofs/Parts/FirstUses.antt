@@ -1,5 +1,5 @@
--- The strings of a package are those that its inputs name, in order of first use; and how many bytes
--- they have, and the parts of an input.
+-- The strings of a package are those that its inputs name, in order of first use; and how many
+-- bytes they have, and the parts of an input.
 use Rattle.std.proofs.Common.{◌≡◌, ◌∙◌, ℕ, zero, suc, ◌+◌, ◌*◌, ◌-◌, ◌≤◌, cond, List, [], ◌∷◌, ◌++◌}
 use Rattle.std.proofs.Common.{length, drop, length-take, length-drop, ap, sym, refl, Result, Ok}
 use Rattle.std.proofs.Common.{Option, Some, None, inl, inr, if◌then◌else◌, arith, ltb, ◌<◌, Bool}
@@ -134,7 +134,11 @@ no-entries encoding = count-none encoding.format 0 (header_size encoding) (omega
 -- so many entries behind a header, of at least 4 bytes each
 few : (format : Format) (n head size long : ℕ) → head + n * offset_size format ≤ size
     → 4 * (n * long) ≤ size * long
-few format n head size long h = omega (arith, mul-le-mul_right long (most format h), mul_assoc 4 n long)
+few format n head size long h = omega (
+  arith,
+  mul-le-mul_right long (most format h),
+  mul_assoc 4 n long,
+)
   where
     most : (format : Format) → head + n * offset_size format ≤ size → 4 * n ≤ size
     most Dwarf32 h = omega arith

@@ -205,5 +205,6 @@ module _ (names : NamesTheSameLaw) (alike : ReadsAlikeLaw) (in_turn : ReadInTurn
       → (final : List (List ℕ)) → IsTable final → take (length after) final ≡ after → (i : ℕ)
       → ReadsAlike object.order encoding section (joined_offsets encoding object.sections)
       (data_of final) (joined_parts StrOffsets parts) i
-  parts-read strings parts after table h = (each-reads object.sections ([], strings) (parts, after) h
+  parts-read strings parts after table h =
+      (each-reads object.sections ([], strings) (parts, after) h
       [] (reads-none strings table)).read

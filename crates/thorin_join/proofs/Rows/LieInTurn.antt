@@ -156,7 +156,8 @@ pub units-lie : (p : InProgress) (us : List (DwarfObject × NewUnit)) → AllNew
 unfolding with_new_units
 units-lie p [] new can lie = lie
 units-lie p (u ∷ us) new can lie =
-    rw (is-new p u new.0, with_new_units) (units-lie (with_unit_added p u) us (rw (names-added p u) new.1) can.1
+    rw (is-new p u new.0, with_new_units) (units-lie (with_unit_added p u) us
+    (rw (names-added p u) new.1) can.1
     (unit-lies p.file.order p.file.contents p.rows u can.0 lie))
 
 -- ---- those of an input

@@ -161,7 +161,8 @@ carried-sections [] = omega arith
 carried-sections (s ∷ ss) =
     let all = sum_by-cons (λ (used : Used). length used.bytes) s ss in
     let own : carried s ≤ length s.bytes =
-    by-bool _ (counts_once s.kind) (λ once. rw once (omega arith)) (λ other. rw other (omega arith)) in
+    by-bool _ (counts_once s.kind) (λ once. rw once (omega arith)) (λ other.
+    rw other (omega arith)) in
     omega (arith, own, carried-sections ss, sum_by-cons carried s ss, all)
 
 pub carried-used : (bytes : List ℕ) → carried_size bytes ≤ used_size bytes

@@ -9,7 +9,8 @@ use Rattle.dwp_dwarf.specs.declared.unit.UnitSection.{UnitSection}
 use Rattle.dwp_table.specs.declared.object.DwarfObject.{DwarfObject}
 use Rattle.thorin_errors.specs.Answers.{as_error}
 use Rattle.thorin_errors.specs.Errors.{ErrorValue, ParseUnitHeader}
-use Rattle.thorin_input.specs.NewUnits.{New, Adding, Met, kept_bytes, with_unit, name_for, with_read}
+use Rattle.thorin_input.specs.NewUnits.{New, Adding, Met, kept_bytes, with_unit, name_for}
+use Rattle.thorin_input.specs.NewUnits.{with_read}
 use Rattle.thorin_input.specs.NewUnits.{with_each_read, unit_section, none_met, with_met, once_test}
 use Rattle.thorin_input.specs.NewUnits.{with_section_at, with_section_in, with_section}
 use Rattle.thorin_input.specs.NewUnits.{with_each_section, new_units}

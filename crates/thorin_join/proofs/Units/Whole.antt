@@ -128,7 +128,13 @@ module _ (taken : UnitsAreTaken) (alone : ReadAlone) where
       by true r k e h' go = absurd cc
       by false (Ok x) zero e h' go =
           let same : x.0 ≡ u = cc in
-          record { d = d; left = left; rest = x.1; read = e ∙ ap (λ (v : Header). Ok (v, x.1)) same }
+          record {
+            d = d;
+            left = left;
+            rest = x.1;
+            read = e ∙ ap (λ (v : Header).
+                Ok (v, x.1)) same;
+          }
       by false (Ok x) (suc k) e h' go =
           let t = taken place (plain order d left) x.1 x.0 e in
           go (d + t.0.taken) (drop t.0.taken left) k (rw t.0.is at h')
@@ -211,7 +217,8 @@ module _ (taken : UnitsAreTaken) (alone : ReadAlone) where
         (us : List (DwarfObject × UnitRead)) → unit_section kind ≡ Some place
         → AreKnown order place reads → named_each source kind reads ≡ Ok us → AllGo order us
     unfolding named_each named_unit
-    each-goes kind place [] us at known h = subst (AllGo order) (same-ok {E = ErrorValue} [] us h) tt
+    each-goes kind place [] us at known h =
+        subst (AllGo order) (same-ok {E = ErrorValue} [] us h) tt
     each-goes kind place (read ∷ rest) us at known h =
         let a = bind-was (named_unit source kind read) _ us h in
         let b = bind-was (named_each source kind rest) _ us a.2 in

@@ -10,7 +10,8 @@ returns-then-some-lt-LANES c =
       within = omega arith;
       ended = c.before_zero-some.ensures.zero (omega arith);
       before = range_more (λ k. get_or c.args.bytes.now k 0 ≢ 0) at at count (at + count)
-          c.loop-round.invariant.some (λ k less. c.before_zero-some.ensures.some k less (omega arith))
+          c.loop-round.invariant.some (λ k less. c.before_zero-some.ensures.some k
+          less (omega arith))
           (omega arith) (omega arith);
     }
 
@@ -21,5 +22,6 @@ loop-round-preserved c =
       within = omega arith;
       some = range_more (λ k. get_or c.args.bytes.now k 0 ≢ 0) at at 64
           ((c.loop-round.round + 1) * 64) c.loop-round.invariant.some
-          (λ k less. c.before_zero-some.ensures.some k (omega arith) less) (omega arith) (omega arith);
+          (λ k less. c.before_zero-some.ensures.some k (omega arith) less)
+          (omega arith) (omega arith);
     }

@@ -5,7 +5,6 @@ use Rattle.thorin_strings.proofs.ChunkLemmas.{start_within}
 use Rattle.thorin_strings.proofs.PieceLemmas.{counts, length-pieces, piece_read, piece_halved}
 use Rattle.thorin_strings.proofs.ShortLemmas.{halves_same, halves_begun, halves_short}
 use Rattle.thorin_strings.proofs.positions.cut.Goals as goal
-use Rattle.thorin_strings.proofs.positions.cut.Goals.{After-index}
 
 there : (c : goal.After-index) → c.args.at < length (pieces c.args.chunks.now.items)
 there c = omega (arith, length-pieces c.args.chunks.now)
@@ -51,7 +50,8 @@ pub returns-clause-begun : goal.returns-clause-begun
 returns-clause-begun c =
     let at = (goal.at.returns-clause-begun c).After-index in
     halves_begun _ _ c.args.at (there at) (halved at) c.args.starts.now.items _ c.requires.begun
-    (rw (← start at, ← c.reserve-2.ensures.items) (rw c.unwrap-2.ensures at c.insert-2.ensures.items))
+    (rw (← start at, ← c.reserve-2.ensures.items) (rw c.unwrap-2.ensures at
+    c.insert-2.ensures.items))
 
 pub returns-clause-same : goal.returns-clause-same
 returns-clause-same c =

@@ -1,5 +1,6 @@
 use Rattle.std.proofs.Common.{◌∙◌, ap, sym, ◌+◌}
-use Rattle.thorin_strings.proofs.ChunkLemmas.{raised, length-raised, raised_at, over_left, over_more}
+use Rattle.thorin_strings.proofs.ChunkLemmas.{raised, length-raised, raised_at, over_left}
+use Rattle.thorin_strings.proofs.ChunkLemmas.{over_more}
 use Rattle.thorin_strings.proofs.positions.raise.Goals as goal
 
 pub loop-i-preserved : goal.loop-i-preserved

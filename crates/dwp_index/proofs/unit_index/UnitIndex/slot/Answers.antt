@@ -1,4 +1,4 @@
-use Rattle.std.proofs.Common.{◌≡◌, length, get_or, sym, ap, ◌∙◌, arith}
+use Rattle.std.proofs.Common.{get_or, sym, ap, ◌∙◌, arith}
 use Rattle.dwp_index.specs.Index.{Index}
 use Rattle.dwp_index.proofs.NumberLists.{get_or-numbers}
 use Rattle.dwp_index.proofs.Views.{slots-length}

@@ -5,7 +5,6 @@ use Rattle.thorin_strings.specs.Chunks.{pieces, IsPieceOf}
 use Rattle.thorin_strings.proofs.ChunkLemmas.{first_start, some_piece, placed, chunk_got}
 use Rattle.thorin_strings.proofs.PieceLemmas.{length-pieces, piece_read}
 use Rattle.thorin_strings.proofs.positions.Positions.get_near.Goals as goal
-use Rattle.thorin_strings.proofs.positions.Positions.get_near.Goals.{After-index}
 
 pub chunk_of-at-requires-clause-some : goal.chunk_of-at-requires-clause-some
 chunk_of-at-requires-clause-some c =
@@ -21,7 +20,8 @@ chunk_of-at-requires-clause-first c =
 
 -- what the rank finds
 found : (c : goal.After-index) → (c.args.rank - c.index.result.now < length
-    c.index-chunk.result.now.items) × (get_or (concat (pieces c.self.inside.chunks.items)) c.args.rank 0
+    c.index-chunk.result.now.items)
+    × (get_or (concat (pieces c.self.inside.chunks.items)) c.args.rank 0
     ≡ get_or c.index-chunk.result.now.items (c.args.rank - c.index.result.now) 0)
 found c =
     let chunks = c.self.inside.chunks in
