@@ -2,8 +2,8 @@
 //! `thorin_executable`, with its arguments, and is printed with what it answers. For the gate alone.
 #![tactic(auto)]
 
-mod executable;
 mod errors;
+mod executable;
 mod packaged;
 mod parts;
 mod sessions;
