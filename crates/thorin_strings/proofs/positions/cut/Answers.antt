@@ -5,6 +5,7 @@ use Rattle.thorin_strings.proofs.ChunkLemmas.{start_within}
 use Rattle.thorin_strings.proofs.PieceLemmas.{counts, length-pieces, piece_read, piece_halved}
 use Rattle.thorin_strings.proofs.ShortLemmas.{halves_same, halves_begun, halves_short}
 use Rattle.thorin_strings.proofs.positions.cut.Goals as goal
+use Rattle.thorin_strings.proofs.positions.cut.Goals.{After-index}
 
 there : (c : goal.After-index) → c.args.at < length (pieces c.args.chunks.now.items)
 there c = omega (arith, length-pieces c.args.chunks.now)

@@ -5,6 +5,7 @@ use Rattle.thorin_strings.proofs.ChunkLemmas.{first_start}
 use Rattle.thorin_strings.proofs.ShortLemmas.{IsInHalf, halves_room, in_half}
 use Rattle.thorin_strings.proofs.PieceLemmas.{counts}
 use Rattle.thorin_strings.proofs.positions.room_at.Goals as goal
+use Rattle.thorin_strings.proofs.positions.room_at.Goals.{In_ok-cut}
 
 pub chunk_of-at-requires-clause-first : goal.chunk_of-at-requires-clause-first
 chunk_of-at-requires-clause-first c =

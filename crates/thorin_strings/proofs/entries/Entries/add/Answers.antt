@@ -4,6 +4,7 @@ use Rattle.thorin_strings.proofs.UsedLemmas.{two_pushes}
 use Rattle.thorin_strings.proofs.HashedLemmas.{IsAdded, added, entries_few, unplaced, carried_kept}
 use Rattle.thorin_strings.proofs.TableLemmas.{indexed_push}
 use Rattle.thorin_strings.proofs.entries.Entries.add.Goals as goal
+use Rattle.thorin_strings.proofs.entries.Entries.add.Goals.{After-unwrap-2}
 
 pub overflow_add-self : goal.overflow_add-self
 overflow_add-self c = omega (arith, (entries_few c.args.self.now c.requires.table).0)

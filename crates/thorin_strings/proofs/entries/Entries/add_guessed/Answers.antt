@@ -6,6 +6,7 @@ use Rattle.thorin_strings.proofs.UsedLemmas.{ok_from_some}
 use Rattle.thorin_strings.proofs.HashedLemmas.{IsAdded, added, entries_few, unplaced, carried_kept}
 use Rattle.thorin_strings.proofs.TableLemmas.{indexed_push}
 use Rattle.thorin_strings.proofs.entries.Entries.add_guessed.Goals as goal
+use Rattle.thorin_strings.proofs.entries.Entries.add_guessed.Goals.{After-enter}
 
 pub overflow_add-self : goal.overflow_add-self
 overflow_add-self c = omega (arith, (entries_few c.args.self.now c.requires.table).0)

@@ -7,6 +7,7 @@ use Rattle.thorin_strings.proofs.HashedLemmas.{IsAdded, added, entries_few, misp
 use Rattle.thorin_strings.proofs.HashedLemmas.{begins_at_offset}
 use Rattle.thorin_strings.proofs.TableLemmas.{indexed_push}
 use Rattle.thorin_strings.proofs.entries.Entries.add_over.Goals as goal
+use Rattle.thorin_strings.proofs.entries.Entries.add_over.Goals.{After-unwrap-2}
 
 pub overflow_add-self : goal.overflow_add-self
 overflow_add-self c = omega (arith, (entries_few c.args.self.now c.requires.table).0)

@@ -6,6 +6,7 @@ use Rattle.thorin_strings.proofs.HashedLemmas.{IsAdded, added, entries_few, unor
 use Rattle.thorin_strings.proofs.HashedLemmas.{carried_among, among_one, found_there, absent_there}
 use Rattle.thorin_strings.proofs.TableLemmas.{indexed_both}
 use Rattle.thorin_strings.proofs.entries.Entries.place_ordered.Goals as goal
+use Rattle.thorin_strings.proofs.entries.Entries.place_ordered.Goals.{After-unwrap-2}
 
 pub returns-in-Ok-clause-placed : goal.returns-in-Ok-clause-placed
 returns-in-Ok-clause-placed c =

@@ -5,6 +5,7 @@ use Rattle.thorin_strings.specs.Chunks.{pieces, IsPieceOf}
 use Rattle.thorin_strings.proofs.ChunkLemmas.{first_start, some_piece, placed, chunk_got}
 use Rattle.thorin_strings.proofs.PieceLemmas.{length-pieces, piece_read}
 use Rattle.thorin_strings.proofs.positions.Positions.get_near.Goals as goal
+use Rattle.thorin_strings.proofs.positions.Positions.get_near.Goals.{After-index}
 
 pub chunk_of-at-requires-clause-some : goal.chunk_of-at-requires-clause-some
 chunk_of-at-requires-clause-some c =

@@ -6,6 +6,7 @@ use Rattle.thorin_strings.specs.Chunks.{pieces, IsChunked}
 use Rattle.thorin_strings.proofs.ChunkLemmas.{placed, chunk_inserted, starts_bounded, raised}
 use Rattle.thorin_strings.proofs.ChunkLemmas.{length-raised}
 use Rattle.thorin_strings.proofs.positions.Positions.insert.Goals as goal
+use Rattle.thorin_strings.proofs.positions.Positions.insert.Goals.{After-raise}
 
 pub put-requires-clause-within : goal.put-requires-clause-within
 put-requires-clause-within c = (placed _ _ _ _ _ c.in_ok-at.ensures.begun c.in_ok-at.ensures.at

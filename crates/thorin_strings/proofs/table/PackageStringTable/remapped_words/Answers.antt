@@ -11,6 +11,7 @@ use Rattle.thorin_strings.proofs.RemapLemmas.{kept_more, remapped_refuses, room_
 use Rattle.thorin_strings.proofs.RemapLemmas.{length_part, entries_within}
 use Rattle.thorin_strings.proofs.WrittenLemmas.{none_written, one_written}
 use Rattle.thorin_strings.proofs.table.PackageStringTable.remapped_words.Goals as goal
+use Rattle.thorin_strings.proofs.table.PackageStringTable.remapped_words.Goals.{After-len-first}
 
 is_first : (c : goal.After-len-first) → c.len-first.result ≡ header_size c.args.encoding
 is_first c = c.len-first.ensures ∙ c.in_ok-out.out.ok.0
