@@ -1,6 +1,6 @@
 -- Sections and their headers.
 use Rattle.std.proofs.Common.{◌≡◌, ◌∙◌, ℕ, zero, suc, ◌+◌, ◌*◌, ◌<◌, ◌≤◌, Bool, true, false, cond}
-use Rattle.std.proofs.Common.{not, ◌||◌, ◌&&◌, List, [], length, Some, None, Result, Ok, Err}
+use Rattle.std.proofs.Common.{not, ◌||◌, ◌&&◌, List, [], length, Some, None, Ok, Err}
 use Rattle.std.proofs.Common.{Option, refl, sym, ap, subst, arith, map, IsTrue}
 use Rattle.std.specs.Prelude.{slice_get, slice_range, ◌==◌}
 use Rattle.std.specs.List.{range_with_len}
@@ -20,12 +20,12 @@ use Rattle.dwp_elf_read.specs.Elf.{SHT_NOBITS, section_header_at, has_compressed
 use Rattle.dwp_elf_read.specs.Identification.{identity_of}
 use Rattle.dwp_elf_read.specs.Layout.{word_size, entry_size, file_header_of, is_inside, number_at}
 use Rattle.dwp_elf_read.specs.Layout.{section_header_of}
-use Rattle.dwp_elf_read.specs.declared.error.ReadError.{ReadError}
-use Rattle.dwp_elf_read.specs.declared.error.ReadError.TheVariants.{SectionRange, Compressed}
+use Rattle.dwp_elf_read.specs.declared.error.ReadError.TheVariants.{SectionRange}
 use Rattle.dwp_index.specs.Contents.{is_of_kind, has_older_name, used_bytes}
 use Rattle.thorin_c.specs.Headers.{table_in, offset_in}
 use Rattle.thorin_c.specs.Opening.{bytes_at}
-use Rattle.dwp_base.proofs.Steps.{bind-was}
+use Rattle.dwp_base.proofs.Bools.{both, neither, is-false}
+use Rattle.dwp_base.proofs.Steps.{bind-was, same-ok}
 
 -- a file that could be read: its sections are those that the headers describe, and these lie in it
 pub record IsRead (bytes : List ℕ) (elf : Elf) : Type 0 where
@@ -52,12 +52,6 @@ counted class order bytes n e =
     subst (λ m. header.table + m * entry_size class ≤ length bytes) both.1
     (leb-true (header.table + named.0 * entry_size class) (length bytes) both.0)
 
-abbrev read_as : Elf → Result Elf ReadError
-read_as elf = Ok elf
-
-value_of : (x y : Elf) → read_as x ≡ read_as y → x ≡ y
-value_of x y e = cc
-
 pub read_of : (bytes : List ℕ) (elf : Elf) → elf_of bytes ≡ Ok elf → IsRead bytes elf
 unfolding elf_of
 read_of bytes elf e =
@@ -65,7 +59,7 @@ read_of bytes elf e =
     let header = file_header_of (word_size a.0.0) a.0.1 bytes in
     let b = bind-was (section_count a.0.0 a.0.1 bytes header) _ elf a.2 in
     let c = bind-was (name_table a.0.0 a.0.1 bytes header b.0) _ elf b.2 in
-    subst (IsRead bytes) (value_of _ elf c.2) (record {
+    subst (IsRead bytes) (same-ok _ elf c.2) (record {
       names = c.0;
       count = b.0;
       sections = refl;
@@ -148,12 +142,9 @@ content_by false false xs e = refl
 
 kind_apart : (empty nobits named : Bool) → (not (empty || nobits) && named) ≡ true
     → nobits ≡ false
-kind_apart empty true named e = absurd (by_cases empty e)
-  where
-    by_cases : (empty : Bool) → (not (empty || true) && named) ≡ true → ⊥
-    by_cases true e = cc
-    by_cases false e = cc
-kind_apart empty false named e = refl
+kind_apart empty nobits named e =
+    let filled = is-false (empty || nobits) (both (not (empty || nobits)) named e).0 in
+    (neither empty nobits filled).1
 
 -- its bytes are those at that place
 pub content_there : (bytes : List ℕ) (elf : Elf) (i : ℕ) (s : SectionMeaning) (kind : SectionKind)
@@ -167,43 +158,28 @@ content_there bytes elf i s kind e at filled =
     let r = read_of bytes elf e in
     let h = section_header_at elf.class elf.order bytes (table_in elf bytes) i in
     let is = section_there bytes elf r i s at in
-    let of_kind : IsTrue (is_of_kind kind (section_of bytes r.names i h)) =
-    subst (λ t. IsTrue (is_of_kind kind t)) (sym is) filled in
-    subst (λ (t : SectionMeaning). ok_or t.content SectionRange
-    ≡ cond (is_inside bytes h.offset t.size)
-    (Ok (bytes_at bytes (record { offset = h.offset; size = t.size }))) (Err SectionRange)) is
-    (content_by (h.kind == SHT_NOBITS) (is_inside bytes h.offset h.size)
+    let of_kind = rw (← is) at filled in
+    rw (← is) (content_by (h.kind == SHT_NOBITS) (is_inside bytes h.offset h.size)
     (slice_range bytes h.offset (h.offset + h.size))
     (kind_apart (h.size == 0) (h.kind == SHT_NOBITS) _ of_kind))
 
 -- a section that is used, by its place
 pub used_there : (bytes : List ℕ) (elf : Elf) (i : ℕ) (s : SectionMeaning) (kind : SectionKind)
-    (offset size : ℕ) → elf_of bytes ≡ Ok elf → slice_get elf.sections i ≡ Some s
+    (offset size : ℕ) (inside : Bool) → elf_of bytes ≡ Ok elf → slice_get elf.sections i ≡ Some s
     → IsTrue (is_of_kind kind s) → has_compressed_flag s ≡ false
     → has_older_name kind s.name ≡ false → offset ≡ offset_in elf bytes i → size ≡ s.size
-    → used_bytes kind s ≡ cond (is_inside bytes offset size)
+    → is_inside bytes offset size ≡ inside → used_bytes kind s ≡ cond inside
     (Ok (bytes_at bytes (record { offset = offset; size = size }))) (Err SectionRange)
 unfolding used_bytes
-used_there bytes elf i s kind offset size e at filled plain newer is_offset is_size =
-    ap (λ b. cond (b || has_older_name kind s.name) (Err Compressed)
-    (ok_or s.content SectionRange)) plain
-    ∙ ap (λ b. cond b (Err Compressed) (ok_or s.content SectionRange)) newer
-    ∙ content_there bytes elf i s kind e at filled
-    ∙ ap (λ n. cond (is_inside bytes n s.size)
-    (Ok (bytes_at bytes (record { offset = n; size = s.size }))) (Err SectionRange)) (sym is_offset)
-    ∙ ap (λ n. cond (is_inside bytes offset n)
-    (Ok (bytes_at bytes (record { offset = offset; size = n }))) (Err SectionRange)) (sym is_size)
+used_there bytes elf i s kind offset size inside e at filled plain newer is_offset is_size is =
+    rw (← is, is_offset, is_size, plain, newer) (content_there bytes elf i s kind e at filled)
 
 -- what is read for these numbers
 pub table_read : (bytes : List ℕ) (elf : Elf) (class : Class) (order : Endianness) (word table : ℕ)
     → class ≡ elf.class → order ≡ elf.order → word ≡ word_size elf.class
     → table ≡ number_at order (word_size class) bytes (24 + 2 * word) → table ≡ table_in elf bytes
 table_read bytes elf class order word table a b w read =
-    read
-    ∙ ap (λ o. number_at o (word_size class) bytes (24 + 2 * word)) b
-    ∙ ap (λ k. number_at elf.order (word_size k) bytes (24 + 2 * word)) a
-    ∙ ap (λ n. number_at elf.order (word_size elf.class) bytes (24 + 2 * n)) w
-    ∙ table_there bytes elf
+    rw (read, a, b, w) (table_there bytes elf)
 
 pub offset_read : (bytes : List ℕ) (elf : Elf) (i : ℕ) (class : Class) (order : Endianness)
     (word entry table offset : ℕ) → class ≡ elf.class → order ≡ elf.order
@@ -211,15 +187,7 @@ pub offset_read : (bytes : List ℕ) (elf : Elf) (i : ℕ) (class : Class) (orde
     → offset ≡ number_at order (word_size class) bytes (table + i * entry + (8 + 2 * word))
     → offset ≡ offset_in elf bytes i
 offset_read bytes elf i class order word entry table offset a b w s t read =
-    read
-    ∙ ap (λ o. number_at o (word_size class) bytes (table + i * entry + (8 + 2 * word))) b
-    ∙ ap (λ k. number_at elf.order (word_size k) bytes (table + i * entry + (8 + 2 * word))) a
-    ∙ ap (λ n. number_at elf.order (word_size elf.class) bytes (n + i * entry + (8 + 2 * word))) t
-    ∙ ap (λ n. number_at elf.order (word_size elf.class) bytes
-    (table_in elf bytes + i * n + (8 + 2 * word))) s
-    ∙ ap (λ n. number_at elf.order (word_size elf.class) bytes
-    (table_in elf bytes + i * entry_size elf.class + (8 + 2 * n))) w
-    ∙ sym (offset_there bytes elf i)
+    rw (read, a, b, w, s, t) (sym (offset_there bytes elf i))
 
 -- where these numbers are read, all lies in the file
 pub record IsInside (len table i entry word : ℕ) : Type 0 where
@@ -235,25 +203,24 @@ inside_by len table i entry word product e h room = record {
   place = subst (λ n. table + n + (8 + 2 * word) + word ≤ len) (sym e) (omega (arith, h, room));
 }
 
-pub all_inside : (bytes : List ℕ) (elf : Elf) (i word entry table : ℕ) → elf_of bytes ≡ Ok elf
-    → i < length elf.sections → word ≡ word_size elf.class → entry ≡ entry_size elf.class
-    → table ≡ table_in elf bytes → IsInside (length bytes) table i entry word
-all_inside bytes elf i word entry table e h w s t =
-    subst (λ n. IsInside (length bytes) n i entry word) (sym t)
-    (subst (λ n. IsInside (length bytes) (table_in elf bytes) i n word) (sym s)
-    (subst (λ n. IsInside (length bytes) (table_in elf bytes) i (entry_size elf.class) n) (sym w)
-    (inside_by (length bytes) (table_in elf bytes) i (entry_size elf.class) (word_size elf.class)
-    (i * entry_size elf.class) refl (table_inside bytes elf i e h) (room elf.class))))
+pub all_inside : (bytes : List ℕ) (elf : Elf) (i : ℕ) (class : Class) (order : Endianness)
+    (word entry table : ℕ) → elf_of bytes ≡ Ok elf → i < length elf.sections → class ≡ elf.class
+    → order ≡ elf.order → word ≡ word_size elf.class → entry ≡ entry_size elf.class
+    → table ≡ number_at order (word_size class) bytes (24 + 2 * word)
+    → IsInside (length bytes) table i entry word
+all_inside bytes elf i class order word entry table e h a b w s read =
+    let t = table_read bytes elf class order word table a b w read in
+    rw (t, s, w) (inside_by (length bytes) (table_in elf bytes) i (entry_size elf.class)
+    (word_size elf.class) (i * entry_size elf.class) refl (table_inside bytes elf i e h)
+    (room elf.class))
 
 -- the header itself has room for where the table is
 pub first_inside : (bytes : List ℕ) (elf : Elf) (i : ℕ) (class : Class) (word : ℕ)
     → elf_of bytes ≡ Ok elf → i < length elf.sections → class ≡ elf.class
     → word ≡ word_size elf.class → 24 + 2 * word + word_size class ≤ length bytes
-first_inside bytes elf i class word e h a w =
-    subst (λ n. 24 + 2 * n + word_size class ≤ length bytes) (sym w)
-    (subst (λ k. 24 + 2 * word_size elf.class + word_size k ≤ length bytes) (sym a)
+first_inside bytes elf i class word e h a w = rw (w, a)
     (first_by (length bytes) (table_in elf bytes) (i * entry_size elf.class)
-    (entry_size elf.class) (word_size elf.class) (table_inside bytes elf i e h) (room elf.class)))
+    (entry_size elf.class) (word_size elf.class) (table_inside bytes elf i e h) (room elf.class))
   where
     first_by : (len table product entry word : ℕ) → table + (product + entry) ≤ len
         → 24 + 3 * word ≤ entry → 24 + 2 * word + word ≤ len

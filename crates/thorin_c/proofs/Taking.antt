@@ -1,11 +1,11 @@
 -- Inputs taken one after the other.
 use Rattle.std.proofs.Common.{◌≡◌, ◌∙◌, ℕ, ◌+◌, true, List, [], ◌∷◌, ◌++◌, refl, sym, ap, subst}
-use Rattle.std.proofs.Common.{Result, Ok, Err, ◌<◌, if◌then◌else◌, inl, length, take, get_or, map}
+use Rattle.std.proofs.Common.{Ok, Err, ◌<◌, if◌then◌else◌, inl, length, take, get_or, map}
 use Rattle.std.proofs.Common.{arith}
 use Rattle.std.proofs.lemmas.List.{take_more, map-append, length-map}
 use Rattle.std.proofs.Math.Seq.{take-append_seam}
 use Rattle.dwp_base.specs.Reading.{◌>>=◌}
-use Rattle.thorin_errors.specs.Errors.{ErrorValue, error_of, NoOutputObjectCreated}
+use Rattle.thorin_errors.specs.Errors.{error_of, NoOutputObjectCreated}
 use Rattle.thorin_errors.specs.Answers.{MemoryAside}
 use Rattle.thorin_errors.specs.declared.error.Error.{Error}
 use Rattle.thorin_errors.specs.declared.error.Error.TheVariants as errors
@@ -21,30 +21,19 @@ use Rattle.thorin_join.specs.Represents.{units_in}
 use Rattle.thorin_again.specs.Own.{packs_again}
 use Rattle.thorin_again.specs.PlainInputs.{AreTaken}
 use Rattle.thorin.specs.Again.{IsTakenAgain}
-use Rattle.thorin_c.specs.Packing.{bytes_of, all_taken, Accepts, RefusesAt, StopsAt, Leaves}
+use Rattle.thorin_c.specs.Packing.{bytes_of, all_taken, Accepts, StopsAt, Leaves}
 use Rattle.thorin_c.specs.Packing.{TellsRefused, TellsLeft, TellsUnfinished, Refuses, RunsOutAt}
 use Rattle.thorin_c.specs.Packing.{RunsOutAfter, IsPackage, ArePackedAgain, Differ}
 use Rattle.thorin_c.specs.declared.types.ThorinBytes.{ThorinBytes}
 use Rattle.dwp_base.proofs.Steps.{bind-was, same-ok}
 
-abbrev value : Result State ErrorValue → State → State
-value (Ok s) other = s
-value (Err e) other = other
-
 taken-next : (done : List ThorinBytes) (input : ThorinBytes) (old middle new : State)
     → all_taken done old ≡ Ok middle → taken input.bytes.now middle ≡ Ok new
     → all_taken (done ++ input ∷ []) old ≡ Ok new
-taken-next [] input old middle new h k =
-    let same : old ≡ middle = ap (λ r. value r old) h in
-    ap (λ r. r >>= λ s. all_taken [] s) (subst (λ s. taken input.bytes.now s ≡ Ok new) (sym same) k)
-taken-next (x ∷ done) input old middle new h k = step (taken x.bytes.now old) (λ s g.
-    taken-next done input s middle new g k) h where
-      step : (first : Result State ErrorValue) → ((s : State) → all_taken done s ≡ Ok middle
-          → all_taken (done ++ input ∷ []) s ≡ Ok new)
-          → (first >>= λ s. all_taken done s) ≡ Ok middle
-          → (first >>= λ s. all_taken (done ++ input ∷ []) s) ≡ Ok new
-      step (Ok s) next h = next s h
-      step (Err e) next h = absurd cc
+taken-next [] input old middle new h k = rw (same-ok old middle h, k) refl
+taken-next (x ∷ done) input old middle new h k =
+    let first = bind-was (taken x.bytes.now old) _ middle h in
+    rw first.1 (taken-next done input first.0 middle new first.2 k)
 
 joined-next : (done : List (List ℕ)) (bytes : List ℕ) (old middle new : Members)
     → JoinAll done old middle → Joins bytes middle new → JoinAll (done ++ bytes ∷ []) old new
@@ -57,47 +46,36 @@ pub accepts-next : (inputs : List ThorinBytes) (i : ℕ) (d : ThorinBytes) (old 
     → i < length inputs → Accepts (take i inputs) old middle
     → taken (get_or inputs i d).bytes.now middle ≡ Ok new → Joins (get_or inputs i d).bytes.now
     (units_in middle) (units_in new) → Accepts (take (i + 1) inputs) old new
-accepts-next inputs i d old middle new h before now joins =
-    subst (λ l. Accepts l old new) (sym (take_more inputs i d h)) (record {
-      taken = taken-next (take i inputs) (get_or inputs i d) old middle new before.taken now;
-      joined = subst (λ l. JoinAll l (units_in old) (units_in new))
-          (sym (map-append (λ input. input.bytes.now) (take i inputs) (get_or inputs i d ∷ [])))
-          (joined-next (bytes_of (take i inputs)) (get_or inputs i d).bytes.now (units_in old)
-          (units_in middle) (units_in new) before.joined joins);
-    })
+accepts-next inputs i d old middle new h before now joins = rw (take_more inputs i d h) (record {
+  taken = taken-next (take i inputs) (get_or inputs i d) old middle new before.taken now;
+  joined = rw (map-append (λ input. input.bytes.now) (take i inputs) (get_or inputs i d ∷ []))
+      (joined-next (bytes_of (take i inputs)) (get_or inputs i d).bytes.now (units_in old)
+      (units_in middle) (units_in new) before.joined joins);
+})
 
 -- what is told of a refused input
 pub refuses : (inputs : List ThorinBytes) (old : State) (refusal : RefusedInput)
     (report : ThorinReport) → old ≡ start
     → StopsAt inputs old refusal.number refusal.error → TellsRefused refusal.number refusal.error
     report → Refuses inputs report
-refuses inputs old refusal report is at told =
-    let here : RefusesAt inputs old refusal.number (error_of refusal.error) =
-    record {
-      within = at.within;
-      state = at.state;
-      before = at.before;
-      refused =
-          at.refused told.not_memory;
-    } in
-    record {
-      error = error_of refusal.error;
-      refused = subst (λ s. RefusesAt inputs s report.input (error_of refusal.error)) is
-          (subst (λ n. RefusesAt inputs old n (error_of refusal.error)) (sym told.input) here);
-      told = told.told;
-    }
+refuses inputs old refusal report is at told = record {
+  error = error_of refusal.error;
+  refused = rw (← is, told.input) (record {
+    within = at.within;
+    state = at.state;
+    before = at.before;
+    refused = at.refused told.not_memory;
+  });
+  told = told.told;
+}
 
 -- and of one at which memory ran out
 pub runs_out_at : (inputs : List ThorinBytes) (old : State) (refusal : RefusedInput)
     (number : ℕ) → old ≡ start
     → StopsAt inputs old refusal.number refusal.error → number ≡ refusal.number
     → RunsOutAt inputs number
-runs_out_at inputs old refusal number is at here =
-    subst (λ n. RunsOutAt inputs n) (sym here) (record {
-      within = at.within;
-      state = at.state;
-      before = subst (λ s. Accepts (take refusal.number inputs) s at.state) is at.before;
-    })
+runs_out_at inputs old refusal number is at here = rw here
+    (record { within = at.within; state = at.state; before = rw (← is) at.before })
 
 -- and of a package that can't be finished
 pub unfinished : (inputs : List ThorinBytes) (error : Error) (report : ThorinReport)
@@ -112,7 +90,7 @@ unfinished inputs error report is told = record {
 pub runs_out_after : (inputs : List ThorinBytes) (error : Error) (number : ℕ) → Leaves inputs error
     → (error ≡ errors.Memory) × (number ≡ length inputs) → RunsOutAfter inputs number
 runs_out_after inputs error number is out = record {
-  some = subst (λ n. 0 < n) (sym out.1) (is.memory out.0);
+  some = rw out.1 (is.memory out.0);
   all = out.1;
   state = is.state;
   accepted = is.accepted;
@@ -126,7 +104,7 @@ pub packs : (inputs : List ThorinBytes) (old state : State) (signatures : List D
     (if packs_again state then 1 else 0) bytes
 packs inputs old state signatures bytes is accepted written joined differ = record {
   state = state;
-  accepted = subst (λ s. Accepts inputs s state) is accepted;
+  accepted = rw (← is) accepted;
   written = written;
   package_of = joined;
   differ = sym (length-map signatures (λ s. s.0)) ∙ ap length differ;
@@ -152,7 +130,7 @@ pub taken_again : AgainLaw → (inputs : List ThorinBytes) (old state : State) (
     → old ≡ start → Accepts inputs old state → IsWritten state bytes → packs_again state ≡ true
     → ArePackedAgain inputs bytes
 taken_again law inputs old state bytes is accepted written packs =
-    let from : Accepts inputs start state = subst (λ s. Accepts inputs s state) is accepted in
+    let from : Accepts inputs start state = rw (← is) accepted in
     record {
       units = units_in state;
       joined = from.joined;
@@ -165,8 +143,7 @@ pub handed_over : (inputs : List ThorinBytes) (file written rest : List ℕ) (n 
     → written ≡ file → n ≡ length file → ArePackedAgain inputs file
     → ArePackedAgain inputs (take n (written ++ rest))
 handed_over inputs file written rest n same size again =
-    subst (ArePackedAgain inputs)
-    (sym ((λ i. take (size i) (same i ++ rest)) ∙ take-append_seam file rest)) again
+    rw (same, size, take-append_seam file rest) again
 
 -- and why it can't be finished
 pub fails : (inputs : List ThorinBytes) (old state : State) (error : Error) → old ≡ start
@@ -174,7 +151,7 @@ pub fails : (inputs : List ThorinBytes) (old state : State) (error : Error) → 
     → MemoryAside error (RefusesToWrite state (error_of error)) → Leaves inputs error
 fails inputs old state error is some accepted refused = record {
   state = state;
-  accepted = subst (λ s. Accepts inputs s state) is accepted;
+  accepted = rw (← is) accepted;
   refused = refused;
   memory = λ e. some;
 }
@@ -201,7 +178,7 @@ pub differs : (inputs : List ThorinBytes) (old state : State) (signatures : List
     → now ≡ written_over before (map (λ s. s.0) signatures) → Differ inputs report before now
 differs inputs old state signatures report before now is accepted differ count written = record {
   state = state;
-  accepted = subst (λ s. Accepts inputs s state) is accepted;
+  accepted = rw (← is) accepted;
   count = count ∙ sym (length-map signatures (λ s. s.0)) ∙ ap length differ;
   signatures = written ∙ ap (λ l. written_over before l) differ;
 }

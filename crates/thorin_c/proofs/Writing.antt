@@ -1,26 +1,19 @@
 -- A list written over another, from its beginning on.
 use Rattle.std.proofs.Common.{◌≡◌, ◌∙◌, ℕ, suc, List, [], ◌∷◌, ◌++◌, refl, sym, ap, ◌<◌, ◌≤◌}
-use Rattle.std.proofs.Common.{length, take, drop, set, get_or, min, map, subst, ◌+◌, arith}
+use Rattle.std.proofs.Common.{length, take, drop, set, get_or, min, map, ◌+◌, arith}
 use native.Mathlib.Numerals.{unary_clauses}
 use Rattle.std.proofs.lemmas.List.{append_assoc, map-append, length-append, length-map}
-use Rattle.std.proofs.lemmas.List.{length-take-le, take_more}
+use Rattle.std.proofs.lemmas.List.{length-take-le, take_more, set_past}
 use Rattle.thorin_c.specs.Listing.{written_over}
 
 module _ {A : Type 0} where
-  -- one more, where there is room for it
-  pub one_more : (old list : List A) (x : A) → length list < length old
+  -- one more; where there is no room for it, nothing is set
+  pub one_more : (old list : List A) (x : A)
       → written_over old (list ++ x ∷ []) ≡ set (written_over old list) (length list) x
-  one_more [] list x h = absurd (omega arith)
-  one_more (y ∷ old) [] x h = refl
-  one_more (y ∷ old) (z ∷ list) x h = ap (λ l. z ∷ l) (one_more old list x (omega arith))
-
-  -- and where there is none
-  pub none_more : (old list : List A) (x : A) → length old ≤ length list
-      → written_over old (list ++ x ∷ []) ≡ written_over old list
-  none_more [] [] x h = refl
-  none_more [] (z ∷ list) x h = refl
-  none_more (y ∷ old) [] x h = absurd (omega arith)
-  none_more (y ∷ old) (z ∷ list) x h = ap (λ l. z ∷ l) (none_more old list x (omega arith))
+  one_more [] [] x = refl
+  one_more [] (z ∷ list) x = refl
+  one_more (y ∷ old) [] x = refl
+  one_more (y ∷ old) (z ∷ list) x = ap (λ l. z ∷ l) (one_more old list x)
 
   -- the length stays
   pub same_length : (old list : List A) → length (written_over old list) ≡ length old
@@ -58,38 +51,31 @@ module _ {A B : Type 0} where
       ∙ ap (λ n. min n m) (sym (ap length (map-append f done (x ∷ [])) ∙ length-append
       (map f done) (f x ∷ [])))
 
-  -- one more is written, where there is room for it
+  -- one more is written
   pub put-next : (f : A → B) (old now : List B) (done : List A) (x : A) (y : B) (i : ℕ)
-      → now ≡ written_over old (map f done) → i < length old → i ≡ length (map f done) → y ≡ f x
+      → now ≡ written_over old (map f done) → i ≡ length (map f done) → y ≡ f x
       → set now i y ≡ written_over old (map f (done ++ x ∷ []))
-  put-next f old now done x y i h k is j =
-      rw (h, is, j) (sym (ap (λ l. written_over old l) (map-append f done (x ∷ [])) ∙ one_more old
-      (map f done) (f x) (subst (λ n. n < length old) is k)))
+  put-next f old now done x y i h is j =
+      rw (h, is, j, map-append f done (x ∷ [])) (sym (one_more old (map f done) (f x)))
 
-  -- and where there is none
-  pub pass-next : (f : A → B) (old now : List B) (done : List A) (x : A) → now ≡ written_over old
-      (map f done) → length old ≤ length (map f done)
+  -- and where there is no room for it, none
+  pub pass-next : (f : A → B) (old now : List B) (done : List A) (x : A)
+      → now ≡ written_over old (map f done) → length now ≤ length (map f done)
       → now ≡ written_over old (map f (done ++ x ∷ []))
-  pass-next f old now done x h k =
-      h ∙ sym (ap (λ l. written_over old l) (map-append f done (x ∷ [])) ∙ none_more old
-      (map f done) (f x) k)
+  pass-next f old now done x h past =
+      sym (set_past now (length (map f done)) (f x) past)
+      ∙ put-next f old now done x (f x) (length (map f done)) h refl refl
 
   -- the same over the first of some items
-  pub put-at : (f : A → B) (old now : List B) (items : List A) (d : A) (y : B) (i : ℕ)
-      → now ≡ written_over old (map f (take i items)) → i < length items → i < length old
-      → y ≡ f (get_or items i d)
-      → set now i y ≡ written_over old (map f (take (i + 1) items))
-  put-at f old now items d y i h k room is =
-      let count : i ≡ length (map f (take i items)) =
-      sym (length-map (take i items) f ∙ length-take-le i items (omega arith)) in
-      put-next f old now (take i items) (get_or items i d) y i h room count is ∙ ap (λ l.
-      written_over old (map f l)) (sym (take_more items i d k))
+  module _ (f : A → B) (old now : List B) (items : List A) (d : A) (i : ℕ)
+      (h : now ≡ written_over old (map f (take i items))) (k : i < length items) where
+    pub put-at : (y : B) → y ≡ f (get_or items i d)
+        → set now i y ≡ written_over old (map f (take (i + 1) items))
+    put-at y is =
+        let count : i ≡ length (map f (take i items)) =
+        sym (length-map (take i items) f ∙ length-take-le i items (omega arith)) in
+        rw (take_more items i d k)
+        (put-next f old now (take i items) (get_or items i d) y i h count is)
 
-  pub pass-at : (f : A → B) (old now : List B) (items : List A) (d : A) (i : ℕ) → now ≡ written_over
-      old (map f (take i items)) → i < length items → length old ≤ i
-      → now ≡ written_over old (map f (take (i + 1) items))
-  pass-at f old now items d i h k room =
-      let count : i ≡ length (map f (take i items)) =
-      sym (length-map (take i items) f ∙ length-take-le i items (omega arith)) in
-      pass-next f old now (take i items) (get_or items i d) h (subst (λ n. length old ≤ n) count
-      room) ∙ ap (λ l. written_over old (map f l)) (sym (take_more items i d k))
+    pub pass-at : length now ≤ i → now ≡ written_over old (map f (take (i + 1) items))
+    pass-at past = sym (set_past now i _ past) ∙ put-at (f (get_or items i d)) refl

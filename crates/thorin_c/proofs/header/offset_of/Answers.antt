@@ -12,54 +12,42 @@ word_at-table-requires c =
 
 pub overflow_mul-header : goal.overflow_mul-header
 overflow_mul-header c =
-    let file = elf c.args.file.now in
     let word = c.word_size_of-word.ensures ∙ ap word_size c.class.ensures in
     let entry = c.entry_size_of-entry.ensures ∙ ap entry_size c.class-2.ensures in
-    let table = table_read c.args.bytes.now file c.class-3.result c.endianness.result
-    c.word_size_of-word.result c.word_at-table.result c.class-3.ensures c.endianness.ensures
-    word c.word_at-table.ensures in
-    let inside = all_inside c.args.bytes.now file c.args.number c.word_size_of-word.result
-    c.entry_size_of-entry.result c.word_at-table.result c.requires.whole c.requires.there
-    word entry table in
+    let inside = all_inside c.args.bytes.now (elf c.args.file.now) c.args.number c.class-3.result
+    c.endianness.result c.word_size_of-word.result c.entry_size_of-entry.result
+    c.word_at-table.result c.requires.whole c.requires.there c.class-3.ensures
+    c.endianness.ensures word entry c.word_at-table.ensures in
     omega (arith, inside.product)
 
 pub overflow_add-header : goal.overflow_add-header
 overflow_add-header c =
-    let file = elf c.args.file.now in
     let word = c.word_size_of-word.ensures ∙ ap word_size c.class.ensures in
     let entry = c.entry_size_of-entry.ensures ∙ ap entry_size c.class-2.ensures in
-    let table = table_read c.args.bytes.now file c.class-3.result c.endianness.result
-    c.word_size_of-word.result c.word_at-table.result c.class-3.ensures c.endianness.ensures
-    word c.word_at-table.ensures in
-    let inside = all_inside c.args.bytes.now file c.args.number c.word_size_of-word.result
-    c.entry_size_of-entry.result c.word_at-table.result c.requires.whole c.requires.there
-    word entry table in
+    let inside = all_inside c.args.bytes.now (elf c.args.file.now) c.args.number c.class-3.result
+    c.endianness.result c.word_size_of-word.result c.entry_size_of-entry.result
+    c.word_at-table.result c.requires.whole c.requires.there c.class-3.ensures
+    c.endianness.ensures word entry c.word_at-table.ensures in
     omega (arith, inside.header)
 
 pub overflow_add-place-2 : goal.overflow_add-place-2
 overflow_add-place-2 c =
-    let file = elf c.args.file.now in
     let word = c.word_size_of-word.ensures ∙ ap word_size c.class.ensures in
     let entry = c.entry_size_of-entry.ensures ∙ ap entry_size c.class-2.ensures in
-    let table = table_read c.args.bytes.now file c.class-3.result c.endianness.result
-    c.word_size_of-word.result c.word_at-table.result c.class-3.ensures c.endianness.ensures
-    word c.word_at-table.ensures in
-    let inside = all_inside c.args.bytes.now file c.args.number c.word_size_of-word.result
-    c.entry_size_of-entry.result c.word_at-table.result c.requires.whole c.requires.there
-    word entry table in
+    let inside = all_inside c.args.bytes.now (elf c.args.file.now) c.args.number c.class-3.result
+    c.endianness.result c.word_size_of-word.result c.entry_size_of-entry.result
+    c.word_at-table.result c.requires.whole c.requires.there c.class-3.ensures
+    c.endianness.ensures word entry c.word_at-table.ensures in
     omega (arith, inside.place)
 
 pub word_at-requires : goal.word_at-requires
 word_at-requires c =
-    let file = elf c.args.file.now in
     let word = c.word_size_of-word.ensures ∙ ap word_size c.class.ensures in
     let entry = c.entry_size_of-entry.ensures ∙ ap entry_size c.class-2.ensures in
-    let table = table_read c.args.bytes.now file c.class-3.result c.endianness.result
-    c.word_size_of-word.result c.word_at-table.result c.class-3.ensures c.endianness.ensures
-    word c.word_at-table.ensures in
-    let inside = all_inside c.args.bytes.now file c.args.number c.word_size_of-word.result
-    c.entry_size_of-entry.result c.word_at-table.result c.requires.whole c.requires.there
-    word entry table in
+    let inside = all_inside c.args.bytes.now (elf c.args.file.now) c.args.number c.class-3.result
+    c.endianness.result c.word_size_of-word.result c.entry_size_of-entry.result
+    c.word_at-table.result c.requires.whole c.requires.there c.class-3.ensures
+    c.endianness.ensures word entry c.word_at-table.ensures in
     let same = ap word_size c.class-4.ensures in
     omega (arith, inside.place, same, word)
 

@@ -1,60 +1,42 @@
-use Rattle.std.proofs.Common.{rules, ◌≡◌, ℤ, Result, Ok, Err, to_z, of_z, w32, sym, ap, subst, ◌∙◌}
-use Rattle.std.proofs.Common.{refl}
-use Rattle.std.specs.Prelude.{pos}
-use Rattle.thorin_c.specs.Finding.{Fills, as_status, object_of, row_found_in, row_of}
-use Rattle.thorin_c.specs.Opening.{package_in}
-use Rattle.thorin_c.specs.declared.types.ThorinUnit.{ThorinUnit}
-use Rattle.thorin_c.proofs.RowsTold.{row_of_no_kind, row_absent, row_outside, row_inside}
+use Rattle.std.proofs.Common.{rules, refl, sym, ◌∙◌}
+use Rattle.dwp_index.specs.Package.{first_outside}
+use Rattle.thorin_c.proofs.RowsTold.{row_is_told, outside, kept}
 use Rattle.thorin_c.proofs.inside.find_row.Goals as goal
 
 pub returns-in-Err-object_of : goal.returns-in-Err-object_of
 returns-in-Err-object_of c =
-    let s = c.in-Err-object_of.status in
-    let no : object_of c.args.kind c.args.id ≡ Err s = sym c.object_of.ensures
-    ∙ c.in-Err-object_of.is in
-    let told : row_found_in (as_status (package_in c.args.places.now c.args.bytes.now)) c.args.kind
-    c.args.id ≡ Err s = ap (λ r. row_found_in (as_status r) c.args.kind c.args.id) c.in-Ok.ensures
-    ∙ row_of_no_kind c.in-Ok.pack c.args.kind c.args.id s no in
-    let same : to_z w32 (of_z w32 s) ≡ s = search rules in
-    subst (λ (r : Result ThorinUnit ℤ). Fills (λ (u : ThorinUnit). u) r c.args.found.now
-    c.args.found.now (to_z w32 (of_z w32 s))) (sym told) (same, refl)
+    let told = row_is_told _ c.in-Ok.pack c.args.kind c.args.id _ c.in-Ok.ensures
+    c.object_of.ensures in
+    rw (told, c.in-Err-object_of.is) (search rules, refl)
 
 pub returns-in-Err-row_present : goal.returns-in-Err-row_present
 returns-in-Err-row_present c =
-    let s = c.in-Err-row_present.status in
-    let named : object_of c.args.kind c.args.id ≡ Ok c.in-Ok-object_of.object =
-    sym c.object_of.ensures ∙ c.in-Ok-object_of.is in
-    let told : row_found_in (as_status (package_in c.args.places.now c.args.bytes.now)) c.args.kind
-    c.args.id ≡ Err s = ap (λ r. row_found_in (as_status r) c.args.kind c.args.id) c.in-Ok.ensures
-    ∙ row_absent c.in-Ok.pack c.args.kind c.args.id c.in-Ok-object_of.object s named
-    c.in-Err-row_present.ensures in
-    let same : to_z w32 (of_z w32 s) ≡ s = search rules in
-    subst (λ (r : Result ThorinUnit ℤ). Fills (λ (u : ThorinUnit). u) r c.args.found.now
-    c.args.found.now (to_z w32 (of_z w32 s))) (sym told) (same, refl)
+    let told = row_is_told _ c.in-Ok.pack c.args.kind c.args.id _ c.in-Ok.ensures
+    c.object_of.ensures in
+    rw (told, c.in-Ok-object_of.is, c.in-Err-row_present.ensures) (search rules, refl)
 
 pub returns-then-is_outside : goal.returns-then-is_outside
 returns-then-is_outside c =
-    let x = c.in-Ok-row_present.present in
-    let named : object_of c.args.kind c.args.id ≡ Ok c.in-Ok-object_of.object =
-    sym c.object_of.ensures ∙ c.in-Ok-object_of.is in
-    let told : row_found_in (as_status (package_in c.args.places.now c.args.bytes.now)) c.args.kind
-    c.args.id ≡ Err (pos 5) = ap (λ r. row_found_in (as_status r) c.args.kind c.args.id)
-    c.in-Ok.ensures ∙ row_outside c.in-Ok.pack c.args.kind c.args.id c.in-Ok-object_of.object
-    x.0.0 x.0.1 x.1 named c.in-Ok-row_present.ensures
-    (sym c.is_outside.ensures ∙ c.if-is_outside.true) in
-    subst (λ (r : Result ThorinUnit ℤ). Fills (λ (u : ThorinUnit). u) r c.args.found.now
-    c.args.found.now (pos 5)) (sym told) (refl, refl)
+    let told = row_is_told _ c.in-Ok.pack c.args.kind c.args.id _ c.in-Ok.ensures
+    c.object_of.ensures in
+    let all = first_outside c.in-Ok.pack.contents c.in-Ok-row_present.present.0.1 in
+    rw (
+      told,
+      c.in-Ok-object_of.is,
+      c.in-Ok-row_present.ensures,
+      outside all (sym c.is_outside.ensures
+          ∙ c.if-is_outside.true),
+    ) (refl, refl)
 
 pub returns : goal.returns
 returns c =
-    let x = c.in-Ok-row_present.present in
-    let named : object_of c.args.kind c.args.id ≡ Ok c.in-Ok-object_of.object =
-    sym c.object_of.ensures ∙ c.in-Ok-object_of.is in
-    let told : row_found_in (as_status (package_in c.args.places.now c.args.bytes.now)) c.args.kind
-    c.args.id ≡ Ok (row_of x.0.0 x.0.1 x.1) = ap (λ r.
-    row_found_in (as_status r) c.args.kind c.args.id) c.in-Ok.ensures
-    ∙ row_inside c.in-Ok.pack c.args.kind c.args.id c.in-Ok-object_of.object
-    x.0.0 x.0.1 x.1 named c.in-Ok-row_present.ensures
-    (sym c.is_outside.ensures ∙ c.if-is_outside.false) in
-    subst (λ (r : Result ThorinUnit ℤ). Fills (λ (u : ThorinUnit). u) r c.args.found.now
-    c.write_row.new.found (pos 0)) (sym told) (refl, c.write_row.ensures)
+    let told = row_is_told _ c.in-Ok.pack c.args.kind c.args.id _ c.in-Ok.ensures
+    c.object_of.ensures in
+    let all = first_outside c.in-Ok.pack.contents c.in-Ok-row_present.present.0.1 in
+    rw (
+      told,
+      c.in-Ok-object_of.is,
+      c.in-Ok-row_present.ensures,
+      kept all (sym c.is_outside.ensures
+          ∙ c.if-is_outside.false),
+    ) (refl, c.write_row.ensures)

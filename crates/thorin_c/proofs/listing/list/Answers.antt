@@ -1,4 +1,4 @@
-use Rattle.std.proofs.Common.{◌≡◌, ◌∙◌, ◌<◌, ◌≤◌, length, map, arith}
+use Rattle.std.proofs.Common.{◌≡◌, ◌∙◌, ◌≤◌, length, map, arith}
 use Rattle.dwp_index.specs.Entries.{units_left}
 use Rattle.thorin_c.specs.Listing.{name_of}
 use Rattle.thorin_c.proofs.Writing.{put-next, pass-next, count-next, yields-next}
@@ -16,15 +16,14 @@ loop-entry-preserved c = record {
     | then-place-names w ↦
         let same = c.loop-entry.auto.names in
         let count = c.loop-entry.invariant.count in
-        let within : c.loop-entry.count < length c.args.names.now = omega arith in
         let is : c.loop-entry.count ≡ length (map name_of c.loop-entry.yielded) = omega arith in
         w.names-is ∙ put-next name_of c.args.names.now c.loop-entry.names c.loop-entry.yielded
-        c.in-Some.entry w.name_of.result c.loop-entry.count c.loop-entry.invariant.names within
-        is w.name_of.ensures
+        c.in-Some.entry w.name_of.result c.loop-entry.count c.loop-entry.invariant.names is
+        w.name_of.ensures
     | else-place-names w ↦
         let same = c.loop-entry.auto.names in
         let count = c.loop-entry.invariant.count in
-        let past : length c.args.names.now ≤ length (map name_of c.loop-entry.yielded) =
+        let past : length c.loop-entry.names ≤ length (map name_of c.loop-entry.yielded) =
         omega arith in
         w.names-is ∙ pass-next name_of c.args.names.now c.loop-entry.names c.loop-entry.yielded
         c.in-Some.entry c.loop-entry.invariant.names past

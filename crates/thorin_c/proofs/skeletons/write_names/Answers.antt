@@ -1,4 +1,4 @@
-use Rattle.std.proofs.Common.{◌∙◌, ◌<◌, ◌≤◌, length, ap, arith}
+use Rattle.std.proofs.Common.{◌∙◌, ◌≤◌, length, ap, arith}
 use Rattle.thorin_executable.specs.View.{named}
 use Rattle.thorin_c.specs.Skeletons.{skeleton_named}
 use Rattle.thorin_c.proofs.SkeletonLists.{name_next}
@@ -11,15 +11,14 @@ loop-i-preserved c =
     let same = c.loop-i.auto.names in
     elim c.if-i-names.branch [
       | then-i-names w ↦
-          let room : c.loop-i.i < length c.args.names.now = omega arith in
           w.names-is ∙ put-at (λ s. skeleton_named (named s)) c.args.names.now c.loop-i.names
-          c.args.units.now c.index-units-i.result w.skeleton_of.result c.loop-i.i
-          c.loop-i.invariant c.loop-i-test.true room (name_next c.args.units.now c.loop-i.i
+          c.args.units.now c.index-units-i.result c.loop-i.i c.loop-i.invariant
+          c.loop-i-test.true w.skeleton_of.result (name_next c.args.units.now c.loop-i.i
           c.index-units-i.result (length w.as_bytes.result.now) w.skeleton_of.result
           c.index-units-i.is (ap length w.as_bytes.ensures.value) w.skeleton_of.ensures)
       | else-i-names w ↦
-          let room : length c.args.names.now ≤ c.loop-i.i = omega arith in
+          let past : length c.loop-i.names ≤ c.loop-i.i = omega arith in
           w.names-is ∙ pass-at (λ s. skeleton_named (named s)) c.args.names.now c.loop-i.names
           c.args.units.now c.index-units-i.result c.loop-i.i c.loop-i.invariant
-          c.loop-i-test.true room
+          c.loop-i-test.true past
     ]
