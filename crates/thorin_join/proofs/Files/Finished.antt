@@ -21,7 +21,8 @@ use Rattle.thorin_join.specs.Builder.{finish_test, targets_test, indexes_test, n
 use Rattle.thorin_join.specs.Builder.{compilations}
 use Rattle.thorin_input.specs.Growing.{Contents, with_bytes}
 use Rattle.thorin_join.specs.Join.{IsPackageOnceWritten}
-use Rattle.thorin_join.specs.Represents.{AreRowsOf, IsSound, IsSoundBegun, units_of, units_in}
+use Rattle.thorin_join.specs.Represents.{AreRowsOf, IsSound, IsSoundBegun, meaning_at, units_of}
+use Rattle.thorin_join.specs.Represents.{units_in}
 use Rattle.thorin_join.specs.State.{InProgress, kind_at, names_of}
 use Rattle.thorin_join.proofs.Files.Indexes.{HasRows, index-read, chosen-fit}
 use Rattle.thorin_join.proofs.Units.NamesApart.{distinct_chosen}
@@ -29,7 +30,7 @@ use Rattle.thorin_join.proofs.Rows.Stay.{Grows, grows-trans, grows-with_bytes, k
 use Rattle.thorin_join.proofs.Files.UnitsFound.{package-finds}
 use Rattle.thorin_join.proofs.Parts.Appended.{content-with_bytes}
 use Rattle.thorin_join.proofs.Files.Contents.{package_held}
-use Rattle.thorin_join.proofs.Files.RowsFound.{ids-chosen}
+use Rattle.thorin_join.proofs.Files.RowsFound.{ids-chosen, members}
 use Rattle.dwp_base.proofs.Steps.{bind-was, same-ok}
 use Rattle.dwp_base.specs.declared.section.SectionKind.{SectionKind}
 use Rattle.dwp_table.specs.declared.object.DwarfObject.{DwarfObject}
@@ -115,7 +116,7 @@ index-ids (Some index) rows has = has.1.slots
 package-is : (made : InProgress) (file : File) → IsSound made → Tested made
     → IdentifiersFit made.rows → IsFinished made file → IsPackageOnceWritten (units_of made) file
 package-is made file sound tested fits f differ back =
-    let ms = units_of made in
+    let of = meaning_at made.file.order made.file.contents made.strings in
     let units = sound.units in
     let indexed = λ (b : Bool) (bytes : List ℕ)
     (is : IsIndexOf made.file.order (rows_of b made.rows) bytes)
@@ -125,21 +126,20 @@ package-is made file sound tested fits f differ back =
     let c = indexed true f.compilation_index f.compilations tested.compilation_rows in
     let t = indexed false f.type_index f.types tested.type_rows in
     let order = finished-order made file f in
-    let rows : AreRowsOf file.order file.contents made.strings made.rows ms =
+    let rows : AreRowsOf file.order file.contents made.strings made.rows (members of made.rows) =
     rw order (keep-rows made.file.order made.file.contents file.contents made.strings made.strings
-    made.rows ms (finished-grows made file f) (take-length made.strings) units.rows) in
-    let ids = λ (passes : DwarfObject → Bool). ids-chosen made.file.order made.file.contents
-    made.strings passes made.rows ms units.rows in
+    made.rows (units_of made) (finished-grows made file f) (take-length made.strings) units.rows) in
     record {
       pack = _;
       parsed = package_held (file_text file) file differ back c.index t.index
           (rw (order, finished-compilations made file f units.no_compilations) c.read)
           (rw (order, finished-types made file f units.no_types) t.read);
-      named = rw (← ids is_compilation, ← ids (λ name. not (is_compilation name)))
+      named = rw (← ids-chosen of is_compilation made.rows,
+          ← ids-chosen of (λ name. not (is_compilation name)) made.rows)
           (entries_once c.index t.index _ _ (index-ids c.index _ c.has)
               (index-ids t.index _ t.has));
       finds = λ name. package-finds file.order file.contents c.index t.index made.strings
-          (finished-strings made file f units.no_strings) units.table made.rows name ms rows
+          (finished-strings made file f units.no_strings) units.table made.rows name of rows
           c.has t.has;
     }
 

@@ -37,8 +37,8 @@ use Rattle.thorin_join.specs.Meaning.{Meaning, Members}
 use Rattle.thorin_join.specs.Represents.{AreRowsOf}
 use Rattle.thorin_join.specs.State.{kind_at}
 use Rattle.thorin_join.proofs.Files.Indexes.{HasRows}
-use Rattle.thorin_join.proofs.Files.RowsFound.{RowFound, find-row, id-at, ids-of, ids-are}
-use Rattle.thorin_join.proofs.Files.RowsFound.{not-named}
+use Rattle.thorin_join.proofs.Files.RowsFound.{RowFound, Looked, looked, id-at, members}
+use Rattle.thorin_join.proofs.Files.RowsFound.{rows-counted}
 
 kind-same : (place : UnitSection) → kind_of place ≡ kind_at place
 kind-same places.Info = refl
@@ -72,7 +72,7 @@ module _ (order : Endianness) (contents : Contents) (compilations types : Option
   held-is : (kind : SectionKind) → content pack.contents kind ≡ content_of kind contents
   held-is kind = held_content (λ k. content_of k contents) kind
 
-  module _ (unit : Meaning) (f : RowFound order contents strings rows name unit) (index : Index)
+  module _ (unit : Meaning) (f : RowFound order contents strings name own unit) (index : Index)
       (version : ℕ) (has : HasEntries version own index) where
     parts : HasParts index (f.place + 1) f.row
     parts = has.each f.place f.row f.at
@@ -112,40 +112,34 @@ module _ (order : Endianness) (contents : Contents) (compilations types : Option
           (f.is.shares.string strings table (take-length strings) i);
     }
 
-  module _ (ms : Members) (are : AreRowsOf order contents strings rows ms)
+  module _ (of : IndexEntry → Meaning)
+      (are : AreRowsOf order contents strings rows (members of rows))
       (compilation_rows : HasRows compilations (rows_of true rows))
       (type_rows : HasRows types (rows_of false rows)) where
     abbrev units : ℕ
-    units = length (filter (λ u. same_sort name u.0) ms)
+    units = length (filter (λ u. same_sort name u.0) (members of rows))
 
     abbrev Gives : Option Meaning → Type 0
     Gives found = MatchOption found (GivesNone pack name (limit_of units))
         (GivesUnit pack name (limit_of units))
 
-    ids : entry_ids own ≡ ids-of name ms
-    ids = ids-are order contents strings rows ms name are
-
-    -- as many units as rows; the limit is one more, where there are any
-    counted : length (entry_ids own) ≡ units
-    counted = ap length ids ∙ length-map (filter (λ u. same_sort name u.0) ms) (λ u.
-        identifier_of u.0)
-
+    -- the limit is one more than there are units, where there are any
     some-limit : (n count : ℕ) → 0 < n → count ≤ n + 1 → count ≤ limit_of n
     some-limit zero count some few = absurd (omega arith)
     some-limit (suc n) count some few = few
 
     -- by the index of the name's sort, and by what the units have under it
     gives : (index : Option Index) → index_for pack name ≡ index → HasRows index own
-        → (found : Option Meaning) → lookup (same_name name) ms ≡ found → Gives found
-    gives None there has None h =
+        → (found : Option Meaning) → Looked order contents strings name own found → Gives found
+    gives None there has None absent =
         let g = no_index pack name there in
         record { count = g.count; few = omega (arith, g.few); counted = g.counted }
-    gives None there has (Some unit) h =
-        let f = find-row order contents strings rows ms name unit are h in
+    gives None there has (Some unit) f =
         absurd (none-some f.row (ap (λ l. slice_get l f.place) (sym has) ∙ f.at))
-    gives (Some i) there has None h =
+    gives (Some i) there has None absent =
         let g = absent_unit finds pack name (entry_ids own) i
-        (record { index_is = there; slots = has.1.slots }) (rw ids (not-named name ms h)) in
+        (record { index_is = there; slots = has.1.slots }) absent in
+        let counted = rows-counted of rows name in
         let many = length-map own (λ (row : IndexEntry). identifier_of row.id) in
         record {
           count = g.count;
@@ -153,25 +147,23 @@ module _ (order : Endianness) (contents : Contents) (compilations types : Option
               (omega (arith, counted, g.few));
           counted = g.counted;
         }
-    gives (Some i) there has (Some unit) h =
-        let f = find-row order contents strings rows ms name unit are h in
+    gives (Some i) there has (Some unit) f =
         let found = found-unit unit f i has.0 has.1 in
         let g = present_unit finds pack name (entry_ids own) i f.place _ f.is.owns.encoding
         (record { index_is = there; slots = has.1.slots }) found in
-        let within = found.within in
+        let within : f.place < units = omega (arith, rows-counted of rows name, found.within) in
         record {
           found = _;
           count = g.count;
-          few = some-limit units g.count (omega (arith, counted, within))
-              (omega (arith, counted, within, g.few));
+          few = some-limit units g.count (omega (arith, within)) (omega (arith, within, g.few));
           counted = g.counted;
           is = found-is unit f i has.0 has.1;
         }
 
-    pub package-finds : Gives (lookup (same_name name) ms)
+    pub package-finds : Gives (lookup (same_name name) (members of rows))
     package-finds =
         let has = elim name as (λ n. HasRows (index_for pack n) (rows_of (is_compilation n) rows)) [
           | Compilation id ↦ compilation_rows
           | TypeUnit signature ↦ type_rows
         ] in
-        gives (index_for pack name) refl has (lookup (same_name name) ms) refl
+        gives (index_for pack name) refl has _ (looked order contents strings name of rows are)

@@ -256,14 +256,12 @@ module _ (source : Source) where
       (none-brings, omega (arith, length-drop at bytes))
   ranges-bring bytes at left (r ∷ rs) strings out ends t h =
       let next = next_passed source.encoding (length bytes) at r rs t in
-      let inside = next.inside in
-      let behind = next.behind in
       let s1 = bind-was (remapped source.object.order source.encoding strings_in
       (range_bytes bytes r) r.size strings) _ out h in
       let s2 = bind-was (rewritten_from source.object.order source.encoding strings_in bytes
       (r.offset.0 + r.size) rs s1.0.1) _ out s1.2 in
       let here = range-brings source.object.order source.encoding strings_in (range_bytes bytes r)
-      r.size strings s1.0 (slice-long bytes r.offset.0 r.size inside) s1.1 in
+      r.size strings s1.0 (slice-long bytes r.offset.0 r.size next.inside) s1.1 in
       let later = ranges-bring bytes (r.offset.0 + r.size) (length bytes - (r.offset.0 + r.size)) rs
       s1.0.1 s2.0 (omega arith) next.others s2.1 in
       let gap = length-take (r.offset.0 - at) (drop at bytes) in

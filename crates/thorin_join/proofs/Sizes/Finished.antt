@@ -4,6 +4,7 @@ use Rattle.std.proofs.Common.{refl, ap, Option, arith}
 use Rattle.std.specs.List.{flat_map}
 use Rattle.std.proofs.lemmas.Bool.{leb-true}
 use Rattle.std.proofs.lemmas.List.{length-append, length-map}
+use Rattle.std.proofs.lemmas.List.Concat.{length-flat_map}
 use Rattle.std.proofs.lemmas.List.Sums.{sum_by-cons}
 use Rattle.dwp_base.specs.declared.class.Class.{Class}
 use Rattle.dwp_base.specs.declared.class.Class.TheVariants.{Elf32, Elf64}
@@ -23,7 +24,6 @@ use Rattle.dwp_elf.proofs.KindCounts.{length-KindsDiffer}
 use Rattle.dwp_elf.proofs.Limits.{length-number_bytes, length-file_text}
 use Rattle.dwp_table.specs.Table.{signature_of}
 use Rattle.thorin_strings.specs.Strings.{data_of}
-use Rattle.thorin_strings.proofs.OffsetLemmas.{length-data_of-cons}
 use Rattle.thorin_index.specs.declared.entry.IndexEntry.{IndexEntry}
 use Rattle.thorin_index.specs.Entries.{offset_or_0, size_or_0}
 use Rattle.thorin_index.specs.IndexText.{numbers_bytes, version_bytes, used_sections, entry_ids}
@@ -37,10 +37,7 @@ use Rattle.thorin_join.proofs.Sizes.Input.{long, with_bytes-long}
 
 -- ---- strings
 strings-long : (strings : List (List ℕ)) → length (data_of strings) ≡ bytes_of_strings strings
-strings-long [] = refl
-strings-long (s ∷ ss) =
-    let most = sum_by-cons (λ (string : List ℕ). length string + 1) s ss in
-    omega (arith, most, length-data_of-cons s ss, strings-long ss)
+strings-long strings = simp (length-flat_map, length-append)
 
 -- ---- an index
 -- pieces of so many bytes each

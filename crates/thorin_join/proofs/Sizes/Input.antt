@@ -129,34 +129,26 @@ module _ (whole : UnitsAreSection) where
   section-within : (source : Source) (from : Used) (place : Option UnitSection)
       (us : List (DwarfObject × UnitRead)) → named_at source from place ≡ Ok us
       → sum_by read_bytes us ≤ placed_bytes place from
-  section-within source from None us h =
-      let is = ap (sum_by read_bytes) (same-ok {E = ErrorValue} [] us h) in
-      omega (arith, is)
+  section-within source from None us h = rw (← same-ok {E = ErrorValue} [] us h) (omega arith)
   section-within source from (Some place) us h =
       let all = section source.object.order from.bytes in
-      let is = whole place all (map read_unit us) (all-read source from.kind (units place all) us
-      h) in
+      let reads = all-read source from.kind (units place all) us h in
+      let is = sym (flat_map-map bytes_of_unit read_unit us) ∙ whole place all _ reads in
       let joined = length-flat_map (λ (u : DwarfObject × UnitRead). u.1.unit.whole.bytes) us in
-      omega (
-        arith,
-        joined,
-        ap length (sym (flat_map-map bytes_of_unit read_unit us) ∙ is),
-      )
+      omega (arith, joined, ap length is)
 
   sections-within : (source : Source) (sections : List Used) (us : List (DwarfObject × UnitRead))
       → named_sections source sections ≡ Ok us → sum_by read_bytes us ≤ sum_by unit_bytes sections
   unfolding named_sections
-  sections-within source [] us h =
-      let is = ap (sum_by read_bytes) (same-ok {E = ErrorValue} [] us h) in
-      omega (arith, is)
+  sections-within source [] us h = rw (← same-ok {E = ErrorValue} [] us h) (omega arith)
   sections-within source (from ∷ rest) us h =
       let a = bind-was (named_at source from (unit_section from.kind)) _ us h in
       let b = bind-was (named_sections source rest) _ us a.2 in
-      let is = ap (sum_by read_bytes) (same-ok {E = ErrorValue} (a.0 ++ b.0) us b.2) in
       let here = section-within source from (unit_section from.kind) a.0 a.1 in
       let later = sections-within source rest b.0 b.1 in
       let both = sum_by-append read_bytes a.0 b.0 in
-      omega (arith, is, here, later, both, sum_by-cons unit_bytes from rest)
+      rw (← same-ok {E = ErrorValue} _ us b.2)
+      (omega (arith, here, later, both, sum_by-cons unit_bytes from rest))
 
 -- ---- what is added of them
 joining-within : (names : List DwarfObject) (us : List (DwarfObject × UnitRead))
