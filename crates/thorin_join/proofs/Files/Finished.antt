@@ -55,23 +55,16 @@ tested-state state made begun h =
 
 -- the contents of the finished file
 module _ (made : InProgress) (file : File) (f : IsFinished made file) where
-  abbrev with_strings : Contents
-  with_strings = with_bytes kinds.Str (data_of made.strings) made.file.contents
-
-  abbrev with_compilations : Contents
-  with_compilations = with_bytes kinds.CuIndex f.compilation_index with_strings
-
-  contents-are : file.contents ≡ with_bytes kinds.TuIndex f.type_index with_compilations
-  contents-are = ap (λ (o : File). o.contents) f.contents
-
   pub finished-order : file.order ≡ made.file.order
   finished-order = ap (λ (o : File). o.order) f.contents
 
   pub finished-grows : Grows made.file.contents file.contents
-  finished-grows = rw contents-are (grows-trans made.file.contents with_compilations _
-      (grows-trans made.file.contents with_strings with_compilations
-      (grows-with_bytes kinds.Str _ _) (grows-with_bytes kinds.CuIndex _ _))
-      (grows-with_bytes kinds.TuIndex _ _))
+  finished-grows =
+      let strings = with_bytes kinds.Str (data_of made.strings) made.file.contents in
+      let both = with_bytes kinds.CuIndex f.compilation_index strings in
+      rw (ap (λ (o : File). o.contents) f.contents) (grows-trans made.file.contents both _
+      (grows-trans made.file.contents strings both (grows-with_bytes kinds.Str _ _)
+      (grows-with_bytes kinds.CuIndex _ _)) (grows-with_bytes kinds.TuIndex _ _))
 
   -- the content of a kind, with what was added to it
   abbrev put : SectionKind → SectionKind → List ℕ → List ℕ → List ℕ
@@ -80,12 +73,8 @@ module _ (made : InProgress) (file : File) (f : IsFinished made file) where
   finished-content : (kind : SectionKind) → content_of kind file.contents
       ≡ put kind kinds.TuIndex f.type_index (put kind kinds.CuIndex f.compilation_index
       (put kind kinds.Str (data_of made.strings) (content_of kind made.file.contents)))
-  finished-content kind = rw (
-    contents-are,
-    content-with_bytes kind kinds.TuIndex f.type_index with_compilations,
-    content-with_bytes kind kinds.CuIndex f.compilation_index with_strings,
-    content-with_bytes kind kinds.Str (data_of made.strings) made.file.contents,
-  )
+  finished-content kind = rw (ap (λ (o : File). o.contents) f.contents, content-with_bytes,
+      content-with_bytes, content-with_bytes)
 
   pub finished-strings : content_of kinds.Str made.file.contents ≡ [] → content_of kinds.Str
       file.contents ≡ data_of made.strings

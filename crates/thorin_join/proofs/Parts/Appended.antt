@@ -26,11 +26,12 @@ pub either : (b : Bool) → (b ≡ true) ⊎ (b ≡ false)
 either true = inl refl
 either false = inr refl
 
--- kinds are compared by their ranks
+pub differ : (a b : SectionKind) → (a ≡ b → ⊥) → same_kind a b ≡ false
+differ a b apart = false_from_ne_true _ (λ same. apart (is-same a b same))
+
 kind-unlike : (a b c : SectionKind) → same_kind a b ≡ false → same_kind a c ≡ true
     → same_kind b c ≡ false
-kind-unlike a b c h i = ne_eqb (rank_of b) (rank_of c) (λ e. eqb-false (rank_of a) (rank_of b) h
-    (eqb-true (rank_of a) (rank_of c) i ∙ sym e))
+kind-unlike a b c h i = differ b c (λ e. true≢false (sym i ∙ ap (same_kind a) (sym e) ∙ h))
 
 -- ---- bytes that are added to a section
 pub content-appended : (kind k : SectionKind) (bytes : List ℕ) (c : Contents)
@@ -72,17 +73,10 @@ content-with_parts kind (p ∷ ps) c =
     (λ other. rw other refl)
 
 -- ---- what a section adds to the parts
-pub differ : (a b : SectionKind) → (a ≡ b → ⊥) → same_kind a b ≡ false
-differ a b apart = false_from_ne_true _ (λ same. apart (is-same a b same))
-
 pub copied-differ : (a b : SectionKind) → is_copied a ≡ true → is_copied b ≡ false
     → same_kind b a ≡ false
 copied-differ a b copied not_copied =
     differ b a (λ e. true≢false (sym copied ∙ ap is_copied (sym e) ∙ not_copied))
-
-pub joined-front : (same : Bool) (x a : List ℕ) → cond same x [] ++ a ≡ cond same (x ++ a) a
-joined-front true x a = refl
-joined-front false x a = refl
 
 -- joined parts with one more
 pub joined_parts-more : (kind : SectionKind) (a : Contents) (k : SectionKind) (bytes : List ℕ)
@@ -180,7 +174,7 @@ module _ (source : Source) where
       absurd (true≢false (sym offsets ∙ o))
 
   -- one that is copied adds itself, any other but string offsets adds nothing
-  adds-plain : (before : Parts) (s : Used) (next : Parts) → same_kind s.kind StrOffsets ≡ false
+  pub adds-plain : (before : Parts) (s : Used) (next : Parts) → same_kind s.kind StrOffsets ≡ false
       → Adds before s next
       → next ≡ cond (is_copied s.kind) (before.0 ++ (s.kind, s.bytes) ∷ [], before.1) before
   adds-plain before s next plain (inl (o, w)) = absurd (true≢false (sym o ∙ plain))

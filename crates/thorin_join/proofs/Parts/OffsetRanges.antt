@@ -157,9 +157,3 @@ rewritten-long names order encoding section bytes strings written old table h =
     rw (law.none none, count-none encoding.format (length bytes) (header_size encoding)
     (omega arith)) (sym (zero-mul (offset_size encoding.format))))
     (λ some. omega (arith, law.long (eqb-false (length bytes) 0 some), no_header encoding old))
-
--- both have so many whole entries, and nothing else
-pub record IsWhole (width : ℕ) (old new : List ℕ) : Type 0 where
-  pub count : ℕ
-  pub old_long : length old ≡ count * width
-  pub new_long : length new ≡ count * width

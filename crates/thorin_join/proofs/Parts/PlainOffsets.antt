@@ -1,6 +1,6 @@
 -- The string offsets of the parts of a plain input read alike.
 use Rattle.std.proofs.Common.{◌≡◌, ◌∙◌, ℕ, ◌+◌, ◌-◌, ◌<◌, Bool, true, false, cond, leb, List, []}
-use Rattle.std.proofs.Common.{◌∷◌, ◌++◌, length, take, subst, ◌&&◌, ◌||◌, nat_lt, Ok}
+use Rattle.std.proofs.Common.{◌*◌, ◌∷◌, ◌++◌, length, take, subst, ◌&&◌, ◌||◌, nat_lt, Ok}
 use Rattle.std.proofs.Common.{refl, sym, ap, inl, inr, true≢false, arith, length-append}
 use Rattle.std.proofs.lemmas.List.{append_assoc, append-nil}
 use Rattle.std.proofs.lemmas.Bool.{leb-false}
@@ -20,13 +20,15 @@ use Rattle.thorin_join.specs.Meaning.{whole_entries, joined_offsets}
 use Rattle.thorin_input.specs.Parts.{Parts, has_part, stands_once, parts_of}
 use Rattle.thorin_input.specs.Used.{Used, InputFile, first}
 use Rattle.thorin_join.proofs.Parts.OffsetRanges.{alike-by, whole-long, whole-read, empty-alike}
-use Rattle.thorin_join.proofs.Parts.OffsetRanges.{rewritten-long, IsWhole}
-use Rattle.thorin_join.proofs.Parts.Appended.{each-part, joined-front, joined_parts-more}
+use Rattle.thorin_join.proofs.Parts.OffsetRanges.{rewritten-long}
+use Rattle.thorin_join.proofs.Parts.Appended.{each-part, joined_parts-more}
 use Rattle.thorin_join.proofs.Parts.Appended.{joined_parts-other, Rewritten, Adds}
 use Rattle.thorin_join.proofs.Parts.OffsetLaws.{NamesTheSameLaw, ReadsAlikeLaw, ReadInTurnLaw}
 use Rattle.thorin_join.proofs.Parts.Strings.{front-front, rewritten-plain}
 use Rattle.thorin_packaged.proofs.OffsetsJoined.{no_header}
-use Rattle.thorin_join.proofs.Parts.Appended.{has-last, has-other as part-other}
+use Rattle.thorin_join.proofs.Parts.Appended.{has-last, has-other as part-other, adds-offsets}
+use Rattle.thorin_join.proofs.Parts.Appended.{adds-plain, adds-other}
+use Rattle.thorin_input.specs.Format.{is_copied}
 use Rattle.dwp_base.proofs.Bools.{by-bool}
 
 pub has-more : (a : Contents) (bytes : List ℕ) → has_part StrOffsets
@@ -61,7 +63,8 @@ module _ (names : NamesTheSameLaw) (alike : ReadsAlikeLaw) (in_turn : ReadInTurn
     table : IsTable strings
     read : (final : List (List ℕ)) → IsTable final → take (length strings) final ≡ strings → (i : ℕ)
         → ReadsAlike object.order encoding section old (data_of final) new i
-    whole : encoding.version < 5 → IsWhole (offset_size encoding.format) old new
+    whole : encoding.version < 5 → (count : ℕ) × (length old ≡ count * offset_size
+        encoding.format) × (length new ≡ count * offset_size encoding.format)
     fresh : leb 5 encoding.version ≡ true → has ≡ false → (new ≡ []) × (old ≡ [])
 
   abbrev ReadsBy : Parts → List ℕ → Type 0
@@ -97,12 +100,12 @@ module _ (names : NamesTheSameLaw) (alike : ReadsAlikeLaw) (in_turn : ReadInTurn
             let whole = so_far.whole old_version in
             let one = so_far.read final table
             (front-front before.1 w.written.1 final law.kept begins) i in
-            let two = last (i - whole.count) in
-            let olds = in_turn object.order encoding section old own whole.count i old_version
-            whole.old_long in
-            let news = in_turn object.order encoding (data_of final) new w.written.0 whole.count i
-            old_version whole.new_long in
-            by-bool _ (nat_lt i whole.count)
+            let two = last (i - whole.0) in
+            let olds = in_turn object.order encoding section old own whole.0 i old_version
+            whole.1 in
+            let news = in_turn object.order encoding (data_of final) new w.written.0 whole.0 i
+            old_version whole.2 in
+            by-bool _ (nat_lt i whole.0)
             (λ less. alike-by (rw less at olds) (rw less at news) one)
             (λ more. alike-by (rw more at olds) (rw more at news) two));
         whole = λ gnu.
@@ -111,31 +114,13 @@ module _ (names : NamesTheSameLaw) (alike : ReadsAlikeLaw) (in_turn : ReadInTurn
             let long = whole-long encoding bytes (omega (arith, header)) in
             let many = rewritten-long names object.order encoding section bytes before.1 w.written
             gnu so_far.table rewrites in
-            record {
-              count = whole.count + entry_count encoding (length bytes);
-              old_long = omega (arith, header, long, whole.old_long, length-append old own);
-              new_long = omega (arith, many, whole.new_long, length-append new w.written.0);
-            };
+            (
+              whole.0 + entry_count encoding (length bytes),
+              omega (arith, header, long, whole.1, length-append old own),
+              omega (arith, many, whole.2, length-append new w.written.0),
+            );
         fresh = λ standard has. absurd (true≢false has);
       })
-
-  step-reads : (before : Parts) (s : Used) (next : Parts) (old : List ℕ) → ReadsBy before old
-      → (stands_once source s.kind && has_part s.kind before.0) ≡ false → Adds source before s next
-      → ReadsBy next (old ++ cond (same_kind s.kind StrOffsets) (whole_entries encoding s.bytes) [])
-  step-reads before s next old so_far once (inl (o, w)) =
-      let here : (stands_once source StrOffsets && has_part StrOffsets before.0) ≡ false =
-      rw (is-same s.kind StrOffsets o) at once in
-      rw o (reads-rewritten before s.bytes next old so_far (λ standard.
-      not-there (is_package source.indexes) (leb 5 encoding.version)
-      (has_part StrOffsets before.0) standard here) w)
-  step-reads before s next old so_far once (inr (inl (o, c, is))) =
-      rw (is, o) (rw (
-        joined_parts-other StrOffsets before.0 s.kind s.bytes o,
-        has-other before.0 s.kind s.bytes o,
-        append-nil old,
-      ) so_far)
-  step-reads before s next old so_far once (inr (inr (o, c, is))) =
-      rw (is, o) (rw (append-nil old) so_far)
 
   -- the strings that the part of string offsets names are those that the object's name
   pub parts-read : (strings : List (List ℕ)) (parts : Contents) (after : List (List ℕ))
@@ -148,16 +133,22 @@ module _ (names : NamesTheSameLaw) (alike : ReadsAlikeLaw) (in_turn : ReadInTurn
       → ReadsBy after (old ++ joined_offsets encoding ss))
       (λ parts old so_far. rw (append-nil old) so_far)
       (λ before s next ss after made rest later old so_far.
-      let own = whole_entries encoding s.bytes in
-      let others = joined_offsets encoding ss in
-      subst (ReadsBy after)
-      (append_assoc old (cond (same_kind s.kind StrOffsets) own []) others
-      ∙ ap (λ v. old ++ v) (joined-front (same_kind s.kind StrOffsets) own others))
-      (later _ (step-reads before s next old so_far made.once made.adds)))
+      by-bool _ (same_kind s.kind StrOffsets)
+      (λ same. let here : (stands_once source StrOffsets && has_part StrOffsets before.0) ≡ false =
+      rw (is-same s.kind StrOffsets same) at made.once in
+      rw (same, ← append_assoc old (whole_entries encoding s.bytes) (joined_offsets encoding ss))
+      (later _ (reads-rewritten before s.bytes next old so_far (λ standard.
+      not-there (is_package source.indexes) (leb 5 encoding.version)
+      (has_part StrOffsets before.0) standard here)
+      (adds-offsets source before s next same made.adds))))
+      (λ other. let adds = adds-other source StrOffsets before s next other made.adds in
+      let strings : next.1 ≡ before.1 = rw (adds-plain source before s next other made.adds)
+      (by-bool _ (is_copied s.kind) (λ c. rw c) (λ c. rw c)) in
+      rw other (later old (rw (adds.0, adds.1, strings) so_far))))
       object.sections ([], strings) (parts, after) h [] (record {
         table = table;
         read = λ final final_table kept i. empty-alike object.order encoding section
             (data_of final) i;
-        whole = λ old. record { count = 0; old_long = omega arith; new_long = omega arith };
+        whole = λ old. (0, omega arith, omega arith);
         fresh = λ standard has. (refl, refl);
       })).read

@@ -25,26 +25,19 @@ front-front a b c first second =
     let short : length a ≤ length b = omega (arith, long) in
     sym (take-take (length a) (length b) c short) ∙ ap (take (length a)) second ∙ first
 
-module _ (source : Source) where
-  abbrev pub packaged : List ℕ → List (List ℕ) → Result (List ℕ × List (List ℕ)) ErrorValue
-  packaged bytes strings = packaged_offsets source.object.order source.encoding
-      source.indexes.compilations source.indexes.types
-      (first Str source.object.sections) bytes strings
-
-  abbrev pub unpackaged : List ℕ → List (List ℕ) → Result (List ℕ × List (List ℕ)) ErrorValue
-  unpackaged bytes strings = remapped source.object.order source.encoding
-      (first Str source.object.sections) bytes (length bytes) strings
-
-  -- string offsets of a package are rewritten range by range, others as one range
-  pub rewritten-package : (bytes : List ℕ) (strings : List (List ℕ)) → is_package source.indexes ≡
-      true → rewritten source bytes strings ≡ packaged bytes strings
+-- string offsets of a package are rewritten range by range, others as one range
+module _ (source : Source) (bytes : List ℕ) (strings : List (List ℕ)) where
+  pub rewritten-package : is_package source.indexes ≡ true → rewritten source bytes strings
+      ≡ packaged_offsets source.object.order source.encoding source.indexes.compilations
+      source.indexes.types (first Str source.object.sections) bytes strings
   unfolding rewritten
-  rewritten-package bytes strings h = rw h refl
+  rewritten-package h = rw h refl
 
-  pub rewritten-plain : (bytes : List ℕ) (strings : List (List ℕ)) → is_package source.indexes ≡
-      false → rewritten source bytes strings ≡ unpackaged bytes strings
+  pub rewritten-plain : is_package source.indexes ≡ false → rewritten source bytes strings
+      ≡ remapped source.object.order source.encoding (first Str source.object.sections) bytes
+      (length bytes) strings
   unfolding rewritten
-  rewritten-plain bytes strings h = rw h refl
+  rewritten-plain h = rw h refl
 
 -- no part is of strings or of indexes, and the distinct strings go on from those before
 pub record PartsKept (strings : List (List ℕ)) (parts : Contents)
