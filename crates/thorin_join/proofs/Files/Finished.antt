@@ -19,7 +19,7 @@ use Rattle.thorin_errors.specs.Errors.{NoOutputObjectCreated}
 use Rattle.thorin_join.specs.Builder.{State, IdentifiersFit, IsFinished, IsFinishedState}
 use Rattle.thorin_join.specs.Builder.{finish_test, targets_test, indexes_test, names_in, rows_of}
 use Rattle.thorin_join.specs.Builder.{compilations}
-use Rattle.thorin_input.specs.Growing.{Contents, with_bytes}
+use Rattle.thorin_input.specs.Growing.{with_bytes}
 use Rattle.thorin_join.specs.Join.{IsPackageOnceWritten}
 use Rattle.thorin_join.specs.Represents.{AreRowsOf, IsSound, IsSoundBegun, meaning_at, units_of}
 use Rattle.thorin_join.specs.Represents.{units_in}
@@ -33,7 +33,6 @@ use Rattle.thorin_join.proofs.Files.Contents.{package_held}
 use Rattle.thorin_join.proofs.Files.RowsFound.{ids-chosen, members}
 use Rattle.dwp_base.proofs.Steps.{bind-was, same-ok}
 use Rattle.dwp_base.specs.declared.section.SectionKind.{SectionKind}
-use Rattle.dwp_table.specs.declared.object.DwarfObject.{DwarfObject}
 use Rattle.dwp_base.specs.Sections.{same_kind}
 use Rattle.thorin_input.specs.Names.{is_compilation}
 

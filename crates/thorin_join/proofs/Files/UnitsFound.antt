@@ -33,7 +33,7 @@ use Rattle.thorin_input.specs.Growing.{Contents}
 use Rattle.thorin_input.specs.Names.{same_name, is_compilation}
 use Rattle.thorin_join.specs.Builder.{rows_of}
 use Rattle.thorin_join.specs.Join.{IsUnit, GivesUnit, GivesNone, limit_of, same_sort}
-use Rattle.thorin_join.specs.Meaning.{Meaning, Members}
+use Rattle.thorin_join.specs.Meaning.{Meaning}
 use Rattle.thorin_join.specs.Represents.{AreRowsOf}
 use Rattle.thorin_join.specs.State.{kind_at}
 use Rattle.thorin_join.proofs.Files.Indexes.{HasRows}

@@ -3,10 +3,10 @@ use Rattle.std.proofs.Common.{◌≡◌, ◌∙◌, ℕ, Bool, true, false, cond
 use Rattle.std.proofs.Common.{length, not, ◌&&◌, Ok, refl, sym, ap, if◌then◌else◌, ◌⊎◌, inl, inr}
 use Rattle.std.proofs.Common.{true≢false, arith, subst}
 use Rattle.std.proofs.lemmas.List.{append_assoc, append-nil}
-use Rattle.std.proofs.lemmas.Bool.{eqb-true, eqb-false, ne_eqb, false_from_ne_true}
+use Rattle.std.proofs.lemmas.Bool.{eqb-true, false_from_ne_true}
 use Rattle.dwp_base.specs.declared.section.SectionKind.{SectionKind}
 use Rattle.dwp_base.specs.declared.section.SectionKind.TheVariants.{StrOffsets}
-use Rattle.dwp_base.specs.Sections.{same_kind, rank_of}
+use Rattle.dwp_base.specs.Sections.{same_kind}
 use Rattle.dwp_base.proofs.EveryKind.{is-same, same-self}
 use Rattle.dwp_base.proofs.Bools.{by-bool, or-right}
 use Rattle.dwp_elf.specs.Contents.{content_of, appended}

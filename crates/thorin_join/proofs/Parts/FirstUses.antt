@@ -1,9 +1,8 @@
 -- What the sections of an input bring: the strings that their string offsets name, in order of
 -- first use, how many bytes these have, and the parts.
-use Rattle.std.proofs.Common.{◌≡◌, ◌∙◌, ℕ, zero, suc, ◌+◌, ◌*◌, ◌-◌, ◌≤◌, ◌<◌, cond, true}
-use Rattle.std.proofs.Common.{ltb, eqb, if◌then◌else◌, List, [], ◌∷◌, ◌++◌, length, take, drop}
-use Rattle.std.proofs.Common.{refl}
-use Rattle.std.proofs.Common.{sym, ap, subst, Result, Ok, inl, inr, arith}
+use Rattle.std.proofs.Common.{◌≡◌, ◌∙◌, ℕ, zero, suc, ◌+◌, ◌*◌, ◌-◌, ◌≤◌, ◌<◌, cond, true, ltb, eqb}
+use Rattle.std.proofs.Common.{if◌then◌else◌, List, [], ◌∷◌, ◌++◌, length, take, drop, refl, sym, ap}
+use Rattle.std.proofs.Common.{subst, Result, Ok, inl, inr, arith}
 use Rattle.std.specs.Prelude.{slice_range}
 use Rattle.std.specs.List.{list_any, sum_by, position_or_len}
 use Rattle.std.specs.Result.{result_unwrap_or}
@@ -45,8 +44,7 @@ use Rattle.thorin_input.specs.Names.{same_name}
 use Rattle.thorin_input.specs.NewUnits.{NewUnit}
 use Rattle.thorin_input.specs.Parts.{Parts, with_each_part}
 use Rattle.thorin_input.specs.Used.{Used, first}
-use Rattle.thorin_join.specs.FirstUse.{with_strings, named_by_ranges, named_by_section}
-use Rattle.thorin_join.specs.FirstUse.{named_in}
+use Rattle.thorin_join.specs.FirstUse.{with_strings, named_by_ranges, named_by_section, named_in}
 use Rattle.thorin_join.specs.Sizes.{bytes_of_strings, offsets_used, bytes_of_contents}
 use Rattle.thorin_join.specs.State.{InProgress, names_of, with_unit_added, with_new_unit}
 use Rattle.thorin_join.specs.State.{with_new_units}
@@ -277,16 +275,13 @@ module _ (source : Source) where
       × (length out.0 ≤ length bytes)
   unfolding rewritten packaged_offsets
   section-brings bytes strings out h =
-      elim (chosen (is_package source.indexes) _ _ (Ok out) h) [
-        | inl packed ↦
-            let ranges = offset_ranges source.indexes.compilations source.indexes.types in
-            let s1 = bind-was (ranges_test source.encoding (length bytes) 0 ranges) _ out
-            packed.1 in
-            rw packed.0
-            (ranges-bring bytes 0 (length bytes) ranges strings out (omega arith) s1.1 s1.2)
-        | inr plain ↦ rw plain.0 (range-brings source.object.order source.encoding strings_in
-            bytes (length bytes) strings out refl plain.1)
-      ]
+      by-bool _ (is_package source.indexes)
+      (λ packed. let ranges = offset_ranges source.indexes.compilations source.indexes.types in
+      let s1 = bind-was (ranges_test source.encoding (length bytes) 0 ranges) _ out
+      (rw packed at h) in
+      rw packed (ranges-bring bytes 0 (length bytes) ranges strings out (omega arith) s1.1 s1.2))
+      (λ plain. rw plain (range-brings source.object.order source.encoding strings_in bytes
+      (length bytes) strings out refl (rw plain at h)))
 
   -- what sections bring: the strings that they name, and parts of so many bytes
   abbrev Bring : Parts → (sections : List Used) → Parts → Type 0

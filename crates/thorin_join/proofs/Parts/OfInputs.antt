@@ -8,8 +8,7 @@ use Rattle.thorin_input.specs.Indexes.{Source}
 use Rattle.thorin_input.specs.Used.{first}
 use Rattle.thorin_join.specs.Builder.{package_or_new, begun_by, with_input}
 use Rattle.thorin_join.specs.FirstUse.{with_strings, named_in, strings_begun, named_in_file}
-use Rattle.thorin_join.specs.FirstUse.{used_by}
-use Rattle.thorin_join.specs.FirstUse.{UsesStrings}
+use Rattle.thorin_join.specs.FirstUse.{used_by, UsesStrings}
 use Rattle.thorin_join.specs.Represents.{IsSound}
 use Rattle.thorin_join.specs.Sizes.{offsets_used}
 use Rattle.thorin_join.specs.State.{InProgress}

@@ -1,8 +1,7 @@
 -- The parts of a package: each kind of section has one part at most, and the string offsets of each
 -- row read alike.
-use Rattle.std.proofs.Common.{◌≡◌, ◌∙◌, ℕ, ◌+◌, ◌<◌, ◌≤◌, true, List, [], length}
-use Rattle.std.proofs.Common.{take, Ok, Some, refl, sym, ap, ◌⊎◌, ⊎_elim}
-use Rattle.std.proofs.Common.{true≢false, arith}
+use Rattle.std.proofs.Common.{◌≡◌, ◌∙◌, ℕ, ◌+◌, ◌<◌, ◌≤◌, true, List, [], length, take, Ok, Some}
+use Rattle.std.proofs.Common.{refl, sym, ap, ◌⊎◌, ⊎_elim, true≢false, arith}
 use Rattle.dwp_base.specs.declared.section.SectionKind.{SectionKind}
 use Rattle.dwp_base.specs.declared.section.SectionKind.TheVariants.{StrOffsets, Str}
 use Rattle.dwp_base.specs.declared.section.Contribution.{Contribution}

@@ -1,7 +1,7 @@
 -- The string offsets of the parts of a plain input read alike.
-use Rattle.std.proofs.Common.{◌≡◌, ◌∙◌, ℕ, ◌+◌, ◌-◌, ◌<◌, Bool, true, false, cond, leb, List, []}
-use Rattle.std.proofs.Common.{◌*◌, ◌∷◌, ◌++◌, length, take, subst, ◌&&◌, ◌||◌, nat_lt, Ok}
-use Rattle.std.proofs.Common.{refl, sym, ap, inl, inr, true≢false, arith, length-append}
+use Rattle.std.proofs.Common.{◌≡◌, ◌∙◌, ℕ, ◌+◌, ◌-◌, ◌<◌, Bool, true, false, leb, List, []}
+use Rattle.std.proofs.Common.{◌*◌, ◌∷◌, ◌++◌, length, take, ◌&&◌, ◌||◌, nat_lt, Ok}
+use Rattle.std.proofs.Common.{refl, sym, true≢false, arith, length-append}
 use Rattle.std.proofs.lemmas.List.{append_assoc, append-nil}
 use Rattle.std.proofs.lemmas.Bool.{leb-false}
 use Rattle.dwp_base.specs.declared.section.SectionKind.{SectionKind}
@@ -18,16 +18,15 @@ use Rattle.thorin_input.specs.Growing.{Contents, joined_parts}
 use Rattle.thorin_input.specs.Indexes.{Source, is_package}
 use Rattle.thorin_join.specs.Meaning.{whole_entries, joined_offsets}
 use Rattle.thorin_input.specs.Parts.{Parts, has_part, stands_once, parts_of}
-use Rattle.thorin_input.specs.Used.{Used, InputFile, first}
+use Rattle.thorin_input.specs.Used.{InputFile, first}
 use Rattle.thorin_join.proofs.Parts.OffsetRanges.{alike-by, whole-long, whole-read, empty-alike}
 use Rattle.thorin_join.proofs.Parts.OffsetRanges.{rewritten-long}
-use Rattle.thorin_join.proofs.Parts.Appended.{each-part, joined_parts-more}
-use Rattle.thorin_join.proofs.Parts.Appended.{joined_parts-other, Rewritten, Adds}
+use Rattle.thorin_join.proofs.Parts.Appended.{each-part, joined_parts-more, Rewritten, has-last}
+use Rattle.thorin_join.proofs.Parts.Appended.{has-other as part-other, adds-offsets, adds-plain}
+use Rattle.thorin_join.proofs.Parts.Appended.{adds-other}
 use Rattle.thorin_join.proofs.Parts.OffsetLaws.{NamesTheSameLaw, ReadsAlikeLaw, ReadInTurnLaw}
 use Rattle.thorin_join.proofs.Parts.Strings.{front-front, rewritten-plain}
 use Rattle.thorin_packaged.proofs.OffsetsJoined.{no_header}
-use Rattle.thorin_join.proofs.Parts.Appended.{has-last, has-other as part-other, adds-offsets}
-use Rattle.thorin_join.proofs.Parts.Appended.{adds-plain, adds-other}
 use Rattle.thorin_input.specs.Format.{is_copied}
 use Rattle.dwp_base.proofs.Bools.{by-bool}
 

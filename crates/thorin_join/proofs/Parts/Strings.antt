@@ -1,9 +1,8 @@
 -- What the parts of an input are, beside their bytes.
 use Rattle.std.proofs.Common.{◌≡◌, ◌∙◌, ℕ, ◌≤◌, true, false, List, [], length, take, min, refl, sym}
-use Rattle.std.proofs.Common.{ap, Result, Ok, arith}
+use Rattle.std.proofs.Common.{ap, Ok, arith}
 use Rattle.std.proofs.lemmas.List.{length-take, take-take}
 use Rattle.dwp_base.specs.declared.section.SectionKind.TheVariants.{Str, CuIndex, TuIndex}
-use Rattle.thorin_errors.specs.Errors.{ErrorValue}
 use Rattle.thorin_packaged.specs.PackagedOffsets.{packaged_offsets}
 use Rattle.thorin_strings.specs.Strings.{IsTable}
 use Rattle.thorin_strings.specs.StringOffsets.{remapped}
