@@ -45,12 +45,9 @@ pub tested-state : (state : State) (made : InProgress) → state.begun ≡ Some 
     → finish_test state ≡ Ok tt → Tested made
 unfolding finish_test indexes_test
 tested-state state made begun h =
-    let s1 = bind-was (targets_test (names_in state.begun) state.targets) _ tt h in
-    let s2 = bind-was (ok_or state.begun NoOutputObjectCreated) _ tt s1.2 in
-    let same : made ≡ s2.0 = same-ok made s2.0
-    (sym (ap (λ b. ok_or b NoOutputObjectCreated) begun) ∙ s2.1) in
-    let s3 = bind-was (index_tests (compilations s2.0.rows)) _ tt s2.2 in
-    subst Tested (sym same) (record { compilation_rows = s3.1; type_rows = s3.2 })
+    let s1 = bind-was (targets_test (names_of made) state.targets) _ tt (rw begun at h) in
+    let s2 = bind-was (index_tests (compilations made.rows)) _ tt s1.2 in
+    record { compilation_rows = s2.1; type_rows = s2.2 }
 
 -- the contents of the finished file
 module _ (made : InProgress) (file : File) (f : IsFinished made file) where

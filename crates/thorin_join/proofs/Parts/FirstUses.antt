@@ -20,8 +20,6 @@ use Rattle.dwp_base.proofs.Steps.{bind-was, bind-ok, same-ok, chosen}
 use Rattle.dwp_bytes.specs.Encoding.{offset_size}
 use Rattle.dwp_bytes.specs.StringOffsets.{header_size, entry_count, string_at}
 use Rattle.dwp_bytes.specs.declared.encoding.Encoding.{Encoding}
-use Rattle.dwp_bytes.specs.declared.encoding.Format.{Format}
-use Rattle.dwp_bytes.specs.declared.encoding.Format.TheVariants.{Dwarf32, Dwarf64}
 use Rattle.dwp_bytes.specs.declared.error.ReadError.{ReadError}
 use Rattle.dwp_table.specs.declared.object.DwarfObject.{DwarfObject}
 use Rattle.thorin_errors.specs.Errors.{ErrorValue, StrAtOffset}
@@ -166,12 +164,6 @@ error-inv = as_error_ok
 pub no-entries : (encoding : Encoding) → entry_count encoding 0 ≡ 0
 no-entries encoding = count-none encoding.format 0 (header_size encoding) (omega arith)
 
--- an entry has at least 4 bytes
-four-each : (format : Format) (n head size : ℕ) → head + n * offset_size format ≤ size
-    → n * 4 ≤ size
-four-each Dwarf32 n head size h = omega arith
-four-each Dwarf64 n head size h = omega arith
-
 module _ (order : Endianness) (encoding : Encoding) (section bytes : List ℕ) where
   entries-named : (n : ℕ) (strings : List (List ℕ)) (out : List ℕ × List (List ℕ))
       → remapped_entries order encoding section bytes n strings ≡ Ok out
@@ -215,15 +207,14 @@ module _ (order : Endianness) (encoding : Encoding) (section bytes : List ℕ) w
             let header = header_long order encoding _ r.header r.header_is in
             let entries = entries_long order encoding.format r.entries.0 in
             let many = ap (λ m. m * offset_size encoding.format) names.1 in
-            let least = four-each encoding.format n (header_size encoding) size fits in
             let most = names.2.most in
             rw (names.3, ← r.is) (
               record {
                 are = names.2.are;
                 follows = names.2.follows;
-                most = omega (arith, most, mul-le-mul_right (length section) least);
+                most = omega (arith, most, mul-le-mul_right (length section) fits.1);
               },
-              omega (arith, header, entries, many, fits, length-append {A = ℕ}),
+              omega (arith, header, entries, many, fits.0, length-append {A = ℕ}),
             )
       ])
 

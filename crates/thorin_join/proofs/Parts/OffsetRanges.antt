@@ -42,10 +42,12 @@ pub count-again : (format : Format) (l h n : ℕ) → l ≡ h + n * offset_size 
 count-again Dwarf32 l h n e = omega arith
 count-again Dwarf64 l h n e = omega arith
 
-pub count-fits : (format : Format) (l h : ℕ) → h ≤ l → h + (l - h) / offset_size format *
-    offset_size format ≤ l
-count-fits Dwarf32 l h e = omega arith
-count-fits Dwarf64 l h e = omega arith
+-- whole entries fit, and each has at least 4 bytes
+pub count-fits : (format : Format) (l h : ℕ) → h ≤ l
+    → (h + (l - h) / offset_size format * offset_size format ≤ l)
+    × ((l - h) / offset_size format * 4 ≤ l)
+count-fits Dwarf32 l h e = (omega arith, omega arith)
+count-fits Dwarf64 l h e = (omega arith, omega arith)
 
 pub count-none : (format : Format) (l h : ℕ) → l ≤ h → (l - h) / offset_size format ≡ 0
 count-none Dwarf32 l h e = omega arith
@@ -57,9 +59,8 @@ pub whole-long : (encoding : Encoding) (bytes : List ℕ) → header_size encodi
 whole-long encoding bytes room =
     let end = header_size encoding + entry_count encoding (length bytes) * offset_size
     encoding.format in
-    let fits : end ≤ length bytes = count-fits encoding.format (length bytes)
-    (header_size encoding) room in
-    omega (arith, fits, length-take end bytes)
+    let fits = count-fits encoding.format (length bytes) (header_size encoding) room in
+    omega (arith, fits.0, length-take end bytes)
 
 module _ (order : Endianness) (encoding : Encoding) where
   pub whole-read : (strings bytes : List ℕ) (i : ℕ)
