@@ -1,8 +1,7 @@
 -- The file of a finished package means the units that stand in the ranges of its rows.
-use Rattle.std.proofs.Common.{◌≡◌, ◌∙◌, ℕ, true, false, List, [], ◌++◌, ap, sym, refl, subst, Ok}
+use Rattle.std.proofs.Common.{◌≡◌, ◌∙◌, ℕ, true, false, List, [], ◌++◌, ap, refl, Ok}
 use Rattle.std.proofs.Common.{Option, Some, None, Bool, cond, not}
 use Rattle.std.proofs.Math.Seq.{take-length}
-use Rattle.std.specs.Option.{ok_or}
 use Rattle.dwp_base.specs.declared.section.SectionKind.TheVariants as kinds
 use Rattle.dwp_dwarf.specs.declared.unit.UnitSection.{UnitSection}
 use Rattle.dwp_dwarf.specs.declared.unit.UnitSection.TheVariants as places
@@ -15,9 +14,8 @@ use Rattle.thorin_strings.specs.Strings.{data_of}
 use Rattle.thorin_index.specs.declared.entry.IndexEntry.{IndexEntry}
 use Rattle.thorin_index.specs.EntryTests.{index_tests}
 use Rattle.thorin_index.specs.IndexText.{entry_ids, IsIndexOf}
-use Rattle.thorin_errors.specs.Errors.{NoOutputObjectCreated}
 use Rattle.thorin_join.specs.Builder.{State, IdentifiersFit, IsFinished, IsFinishedState}
-use Rattle.thorin_join.specs.Builder.{finish_test, targets_test, indexes_test, names_in, rows_of}
+use Rattle.thorin_join.specs.Builder.{finish_test, targets_test, indexes_test, rows_of}
 use Rattle.thorin_join.specs.Builder.{compilations}
 use Rattle.thorin_input.specs.Growing.{with_bytes}
 use Rattle.thorin_join.specs.Join.{IsPackageOnceWritten}
@@ -31,7 +29,7 @@ use Rattle.thorin_join.proofs.Files.UnitsFound.{package-finds}
 use Rattle.thorin_join.proofs.Parts.Appended.{content-with_bytes}
 use Rattle.thorin_join.proofs.Files.Contents.{package_held}
 use Rattle.thorin_join.proofs.Files.RowsFound.{ids-chosen, members}
-use Rattle.dwp_base.proofs.Steps.{bind-was, same-ok}
+use Rattle.dwp_base.proofs.Steps.{bind-was}
 use Rattle.dwp_base.specs.declared.section.SectionKind.{SectionKind}
 use Rattle.dwp_base.specs.Sections.{same_kind}
 use Rattle.thorin_input.specs.Names.{is_compilation}
