@@ -131,21 +131,20 @@ module _ (source : Source) where
   unfolding with_part with_offsets
   step before s next h =
       let once = past (stands_once source s.kind && has_part s.kind before.0) _ _ next h in
-      let inside = past (not (is_in_format source.encoding s.kind)) _ _ next once.1 in
+      let inside = (past (not (is_in_format source.encoding s.kind)) _ _ next once.1).1 in
       record {
         once = once.0;
-        adds = elim (chosen (same_kind s.kind StrOffsets) _ _ (Ok next) inside.1) [
-          | inl offsets ↦
-              let there = past (not source.object.has_strings) _ _ next offsets.1 in
-              let w = bind-was (rewritten source s.bytes before.1) _ next there.1 in
-              let is = sym (same-ok {E = ErrorValue} _ next w.2) in
-              inl (offsets.0, record { written = w.0; rewrites = w.1; is = is })
-          | inr other ↦ elim (chosen (is_copied s.kind) _ _ (Ok next) other.1) [
-            | inl copied ↦
-                inr (inl (other.0, copied.0, sym (same-ok {E = ErrorValue} _ next copied.1)))
-            | inr none ↦ inr (inr (other.0, none.0, sym (same-ok {E = ErrorValue} _ next none.1)))
-          ]
-        ];
+        adds = by-bool _ (same_kind s.kind StrOffsets)
+            (λ offsets. let there = past (not source.object.has_strings) _ _ next
+            (rw offsets at inside) in
+            let w = bind-was (rewritten source s.bytes before.1) _ next there.1 in
+            let is = sym (same-ok {E = ErrorValue} _ next w.2) in
+            inl (offsets, record { written = w.0; rewrites = w.1; is = is }))
+            (λ other. by-bool _ (is_copied s.kind)
+            (λ copied. let is = same-ok {E = ErrorValue} _ next (rw (copied, other) at inside) in
+            inr (inl (other, copied, sym is)))
+            (λ none. let is = same-ok {E = ErrorValue} _ next (rw (none, other) at inside) in
+            inr (inr (other, none, sym is))));
       }
 
   -- ---- all sections

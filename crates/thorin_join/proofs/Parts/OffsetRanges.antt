@@ -125,24 +125,21 @@ pub range-of : (order : Endianness) (encoding : Encoding) (section bytes : List 
     ⊎ Range order encoding section bytes size strings range
 unfolding remapped
 range-of order encoding section bytes size strings range h =
-    elim (chosen (eqb size 0) _ _ (Ok range) h) [
-      | inl none ↦ inl (eqb-true size 0 none.0, same-ok {E = ErrorValue} _ range none.1)
-      | inr some ↦
-          let n = entry_count encoding size in
-          let room = past (ltb size (header_size encoding)) _ _ range some.1 in
-          let a = bind-was (header_of order encoding (n * offset_size encoding.format)) _ range
-          room.1 in
-          let b = bind-was (remapped_entries order encoding section bytes n strings) _ range a.2 in
-          inr (record {
-            some = some.0;
-            room = ltb-false size (header_size encoding) room.0;
-            header = a.0;
-            entries = b.0;
-            header_is = a.1;
-            entries_are = b.1;
-            is = same-ok {E = ErrorValue} _ range b.2;
-          })
-    ]
+    by-bool _ (eqb size 0)
+    (λ none. inl (eqb-true size 0 none, same-ok {E = ErrorValue} _ range (rw none at h)))
+    (λ some. let n = entry_count encoding size in
+    let room = past (ltb size (header_size encoding)) _ _ range (rw some at h) in
+    let a = bind-was (header_of order encoding (n * offset_size encoding.format)) _ range room.1 in
+    let b = bind-was (remapped_entries order encoding section bytes n strings) _ range a.2 in
+    inr (record {
+      some = some;
+      room = ltb-false size (header_size encoding) room.0;
+      header = a.0;
+      entries = b.0;
+      header_is = a.1;
+      entries_are = b.1;
+      is = same-ok {E = ErrorValue} _ range b.2;
+    }))
 
 -- before DWARF 5 a rewritten range has the whole entries and nothing else
 pub rewritten-long : NamesTheSameLaw → (order : Endianness) (encoding : Encoding)
