@@ -2,8 +2,9 @@
 pub mod Appended
 pub mod StringLists
 pub mod OffsetLaws
-pub mod PlainOffsets
 pub mod OffsetRanges
-pub mod OfPackages
-pub mod Strings
 pub mod FirstUses
+pub mod Strings
+pub mod PlainOffsets
+pub mod OfPackages
+pub mod OfInputs

@@ -1,3 +1,2 @@
-pub mod Contents
 pub mod Input
 pub mod Finished

@@ -1,43 +1,36 @@
 -- The file of a finished package means the units that stand in the ranges of its rows.
-use Rattle.std.proofs.Common.{◌≡◌, ◌∙◌, ℕ, true, false, List, [], ◌++◌, ap, sym, refl, subst, Ok}
+use Rattle.std.proofs.Common.{◌≡◌, ◌∙◌, ℕ, true, false, List, [], ◌++◌, ap, refl, Ok}
 use Rattle.std.proofs.Common.{Option, Some, None, Bool, cond, not}
 use Rattle.std.proofs.Math.Seq.{take-length}
-use Rattle.std.specs.Option.{ok_or}
-use Rattle.std.specs.List.Sorted.{IsPermutation}
 use Rattle.dwp_base.specs.declared.section.SectionKind.TheVariants as kinds
 use Rattle.dwp_dwarf.specs.declared.unit.UnitSection.{UnitSection}
 use Rattle.dwp_dwarf.specs.declared.unit.UnitSection.TheVariants as places
 use Rattle.dwp_elf.specs.Contents.{content_of}
 use Rattle.dwp_elf.specs.FileText.{Object as File, file_text}
-use Rattle.dwp_index.specs.Entries.{entries_from}
-use Rattle.dwp_index.specs.Holding.{sections_of}
 use Rattle.dwp_index.specs.Index.{Index}
-use Rattle.dwp_index.specs.Naming.{IsIndexOfIds, entries_of}
-use Rattle.dwp_index.specs.Package.{index_in_section}
+use Rattle.dwp_index.specs.Naming.{IsIndexOfIds}
+use Rattle.dwp_index.proofs.UsedOnce.{entries_once}
 use Rattle.thorin_strings.specs.Strings.{data_of}
 use Rattle.thorin_index.specs.declared.entry.IndexEntry.{IndexEntry}
 use Rattle.thorin_index.specs.EntryTests.{index_tests}
 use Rattle.thorin_index.specs.IndexText.{entry_ids, IsIndexOf}
-use Rattle.thorin_errors.specs.Errors.{NoOutputObjectCreated}
 use Rattle.thorin_join.specs.Builder.{State, IdentifiersFit, IsFinished, IsFinishedState}
-use Rattle.thorin_join.specs.Builder.{finish_test, targets_test, indexes_test, names_in, rows_of}
+use Rattle.thorin_join.specs.Builder.{finish_test, targets_test, indexes_test, rows_of}
 use Rattle.thorin_join.specs.Builder.{compilations}
-use Rattle.thorin_input.specs.Growing.{Contents, with_bytes}
+use Rattle.thorin_input.specs.Growing.{with_bytes}
 use Rattle.thorin_join.specs.Join.{IsPackageOnceWritten}
-use Rattle.thorin_join.specs.Represents.{IsSound, IsSoundBegun, units_of, units_in}
+use Rattle.thorin_join.specs.Represents.{AreRowsOf, IsSound, IsSoundBegun, meaning_at, units_of}
+use Rattle.thorin_join.specs.Represents.{units_in}
 use Rattle.thorin_join.specs.State.{InProgress, kind_at, names_of}
-use Rattle.thorin_join.proofs.Files.Indexes.{HasRows, IndexIsRead, IndexHasEntries, SomeIndex}
-use Rattle.thorin_join.proofs.Files.Indexes.{NoIndex, index-read, chosen-fit}
+use Rattle.thorin_join.proofs.Files.Indexes.{HasRows, index-read, chosen-fit}
 use Rattle.thorin_join.proofs.Units.NamesApart.{distinct_chosen}
 use Rattle.thorin_join.proofs.Rows.Stay.{Grows, grows-trans, grows-with_bytes, keep-rows}
-use Rattle.thorin_join.proofs.Files.UnitsFound.{PresentLaw, AbsentLaw, NoIndexLaw, package-finds}
+use Rattle.thorin_join.proofs.Files.UnitsFound.{package-finds}
 use Rattle.thorin_join.proofs.Parts.Appended.{content-with_bytes}
-use Rattle.thorin_join.proofs.Files.Contents.{ContentsRead, OtherKind, ForeignName, NoBytes}
 use Rattle.thorin_join.proofs.Files.Contents.{package_held}
-use Rattle.thorin_join.proofs.Files.RowsFound.{ids-chosen}
-use Rattle.dwp_base.proofs.Steps.{bind-was, same-ok}
+use Rattle.thorin_join.proofs.Files.RowsFound.{ids-chosen, members}
+use Rattle.dwp_base.proofs.Steps.{bind-was}
 use Rattle.dwp_base.specs.declared.section.SectionKind.{SectionKind}
-use Rattle.dwp_table.specs.declared.object.DwarfObject.{DwarfObject}
 use Rattle.dwp_base.specs.Sections.{same_kind}
 use Rattle.thorin_input.specs.Names.{is_compilation}
 
@@ -50,34 +43,22 @@ pub tested-state : (state : State) (made : InProgress) → state.begun ≡ Some 
     → finish_test state ≡ Ok tt → Tested made
 unfolding finish_test indexes_test
 tested-state state made begun h =
-    let s1 = bind-was (targets_test (names_in state.begun) state.targets) _ tt h in
-    let s2 = bind-was (ok_or state.begun NoOutputObjectCreated) _ tt s1.2 in
-    let same : made ≡ s2.0 = same-ok made s2.0
-    (sym (ap (λ b. ok_or b NoOutputObjectCreated) begun) ∙ s2.1) in
-    let s3 = bind-was (index_tests (compilations s2.0.rows)) _ tt s2.2 in
-    subst Tested (sym same) (record { compilation_rows = s3.1; type_rows = s3.2 })
+    let s1 = bind-was (targets_test (names_of made) state.targets) _ tt (rw begun at h) in
+    let s2 = bind-was (index_tests (compilations made.rows)) _ tt s1.2 in
+    record { compilation_rows = s2.1; type_rows = s2.2 }
 
 -- the contents of the finished file
 module _ (made : InProgress) (file : File) (f : IsFinished made file) where
-  abbrev with_strings : Contents
-  with_strings = with_bytes kinds.Str (data_of made.strings) made.file.contents
-
-  abbrev with_compilations : Contents
-  with_compilations = with_bytes kinds.CuIndex f.compilation_index with_strings
-
-  contents-are : file.contents ≡ with_bytes kinds.TuIndex f.type_index with_compilations
-  contents-are = ap (λ (o : File). o.contents) f.contents
-
   pub finished-order : file.order ≡ made.file.order
   finished-order = ap (λ (o : File). o.order) f.contents
 
   pub finished-grows : Grows made.file.contents file.contents
-  finished-grows = subst (Grows made.file.contents) (sym contents-are)
-      (grows-trans made.file.contents with_strings (with_bytes kinds.TuIndex f.type_index
-      with_compilations) (grows-with_bytes kinds.Str (data_of made.strings) made.file.contents)
-      (grows-trans with_strings with_compilations (with_bytes kinds.TuIndex f.type_index
-      with_compilations) (grows-with_bytes kinds.CuIndex f.compilation_index with_strings)
-      (grows-with_bytes kinds.TuIndex f.type_index with_compilations)))
+  finished-grows =
+      let strings = with_bytes kinds.Str (data_of made.strings) made.file.contents in
+      let both = with_bytes kinds.CuIndex f.compilation_index strings in
+      rw (ap (λ (o : File). o.contents) f.contents) (grows-trans made.file.contents both _
+      (grows-trans made.file.contents strings both (grows-with_bytes kinds.Str _ _)
+      (grows-with_bytes kinds.CuIndex _ _)) (grows-with_bytes kinds.TuIndex _ _))
 
   -- the content of a kind, with what was added to it
   abbrev put : SectionKind → SectionKind → List ℕ → List ℕ → List ℕ
@@ -86,12 +67,8 @@ module _ (made : InProgress) (file : File) (f : IsFinished made file) where
   finished-content : (kind : SectionKind) → content_of kind file.contents
       ≡ put kind kinds.TuIndex f.type_index (put kind kinds.CuIndex f.compilation_index
       (put kind kinds.Str (data_of made.strings) (content_of kind made.file.contents)))
-  finished-content kind = rw (
-    contents-are,
-    content-with_bytes kind kinds.TuIndex f.type_index with_compilations,
-    content-with_bytes kind kinds.CuIndex f.compilation_index with_strings,
-    content-with_bytes kind kinds.Str (data_of made.strings) made.file.contents,
-  )
+  finished-content kind = rw (ap (λ (o : File). o.contents) f.contents, content-with_bytes,
+      content-with_bytes, content-with_bytes)
 
   pub finished-strings : content_of kinds.Str made.file.contents ≡ [] → content_of kinds.Str
       file.contents ≡ data_of made.strings
@@ -113,75 +90,46 @@ module _ (made : InProgress) (file : File) (f : IsFinished made file) where
   finished-own places.Info = finished-content kinds.Info
   finished-own places.Types = finished-content kinds.Types
 
--- the law of the names in a package
-abbrev pub NamedOnce : Type 0
-NamedOnce = (compilations types : Option Index) (ids signatures : List ℕ)
-    → IsIndexOfIds compilations ids
-    → IsIndexOfIds types signatures
-    → IsPermutation (entries_of ids signatures) (entries_from compilations types 0 0)
-
 index-ids : (index : Option Index) (rows : List IndexEntry) → HasRows index rows
     → IsIndexOfIds index (entry_ids rows)
 index-ids None rows has = ap entry_ids has
 index-ids (Some index) rows has = has.1.slots
 
-module _ (is_read : IndexIsRead) (has_entries : IndexHasEntries) (some_index : SomeIndex)
-    (none_index : NoIndex) (contents : ContentsRead) (other : OtherKind) (foreign : ForeignName)
-    (empty : NoBytes) (present : PresentLaw) (absent : AbsentLaw) (none : NoIndexLaw)
-    (once : NamedOnce) where
-  -- the file of a finished package is a package of its units
-  package-is : (made : InProgress) (file : File) → IsSound made → Tested made
-      → IdentifiersFit made.rows
-      → IsFinished made file → IsPackageOnceWritten (units_of made) file
-  package-is made file sound tested fits f differ back =
-      let ms = units_of made in
-      let units = sound.units in
-      let indexed = λ (b : Bool) (bytes : List ℕ)
-      (is : IsIndexOf made.file.order (rows_of b made.rows) bytes)
-      (passes : index_tests (rows_of b made.rows) ≡ Ok tt).
-      index-read is_read has_entries some_index none_index made.file.order (rows_of b made.rows)
-      bytes is passes (distinct_chosen b made.rows (names_of made) refl sound.apart)
-      (chosen-fit b made.rows fits) in
-      let c = indexed true f.compilation_index f.compilations tested.compilation_rows in
-      let t = indexed false f.type_index f.types tested.type_rows in
-      let order = finished-order made file f in
-      let c_read : index_in_section file.order (content_of kinds.CuIndex file.contents) ≡ Ok
-      c.index = rw (order, finished-compilations made file f units.no_compilations) c.read in
-      let t_read : index_in_section file.order (content_of kinds.TuIndex file.contents) ≡ Ok
-      t.index = rw (order, finished-types made file f units.no_types) t.read in
-      let rows = keep-rows made.file.order made.file.contents file.contents
-      made.strings made.strings
-      made.rows ms (finished-grows made file f) (take-length made.strings) units.rows in
-      let ids = λ (passes : DwarfObject → Bool). ids-chosen made.file.order made.file.contents
-      made.strings passes made.rows ms units.rows in
-      record {
-        pack = record {
-          order = file.order;
-          contents = sections_of (λ kind. content_of kind file.contents);
-          compilations = c.index;
-          types = t.index;
-        };
-        parsed = package_held contents other foreign empty (file_text file) file differ back c.index
-            t.index c_read t_read;
-        named = rw (← ids is_compilation, ← ids (λ name. not (is_compilation name)))
-            (once c.index t.index (entry_ids (rows_of true made.rows))
-            (entry_ids (rows_of false made.rows)) (index-ids c.index (rows_of true made.rows)
-            c.has) (index-ids t.index (rows_of false made.rows) t.has));
-        finds = package-finds present absent none _ made.file.order file.contents made.rows
-            made.strings ms (record {
-              order_is = order;
-              contents_are = refl;
-              strings_are = finished-strings made file f units.no_strings;
-              compilations = c.has;
-              types = t.has;
-            }) units.table rows;
-      }
+-- the file of a finished package is a package of its units
+package-is : (made : InProgress) (file : File) → IsSound made → Tested made
+    → IdentifiersFit made.rows → IsFinished made file → IsPackageOnceWritten (units_of made) file
+package-is made file sound tested fits f differ back =
+    let of = meaning_at made.file.order made.file.contents made.strings in
+    let units = sound.units in
+    let indexed = λ (b : Bool) (bytes : List ℕ)
+    (is : IsIndexOf made.file.order (rows_of b made.rows) bytes)
+    (passes : index_tests (rows_of b made.rows) ≡ Ok tt).
+    index-read made.file.order (rows_of b made.rows) bytes is passes
+    (distinct_chosen b made.rows (names_of made) refl sound.apart) (chosen-fit b made.rows fits) in
+    let c = indexed true f.compilation_index f.compilations tested.compilation_rows in
+    let t = indexed false f.type_index f.types tested.type_rows in
+    let order = finished-order made file f in
+    let rows : AreRowsOf file.order file.contents made.strings made.rows (members of made.rows) =
+    rw order (keep-rows made.file.order made.file.contents file.contents made.strings made.strings
+    made.rows (units_of made) (finished-grows made file f) (take-length made.strings) units.rows) in
+    record {
+      pack = _;
+      parsed = package_held (file_text file) file differ back c.index t.index
+          (rw (order, finished-compilations made file f units.no_compilations) c.read)
+          (rw (order, finished-types made file f units.no_types) t.read);
+      named = rw (← ids-chosen of is_compilation made.rows,
+          ← ids-chosen of (λ name. not (is_compilation name)) made.rows)
+          (entries_once c.index t.index _ _ (index-ids c.index _ c.has)
+              (index-ids t.index _ t.has));
+      finds = λ name. package-finds file.order file.contents c.index t.index made.strings
+          (finished-strings made file f units.no_strings) units.table made.rows name of rows
+          c.has t.has;
+    }
 
-  -- so is that of a finished state
-  pub finished-is : (state : State) (file : File) → IsSoundBegun state.begun
-      → finish_test state ≡ Ok tt
-      → IsFinishedState state file → IsPackageOnceWritten (units_in state) file
-  finished-is state file sound tested f =
-      let is_sound : IsSound f.made = subst IsSoundBegun f.begun sound in
-      rw f.begun (package-is f.made file is_sound (tested-state state f.made f.begun tested)
-      f.identifiers f.finished)
+-- so is that of a finished state
+pub finished-is : (state : State) (file : File) → IsSoundBegun state.begun
+    → finish_test state ≡ Ok tt
+    → IsFinishedState state file → IsPackageOnceWritten (units_in state) file
+finished-is state file sound tested f =
+    rw f.begun (package-is f.made file (rw f.begun at sound)
+    (tested-state state f.made f.begun tested) f.identifiers f.finished)

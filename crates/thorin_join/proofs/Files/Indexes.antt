@@ -14,6 +14,9 @@ use Rattle.thorin_index.specs.declared.entry.IndexEntry.{IndexEntry}
 use Rattle.thorin_index.specs.EntryTests.{tests_under, index_tests}
 use Rattle.thorin_index.specs.IndexText.{IsIndexText, IsIndexOf, entry_ids, used_sections}
 use Rattle.thorin_index.specs.ReadBack.{index_with}
+use Rattle.thorin_index.proofs.ReadAgain.{index_is_read}
+use Rattle.thorin_index.proofs.RowsAgain.{written_rows}
+use Rattle.dwp_index.proofs.HeldContents.{index_there, index_missing}
 use Rattle.thorin_index.specs.ReadRows.{HasEntries}
 use Rattle.thorin_join.specs.Builder.{IdentifiersFit, rows_of, is_chosen}
 use Rattle.thorin_join.proofs.Steps.{err-ok}
@@ -40,14 +43,6 @@ IndexHasEntries = (order : Endianness) (encoding : Encoding) (entries : List Ind
     → index_of order bytes ≡ Ok index
     → HasEntries (index_version_of encoding.version) entries index
 
-abbrev pub SomeIndex : Type 0
-SomeIndex = (order : Endianness) (bytes : List ℕ) (index : Index) → 0 < length bytes
-    → index_of order bytes ≡ Ok index → index_in_section order bytes ≡ Ok (Some index)
-
-abbrev pub NoIndex : Type 0
-NoIndex = (order : Endianness) (bytes : List ℕ) → bytes ≡ []
-    → index_in_section order bytes ≡ Ok None
-
 -- what is read of the index of these rows
 abbrev pub HasRows : Option Index → List IndexEntry → Type 0
 HasRows None rows = rows ≡ []
@@ -67,43 +62,31 @@ some-bytes : (order : Endianness) (bytes : List ℕ) (index : Index) → index_o
 some-bytes order [] index h = absurd (err-ok UnexpectedEof index (sym (no-bytes order) ∙ h))
 some-bytes order (b ∷ bs) index h = omega arith
 
-pub index-read : IndexIsRead → IndexHasEntries → SomeIndex → NoIndex → (order : Endianness)
-    (rows : List IndexEntry) (bytes : List ℕ)
+pub index-read : (order : Endianness) (rows : List IndexEntry) (bytes : List ℕ)
     → IsIndexOf order rows bytes → index_tests rows ≡ Ok tt → AreDistinct (entry_ids rows)
     → ((r : ℕ) → slice_index (entry_ids rows) r < 2 ^ 64)
     → IndexRead order rows bytes
-index-read is_read has some none order [] bytes text tested distinct fit =
-    record { index = None; read = none order bytes text; has = refl }
-index-read is_read has some none order (row ∷ rows) bytes text tested distinct fit =
-    let read = is_read order row.encoding (row ∷ rows) bytes tested fit text in
-    let index = index_with (index_version_of row.encoding.version) (used_sections (row ∷ rows))
-    (row ∷ rows) text.rows in
+index-read order [] bytes text tested distinct fit =
+    record { index = None; read = index_missing order bytes text; has = refl }
+index-read order (row ∷ rows) bytes text tested distinct fit =
+    let read = index_is_read order row.encoding (row ∷ rows) bytes tested fit text in
     record {
-      index = Some index;
-      read = some order bytes index (some-bytes order bytes index read) read;
+      index = Some _;
+      read = index_there order bytes _ (some-bytes order bytes _ read) read;
       has = (
         index_version_of row.encoding.version,
-        has order row.encoding (row ∷ rows) bytes tested
-            distinct fit text index read,
+        written_rows order row.encoding (row ∷ rows) bytes tested distinct fit text _ read,
         omega arith,
       );
     }
 
 -- the identifiers of chosen rows have 64 bits
-fit-chosen : (b : Bool) (rows : List IndexEntry) → IdentifiersFit rows
-    → IdentifiersFit (rows_of b rows)
-fit-chosen b [] h = tt
-fit-chosen b (row ∷ rows) h =
-    by-bool _ (is_chosen b row)
-    (λ chosen. rw chosen (h.0, fit-chosen b rows h.1))
-    (λ other. rw other (fit-chosen b rows h.1))
-
-fit-at : (rows : List IndexEntry) → IdentifiersFit rows → (r : ℕ)
-    → slice_index (entry_ids rows) r < 2 ^ 64
-fit-at [] h r = omega arith
-fit-at (row ∷ rows) h zero = h.0
-fit-at (row ∷ rows) h (suc r) = fit-at rows h.1 r
-
 pub chosen-fit : (b : Bool) (rows : List IndexEntry) → IdentifiersFit rows → (r : ℕ)
     → slice_index (entry_ids (rows_of b rows)) r < 2 ^ 64
-chosen-fit b rows h = fit-at (rows_of b rows) (fit-chosen b rows h)
+chosen-fit b [] h = λ r. omega arith
+chosen-fit b (row ∷ rows) h =
+    let rest = chosen-fit b rows h.1 in
+    by-bool _ (is_chosen b row)
+    (λ chosen. rw chosen (λ r. elim r as (λ k.
+    slice_index (entry_ids (row ∷ rows_of b rows)) k < 2 ^ 64) [ zero ↦ h.0 | suc k ↦ rest k ]))
+    (λ other. rw other rest)

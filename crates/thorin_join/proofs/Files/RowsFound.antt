@@ -1,26 +1,26 @@
 -- The row of a name, and the names without one.
-use Rattle.std.proofs.Common.{◌≡◌, ◌∙◌, ℕ, zero, suc, ◌<◌, Bool, true, false, cond, not, true≢false}
-use Rattle.std.proofs.Common.{List, [], ◌∷◌, length, map, filter, ap, sym, refl, Some, None, arith}
-use Rattle.std.proofs.Common.{subst₂}
-use Rattle.std.specs.Prelude.{slice_index, slice_get}
+use Rattle.std.proofs.Common.{◌≡◌, ◌∙◌, ℕ, zero, suc, ◌<◌, Bool, true, not, List, [], ◌∷◌, length}
+use Rattle.std.proofs.Common.{map, filter, ap, sym, refl, Option, Some, None, arith, true≢false}
+use Rattle.std.proofs.Common.{false}
+use Rattle.std.specs.Prelude.{slice_index, slice_get, MatchOption}
 use Rattle.std.specs.Map.{lookup}
+use Rattle.std.proofs.lemmas.List.{length-map}
 use Rattle.std.proofs.lemmas.Option.{none-some, same_Some}
 use Rattle.dwp_base.specs.declared.endian.Endianness.{Endianness}
+use Rattle.dwp_base.proofs.Bools.{by-bool}
 use Rattle.dwp_table.specs.Objects.{identifier_of}
 use Rattle.dwp_table.specs.declared.object.DwarfObject.{DwarfObject}
 use Rattle.dwp_table.specs.declared.object.DwarfObject.TheVariants.{Compilation, TypeUnit}
 use Rattle.dwp_index.specs.Finding.{IsNotNamed}
 use Rattle.thorin_index.specs.declared.entry.IndexEntry.{IndexEntry}
 use Rattle.thorin_index.specs.IndexText.{entry_ids}
-use Rattle.thorin_join.specs.Builder.{is_chosen, rows_of}
 use Rattle.thorin_input.specs.Growing.{Contents}
+use Rattle.thorin_input.specs.Names.{same_name, is_compilation}
+use Rattle.thorin_join.specs.Builder.{is_chosen, rows_of}
 use Rattle.thorin_join.specs.Join.{same_sort}
 use Rattle.thorin_join.specs.Meaning.{Meaning, Members}
-use Rattle.thorin_input.specs.Names.{same_name, is_compilation}
 use Rattle.thorin_join.specs.Represents.{IsRowOf, AreRowsOf}
 use Rattle.thorin_join.proofs.Units.NamesApart.{same_name-true, same-sort, chosen-sort}
-use Rattle.dwp_base.proofs.Bools.{by-bool}
-use Rattle.std.proofs.lemmas.List.{length-map}
 
 -- a row is among those of its sort
 sort-chosen : (name : DwarfObject) (row : IndexEntry) → is_chosen (is_compilation name) row ≡
@@ -41,90 +41,67 @@ pub id-at : (rows : List IndexEntry) (place : ℕ) (row : IndexEntry) → slice_
     row → (place < length (entry_ids rows))
     × (slice_index (entry_ids rows) place ≡ identifier_of row.id)
 id-at [] place row h = absurd (none-some row h)
-id-at (r ∷ rs) zero row h = (
-  omega arith,
-  ap (λ (x : IndexEntry). identifier_of x.id)
-      (same_Some _ _ h),
-)
+id-at (r ∷ rs) zero row h =
+    (omega arith, ap (λ (x : IndexEntry). identifier_of x.id) (same_Some _ _ h))
 id-at (r ∷ rs) (suc place) row h = let rest = id-at rs place row h in (omega arith, rest.1)
 
--- a name that isn't looked up has no row
-absent-cond : (name : DwarfObject) (row : IndexEntry) (rows : List IndexEntry) (e : Bool)
-    → is_chosen (is_compilation name) row ≡ e → same_name name row.id ≡ false
-    → IsNotNamed name (entry_ids (rows_of (is_compilation name) rows))
-    → IsNotNamed name (entry_ids (cond e (row ∷ rows_of (is_compilation name) rows)
-    (rows_of (is_compilation name) rows)))
-absent-cond name row rows true chosen other rest zero within same =
-    let sort = sym (chosen-sort (is_compilation name) row chosen) in
-    true≢false (sym (same-sort name row.id sort (sym same)) ∙ other)
-absent-cond name row rows true chosen other rest (suc r) within same = rest r (omega arith) same
-absent-cond name row rows false chosen other rest r within same = rest r within same
+-- the units of rows, each of which means so much
+abbrev pub members : (IndexEntry → Meaning) → List IndexEntry → Members
+members of rows = map {B = DwarfObject × Meaning} (λ row. (row.id, of row)) rows
 
-pub ids-counted : (rows : List IndexEntry) → length (entry_ids rows) ≡ length rows
-ids-counted [] = refl
-ids-counted (r ∷ rs) = ap suc (ids-counted rs)
+-- the identifiers of the rows of a sort are those of the units
+pub ids-chosen : (of : IndexEntry → Meaning) (passes : DwarfObject → Bool) (rows : List IndexEntry)
+    → entry_ids (filter (λ r. passes r.id) rows)
+    ≡ map (λ u. identifier_of u.0) (filter (λ u. passes u.0) (members of rows))
+ids-chosen of passes [] = refl
+ids-chosen of passes (r ∷ rs) =
+    by-bool _ (passes r.id)
+    (λ chosen. rw chosen (ap (λ l. identifier_of r.id ∷ l) (ids-chosen of passes rs)))
+    (λ other. rw other (ids-chosen of passes rs))
 
--- what is known of rows that are those of units
-module _ (order : Endianness) (contents : Contents) (strings : List (List ℕ)) where
-  -- where a row stands among those of its name's sort
-  pub record RowFound (rows : List IndexEntry) (name : DwarfObject) (unit : Meaning) : Type 0 where
+-- there are as many rows of a name's sort as units
+pub rows-counted : (of : IndexEntry → Meaning) (rows : List IndexEntry) (name : DwarfObject)
+    → length (entry_ids (rows_of (is_compilation name) rows))
+    ≡ length (filter (λ u. same_sort name u.0) (members of rows))
+rows-counted of rows name =
+    ap (λ p. length (entry_ids (filter p rows))) (λ i row. sort-chosen name row i)
+    ∙ ap length (ids-chosen of (same_sort name) rows) ∙ length-map _ (λ u. identifier_of u.0)
+
+module _ (order : Endianness) (contents : Contents) (strings : List (List ℕ))
+    (name : DwarfObject) where
+  -- where the row of a unit of the name stands among these
+  pub record RowFound (own : List IndexEntry) (unit : Meaning) : Type 0 where
     pub place : ℕ
     pub row : IndexEntry
-    pub at : slice_get (rows_of (is_compilation name) rows) place ≡ Some row
+    pub at : slice_get own place ≡ Some row
     pub is : IsRowOf order contents strings row (name, unit)
 
-  pub find-row : (rows : List IndexEntry) (ms : Members) (name : DwarfObject) (unit : Meaning)
-      → AreRowsOf order contents strings rows ms → lookup (same_name name) ms ≡ Some unit
-      → RowFound rows name unit
-  find-row [] [] name unit are h = absurd (none-some unit h)
-  find-row [] (m ∷ ms) name unit are h = absurd are
-  find-row (r ∷ rs) [] name unit are h = absurd are
-  find-row (r ∷ rs) (m ∷ ms) name unit are h =
-      by-bool _ (same_name name m.0)
-      (λ same. let is : IsRowOf order contents strings r (name, unit) =
-      subst₂ (λ n u. IsRowOf order contents strings r (n, u))
-      (sym (same_name-true name m.0 same)) (same_Some _ _ (rw same at h)) are.0 in
-      let chosen = sort-chosen name r ∙ ap (same_sort name) is.name ∙ sort-self name in
-      record { place = 0; row = r; at = rw chosen; is = is })
-      (λ other. let f = find-row rs ms name unit are.1 (rw other at h) in
-      by-bool _ (is_chosen (is_compilation name) r)
-      (λ chosen. record { place = suc f.place; row = f.row; at = rw chosen f.at; is = f.is })
-      (λ passed. record { place = f.place; row = f.row; at = rw passed f.at; is = f.is }))
+  -- what a look-up of the name tells of them
+  abbrev pub Looked : List IndexEntry → Option Meaning → Type 0
+  Looked own found = MatchOption found (IsNotNamed name (entry_ids own)) (RowFound own)
 
-  -- a name that isn't looked up has no row
-  pub no-row : (rows : List IndexEntry) (ms : Members) (name : DwarfObject)
-      → AreRowsOf order contents strings rows ms → lookup (same_name name) ms ≡ None
-      → IsNotNamed name (entry_ids (rows_of (is_compilation name) rows))
-  no-row [] [] name are h = λ r within same. absurd (omega arith)
-  no-row [] (m ∷ ms) name are h = absurd are
-  no-row (r ∷ rs) [] name are h = absurd are
-  no-row (r ∷ rs) (m ∷ ms) name are h =
-      by-bool _ (same_name name m.0)
-      (λ same. absurd (none-some m.1 (sym (rw same at h))))
-      (λ other. absent-cond name r rs (is_chosen (is_compilation name) r) refl
-      (ap (same_name name) are.0.name ∙ other) (no-row rs ms name are.1 (rw other at h)))
+  another : (r : IndexEntry) (own : List IndexEntry) → is_compilation r.id ≡ is_compilation name
+      → same_name name r.id ≡ false → (found : Option Meaning) → Looked own found
+      → Looked (r ∷ own) found
+  another r own sort other None none = λ p. elim p as (λ k. k < length (entry_ids (r ∷ own))
+      → slice_index (entry_ids (r ∷ own)) k ≡ identifier_of name → ⊥) [
+        | zero ↦ λ within same.
+            true≢false (sym (same-sort name r.id (sym sort) (sym same)) ∙ other)
+        | suc k ↦ λ within. none k (omega arith)
+      ]
+  another r own sort other (Some unit) f =
+      record { place = suc f.place; row = f.row; at = f.at; is = f.is }
 
-  -- the identifiers of the rows of a sort are those of the units
-  pub ids-chosen : (passes : DwarfObject → Bool) (rows : List IndexEntry) (ms : Members)
-      → AreRowsOf order contents strings rows ms → entry_ids (filter (λ r. passes r.id) rows)
-      ≡ map (λ u. identifier_of u.0) (filter (λ u. passes u.0) ms)
-  ids-chosen passes [] [] are = refl
-  ids-chosen passes [] (m ∷ ms) are = absurd are
-  ids-chosen passes (r ∷ rs) [] are = absurd are
-  ids-chosen passes (r ∷ rs) (m ∷ ms) are =
-      let rest = ids-chosen passes rs ms are.1 in
-      rw are.0.name (by-bool _ (passes m.0)
-      (λ chosen. rw chosen (ap (λ l. identifier_of m.0 ∷ l) rest))
-      (λ other. rw other rest))
-
-  -- there are as many rows of a sort as units
-  pub rows-counted : (rows : List IndexEntry) (ms : Members) (name : DwarfObject)
-      → AreRowsOf order contents strings rows ms → length (rows_of (is_compilation name) rows)
-      ≡ length (filter (λ u. same_sort name u.0) ms)
-  rows-counted rows ms name are =
-      let same : is_chosen (is_compilation name) ≡ (λ (row : IndexEntry). same_sort name row.id) =
-      λ i row. sort-chosen name row i in
-      ap (λ p. length (filter p rows)) same
-      ∙ sym (ids-counted (filter (λ row. same_sort name row.id) rows))
-      ∙ ap length (ids-chosen (same_sort name) rows ms are)
-      ∙ length-map (filter (λ u. same_sort name u.0) ms) (λ u. identifier_of u.0)
+  pub looked : (of : IndexEntry → Meaning) (rows : List IndexEntry)
+      → AreRowsOf order contents strings rows (members of rows)
+      → Looked (rows_of (is_compilation name) rows) (lookup (same_name name) (members of rows))
+  looked of [] are = λ r within same. absurd (omega arith)
+  looked of (r ∷ rs) are =
+      by-bool _ (same_name name r.id)
+      (λ same. let is = same_name-true name r.id same in
+      let chosen = sort-chosen name r ∙ ap (same_sort name) (sym is) ∙ sort-self name in
+      rw (same, chosen) (record { place = 0; row = r; at = refl; is = rw is are.0 }))
+      (λ other. rw other (by-bool _ (is_chosen (is_compilation name) r)
+      (λ chosen. rw chosen (another r _ (chosen-sort (is_compilation name) r chosen) other _
+      (looked of rs are.1)))
+      (λ passed. rw passed (looked of rs are.1))))

@@ -1,13 +1,14 @@
 -- What the parts of an input are for the contents that they are added to.
 use Rattle.std.proofs.Common.{◌≡◌, ◌∙◌, ℕ, Bool, true, false, cond, eqb, List, [], ◌∷◌, ◌++◌}
 use Rattle.std.proofs.Common.{length, not, ◌&&◌, Ok, refl, sym, ap, if◌then◌else◌, ◌⊎◌, inl, inr}
-use Rattle.std.proofs.Common.{⊎_elim, true≢false, arith, subst}
+use Rattle.std.proofs.Common.{true≢false, arith, subst}
 use Rattle.std.proofs.lemmas.List.{append_assoc, append-nil}
-use Rattle.std.proofs.lemmas.Bool.{eqb-true, eqb-false, ne_eqb}
+use Rattle.std.proofs.lemmas.Bool.{eqb-true, false_from_ne_true}
 use Rattle.dwp_base.specs.declared.section.SectionKind.{SectionKind}
 use Rattle.dwp_base.specs.declared.section.SectionKind.TheVariants.{StrOffsets}
-use Rattle.dwp_base.specs.Sections.{same_kind, rank_of}
-use Rattle.dwp_base.proofs.EveryKind.{is-same}
+use Rattle.dwp_base.specs.Sections.{same_kind}
+use Rattle.dwp_base.proofs.EveryKind.{is-same, same-self}
+use Rattle.dwp_base.proofs.Bools.{by-bool, or-right}
 use Rattle.dwp_elf.specs.Contents.{content_of, appended}
 use Rattle.thorin_errors.specs.Errors.{ErrorValue}
 use Rattle.thorin_input.specs.Growing.{Contents, with_bytes, with_parts, joined_parts}
@@ -19,25 +20,24 @@ use Rattle.thorin_input.specs.Parts.{Parts, has_part, stands_once, with_offsets,
 use Rattle.thorin_input.specs.Parts.{with_each_part, parts_of}
 use Rattle.thorin_input.specs.Used.{Used}
 use Rattle.dwp_base.proofs.Steps.{bind-was, chosen, same-ok}
-use Rattle.dwp_base.proofs.Bools.{by-bool}
 use Rattle.thorin_join.proofs.Steps.{past}
 
 pub either : (b : Bool) → (b ≡ true) ⊎ (b ≡ false)
 either true = inl refl
 either false = inr refl
 
--- kinds are compared by their ranks
-pub kind-unlike : (a b c : SectionKind) → same_kind a b ≡ false → same_kind a c ≡ true
+pub differ : (a b : SectionKind) → (a ≡ b → ⊥) → same_kind a b ≡ false
+differ a b apart = false_from_ne_true _ (λ same. apart (is-same a b same))
+
+kind-unlike : (a b c : SectionKind) → same_kind a b ≡ false → same_kind a c ≡ true
     → same_kind b c ≡ false
-kind-unlike a b c h i = ne_eqb (rank_of b) (rank_of c) (λ e. eqb-false (rank_of a) (rank_of b) h
-    (eqb-true (rank_of a) (rank_of c) i ∙ sym e))
+kind-unlike a b c h i = differ b c (λ e. true≢false (sym i ∙ ap (same_kind a) (sym e) ∙ h))
 
 -- ---- bytes that are added to a section
 pub content-appended : (kind k : SectionKind) (bytes : List ℕ) (c : Contents)
     → content_of kind (appended k bytes c) ≡ cond (same_kind k kind) (content_of kind c ++ bytes)
     (content_of kind c)
-content-appended kind k bytes [] = by-bool _ (same_kind k kind) (λ same. rw same)
-    (λ other. rw other)
+content-appended kind k bytes [] = refl
 content-appended kind k bytes (d ∷ ds) =
     by-bool _ (same_kind d.0 k)
     (λ same. rw (same, ← is-same d.0 k same)
@@ -73,35 +73,21 @@ content-with_parts kind (p ∷ ps) c =
     (λ other. rw other refl)
 
 -- ---- what a section adds to the parts
-pub differ : (a b : SectionKind) → (a ≡ b → ⊥) → same_kind a b ≡ false
-differ a b apart = ⊎_elim (λ same. absurd (apart (is-same a b same))) (λ other. other)
-    (either (same_kind a b))
-
 pub copied-differ : (a b : SectionKind) → is_copied a ≡ true → is_copied b ≡ false
     → same_kind b a ≡ false
 copied-differ a b copied not_copied =
     differ b a (λ e. true≢false (sym copied ∙ ap is_copied (sym e) ∙ not_copied))
 
-pub joined-front : (same : Bool) (x a : List ℕ) → cond same x [] ++ a ≡ cond same (x ++ a) a
-joined-front true x a = refl
-joined-front false x a = refl
-
-pub joined_parts-append : (kind : SectionKind) (a b : Contents) → joined_parts kind (a ++ b) ≡
-    joined_parts kind a ++ joined_parts kind b
-joined_parts-append kind [] b = refl
-joined_parts-append kind (p ∷ ps) b =
-    ap (λ v. cond (same_kind p.0 kind) (p.1 ++ v) v) (joined_parts-append kind ps b)
-    ∙ by-bool _ (same_kind p.0 kind)
-    (λ same. rw same (sym (append_assoc p.1 (joined_parts kind ps) (joined_parts kind b))))
-    (λ other. rw other refl)
-
 -- joined parts with one more
 pub joined_parts-more : (kind : SectionKind) (a : Contents) (k : SectionKind) (bytes : List ℕ)
     → joined_parts kind (a ++ (k, bytes) ∷ []) ≡ joined_parts kind a ++ cond
     (same_kind k kind) bytes []
-joined_parts-more kind a k bytes =
-    joined_parts-append kind a ((k, bytes) ∷ []) ∙ ap (λ v. joined_parts kind a ++ cond
-    (same_kind k kind) v []) (append-nil bytes)
+joined_parts-more kind [] k bytes = ap (λ v. cond (same_kind k kind) v []) (append-nil bytes)
+joined_parts-more kind (p ∷ ps) k bytes =
+    ap (λ v. cond (same_kind p.0 kind) (p.1 ++ v) v) (joined_parts-more kind ps k bytes)
+    ∙ by-bool _ (same_kind p.0 kind)
+    (λ same. rw same (sym (append_assoc p.1 (joined_parts kind ps) _)))
+    (λ other. rw other refl)
 
 pub joined_parts-other : (kind : SectionKind) (a : Contents) (k : SectionKind) (bytes : List ℕ)
     → same_kind k kind ≡ false
@@ -109,20 +95,23 @@ pub joined_parts-other : (kind : SectionKind) (a : Contents) (k : SectionKind) (
 joined_parts-other kind a k bytes other = joined_parts-more kind a k bytes ∙ rw other
     (append-nil (joined_parts kind a))
 
+-- whether there is a part of a kind, with one more
+pub has-last : (kind : SectionKind) (a : Contents) (bytes : List ℕ)
+    → has_part kind (a ++ (kind, bytes) ∷ []) ≡ true
+has-last kind [] bytes = rw (same-self kind) refl
+has-last kind (p ∷ ps) bytes = or-right (same_kind p.0 kind) _ (has-last kind ps bytes)
+
+pub has-other : (kind : SectionKind) (a : Contents) (k : SectionKind) (bytes : List ℕ)
+    → same_kind k kind ≡ false → has_part kind (a ++ (k, bytes) ∷ []) ≡ has_part kind a
+has-other kind [] k bytes other = rw other
+has-other kind (p ∷ ps) k bytes other = rw (has-other kind ps k bytes other)
+
 module _ (source : Source) where
   -- string offsets were rewritten
   pub record Rewritten (before : Parts) (bytes : List ℕ) (next : Parts) : Type 0 where
     pub written : List ℕ × List (List ℕ)
     pub rewrites : rewritten source bytes before.1 ≡ Ok written
     pub is : next ≡ (before.0 ++ (StrOffsets, written.0) ∷ [], written.1)
-
-  pub is-rewritten : (before : Parts) (bytes : List ℕ) (next : Parts) → with_offsets source before
-      bytes ≡ Ok next → Rewritten before bytes next
-  unfolding with_offsets
-  is-rewritten before bytes next h =
-      let there = past (not source.object.has_strings) _ _ next h in
-      let w = bind-was (rewritten source bytes before.1) _ next there.1 in
-      record { written = w.0; rewrites = w.1; is = sym (same-ok {E = ErrorValue} _ next w.2) }
 
   -- a section's part is made of its string offsets, is the section as it is, or isn't there
   abbrev pub Adds : Parts → Used → Parts → Type 0
@@ -139,20 +128,23 @@ module _ (source : Source) where
 
   pub step : (before : Parts) (s : Used) (next : Parts) → with_part source before s ≡ Ok next
       → Step before s next
-  unfolding with_part
+  unfolding with_part with_offsets
   step before s next h =
       let once = past (stands_once source s.kind && has_part s.kind before.0) _ _ next h in
-      let inside = past (not (is_in_format source.encoding s.kind)) _ _ next once.1 in
+      let inside = (past (not (is_in_format source.encoding s.kind)) _ _ next once.1).1 in
       record {
         once = once.0;
-        adds = elim (chosen (same_kind s.kind StrOffsets) _ _ (Ok next) inside.1) [
-          | inl offsets ↦ inl (offsets.0, is-rewritten before s.bytes next offsets.1)
-          | inr other ↦ elim (chosen (is_copied s.kind) _ _ (Ok next) other.1) [
-            | inl copied ↦
-                inr (inl (other.0, copied.0, sym (same-ok {E = ErrorValue} _ next copied.1)))
-            | inr none ↦ inr (inr (other.0, none.0, sym (same-ok {E = ErrorValue} _ next none.1)))
-          ]
-        ];
+        adds = by-bool _ (same_kind s.kind StrOffsets)
+            (λ offsets. let there = past (not source.object.has_strings) _ _ next
+            (rw offsets at inside) in
+            let w = bind-was (rewritten source s.bytes before.1) _ next there.1 in
+            let is = sym (same-ok {E = ErrorValue} _ next w.2) in
+            inl (offsets, record { written = w.0; rewrites = w.1; is = is }))
+            (λ other. by-bool _ (is_copied s.kind)
+            (λ copied. let is = same-ok {E = ErrorValue} _ next (rw (copied, other) at inside) in
+            inr (inl (other, copied, sym is)))
+            (λ none. let is = same-ok {E = ErrorValue} _ next (rw (none, other) at inside) in
+            inr (inr (other, none, sym is))));
       }
 
   -- ---- all sections
@@ -171,41 +163,44 @@ module _ (source : Source) where
       more before s next.0 ss after (step before s next.0 next.1) next.2
       (each-part P none more ss next.0 after next.2)
 
-  -- sections that are copied
-  step-copied : (kind : SectionKind) (before : Parts) (s : Used) (next : Parts) (rest : List ℕ)
-      → is_copied kind ≡ true → Adds before s next → joined_parts kind next.0 ++ rest
-      ≡ joined_parts kind before.0 ++ cond (same_kind s.kind kind) (s.bytes ++ rest) rest
-  step-copied kind before s next rest copied (inl (o, w)) =
-      let other = copied-differ kind s.kind copied (ap is_copied (is-same s.kind StrOffsets o)) in
-      let apart = copied-differ kind StrOffsets copied refl in
-      rw (w.is, other, joined_parts-other kind before.0 StrOffsets w.written.0 apart)
-  step-copied kind before s next rest copied (inr (inl (o, c, is))) =
-      rw (is, joined_parts-more kind before.0 s.kind s.bytes)
-      (append_assoc (joined_parts kind before.0) (cond (same_kind s.kind kind) s.bytes []) rest
-      ∙ ap (λ v. joined_parts kind before.0 ++ v)
-      (joined-front (same_kind s.kind kind) s.bytes rest))
-  step-copied kind before s next rest copied (inr (inr (o, c, is))) =
-      rw (is, copied-differ kind s.kind copied c)
+  -- ---- a section adds to its kind alone
+  pub adds-offsets : (before : Parts) (s : Used) (next : Parts) → same_kind s.kind StrOffsets ≡ true
+      → Adds before s next → Rewritten before s.bytes next
+  adds-offsets before s next offsets (inl (o, w)) = w
+  adds-offsets before s next offsets (inr (inl (o, c, is))) =
+      absurd (true≢false (sym offsets ∙ o))
+  adds-offsets before s next offsets (inr (inr (o, c, is))) =
+      absurd (true≢false (sym offsets ∙ o))
 
-  each-copied : (kind : SectionKind) → is_copied kind ≡ true → (sections : List Used)
-      (before after : Parts) → with_each_part source before sections ≡ Ok after
-      → joined_parts kind after.0 ≡ joined_parts kind before.0 ++ joined_content kind sections
-  each-copied kind copied = each-part (λ before ss after. joined_parts kind after.0
-      ≡ joined_parts kind before.0 ++ joined_content kind ss)
-      (λ parts. sym (append-nil (joined_parts kind parts.0)))
-      (λ before s next ss after made rest later.
-      later ∙ step-copied kind before s next (joined_content kind ss) copied made.adds)
+  -- one that is copied adds itself, any other but string offsets adds nothing
+  pub adds-plain : (before : Parts) (s : Used) (next : Parts) → same_kind s.kind StrOffsets ≡ false
+      → Adds before s next
+      → next ≡ cond (is_copied s.kind) (before.0 ++ (s.kind, s.bytes) ∷ [], before.1) before
+  adds-plain before s next plain (inl (o, w)) = absurd (true≢false (sym o ∙ plain))
+  adds-plain before s next plain (inr (inl (o, c, is))) = rw c is
+  adds-plain before s next plain (inr (inr (o, c, is))) = rw c is
 
-  -- sections of which no part is made
-  step-other : (kind : SectionKind) (before : Parts) (s : Used) (next : Parts)
-      → is_copied kind ≡ false → same_kind StrOffsets kind ≡ false → Adds before s next
-      → joined_parts kind next.0 ≡ joined_parts kind before.0
-  step-other kind before s next none apart (inl (o, w)) =
-      rw w.is (joined_parts-other kind before.0 StrOffsets w.written.0 apart)
-  step-other kind before s next none apart (inr (inl (o, c, is))) =
-      rw is (joined_parts-other kind before.0 s.kind s.bytes
-      (differ s.kind kind (λ e. true≢false (sym c ∙ ap is_copied e ∙ none))))
-  step-other kind before s next none apart (inr (inr (o, c, is))) = rw is
+  module _ (kind : SectionKind) where
+    pub adds-copied : (before : Parts) (s : Used) (next : Parts) → is_copied kind ≡ true
+        → same_kind s.kind kind ≡ true → Adds before s next
+        → next ≡ (before.0 ++ (kind, s.bytes) ∷ [], before.1)
+    adds-copied before s next copied same adds =
+        let plain = differ kind StrOffsets (λ e. true≢false (sym copied ∙ ap is_copied e)) in
+        let is = is-same s.kind kind same in
+        rw (is, copied) at (adds-plain before s next (rw is plain) adds)
+
+    pub adds-other : (before : Parts) (s : Used) (next : Parts) → same_kind s.kind kind ≡ false
+        → Adds before s next → (has_part kind next.0 ≡ has_part kind before.0)
+        × (joined_parts kind next.0 ≡ joined_parts kind before.0)
+    adds-other before s next other (inl (o, w)) =
+        let apart : same_kind StrOffsets kind ≡ false = rw (is-same s.kind StrOffsets o) at other in
+        rw w.is (has-other kind before.0 StrOffsets _ apart, joined_parts-other kind before.0
+        StrOffsets _ apart)
+    adds-other before s next other (inr (inl (o, c, is))) = rw is (
+      has-other kind before.0 s.kind s.bytes other,
+      joined_parts-other kind before.0 s.kind s.bytes other,
+    )
+    adds-other before s next other (inr (inr (o, c, is))) = rw is (refl, refl)
 
 -- sections that are copied, joined
 pub parts-copied : (source : Source) (strings : List (List ℕ)) (parts : Contents)
@@ -213,7 +208,15 @@ pub parts-copied : (source : Source) (strings : List (List ℕ)) (parts : Conten
     → (kind : SectionKind) → is_copied kind ≡ true → joined_parts kind parts ≡ joined_content kind
     source.object.sections
 parts-copied source strings parts after h kind copied =
-    each-copied source kind copied source.object.sections ([], strings) (parts, after) h
+    each-part source (λ before ss next.
+    joined_parts kind next.0 ≡ joined_parts kind before.0 ++ joined_content kind ss)
+    (λ parts. sym (append-nil (joined_parts kind parts.0)))
+    (λ before s next ss last made rest later. later ∙ by-bool _ (same_kind s.kind kind)
+    (λ same. rw (same, adds-copied source kind before s next copied same made.adds,
+    joined_parts-more kind before.0 kind s.bytes, same-self kind)
+    (append_assoc (joined_parts kind before.0) s.bytes (joined_content kind ss)))
+    (λ other. rw (other, (adds-other source kind before s next other made.adds).1)))
+    source.object.sections ([], strings) (parts, after) h
 
 -- of units, strings and indexes there is no part
 pub parts-none : (source : Source) (strings : List (List ℕ)) (parts : Contents)
@@ -222,6 +225,11 @@ pub parts-none : (source : Source) (strings : List (List ℕ)) (parts : Contents
     → joined_parts kind parts ≡ []
 parts-none source strings parts after h kind none apart =
     each-part source (λ before ss next. joined_parts kind next.0 ≡ joined_parts kind before.0)
-    (λ parts. refl) (λ before s next ss last made rest later.
-    later ∙ step-other source kind before s next none apart made.adds)
+    (λ parts. refl)
+    (λ before s next ss last made rest later. later ∙ by-bool _ (same_kind s.kind kind)
+    (λ same. let is = is-same s.kind kind same in
+    let plain = kind-unlike StrOffsets kind StrOffsets apart refl in
+    ap (λ (p : Parts). joined_parts kind p.0)
+    (rw (is, none) at (adds-plain source before s next (rw is plain) made.adds)))
+    (λ other. (adds-other source kind before s next other made.adds).1))
     source.object.sections ([], strings) (parts, after) h

@@ -1,36 +1,17 @@
--- What the laws of the crates below say of string offsets that are rewritten.
-use Rattle.std.proofs.Common.{◌≡◌, ℕ, ◌-◌, ◌*◌, ◌<◌, List, ◌++◌, length, take, nat_lt, Option, Ok}
+-- What the laws of the crates below say of string offsets that are rewritten: a range names the
+-- same (a law of the string table), and is read alike (a law of the parts).
+use Rattle.std.proofs.Common.{◌≡◌, ℕ, ◌-◌, ◌*◌, ◌<◌, List, ◌++◌, length, nat_lt, Option, Ok}
 use Rattle.std.proofs.Common.{if◌then◌else◌}
 use Rattle.dwp_base.specs.declared.endian.Endianness.{Endianness}
 use Rattle.dwp_bytes.specs.Encoding.{offset_size}
 use Rattle.dwp_bytes.specs.declared.encoding.Encoding.{Encoding}
 use Rattle.dwp_index.specs.Index.{Index}
 use Rattle.dwp_index.specs.Strings.{string_in}
-use Rattle.thorin_packaged.specs.ReadStrings.{ReadsAlike}
-use Rattle.thorin_strings.specs.Rewritten.{NamesTheSame}
-use Rattle.thorin_strings.specs.Strings.{IsTable, data_of}
-use Rattle.thorin_strings.specs.StringOffsets.{remapped}
+use Rattle.thorin_strings.specs.Strings.{IsTable}
 use Rattle.thorin_packaged.specs.PackagedOffsets.{packaged_offsets}
 use Rattle.thorin_packaged.specs.PackagedReading.{PackageReadsAlike}
-
--- a rewritten range names the same (a law of the string table)
-abbrev pub NamesTheSameLaw : Type 0
-NamesTheSameLaw = (order : Endianness) (encoding : Encoding) (section bytes : List ℕ) (size : ℕ)
-    (before : List (List ℕ)) (rewritten : List ℕ) (after : List (List ℕ))
-    → IsTable before
-    → remapped order encoding section bytes size before ≡ Ok (rewritten, after)
-    → NamesTheSame order encoding section bytes size before rewritten after
-
--- it is read alike (a law of the parts)
-abbrev pub ReadsAlikeLaw : Type 0
-ReadsAlikeLaw = (order : Endianness) (encoding : Encoding) (section bytes : List ℕ)
-    (before : List (List ℕ)) (rewritten : List ℕ) (after final : List (List ℕ))
-    → IsTable before
-    → remapped order encoding section bytes (length bytes) before ≡ Ok (rewritten, after)
-    → IsTable final
-    → take (length after) final ≡ after
-    → (i : ℕ)
-    → ReadsAlike order encoding section bytes (data_of final) rewritten i
+pub use Rattle.thorin_packaged.proofs.ReadAlike.{NamesLaw as NamesTheSameLaw}
+pub use Rattle.thorin_packaged.proofs.ReadAlike.{AlikeLaw as ReadsAlikeLaw}
 
 -- ranges without a header, joined, are read in turn (a law of the parts)
 abbrev pub ReadInTurnLaw : Type 0

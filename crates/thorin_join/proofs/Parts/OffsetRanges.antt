@@ -1,7 +1,7 @@
 -- What is read of ranges of string offsets: of their whole entries alone, of none, and of joined
 -- ones.
 use Rattle.std.proofs.Common.{◌⊎◌, inl, inr, ◌≡◌, ◌∙◌, ℕ, ◌+◌, ◌-◌, ◌<◌, ◌≤◌, false, eqb, ltb, List}
-use Rattle.std.proofs.Common.{[], ◌++◌, length, take, drop, ◌*◌, ◌/◌, zero-mul, Ok, Some, None}
+use Rattle.std.proofs.Common.{[], ◌++◌, length, take, drop, ◌*◌, ◌/◌, zero-mul, Ok}
 use Rattle.std.proofs.Common.{refl, sym, ap, ⊎_elim, arith}
 use Rattle.std.proofs.lemmas.List.{length-take, length-drop, take_all, take-append-drop}
 use Rattle.std.proofs.lemmas.List.{drop-append-le}
@@ -14,7 +14,7 @@ use Rattle.dwp_bytes.specs.declared.encoding.Format.{Format}
 use Rattle.dwp_bytes.specs.declared.encoding.Format.TheVariants.{Dwarf32, Dwarf64}
 use Rattle.dwp_bytes.specs.Encoding.{offset_size}
 use Rattle.dwp_bytes.specs.StringOffsets.{header_size, entry_count}
-use Rattle.dwp_index.specs.Strings.{string_in, entry_in, string_for}
+use Rattle.dwp_index.specs.Strings.{string_in, entry_in}
 use Rattle.thorin_errors.specs.Errors.{ErrorValue}
 use Rattle.thorin_packaged.specs.ReadStrings.{ReadsAlike}
 use Rattle.thorin_strings.specs.Strings.{IsTable}
@@ -26,41 +26,32 @@ use Rattle.dwp_base.proofs.Steps.{bind-was, same-ok, chosen}
 use Rattle.thorin_join.proofs.Steps.{past}
 use Rattle.dwp_base.proofs.Bools.{by-bool}
 
+-- ---- what reads as what reads alike does so too
+pub alike-by : {order : Endianness} {encoding : Encoding}
+    {section final old old_too new new_too : List ℕ} {i j : ℕ}
+    → string_in order encoding section old i ≡ string_in order encoding section old_too j
+    → string_in order encoding final new i ≡ string_in order encoding final new_too j
+    → ReadsAlike order encoding section old_too final new_too j
+    → ReadsAlike order encoding section old final new i
+alike-by olds news alike =
+    record { readable = rw olds alike.readable; same = news ∙ alike.same ∙ sym olds }
+
 -- ---- a range without the bytes past its last whole entry
 pub count-again : (format : Format) (l h n : ℕ) → l ≡ h + n * offset_size format
     → (l - h) / offset_size format ≡ n
 count-again Dwarf32 l h n e = omega arith
 count-again Dwarf64 l h n e = omega arith
 
-pub count-fits : (format : Format) (l h : ℕ) → h ≤ l → h + (l - h) / offset_size format *
-    offset_size format ≤ l
-count-fits Dwarf32 l h e = omega arith
-count-fits Dwarf64 l h e = omega arith
+-- whole entries fit, and each has at least 4 bytes
+pub count-fits : (format : Format) (l h : ℕ) → h ≤ l
+    → (h + (l - h) / offset_size format * offset_size format ≤ l)
+    × ((l - h) / offset_size format * 4 ≤ l)
+count-fits Dwarf32 l h e = (omega arith, omega arith)
+count-fits Dwarf64 l h e = (omega arith, omega arith)
 
 pub count-none : (format : Format) (l h : ℕ) → l ≤ h → (l - h) / offset_size format ≡ 0
 count-none Dwarf32 l h e = omega arith
 count-none Dwarf64 l h e = omega arith
-
--- entries of the front of a range
-entry-front : (order : Endianness) (encoding : Encoding) (xs ys : List ℕ) (n i : ℕ)
-    → length xs ≡ header_size encoding + n * offset_size encoding.format
-    → entry_count encoding (length (xs ++ ys)) ≡ n → entry_in order encoding xs i ≡ entry_in order
-    encoding (xs ++ ys) i
-unfolding entry_in
-entry-front order encoding xs ys n i long count =
-    let width = offset_size encoding.format in
-    let at = header_size encoding + i * width in
-    let alone : entry_count encoding (length xs) ≡ n = count-again encoding.format (length xs)
-    (header_size encoding) n long in
-    rw (alone, count) (by-bool _ (ltb i n)
-    (λ less. let before = ltb-true i n less in
-    let room : i * width + width ≤ n * width = row_fits i width n width before (omega arith) in
-    let past : drop at (xs ++ ys) ≡ drop at xs ++ ys = drop-append-le at xs ys
-    (omega (arith, long)) in
-    let left : width ≤ length (drop at xs) = omega (arith, long, length-drop at xs) in
-    rw less (ap (λ m. Some m) (sym (ap (number order width) past ∙ number_front order
-    encoding.format (drop at xs) ys left))))
-    (λ behind. rw behind))
 
 pub whole-long : (encoding : Encoding) (bytes : List ℕ) → header_size encoding ≤ length bytes
     → length (whole_entries encoding bytes) ≡ header_size encoding + entry_count encoding
@@ -68,45 +59,49 @@ pub whole-long : (encoding : Encoding) (bytes : List ℕ) → header_size encodi
 whole-long encoding bytes room =
     let end = header_size encoding + entry_count encoding (length bytes) * offset_size
     encoding.format in
-    let fits : end ≤ length bytes = count-fits encoding.format (length bytes)
-    (header_size encoding) room in
-    omega (arith, fits, length-take end bytes)
+    let fits = count-fits encoding.format (length bytes) (header_size encoding) room in
+    omega (arith, fits.0, length-take end bytes)
 
-whole-entry : (order : Endianness) (encoding : Encoding) (bytes : List ℕ) (i : ℕ)
-    → entry_in order encoding (whole_entries encoding bytes) i ≡ entry_in order encoding bytes i
-whole-entry order encoding bytes i =
-    let h = header_size encoding in
-    let n = entry_count encoding (length bytes) in
-    let end = h + n * offset_size encoding.format in
-    let parted : take end bytes ++ drop end bytes ≡ bytes = take-append-drop end bytes in
-    ⊎_elim
-    (λ (short : length bytes < h). ap (λ l. entry_in order encoding l i)
-    (take_all end bytes (omega arith)))
-    (λ room. entry-front order encoding (take end bytes) (drop end bytes) n i
-    (whole-long encoding bytes room) (ap (λ l. entry_count encoding (length l)) parted)
-    ∙ ap (λ l. entry_in order encoding l i) parted)
-    (cases_lt (length bytes) h)
+module _ (order : Endianness) (encoding : Encoding) where
+  pub whole-read : (strings bytes : List ℕ) (i : ℕ)
+      → string_in order encoding strings (whole_entries encoding bytes) i ≡ string_in order
+      encoding strings bytes i
+  unfolding string_in entry_in
+  whole-read strings bytes i =
+      let width = offset_size encoding.format in
+      let h = header_size encoding in
+      let n = entry_count encoding (length bytes) in
+      let end = h + n * width in
+      let at = h + i * width in
+      let front = take end bytes in
+      let parted : front ++ drop end bytes ≡ bytes = take-append-drop end bytes in
+      ⊎_elim
+      (λ (short : length bytes < h). ap (λ l. string_in order encoding strings l i)
+      (take_all end bytes (omega arith)))
+      (λ room. let long = whole-long encoding bytes room in
+      let count : entry_count encoding (length front) ≡ n =
+      count-again encoding.format (length front) h n long in
+      rw count (by-bool _ (ltb i n)
+      (λ less. let fits : i * width + width ≤ n * width = row_fits i width n width (ltb-true i n
+      less) (omega arith) in
+      let left : width ≤ length (drop at front) = omega (arith, long, length-drop at front) in
+      let same : number order width (drop at front) ≡ number order width (drop at bytes) =
+      sym (number_front order encoding.format (drop at front) (drop end bytes) left)
+      ∙ ap (number order width) (sym (drop-append-le at front (drop end bytes)
+          (omega (arith, long)))
+      ∙ ap (drop at) parted) in
+      rw (less, same))
+      (λ behind. rw behind)))
+      (cases_lt (length bytes) h)
 
-pub whole-read : (order : Endianness) (encoding : Encoding) (strings bytes : List ℕ) (i : ℕ)
-    → string_in order encoding strings (whole_entries encoding bytes) i ≡ string_in order
-    encoding strings bytes i
-unfolding string_in
-whole-read order encoding strings bytes i = ap (string_for strings)
-    (whole-entry order encoding bytes i)
-
-pub empty-read : (order : Endianness) (encoding : Encoding) (strings : List ℕ) (i : ℕ)
-    → string_in order encoding strings [] i ≡ Ok None
-unfolding string_in entry_in
-empty-read order encoding strings i =
-    let n = entry_count encoding (length {A = ℕ} []) in
-    let none : n ≡ 0 = count-none encoding.format 0 (header_size encoding) (omega arith) in
-    rw (le-ltb i n (omega (arith, none)))
-
-pub empty-alike : (order : Endianness) (encoding : Encoding) (section final : List ℕ) (i : ℕ)
-    → ReadsAlike order encoding section [] final [] i
-empty-alike order encoding section final i =
-    let none = empty-read order encoding section i in
-    record { readable = rw none refl; same = empty-read order encoding final i ∙ sym none }
+  -- of no bytes nothing is read
+  pub empty-alike : (section final : List ℕ) (i : ℕ)
+      → ReadsAlike order encoding section [] final [] i
+  unfolding string_in entry_in
+  empty-alike section final i =
+      let none = count-none encoding.format 0 (header_size encoding) (omega arith) in
+      let past : ltb i (entry_count encoding 0) ≡ false = le-ltb i _ (omega (arith, none)) in
+      record { readable = rw past refl; same = rw past refl }
 
 -- ---- rewritten ranges
 -- what a range of some bytes is rewritten to: a header, and its entries
@@ -130,24 +125,21 @@ pub range-of : (order : Endianness) (encoding : Encoding) (section bytes : List 
     ⊎ Range order encoding section bytes size strings range
 unfolding remapped
 range-of order encoding section bytes size strings range h =
-    elim (chosen (eqb size 0) _ _ (Ok range) h) [
-      | inl none ↦ inl (eqb-true size 0 none.0, same-ok {E = ErrorValue} _ range none.1)
-      | inr some ↦
-          let n = entry_count encoding size in
-          let room = past (ltb size (header_size encoding)) _ _ range some.1 in
-          let a = bind-was (header_of order encoding (n * offset_size encoding.format)) _ range
-          room.1 in
-          let b = bind-was (remapped_entries order encoding section bytes n strings) _ range a.2 in
-          inr (record {
-            some = some.0;
-            room = ltb-false size (header_size encoding) room.0;
-            header = a.0;
-            entries = b.0;
-            header_is = a.1;
-            entries_are = b.1;
-            is = same-ok {E = ErrorValue} _ range b.2;
-          })
-    ]
+    by-bool _ (eqb size 0)
+    (λ none. inl (eqb-true size 0 none, same-ok {E = ErrorValue} _ range (rw none at h)))
+    (λ some. let n = entry_count encoding size in
+    let room = past (ltb size (header_size encoding)) _ _ range (rw some at h) in
+    let a = bind-was (header_of order encoding (n * offset_size encoding.format)) _ range room.1 in
+    let b = bind-was (remapped_entries order encoding section bytes n strings) _ range a.2 in
+    inr (record {
+      some = some;
+      room = ltb-false size (header_size encoding) room.0;
+      header = a.0;
+      entries = b.0;
+      header_is = a.1;
+      entries_are = b.1;
+      is = same-ok {E = ErrorValue} _ range b.2;
+    }))
 
 -- before DWARF 5 a rewritten range has the whole entries and nothing else
 pub rewritten-long : NamesTheSameLaw → (order : Endianness) (encoding : Encoding)
@@ -156,23 +148,10 @@ pub rewritten-long : NamesTheSameLaw → (order : Endianness) (encoding : Encodi
     → remapped order encoding section bytes (length bytes) strings ≡ Ok written → length written.0 ≡
     entry_count encoding (length bytes) * offset_size encoding.format
 rewritten-long names order encoding section bytes strings written old table h =
-    let header = no_header encoding old in
-    let width = offset_size encoding.format in
-    elim (range-of order encoding section bytes (length bytes) strings written h) [
-      | inl none ↦
-          let count : entry_count encoding (length bytes) ≡ 0 = count-none encoding.format
-          (length bytes) (header_size encoding) (omega (arith, none.0)) in
-          ap (λ (w : List ℕ × List (List ℕ)). length w.0) (sym none.1)
-          ∙ sym (ap (λ n. n * width) count ∙ zero-mul width)
-      | inr r ↦
-          let long : length written.0 ≡ header_size encoding + entry_count encoding
-          (length bytes) * width = (names order encoding section bytes (length bytes) strings
-          written.0 written.1 table h).long (eqb-false (length bytes) 0 r.some) in
-          omega (arith, long, header)
-    ]
-
--- both have so many whole entries, and nothing else
-pub record IsWhole (width : ℕ) (old new : List ℕ) : Type 0 where
-  pub count : ℕ
-  pub old_long : length old ≡ count * width
-  pub new_long : length new ≡ count * width
+    let law = names order encoding section bytes (length bytes) strings written.0 written.1
+    table h in
+    by-bool _ (eqb (length bytes) 0)
+    (λ empty. let none = eqb-true (length bytes) 0 empty in
+    rw (law.none none, count-none encoding.format (length bytes) (header_size encoding)
+    (omega arith)) (sym (zero-mul (offset_size encoding.format))))
+    (λ some. omega (arith, law.long (eqb-false (length bytes) 0 some), no_header encoding old))

@@ -1,9 +1,9 @@
 -- The string offsets of the parts of a plain input read alike.
-use Rattle.std.proofs.Common.{◌≡◌, ◌∙◌, ℕ, ◌+◌, ◌-◌, ◌<◌, Bool, true, false, cond, leb, List, []}
-use Rattle.std.proofs.Common.{◌∷◌, ◌++◌, length, take, subst, ◌*◌, ◌&&◌, ◌||◌, IsOk, nat_lt, Ok}
-use Rattle.std.proofs.Common.{refl, sym, ap, inl, inr, true≢false, arith, length-append}
+use Rattle.std.proofs.Common.{◌≡◌, ◌∙◌, ℕ, ◌+◌, ◌-◌, ◌<◌, Bool, true, false, leb, List, []}
+use Rattle.std.proofs.Common.{◌*◌, ◌∷◌, ◌++◌, length, take, ◌&&◌, ◌||◌, nat_lt, Ok}
+use Rattle.std.proofs.Common.{refl, sym, true≢false, arith, length-append}
 use Rattle.std.proofs.lemmas.List.{append_assoc, append-nil}
-use Rattle.std.proofs.lemmas.Bool.{leb-true, leb-false}
+use Rattle.std.proofs.lemmas.Bool.{leb-false}
 use Rattle.dwp_base.specs.declared.section.SectionKind.{SectionKind}
 use Rattle.dwp_base.specs.declared.section.SectionKind.TheVariants.{StrOffsets, Str}
 use Rattle.dwp_base.specs.Sections.{same_kind}
@@ -17,21 +17,22 @@ use Rattle.thorin_strings.specs.StringOffsets.{remapped}
 use Rattle.thorin_input.specs.Growing.{Contents, joined_parts}
 use Rattle.thorin_input.specs.Indexes.{Source, is_package}
 use Rattle.thorin_join.specs.Meaning.{whole_entries, joined_offsets}
-use Rattle.thorin_input.specs.Parts.{Parts, has_part, stands_once, with_each_part, parts_of}
-use Rattle.thorin_input.specs.Used.{Used, InputFile, first}
-use Rattle.thorin_join.proofs.Parts.OffsetRanges.{whole-long, whole-read, empty-alike}
-use Rattle.thorin_join.proofs.Parts.OffsetRanges.{rewritten-long, IsWhole}
-use Rattle.thorin_join.proofs.Parts.Appended.{each-part, joined-front, joined_parts-more}
-use Rattle.thorin_join.proofs.Parts.Appended.{joined_parts-other, Rewritten, Adds}
+use Rattle.thorin_input.specs.Parts.{Parts, has_part, stands_once, parts_of}
+use Rattle.thorin_input.specs.Used.{InputFile, first}
+use Rattle.thorin_join.proofs.Parts.OffsetRanges.{alike-by, whole-long, whole-read, empty-alike}
+use Rattle.thorin_join.proofs.Parts.OffsetRanges.{rewritten-long}
+use Rattle.thorin_join.proofs.Parts.Appended.{each-part, joined_parts-more, Rewritten, has-last}
+use Rattle.thorin_join.proofs.Parts.Appended.{has-other as part-other, adds-offsets, adds-plain}
+use Rattle.thorin_join.proofs.Parts.Appended.{adds-other}
 use Rattle.thorin_join.proofs.Parts.OffsetLaws.{NamesTheSameLaw, ReadsAlikeLaw, ReadInTurnLaw}
 use Rattle.thorin_join.proofs.Parts.Strings.{front-front, rewritten-plain}
 use Rattle.thorin_packaged.proofs.OffsetsJoined.{no_header}
-use Rattle.thorin_join.proofs.Parts.OfPackages.{has-last, has-other as part-other}
+use Rattle.thorin_input.specs.Format.{is_copied}
 use Rattle.dwp_base.proofs.Bools.{by-bool}
 
 pub has-more : (a : Contents) (bytes : List ℕ) → has_part StrOffsets
     (a ++ (StrOffsets, bytes) ∷ []) ≡ true
-has-more a bytes = has-last StrOffsets a StrOffsets bytes refl
+has-more = has-last StrOffsets
 
 pub has-other : (a : Contents) (k : SectionKind) (bytes : List ℕ) → same_kind k StrOffsets ≡ false
     → has_part StrOffsets (a ++ (k, bytes) ∷ []) ≡ has_part StrOffsets a
@@ -61,143 +62,64 @@ module _ (names : NamesTheSameLaw) (alike : ReadsAlikeLaw) (in_turn : ReadInTurn
     table : IsTable strings
     read : (final : List (List ℕ)) → IsTable final → take (length strings) final ≡ strings → (i : ℕ)
         → ReadsAlike object.order encoding section old (data_of final) new i
-    whole : encoding.version < 5 → IsWhole (offset_size encoding.format) old new
+    whole : encoding.version < 5 → (count : ℕ) × (length old ≡ count * offset_size
+        encoding.format) × (length new ≡ count * offset_size encoding.format)
     fresh : leb 5 encoding.version ≡ true → has ≡ false → (new ≡ []) × (old ≡ [])
 
   abbrev ReadsBy : Parts → List ℕ → Type 0
   ReadsBy before old = Reads (joined_parts StrOffsets before.0) before.1
       (has_part StrOffsets before.0) old
 
-  reads-none : (strings : List (List ℕ)) → IsTable strings → Reads [] strings false []
-  reads-none strings table =
-      let no : 0 * offset_size encoding.format ≡ 0 = omega arith in
-      record {
-        table = table;
-        read = λ final final_table kept i. empty-alike object.order encoding section
-            (data_of final) i;
-        whole = λ old. record { count = 0; old_long = sym no; new_long = sym no };
-        fresh = λ standard has. (refl, refl);
-      }
-
-  -- a range alone reads as its whole entries
-  alone : (bytes : List ℕ) (strings : List (List ℕ)) (written : List ℕ × List (List ℕ))
-      → IsTable strings → remapped object.order encoding section bytes (length bytes)
-      strings ≡ Ok written
-      → (final : List (List ℕ)) → IsTable final → take (length written.1) final ≡ written.1
-      → (i : ℕ) → ReadsAlike object.order encoding section (whole_entries encoding bytes)
-      (data_of final) written.0 i
-  alone bytes strings written table h final final_table kept i =
-      let law = alike object.order encoding section bytes strings written.0 written.1 final table h
-      final_table kept i in
-      let same = whole-read object.order encoding section bytes i in
-      record { readable = subst IsOk (sym same) law.readable; same = law.same ∙ sym same }
-
-  -- in DWARF 5 it is the only one
-  reads-only : (new old bytes : List ℕ) (strings : List (List ℕ)) (written : List ℕ × List (List ℕ))
-      → leb 5 encoding.version ≡ true → IsTable strings
-      → remapped object.order encoding section bytes (length bytes) strings ≡ Ok written → new ≡ []
-      → old ≡ [] → Reads (new ++ written.0) written.1 true (old ++ whole_entries encoding bytes)
-  reads-only new old bytes strings written standard table h no_new no_old =
-      let law = names object.order encoding section bytes (length bytes) strings written.0
-      written.1 table h in
-      rw (no_new, no_old) (record {
-        table = law.table;
-        read = alone bytes strings written table h;
-        whole = λ gnu. absurd (omega (arith, leb-true 5 encoding.version standard));
-        fresh = λ again has. absurd (true≢false has);
-      })
-
-  -- before it is joined to those before
-  reads-joined : (new old bytes : List ℕ) (strings : List (List ℕ)) (has : Bool) (written : List ℕ
-      × List (List ℕ)) → encoding.version < 5 → Reads new strings has old
-      → remapped object.order encoding section bytes (length bytes) strings ≡ Ok written
-      → Reads (new ++ written.0) written.1 true (old ++ whole_entries encoding bytes)
-  reads-joined new old bytes strings has written gnu before h =
-      let law = names object.order encoding section bytes (length bytes) strings written.0 written.1
-      before.table h in
-      let header = no_header encoding gnu in
-      let whole = before.whole gnu in
-      let own = whole_entries encoding bytes in
-      let long = whole-long encoding bytes (omega (arith, header)) in
-      let many = rewritten-long names object.order encoding section bytes strings written gnu
-      before.table h in
-      record {
-        table = law.table;
-        read = λ final final_table kept i.
-            let first = before.read final final_table
-            (front-front strings written.1 final law.kept kept) i in
-            let second = alone bytes strings written before.table h final final_table kept
-            (i - whole.count) in
-            let olds = in_turn object.order encoding section old own whole.count i gnu
-            whole.old_long in
-            let news = in_turn object.order encoding (data_of final) new written.0 whole.count i gnu
-            whole.new_long in
-            by-bool _ (nat_lt i whole.count)
-            (λ less. record {
-              readable = rw (olds, less) first.readable;
-              same = rw (olds, news, less) first.same;
-            })
-            (λ more. record {
-              readable = rw (olds, more) second.readable;
-              same = rw (olds, news, more) second.same;
-            });
-        whole = λ again. record {
-          count = whole.count + entry_count encoding (length bytes);
-          old_long = omega (arith, header, long, whole.old_long, length-append old own);
-          new_long = omega (arith, many, whole.new_long, length-append new written.0);
-        };
-        fresh = λ standard has. absurd (true≢false has);
-      }
-
+  -- one more range: in DWARF 5 it is the only one, before it is joined to those before
   reads-rewritten : (before : Parts) (bytes : List ℕ) (next : Parts) (old : List ℕ)
       → ReadsBy before old → (leb 5 encoding.version ≡ true → has_part StrOffsets before.0 ≡ false)
       → Rewritten source before bytes next → ReadsBy next (old ++ whole_entries encoding bytes)
   reads-rewritten before bytes next old so_far once w =
       let rewrites : remapped object.order encoding section bytes (length bytes) before.1 ≡ Ok
       w.written = sym (rewritten-plain source bytes before.1 plain) ∙ w.rewrites in
+      let law = names object.order encoding section bytes (length bytes) before.1 w.written.0
+      w.written.1 so_far.table rewrites in
       let new = joined_parts StrOffsets before.0 in
+      let own = whole_entries encoding bytes in
       rw (
         w.is,
         joined_parts-more StrOffsets before.0 StrOffsets w.written.0,
         has-more before.0 w.written.0,
-      ) (by-bool _ (leb 5 encoding.version)
-      (λ standard. let empty = so_far.fresh standard (once standard) in
-      reads-only new old bytes before.1 w.written standard so_far.table rewrites empty.0 empty.1)
-      (λ gnu. reads-joined new old bytes before.1 (has_part StrOffsets before.0) w.written
-      (leb-false 5 encoding.version gnu) so_far rewrites))
-
-  step-reads : (before : Parts) (s : Used) (next : Parts) (old : List ℕ) → ReadsBy before old
-      → (stands_once source s.kind && has_part s.kind before.0) ≡ false → Adds source before s next
-      → ReadsBy next (old ++ cond (same_kind s.kind StrOffsets) (whole_entries encoding s.bytes) [])
-  step-reads before s next old so_far once (inl (o, w)) =
-      let here : (stands_once source StrOffsets && has_part StrOffsets before.0) ≡ false =
-      subst (λ (k : SectionKind). (stands_once source k && has_part k before.0) ≡ false)
-      (is-same s.kind StrOffsets o) once in
-      rw o (reads-rewritten before s.bytes next old so_far (λ standard.
-      not-there (is_package source.indexes) (leb 5 encoding.version)
-      (has_part StrOffsets before.0) standard here) w)
-  step-reads before s next old so_far once (inr (inl (o, c, is))) =
-      let same = joined_parts-other StrOffsets before.0 s.kind s.bytes o in
-      let has = has-other before.0 s.kind s.bytes o in
-      let ends = append-nil old in
-      rw (is, o) (rw (same, has, ends) so_far)
-  step-reads before s next old so_far once (inr (inr (o, c, is))) =
-      let ends = append-nil old in
-      rw (is, o) (rw ends so_far)
-
-  each-reads : (sections : List Used) (before after : Parts)
-      → with_each_part source before sections ≡ Ok after → (old : List ℕ) → ReadsBy before old
-      → ReadsBy after (old ++ joined_offsets encoding sections)
-  each-reads = each-part source (λ before ss after. (old : List ℕ) → ReadsBy before old
-      → ReadsBy after (old ++ joined_offsets encoding ss))
-      (λ parts old so_far. rw (append-nil old) so_far)
-      (λ before s next ss after made rest later old so_far.
-      let own = whole_entries encoding s.bytes in
-      let others = joined_offsets encoding ss in
-      subst (ReadsBy after)
-      (append_assoc old (cond (same_kind s.kind StrOffsets) own []) others
-      ∙ ap (λ v. old ++ v) (joined-front (same_kind s.kind StrOffsets) own others))
-      (later _ (step-reads before s next old so_far made.once made.adds)))
+      ) (record {
+        table = law.table;
+        read = λ final table begins.
+            let last : (i : ℕ) → ReadsAlike object.order encoding section own (data_of final)
+            w.written.0 i = λ i. alike-by (whole-read object.order encoding section bytes i) refl
+            (alike object.order encoding section bytes before.1 w.written.0 w.written.1 final
+            so_far.table rewrites table begins i) in
+            by-bool _ (leb 5 encoding.version)
+            (λ standard. let none = so_far.fresh standard (once standard) in
+            rw (none.0, none.1) last)
+            (λ gnu i. let old_version = leb-false 5 encoding.version gnu in
+            let whole = so_far.whole old_version in
+            let one = so_far.read final table
+            (front-front before.1 w.written.1 final law.kept begins) i in
+            let two = last (i - whole.0) in
+            let olds = in_turn object.order encoding section old own whole.0 i old_version
+            whole.1 in
+            let news = in_turn object.order encoding (data_of final) new w.written.0 whole.0 i
+            old_version whole.2 in
+            by-bool _ (nat_lt i whole.0)
+            (λ less. alike-by (rw less at olds) (rw less at news) one)
+            (λ more. alike-by (rw more at olds) (rw more at news) two));
+        whole = λ gnu.
+            let whole = so_far.whole gnu in
+            let header = no_header encoding gnu in
+            let long = whole-long encoding bytes (omega (arith, header)) in
+            let many = rewritten-long names object.order encoding section bytes before.1 w.written
+            gnu so_far.table rewrites in
+            (
+              whole.0 + entry_count encoding (length bytes),
+              omega (arith, header, long, whole.1, length-append old own),
+              omega (arith, many, whole.2, length-append new w.written.0),
+            );
+        fresh = λ standard has. absurd (true≢false has);
+      })
 
   -- the strings that the part of string offsets names are those that the object's name
   pub parts-read : (strings : List (List ℕ)) (parts : Contents) (after : List (List ℕ))
@@ -206,5 +128,26 @@ module _ (names : NamesTheSameLaw) (alike : ReadsAlikeLaw) (in_turn : ReadInTurn
       → ReadsAlike object.order encoding section (joined_offsets encoding object.sections)
       (data_of final) (joined_parts StrOffsets parts) i
   parts-read strings parts after table h =
-      (each-reads object.sections ([], strings) (parts, after) h
-      [] (reads-none strings table)).read
+      (each-part source (λ before ss after. (old : List ℕ) → ReadsBy before old
+      → ReadsBy after (old ++ joined_offsets encoding ss))
+      (λ parts old so_far. rw (append-nil old) so_far)
+      (λ before s next ss after made rest later old so_far.
+      by-bool _ (same_kind s.kind StrOffsets)
+      (λ same. let here : (stands_once source StrOffsets && has_part StrOffsets before.0) ≡ false =
+      rw (is-same s.kind StrOffsets same) at made.once in
+      rw (same, ← append_assoc old (whole_entries encoding s.bytes) (joined_offsets encoding ss))
+      (later _ (reads-rewritten before s.bytes next old so_far (λ standard.
+      not-there (is_package source.indexes) (leb 5 encoding.version)
+      (has_part StrOffsets before.0) standard here)
+      (adds-offsets source before s next same made.adds))))
+      (λ other. let adds = adds-other source StrOffsets before s next other made.adds in
+      let strings : next.1 ≡ before.1 = rw (adds-plain source before s next other made.adds)
+      (by-bool _ (is_copied s.kind) (λ c. rw c) (λ c. rw c)) in
+      rw other (later old (rw (adds.0, adds.1, strings) so_far))))
+      object.sections ([], strings) (parts, after) h [] (record {
+        table = table;
+        read = λ final final_table kept i. empty-alike object.order encoding section
+            (data_of final) i;
+        whole = λ old. (0, omega arith, omega arith);
+        fresh = λ standard has. (refl, refl);
+      })).read

@@ -1,32 +1,30 @@
 -- The list of strings that a range names, and its strings one by one.
-use Rattle.std.proofs.Common.{◌≡◌, ◌∙◌, ℕ, zero, suc, ◌+◌, ◌<◌, ◌≤◌, List, [], ◌∷◌, length, ap, sym}
+use Rattle.std.proofs.Common.{◌≡◌, ◌∙◌, ℕ, zero, suc, ◌+◌, cond, List, [], ◌∷◌, ap, sym}
 use Rattle.std.proofs.Common.{refl, Result, Ok, Err, Some, None, arith}
+use Prim.Native.Nat.compare
 use Rattle.std.specs.Prelude.{slice_get, nat_lt, IsOk}
-use Rattle.std.proofs.lemmas.Bool.{ltb-true, ltb-false}
+use Rattle.std.proofs.lemmas.Bool.{lt-ltb, le-ltb}
 use Rattle.std.proofs.lemmas.Option.{none-some, same_Some}
 use Rattle.dwp_base.specs.declared.endian.Endianness.{Endianness}
 use Rattle.dwp_base.specs.Reading.{◌>>=◌}
-use Rattle.dwp_bytes.specs.StringOffsets.{entry_count, string_at}
+use Rattle.dwp_bytes.specs.StringOffsets.{string_at}
 use Rattle.dwp_bytes.specs.declared.encoding.Encoding.{Encoding}
 use Rattle.dwp_bytes.specs.declared.error.ReadError.{ReadError}
 use Rattle.dwp_index.specs.Strings.{entry_in, string_for, string_in}
 use Rattle.thorin_join.specs.Strings.{each_from, offset_of_entry, offsets_in, strings_at}
 use Rattle.thorin_join.specs.Strings.{strings_of}
 use Rattle.dwp_base.proofs.Steps.{bind-was, same-ok, bind-ok}
-use Rattle.dwp_base.proofs.Bools.{by-bool}
 
 -- ---- the offsets
 
-each-within : (f : ℕ → ℕ) (i n k j : ℕ) → j ≡ i + k → k < n
-    → slice_get (each_from f i n) k ≡ Some (f j)
-each-within f i zero k j at h = absurd (omega arith)
-each-within f i (suc n) zero j at h = let e : i ≡ j = omega arith in ap (λ m. Some (f m)) e
-each-within f i (suc n) (suc k) j at h = each-within f (i + 1) n k j (omega arith) (omega arith)
-
-each-past : (f : ℕ → ℕ) (i n k : ℕ) → n ≤ k → slice_get (each_from f i n) k ≡ None
-each-past f i zero k h = refl
-each-past f i (suc n) zero h = absurd (omega arith)
-each-past f i (suc n) (suc k) h = each-past f (i + 1) n k (omega arith)
+each-at : (f : ℕ → ℕ) (i n k j : ℕ) → j ≡ i + k
+    → cond (nat_lt k n) (Some (f j)) None ≡ slice_get (each_from f i n) k
+each-at f i zero k j at = rw (le-ltb k 0 (omega arith)) refl
+each-at f i (suc n) zero j at =
+    let here : i ≡ j = omega arith in
+    rw (lt-ltb 0 (suc n) (omega arith), here) refl
+each-at f i (suc n) (suc k) j at =
+    rw (compare.suc-suc (suc k) n) (each-at f (i + 1) n k j (omega arith))
 
 -- ---- the strings at offsets
 
@@ -72,12 +70,7 @@ module _ (order : Endianness) (encoding : Encoding) (section range : List ℕ) w
   offsets-entry : (i : ℕ)
       → entry_in order encoding range i ≡ slice_get (offsets_in order encoding range) i
   unfolding entry_in
-  offsets-entry i =
-      let f = offset_of_entry order encoding range in
-      let n = entry_count encoding (length range) in
-      by-bool _ (nat_lt i n)
-      (λ less. rw less (sym (each-within f 0 n i i (omega arith) (ltb-true i n less))))
-      (λ past. rw past (sym (each-past f 0 n i (ltb-false i n past))))
+  offsets-entry i = each-at (offset_of_entry order encoding range) 0 _ i i (omega arith)
 
   pub strings-read : (l : List (List ℕ)) → strings_of order encoding section range ≡ Ok l
       → (i : ℕ) → string_in order encoding section range i ≡ Ok (slice_get l i)

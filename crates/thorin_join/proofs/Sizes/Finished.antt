@@ -1,105 +1,78 @@
 -- How many bytes the contents of a finished file have, and the ELF file beside them.
-use Rattle.std.proofs.Common.{◌≡◌, ◌∙◌, ℕ, ◌+◌, ◌*◌, Bool, true, false, cond, eqb, List, [], ◌∷◌}
-use Rattle.std.proofs.Common.{◌++◌, length, refl, ap, Option, arith, ◌≤◌, nat_le}
+use Rattle.std.proofs.Common.{◌≡◌, ◌∙◌, ℕ, ◌+◌, ◌*◌, ◌≤◌, eqb, nat_le, List, [], ◌∷◌, length}
+use Rattle.std.proofs.Common.{refl, ap, Option, arith}
+use Rattle.std.specs.List.{flat_map}
+use Rattle.std.proofs.lemmas.Bool.{leb-true}
 use Rattle.std.proofs.lemmas.List.{length-append, length-map}
+use Rattle.std.proofs.lemmas.List.Concat.{length-flat_map}
 use Rattle.std.proofs.lemmas.List.Sums.{sum_by-cons}
+use Rattle.dwp_base.specs.declared.class.Class.{Class}
+use Rattle.dwp_base.specs.declared.class.Class.TheVariants.{Elf32, Elf64}
 use Rattle.dwp_base.specs.declared.endian.Endianness.{Endianness}
-use Rattle.dwp_base.specs.declared.endian.Endianness.TheVariants.{Little, Big}
 use Rattle.dwp_base.specs.declared.section.Contribution.{Contribution}
 use Rattle.dwp_base.specs.declared.section.SectionKind.{SectionKind}
 use Rattle.dwp_base.specs.declared.section.SectionKind.TheVariants as kinds
 use Rattle.dwp_base.specs.Numbers.{number_bytes}
+use Rattle.dwp_base.specs.Sections.{name_of}
+use Rattle.dwp_base.proofs.Bools.{by-bool}
+use Rattle.dwp_base.proofs.EveryKind.{every}
 use Rattle.dwp_bytes.specs.Encoding.{index_version_of}
-use Rattle.dwp_elf.specs.FileText.{Object as File, Object, content_bytes, names_of, name_table}
-use Rattle.dwp_elf.specs.FileText.{file_text}
+use Rattle.dwp_elf.specs.Contents.{KindsDiffer}
+use Rattle.dwp_elf.specs.FileText.{Object as File, content_bytes, names_of, file_text}
+use Rattle.dwp_elf.specs.Places.{file_length}
+use Rattle.dwp_elf.proofs.KindCounts.{length-KindsDiffer}
+use Rattle.dwp_elf.proofs.Limits.{length-number_bytes, length-file_text}
 use Rattle.dwp_table.specs.Table.{signature_of}
 use Rattle.thorin_strings.specs.Strings.{data_of}
 use Rattle.thorin_index.specs.declared.entry.IndexEntry.{IndexEntry}
 use Rattle.thorin_index.specs.Entries.{offset_or_0, size_or_0}
-use Rattle.thorin_index.specs.IndexText.{numbers_bytes, used_sections, column_numbers, row_numbers}
-use Rattle.thorin_index.specs.IndexText.{rows_bytes, signatures_bytes, entry_ids, index_bytes}
-use Rattle.thorin_index.specs.IndexText.{IsIndexOf}
-use Rattle.thorin_input.specs.Growing.{with_bytes, Contents}
+use Rattle.thorin_index.specs.IndexText.{numbers_bytes, version_bytes, used_sections, entry_ids}
+use Rattle.thorin_index.specs.IndexText.{column_numbers, row_numbers, index_bytes, IsIndexOf}
+use Rattle.thorin_input.specs.Growing.{Contents, with_bytes}
 use Rattle.thorin_join.specs.Builder.{IsFinished}
 use Rattle.thorin_join.specs.Sizes.{bytes_of_contents, bytes_of_strings, bytes_of_index}
 use Rattle.thorin_join.specs.Sizes.{IsSizeOfIndex, IsSizeFinished, container_most}
 use Rattle.thorin_join.specs.State.{InProgress}
-use Rattle.thorin_join.proofs.Sizes.Contents.{with_bytes-long, cons-long}
-use Rattle.std.proofs.lemmas.Bool.{leb-true}
-use Rattle.dwp_base.specs.declared.class.Class.{Class}
-use Rattle.dwp_base.specs.declared.class.Class.TheVariants.{Elf32, Elf64}
-use Rattle.dwp_base.specs.Sections.{name_of}
-use Rattle.dwp_base.proofs.EveryKind.{every}
-use Rattle.dwp_elf.specs.Contents.{KindsDiffer}
-use Rattle.dwp_elf.specs.Places.{file_length}
+use Rattle.thorin_join.proofs.Sizes.Input.{long, with_bytes-long}
 
 -- ---- strings
 strings-long : (strings : List (List ℕ)) → length (data_of strings) ≡ bytes_of_strings strings
-strings-long [] = refl
-strings-long (s ∷ ss) =
-    let most = sum_by-cons (λ (string : List ℕ). length string + 1) s ss in
-    omega (arith, most, length-append {A = ℕ}, strings-long ss)
-
--- ---- numbers
-four-long : (order : Endianness) (n : ℕ) → length (number_bytes order 4 n) ≡ 4
-four-long Little n = refl
-four-long Big n = refl
-
-eight-long : (order : Endianness) (n : ℕ) → length (number_bytes order 8 n) ≡ 8
-eight-long Little n = refl
-eight-long Big n = refl
-
-version-by : (order : Endianness) (standard : Bool) → length (cond standard
-    (number_bytes order 2 5 ++ (0 ∷ 0 ∷ [])) (number_bytes order 4 2)) ≡ 4
-version-by Little true = refl
-version-by Little false = refl
-version-by Big true = refl
-version-by Big false = refl
-
-numbers-long : (order : Endianness) (numbers : List ℕ) → length (numbers_bytes order numbers) ≡ 4
-    * length numbers
-numbers-long order [] = refl
-numbers-long order (n ∷ ns) =
-    omega (arith, length-append {A = ℕ}, four-long order n, numbers-long order ns)
-
-signatures-long : (order : Endianness) (ids rows : List ℕ)
-    → length (signatures_bytes order ids rows) ≡ 8 * length rows
-signatures-long order ids [] = refl
-signatures-long order ids (row ∷ rows) =
-    let one = eight-long order (signature_of ids row) in
-    omega (arith, one, length-append {A = ℕ}, signatures-long order ids rows)
-
-rows-long : (order : Endianness) (measure : Option Contribution → ℕ) (columns : List SectionKind)
-    (entries : List IndexEntry) → length (rows_bytes order measure columns entries) ≡ 4
-    * (length entries * length columns)
-rows-long order measure columns [] = omega arith
-rows-long order measure columns (e ∷ es) =
-    let row = row_numbers measure columns e in
-    let many : length row ≡ length columns = length-map columns _ in
-    let rest = rows-long order measure columns es in
-    omega (arith, length-append {A = ℕ}, numbers-long order row, many, rest)
+strings-long strings = simp (length-flat_map, length-append)
 
 -- ---- an index
+-- pieces of so many bytes each
+each-long : {X : Type 0} (f : X → List ℕ) (n : ℕ) → ((x : X) → length (f x) ≡ n) → (xs : List X)
+    → length (flat_map f xs) ≡ n * length xs
+each-long f n h [] = omega arith
+each-long f n h (x ∷ xs) = omega (arith, h x, length-append {A = ℕ}, each-long f n h xs)
+
 index-long : (order : Endianness) (version : ℕ) (columns : List SectionKind)
     (entries : List IndexEntry) (rows : List ℕ)
     → length (index_bytes order version columns entries rows) ≡ bytes_of_index (length rows)
     (length columns) (length entries)
 unfolding index_bytes
 index-long order version columns entries rows =
-    let numbers = column_numbers version columns in
-    let counts = length columns ∷ length entries ∷ length rows ∷ [] in
-    let many : length numbers ≡ length columns = length-map columns _ in
+    let front : length (version_bytes order version) ≡ 4 =
+    by-bool _ (eqb version 5) (λ new. rw new (simp (length-append, length-number_bytes)))
+    (λ old. rw old (length-number_bytes order 4 2)) in
+    let numbers = each-long (number_bytes order 4) 4 (length-number_bytes order 4) in
+    let signature = λ (row : ℕ). number_bytes order 8 (signature_of (entry_ids entries) row) in
+    let table = λ (measure : Option Contribution → ℕ).
+    each-long (λ entry. numbers_bytes order (row_numbers measure columns entry))
+    (4 * length columns) (λ entry. numbers (row_numbers measure columns entry)
+    ∙ ap (λ n. 4 * n) (length-map columns _)) entries in
+    let many : length (column_numbers version columns) ≡ length columns = length-map columns _ in
     omega (
       arith,
+      front,
       many,
       length-append {A = ℕ},
-      version-by order (eqb version 5),
-      numbers-long order counts,
-      signatures-long order (entry_ids entries) rows,
-      numbers-long order rows,
-      numbers-long order numbers,
-      rows-long order offset_or_0 columns entries,
-      rows-long order size_or_0 columns entries,
+      numbers (length columns ∷ length entries ∷ length rows ∷ []),
+      each-long signature 8 (λ row. length-number_bytes order 8 _) rows,
+      numbers rows,
+      numbers (column_numbers version columns),
+      table offset_or_0,
+      table size_or_0,
     )
 
 index-size : (order : Endianness) (entries : List IndexEntry) (bytes : List ℕ)
@@ -139,29 +112,24 @@ contents-long : (cs : Contents) → length (content_bytes cs) ≡ bytes_of_conte
 unfolding content_bytes
 contents-long [] = refl
 contents-long (c ∷ cs) =
-    omega (arith, length-append {A = ℕ}, contents-long cs, cons-long c cs)
-
-name-within : (kind : SectionKind) → length (name_of kind) ≤ 22
-name-within kind = leb-true _ 22 (every (λ k. nat_le (length (name_of k)) 22) refl kind)
+    omega (arith, length-append {A = ℕ}, contents-long cs, sum_by-cons long c cs)
 
 names-within : (cs : Contents) → length (names_of cs) ≤ 23 * length cs
 unfolding names_of
 names-within [] = omega arith
 names-within (c ∷ cs) =
-    omega (arith, length-append {A = ℕ}, name-within c.0, names-within cs)
-
-table-within : (cs : Contents) → length (name_table cs) ≤ 11 + 23 * length cs
-table-within cs = omega (arith, length-append {A = ℕ}, names-within cs)
+    let name = leb-true _ 22 (every (λ k. nat_le (length (name_of k)) 22) refl c.0) in
+    omega (arith, length-append {A = ℕ}, name, names-within cs)
 
 length-within : (class : Class) (cs : Contents) → length cs ≤ 13 → file_length class cs ≤
     bytes_of_contents cs + container_most
-length-within Elf32 cs few = omega (arith, contents-long cs, table-within cs)
-length-within Elf64 cs few = omega (arith, contents-long cs, table-within cs)
+length-within Elf32 cs few =
+    omega (arith, contents-long cs, length-append {A = ℕ}, names-within cs)
+length-within Elf64 cs few =
+    omega (arith, contents-long cs, length-append {A = ℕ}, names-within cs)
 
-pub file-within : ((o : Object) → length (file_text o) ≡ file_length o.class o.contents)
-    → ((contents : Contents) → KindsDiffer contents → length contents ≤ 13)
-    → (file : Object) → KindsDiffer file.contents
+pub file-within : (file : File) → KindsDiffer file.contents
     → length (file_text file) ≤ bytes_of_contents file.contents + container_most
-file-within size sections file differ =
-    let few = length-within file.class file.contents (sections file.contents differ) in
-    omega (arith, size file, few)
+file-within file differ =
+    let few = length-KindsDiffer file.contents differ in
+    omega (arith, length-file_text file, length-within file.class file.contents few)
