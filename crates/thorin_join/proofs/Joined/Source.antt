@@ -84,17 +84,9 @@ module _ (rows_law : RowsLaw) (source : Source) (before : InProgress) (parts : C
       record {
         members = (r.0, s.unit) ∷ rest.members;
         are = λ i. (r.0, s.meaning_is i) ∷ rest.are i;
-        can = (
-          record {
-            name = are.0.name;
-            bytes = are.0.bytes ∙ sym s.bytes_are;
-            encoded = s.encoding;
-            lie = s.lie;
-            shares = s.shares;
-            can = can-lie source before parts n r are.0 go.0;
-          },
-          rest.can,
-        );
+        can = (assumption (are.0.bytes ∙ sym s.bytes_are, can-lie source before parts
+            n r are.0 go.0),
+            rest.can);
       }
   ready _ _ are go = absurd are
 

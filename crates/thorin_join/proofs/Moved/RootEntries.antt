@@ -16,14 +16,13 @@ use Rattle.dwp_dwarf.specs.Forms.{is_one_of, block_length_at, text_at, past_valu
 use Rattle.dwp_dwarf.specs.Forms.{named_within, named_form_at}
 use Rattle.dwp_dwarf.specs.Offsets.{from_at}
 use Rattle.dwp_dwarf.specs.Units.{Unit as Header, listed}
-use Rattle.dwp_dwarf.specs.declared.unit.UnitType.{UnitType}
 use Rattle.dwp_dwarf.specs.declared.unit.UnitType.TheVariants as unit_types
 use Rattle.dwp_dwarf.proofs.Readings.{Answer, bind_alike}
 use Rattle.dwp_table.specs.declared.object.DwarfObject.{DwarfObject}
 use Rattle.thorin_errors.specs.Errors.{ErrorValue, NoDie, TopLevelDieNotUnit}
 use Rattle.thorin_errors.specs.Errors.{ParseUnitAbbreviations, GimliRead}
 use Rattle.thorin_errors.specs.Answers.{as_error}
-use Rattle.thorin_identity.specs.Identity.{DW_AT_GNU_dwo_id, is_unit_tag, identifier_in, found_or}
+use Rattle.thorin_identity.specs.Identity.{DW_AT_GNU_dwo_id, is_unit_tag, found_or}
 use Rattle.thorin_identity.specs.Identity.{first_identifier, entry_identity, root_identity}
 use Rattle.thorin_identity.specs.Identity.{identity_by, identity}
 use Rattle.thorin_join.proofs.Moved.Readings.{shifted, Moves, answered, refused, unmoved, then}
@@ -141,9 +140,6 @@ module _ (d : ℕ) where
     number-by uleb_at (shifts-uleb d same) a.value,
   ) refl
 
-  identifier-same : (a : DebugAttribute) → identifier_in (shifted_attribute a) ≡ identifier_in a
-  identifier-same a = ap (λ n. cond (eqb a.name DW_AT_GNU_dwo_id) n None) (number-same a)
-
   first-same : (encoding : Encoding) (specs : List Specification) (i : Input)
       → first_identifier (attributes encoding specs (shifted d i)) ≡ first_identifier
       (attributes encoding specs i)
@@ -151,7 +147,8 @@ module _ (d : ℕ) where
   first-same encoding (s ∷ ss) i =
       told (λ r. first_identifier (listed r (attributes encoding ss)))
       (attribute-shifts encoding s i)
-      (λ x. ap₂ found_or (identifier-same x.0) (first-same encoding ss x.1))
+      (λ x. ap₂ found_or (ap (λ n. cond (eqb x.0.name DW_AT_GNU_dwo_id) n None) (number-same x.0))
+      (first-same encoding ss x.1))
 
   -- ---- the identity in a root entry
   abbrev code_moved : Code → Code
@@ -189,14 +186,12 @@ root-same section d unit other h = rw (h.offset, h.encoding, h.entries)
     (λ table _. told (λ r. as_error GimliRead r >>= from_code unit.encoding table)
     (code-shifts d unit.entries) (code-same d unit.encoding table)))
 
-type-same : (section : Input) (d : ℕ) (unit other : Header) (type : UnitType)
-    → IsShifted d unit other → identity_by section other type ≡ identity_by section unit type
-type-same section d unit other unit_types.Compilation h = root-same section d unit other h
-type-same section d unit other type h = refl
-
 -- both have one identity
 pub identity-shifted : (section : Input) (d : ℕ) (unit other : Header) → IsShifted d unit other
     → identity section other ≡ identity section unit
 unfolding identity
 identity-shifted section d unit other h = ap (identity_by section other) h.type
-    ∙ type-same section d unit other unit.unit_type h
+    ∙ elim unit.unit_type as (λ t. identity_by section other t ≡ identity_by section unit t) [
+      | unit_types.Compilation ↦ root-same section d unit other h
+      | _ ↦ refl
+    ]

@@ -40,10 +40,9 @@ module _ (d : ℕ) where
   abbrev unit_there : Header → Header
   unit_there u = record u { whole = there d by u.whole; entries = there d by u.entries }
 
-  abbrev ShiftsHeader : (Input → Result Header ReadError) → (Input → Result Header ReadError)
-      → Type 0
-  ShiftsHeader read later = (i : Input) → Moves (Unit {0}) Header unit_there (read i)
-      (later (there d by i))
+  abbrev ShiftsHeader : (Input → Input → Result Header ReadError) → Type 0
+  ShiftsHeader read = (whole i : Input) → Moves (Unit {0}) Header unit_there (read whole i)
+      (read (there d by whole) (there d by i))
 
   length-shifts : Shifts d by (Format × ℕ) initial_length_at
   unfolding initial_length_at
@@ -86,23 +85,20 @@ module _ (d : ℕ) where
       (either (eqb code 5) (then _ (shifts-number d by 8 i) (λ n. answered))
       (then _ (type-shifts format i) (λ t. answered))))))
 
-  older-shifts : (place : UnitSection) (format : Format) (version : ℕ) (whole : Input)
-      → ShiftsHeader (older_at place format version whole)
-      (older_at place format version (there d by whole))
+  older-shifts : (place : UnitSection) (format : Format) (version : ℕ)
+      → ShiftsHeader (older_at place format version)
   unfolding older_at
   older-shifts place format version whole i = then _ (offset-shifts format i) (λ offset. then _
       (address_size-shifts offset.1) (λ size. then _ (older_type-shifts place format size.1)
       (λ t. answered)))
 
-  newer-shifts : (format : Format) (whole : Input)
-      → ShiftsHeader (newer_at format whole) (newer_at format (there d by whole))
+  newer-shifts : (format : Format) → ShiftsHeader (newer_at format)
   unfolding newer_at
   newer-shifts format whole i = then _ (unit_code-shifts i) (λ code. then _
       (address_size-shifts code.1) (λ size. then _ (offset-shifts format size.1) (λ offset. then _
       (unit_type-shifts code.0 format offset.1) (λ t. answered))))
 
-  header-shifts : (place : UnitSection) (format : Format) (whole : Input)
-      → ShiftsHeader (header_at place format whole) (header_at place format (there d by whole))
+  header-shifts : (place : UnitSection) (format : Format) → ShiftsHeader (header_at place format)
   unfolding header_at
   header-shifts place format whole i = then _ (shifts-number d by 2 i) (λ version.
       either (eqb version.0 5) (newer-shifts format whole version.1)

@@ -175,15 +175,6 @@ module _ (source : Source) (before parts : Contents) (read : DwarfObject × Unit
         (content_of kind before) (joined_parts kind parts) (contribution_to kind row) own
         (rw (← whole-part source.encoding before parts kind shared) (made.parts kind shared))
 
-    -- its ranges lie inside the sections of the input
-    packed-inside : ((kind : SectionKind) → is_shared kind ≡ true
-        → length (first kind source.object.sections) ≡ length (joined_parts kind parts))
-        → lie_inside source (Some own.row) ≡ true
-    packed-inside long =
-        none-found _ (λ kind shared. not-outside (first kind source.object.sections)
-        (joined_parts kind parts) (range_in own.row kind) (long kind shared)
-        (each-placed kind shared).within) shared_kinds refl
-
     -- its string offsets read alike
     packed-reads : (after : List (List ℕ))
         → RowsRead source (first StrOffsets source.object.sections)
@@ -235,7 +226,9 @@ row-shares names alike in_turn law source before strings parts after read row ta
     by (Some has.row) (λ kind. part_of (joined_parts kind parts) (range_in has.row kind))
     (rw (packed, has.placed) refl) (λ kind shared. (placed kind shared).lies)
     (λ kind copied. ap (λ v. part_of v (range_in has.row kind)) (firsts kind copied))
-    (packed-inside source before parts read row made test packed longs)
+    (none-found _ (λ kind shared. not-outside (first kind source.object.sections)
+    (joined_parts kind parts) (range_in has.row kind) (longs kind shared)
+    (placed kind shared).within) shared_kinds refl)
     (packed-reads source before parts read row made test packed after reads))
     (λ plain. by None (λ kind. joined_parts kind parts) (rw plain refl)
     (plain-lies source before parts read row made plain)

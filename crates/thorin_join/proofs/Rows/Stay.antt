@@ -20,7 +20,7 @@ use Rattle.thorin_index.specs.Entries.{contribution_to}
 use Rattle.thorin_index.specs.declared.entry.IndexEntry.{IndexEntry}
 use Rattle.thorin_input.specs.Growing.{Contents, HasFront, with_bytes}
 use Rattle.thorin_join.specs.Meaning.{Meaning}
-use Rattle.thorin_join.specs.Represents.{LieInside, Shares, IsRowOf, AreRowsOf}
+use Rattle.thorin_join.specs.Represents.{LieInside, Shares, Owns, IsRowOf, AreRowsOf}
 use Rattle.thorin_join.proofs.Parts.Appended.{content-with_bytes}
 use Rattle.thorin_join.proofs.Parts.Strings.{front-front}
 use Rattle.dwp_base.proofs.Bools.{by-bool}
@@ -93,22 +93,17 @@ pub keep-rows : (order : Endianness) (c d : Contents) (s t : List (List ℕ)) (r
     → AreRowsOf order c s rows members → AreRowsOf order d t rows members
 keep-rows order c d s t [] [] grows longer are = tt
 keep-rows order c d s t (r ∷ rs) (m ∷ ms) grows longer are =
-    let is = are.0 in (
-      record {
-        name = is.name;
-        encoding = is.encoding;
-        lie = keep-lie c d r grows is.lie;
-        shares = keep-shares order c d s t r m.1 grows longer is.lie is.shares;
-        owns = record {
-          place = is.owns.place;
-          place_is = is.owns.place_is;
-          bytes = keep-part c d r grows is.lie (kind_at is.owns.place) ∙ is.owns.bytes;
-          encoding = is.owns.encoding;
-          header = is.owns.header;
-        };
-      },
-      keep-rows order c d s t rs ms grows longer are.1,
-    )
+    let is = are.0 in
+    let owns : Owns order d m.0 r m.1 = record {
+      place = is.owns.place;
+      place_is = is.owns.place_is;
+      bytes = keep-part c d r grows is.lie (kind_at is.owns.place) ∙ is.owns.bytes;
+      encoding = is.owns.encoding;
+      header = is.owns.header;
+    } in
+    let shares = keep-shares order c d s t r m.1 grows longer is.lie is.shares in
+    let lie = keep-lie c d r grows is.lie in
+    (assumption (owns, shares, lie), keep-rows order c d s t rs ms grows longer are.1)
 keep-rows order c d s t _ _ grows longer are = absurd are
 
 -- one more row

@@ -17,7 +17,7 @@ use Rattle.dwp_dwarf.specs.declared.unit.UnitSection.{UnitSection}
 use Rattle.dwp_dwarf.specs.declared.unit.UnitSection.TheVariants as places
 use Rattle.dwp_index.specs.Package.{encoding_in}
 use Rattle.dwp_table.specs.declared.object.DwarfObject.{DwarfObject}
-use Rattle.dwp_table.specs.declared.object.DwarfObject.TheVariants.{Compilation, TypeUnit}
+use Rattle.dwp_table.specs.declared.object.DwarfObject.TheVariants.{Compilation}
 use Rattle.thorin_errors.specs.Errors.{ErrorValue, ParseUnitHeader}
 use Rattle.thorin_errors.specs.Answers.{as_error}
 use Rattle.thorin_input.specs.Indexes.{Source}
@@ -179,9 +179,8 @@ module _ (taken : UnitsAreTaken) (alone : ReadAlone) where
       → ReadsAlone order (place_for name (kind_at place)) unit
   goes-alone order places.Types (Compilation id) unit known sort = other-alone order places.Types
       places.Info unit (five-named unit sort (known.1 refl)) known.0
-  goes-alone order places.Types (TypeUnit signature) unit known sort = known.0
   goes-alone order places.Info (Compilation id) unit known sort = known.0
-  goes-alone order places.Info (TypeUnit signature) unit known sort = known.0
+  goes-alone order _ _ unit known sort = known.0
 
   unit-goes : (order : Endianness) (place : UnitSection) (kind : SectionKind) (name : DwarfObject)
       (unit : Header) → kind ≡ kind_at place → IsKnown order place unit
