@@ -25,7 +25,7 @@ use Rattle.thorin_join.specs.State.{kind_at}
 use Rattle.thorin_join.proofs.Units.NamesApart.{joined_distinct}
 use Rattle.thorin_join.proofs.Units.JoinedByName.{AreAdded, units-joined, added-keys}
 use Rattle.thorin_join.proofs.Rows.Stay.{Grows, keep-rows}
-use Rattle.thorin_join.proofs.Rows.LieInTurn.{can-lie, parts-lie, laid-lies}
+use Rattle.thorin_join.proofs.Rows.LieInTurn.{can-lie, laid-lies}
 use Rattle.thorin_join.proofs.Parts.Appended.{content-with_parts, parts-none}
 use Rattle.thorin_join.proofs.Parts.Strings.{PartsLaw}
 use Rattle.thorin_join.proofs.Rows.Meaning.{RowsLaw}
@@ -183,7 +183,7 @@ source-joins parts_law rows_law alone taken source before now ms rep named apart
     let a = units-added q.file.contents q us ms r.members
     (λ kind. record { rest = []; is = sym (append-nil (content_of kind q.file.contents)) }) fresh
     (subst (λ o. AllCanBeAdded o q.file.contents m.after us r.members) same r.can) rows
-        (parts-lie order before.rows parts old empty (laid-lies before laid)) in
+        (laid-lies before parts empty laid) in
     let none : (kind : SectionKind) → same_kind kinds.Info kind ≡ false
     → same_kind kinds.Types kind ≡ false → joined_parts kind parts ≡ [] → content_of kind old ≡ []
     → content_of kind (with_new_units q us).file.contents ≡ [] = λ kind info types new none.

@@ -13,7 +13,7 @@ use Rattle.dwp_table.specs.declared.object.DwarfObject.{DwarfObject}
 use Rattle.thorin_input.specs.Growing.{Contents}
 use Rattle.thorin_input.specs.Names.{same_name}
 use Rattle.thorin_input.specs.NewUnits.{NewUnit}
-use Rattle.thorin_join.specs.Meaning.{Meaning, Members, keys, joining}
+use Rattle.thorin_join.specs.Meaning.{Members, keys, joining}
 use Rattle.thorin_join.specs.Represents.{AreRowsOf}
 use Rattle.thorin_join.specs.State.{InProgress, kind_at, names_of, row_at, with_unit_added}
 use Rattle.thorin_join.specs.State.{with_new_unit, with_new_units}
@@ -53,15 +53,6 @@ AllCanBeAdded order c strings (u ∷ us) (m ∷ ms) = CanBeAdded order c strings
     × AllCanBeAdded order c strings us ms
 AllCanBeAdded order c strings _ _ = ⊥
 
--- it still can when contents grew
-keep-can : (order : Endianness) (c d : Contents) (strings : List (List ℕ))
-    (u : DwarfObject × NewUnit) (m : DwarfObject × Meaning) → Grows c d
-    → CanBeAdded order c strings u m → CanBeAdded order d strings u m
-keep-can order c d strings u m grows can = assumption (
-  keep-lie c d u.1.row grows can.lie,
-  keep-shares order c d strings strings u.1.row m.1 grows (take-length strings) can.lie can.shares,
-)
-
 -- what is known of a package once these units are added
 pub record Added (p now : InProgress) (us : List (DwarfObject × NewUnit))
     (ms : Members) : Type 0 where
@@ -92,10 +83,13 @@ units-added base p (u ∷ us) ms (m ∷ added) grows new can rows lie =
     let c = p.file.contents in
     let q = with_unit_added p u in
     let more = grows-with_bytes (kind_at u.1.place) u.1.bytes c in
-    let can_here = keep-can order base c p.strings u m grows can.0 in
-    let row = unit-added u.1.row c u.0 u.1.bytes u.1.place order p.strings m can_here in
-    let before = keep-rows order c q.file.contents p.strings p.strings p.rows ms more
-    (take-length p.strings) rows in
+    let same = take-length p.strings in
+    let here : CanBeAdded order c p.strings u m = assumption (
+      keep-lie base c u.1.row grows can.0.lie,
+      keep-shares order base c p.strings p.strings u.1.row m.1 grows same can.0.lie can.0.shares,
+    ) in
+    let row = unit-added u.1.row c u.0 u.1.bytes u.1.place order p.strings m here in
+    let before = keep-rows order c q.file.contents p.strings p.strings p.rows ms more same rows in
     let names = names-added p u in
     let a = units-added base q us (ms ++ m ∷ []) added (grows-trans base c q.file.contents grows
     more) (rw names new.1) can.1 (rows-next order q.file.contents p.strings p.rows ms _ m before

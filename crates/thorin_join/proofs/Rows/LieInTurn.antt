@@ -141,20 +141,16 @@ can-lie source made parts n r is goes =
       whole = whole;
     }
 
--- parts have no units
-pub parts-lie : (order : Endianness) (rows : List IndexEntry) (parts c : Contents)
-    → ((place : UnitSection) → joined_parts (kind_at place) parts ≡ []) → RowsLie order rows c
-    → RowsLie order rows (with_parts parts c)
-parts-lie order rows parts c none lie = record {
-  lies = λ place. rw (content-with_parts (kind_at place) parts c, none place)
-      (rw (append-nil (content_of (kind_at place) c)) (lie.lies place));
-  once = lie.once;
-}
-
--- those of a package that is laid so
-pub laid-lies : (made : InProgress) → IsLaid made
-    → RowsLie made.file.order made.rows made.file.contents
-laid-lies made laid = record {
-  lies = elim [ places.Info ↦ laid.info | places.Types ↦ laid.types ];
+-- those of a package that is laid so, with parts, which have no units
+pub laid-lies : (made : InProgress) (parts : Contents)
+    → ((place : UnitSection) → joined_parts (kind_at place) parts ≡ []) → IsLaid made
+    → RowsLie made.file.order made.rows (with_parts parts made.file.contents)
+laid-lies made parts none laid = record {
+  lies = λ place. rw (content-with_parts (kind_at place) parts made.file.contents, none place)
+      (rw append-nil (by place));
   once = laid.once;
 }
+  where
+    by : (place : UnitSection) → Lie made.file.order place 0 (rows_at place made.rows)
+        (content_of (kind_at place) made.file.contents)
+    by = elim [ places.Info ↦ laid.info | places.Types ↦ laid.types ]
