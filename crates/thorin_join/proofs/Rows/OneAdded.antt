@@ -123,10 +123,6 @@ module _ (shared : IndexEntry) (c : Contents) (name : DwarfObject) (x : List ℕ
   row-name places.Info = refl
   row-name places.Types = refl
 
-  row-encoding : (place : UnitSection) → (row_at shared c name x place).encoding ≡ shared.encoding
-  row-encoding places.Info = refl
-  row-encoding places.Types = refl
-
   module _ (place : UnitSection) where
     abbrev row : IndexEntry
     row = row_at shared c name x place
@@ -159,7 +155,8 @@ module _ (shared : IndexEntry) (c : Contents) (name : DwarfObject) (x : List ℕ
         (contribution_to kind row) range can.fits.some added.lie is (row-part kind) in
         record {
           name = row-name place ∙ added.name;
-          encoding = row-encoding place ∙ added.encoded;
+          encoding = elim place as (λ p. (row_at shared c name x p).encoding ≡ m.1.encoding)
+              [ places.Info ↦ added.encoded | places.Types ↦ added.encoded ];
           lie = record {
             inside = λ kind range is. (lies kind range is).0;
             some = λ kind range is. (lies kind range is).1;

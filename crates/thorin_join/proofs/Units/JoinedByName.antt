@@ -29,16 +29,6 @@ or_held-some None None = refl
 or_held-some (Some a) None = refl
 or_held-some _ _ = refl
 
--- something is kept for the names that are held, and those of the units that are added
-kept-some : (held : List (DwarfObject × List ℕ)) (us : List (DwarfObject × NewUnit))
-    (name : DwarfObject)
-    → is_some (kept_bytes held us name) ≡ list_any (same_name name) (keys held ++ keys us)
-kept-some held us name =
-    or_held-some (lookup (same_name name) us) (lookup (same_name name) held)
-    ∙ ap₂ (λ a b. a || b) (is_some-lookup (same_name name) held)
-    (is_some-lookup (same_name name) us)
-    ∙ sym (list_any-append (same_name name) (keys held) (keys us))
-
 -- ---- units that are added for units that were read
 
 -- a unit is added for one that was read, with its row
@@ -97,8 +87,12 @@ steps-joined adding before after [] same = record {
   defined = refl;
 }
 steps-joined adding before after (u ∷ us) h =
-    by (kept_bytes adding.held before.units u.0) (kept-some adding.held before.units u.0) h.1.is
-    (steps-joined adding h.0 after us h.2)
+    let named = same_name u.0 in
+    by (kept_bytes adding.held before.units u.0)
+    (or_held-some (lookup named before.units) (lookup named adding.held)
+    ∙ ap₂ (λ a b. a || b) (is_some-lookup named adding.held) (is_some-lookup named before.units)
+    ∙ sym (list_any-append named (keys adding.held) (keys before.units)))
+    h.1.is (steps-joined adding h.0 after us h.2)
   where
     by : (kept : Option (List ℕ))
         → is_some kept ≡ list_any (same_name u.0) (before_names adding before)

@@ -41,19 +41,13 @@ same_name-equal a b h = rw (← h) (same_name-self a)
 pub same_name-sym : (a b : DwarfObject) → same_name a b ≡ true → same_name b a ≡ true
 same_name-sym a b h = same_name-equal b a (sym (same_name-true a b h))
 
-not-among : (names : List DwarfObject) (name : DwarfObject) (k : ℕ) (d : DwarfObject)
-    → k < length names
-    → list_any (same_name name) names ≡ false → same_name (get_or names k d) name ≡ false
-not-among names name k d h e =
-    by-bool _ (same_name (get_or names k d) name)
-    (λ same. absurd (true≢false (sym (list_any_at (same_name name) names k d h
-    (same_name-sym (get_or names k d) name same)) ∙ e)))
-    (λ other. other)
-
 pub apart-more : (names : List DwarfObject) (name : DwarfObject) → AreApart names
     → list_any (same_name name) names ≡ false → AreApart (names ++ name ∷ [])
 apart-more names name h e = all_pairs_push (λ a b. same_name a b ≡ false) names name h
-    (λ k d within. not-among names name k d within e)
+    (λ k d within. by-bool _ (same_name (get_or names k d) name)
+    (λ same. absurd (true≢false (sym (list_any_at (same_name name) names k d within
+    (same_name-sym (get_or names k d) name same)) ∙ e)))
+    (λ other. other))
 
 pub apart-none : AreApart []
 apart-none i j d before within = absurd (omega arith)

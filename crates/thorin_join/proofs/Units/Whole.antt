@@ -12,7 +12,7 @@ use Rattle.dwp_bytes.specs.Input.{Input, section}
 use Rattle.dwp_bytes.specs.declared.encoding.Encoding.{Encoding}
 use Rattle.dwp_bytes.specs.declared.error.ReadError.{ReadError}
 use Rattle.dwp_dwarf.specs.Units.{Unit as Header, UnitsAreTaken, unit_at, listed, units_within}
-use Rattle.dwp_dwarf.specs.Units.{units, unit_bytes}
+use Rattle.dwp_dwarf.specs.Units.{units}
 use Rattle.dwp_dwarf.specs.declared.unit.UnitSection.{UnitSection}
 use Rattle.dwp_dwarf.specs.declared.unit.UnitSection.TheVariants as places
 use Rattle.dwp_index.specs.Package.{encoding_in}
@@ -111,68 +111,63 @@ pub error-ok : (f : ReadError → ErrorValue) (r : Result Header ReadError) (x :
 error-ok = as_error_ok
 
 module _ (taken : UnitsAreTaken) (alone : ReadAlone) where
-  within-at : (n : ℕ) (order : Endianness) (place : UnitSection) (d : ℕ) (left : List ℕ) (k : ℕ)
-      (u : Header) → slice_get (units_within n place (plain order d left)) k ≡ Some (Ok u)
-      → ReadAt order place u
-  unfolding units_within
-  within-at zero order place d left k u h = absurd cc
-  within-at (suc n) order place d left k u h =
-      by-bool _ (nat_eq (length left) 0)
-      (λ none. let never = rw none at h in absurd cc)
-      (λ some. by (unit_at place (plain order d left)) k refl (rw some at h) (λ e m j.
-      within-at n order place e m j u))
-    where
-      by : (r : Result (Header × Input) ReadError) (k : ℕ) → unit_at place (plain order d left) ≡ r
-          → slice_get (listed r (units_within n place)) k ≡ Some (Ok u)
-          → ((e : ℕ) (m : List ℕ) (j : ℕ) → slice_get (units_within n place (plain order e m)) j ≡
-          Some (Ok u) → ReadAt order place u) → ReadAt order place u
-      by (Ok x) zero e h' go = let same : x.0 ≡ u = cc in
-          record { d = d; left = left; rest = x.1; read = rw (← same) e }
-      by (Ok x) (suc k) e h' go =
-          let t = taken place (plain order d left) x.1 x.0 e in
-          go (d + t.0.taken) (drop t.0.taken left) k (rw t.0.is at h')
-      by (Err f) zero e h' go = absurd cc
-      by (Err f) (suc k) e h' go = absurd cc
+  module _ (order : Endianness) (place : UnitSection) where
+    within-at : (n d : ℕ) (left : List ℕ) (k : ℕ) (u : Header)
+        → slice_get (units_within n place (plain order d left)) k ≡ Some (Ok u)
+        → ReadAt order place u
+    unfolding units_within
+    within-at zero d left k u h = absurd cc
+    within-at (suc n) d left k u h =
+        by-bool _ (nat_eq (length left) 0)
+        (λ none. let never = rw none at h in absurd cc)
+        (λ some. by (unit_at place (plain order d left)) k refl (rw some at h) (λ e m j.
+        within-at n e m j u))
+      where
+        by : (r : Result (Header × Input) ReadError) (k : ℕ)
+            → unit_at place (plain order d left) ≡ r
+            → slice_get (listed r (units_within n place)) k ≡ Some (Ok u)
+            → ((e : ℕ) (m : List ℕ) (j : ℕ) → slice_get (units_within n place (plain order e m)) j
+            ≡ Some (Ok u) → ReadAt order place u) → ReadAt order place u
+        by (Ok x) zero e h' go = let same : x.0 ≡ u = cc in
+            record { d = d; left = left; rest = x.1; read = rw (← same) e }
+        by (Ok x) (suc k) e h' go =
+            let t = taken place (plain order d left) x.1 x.0 e in
+            go (d + t.0.taken) (drop t.0.taken left) k (rw t.0.is at h')
+        by (Err f) zero e h' go = absurd cc
+        by (Err f) (suc k) e h' go = absurd cc
 
-  alone-of : (order : Endianness) (place : UnitSection) (unit : Header) → ReadAt order place unit
-      → encoding_in order place (unit_bytes unit) ≡ Ok unit.encoding → ReadsAlone order place unit
-  unfolding encoding_in
-  alone-of order place unit at enc =
-      let t = taken place (plain order at.d at.left) at.rest unit at.read in
-      let own = unit.whole.bytes in
-      let more = drop t.0.taken at.left in
-      let whole_is : own ++ more ≡ at.left = ap (λ (i : Input). i.bytes ++ more) t.1
-      ∙ take-append-drop t.0.taken at.left in
-      let s = bind-was (unit_at place (section order own)) _ unit.encoding enc in
-      let moved = unit-moves taken order place own more at.d s.0.0 s.0.1 s.1 in
-      let same : moved.unit ≡ unit = ap (λ (x : Header × Input). x.0)
-      (same-ok _ _ (sym moved.read ∙ ap (λ l. unit_at place (plain order at.d l))
-      whole_is ∙ at.read)) in
-      record {
-        alone = s.0.0;
-        rest = s.0.1;
-        read = s.1;
-        whole = sym (ap (λ (i : Input). i.bytes) (rw same at moved.whole));
-        type = rw same at moved.type;
-        encoding = same-ok _ _ s.2;
-        behind = at.d;
-        shifted = record {
-          type = sym (rw same at moved.type);
-          encoding = sym (rw same at moved.encoding);
-          offset = rw same at moved.offset;
-          entries = rw same at moved.entries;
-        };
-      }
-
-  pub known-in : (order : Endianness) (place : UnitSection) (bytes : List ℕ)
-      → AreKnown order place (units place (section order bytes))
-  unfolding units
-  known-in order place bytes k unit h =
-      let at = within-at (length bytes) order place 0 bytes k unit h in (
-        alone-of order place unit at (alone order place bytes k unit h),
-        λ is. (unit-five (plain order at.d at.left)).gives (unit, at.rest)
-            (ap (λ p. unit_at p (plain order at.d at.left)) (sym is) ∙ at.read),
-      )
+    pub known-in : (bytes : List ℕ) → AreKnown order place (units place (section order bytes))
+    unfolding units encoding_in
+    known-in bytes k unit h =
+        let at = within-at (length bytes) 0 bytes k unit h in
+        let i = plain order at.d at.left in
+        let t = taken place i at.rest unit at.read in
+        let own = unit.whole.bytes in
+        let more = drop t.0.taken at.left in
+        let whole_is : own ++ more ≡ at.left = ap (λ (i : Input). i.bytes ++ more) t.1
+        ∙ take-append-drop t.0.taken at.left in
+        let s = bind-was (unit_at place (section order own)) _ unit.encoding
+        (alone order place bytes k unit h) in
+        let moved = unit-moves taken order place own more at.d s.0.0 s.0.1 s.1 in
+        let same : moved.unit ≡ unit = ap (λ (x : Header × Input). x.0) (same-ok _ _
+        (sym moved.read ∙ ap (λ l. unit_at place (plain order at.d l)) whole_is ∙ at.read)) in (
+          record {
+            alone = s.0.0;
+            rest = s.0.1;
+            read = s.1;
+            whole = sym (ap (λ (i : Input). i.bytes) (rw same at moved.whole));
+            type = rw same at moved.type;
+            encoding = same-ok _ _ s.2;
+            behind = at.d;
+            shifted = record {
+              type = sym (rw same at moved.type);
+              encoding = sym (rw same at moved.encoding);
+              offset = rw same at moved.offset;
+              entries = rw same at moved.entries;
+            };
+          },
+          λ is. (unit-five i).gives (unit, at.rest) (ap (λ p. unit_at p i) (sym is) ∙ at.read),
+        )
 
   goes-alone : (order : Endianness) (place : UnitSection) (name : DwarfObject) (unit : Header)
       → IsKnown order place unit → type_signature unit.unit_type ≡ name_signature name
