@@ -178,20 +178,15 @@ pub record IsShifted (d : ℕ) (unit other : Header) : Type 0 where
   pub offset : other.abbrev_offset ≡ unit.abbrev_offset
   pub entries : other.entries ≡ shifted d unit.entries
 
-root-same : (section : Input) (d : ℕ) (unit other : Header) → IsShifted d unit other
-    → root_identity section other ≡ root_identity section unit
-unfolding root_identity
-root-same section d unit other h = rw (h.offset, h.encoding, h.entries)
-    (bind_alike (as_error ParseUnitAbbreviations (from_at unit.abbrev_offset section)) _ _
-    (λ table _. told (λ r. as_error GimliRead r >>= from_code unit.encoding table)
-    (code-shifts d unit.entries) (code-same d unit.encoding table)))
-
 -- both have one identity
 pub identity-shifted : (section : Input) (d : ℕ) (unit other : Header) → IsShifted d unit other
     → identity section other ≡ identity section unit
-unfolding identity
+unfolding identity root_identity
 identity-shifted section d unit other h = ap (identity_by section other) h.type
     ∙ elim unit.unit_type as (λ t. identity_by section other t ≡ identity_by section unit t) [
-      | unit_types.Compilation ↦ root-same section d unit other h
+      | unit_types.Compilation ↦ rw (h.offset, h.encoding, h.entries)
+          (bind_alike (as_error ParseUnitAbbreviations (from_at unit.abbrev_offset section)) _ _
+          (λ table _. told (λ r. as_error GimliRead r >>= from_code unit.encoding table)
+          (code-shifts d unit.entries) (code-same d unit.encoding table)))
       | _ ↦ refl
     ]

@@ -19,9 +19,8 @@ use Rattle.thorin_join.specs.Meaning.{meaning_by, UnitRead, unit_meaning, shared
 use Rattle.thorin_input.specs.Format.{is_copied, is_shared}
 use Rattle.thorin_join.specs.Represents.{LieInside, Shares}
 use Rattle.thorin_input.specs.Used.{first}
-use Rattle.thorin_join.proofs.Rows.OfUnits.{shared-copied, OwnRow, one-of, adjusted-plain}
-use Rattle.thorin_join.proofs.Rows.OfUnits.{placed-part, IsUnitRow, is-unit_row, whole-part}
-use Rattle.thorin_join.proofs.Rows.OfUnits.{whole-else, own-row}
+use Rattle.thorin_join.proofs.Rows.OfUnits.{OwnRow, one-of, adjusted-plain, placed-part, IsUnitRow}
+use Rattle.thorin_join.proofs.Rows.OfUnits.{is-unit_row, whole-part, whole-else, own-row}
 use Rattle.thorin_join.proofs.Rows.Ranges.{Lies, Placed, lies-whole, not-outside, range-some}
 use Rattle.thorin_join.proofs.Parts.StringLists.{strings-there, strings-read}
 use Rattle.dwp_base.proofs.EveryKind.{same-each}
@@ -143,7 +142,7 @@ module _ (source : Source) (before parts : Contents) (read : DwarfObject × Unit
         };
         shares = record {
           content = λ kind copies. rw (content-with_parts kind parts before)
-              ((lies kind (shared-copied kind copies)).part_is ∙ copied kind copies);
+              ((lies kind (rw copies refl)).part_is ∙ copied kind copies);
           string = λ final final_table kept i.
               rw (content-with_parts StrOffsets parts before, (lies StrOffsets refl).part_is)
               ((reads final final_table kept i).same ∙ strings-read source.object.order

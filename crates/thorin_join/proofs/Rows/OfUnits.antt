@@ -1,15 +1,15 @@
 -- A unit's own row in its input's indexes, and the row that it gets.
-use Rattle.std.proofs.Common.{◌≡◌, ◌∙◌, ℕ, Bool, true, false, cond, List, is_some, is_none, ◌&&◌}
-use Rattle.std.proofs.Common.{◌||◌, Ok, Option, Some, None, refl, sym, ap, inl, inr}
+use Rattle.std.proofs.Common.{◌≡◌, ◌∙◌, ℕ, true, false, cond, List, is_some, is_none, ◌&&◌, ◌||◌}
+use Rattle.std.proofs.Common.{Ok, Option, Some, None, refl, sym, ap, inl, inr}
 use Rattle.std.specs.Option.{option_and_then}
 use Rattle.std.proofs.lemmas.Bool.{eqb-true}
 use Rattle.dwp_base.specs.ByKind.{value_of}
 use Rattle.dwp_base.specs.Reading.{read_each}
-use Rattle.dwp_base.specs.Sections.{all_kinds, same_kind}
+use Rattle.dwp_base.specs.Sections.{all_kinds}
 use Rattle.dwp_base.proofs.KindsRead.{read-kind}
 use Rattle.dwp_base.proofs.Steps.{bind-was, same-ok}
 use Rattle.dwp_base.specs.declared.section.SectionKind.{SectionKind}
-use Rattle.dwp_base.specs.declared.section.SectionKind.TheVariants.{Info, Types, Abbrev, StrOffsets}
+use Rattle.dwp_base.specs.declared.section.SectionKind.TheVariants.{Info, Types, Abbrev}
 use Rattle.dwp_base.specs.declared.section.Contribution.{Contribution}
 use Rattle.dwp_bytes.specs.declared.encoding.Encoding.{Encoding}
 use Rattle.dwp_dwarf.specs.Units.{Unit as Header}
@@ -27,7 +27,7 @@ use Rattle.thorin_index.specs.declared.entry.IndexEntry.{IndexEntry}
 use Rattle.thorin_input.specs.Growing.{Contents, joined_parts, range_put}
 use Rattle.thorin_input.specs.Indexes.{Indexes, is_package, index_for, looked_up}
 use Rattle.thorin_join.specs.Meaning.{read_of, placed_row}
-use Rattle.thorin_input.specs.Format.{is_copied, is_shared}
+use Rattle.thorin_input.specs.Format.{is_shared}
 use Rattle.thorin_input.specs.Rows.{whole_row, adjusted_part, unit_part, unit_row, own_range}
 use Rattle.thorin_input.specs.Rows.{is_same_row, row_test}
 use Rattle.thorin_join.proofs.Parts.OfPackages.{IsOneOf}
@@ -35,10 +35,6 @@ use Rattle.thorin_join.proofs.Rows.Ranges.{Placed, whole_behind, placed-by, rang
 use Rattle.dwp_base.proofs.EveryKind.{same-each}
 use Rattle.thorin_strings.proofs.NamedEntries.{as_error_ok}
 use Rattle.thorin_join.proofs.Steps.{kept}
-
--- ---- kinds that units share
-pub shared-copied : (kind : SectionKind) → is_copied kind ≡ true → is_shared kind ≡ true
-shared-copied kind copied = ap (λ (b : Bool). b || same_kind kind StrOffsets) copied
 
 -- an entry by parts has each of those that it can have
 entry-part : (encoding : Encoding) (id : DwarfObject) (part : SectionKind → Option Contribution)

@@ -3,13 +3,14 @@ use Rattle.std.proofs.Common.{[], ◌≡◌, ◌∙◌, ℕ, ◌+◌, ◌-◌, �
 use Rattle.std.proofs.Common.{leb, List, ◌++◌, length, slice_range, is_some, Ok, Option, Some, None}
 use Rattle.std.proofs.Common.{refl, sym, if◌then◌else◌, arith}
 use Rattle.std.specs.Option.{option_and_then}
+use Rattle.std.specs.Prelude.{slice_index}
 use Rattle.std.proofs.lemmas.List.{length-append}
 use Rattle.std.proofs.Math.Seq.{take-length, drop-append-add}
 use Rattle.std.proofs.lemmas.Option.{none-some, same_Some, option_and_then_some}
 use Rattle.std.proofs.lemmas.Bool.{leb-true, le-leb, eqb-true, eqb-false}
 use Rattle.dwp_base.specs.declared.section.SectionKind.{SectionKind}
 use Rattle.dwp_base.specs.declared.section.Contribution.{Contribution}
-use Rattle.dwp_index.specs.Index.{Index, Ranges, row_in, column_place, contribution, range_in}
+use Rattle.dwp_index.specs.Index.{Index, Ranges, row_in, column_place, range_in}
 use Rattle.dwp_index.specs.Package.{part_of, is_outside}
 use Rattle.dwp_bytes.specs.declared.error.ReadError.{ReadError}
 use Rattle.thorin_errors.specs.Errors.{ErrorValue}
@@ -123,19 +124,16 @@ module _ (front bytes : List ℕ) where
       (without-none (whole_behind front bytes) result))
 
 -- ---- ranges of an index's rows
-contribution-some : (at size : ℕ) (r : Contribution) → contribution at size ≡ Some r → 0 < r.size
-contribution-some at size r h =
-    by-bool _ (eqb size 0)
-    (λ none. absurd (none-some r (rw none at h)))
-    (λ some. let several = eqb-false size 0 some in
-    rw (← same_Some _ _ (rw some at h)) (omega arith))
-
 -- a range that is there has bytes
 pub range-some : (row : Ranges) (kind : SectionKind) (r : Contribution) → range_in row kind ≡
     Some r → 0 < r.size
 unfolding range_in
 range-some row kind r h = option_and_then_some _ (column_place row.version row.columns kind) r h
-    (λ i there is. contribution-some _ _ r is)
+    (λ i there is. let size = slice_index row.sizes i in
+    by-bool _ (eqb size 0)
+    (λ none. absurd (none-some r (rw none at is)))
+    (λ some. let several = eqb-false size 0 some in
+    rw (← same_Some _ _ (rw some at is)) (omega arith)))
 
 no-column : (f : ℕ → Option Contribution) (column : Option ℕ) → is_some column ≡ false
     → option_and_then f column ≡ None

@@ -75,13 +75,6 @@ pub chosen-sort : (b : Bool) (row : IndexEntry) → is_chosen b row ≡ true →
 chosen-sort true row h = h
 chosen-sort false row h = is-false _ h
 
-rows-apart : (rows : List IndexEntry) → AreApart (map (λ r. r.id) rows)
-    → AllPairs (λ r s. same_name r.id s.id ≡ false) rows
-rows-apart rows apart i j d before within =
-    let long = length-map rows (λ (r : IndexEntry). r.id) in
-    rw (get_or-map (λ r. r.id) rows i d, get_or-map (λ r. r.id) rows j d) at
-    (apart i j d.id before (omega (arith, long)))
-
 module _ (b : Bool) (rows : List IndexEntry) (chosen : All (λ r. is_chosen b r ≡ true) rows)
     (apart : AllPairs (λ r s. same_name r.id s.id ≡ false) rows) where
   ids-differ : (d : IndexEntry) (i j : ℕ) → i < j → j < length rows
@@ -112,4 +105,6 @@ pub distinct_chosen : (b : Bool) (rows : List IndexEntry) (names : List DwarfObj
 distinct_chosen b rows names h apart =
     chosen-distinct b (rows_of b rows) (filter_passes (is_chosen b) rows)
     (AllPairs-filter (λ r s. same_name r.id s.id ≡ false) (is_chosen b) rows
-    (rows-apart rows (rw (← h) at apart)))
+    (λ i j d before within. let at = get_or-map (λ r. r.id) rows in
+    let long = length-map rows (λ (r : IndexEntry). r.id) in
+    rw (← h, at i d, at j d) at (apart i j d.id before (omega (arith, long, ap length h)))))

@@ -34,21 +34,17 @@ first-none (Ok a ∷ others) name h =
       | Some id ↦ λ k. ap name_signature (sym (some-eq (compilation id) name k))
     ]) h
 
-root-none : (section : Input) (unit : Header) (name : DwarfObject) → root_identity section unit ≡ Ok
-    (Some name) → name_signature name ≡ None
+sort-by : (section : Input) (unit : Header) (t : UnitType) (name : DwarfObject)
+    → identity_by section unit t ≡ Ok (Some name) → type_signature t ≡ name_signature name
 unfolding root_identity entry_identity
-root-none section unit name h =
+sort-by section unit unit_types.Compilation name h =
     let s1 = bind-was (as_error ParseUnitAbbreviations (from_at unit.abbrev_offset section)) _ _
         h in
     let s2 = bind-was (as_error GimliRead (root_code_at unit.entries)) _ _ s1.2 in
     let s3 = bind-was (ok_or s2.0 NoDie) _ _ s2.2 in
     let s4 = bind-was (as_error ParseUnitAbbreviations (declaration s3.0.0 s1.0)) _ _ s3.2 in
     let s5 = bind-was (ok_or s4.0 (GimliRead UnknownCode)) _ _ s4.2 in
-    first-none (entry unit.encoding s5.0 s3.0.1).attributes name (kept _ _ _ _ s5.2).1
-
-sort-by : (section : Input) (unit : Header) (t : UnitType) (name : DwarfObject)
-    → identity_by section unit t ≡ Ok (Some name) → type_signature t ≡ name_signature name
-sort-by section unit unit_types.Compilation name h = sym (root-none section unit name h)
+    sym (first-none (entry unit.encoding s5.0 s3.0.1).attributes name (kept _ _ _ _ s5.2).1)
 sort-by section unit unit_types.Partial name h = absurd cc
 sort-by section unit _ name h = ap name_signature (some-eq _ name h)
 
