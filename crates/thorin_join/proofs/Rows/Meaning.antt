@@ -5,7 +5,7 @@ use Rattle.std.proofs.Common.{None, refl, sym, ap, ◌+◌, ◌≤◌, Ok, arith
 use Rattle.std.proofs.Math.Seq.{take-length}
 use Rattle.std.proofs.lemmas.Option.{none-some}
 use Rattle.dwp_base.specs.declared.section.SectionKind.{SectionKind}
-use Rattle.dwp_base.specs.declared.section.SectionKind.TheVariants.{StrOffsets, Str}
+use Rattle.dwp_base.specs.declared.section.SectionKind.TheVariants.{Abbrev, StrOffsets, Str}
 use Rattle.dwp_elf.specs.Contents.{content_of}
 use Rattle.dwp_index.specs.Index.{Ranges, range_in}
 use Rattle.thorin_index.specs.Entries.{contribution_to}
@@ -19,8 +19,9 @@ use Rattle.thorin_join.specs.Meaning.{meaning_by, UnitRead, unit_meaning, shared
 use Rattle.thorin_input.specs.Format.{is_copied, is_shared}
 use Rattle.thorin_join.specs.Represents.{LieInside, Shares}
 use Rattle.thorin_input.specs.Used.{first}
-use Rattle.thorin_join.proofs.Rows.OfUnits.{OwnRow, one-of, adjusted-plain, placed-part, IsUnitRow}
-use Rattle.thorin_join.proofs.Rows.OfUnits.{is-unit_row, whole-part, whole-else, own-row}
+use Rattle.thorin_join.proofs.Rows.OfUnits.{OwnRow, own-by, adjusted-packed, one-of, adjusted-plain}
+use Rattle.thorin_join.proofs.Rows.OfUnits.{placed-part, IsUnitRow, is-unit_row, whole-part}
+use Rattle.thorin_join.proofs.Rows.OfUnits.{whole-else}
 use Rattle.thorin_join.proofs.Rows.Ranges.{Lies, Placed, lies-whole, not-outside, range-some}
 use Rattle.thorin_join.proofs.Parts.StringLists.{strings-there, strings-read}
 use Rattle.dwp_base.proofs.EveryKind.{same-each}
@@ -42,6 +43,7 @@ use Rattle.thorin_join.proofs.Parts.Strings.{parts-kept}
 use Rattle.thorin_join.proofs.EachKind.{copied-or-offsets}
 use Rattle.thorin_errors.specs.Errors.{ErrorValue}
 use Rattle.dwp_base.proofs.Steps.{same-ok}
+use Rattle.thorin_join.proofs.Steps.{kept}
 use Rattle.thorin_join.proofs.Rows.Stay.{part-inside}
 use Rattle.thorin_join.specs.StandApart.{LieBehind}
 
@@ -104,9 +106,12 @@ module _ (source : Source) (before parts : Contents) (read : DwarfObject × Unit
   abbrev whole : IndexEntry
   whole = whole_row source.encoding before parts
 
-  else-none : (kind : SectionKind) → is_shared kind ≡ false → contribution_to kind row ≡ None
-  else-none = let none = whole-else source.encoding before parts in
-      unshared row (made.info ∙ none.1) (made.types ∙ none.2)
+  -- a kind of which it has a range is shared
+  has-shared : (kind : SectionKind) (range : Contribution) → contribution_to kind row ≡ Some range
+      → is_shared kind ≡ true
+  has-shared kind range h = let none = whole-else source.encoding before parts in
+      by-bool _ (is_shared kind) (λ shared. shared) (λ other. absurd (none-some range
+      (sym (unshared row (made.info ∙ none.1) (made.types ∙ none.2) kind other) ∙ h)))
 
   -- the unit by these ranges, which has these parts
   shares-by : (after : List (List ℕ)) (ranges : Option Ranges) (part : SectionKind → List ℕ)
@@ -122,9 +127,6 @@ module _ (source : Source) (before parts : Contents) (read : DwarfObject × Unit
       let offsets = offsets_by source ranges in
       let strings = strings-there source.object.order source.encoding old offsets (λ i.
       (reads after table (take-length after) i).readable) in
-      let shared : (kind : SectionKind) (range : Contribution) → contribution_to kind row ≡ Some
-      range → is_shared kind ≡ true = λ kind range h. by-bool _ (is_shared kind) (λ yes. yes)
-      (λ other. absurd (none-some range (sym (else-none kind other) ∙ h))) in
       record {
         unit = record {
           bytes = read.1.unit.whole.bytes;
@@ -137,8 +139,8 @@ module _ (source : Source) (before parts : Contents) (read : DwarfObject × Unit
         encoding = made.encoding ∙ (whole-else source.encoding before parts).0;
         lie = record {
           inside = λ kind range h. rw (content-with_parts kind parts before)
-              ((lies kind (shared kind range h)).inside range h);
-          some = λ kind range h. (lies kind (shared kind range h)).some range h;
+              ((lies kind (has-shared kind range h)).inside range h);
+          some = λ kind range h. (lies kind (has-shared kind range h)).some range h;
         };
         shares = record {
           content = λ kind copies. rw (content-with_parts kind parts before)
@@ -163,9 +165,15 @@ module _ (source : Source) (before parts : Contents) (read : DwarfObject × Unit
   -- ---- a package
   module _ (test : row_test source.indexes read.1.from name read.1.unit ≡ Ok tt)
       (packed : is_package source.indexes ≡ true) where
+    -- it has a row of its own
     own : OwnRow (index_for source.indexes name) read.1.from (own_range read.1.unit)
         (identifier_of name)
-    own = own-row source.indexes name packed whole read.1.from read.1.unit row test made
+    unfolding row_test
+    own =
+        let found = adjusted-packed source.indexes name packed Abbrev (contribution_to Abbrev whole)
+        (contribution_to Abbrev row) (made.parts Abbrev refl) in
+        own-by (index_for source.indexes name) read.1.from (own_range read.1.unit)
+        (identifier_of name) found.0 (kept _ _ _ tt (rw packed at test)).0 found.1
 
     each-placed : (kind : SectionKind) → is_shared kind ≡ true → Placed (content_of kind before)
         (joined_parts kind parts) (range_in own.row kind) (contribution_to kind row)
@@ -201,11 +209,10 @@ module _ (source : Source) (before parts : Contents) (read : DwarfObject × Unit
   pub row-behind : row_test source.indexes read.1.from name read.1.unit ≡ Ok tt
       → LieBehind before row
   row-behind test kind range is =
-      by-bool _ (is_shared kind)
-      (λ shared. by-bool _ (is_package source.indexes)
+      let shared = has-shared kind range is in
+      by-bool _ (is_package source.indexes)
       (λ packed. (each-placed test packed kind shared).lies.behind range is)
-      (λ plain. (plain-lies plain kind shared).behind range is))
-      (λ other. absurd (none-some range (sym (else-none kind other) ∙ is)))
+      (λ plain. (plain-lies plain kind shared).behind range is)
 
 pub row-shares : NamesTheSameLaw → ReadsAlikeLaw → ReadInTurnLaw → PackagedLaw → RowsLaw
 unfolding unit_meaning

@@ -9,10 +9,9 @@ use Rattle.dwp_base.specs.Sections.{all_kinds}
 use Rattle.dwp_base.proofs.KindsRead.{read-kind}
 use Rattle.dwp_base.proofs.Steps.{bind-was, same-ok}
 use Rattle.dwp_base.specs.declared.section.SectionKind.{SectionKind}
-use Rattle.dwp_base.specs.declared.section.SectionKind.TheVariants.{Info, Types, Abbrev}
+use Rattle.dwp_base.specs.declared.section.SectionKind.TheVariants.{Info, Types}
 use Rattle.dwp_base.specs.declared.section.Contribution.{Contribution}
 use Rattle.dwp_bytes.specs.declared.encoding.Encoding.{Encoding}
-use Rattle.dwp_dwarf.specs.Units.{Unit as Header}
 use Rattle.dwp_index.specs.Index.{Index, Ranges, row_in, range_in}
 use Rattle.dwp_table.specs.Objects.{identifier_of}
 use Rattle.dwp_table.specs.Probing.{found_row}
@@ -28,13 +27,11 @@ use Rattle.thorin_input.specs.Growing.{Contents, joined_parts, range_put}
 use Rattle.thorin_input.specs.Indexes.{Indexes, is_package, index_for, looked_up}
 use Rattle.thorin_join.specs.Meaning.{read_of, placed_row}
 use Rattle.thorin_input.specs.Format.{is_shared}
-use Rattle.thorin_input.specs.Rows.{whole_row, adjusted_part, unit_part, unit_row, own_range}
-use Rattle.thorin_input.specs.Rows.{is_same_row, row_test}
+use Rattle.thorin_input.specs.Rows.{whole_row, adjusted_part, unit_part, unit_row, is_same_row}
 use Rattle.thorin_join.proofs.Parts.OfPackages.{IsOneOf}
 use Rattle.thorin_join.proofs.Rows.Ranges.{Placed, whole_behind, placed-by, range-some, range-none}
 use Rattle.dwp_base.proofs.EveryKind.{same-each}
 use Rattle.thorin_strings.proofs.NamedEntries.{as_error_ok}
-use Rattle.thorin_join.proofs.Steps.{kept}
 
 -- an entry by parts has each of those that it can have
 entry-part : (encoding : Encoding) (id : DwarfObject) (part : SectionKind → Option Contribution)
@@ -61,7 +58,8 @@ same-row : (a b : Option ℕ) → is_same_row a b ≡ true → (n : ℕ) × (a �
 same-row (Some a) (Some b) h = (a, refl, ap (λ n. Some n) (sym (eqb-true a b h)))
 same-row _ _ h = absurd cc
 
-own-by : (own : Option Index) (kind : SectionKind) (range : Contribution) (id : ℕ) (row : Ranges)
+pub own-by : (own : Option Index) (kind : SectionKind) (range : Contribution)
+    (id : ℕ) (row : Ranges)
     → is_same_row (row_by_place own kind range) (looked_up own id) ≡ true → row_of own id ≡ Ok row
     → OwnRow own kind range id
 unfolding row_of
@@ -128,7 +126,7 @@ module _ (indexes : Indexes) (name : DwarfObject) where
 
   module _ (packed : is_package indexes ≡ true) where
     -- of a package it is by the unit's row
-    adjusted-packed : (kind : SectionKind) (whole result : Option Contribution)
+    pub adjusted-packed : (kind : SectionKind) (whole result : Option Contribution)
         → adjusted_part indexes name kind whole ≡ Ok result
         → (row : Ranges) × (row_of (index_for indexes name) (identifier_of name) ≡ Ok row)
         × (part_by_row (adjustor indexes kind) name whole row ≡ Ok result)
@@ -158,17 +156,6 @@ module _ (indexes : Indexes) (name : DwarfObject) where
         (λ none. range-none own.index own.number own.row kind own.there (ap (has_column_for kind)
         (sym (own-index indexes kind name ∙ own.is)) ∙ none))
         (ap (part_by_row adjust name (whole_behind front bytes)) (sym same) ∙ parts.2)
-
-    -- a unit that passed the test has a row of its own
-    pub own-row : (whole : IndexEntry) (kind : SectionKind) (unit : Header) (row : IndexEntry)
-        → row_test indexes kind name unit ≡ Ok tt → IsUnitRow indexes whole name row
-        → OwnRow (index_for indexes name) kind (own_range unit) (identifier_of name)
-    unfolding row_test
-    own-row whole kind unit row test made =
-        let found = adjusted-packed Abbrev (contribution_to Abbrev whole)
-        (contribution_to Abbrev row) (made.parts Abbrev refl) in
-        own-by (index_for indexes name) kind (own_range unit) (identifier_of name) found.0
-        (kept _ _ _ tt (rw packed at test)).0 found.1
 
 pub is-unit_row : (indexes : Indexes) (whole : IndexEntry) (name : DwarfObject) (row : IndexEntry)
     → unit_row indexes whole name ≡ Ok row → IsUnitRow indexes whole name row
