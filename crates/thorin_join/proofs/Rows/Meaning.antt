@@ -19,10 +19,12 @@ use Rattle.thorin_join.specs.Meaning.{meaning_by, UnitRead, unit_meaning, shared
 use Rattle.thorin_input.specs.Format.{is_copied, is_shared}
 use Rattle.thorin_join.specs.Represents.{LieInside, Shares}
 use Rattle.thorin_input.specs.Used.{first}
-use Rattle.thorin_join.proofs.Rows.OfUnits.{OwnRow, own-by, adjusted-packed, one-of, adjusted-plain}
-use Rattle.thorin_join.proofs.Rows.OfUnits.{placed-part, IsUnitRow, is-unit_row, whole-part}
-use Rattle.thorin_join.proofs.Rows.OfUnits.{whole-else}
-use Rattle.thorin_join.proofs.Rows.Ranges.{Lies, Placed, lies-whole, not-outside, range-some}
+use Rattle.thorin_join.proofs.Rows.OfUnits.{OwnRow, adjustor, own-index, own-by, adjusted-packed}
+use Rattle.thorin_join.proofs.Rows.OfUnits.{one-of, adjusted-plain, IsUnitRow, is-unit_row}
+use Rattle.thorin_join.proofs.Rows.OfUnits.{whole-part, whole-else}
+use Rattle.thorin_input.specs.Adjusting.{own_index, other_index, has_column_for, part_by_row}
+use Rattle.thorin_join.proofs.Rows.Ranges.{whole_behind, placed-by, range-none, Lies, Placed}
+use Rattle.thorin_join.proofs.Rows.Ranges.{lies-whole, not-outside, range-some}
 use Rattle.thorin_join.proofs.Parts.StringLists.{strings-there, strings-read}
 use Rattle.dwp_base.proofs.EveryKind.{same-each}
 use Rattle.dwp_base.specs.declared.section.Contribution.{Contribution}
@@ -178,9 +180,19 @@ module _ (source : Source) (before parts : Contents) (read : DwarfObject × Unit
     each-placed : (kind : SectionKind) → is_shared kind ≡ true → Placed (content_of kind before)
         (joined_parts kind parts) (range_in own.row kind) (contribution_to kind row)
     each-placed kind shared =
-        placed-part source.indexes name packed read.1.from (own_range read.1.unit) kind
-        (content_of kind before) (joined_parts kind parts) (contribution_to kind row) own
-        (rw (← whole-part source.encoding before parts kind shared) (made.parts kind shared))
+        let front = content_of kind before in
+        let bytes = joined_parts kind parts in
+        let adjust = adjustor source.indexes kind in
+        let by = adjusted-packed source.indexes name packed kind (whole_behind front bytes)
+        (contribution_to kind row)
+        (rw (← whole-part source.encoding before parts kind shared) (made.parts kind shared)) in
+        let same = same-ok {E = ErrorValue} by.0 own.row (sym by.1 ∙ own.found) in
+        placed-by front bytes kind (identifier_of name) (range_in own.row kind)
+        (contribution_to kind row) (has_column_for kind (own_index adjust name))
+        (has_column_for kind (other_index adjust name)) (range-some own.row kind)
+        (λ none. range-none own.index own.number own.row kind own.there (ap (has_column_for kind)
+        (sym (own-index source.indexes kind name ∙ own.is)) ∙ none))
+        (ap (part_by_row adjust name (whole_behind front bytes)) (sym same) ∙ by.2)
 
     -- its string offsets read alike
     packed-reads : (after : List (List ℕ))

@@ -1,6 +1,6 @@
 -- A unit's own row in its input's indexes, and the row that it gets.
-use Rattle.std.proofs.Common.{◌≡◌, ◌∙◌, ℕ, true, false, cond, List, is_some, is_none, ◌&&◌, ◌||◌}
-use Rattle.std.proofs.Common.{Ok, Option, Some, None, refl, sym, ap, inl, inr}
+use Rattle.std.proofs.Common.{◌≡◌, ◌∙◌, ℕ, true, false, cond, is_some, is_none, ◌&&◌, ◌||◌, Ok}
+use Rattle.std.proofs.Common.{Option, Some, None, refl, sym, ap, inl, inr}
 use Rattle.std.specs.Option.{option_and_then}
 use Rattle.std.proofs.lemmas.Bool.{eqb-true}
 use Rattle.dwp_base.specs.ByKind.{value_of}
@@ -12,15 +12,14 @@ use Rattle.dwp_base.specs.declared.section.SectionKind.{SectionKind}
 use Rattle.dwp_base.specs.declared.section.SectionKind.TheVariants.{Info, Types}
 use Rattle.dwp_base.specs.declared.section.Contribution.{Contribution}
 use Rattle.dwp_bytes.specs.declared.encoding.Encoding.{Encoding}
-use Rattle.dwp_index.specs.Index.{Index, Ranges, row_in, range_in}
+use Rattle.dwp_index.specs.Index.{Index, Ranges, row_in}
 use Rattle.dwp_table.specs.Objects.{identifier_of}
 use Rattle.dwp_table.specs.Probing.{found_row}
 use Rattle.dwp_table.specs.declared.object.DwarfObject.{DwarfObject}
 use Rattle.dwp_table.specs.declared.object.DwarfObject.TheVariants.{Compilation, TypeUnit}
 use Rattle.thorin_errors.specs.Errors.{ErrorValue}
 use Rattle.thorin_packaged.specs.RowPlaces.{row_by_place}
-use Rattle.thorin_input.specs.Adjusting.{Adjustor, own_index, other_index, row_of, has_column_for}
-use Rattle.thorin_input.specs.Adjusting.{part_by_row, adjusted}
+use Rattle.thorin_input.specs.Adjusting.{Adjustor, own_index, row_of, part_by_row, adjusted}
 use Rattle.thorin_index.specs.Entries.{contribution_to, entry_by}
 use Rattle.thorin_index.specs.declared.entry.IndexEntry.{IndexEntry}
 use Rattle.thorin_input.specs.Growing.{Contents, joined_parts, range_put}
@@ -29,7 +28,6 @@ use Rattle.thorin_join.specs.Meaning.{read_of, placed_row}
 use Rattle.thorin_input.specs.Format.{is_shared}
 use Rattle.thorin_input.specs.Rows.{whole_row, adjusted_part, unit_part, unit_row, is_same_row}
 use Rattle.thorin_join.proofs.Parts.OfPackages.{IsOneOf}
-use Rattle.thorin_join.proofs.Rows.Ranges.{Placed, whole_behind, placed-by, range-some, range-none}
 use Rattle.dwp_base.proofs.EveryKind.{same-each}
 use Rattle.thorin_strings.proofs.NamedEntries.{as_error_ok}
 
@@ -86,7 +84,7 @@ one-of indexes (Compilation id) index h = inl h
 one-of indexes (TypeUnit signature) index h = inr h
 
 -- ---- parts that are adjusted
-abbrev adjustor : Indexes → SectionKind → Adjustor
+abbrev pub adjustor : Indexes → SectionKind → Adjustor
 adjustor indexes kind = record {
   compilation = indexes.compilations;
   types = indexes.types;
@@ -139,23 +137,6 @@ module _ (indexes : Indexes) (name : DwarfObject) where
         let found = ap (λ own. row_of own (identifier_of name))
             (sym (own-index indexes kind name)) in
         (parts.0, found ∙ parts.1, parts.2)
-
-    pub placed-part : (from : SectionKind) (range : Contribution) (kind : SectionKind)
-        (front bytes : List ℕ) (result : Option Contribution)
-        → (own : OwnRow (index_for indexes name) from range (identifier_of name))
-        → adjusted_part indexes name kind (whole_behind front bytes) ≡ Ok result
-        → Placed front bytes (range_in own.row kind) result
-    placed-part from range kind front bytes result own h =
-        let parts = adjusted-packed kind (whole_behind front bytes) result h in
-        let same = same-ok {E = ErrorValue} parts.0 own.row (sym parts.1 ∙ own.found) in
-        let adjust = adjustor indexes kind in
-        placed-by front bytes kind (identifier_of name) (range_in own.row kind) result
-        (has_column_for kind (own_index adjust name))
-            (has_column_for kind (other_index adjust name))
-        (range-some own.row kind)
-        (λ none. range-none own.index own.number own.row kind own.there (ap (has_column_for kind)
-        (sym (own-index indexes kind name ∙ own.is)) ∙ none))
-        (ap (part_by_row adjust name (whole_behind front bytes)) (sym same) ∙ parts.2)
 
 pub is-unit_row : (indexes : Indexes) (whole : IndexEntry) (name : DwarfObject) (row : IndexEntry)
     → unit_row indexes whole name ≡ Ok row → IsUnitRow indexes whole name row
