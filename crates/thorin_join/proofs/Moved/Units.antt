@@ -1,7 +1,7 @@
 -- A unit is read alike wherever its bytes stand, and whatever follows them.
 use Rattle.std.proofs.Common.{◌≡◌, ◌∙◌, ℕ, ◌+◌, ◌-◌, ◌≤◌, cond, ltb, leb, eqb, ◌&&◌, List, ◌++◌}
 use Rattle.std.proofs.Common.{length, take, Result, Ok, Err, ap, sym, refl, arith, length-append}
-use Rattle.std.proofs.Common.{add-zero}
+use Rattle.std.proofs.Common.{add-zero, ◌⊎◌, inl, inr}
 use Rattle.std.proofs.lemmas.Bool.{eqb-false, le-ltb, ltb-false}
 use Rattle.std.proofs.lemmas.List.{take-append-le, drop-append-le, length-take-le}
 use Rattle.dwp_base.specs.Reading.{◌>>=◌}
@@ -21,7 +21,9 @@ use Rattle.dwp_dwarf.specs.Units.{newer_at, header_at, unit_at}
 use Rattle.dwp_dwarf.specs.declared.unit.UnitSection.{UnitSection}
 use Rattle.dwp_dwarf.specs.declared.unit.UnitSection.TheVariants.{Info, Types}
 use Rattle.dwp_dwarf.specs.declared.unit.UnitType.{UnitType}
-use Rattle.dwp_dwarf.proofs.Readings.{Answer, Gives, then_gives, value_gives, was, more}
+use Rattle.dwp_dwarf.proofs.Readings.{Answer, Gives, then_gives, value_gives, was, more, test_gives}
+use Rattle.dwp_dwarf.proofs.Readings.{more_gives, error_gives}
+use Rattle.dwp_dwarf.specs.declared.unit.UnitType.TheVariants as unit_types
 use Rattle.dwp_dwarf.proofs.Units.{unit_takes}
 use Rattle.thorin_packaged.proofs.OffsetsJoined.{number_front}
 use Rattle.thorin_join.proofs.Moved.Readings.{plain, shifted, Moves, answered, refused, unmoved}
@@ -198,7 +200,7 @@ unit-moves taken order place own rest d u r h =
 
 -- ---- the same of both sections: units of version 5
 
-pub newer-version : (format : Format) (whole i : Input)
+newer-version : (format : Format) (whole i : Input)
     → Gives Header (newer_at format whole i) (λ u. u.encoding.version ≡ 5)
 unfolding newer_at
 newer-version format whole i = then_gives (was (unit_code_at i)) (λ code _. then_gives
@@ -210,12 +212,45 @@ pub newer-five : (format : Format) (whole i : Input) (u : Header) → newer_at f
     → u.encoding.version ≡ 5
 newer-five format whole i u = (newer-version format whole i).gives u
 
-older-version : (place : UnitSection) (format : Format) (version : ℕ) (whole i : Input)
-    → Gives Header (older_at place format version whole i) (λ u. u.encoding.version ≡ version)
+-- what the section says of a unit before version 5
+abbrev pub OfSection : UnitSection → UnitType → Type 0
+OfSection Info type = Unit {0}
+OfSection Types type = (signature offset : ℕ) × (type ≡ unit_types.TypeUnit signature offset)
+
+older-type : (place : UnitSection) (format : Format) (i : Input)
+    → Gives (UnitType × Input) (older_type_at place format i) (λ t. OfSection place t.0)
+unfolding older_type_at
+older-type Info format i = value_gives tt
+older-type Types format i = then_gives (was (type_at format i)) (λ t _.
+    value_gives (t.0.0, t.0.1, refl))
+
+older-known : (place : UnitSection) (format : Format) (version : ℕ) (whole i : Input)
+    → Gives Header (older_at place format version whole i)
+    (λ u. (u.encoding.version ≡ version) × OfSection place u.unit_type)
 unfolding older_at
-older-version place format version whole i = then_gives (was (offset_at format i)) (λ offset _.
+older-known place format version whole i = then_gives (was (offset_at format i)) (λ offset _.
     then_gives (was (address_size_at offset.1)) (λ size _. then_gives
-    (was (older_type_at place format size.1)) (λ t _. value_gives refl)))
+    (older-type place format size.1) (λ t type. value_gives (refl, type))))
+
+-- a unit in types is of version 5 or a type unit
+abbrev pub FiveOrType : Header → Type 0
+FiveOrType unit = (unit.encoding.version ≡ 5) ⊎ OfSection Types unit.unit_type
+
+header-five : (format : Format) (whole i : Input)
+    → Gives Header (header_at Types format whole i) FiveOrType
+unfolding header_at
+header-five format whole i = then_gives (was (number_at 2 i)) (λ version _. test_gives
+    (eqb version.0 5) (λ _. more_gives (newer-version format whole version.1) (λ u five. inl five))
+    (λ _. test_gives (leb 2 version.0 && leb version.0 4) (λ _. more_gives
+    (older-known Types format version.0 whole version.1) (λ u known. inr known.1))
+    (λ _. error_gives)))
+
+pub unit-five : (i : Input) → Gives (Header × Input) (unit_at Types i) (λ x. FiveOrType x.0)
+unfolding unit_at
+unit-five i = then_gives (was (initial_length_at i)) (λ length _. then_gives
+    (was (split_at length.0.1 length.1)) (λ body _. then_gives
+    (was (split_at (body.1.place - i.place) i)) (λ whole _. then_gives
+    (header-five length.0.0 whole.0 body.0) (λ u type. value_gives type))))
 
 -- what a step goes on to, in place of something else that gave y
 instead : {A B : Type 0} (r : Result A ReadError) (f g : A → Result B ReadError) (y : B)
@@ -229,7 +264,7 @@ header-anywhere : (place other : UnitSection) (format : Format) (whole i : Input
 unfolding header_at
 header-anywhere place other format whole i u five = instead (number_at 2 i) _ _ u (λ v h.
     by-bool _ (eqb v.0 5) (λ newer. rw newer (rw newer at h)) (λ no. absurd (eqb-false v.0 5 no
-    (sym ((older-version place format v.0 whole v.1).gives u (kept _ _ _ u (rw no at h)).1)
+    (sym ((older-known place format v.0 whole v.1).gives u (kept _ _ _ u (rw no at h)).1).0
     ∙ five))))
 
 -- a unit of version 5 is read alike in either section

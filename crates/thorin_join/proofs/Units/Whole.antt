@@ -28,12 +28,11 @@ use Rattle.thorin_input.specs.Names.{same_name}
 use Rattle.thorin_input.specs.NewUnits.{name_for, place_for, unit_section}
 use Rattle.thorin_join.specs.State.{kind_at}
 use Rattle.thorin_input.specs.Used.{Used}
-use Rattle.thorin_join.proofs.Units.HeadersRead.{ReadAlone, FiveOrType, unit-five, name-identity}
-use Rattle.thorin_join.proofs.Units.HeadersRead.{kind-place, Listed}
+use Rattle.thorin_join.proofs.Units.HeadersRead.{ReadAlone, name-identity, kind-place, Listed}
 use Rattle.thorin_join.proofs.Units.Sorts.{identity-sort}
 use Rattle.thorin_join.proofs.Moved.RootEntries.{IsShifted}
 use Rattle.thorin_join.proofs.Moved.Readings.{plain}
-use Rattle.thorin_join.proofs.Moved.Units.{unit-moves, unit-anywhere}
+use Rattle.thorin_join.proofs.Moved.Units.{unit-moves, unit-anywhere, FiveOrType, unit-five}
 use Rattle.dwp_base.proofs.Steps.{bind-was, same-ok}
 use Rattle.thorin_strings.proofs.NamedEntries.{as_error_ok}
 use Rattle.dwp_base.proofs.Bools.{by-bool}
