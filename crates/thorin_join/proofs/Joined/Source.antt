@@ -80,13 +80,12 @@ module _ (rows_law : RowsLaw) (source : Source) (before : InProgress) (parts : C
   ready (n ∷ ns) (r ∷ rs) are go =
       let s = rows_law source before.file.contents before.strings parts after r n.1.row table h
       are.0.tested are.0.row in
+      let can = can-lie source before parts n r are.0 go.0 in
       let rest = ready ns rs are.1 go.1 in
       record {
         members = (r.0, s.unit) ∷ rest.members;
         are = λ i. (r.0, s.meaning_is i) ∷ rest.are i;
-        can = (assumption (are.0.bytes ∙ sym s.bytes_are, can-lie source before parts
-            n r are.0 go.0),
-            rest.can);
+        can = (assumption (are.0.bytes ∙ sym s.bytes_are, can), rest.can);
       }
   ready _ _ are go = absurd are
 

@@ -48,9 +48,8 @@ module _ (d : ℕ) where
   same relocated = relocated
 
   abbrev Same : (A : Type 0) (go : A → A) → (Input → Answer A) → Type 0
-  Same A go read = (i : Input) → Moves (Unit {0}) (A × Input) (λ x.
-      (go x.0, shifted d x.1)) (read i)
-      (read (shifted d i))
+  Same A go read = (i : Input) → Moves (Unit {0}) (A × Input)
+      (λ x. (go x.0, shifted d x.1)) (read i) (read (shifted d i))
 
   -- ---- values, which are inputs themselves
   text-shifts : Same Input (shifted d) text_at

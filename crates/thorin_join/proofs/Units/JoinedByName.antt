@@ -111,10 +111,9 @@ steps-joined adding before after (u ∷ us) h =
         let at = kept (from.address == 0) _ _ h.0 is in
         let s1 = bind-was (row_test adding.source.indexes from.kind u.0 u.1.unit) _ h.0 at.1 in
         let s2 = bind-was (unit_row adding.source.indexes adding.whole u.0) _ h.0 s1.2 in
-        let unit : DwarfObject × NewUnit = (
-          u.0,
-          record { place = place_for u.0 from.kind; bytes = u.1.unit.whole.bytes; row = s2.0 },
-        ) in
+        let new : NewUnit =
+        record { place = place_for u.0 from.kind; bytes = u.1.unit.whole.bytes; row = s2.0 } in
+        let unit : DwarfObject × NewUnit = (u.0, new) in
         let units : h.0.units ≡ before.units ++ unit ∷ [] =
         ap (λ (n : New). n.units) (sym (same-ok _ h.0 s2.2)) in
         let names : before_names adding h.0 ≡ before_names adding before ++ u.0 ∷ [] =

@@ -75,29 +75,26 @@ pub chosen-sort : (b : Bool) (row : IndexEntry) → is_chosen b row ≡ true →
 chosen-sort true row h = h
 chosen-sort false row h = is-false _ h
 
-module _ (b : Bool) (rows : List IndexEntry) (chosen : All (λ r. is_chosen b r ≡ true) rows)
-    (apart : AllPairs (λ r s. same_name r.id s.id ≡ false) rows) where
-  ids-differ : (d : IndexEntry) (i j : ℕ) → i < j → j < length rows
-      → get_or (entry_ids rows) i 0 ≡ get_or (entry_ids rows) j 0 → ⊥
-  ids-differ d i j before within h =
-      let id = get_or-at (λ r. identifier_of r.id) rows in
-      let sort = chosen-sort b (get_or rows i d) (chosen i d (omega arith))
-      ∙ sym (chosen-sort b (get_or rows j d) (chosen j d within)) in
-      true≢false (sym (same-sort (get_or rows i d).id (get_or rows j d).id sort
-      (sym (id i d 0 (omega arith)) ∙ h ∙ id j d 0 within)) ∙ apart i j d before within)
-
 -- the identifiers of rows of one kind with names that are apart are distinct
 chosen-distinct : (b : Bool) (rows : List IndexEntry) → All (λ r. is_chosen b r ≡ true) rows
     → AllPairs (λ r s. same_name r.id s.id ≡ false) rows → AreDistinct (entry_ids rows)
 chosen-distinct b [] chosen apart i j hi hj h = absurd (omega arith)
 chosen-distinct b (d ∷ rest) chosen apart i j hi hj h =
     let long = length-map rest (λ (r : IndexEntry). identifier_of r.id) in
-    let differ = ids-differ b (d ∷ rest) chosen apart d in
     elim (cases_order i j) [
       | inr (inl before) ↦ absurd (differ i j before (omega (arith, long)) h)
       | inl same ↦ same
       | inr (inr after) ↦ absurd (differ j i after (omega (arith, long)) (sym h))
     ]
+  where
+    differ : (i j : ℕ) → i < j → j < length (d ∷ rest) → get_or (entry_ids (d ∷ rest)) i 0 ≡ get_or
+        (entry_ids (d ∷ rest)) j 0 → ⊥
+    differ i j before within h =
+        let id = get_or-at (λ r. identifier_of r.id) (d ∷ rest) in
+        let sort = chosen-sort b (get_or (d ∷ rest) i d) (chosen i d (omega arith))
+        ∙ sym (chosen-sort b (get_or (d ∷ rest) j d) (chosen j d within)) in
+        true≢false (sym (same-sort (get_or (d ∷ rest) i d).id (get_or (d ∷ rest) j d).id sort
+        (sym (id i d 0 (omega arith)) ∙ h ∙ id j d 0 within)) ∙ apart i j d before within)
 
 -- rows whose names are apart: those of one kind have distinct identifiers
 pub distinct_chosen : (b : Bool) (rows : List IndexEntry) (names : List DwarfObject)
