@@ -37,7 +37,7 @@ use Rattle.dwp_base.proofs.Bools.{by-bool}
 use Rattle.thorin_join.proofs.Units.InRows.{rows-keys}
 use Rattle.thorin_errors.specs.Errors.{ErrorValue}
 use Rattle.dwp_base.specs.Sections.{same_kind}
-use Rattle.thorin_join.proofs.Rows.OneAdded.{not-copied, not-offsets}
+use Rattle.thorin_join.proofs.Rows.OneAdded.{not-shared}
 use Rattle.dwp_dwarf.specs.declared.unit.UnitSection.TheVariants as places
 
 -- ---- joining keeps what belongs to units
@@ -177,8 +177,8 @@ source-joins parts_law rows_law alone taken source before now ms rep named apart
     let rows = keep-rows order old q.file.contents before.strings m.after before.rows ms
     (grows-with_parts parts old) kept.longer rep.rows in
     let empty : (place : UnitSection) → joined_parts (kind_at place) parts ≡ [] = λ place.
-    parts-none source before.strings parts m.after m.parts_are (kind_at place) (not-copied place)
-    (not-offsets place).1 in
+    parts-none source before.strings parts m.after m.parts_are (kind_at place) (not-shared place).0
+    (not-shared place).2 in
     let a = units-added q.file.contents q us ms r.members
     (λ kind. record { rest = []; is = sym (append-nil (content_of kind q.file.contents)) }) fresh
     (subst (λ o. AllCanBeAdded o q.file.contents m.after us r.members) same r.can) rows

@@ -55,14 +55,12 @@ pub part-put : (k : SectionKind) (x : List ℕ) (c : Contents) → 0 < length x
     → part_of (content_of k (with_bytes k x c)) (range_put k x c) ≡ x
 part-put k x c h = rw (content-put k x c) (lies-whole (content_of k c) x).part_is
 
-pub not-copied : (place : UnitSection) → is_copied (kind_at place) ≡ false
-not-copied places.Info = refl
-not-copied places.Types = refl
-
-pub not-offsets : (place : UnitSection) → (same_kind (kind_at place) kinds.StrOffsets ≡ false)
+-- the kind of a place is none of those that units share
+pub not-shared : (place : UnitSection) → (is_copied (kind_at place) ≡ false)
+    × (same_kind (kind_at place) kinds.StrOffsets ≡ false)
     × (same_kind kinds.StrOffsets (kind_at place) ≡ false)
-not-offsets places.Info = (refl, refl)
-not-offsets places.Types = (refl, refl)
+not-shared places.Info = (refl, refl, refl)
+not-shared places.Types = (refl, refl, refl)
 
 -- the place of a unit is that of its name and its range in types
 pub record Fits (shared : IndexEntry) (name : DwarfObject) (x : List ℕ)
@@ -71,10 +69,6 @@ pub record Fits (shared : IndexEntry) (name : DwarfObject) (x : List ℕ)
   pub some : 0 < length x
   pub types_only : place ≡ places.Types → (signature : ℕ)
       × (name ≡ TypeUnit (record { 0 = signature }))
-
-info-place : (name : DwarfObject) → places.Info ≡ index.place_of name None
-info-place (Compilation id) = refl
-info-place (TypeUnit signature) = refl
 
 pub lie-by : (shared : IndexEntry) (c : Contents) (k : SectionKind) (x : List ℕ)
     (kind : SectionKind) (part : Option Contribution) (range : Contribution)
@@ -115,7 +109,8 @@ module _ (shared : IndexEntry) (c : Contents) (name : DwarfObject) (x : List ℕ
 
   pub own-place : (place : UnitSection) → Fits shared name x place
       → place ≡ index.place_of name (contribution_to kinds.Types (row_at shared c name x place))
-  own-place places.Info fits = rw fits.no_types (info-place name)
+  own-place places.Info fits = rw fits.no_types (elim name as
+      (λ n. places.Info ≡ index.place_of n None) [ Compilation id ↦ refl | TypeUnit id ↦ refl ])
   own-place places.Types fits = let t = fits.types_only refl in
       rw (t.1, place-put kinds.Types x c fits.some)
 
@@ -163,9 +158,9 @@ module _ (shared : IndexEntry) (c : Contents) (name : DwarfObject) (x : List ℕ
           };
           shares = record {
             content = λ kind copied. rw
-                (row-other kind (copied-differ kind (kind_at place) copied (not-copied place)))
+                (row-other kind (copied-differ kind (kind_at place) copied (not-shared place).0))
                 (kept.content kind copied);
-            string = λ final table begins i. rw (row-other kinds.StrOffsets (not-offsets place).0)
+            string = λ final table begins i. rw (row-other kinds.StrOffsets (not-shared place).1)
                 (kept.string final table begins i);
           };
           owns = record {

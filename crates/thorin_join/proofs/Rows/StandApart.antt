@@ -90,17 +90,13 @@ pub sound-inside : (made : InProgress) → IsSound made
 sound-inside made sound = each-inside made.file.order made.file.contents made.strings made.rows _
     sound.units.rows
 
-first-inside : (begun : Option InProgress) → IsSoundBegun begun
-    → EachRow (LieInside (contents_begun begun)) (rows_begun begun)
-first-inside None sound = tt
-first-inside (Some made) sound = sound-inside made sound
-
--- a package that an input begins has nothing
-is-made : (begun : Option InProgress) (file : Elf) (now : InProgress)
+-- the rows before lie inside, and a package that an input begins has nothing
+begun-known : (begun : Option InProgress) (file : Elf) (now : InProgress) → IsSoundBegun begun
     → Appended (package_or_new file begun).file.contents (package_or_new file begun).rows now.rows
-    → Appended (contents_begun begun) (rows_begun begun) now.rows
-is-made None file now a = a
-is-made (Some p) file now a = a
+    → EachRow (LieInside (contents_begun begun)) (rows_begun begun)
+    × Appended (contents_begun begun) (rows_begun begun) now.rows
+begun-known None file now sound a = (tt, a)
+begun-known (Some p) file now sound a = (sound-inside p sound, a)
 
 pub stand-apart : (bytes : List ℕ) (begun : Option InProgress) (now : InProgress)
     → IsSoundBegun begun → IsSound now → with_input bytes begun ≡ Ok (Some now)
@@ -109,7 +105,7 @@ stand-apart bytes begun now sound fine h =
     let t = takes bytes begun (Some now) h in
     let before = package_or_new t.file begun in
     let from = λ (n : InProgress). Appended before.file.contents before.rows n.rows in
-    let a = is-made begun t.file now (elim t.does [
+    let k = begun-known begun t.file now sound (elim t.does [
       | inl u ↦
           let m = source-made u.1.source before u.1.made u.1.with in
           let c = before.file.contents in
@@ -121,9 +117,9 @@ stand-apart bytes begun now sound fine h =
           (record { added = []; is = sym (append-nil before.rows); behind = tt })
     ]) in
     record {
-      added = a.added;
-      rows = a.is;
-      first = first-inside begun sound;
-      behind = a.behind;
+      added = k.1.added;
+      rows = k.1.is;
+      first = k.0;
+      behind = k.1.behind;
       inside = sound-inside now fine;
     }
