@@ -1,15 +1,13 @@
 -- A package with the units of an input has them beside its own.
-use Rattle.std.proofs.Common.{◌≡◌, ◌∙◌, ℕ, true, cond, not, ◌&&◌, List, [], ◌∷◌, ◌++◌, map, ap, ap₂}
-use Rattle.std.proofs.Common.{sym, subst, refl, Option, Some, Ok, false}
+use Rattle.std.proofs.Common.{subst, [], ◌≡◌, ◌∙◌, ℕ, true, cond, not, ◌&&◌, List, ◌∷◌, ◌++◌, map}
+use Rattle.std.proofs.Common.{ap, ap₂, sym, refl, Option, Some, Ok, false}
 use Rattle.std.specs.List.{list_any}
 use Rattle.std.proofs.lemmas.List.{append-nil}
 use Rattle.dwp_base.specs.declared.section.SectionKind.{SectionKind}
 use Rattle.dwp_base.specs.declared.section.SectionKind.TheVariants as kinds
 use Rattle.dwp_elf.specs.Contents.{content_of}
-use Rattle.dwp_bytes.specs.Input.{section}
-use Rattle.dwp_dwarf.specs.Units.{UnitsAreTaken, unit_at}
+use Rattle.dwp_dwarf.specs.Units.{UnitsAreTaken}
 use Rattle.dwp_dwarf.specs.declared.unit.UnitSection.{UnitSection}
-use Rattle.dwp_index.specs.Package.{encoding_in}
 use Rattle.dwp_table.specs.declared.object.DwarfObject.{DwarfObject}
 use Rattle.thorin_strings.specs.Strings.{IsTable}
 use Rattle.thorin_input.specs.Growing.{Contents, with_parts, joined_parts}
@@ -27,13 +25,11 @@ use Rattle.thorin_join.specs.State.{kind_at}
 use Rattle.thorin_join.proofs.Units.NamesApart.{joined_distinct}
 use Rattle.thorin_join.proofs.Units.JoinedByName.{AreAdded, units-joined, added-keys}
 use Rattle.thorin_join.proofs.Rows.Stay.{Grows, keep-rows}
-use Rattle.thorin_join.proofs.Rows.LieInTurn.{AllCanLie, units-lie, can-lie, all-can-lie, parts-lie}
-use Rattle.thorin_join.proofs.Rows.LieInTurn.{laid-lies}
+use Rattle.thorin_join.proofs.Rows.LieInTurn.{can-lie, laid-lies}
 use Rattle.thorin_join.proofs.Parts.Appended.{content-with_parts, parts-none}
-use Rattle.thorin_join.proofs.Parts.Strings.{PartsKept, PartsLaw}
+use Rattle.thorin_join.proofs.Parts.Strings.{PartsLaw}
 use Rattle.thorin_join.proofs.Rows.Meaning.{RowsLaw}
-use Rattle.thorin_join.proofs.Rows.AllAdded.{AllNew, joined-new, new-by-keys, units-added}
-use Rattle.thorin_join.proofs.Rows.AllAdded.{other-kind, Added, AllCanBeAdded}
+use Rattle.thorin_join.proofs.Rows.AllAdded.{AllNew, joined-new, units-added, AllCanBeAdded}
 use Rattle.thorin_join.proofs.Units.Whole.{AllGo, go-joining, units-go}
 use Rattle.dwp_base.proofs.Steps.{bind-was, bind-ok, same-ok}
 use Rattle.thorin_join.proofs.Units.HeadersRead.{ReadAlone}
@@ -41,7 +37,7 @@ use Rattle.dwp_base.proofs.Bools.{by-bool}
 use Rattle.thorin_join.proofs.Units.InRows.{rows-keys}
 use Rattle.thorin_errors.specs.Errors.{ErrorValue}
 use Rattle.dwp_base.specs.Sections.{same_kind}
-use Rattle.thorin_join.proofs.Rows.OneAdded.{not-copied, not-offsets}
+use Rattle.thorin_join.proofs.Rows.OneAdded.{not-shared}
 use Rattle.dwp_dwarf.specs.declared.unit.UnitSection.TheVariants as places
 
 -- ---- joining keeps what belongs to units
@@ -80,44 +76,22 @@ module _ (rows_law : RowsLaw) (source : Source) (before : InProgress) (parts : C
   ready : (ns : List (DwarfObject × NewUnit)) (rs : List (DwarfObject × UnitRead))
       → AreAdded (adding source before parts) ns rs → AllGo source.object.order rs
       → Ready source (with_parts parts before.file.contents) after ns rs
-  unfolding encoding_in
   ready [] [] are go = record { members = []; are = refl; can = tt }
-  ready [] (r ∷ rs) are go = absurd are
-  ready (n ∷ ns) [] are go = absurd are
   ready (n ∷ ns) (r ∷ rs) are go =
       let s = rows_law source before.file.contents before.strings parts after r n.1.row table h
       are.0.tested are.0.row in
-      let lies = can-lie source before parts n r are.0 go.0 in
-      let whole = lies.whole in
+      let can = can-lie source before parts n r are.0 go.0 in
       let rest = ready ns rs are.1 go.1 in
       record {
         members = (r.0, s.unit) ∷ rest.members;
         are = λ i. (r.0, s.meaning_is i) ∷ rest.are i;
-        can = (
-          record {
-            name = are.0.name;
-            bytes = are.0.bytes ∙ sym s.bytes_are;
-            encoded = s.encoding;
-            lie = s.lie;
-            shares = s.shares;
-            fits = lies.fits;
-            encoding = whole.unit.encoding;
-            header = bind-ok (unit_at n.1.place (section source.object.order n.1.bytes))
-                (whole.unit, whole.rest) _ whole.read;
-          },
-          rest.can,
-        );
+        can = (assumption (are.0.bytes ∙ sym s.bytes_are, can), rest.can);
       }
+  ready _ _ are go = absurd are
 
 -- the names of a package's units
 pub keys-held : (made : InProgress) → keys (held_units made) ≡ names_of made
 keys-held made = rows-keys (unit_bytes made.file.contents) made.rows
-
--- a section that nothing is added to
-none-added : (kind : SectionKind) (parts c : Contents) → joined_parts kind parts ≡ []
-    → content_of kind c ≡ [] → content_of kind (with_parts parts c) ≡ []
-none-added kind parts c h k = content-with_parts kind parts c ∙ ap (λ l. content_of kind c ++ l) h ∙
-    append-nil (content_of kind c) ∙ k
 
 -- the package with the parts, before its units
 abbrev pub with_all_parts : InProgress → Contents → List (List ℕ) → List ℕ → InProgress
@@ -170,25 +144,6 @@ pub record SourceJoins (source : Source) (now : InProgress) (ms : Members) : Typ
   pub apart : AreApart (names_of now)
   pub laid : IsLaid now
 
-represents-added : (p : InProgress) (parts : Contents) (after : List (List ℕ)) (differing : List ℕ)
-    (us : List (DwarfObject × NewUnit)) (ms all : Members)
-    → Represents p ms → PartsKept p.strings parts after
-    → Added (with_all_parts p parts after differing) us all
-    → Represents (with_new_units (with_all_parts p parts after differing) us) all
-represents-added p parts after differing us ms all rep kept a =
-    let c = p.file.contents in
-    let none = λ (kind : SectionKind) (info : same_kind kinds.Info kind ≡ false)
-    (types : same_kind kinds.Types kind ≡ false) (new : joined_parts kind parts ≡ [])
-    (old : content_of kind c ≡ []).
-    a.other kind (other-kind kind info types) ∙ none-added kind parts c new old in
-    record {
-      table = rw a.strings kept.table;
-      no_strings = none kinds.Str refl refl kept.no_strings rep.no_strings;
-      no_compilations = none kinds.CuIndex refl refl kept.no_compilations rep.no_compilations;
-      no_types = none kinds.TuIndex refl refl kept.no_types rep.no_types;
-      rows = rw (a.order, a.strings) a.rows;
-    }
-
 pub grows-with_parts : (parts c : Contents) → Grows c (with_parts parts c)
 grows-with_parts parts c kind = record {
   rest = joined_parts kind parts;
@@ -204,52 +159,53 @@ pub source-joins : PartsLaw → RowsLaw → ReadAlone → UnitsAreTaken
 unfolding source_meaning
 source-joins parts_law rows_law alone taken source before now ms rep named apart laid same h =
     let m = source-made source before now h in
+    let order = before.file.order in
+    let old = before.file.contents in
     let parts = m.parts in
-    let after = m.after in
-    let new = m.new in
-    let j = units-joined (adding source before parts) new m.new_are in
+    let us = m.new.units in
+    let j = units-joined (adding source before parts) m.new m.new_are in
     let held = keys (held_units before) in
-    let kept = parts_law source before.strings parts after rep.table m.parts_are in
-    let go = go-joining source.object.order held j.all (units-go taken alone source j.all j.is) in
-    let r = ready rows_law source before parts after rep.table m.parts_are new.units
-    (joining held j.all) j.are go in
-    let c = with_parts parts before.file.contents in
-    let q = with_all_parts before parts after (before.differing ++ new.differing) in
-    let can : AllCanBeAdded q.file.order q.file.contents q.strings new.units r.members =
-    subst (λ o. AllCanBeAdded o c after new.units r.members) same r.can in
-    let added = added-keys (adding source before parts) new.units (joining held j.all) j.are in
-    let fresh : AllNew (names_of q) new.units = subst (λ n. AllNew n new.units) (keys-held before)
-    (new-by-keys held (joining held j.all) new.units (sym added) (joined-new held j.all)) in
-    let rows = keep-rows before.file.order before.file.contents c before.strings after before.rows
-    ms (grows-with_parts parts before.file.contents) kept.longer rep.rows in
-    let a = units-added q new.units ms r.members fresh can rows in
-    let can_lie : AllCanLie q.file.order new.units =
-    subst (λ o. AllCanLie o new.units) same (all-can-lie source before parts new.units
-    (joining held j.all) j.are go) in
-    let none : (place : UnitSection) → joined_parts (kind_at place) parts ≡ [] = λ place.
-    parts-none source before.strings parts after m.parts_are (kind_at place) (not-copied place)
-    (not-offsets place).1 in
-    let lie = units-lie q new.units fresh can_lie (parts-lie before.file.order before.rows parts
-    before.file.contents none (laid-lies before laid)) in
     let names : held ≡ keys ms = keys-held before ∙ named in
-    record {
+    let kept = parts_law source before.strings parts m.after rep.table m.parts_are in
+    let go = go-joining source.object.order held j.all (units-go taken alone source j.all j.is) in
+    let r = ready rows_law source before parts m.after rep.table m.parts_are us
+    (joining held j.all) j.are go in
+    let q = with_all_parts before parts m.after (before.differing ++ m.new.differing) in
+    let added = added-keys (adding source before parts) us (joining held j.all) j.are in
+    let fresh : AllNew (names_of before) (keys us) =
+    rw (added, ← keys-held before) (joined-new held j.all) in
+    let rows = keep-rows order old q.file.contents before.strings m.after before.rows ms
+    (grows-with_parts parts old) kept.longer rep.rows in
+    let empty : (place : UnitSection) → joined_parts (kind_at place) parts ≡ [] = λ place.
+    parts-none source before.strings parts m.after m.parts_are (kind_at place) (not-shared place).0
+    (not-shared place).2 in
+    let a = units-added q.file.contents q us ms r.members
+    (λ kind. record { rest = []; is = sym (append-nil (content_of kind q.file.contents)) }) fresh
+    (subst (λ o. AllCanBeAdded o q.file.contents m.after us r.members) same r.can) rows
+        (laid-lies before parts empty laid) in
+    let none : (kind : SectionKind) → same_kind kinds.Info kind ≡ false
+    → same_kind kinds.Types kind ≡ false → joined_parts kind parts ≡ [] → content_of kind old ≡ []
+    → content_of kind (with_new_units q us).file.contents ≡ [] = λ kind info types new none.
+    a.other kind (elim [ places.Info ↦ info | places.Types ↦ types ])
+    ∙ content-with_parts kind parts old ∙ rw (none, new) refl in
+    rw (← m.is) (record {
       units = map {B = DwarfObject × Option Meaning} (meant source) j.all;
       meaning = bind-ok (source_units source) j.all _ j.is;
-      defined = can_join-meant source (keys ms) j.all ∙ ap (λ n. can_join n j.all)
-          (sym names) ∙ j.defined;
+      defined = rw (← names) (can_join-meant source held j.all ∙ j.defined);
       added = r.members;
-      joined = joining-meant source (keys ms) j.all ∙ ap (λ n.
-          map {B = DwarfObject × Option Meaning} (meant source) (joining n j.all))
-          (sym names) ∙ r.are;
-      has = subst (λ p. Represents p (ms ++ r.members)) m.is (represents-added before parts after
-          (before.differing ++ new.differing) new.units ms (ms ++ r.members) rep kept a);
-      apart = subst (λ (p : InProgress). AreApart (names_of p)) m.is (subst AreApart
-          (sym (a.names ∙ ap (λ k. names_of before ++ k) added))
-          (subst (λ n. AreApart (names_of before ++ keys (joining n j.all)))
-          (sym (keys-held before)) (joined_distinct (names_of before) j.all apart)));
-      laid = subst IsLaid m.is (record {
-        info = lie.lies places.Info;
-        types = lie.lies places.Types;
-        once = lie.once;
-      });
-    }
+      joined = rw (← names) (joining-meant source held j.all ∙ r.are);
+      has = record {
+        table = rw a.strings kept.table;
+        no_strings = none kinds.Str refl refl kept.no_strings rep.no_strings;
+        no_compilations =
+            none kinds.CuIndex refl refl kept.no_compilations rep.no_compilations;
+        no_types = none kinds.TuIndex refl refl kept.no_types rep.no_types;
+        rows = rw (a.order, a.strings) a.rows;
+      };
+      apart = rw (a.names, added, keys-held before) (joined_distinct (names_of before) j.all apart);
+      laid = record {
+        info = rw a.order (a.lie.lies places.Info);
+        types = rw a.order (a.lie.lies places.Types);
+        once = a.lie.once;
+      };
+    })

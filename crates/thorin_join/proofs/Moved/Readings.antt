@@ -1,238 +1,135 @@
--- Numbers and parts of bytes are read alike wherever the bytes stand, and whatever follows them.
-use Rattle.std.proofs.Common.{◌≡◌, ◌∙◌, ℕ, ◌+◌, ◌≤◌, Bool, true, false, cond, ltb, leb, eqb, ◌&&◌}
-use Rattle.std.proofs.Common.{List, ◌++◌, length, drop, get_or, Result, Ok, Err, ap, ap₂, sym, refl}
-use Rattle.std.proofs.Common.{subst, arith, length-append}
-use Rattle.std.proofs.lemmas.Bool.{le-ltb, ltb-false}
-use Rattle.std.proofs.lemmas.List.{drop-append-le, get_or_append_left}
-use Rattle.dwp_base.specs.Numbers.{number}
+-- What is read of bytes is read alike wherever they stand.
+use Rattle.std.proofs.Common.{◌≡◌, ℕ, zero, suc, ◌+◌, ◌-◌, ◌^◌, Bool, true, false, cond, ltb, List}
+use Rattle.std.proofs.Common.{length, Result, Ok, Err, refl, ap, ◌∙◌, arith, add_assoc}
+use Rattle.std.specs.Prelude.{ℤ}
 use Rattle.dwp_base.specs.Reading.{◌>>=◌}
 use Rattle.dwp_base.specs.declared.endian.Endianness.{Endianness}
-use Rattle.dwp_base.specs.declared.endian.Endianness.TheVariants.{Little, Big}
-use Rattle.dwp_bytes.specs.Input.{Input, byte_at, number_at, relocated_at, offset_at}
-use Rattle.dwp_bytes.specs.Input.{is_address_size}
-use Rattle.dwp_bytes.specs.Encoding.{offset_size}
-use Rattle.dwp_bytes.specs.declared.encoding.Format.{Format}
-use Rattle.dwp_bytes.specs.declared.encoding.Format.TheVariants.{Dwarf32, Dwarf64}
+use Rattle.dwp_bytes.specs.Input.{Input, after, byte_at, number_at, skip_at, split_at}
+use Rattle.dwp_bytes.specs.Leb.{leb_at, uleb_at, signed_leb_at, sleb_at, is_i64}
 use Rattle.dwp_bytes.specs.declared.error.ReadError.{ReadError}
 use Rattle.dwp_bytes.specs.declared.error.ReadError.TheVariants.{UnexpectedEof}
-use Rattle.dwp_dwarf.specs.Units.{Unit as Header, initial_length_at, address_size_at, type_at}
-use Rattle.dwp_dwarf.specs.Units.{older_type_at, unit_code_at, unit_type_at, older_at, newer_at}
-use Rattle.dwp_dwarf.specs.Units.{header_at}
-use Rattle.dwp_dwarf.specs.declared.unit.UnitSection.{UnitSection}
-use Rattle.dwp_dwarf.specs.declared.unit.UnitSection.TheVariants.{Info, Types}
-use Rattle.dwp_index.proofs.TwoPlaces.{choice}
-use Rattle.thorin_packaged.proofs.OffsetsJoined.{number_front}
+use Rattle.dwp_dwarf.proofs.Readings.{Answer}
 
 -- bytes that nothing relocates, from a place on
 abbrev pub plain : Endianness → ℕ → List ℕ → Input
 plain order place bytes = record {
   order = order;
   relocated = λ at stored. stored;
-  place =
-      place;
+  place = place;
   bytes = bytes;
 }
 
--- ---- numbers
+-- the same bytes at a place behind others
+abbrev pub shifted : ℕ → Input → Input
+shifted d i = record i { place = d + i.place }
 
-number-2 : (order : Endianness) (a b : List ℕ) → 2 ≤ length a → number order 2 (a ++ b) ≡
-    number order 2 a
-number-2 order a b h =
-    let c = get_or_append_left a b 0 0 (omega arith) in
-    let d = get_or_append_left a b 0 1 (omega arith) in
-    elim order as (λ o. number o 2 (a ++ b) ≡ number o 2 a)
-    [ Little ↦ rw (c, d) | Big ↦ rw (c, d) ]
+-- ---- what is read here and there
 
--- numbers of this size don't depend on what follows them
-abbrev Sized : ℕ → Type 0
-Sized n = (order : Endianness) (a b : List ℕ) → n ≤ length a → number order n (a ++ b) ≡
-    number order n a
+-- what was read of the first is read of the second, moved, and, where E holds, an error too
+abbrev Agree : {A : Type 0} → Type 0 → (A → A) → Result A ReadError → Result A ReadError → Type 0
+Agree E go (Ok x) s = s ≡ Ok (go x)
+Agree E go (Err e) s = E → s ≡ Err e
 
--- ---- readings at two places, of bytes, and of the same with more behind them
+pub record Moves (E A : Type 0) (go : A → A) (r s : Result A ReadError) : Type 0 where
+  pub is : Agree E go r s
 
-pub record Alike (order : Endianness) (d : ℕ) (more : List ℕ) (i j : Input) : Type 0 where
-  pub bytes : List ℕ
-  pub p : ℕ
-  pub left : i ≡ plain order p bytes
-  pub right : j ≡ plain order (d + p) (bytes ++ more)
+pub answered : {E A : Type 0} {go : A → A} {x : A} → Moves E A go (Ok x) (Ok (go x))
+answered = record { is = refl }
 
--- what was read of the first is read of the second
-abbrev pub Agree : {A : Type 0} → Endianness → ℕ → List ℕ → Result (A × Input) ReadError
-    → Result (A × Input) ReadError → Type 0
-Agree order d more (Ok x) (Ok y) = (x.0 ≡ y.0) × Alike order d more x.1 y.1
-Agree order d more (Ok x) (Err f) = ⊥
-Agree order d more (Err e) r = Unit {0}
+pub refused : {E A : Type 0} {go : A → A} {e : ReadError} → Moves E A go (Err e) (Err e)
+refused = record { is = λ _. refl }
 
-agreed : {A : Type 0} (order : Endianness) (d : ℕ) (more : List ℕ) (a : A) (bytes : List ℕ) (p : ℕ)
-    → Agree order d more (Ok (a, plain order p bytes)) (Ok (a, plain order (d + p) (bytes ++ more)))
-agreed order d more a bytes p = (refl, record { bytes = bytes; p = p; left = refl; right = refl })
+pub unmoved : {E A : Type 0} (r : Result A ReadError) → Moves E A (λ x. x) r r
+unmoved (Ok x) = answered
+unmoved (Err e) = refused
 
-bind : {A C : Type 0} (order : Endianness) (d : ℕ) (more : List ℕ) (T : Result C ReadError
-    → Result C ReadError → Type 0) (r s : Result (A × Input) ReadError) (f g : A × Input
-    → Result C ReadError)
-    → ((e : ReadError) (z : Result C ReadError) → T (Err e) z) → Agree order d more r s
-    → ((a : A) (bytes : List ℕ) (p : ℕ) → T (f (a, plain order p bytes))
-    (g (a, plain order (d + p) (bytes ++ more)))) → T (r >>= f) (s >>= g)
-bind {A} {C} order d more T (Ok x) (Ok y) f g errors h k =
-    let left : (x.0, plain order h.1.p h.1.bytes) ≡ x = ap (λ (i : Input). (x.0, i))
-    (sym h.1.left) in
-    let right : (x.0, plain order (d + h.1.p) (h.1.bytes ++ more)) ≡ y =
-    ap (λ (a : A). (a, plain order (d + h.1.p) (h.1.bytes ++ more))) h.0 ∙ ap (λ (i : Input).
-    (y.0, i)) (sym h.1.right) in
-    subst (λ z. T (f z) (g y)) left (subst (λ z. T (f (x.0, plain order h.1.p h.1.bytes)) (g z))
-    right (k x.0 h.1.bytes h.1.p))
-bind order d more T (Ok x) (Err e) f g errors h k = absurd h
-bind order d more T (Err e) s f g errors h k = errors e (s >>= g)
+-- what follows a reading
+pub then : {E A B : Type 0} {f : A → A} {g : B → B} {r s : Result A ReadError}
+    {next : A → Result B ReadError} (later : A → Result B ReadError) → Moves E A f r s
+    → ((x : A) → Moves E B g (next x) (later (f x))) → Moves E B g (r >>= next) (s >>= later)
+then {r = Ok x} later h k = rw h.is (k x)
+then {r = Err e} later h k = record { is = λ strict. ap (λ s. s >>= later) (h.is strict) }
 
--- a reading of n bytes, where they are there
-pub enough : {A : Type 0} (order : Endianness) (d : ℕ) (more : List ℕ) (n p : ℕ) (bytes : List ℕ)
-    (f : List ℕ → A) → (n ≤ length bytes → f bytes ≡ f (bytes ++ more))
-    → (short : Bool) → ltb (length bytes) n ≡ short
-    → Agree order d more (cond short (Err UnexpectedEof)
-    (Ok (f bytes, plain order (p + n) (drop n bytes)))) (cond (ltb (length (bytes ++ more)) n)
-    (Err UnexpectedEof) (Ok (
-      f (bytes ++ more),
-      plain order (d + p + n)
-          (drop n (bytes ++ more)),
-    )))
-enough order d more n p bytes f same true h = tt
-enough order d more n p bytes f same false h =
-    let fits : n ≤ length bytes = ltb-false _ _ h in
-    let sum : d + p + n ≡ d + (p + n) = omega arith in
-    let long : n ≤ length (bytes ++ more) = omega (arith, length-append bytes more) in
-    rw (le-ltb _ _ long) (
-      same fits,
-      record {
-        bytes = drop n bytes;
-        p = p + n;
-        left = refl;
-        right =
-            ap₂ (plain order) sum (drop-append-le n bytes more fits);
-      },
-    )
+-- either of two
+pub either : {E A : Type 0} {go : A → A} {x y v w : Result A ReadError} (b : Bool)
+    → Moves E A go x v → Moves E A go y w → Moves E A go (cond b x y) (cond b v w)
+either true p q = p
+either false p q = q
 
-module _ (order : Endianness) (d : ℕ) (more : List ℕ) where
-  -- two readings agree of all bytes at the one place, and of the same with more at the other
-  abbrev Agrees : {A : Type 0} → (Input → Result (A × Input) ReadError) → Type 0
-  Agrees read = (bytes : List ℕ) (p : ℕ) → Agree order d more (read (plain order p bytes))
-      (read (plain order (d + p) (bytes ++ more)))
+-- what was read is read there
+pub read-there : {E A : Type 0} {go : A → A} {r s : Result A ReadError} (x : A) → Moves E A go r s
+    → r ≡ Ok x → s ≡ Ok (go x)
+read-there x h e = rw e at h.is
 
-  -- what follows them agrees
-  then : {A C : Type 0} (r s : Result (A × Input) ReadError) (f g : A × Input
-      → Result (C × Input) ReadError) → Agree order d more r s
-      → ((a : A) (bytes : List ℕ) (p : ℕ) → Agree order d more (f (a, plain order p bytes))
-      (g (a, plain order (d + p) (bytes ++ more)))) → Agree order d more (r >>= f) (s >>= g)
-  then r s f g = bind order d more (Agree order d more) r s f g (λ e z. tt)
+-- what is made of both is one, where it doesn't depend on what moves
+pub told : {A B : Type 0} {go : A → A} {r s : Result A ReadError} (f : Result A ReadError → B)
+    → Moves (Unit {0}) A go r s → ((x : A) → f (Ok (go x)) ≡ f (Ok x)) → f s ≡ f r
+told {r = Ok x} f h k = ap f h.is ∙ k x
+told {r = Err e} f h k = ap f (h.is tt)
 
-  number_agrees : (n : ℕ) → Sized n → Agrees (number_at n)
-  unfolding number_at
-  number_agrees n sized bytes p = enough order d more n p bytes (number order n) (λ fits.
-      sym (sized order bytes more fits)) (ltb (length bytes) n) refl
+-- ---- bytes so far behind others, whose numbers are relocated in this way
 
-  eight_agrees : Agrees (number_at 8)
-  eight_agrees = number_agrees 8 (λ o. number_front o Dwarf64)
+module _ (d : ℕ) (by : (ℕ → ℕ → ℕ) → ℕ → ℕ → ℕ) where
+  abbrev pub there : Input → Input
+  there i = record i { relocated = by i.relocated; place = d + i.place }
 
-  byte_agrees : Agrees byte_at
+  -- the rest, and both of two inputs
+  abbrev pub behind : {A : Type 0} → A × Input → A × Input
+  behind x = (x.0, there x.1)
+
+  abbrev pub both : Input × Input → Input × Input
+  both x = (there x.0, there x.1)
+
+  -- a reading gives the same there
+  abbrev pub Shifts : (A : Type 0) → (Input → Answer A) → Type 0
+  Shifts A read = (i : Input) → Moves (Unit {0}) (A × Input) behind (read i) (read (there i))
+
+  -- what is read of n bytes
+  pub takes : {A : Type 0} (go : A → A) (n : ℕ) (i : Input) (a : A)
+      → Moves (Unit {0}) (A × Input) (λ x. (go x.0, there x.1))
+      (cond (ltb (length i.bytes) n) (Err UnexpectedEof) (Ok (a, after n i)))
+      (cond (ltb (length i.bytes) n) (Err UnexpectedEof) (Ok (go a, after n (there i))))
+  takes go n i a = rw (add_assoc d i.place n) (either _ refused answered)
+
+  pub shifts-byte : Shifts ℕ byte_at
   unfolding byte_at
-  byte_agrees bytes p = enough order d more 1 p bytes (λ l. get_or l 0 0) (λ fits.
-      sym (get_or_append_left bytes more 0 0 (omega arith))) (ltb (length bytes) 1) refl
+  shifts-byte i = takes (λ a. a) 1 i _
 
-  offset_agrees : (format : Format) → Agrees (offset_at format)
-  unfolding offset_at relocated_at
-  offset_agrees format bytes p =
-      let n = offset_size format in
-      enough order d more n p bytes (number order n) (λ fits.
-      sym (number_front order format bytes more fits)) (ltb (length bytes) n) refl
+  pub shifts-number : (n : ℕ) → Shifts ℕ (number_at n)
+  unfolding number_at
+  shifts-number n i = takes (λ a. a) n i _
 
-  address_size_agrees : Agrees address_size_at
-  unfolding address_size_at
-  address_size_agrees bytes p = then _ _ _ _ (byte_agrees bytes p) (λ a bs q.
-      choice (Agree order d more) (is_address_size a) _ _ _ _ (agreed order d more a bs q) tt)
+  pub shifts-skip : (n : ℕ) → Shifts (Unit {0}) (skip_at n)
+  unfolding skip_at
+  shifts-skip n i = takes (λ a. a) n i tt
 
-  type_agrees : (format : Format) → Agrees (type_at format)
-  unfolding type_at
-  type_agrees format bytes p = then _ _ _ _ (eight_agrees bytes p) (λ signature bs q.
-      then _ _ _ _ (offset_agrees format bs q) (λ offset cs r.
-      agreed order d more (signature, offset) cs r))
+  pub shifts-split : (n : ℕ) (i : Input)
+      → Moves (Unit {0}) (Input × Input) both (split_at n i) (split_at n (there i))
+  unfolding split_at
+  shifts-split n i = takes there n i _
 
-  older_type_agrees : (place : UnitSection) (format : Format) → Agrees (older_type_at place format)
-  unfolding older_type_at
-  older_type_agrees Info format bytes p = agreed order d more _ bytes p
-  older_type_agrees Types format bytes p = then _ _ _ _ (type_agrees format bytes p) (λ t bs q.
-      agreed order d more _ bs q)
+  -- the bytes up to a place
+  pub shifts-between : (j i : Input) → Moves (Unit {0}) (Input × Input) both
+      (split_at (j.place - i.place) i) (split_at (d + j.place - (d + i.place)) (there i))
+  shifts-between j i = let e : d + j.place - (d + i.place) ≡ j.place - i.place = omega arith in
+      rw e (shifts-split (j.place - i.place) i)
 
-  unit_code_agrees : Agrees unit_code_at
-  unfolding unit_code_at
-  unit_code_agrees bytes p = then _ _ _ _ (byte_agrees bytes p) (λ a bs q.
-      choice (Agree order d more) (leb 1 a && leb a 6) _ _ _ _ (agreed order d more a bs q) tt)
+  shifts-leb : (n : ℕ) → Shifts ℕ (leb_at n)
+  unfolding leb_at
+  shifts-leb zero i = refused
+  shifts-leb (suc n) i = then _ (shifts-byte i) (λ b. either _ answered
+      (then _ (shifts-leb n b.1) (λ r. answered)))
 
-  unit_type_agrees : (code : ℕ) (format : Format) → Agrees (unit_type_at code format)
-  unfolding unit_type_at
-  unit_type_agrees code format bytes p =
-      choice (Agree order d more) (eqb code 1) _ _ _ _ (agreed order d more _ bytes p)
-      (choice (Agree order d more) (eqb code 2) _ _ _ _ (then _ _ _ _ (type_agrees format bytes p)
-      (λ t bs q. agreed order d more _ bs q))
-      (choice (Agree order d more) (eqb code 3) _ _ _ _ (agreed order d more _ bytes p)
-      (choice (Agree order d more) (eqb code 4) _ _ _ _ (then _ _ _ _ (eight_agrees bytes p)
-      (λ n bs q. agreed order d more _ bs q))
-      (choice (Agree order d more) (eqb code 5) _ _ _ _ (then _ _ _ _ (eight_agrees bytes p)
-      (λ n bs q. agreed order d more _ bs q))
-      (then _ _ _ _ (type_agrees format bytes p) (λ t bs q. agreed order d more _ bs q))))))
+  pub shifts-uleb : Shifts ℕ uleb_at
+  unfolding uleb_at
+  shifts-uleb i = then _ (shifts-leb 10 i) (λ n. either (ltb n.0 (2 ^ 64)) answered refused)
 
-  pub length_agrees : Agrees initial_length_at
-  unfolding initial_length_at
-  length_agrees bytes p =
-      then _ _ _ _ (number_agrees 4 (λ o. number_front o Dwarf32) bytes p) (λ n bs q.
-      choice (Agree order d more) (ltb n 0xfffffff0) _ _ _ _ (agreed order d more _ bs q)
-      (choice (Agree order d more) (eqb n 0xffffffff) _ _ _ _ (then _ _ _ _ (eight_agrees bs q)
-      (λ m cs r. agreed order d more _ cs r)) tt))
+  shifts-signed : (n : ℕ) → Shifts ℤ (signed_leb_at n)
+  unfolding signed_leb_at
+  shifts-signed zero i = refused
+  shifts-signed (suc n) i = then _ (shifts-byte i) (λ b. either (ltb b.0 64) answered
+      (either (ltb b.0 128) answered (then _ (shifts-signed n b.1) (λ r. answered))))
 
--- two headers say the same, each with its own bytes
-abbrev pub SameHeader : Endianness → ℕ → List ℕ → (whole whole' : Input) → Result Header ReadError
-    → Result Header ReadError → Type 0
-SameHeader order d more whole whole' (Ok u) (Ok v) =
-    (u.encoding ≡ v.encoding) × (u.unit_type ≡ v.unit_type) × (u.whole ≡ whole) × (v.whole ≡ whole')
-    × (v.abbrev_offset ≡ u.abbrev_offset) × Alike order d more u.entries v.entries
-SameHeader order d more whole whole' (Ok u) (Err f) = ⊥
-SameHeader order d more whole whole' (Err e) r = Unit {0}
-
-module _ (order : Endianness) (d : ℕ) (more : List ℕ) (whole whole' : Input) where
-  abbrev Same : Result Header ReadError → Result Header ReadError → Type 0
-  Same = SameHeader order d more whole whole'
-
-  header-then : {A : Type 0} (r s : Result (A × Input) ReadError) (f g : A × Input
-      → Result Header ReadError) → Agree order d more r s
-      → ((a : A) (bytes : List ℕ) (p : ℕ) → Same (f (a, plain order p bytes))
-      (g (a, plain order (d + p) (bytes ++ more)))) → Same (r >>= f) (s >>= g)
-  header-then r s f g = bind order d more Same r s f g (λ e z. tt)
-
-  older_agrees : (place : UnitSection) (format : Format) (version : ℕ) (bytes : List ℕ) (p : ℕ)
-      → Same (older_at place format version whole (plain order p bytes))
-      (older_at place format version whole' (plain order (d + p) (bytes ++ more)))
-  unfolding older_at
-  older_agrees place format version bytes p =
-      header-then _ _ _ _ (offset_agrees order d more format bytes p) (λ offset bs q.
-      header-then _ _ _ _ (address_size_agrees order d more bs q) (λ size cs r.
-      header-then _ _ _ _ (older_type_agrees order d more place format cs r) (λ t ds s.
-      (refl, refl, refl, refl, refl, record { bytes = ds; p = s; left = refl; right = refl }))))
-
-  newer_agrees : (format : Format) (bytes : List ℕ) (p : ℕ)
-      → Same (newer_at format whole (plain order p bytes))
-      (newer_at format whole' (plain order (d + p) (bytes ++ more)))
-  unfolding newer_at
-  newer_agrees format bytes p =
-      header-then _ _ _ _ (unit_code_agrees order d more bytes p) (λ code bs q.
-      header-then _ _ _ _ (address_size_agrees order d more bs q) (λ size cs r.
-      header-then _ _ _ _ (offset_agrees order d more format cs r) (λ offset ds s.
-      header-then _ _ _ _ (unit_type_agrees order d more code format ds s) (λ t es l.
-      (refl, refl, refl, refl, refl, record { bytes = es; p = l; left = refl; right = refl })))))
-
-  pub header_agrees : (place : UnitSection) (format : Format) (bytes : List ℕ) (p : ℕ)
-      → Same (header_at place format whole (plain order p bytes))
-      (header_at place format whole' (plain order (d + p) (bytes ++ more)))
-  unfolding header_at
-  header_agrees place format bytes p =
-      header-then _ _ _ _ (number_agrees order d more 2 number-2 bytes p) (λ version bs q.
-      choice Same (eqb version 5) _ _ _ _ (newer_agrees format bs q)
-      (choice Same (leb 2 version && leb version 4) _ _ _ _
-      (older_agrees place format version bs q) tt))
+  pub shifts-sleb : Shifts ℤ sleb_at
+  unfolding sleb_at
+  shifts-sleb i = then _ (shifts-signed 10 i) (λ n. either (is_i64 n.0) answered refused)

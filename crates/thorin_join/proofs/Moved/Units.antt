@@ -1,48 +1,165 @@
 -- A unit is read alike wherever its bytes stand, and whatever follows them.
-use Rattle.std.proofs.Common.{◌≡◌, ◌∙◌, ℕ, ◌+◌, ◌-◌, ◌≤◌, true≢false, leb, eqb, ◌&&◌, List, []}
-use Rattle.std.proofs.Common.{◌++◌, length, take, drop, Result, Ok, Err, ap, sym, refl, subst}
-use Rattle.std.proofs.Common.{arith, length-append, inl, inr, subst₂}
-use Rattle.std.proofs.lemmas.Bool.{eq-eqb}
-use Rattle.std.proofs.lemmas.List.{append-nil, take-append-le, length-take-le}
+use Rattle.std.proofs.Common.{◌≡◌, ◌∙◌, ℕ, ◌+◌, ◌-◌, ◌≤◌, cond, ltb, leb, eqb, ◌&&◌, List, ◌++◌}
+use Rattle.std.proofs.Common.{length, take, Result, Ok, Err, ap, sym, refl, arith, length-append}
+use Rattle.std.proofs.Common.{add-zero, ◌⊎◌, inl, inr}
+use Rattle.std.proofs.lemmas.Bool.{eqb-false, le-ltb, ltb-false}
+use Rattle.std.proofs.lemmas.List.{take-append-le, drop-append-le, length-take-le}
 use Rattle.dwp_base.specs.Reading.{◌>>=◌}
 use Rattle.dwp_base.specs.declared.endian.Endianness.{Endianness}
-use Rattle.dwp_base.proofs.Steps.{bind-was, same-ok, chosen, bind-ok}
-use Rattle.dwp_bytes.specs.Input.{Input, after, split_at, number_at, offset_at}
+use Rattle.dwp_base.proofs.Bools.{by-bool}
+use Rattle.dwp_base.proofs.Steps.{bind-was, same-ok, bind-ok}
+use Rattle.dwp_bytes.specs.Encoding.{offset_size}
+use Rattle.dwp_bytes.specs.Input.{Input, after, split_at, number_at, relocated_at, offset_at}
+use Rattle.dwp_bytes.specs.Input.{is_address_size}
 use Rattle.dwp_bytes.specs.declared.encoding.Format.{Format}
+use Rattle.dwp_bytes.specs.declared.encoding.Format.TheVariants.{Dwarf32, Dwarf64}
 use Rattle.dwp_bytes.specs.declared.error.ReadError.{ReadError}
+use Rattle.dwp_bytes.specs.declared.error.ReadError.TheVariants.{UnexpectedEof}
 use Rattle.dwp_dwarf.specs.Units.{Unit as Header, UnitsAreTaken, initial_length_at, address_size_at}
-use Rattle.dwp_dwarf.specs.Units.{older_type_at, unit_code_at, unit_type_at, older_at, newer_at}
-use Rattle.dwp_dwarf.specs.Units.{header_at, unit_at}
+use Rattle.dwp_dwarf.specs.Units.{type_at, older_type_at, unit_code_at, unit_type_at, older_at}
+use Rattle.dwp_dwarf.specs.Units.{newer_at, header_at, unit_at}
 use Rattle.dwp_dwarf.specs.declared.unit.UnitSection.{UnitSection}
-use Rattle.thorin_join.proofs.Moved.Readings.{plain, Alike, Agree, SameHeader, header_agrees}
-use Rattle.thorin_join.proofs.Moved.Readings.{length_agrees}
-use Rattle.thorin_join.proofs.Moved.RootEntries.{shifted}
-use Rattle.dwp_index.proofs.LengthAlone.{split_inverse, split_goes}
-use Rattle.dwp_index.proofs.UnitAlone.{by_length}
+use Rattle.dwp_dwarf.specs.declared.unit.UnitSection.TheVariants.{Info, Types}
+use Rattle.dwp_dwarf.specs.declared.unit.UnitType.{UnitType}
+use Rattle.dwp_dwarf.proofs.Readings.{Answer, Gives, then_gives, value_gives, was, more, test_gives}
+use Rattle.dwp_dwarf.proofs.Readings.{more_gives, error_gives}
+use Rattle.dwp_dwarf.specs.declared.unit.UnitType.TheVariants as unit_types
+use Rattle.dwp_dwarf.proofs.Units.{unit_takes}
+use Rattle.thorin_packaged.proofs.OffsetsJoined.{number_front}
+use Rattle.thorin_join.proofs.Moved.Readings.{plain, shifted, Moves, answered, refused, unmoved}
+use Rattle.thorin_join.proofs.Moved.Readings.{then, either, read-there, there, Shifts, takes}
+use Rattle.thorin_join.proofs.Moved.Readings.{shifts-byte, shifts-number, shifts-split}
+use Rattle.thorin_join.proofs.Moved.Readings.{shifts-between}
 use Rattle.thorin_join.proofs.Steps.{kept}
 
+-- ---- behind others
+
+module _ (d : ℕ) where
+  -- the relocations are moved too
+  abbrev by : (ℕ → ℕ → ℕ) → ℕ → ℕ → ℕ
+  by relocated at = relocated (at - d)
+
+  abbrev unit_there : Header → Header
+  unit_there u = record u { whole = there d by u.whole; entries = there d by u.entries }
+
+  abbrev ShiftsHeader : (Input → Input → Result Header ReadError) → Type 0
+  ShiftsHeader read = (whole i : Input) → Moves (Unit {0}) Header unit_there (read whole i)
+      (read (there d by whole) (there d by i))
+
+  length-shifts : Shifts d by (Format × ℕ) initial_length_at
+  unfolding initial_length_at
+  length-shifts i = then _ (shifts-number d by 4 i) (λ n. either _ answered (either _ (then _
+      (shifts-number d by 8 n.1) (λ m. answered)) refused))
+
+  offset-shifts : (format : Format) → Shifts d by ℕ (offset_at format)
+  unfolding offset_at relocated_at
+  offset-shifts format i = let same : d + i.place - d ≡ i.place = omega arith in
+      rw same (takes d by (λ a. a) (offset_size format) i _)
+
+  address_size-shifts : Shifts d by ℕ address_size_at
+  unfolding address_size_at
+  address_size-shifts i = then _ (shifts-byte d by i)
+      (λ n. either (is_address_size n.0) answered refused)
+
+  type-shifts : (format : Format) → Shifts d by (ℕ × ℕ) (type_at format)
+  unfolding type_at
+  type-shifts format i = then _ (shifts-number d by 8 i) (λ signature. then _
+      (offset-shifts format signature.1) (λ offset. answered))
+
+  older_type-shifts : (place : UnitSection) (format : Format)
+      → Shifts d by UnitType (older_type_at place format)
+  unfolding older_type_at
+  older_type-shifts Info format i = answered
+  older_type-shifts Types format i = then _ (type-shifts format i) (λ t. answered)
+
+  unit_code-shifts : Shifts d by ℕ unit_code_at
+  unfolding unit_code_at
+  unit_code-shifts i = then _ (shifts-byte d by i)
+      (λ n. either (leb 1 n.0 && leb n.0 6) answered refused)
+
+  unit_type-shifts : (code : ℕ) (format : Format) → Shifts d by UnitType (unit_type_at code format)
+  unfolding unit_type_at
+  unit_type-shifts code format i =
+      either (eqb code 1) answered
+      (either (eqb code 2) (then _ (type-shifts format i) (λ t. answered))
+      (either (eqb code 3) answered
+      (either (eqb code 4) (then _ (shifts-number d by 8 i) (λ n. answered))
+      (either (eqb code 5) (then _ (shifts-number d by 8 i) (λ n. answered))
+      (then _ (type-shifts format i) (λ t. answered))))))
+
+  older-shifts : (place : UnitSection) (format : Format) (version : ℕ)
+      → ShiftsHeader (older_at place format version)
+  unfolding older_at
+  older-shifts place format version whole i = then _ (offset-shifts format i) (λ offset. then _
+      (address_size-shifts offset.1) (λ size. then _ (older_type-shifts place format size.1)
+      (λ t. answered)))
+
+  newer-shifts : (format : Format) → ShiftsHeader (newer_at format)
+  unfolding newer_at
+  newer-shifts format whole i = then _ (unit_code-shifts i) (λ code. then _
+      (address_size-shifts code.1) (λ size. then _ (offset-shifts format size.1) (λ offset. then _
+      (unit_type-shifts code.0 format offset.1) (λ t. answered))))
+
+  header-shifts : (place : UnitSection) (format : Format) → ShiftsHeader (header_at place format)
+  unfolding header_at
+  header-shifts place format whole i = then _ (shifts-number d by 2 i) (λ version.
+      either (eqb version.0 5) (newer-shifts format whole version.1)
+      (either _ (older-shifts place format version.0 whole version.1) refused))
+
+  unit-shifts : (place : UnitSection) (i : Input)
+      → Moves (Unit {0}) (Header × Input) (λ x. (unit_there x.0, there d by x.1)) (unit_at place i)
+      (unit_at place (there d by i))
+  unfolding unit_at
+  unit-shifts place i = then _ (length-shifts i) (λ length. then _
+      (shifts-split d by length.0.1 length.1) (λ body. then _ (shifts-between d by body.1 i)
+      (λ whole. then _ (header-shifts place length.0.0 whole.0 body.0) (λ u. answered))))
+
+-- ---- with more behind them
+
+module _ (rest : List ℕ) where
+  -- what is read is read where more follows
+  abbrev Longer : {A : Type 0} → Answer A → Answer A → Type 0
+  Longer {A} r s = Moves ⊥ (A × Input) (λ x. (x.0, more x.1 rest)) r s
+
+  takes-more : {A : Type 0} (n : ℕ) (i : Input) (a b : A) → (n ≤ length i.bytes → b ≡ a)
+      → Longer (cond (ltb (length i.bytes) n) (Err UnexpectedEof) (Ok (a, after n i)))
+      (cond (ltb (length (i.bytes ++ rest)) n) (Err UnexpectedEof) (Ok (b, after n (more i rest))))
+  takes-more n i a b same = by-bool _ (ltb (length i.bytes) n)
+      (λ short. rw short (record { is = λ never. absurd never }))
+      (λ some. let fits = ltb-false _ _ some in
+      let long : n ≤ length (i.bytes ++ rest) = omega (arith, length-append i.bytes rest) in
+      rw (some, le-ltb _ _ long, same fits, drop-append-le n i.bytes rest fits) answered)
+
+  number-more : (format : Format) (i : Input) → Longer (number_at (offset_size format) i)
+      (number_at (offset_size format) (more i rest))
+  unfolding number_at
+  number-more format i = takes-more (offset_size format) i _ _
+      (number_front i.order format i.bytes rest)
+
+  split-more : (n : ℕ) (i : Input) → Longer (split_at n i) (split_at n (more i rest))
+  unfolding split_at
+  split-more n i = takes-more n i _ _ (λ fits. rw (take-append-le n i.bytes rest fits) refl)
+
+  length-more : (i : Input) → Longer (initial_length_at i) (initial_length_at (more i rest))
+  unfolding initial_length_at
+  length-more i = then _ (number-more Dwarf32 i) (λ n. either _ answered (either _ (then _
+      (number-more Dwarf64 n.1) (λ m. answered)) refused))
+
+  unit-more : (place : UnitSection) (i : Input)
+      → Longer (unit_at place i) (unit_at place (more i rest))
+  unfolding unit_at
+  unit-more place i = then _ (length-more i) (λ length. then _ (split-more length.0.1 length.1)
+      (λ body. then _ (split-more (body.1.place - i.place) i) (λ whole. then _
+      (unmoved (header_at place length.0.0 whole.0 body.0)) (λ u. answered))))
+
 -- ---- a unit
-
-abbrev Units : Type 0
-Units = Result (Header × Input) ReadError
-
--- the rest of a unit, from its length on
-abbrev from_body : UnitSection → Input → Format → Input × Input → Units
-from_body place i format body = split_at (body.1.place - i.place) i >>= λ whole.
-    header_at place format whole.0 body.0 >>= λ unit. Ok (unit, body.1)
-
-abbrev from_length : UnitSection → Input → (Format × ℕ) × Input → Units
-from_length place i length = split_at length.0.1 length.1 >>= from_body place i length.0.0
 
 -- the same unit, read where its bytes stand behind others and before more
 pub record Moved (order : Endianness) (place : UnitSection) (own more : List ℕ) (d : ℕ)
     (u : Header) : Type 0 where
   pub unit : Header
-  pub read : unit_at place (plain order d (own ++ more)) ≡ Ok (
-    unit,
-    after (length u.whole.bytes)
-        (plain order d (own ++ more)),
-  )
+  pub read : unit_at place (plain order d (own ++ more))
+      ≡ Ok (unit, after (length u.whole.bytes) (plain order d (own ++ more)))
   pub encoding : u.encoding ≡ unit.encoding
   pub type : u.unit_type ≡ unit.unit_type
   pub whole : unit.whole ≡ plain order d u.whole.bytes
@@ -51,157 +168,112 @@ pub record Moved (order : Endianness) (place : UnitSection) (own more : List ℕ
   pub offset : unit.abbrev_offset ≡ u.abbrev_offset
   pub entries : unit.entries ≡ shifted d u.entries
 
-header-there : (order : Endianness) (d : ℕ) (more : List ℕ) (whole whole' : Input)
-    (s : Result Header ReadError) (u : Header) → SameHeader order d more whole whole' (Ok u) s
-    → (v : Header) × (s ≡ Ok v) × SameHeader order d more whole whole' (Ok u) (Ok v)
-header-there order d more whole whole' (Ok v) u h = (v, refl, h)
-header-there order d more whole whole' (Err f) u h = absurd h
-
--- the same entries at the other place
-entries-shifted : (order : Endianness) (d : ℕ) (i j : Input) → Alike order d [] i j
-    → j ≡ shifted d i
-entries-shifted order d i j a = a.right ∙ ap (plain order (d + a.p)) (append-nil a.bytes) ∙ ap
-    (shifted d) (sym a.left)
-
-agree-there : {A : Type 0} (order : Endianness) (d : ℕ) (more : List ℕ) (s : Result (A × Input)
-    ReadError) (x : A × Input) → Agree order d more (Ok x) s
-    → (y : A × Input) × (s ≡ Ok y) × (x.0 ≡ y.0) × Alike order d more x.1 y.1
-agree-there order d more (Ok y) x h = (y, refl, h.0, h.1)
-agree-there order d more (Err f) x h = absurd h
-
-module _ (taken : UnitsAreTaken) (order : Endianness) (place : UnitSection) (own more : List ℕ)
-    (d : ℕ) (u : Header) (r : Input) where
-  -- the unit at the second place, from its length on
-  unit-goes : (format : Format) (n p : ℕ) (bs : List ℕ) → from_length place (plain order 0 own)
-      ((format, n), plain order p bs) ≡ Ok (u, r)
-      → initial_length_at (plain order d (own ++ more)) ≡ Ok (
-        (format, n),
-        plain order (d + p) (bs ++ more),
-      )
-      → Moved order place own more d u
-  unit-goes format n p bs h start =
-      let i = plain order 0 own in
-      let j = plain order d (own ++ more) in
-      let m : ℕ = p + n in
-      let s1 = bind-was (split_at n (plain order p bs)) (from_body place i format) (u, r) h in
-      let c1 = split_inverse order n p bs s1.0 s1.1 in
-      let s2 = bind-was (split_at (m - 0) i) _ (u, r)
-      (subst (λ b. from_body place i format b ≡ Ok (u, r)) (sym c1.1) s1.2) in
-      let c2 = split_inverse order (m - 0) 0 own s2.0 s2.1 in
-      let s3 = bind-was (header_at place format s2.0.0 (plain order p (take n bs))) _ (u, r) s2.2 in
-      let same_m : m - 0 ≡ m = omega arith in
-      let fits : m ≤ length own = subst (λ k. k ≤ length own) same_m c2.0 in
-      let unit_is : s3.0 ≡ u = ap (λ (x : Header × Input). x.0) (same-ok _ _ s3.2) in
-      let whole' = plain order d (take m own) in
-      let there = header-there order d [] s2.0.0 whole' _ u (subst₂ (λ r l.
-      SameHeader order d [] s2.0.0 whole' r (header_at place format whole'
-      (plain order (d + p) l))) (s3.1 ∙ ap Ok unit_is) (append-nil (take n bs))
-      (header_agrees order d [] s2.0.0 whole' place format (take n bs) p)) in
-      let v = there.0 in
-      let long : n ≤ length (bs ++ more) = omega (arith, length-append bs more, c1.0) in
-      let wide : m ≤ length (own ++ more) = omega (arith, length-append own more, fits) in
-      let back : d + p + n - d ≡ m = omega arith in
-      let rest = plain order (d + p + n) (drop n (bs ++ more)) in
-      let body : split_at n (plain order (d + p) (bs ++ more)) ≡ Ok
-      (plain order (d + p) (take n bs), rest) =
-      split_goes order n (d + p) (bs ++ more) long ∙ ap (λ l. Ok (plain order (d + p) l, rest))
-      (take-append-le n bs more c1.0) in
-      let all : split_at (d + p + n - d) j ≡ Ok (
-        whole',
-        plain order (d + m) (drop m (own ++ more)),
-      ) =
-      ap (λ k. split_at k j) back ∙ split_goes order m d (own ++ more) wide ∙ ap (λ l.
-      Ok (plain order d l, plain order (d + m) (drop m (own ++ more))))
-      (take-append-le m own more fits) in
-      let read : unit_at place j ≡ Ok (v, rest) =
-      by_length place j ∙ bind-ok _ _ (from_length place j) start
-      ∙ bind-ok _ _ (from_body place j format) body ∙ bind-ok _ _ _ all ∙ bind-ok _ v _ there.1 in
-      let whole : u.whole.bytes ≡ take m own = ap (λ (k : Input). k.bytes)
-      (there.2.2 ∙ ap (λ (x : Input × Input). x.0) (sym c2.1)) ∙ ap (λ k. take k own) same_m in
-      let size : length u.whole.bytes ≡ m = ap length whole ∙ length-take-le m own fits in
-      let taking = taken place j rest v read in
-      let count : taking.0.taken ≡ m =
-      sym (length-take-le taking.0.taken (own ++ more) taking.0.enough)
-      ∙ ap (λ (k : Input). length k.bytes) (sym taking.1 ∙ there.2.3)
-      ∙ length-take-le m own fits in
-      record {
-        unit = v;
-        read = read ∙ ap (λ k. Ok (v, k)) (taking.0.is ∙ ap (λ k. after k j) (count ∙ sym size));
-        encoding = there.2.0;
-        type = there.2.1;
-        whole = there.2.3 ∙ ap (plain order d) (sym whole);
-        fits = subst (λ k. k ≤ length own) (sym size) fits;
-        front = ap (λ k. take k own) size ∙ sym whole;
-        offset = there.2.4;
-        entries = entries-shifted order d u.entries v.entries there.2.5;
-      }
-
-  -- a unit of some bytes alone is read alike at another place, with more behind them
-  pub unit-moves : unit_at place (plain order 0 own) ≡ Ok (u, r) → Moved order place own more d u
-  unit-moves h =
-      let i = plain order 0 own in
-      let s1 = bind-was (initial_length_at i) (from_length place i) (u, r)
-      (sym (by_length place i) ∙ h) in
-      let there = agree-there order d more _ s1.0 (subst (λ r. Agree order d more r
-      (initial_length_at (plain order (d + 0) (own ++ more)))) s1.1
-      (length_agrees order d more own 0)) in
-      let same_place : d ≡ d + 0 = omega arith in
-      let alike = there.3 in
-      unit-goes s1.0.0.0 s1.0.0.1 alike.p alike.bytes
-      (ap (λ (k : Input). from_length place i (s1.0.0, k)) (sym alike.left) ∙ s1.2)
-      (ap (λ k. initial_length_at (plain order k (own ++ more))) same_place ∙ there.1
-      ∙ (λ t. Ok (sym there.2 t, alike.right t)))
+-- a unit of some bytes alone is read alike at another place, with more behind them
+pub unit-moves : (taken : UnitsAreTaken) (order : Endianness) (place : UnitSection)
+    (own more : List ℕ) (d : ℕ) (u : Header) (r : Input) → unit_at place (plain order 0 own) ≡ Ok
+    (u, r) → Moved order place own more d u
+unit-moves taken order place own rest d u r h =
+    let i = plain order 0 own in
+    let t = (unit_takes place i).gives (u, r) h in
+    let k = t.goes.taken in
+    let size : length u.whole.bytes ≡ k = ap (λ (i : Input). length i.bytes) t.whole
+    ∙ length-take-le k own t.goes.enough in
+    let read = read-there _ (unit-more rest place (there d (by d) i))
+    (read-there _ (unit-shifts d place i) h) in
+    let sum : d + (0 + k) ≡ d + k = omega arith in
+    let left : more (there d (by d) r) rest ≡ after (length u.whole.bytes)
+    (plain order d (own ++ rest)) =
+    rw (t.goes.is, size, drop-append-le k own rest t.goes.enough, sum) refl in
+    let plainly = ap (λ (i : Input). i.relocated)
+        (t.inside.is ∙ ap (after t.inside.taken) t.whole) in
+    record {
+      unit = unit_there d u;
+      read = (rw add-zero at read) ∙ ap (λ j. Ok (unit_there d u, j)) left;
+      encoding = refl;
+      type = refl;
+      whole = rw (t.whole, add-zero) refl;
+      fits = rw size t.goes.enough;
+      front = rw size (ap (λ (i : Input). i.bytes) (sym t.whole));
+      offset = refl;
+      entries = rw plainly refl;
+    }
 
 -- ---- the same of both sections: units of version 5
 
+newer-version : (format : Format) (whole i : Input)
+    → Gives Header (newer_at format whole i) (λ u. u.encoding.version ≡ 5)
+unfolding newer_at
+newer-version format whole i = then_gives (was (unit_code_at i)) (λ code _. then_gives
+    (was (address_size_at code.1)) (λ size _. then_gives (was (offset_at format size.1))
+    (λ offset _. then_gives (was (unit_type_at code.0 format offset.1)) (λ t _.
+    value_gives refl))))
+
 pub newer-five : (format : Format) (whole i : Input) (u : Header) → newer_at format whole i ≡ Ok u
     → u.encoding.version ≡ 5
-unfolding newer_at
-newer-five format whole i u h =
-    let a = bind-was (unit_code_at i) _ u h in
-    let b = bind-was (address_size_at a.0.1) _ u a.2 in
-    let c = bind-was (offset_at format b.0.1) _ u b.2 in
-    let d = bind-was (unit_type_at a.0.0 format c.0.1) _ u c.2 in
-    sym (ap (λ (x : Header). x.encoding.version) (same-ok _ u d.2))
+newer-five format whole i u = (newer-version format whole i).gives u
 
-older-version : (place : UnitSection) (format : Format) (version : ℕ) (whole i : Input) (u : Header)
-    → older_at place format version whole i ≡ Ok u → u.encoding.version ≡ version
+-- what the section says of a unit before version 5
+abbrev pub OfSection : UnitSection → UnitType → Type 0
+OfSection Info type = Unit {0}
+OfSection Types type = (signature offset : ℕ) × (type ≡ unit_types.TypeUnit signature offset)
+
+older-type : (place : UnitSection) (format : Format) (i : Input)
+    → Gives (UnitType × Input) (older_type_at place format i) (λ t. OfSection place t.0)
+unfolding older_type_at
+older-type Info format i = value_gives tt
+older-type Types format i = then_gives (was (type_at format i)) (λ t _.
+    value_gives (t.0.0, t.0.1, refl))
+
+older-known : (place : UnitSection) (format : Format) (version : ℕ) (whole i : Input)
+    → Gives Header (older_at place format version whole i)
+    (λ u. (u.encoding.version ≡ version) × OfSection place u.unit_type)
 unfolding older_at
-older-version place format version whole i u h =
-    let a = bind-was (offset_at format i) _ u h in
-    let b = bind-was (address_size_at a.0.1) _ u a.2 in
-    let c = bind-was (older_type_at place format b.0.1) _ u b.2 in
-    sym (ap (λ (x : Header). x.encoding.version) (same-ok _ u c.2))
+older-known place format version whole i = then_gives (was (offset_at format i)) (λ offset _.
+    then_gives (was (address_size_at offset.1)) (λ size _. then_gives
+    (older-type place format size.1) (λ t type. value_gives (refl, type))))
+
+-- a unit in types is of version 5 or a type unit
+abbrev pub FiveOrType : Header → Type 0
+FiveOrType unit = (unit.encoding.version ≡ 5) ⊎ OfSection Types unit.unit_type
+
+header-five : (format : Format) (whole i : Input)
+    → Gives Header (header_at Types format whole i) FiveOrType
+unfolding header_at
+header-five format whole i = then_gives (was (number_at 2 i)) (λ version _. test_gives
+    (eqb version.0 5) (λ _. more_gives (newer-version format whole version.1) (λ u five. inl five))
+    (λ _. test_gives (leb 2 version.0 && leb version.0 4) (λ _. more_gives
+    (older-known Types format version.0 whole version.1) (λ u known. inr known.1))
+    (λ _. error_gives)))
+
+pub unit-five : (i : Input) → Gives (Header × Input) (unit_at Types i) (λ x. FiveOrType x.0)
+unfolding unit_at
+unit-five i = then_gives (was (initial_length_at i)) (λ length _. then_gives
+    (was (split_at length.0.1 length.1)) (λ body _. then_gives
+    (was (split_at (body.1.place - i.place) i)) (λ whole _. then_gives
+    (header-five length.0.0 whole.0 body.0) (λ u type. value_gives type))))
+
+-- what a step goes on to, in place of something else that gave y
+instead : {A B : Type 0} (r : Result A ReadError) (f g : A → Result B ReadError) (y : B)
+    → ((x : A) → f x ≡ Ok y → g x ≡ Ok y) → (r >>= f) ≡ Ok y → (r >>= g) ≡ Ok y
+instead (Ok x) f g y h e = h x e
+instead (Err d) f g y h e = absurd cc
 
 header-anywhere : (place other : UnitSection) (format : Format) (whole i : Input) (u : Header)
     → u.encoding.version ≡ 5 → header_at place format whole i ≡ Ok u
     → header_at other format whole i ≡ Ok u
 unfolding header_at
-header-anywhere place other format whole i u is h =
-    let s = bind-was (number_at 2 i) _ u h in
-    bind-ok (number_at 2 i) s.0 _ s.1
-    ∙ elim (chosen (eqb s.0.0 5) _ _ (Ok u) s.2) [
-      | inl five ↦ rw five.0 five.1
-      | inr others ↦
-          let older = kept (leb 2 s.0.0 && leb s.0.0 4) _ _ u others.1 in
-          absurd (true≢false (sym (eq-eqb s.0.0 5 (sym (older-version place format s.0.0 whole
-          s.0.1 u older.1) ∙ is)) ∙ others.0))
-    ]
+header-anywhere place other format whole i u five = instead (number_at 2 i) _ _ u (λ v h.
+    by-bool _ (eqb v.0 5) (λ newer. rw newer (rw newer at h)) (λ no. absurd (eqb-false v.0 5 no
+    (sym ((older-known place format v.0 whole v.1).gives u (kept _ _ _ u (rw no at h)).1).0
+    ∙ five))))
 
 -- a unit of version 5 is read alike in either section
 pub unit-anywhere : (place other : UnitSection) (i : Input) (u : Header) (r : Input)
     → u.encoding.version ≡ 5 → unit_at place i ≡ Ok (u, r) → unit_at other i ≡ Ok (u, r)
 unfolding unit_at
-unit-anywhere place other i u r is h =
-    let s1 = bind-was (initial_length_at i) _ (u, r) h in
-    let s2 = bind-was (split_at s1.0.0.1 s1.0.1) _ (u, r) s1.2 in
-    let s3 = bind-was (split_at (s2.0.1.place - i.place) i) _ (u, r) s2.2 in
-    let s4 = bind-was (header_at place s1.0.0.0 s3.0.0 s2.0.0) _ (u, r) s3.2 in
-    let unit_is : s4.0 ≡ u = ap (λ (x : Header × Input). x.0) (same-ok _ _ s4.2) in
-    let there = header-anywhere place other s1.0.0.0 s3.0.0 s2.0.0 s4.0
-    (ap (λ (z : Header). z.encoding.version) unit_is ∙ is) s4.1 in
-    bind-ok (initial_length_at i) s1.0 _ s1.1
-    ∙ bind-ok (split_at s1.0.0.1 s1.0.1) s2.0 _ s2.1
-    ∙ bind-ok (split_at (s2.0.1.place - i.place) i) s3.0 _ s3.1
-    ∙ bind-ok (header_at other s1.0.0.0 s3.0.0 s2.0.0) s4.0 _ there
-    ∙ s4.2
+unit-anywhere place other i u r five = instead (initial_length_at i) _ _ (u, r) (λ length.
+    instead (split_at length.0.1 length.1) _ _ (u, r) (λ body.
+    instead (split_at (body.1.place - i.place) i) _ _ (u, r) (λ whole h.
+    let s = bind-was (header_at place length.0.0 whole.0 body.0) _ (u, r) h in
+    bind-ok _ _ _ (header-anywhere place other length.0.0 whole.0 body.0 s.0
+    (ap (λ (x : Header × Input). x.0.encoding.version) (same-ok _ _ s.2) ∙ five) s.1) ∙ s.2)))

@@ -1,56 +1,44 @@
 -- A unit's own row in its input's indexes, and the row that it gets.
-use Rattle.std.proofs.Common.{◌≡◌, ◌∙◌, ℕ, Bool, true, false, cond, List, not, is_some, is_none}
-use Rattle.std.proofs.Common.{◌&&◌, ◌||◌, Ok, Option, Some, None, refl, sym, ap, true≢false, inl}
-use Rattle.std.proofs.Common.{inr}
+use Rattle.std.proofs.Common.{◌≡◌, ◌∙◌, ℕ, true, false, cond, is_some, is_none, ◌&&◌, ◌||◌, Ok}
+use Rattle.std.proofs.Common.{Option, Some, None, refl, sym, ap, inl, inr}
 use Rattle.std.specs.Option.{option_and_then}
-use Rattle.std.proofs.lemmas.Option.{none-some}
 use Rattle.std.proofs.lemmas.Bool.{eqb-true}
 use Rattle.dwp_base.specs.ByKind.{value_of}
 use Rattle.dwp_base.specs.Reading.{read_each}
-use Rattle.dwp_base.specs.Sections.{all_kinds, same_kind}
+use Rattle.dwp_base.specs.Sections.{all_kinds}
 use Rattle.dwp_base.proofs.KindsRead.{read-kind}
-use Rattle.dwp_base.proofs.Steps.{bind-was, same-ok, chosen}
+use Rattle.dwp_base.proofs.Steps.{bind-was, same-ok}
 use Rattle.dwp_base.specs.declared.section.SectionKind.{SectionKind}
-use Rattle.dwp_base.specs.declared.section.SectionKind.TheVariants.{Info, Types, Abbrev, StrOffsets}
+use Rattle.dwp_base.specs.declared.section.SectionKind.TheVariants.{Info, Types}
 use Rattle.dwp_base.specs.declared.section.Contribution.{Contribution}
 use Rattle.dwp_bytes.specs.declared.encoding.Encoding.{Encoding}
-use Rattle.dwp_dwarf.specs.Units.{Unit as Header}
-use Rattle.dwp_index.specs.Index.{Index, Ranges, row_in, range_in}
+use Rattle.dwp_index.specs.Index.{Index, Ranges, row_in}
 use Rattle.dwp_table.specs.Objects.{identifier_of}
 use Rattle.dwp_table.specs.Probing.{found_row}
 use Rattle.dwp_table.specs.declared.object.DwarfObject.{DwarfObject}
 use Rattle.dwp_table.specs.declared.object.DwarfObject.TheVariants.{Compilation, TypeUnit}
 use Rattle.thorin_errors.specs.Errors.{ErrorValue}
 use Rattle.thorin_packaged.specs.RowPlaces.{row_by_place}
-use Rattle.thorin_input.specs.Adjusting.{Adjustor, own_index, other_index, row_found, row_of}
-use Rattle.thorin_input.specs.Adjusting.{has_column_for, part_by_row, adjusted}
+use Rattle.thorin_input.specs.Adjusting.{Adjustor, own_index, row_of, part_by_row, adjusted}
 use Rattle.thorin_index.specs.Entries.{contribution_to, entry_by}
 use Rattle.thorin_index.specs.declared.entry.IndexEntry.{IndexEntry}
 use Rattle.thorin_input.specs.Growing.{Contents, joined_parts, range_put}
 use Rattle.thorin_input.specs.Indexes.{Indexes, is_package, index_for, looked_up}
 use Rattle.thorin_join.specs.Meaning.{read_of, placed_row}
-use Rattle.thorin_input.specs.Format.{is_copied, is_shared}
-use Rattle.thorin_input.specs.Rows.{whole_row, adjusted_part, unit_part, unit_row, own_range}
-use Rattle.thorin_input.specs.Rows.{number_by_place, is_same_row, row_test}
+use Rattle.thorin_input.specs.Format.{is_shared}
+use Rattle.thorin_input.specs.Rows.{whole_row, adjusted_part, unit_part, unit_row, is_same_row}
 use Rattle.thorin_join.proofs.Parts.OfPackages.{IsOneOf}
-use Rattle.thorin_join.proofs.Rows.Ranges.{Placed, whole_behind, placed-by, range-some, range-none}
 use Rattle.dwp_base.proofs.EveryKind.{same-each}
 use Rattle.thorin_strings.proofs.NamedEntries.{as_error_ok}
-use Rattle.thorin_join.proofs.Steps.{kept}
-
--- ---- kinds that units share
-pub shared-copied : (kind : SectionKind) → is_copied kind ≡ true → is_shared kind ≡ true
-shared-copied kind copied = ap (λ (b : Bool). b || same_kind kind StrOffsets) copied
 
 -- an entry by parts has each of those that it can have
-pub entry-part : (encoding : Encoding) (id : DwarfObject) (part : SectionKind → Option Contribution)
+entry-part : (encoding : Encoding) (id : DwarfObject) (part : SectionKind → Option Contribution)
     (kind : SectionKind) → is_shared kind ≡ true
     → contribution_to kind (entry_by encoding id part) ≡ part kind
 entry-part encoding id part kind shared =
-    ap (λ b. cond b (contribution_to kind (entry_by encoding id part)) None) (sym shared)
-    ∙ same-each (λ k. cond (is_shared k) (contribution_to k (entry_by encoding id part)) None)
-    (λ k. cond (is_shared k) (part k) None) refl kind
-    ∙ ap (λ b. cond b (part kind) None) shared
+    let each = same-each (λ k. cond (is_shared k) (contribution_to k (entry_by encoding id part))
+    None) (λ k. cond (is_shared k) (part k) None) refl kind in
+    rw shared at each
 
 -- ---- a unit's own row
 -- the row by place is there, and is the one that looking an identifier up gives
@@ -66,21 +54,19 @@ pub record OwnRow (own : Option Index) (kind : SectionKind) (range : Contributio
 
 same-row : (a b : Option ℕ) → is_same_row a b ≡ true → (n : ℕ) × (a ≡ Some n) × (b ≡ Some n)
 same-row (Some a) (Some b) h = (a, refl, ap (λ n. Some n) (sym (eqb-true a b h)))
-same-row (Some a) None h = absurd (true≢false (sym h))
-same-row None (Some b) h = absurd (true≢false (sym h))
-same-row None None h = absurd (true≢false (sym h))
+same-row _ _ h = absurd cc
 
-own-by : (own : Option Index) (kind : SectionKind) (range : Contribution) (id : ℕ) (row : Ranges)
+pub own-by : (own : Option Index) (kind : SectionKind) (range : Contribution)
+    (id : ℕ) (row : Ranges)
     → is_same_row (row_by_place own kind range) (looked_up own id) ≡ true → row_of own id ≡ Ok row
     → OwnRow own kind range id
 unfolding row_of
-own-by None kind range id row h found =
-    absurd (none-some _ (same-row (row_by_place None kind range) None h).2)
+own-by None kind range id row h found = absurd cc
 own-by (Some index) kind range id row h found =
     let same = same-row (row_by_place (Some index) kind range) (found_row index.signatures
     index.rows id) h in
-    let there : row_in index same.0 ≡ Ok row = as_error_ok _ (row_in index same.0) row
-    (ap (row_found index id) (sym same.2) ∙ found) in
+    let there : row_in index same.0 ≡ Ok row =
+    as_error_ok _ (row_in index same.0) row (rw same.2 at found) in
     record {
       index = index;
       is = refl;
@@ -92,24 +78,13 @@ own-by (Some index) kind range id row h found =
       found = found;
     }
 
-tested : (indexes : Indexes) (kind : SectionKind) (name : DwarfObject) (unit : Header)
-    → is_package indexes ≡ true → row_test indexes kind name unit ≡ Ok tt
-    → is_same_row (number_by_place indexes kind name unit) (looked_up (index_for indexes name)
-    (identifier_of name)) ≡ true
-unfolding row_test
-tested indexes kind name unit packed h =
-    elim (chosen (not (is_package indexes)) _ _ (Ok tt) h) [
-      | inl plain ↦ absurd (true≢false (sym plain.0 ∙ ap not packed))
-      | inr rest ↦ (kept _ _ _ tt rest.1).0
-    ]
-
 pub one-of : (indexes : Indexes) (name : DwarfObject) (index : Index) → index_for indexes name ≡
     Some index → IsOneOf index indexes
 one-of indexes (Compilation id) index h = inl h
 one-of indexes (TypeUnit signature) index h = inr h
 
 -- ---- parts that are adjusted
-abbrev adjustor : Indexes → SectionKind → Adjustor
+abbrev pub adjustor : Indexes → SectionKind → Adjustor
 adjustor indexes kind = record {
   compilation = indexes.compilations;
   types = indexes.types;
@@ -123,56 +98,15 @@ own-index indexes kind (TypeUnit signature) = refl
 
 no-index : (c t : Option Index) → (is_some c || is_some t) ≡ false → (is_none c && is_none t) ≡ true
 no-index None None h = refl
-no-index (Some c) t h = absurd (true≢false h)
-no-index None (Some t) h = absurd (true≢false h)
+no-index _ _ h = absurd cc
 
 pub some-index : (c t : Option Index) → (is_some c || is_some t) ≡ true
     → (is_none c && is_none t) ≡ false
-some-index None None h = absurd (true≢false (sym h))
+some-index None None h = absurd cc
 some-index (Some c) t h = refl
 some-index None (Some t) h = refl
 
--- of a plain input a unit's part is the whole
-pub adjusted-plain : (indexes : Indexes) (name : DwarfObject) (kind : SectionKind)
-    (whole : Option Contribution) → is_package indexes ≡ false → adjusted_part indexes name kind
-    whole ≡ Ok whole
-unfolding adjusted
-adjusted-plain indexes name kind whole plain =
-    rw (no-index indexes.compilations indexes.types plain)
-
--- of a package it is by the unit's row
-adjusted-packed : (indexes : Indexes) (name : DwarfObject) (kind : SectionKind)
-    (whole result : Option Contribution) → is_package indexes ≡ true → adjusted_part indexes name
-    kind whole ≡ Ok result
-    → (row : Ranges) × (row_of (index_for indexes name) (identifier_of name) ≡ Ok row)
-    × (part_by_row (adjustor indexes kind) name whole row ≡ Ok result)
-unfolding adjusted
-adjusted-packed indexes name kind whole result packed h =
-    let adjust = adjustor indexes kind in
-    let parts = bind-was (row_of (own_index adjust name) (identifier_of name))
-    (part_by_row adjust name whole) result
-    (rw (some-index indexes.compilations indexes.types packed) at h) in
-    let found = ap (λ own. row_of own (identifier_of name)) (sym (own-index indexes kind name)) in
-    (parts.0, found ∙ parts.1, parts.2)
-
-pub placed-part : (indexes : Indexes) (name : DwarfObject) (from : SectionKind)
-    (range : Contribution) (kind : SectionKind) (front bytes : List ℕ)
-    (result : Option Contribution) → is_package indexes ≡ true
-    → (own : OwnRow (index_for indexes name) from range (identifier_of name))
-    → adjusted_part indexes name kind (whole_behind front bytes) ≡ Ok result → Placed front bytes
-    (range_in own.row kind) result
-placed-part indexes name from range kind front bytes result packed own h =
-    let parts = adjusted-packed indexes name kind (whole_behind front bytes) result packed h in
-    let same = same-ok {E = ErrorValue} parts.0 own.row (sym parts.1 ∙ own.found) in
-    let adjust = adjustor indexes kind in
-    placed-by kind (identifier_of name) front bytes (range_in own.row kind) result
-    (has_column_for kind (own_index adjust name)) (has_column_for kind (other_index adjust name))
-    (range-some own.row kind)
-    (λ none. range-none own.index own.number own.row kind own.there (ap (has_column_for kind)
-    (sym (own-index indexes kind name ∙ own.is)) ∙ none))
-    (ap (part_by_row adjust name (whole_behind front bytes)) (sym same) ∙ parts.2)
-
--- ---- the row that a unit gets
+-- the row that a unit gets
 pub record IsUnitRow (indexes : Indexes) (whole : IndexEntry) (name : DwarfObject)
     (row : IndexEntry) : Type 0 where
   pub encoding : row.encoding ≡ whole.encoding
@@ -181,26 +115,43 @@ pub record IsUnitRow (indexes : Indexes) (whole : IndexEntry) (name : DwarfObjec
   pub parts : (kind : SectionKind) → is_shared kind ≡ true → adjusted_part indexes name kind
       (contribution_to kind whole) ≡ Ok (contribution_to kind row)
 
+module _ (indexes : Indexes) (name : DwarfObject) where
+  -- of a plain input a unit's part is the whole
+  pub adjusted-plain : (kind : SectionKind) (whole : Option Contribution)
+      → is_package indexes ≡ false → adjusted_part indexes name kind whole ≡ Ok whole
+  unfolding adjusted
+  adjusted-plain kind whole plain = rw (no-index indexes.compilations indexes.types plain)
+
+  module _ (packed : is_package indexes ≡ true) where
+    -- of a package it is by the unit's row
+    pub adjusted-packed : (kind : SectionKind) (whole result : Option Contribution)
+        → adjusted_part indexes name kind whole ≡ Ok result
+        → (row : Ranges) × (row_of (index_for indexes name) (identifier_of name) ≡ Ok row)
+        × (part_by_row (adjustor indexes kind) name whole row ≡ Ok result)
+    unfolding adjusted
+    adjusted-packed kind whole result h =
+        let adjust = adjustor indexes kind in
+        let parts = bind-was (row_of (own_index adjust name) (identifier_of name))
+        (part_by_row adjust name whole) result
+        (rw (some-index indexes.compilations indexes.types packed) at h) in
+        let found = ap (λ own. row_of own (identifier_of name))
+            (sym (own-index indexes kind name)) in
+        (parts.0, found ∙ parts.1, parts.2)
+
 pub is-unit_row : (indexes : Indexes) (whole : IndexEntry) (name : DwarfObject) (row : IndexEntry)
     → unit_row indexes whole name ≡ Ok row → IsUnitRow indexes whole name row
 unfolding unit_row
 is-unit_row indexes whole name row h =
-    let parts = bind-was (read_each (λ kind. unit_part indexes name kind
-    (contribution_to kind whole)) all_kinds) _ row h in
-    let part = read-kind (λ kind. unit_part indexes name kind (contribution_to kind whole)) parts.0
-    None parts.1 in
-    let is = same-ok {E = ErrorValue} _ row parts.2 in
-    record {
-      encoding = ap (λ (e : IndexEntry). e.encoding) (sym is);
-      info = ap (λ (e : IndexEntry). e.debug_info) (sym is) ∙ sym
-          (same-ok {E = ErrorValue} _ _ (part Info));
-      types = ap (λ (e : IndexEntry). e.debug_types) (sym is)
-          ∙ sym (same-ok {E = ErrorValue} _ _ (part Types));
-      parts = λ kind shared. ap (λ b. cond b (adjusted_part indexes name kind
-          (contribution_to kind whole)) (Ok (contribution_to kind whole))) (sym shared)
-          ∙ part kind ∙ ap Ok (sym (entry-part whole.encoding name (value_of None parts.0) kind
-          shared) ∙ ap (contribution_to kind) is);
-    }
+    let given = λ (kind : SectionKind). unit_part indexes name kind (contribution_to kind whole) in
+    let parts = bind-was (read_each given all_kinds) _ row h in
+    let part = read-kind given parts.0 None parts.1 in
+    rw (← same-ok {E = ErrorValue} _ row parts.2) (record {
+      encoding = refl;
+      info = sym (same-ok {E = ErrorValue} _ _ (part Info));
+      types = sym (same-ok {E = ErrorValue} _ _ (part Types));
+      parts = λ kind shared. rw (entry-part whole.encoding name (value_of None parts.0) kind shared)
+          (rw shared at (part kind));
+    })
 
 -- where the wholes lie
 pub whole-part : (encoding : Encoding) (before parts : Contents) (kind : SectionKind)
@@ -208,9 +159,9 @@ pub whole-part : (encoding : Encoding) (before parts : Contents) (kind : Section
     kind (joined_parts kind parts) before
 unfolding whole_row
 whole-part encoding before parts kind shared =
-    entry-part encoding _ (λ k. cond (is_shared k) (range_put k (joined_parts k parts) before) None)
-    kind shared
-    ∙ ap (λ b. cond b (range_put kind (joined_parts kind parts) before) None) shared
+    let part = λ (k : SectionKind). cond (is_shared k) (range_put k (joined_parts k parts) before)
+    None in
+    entry-part encoding _ part kind shared ∙ rw shared refl
 
 pub whole-else : (encoding : Encoding) (before parts : Contents)
     → ((whole_row encoding before parts).encoding ≡ encoding)
@@ -218,15 +169,3 @@ pub whole-else : (encoding : Encoding) (before parts : Contents)
     × ((whole_row encoding before parts).debug_types ≡ None)
 unfolding whole_row
 whole-else encoding before parts = (refl, refl, refl)
-
--- a unit of a package that passed the test has a row of its own
-pub own-row : (indexes : Indexes) (whole : IndexEntry) (kind : SectionKind) (name : DwarfObject)
-    (unit : Header) (row : IndexEntry) → is_package indexes ≡ true → row_test indexes kind
-    name unit ≡ Ok tt
-    → IsUnitRow indexes whole name row → OwnRow (index_for indexes name) kind (own_range unit)
-    (identifier_of name)
-own-row indexes whole kind name unit row packed test made =
-    let found = adjusted-packed indexes name Abbrev (contribution_to Abbrev whole)
-    (contribution_to Abbrev row) packed (made.parts Abbrev refl) in
-    own-by (index_for indexes name) kind (own_range unit) (identifier_of name) found.0
-    (tested indexes kind name unit packed test) found.1

@@ -1,18 +1,20 @@
 -- A unit that is added stands in its row.
-use Rattle.std.proofs.Common.{◌≡◌, ◌∙◌, ℕ, ◌+◌, ◌-◌, ◌≤◌, ◌<◌, false, cond, List, [], ◌∷◌, ◌++◌}
-use Rattle.std.proofs.Common.{length, take, drop, ap, sym, refl, arith, Some, None, Option, Ok}
-use Rattle.std.proofs.Common.{nat_eq, ◌⊎◌, inl, inr}
+use Rattle.std.proofs.Common.{◌≡◌, ◌∙◌, ℕ, ◌+◌, ◌-◌, ◌≤◌, ◌<◌, false, cond, List, ◌++◌, length, sym}
+use Rattle.std.proofs.Common.{refl, arith, Some, None, Option, ◌⊎◌, inl, inr}
 use Rattle.std.specs.Prelude.{slice_range}
-use Rattle.std.proofs.Math.Dec.{eqb-suc-zero}
 use Rattle.std.proofs.Math.Seq.{drop-append_seam, take-length}
+use Rattle.std.proofs.lemmas.Bool.{ne_eqb}
 use Rattle.dwp_base.specs.declared.section.SectionKind.{SectionKind}
 use Rattle.dwp_base.specs.declared.section.SectionKind.TheVariants as kinds
 use Rattle.dwp_base.specs.declared.section.Contribution.{Contribution}
 use Rattle.dwp_base.specs.declared.endian.Endianness.{Endianness}
 use Rattle.dwp_base.specs.Sections.{same_kind}
 use Rattle.dwp_base.proofs.EveryKind.{same-self, is-same, same-each}
+use Rattle.dwp_base.proofs.Bools.{by-bool}
+use Rattle.dwp_base.proofs.Steps.{bind-ok}
+use Rattle.dwp_bytes.specs.Input.{section}
 use Rattle.dwp_elf.specs.Contents.{content_of}
-use Rattle.dwp_bytes.specs.declared.encoding.Encoding.{Encoding}
+use Rattle.dwp_dwarf.specs.Units.{unit_at}
 use Rattle.dwp_dwarf.specs.declared.unit.UnitSection.{UnitSection}
 use Rattle.dwp_dwarf.specs.declared.unit.UnitSection.TheVariants as places
 use Rattle.dwp_index.specs.Package.{part_of, encoding_in}
@@ -22,25 +24,20 @@ use Rattle.dwp_table.specs.declared.object.DwarfObject.TheVariants.{Compilation,
 use Rattle.thorin_index.specs.Entries.{contribution_to}
 use Rattle.thorin_index.specs.declared.entry.IndexEntry.{IndexEntry}
 use Rattle.thorin_input.specs.Growing.{Contents, with_bytes, range_put}
-use Rattle.thorin_join.specs.Meaning.{Meaning}
 use Rattle.thorin_input.specs.Format.{is_copied}
+use Rattle.thorin_input.specs.NewUnits.{NewUnit}
+use Rattle.thorin_join.specs.Laid.{IsWhole}
+use Rattle.thorin_join.specs.Meaning.{Meaning}
 use Rattle.thorin_join.specs.Represents.{LieInside, Shares, IsRowOf}
 use Rattle.thorin_join.specs.State.{kind_at, row_at}
 use Rattle.thorin_join.proofs.Rows.Stay.{grows-with_bytes, keep-lie, keep-shares}
-use Rattle.thorin_join.proofs.Parts.Appended.{content-with_bytes, copied-differ}
-use Rattle.thorin_input.specs.NewUnits.{NewUnit}
-use Rattle.dwp_base.proofs.Bools.{by-bool}
 use Rattle.thorin_join.proofs.Rows.Ranges.{lies-whole}
-
-not_empty : (x : List ℕ) → 0 < length x → nat_eq (length x) 0 ≡ false
-not_empty [] h = absurd (omega arith)
-not_empty (y ∷ ys) h = eqb-suc-zero (length ys)
+use Rattle.thorin_join.proofs.Parts.Appended.{content-with_bytes, copied-differ}
 
 -- the content of the kind that bytes are added to
 pub content-put : (k : SectionKind) (x : List ℕ) (c : Contents) → content_of k (with_bytes k x c) ≡
     content_of k c ++ x
-content-put k x c = content-with_bytes k k x c ∙ ap (λ e. cond e (content_of k c ++ x)
-    (content_of k c)) (same-self k)
+content-put k x c = rw (content-with_bytes k k x c, same-self k) refl
 
 -- where they lie
 abbrev pub range_for : SectionKind → List ℕ → Contents → Contribution
@@ -48,38 +45,22 @@ range_for k x c = record { offset = record { 0 = length (content_of k c) }; size
 
 pub place-put : (k : SectionKind) (x : List ℕ) (c : Contents) → 0 < length x
     → range_put k x c ≡ Some (range_for k x c)
-place-put k x c h = rw (not_empty x h) refl
+place-put k x c h = rw (ne_eqb (length x) 0 (λ none. absurd (omega arith))) refl
 
 pub own-bytes : (a x : List ℕ) → slice_range (a ++ x) (length a) (length a + length x) ≡ x
-own-bytes a x =
-    let e : length a + length x - length a ≡ length x = omega arith in
-    ap (λ n. take n (drop (length a) (a ++ x))) e ∙ ap (take (length x))
-    (drop-append_seam a x) ∙ take-length x
+own-bytes a x = let e : length a + length x - length a ≡ length x = omega arith in
+    rw (e, drop-append_seam a x) (take-length x)
 
 pub part-put : (k : SectionKind) (x : List ℕ) (c : Contents) → 0 < length x
     → part_of (content_of k (with_bytes k x c)) (range_put k x c) ≡ x
 part-put k x c h = rw (content-put k x c) (lies-whole (content_of k c) x).part_is
 
--- a unit's row has its own part, and those that it shares
-row-parts : (shared : IndexEntry) (c : Contents) (name : DwarfObject) (x : List ℕ)
-    (place : UnitSection) (kind : SectionKind)
-    → contribution_to kind (row_at shared c name x place) ≡ cond (same_kind (kind_at place) kind)
-    (range_put (kind_at place) x c) (contribution_to kind shared)
-row-parts shared c name x places.Info =
-    same-each (λ k. contribution_to k (row_at shared c name x places.Info)) (λ k.
-    cond (same_kind kinds.Info k) (range_put kinds.Info x c) (contribution_to k shared)) refl
-row-parts shared c name x places.Types =
-    same-each (λ k. contribution_to k (row_at shared c name x places.Types)) (λ k.
-    cond (same_kind kinds.Types k) (range_put kinds.Types x c) (contribution_to k shared)) refl
-
-pub not-copied : (place : UnitSection) → is_copied (kind_at place) ≡ false
-not-copied places.Info = refl
-not-copied places.Types = refl
-
-pub not-offsets : (place : UnitSection) → (same_kind (kind_at place) kinds.StrOffsets ≡ false)
+-- the kind of a place is none of those that units share
+pub not-shared : (place : UnitSection) → (is_copied (kind_at place) ≡ false)
+    × (same_kind (kind_at place) kinds.StrOffsets ≡ false)
     × (same_kind kinds.StrOffsets (kind_at place) ≡ false)
-not-offsets places.Info = (refl, refl)
-not-offsets places.Types = (refl, refl)
+not-shared places.Info = (refl, refl, refl)
+not-shared places.Types = (refl, refl, refl)
 
 -- the place of a unit is that of its name and its range in types
 pub record Fits (shared : IndexEntry) (name : DwarfObject) (x : List ℕ)
@@ -88,29 +69,6 @@ pub record Fits (shared : IndexEntry) (name : DwarfObject) (x : List ℕ)
   pub some : 0 < length x
   pub types_only : place ≡ places.Types → (signature : ℕ)
       × (name ≡ TypeUnit (record { 0 = signature }))
-
-info-place : (name : DwarfObject) → places.Info ≡ index.place_of name None
-info-place (Compilation id) = refl
-info-place (TypeUnit signature) = refl
-
-pub own-place : (shared : IndexEntry) (c : Contents) (name : DwarfObject) (x : List ℕ)
-    (place : UnitSection) → Fits shared name x place
-    → place ≡ index.place_of name (contribution_to kinds.Types (row_at shared c name x place))
-own-place shared c name x places.Info fits = info-place name ∙ ap (index.place_of name)
-    (sym fits.no_types)
-own-place shared c name x places.Types fits =
-    let t = fits.types_only refl in
-    rw (t.1, place-put kinds.Types x c fits.some)
-
-pub row-name : (shared : IndexEntry) (c : Contents) (name : DwarfObject) (x : List ℕ)
-    (place : UnitSection) → (row_at shared c name x place).id ≡ name
-row-name shared c name x places.Info = refl
-row-name shared c name x places.Types = refl
-
-row-encoding : (shared : IndexEntry) (c : Contents) (name : DwarfObject) (x : List ℕ)
-    (place : UnitSection) → (row_at shared c name x place).encoding ≡ shared.encoding
-row-encoding shared c name x places.Info = refl
-row-encoding shared c name x places.Types = refl
 
 pub lie-by : (shared : IndexEntry) (c : Contents) (k : SectionKind) (x : List ℕ)
     (kind : SectionKind) (part : Option Contribution) (range : Contribution)
@@ -125,7 +83,13 @@ lie-by shared c k x kind part range some lie is (inr h) =
     let there = sym h.1 ∙ is in
     (rw (h.0, content-put k x c) (own.inside range there), own.some range there)
 
--- a unit that can be added: it has its place in what its row shares, and its header can be read
+-- a unit that can be put behind the others
+pub record CanLie (order : Endianness) (u : DwarfObject × NewUnit) : Type 0 where
+  pub fits : Fits u.1.row u.0 u.1.bytes u.1.place
+  pub no_info : u.1.row.debug_info ≡ None
+  pub whole : IsWhole order u.1.place u.0 u.1.bytes
+
+-- a unit that can be added: it has its place in what its row shares
 pub record CanBeAdded (order : Endianness) (c : Contents) (strings : List (List ℕ)) (u : DwarfObject
     × NewUnit) (m : DwarfObject × Meaning) : Type 0 where
   pub name : u.0 ≡ m.0
@@ -133,62 +97,78 @@ pub record CanBeAdded (order : Endianness) (c : Contents) (strings : List (List 
   pub encoded : u.1.row.encoding ≡ m.1.encoding
   pub lie : LieInside c u.1.row
   pub shares : Shares order c strings u.1.row m.1
-  pub fits : Fits u.1.row u.0 u.1.bytes u.1.place
-  pub encoding : Encoding
-  pub header : encoding_in order u.1.place u.1.bytes ≡ Ok encoding
+  pub can : CanLie order u
 
-module _ (shared : IndexEntry) (c : Contents) (name : DwarfObject) (x : List ℕ)
-    (place : UnitSection) where
-  abbrev row : IndexEntry
-  row = row_at shared c name x place
+module _ (shared : IndexEntry) (c : Contents) (name : DwarfObject) (x : List ℕ) where
+  -- a unit's row has its own part, and those that it shares
+  row-parts : (place : UnitSection) (kind : SectionKind)
+      → contribution_to kind (row_at shared c name x place) ≡ cond (same_kind (kind_at place) kind)
+      (range_put (kind_at place) x c) (contribution_to kind shared)
+  row-parts places.Info = same-each _ _ refl
+  row-parts places.Types = same-each _ _ refl
 
-  pub row-other : (kind : SectionKind) → same_kind (kind_at place) kind ≡ false
-      → contribution_to kind row ≡ contribution_to kind shared
-  row-other kind other = rw (row-parts shared c name x place kind, other)
+  pub own-place : (place : UnitSection) → Fits shared name x place
+      → place ≡ index.place_of name (contribution_to kinds.Types (row_at shared c name x place))
+  own-place places.Info fits = rw fits.no_types (elim name as
+      (λ n. places.Info ≡ index.place_of n None) [ Compilation id ↦ refl | TypeUnit id ↦ refl ])
+  own-place places.Types fits = let t = fits.types_only refl in
+      rw (t.1, place-put kinds.Types x c fits.some)
 
-  pub row-own : contribution_to (kind_at place) row ≡ range_put (kind_at place) x c
-  row-own = rw (row-parts shared c name x place (kind_at place), same-self (kind_at place))
+  pub row-name : (place : UnitSection) → (row_at shared c name x place).id ≡ name
+  row-name places.Info = refl
+  row-name places.Types = refl
 
-  -- its other parts are those that it shares, and its own
-  pub row-part : (kind : SectionKind) → (contribution_to kind row ≡ contribution_to kind shared)
-      ⊎ ((kind ≡ kind_at place) × (contribution_to kind row ≡ range_put (kind_at place) x c))
-  row-part kind =
-      by-bool _ (same_kind (kind_at place) kind)
-      (λ same. inr (
-        sym (is-same (kind_at place) kind same),
-        rw (row-parts shared c name x place kind, same),
-      ))
-      (λ other. inl (row-other kind other))
+  module _ (place : UnitSection) where
+    abbrev row : IndexEntry
+    row = row_at shared c name x place
 
-  -- a unit whose row shares what belongs to it is the one of its row, once its bytes are added
-  pub unit-added : (order : Endianness) (s : List (List ℕ)) (m : DwarfObject × Meaning)
-      → CanBeAdded order c s (name, record { place = place; bytes = x; row = shared }) m
-      → IsRowOf order (with_bytes (kind_at place) x c) s row m
-  unit-added order s m can =
-      let kept = keep-shares order c (with_bytes (kind_at place) x c) s s shared m.1
-      (grows-with_bytes (kind_at place) x c) (take-length s) can.lie can.shares in
-      let lies = λ (kind : SectionKind) (range : Contribution)
-      (is : contribution_to kind row ≡ Some range). lie-by shared c (kind_at place) x kind
-      (contribution_to kind row) range can.fits.some can.lie is (row-part kind) in
-      record {
-        name = row-name shared c name x place ∙ can.name;
-        encoding = row-encoding shared c name x place ∙ can.encoded;
-        lie = record {
-          inside = λ kind range is. (lies kind range is).0;
-          some = λ kind range is. (lies kind range is).1;
-        };
-        shares = record {
-          content = λ kind copied. rw
-              (row-other kind (copied-differ kind (kind_at place) copied (not-copied place)))
-              (kept.content kind copied);
-          string = λ final table begins i. rw (row-other kinds.StrOffsets (not-offsets place).0)
-              (kept.string final table begins i);
-        };
-        owns = record {
-          place = place;
-          place_is = rw (← can.name) (own-place shared c name x place can.fits);
-          bytes = rw row-own (part-put (kind_at place) x c can.fits.some ∙ can.bytes);
-          encoding = can.encoding;
-          header = rw (← can.bytes) can.header;
-        };
-      }
+    pub row-other : (kind : SectionKind) → same_kind (kind_at place) kind ≡ false
+        → contribution_to kind row ≡ contribution_to kind shared
+    row-other kind other = rw (row-parts place kind, other)
+
+    pub row-own : contribution_to (kind_at place) row ≡ range_put (kind_at place) x c
+    row-own = rw (row-parts place (kind_at place), same-self (kind_at place))
+
+    -- its other parts are those that it shares, and its own
+    pub row-part : (kind : SectionKind) → (contribution_to kind row ≡ contribution_to kind shared)
+        ⊎ ((kind ≡ kind_at place) × (contribution_to kind row ≡ range_put (kind_at place) x c))
+    row-part kind = by-bool _ (same_kind (kind_at place) kind)
+        (λ same. let is = is-same (kind_at place) kind same in inr (sym is, rw (← is) row-own))
+        (λ other. inl (row-other kind other))
+
+    -- a unit whose row shares what belongs to it is the one of its row, once its bytes are added
+    pub unit-added : (order : Endianness) (s : List (List ℕ)) (m : DwarfObject × Meaning)
+        → CanBeAdded order c s (name, record { place = place; bytes = x; row = shared }) m
+        → IsRowOf order (with_bytes (kind_at place) x c) s row m
+    unfolding encoding_in
+    unit-added order s m added =
+        let can = added.can in
+        let kept = keep-shares order c (with_bytes (kind_at place) x c) s s shared m.1
+        (grows-with_bytes (kind_at place) x c) (take-length s) added.lie added.shares in
+        let lies = λ (kind : SectionKind) (range : Contribution)
+        (is : contribution_to kind row ≡ Some range). lie-by shared c (kind_at place) x kind
+        (contribution_to kind row) range can.fits.some added.lie is (row-part kind) in
+        record {
+          name = row-name place ∙ added.name;
+          encoding = elim place as (λ p. (row_at shared c name x p).encoding ≡ m.1.encoding)
+              [ places.Info ↦ added.encoded | places.Types ↦ added.encoded ];
+          lie = record {
+            inside = λ kind range is. (lies kind range is).0;
+            some = λ kind range is. (lies kind range is).1;
+          };
+          shares = record {
+            content = λ kind copied. rw
+                (row-other kind (copied-differ kind (kind_at place) copied (not-shared place).0))
+                (kept.content kind copied);
+            string = λ final table begins i. rw (row-other kinds.StrOffsets (not-shared place).1)
+                (kept.string final table begins i);
+          };
+          owns = record {
+            place = place;
+            place_is = rw (← added.name) (own-place place can.fits);
+            bytes = rw row-own (part-put (kind_at place) x c can.fits.some ∙ added.bytes);
+            encoding = can.whole.unit.encoding;
+            header = rw (← added.bytes) (bind-ok (unit_at place (section order x))
+                (can.whole.unit, can.whole.rest) _ can.whole.read);
+          };
+        }

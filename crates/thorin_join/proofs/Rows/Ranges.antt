@@ -1,21 +1,22 @@
 -- The ranges that a unit's row gets: where they lie, and what stands there.
-use Rattle.std.proofs.Common.{subst₂, ◌≡◌, ◌∙◌, ℕ, ◌+◌, ◌-◌, ◌<◌, ◌≤◌, Bool, true, false, cond, eqb}
-use Rattle.std.proofs.Common.{leb, List, [], ◌++◌, length, take, drop, slice_range, not, is_some}
-use Rattle.std.proofs.Common.{Ok, Option, Some, None, refl, sym, ap, if◌then◌else◌, arith}
+use Rattle.std.proofs.Common.{[], ◌≡◌, ◌∙◌, ℕ, ◌+◌, ◌-◌, ◌<◌, ◌≤◌, Bool, true, false, cond, eqb}
+use Rattle.std.proofs.Common.{leb, List, ◌++◌, length, slice_range, is_some, Ok, Option, Some, None}
+use Rattle.std.proofs.Common.{refl, sym, if◌then◌else◌, arith}
 use Rattle.std.specs.Option.{option_and_then}
+use Rattle.std.specs.Prelude.{slice_index}
 use Rattle.std.proofs.lemmas.List.{length-append}
 use Rattle.std.proofs.Math.Seq.{take-length, drop-append-add}
-use Rattle.std.proofs.lemmas.Option.{none-some, same_Some}
+use Rattle.std.proofs.lemmas.Option.{none-some, same_Some, option_and_then_some}
 use Rattle.std.proofs.lemmas.Bool.{leb-true, le-leb, eqb-true, eqb-false}
 use Rattle.dwp_base.specs.declared.section.SectionKind.{SectionKind}
 use Rattle.dwp_base.specs.declared.section.Contribution.{Contribution}
-use Rattle.dwp_index.specs.Index.{Index, Ranges, row_in, column_place, contribution, range_in}
+use Rattle.dwp_index.specs.Index.{Index, Ranges, row_in, column_place, range_in}
 use Rattle.dwp_index.specs.Package.{part_of, is_outside}
 use Rattle.dwp_bytes.specs.declared.error.ReadError.{ReadError}
 use Rattle.thorin_errors.specs.Errors.{ErrorValue}
 use Rattle.thorin_input.specs.Adjusting.{moved, moved_range, without_column}
 use Rattle.thorin_join.proofs.Parts.Appended.{no-bytes}
-use Rattle.dwp_base.proofs.Steps.{same-ok}
+use Rattle.dwp_base.proofs.Steps.{same-ok, by-choice}
 use Rattle.thorin_join.proofs.Steps.{kept}
 use Rattle.thorin_join.proofs.Rows.Stay.{part-inside}
 use Rattle.dwp_base.proofs.Bools.{by-bool}
@@ -53,8 +54,7 @@ lies-at front bytes at size some within =
       inside = λ r h. rw (← same_Some _ _ h) fits;
       some = λ r h. rw (← same_Some _ _ h) some;
       part_is = part-inside (front ++ bytes) (range_at (length front + at) size) fits
-          ∙ ap (λ n. take n (drop (length front + at) (front ++ bytes))) count
-          ∙ ap (take (at + size - at)) (drop-append-add front bytes at);
+          ∙ rw (count, drop-append-add front bytes at);
     }
 
 -- where bytes come to lie as a whole behind others: nowhere, where there are none
@@ -69,8 +69,7 @@ lies-whole front bytes =
     (λ some. let several = eqb-false (length bytes) 0 some in
     let start : length front + 0 ≡ length front = omega arith in
     let count : 0 + length bytes - 0 ≡ length bytes = omega arith in
-    rw some (subst₂ (λ at part. Lies front bytes (Some (range_at at (length bytes))) part) start
-    (ap (λ n. take n bytes) count ∙ take-length bytes)
+    rw some (rw (start, count, take-length bytes) at
     (lies-at front bytes 0 (length bytes) (omega arith) (omega arith))))
 
 -- ---- ranges of rows, moved
@@ -80,106 +79,80 @@ pub record Placed (front bytes : List ℕ) (range moved : Option Contribution) :
   pub within : (r : Contribution) → range ≡ Some r → r.offset.0 + r.size ≤ length bytes
   pub lies : Lies front bytes moved (part_of bytes range)
 
-moved-by : (kind : SectionKind) (id : ℕ) (front bytes : List ℕ) (range : Contribution)
-    (result : Option Contribution) (none : Bool) → 0 < range.size
-    → moved kind id range (cond none None (Some (range_at (length front) (length bytes)))) ≡ Ok
-    result → Placed front bytes (Some range) result
-unfolding moved
-moved-by kind id front bytes range result true some h = absurd cc
-moved-by kind id front bytes range result false some h =
-    let end = range.offset.0 + range.size in
-    let fits = kept (leb end (length bytes)) _ _ result h in
-    let inside : end ≤ length bytes = leb-true end (length bytes) fits.0 in
-    record {
-      within = λ r e. rw (← same_Some _ _ e) inside;
-      lies = rw (← same-ok {E = ErrorValue} _ _ fits.1, part-inside bytes range inside)
-          (lies-at front bytes range.offset.0 range.size some inside);
-    }
-
-placed-none : (front bytes : List ℕ) (range result : Option Contribution) → range ≡ None
-    → result ≡ None → Placed front bytes range result
-placed-none front bytes range result none nothing =
-    rw (none, nothing) (record {
-      within = λ r h. absurd (none-some r h);
-      lies = lies-none front bytes;
-    })
-
-pub placed-range : (kind : SectionKind) (id : ℕ) (front bytes : List ℕ)
-    (range result : Option Contribution) → ((r : Contribution) → range ≡ Some r → 0 < r.size)
-    → moved_range kind id range (whole_behind front bytes) ≡ Ok result
-    → Placed front bytes range result
-placed-range kind id front bytes None result some h = placed-none front bytes None result refl
-    (sym (same-ok {E = ErrorValue} None result h))
-placed-range kind id front bytes (Some range) result some h = moved-by kind id front bytes range
-    result (eqb (length bytes) 0) (some range refl) h
-
 without-none : (whole result : Option Contribution) → without_column whole ≡ Ok
     result → result ≡ None
 without-none None result h = sym (same-ok {E = ErrorValue} None result h)
 without-none (Some whole) result h = absurd cc
 
--- by the columns that the indexes have
-pub placed-by : (kind : SectionKind) (id : ℕ) (front bytes : List ℕ)
-    (range result : Option Contribution) (own other : Bool) → ((r : Contribution) → range ≡ Some r
-    → 0 < r.size) → (own ≡ false → range ≡ None)
-    → cond own (moved_range kind id range (whole_behind front bytes))
-    (cond other (Ok None) (without_column (whole_behind front bytes))) ≡ Ok result
-    → Placed front bytes range result
-placed-by kind id front bytes range result true other some none h = placed-range kind id front bytes
-    range result some h
-placed-by kind id front bytes range result false true some none h = placed-none front bytes range
-    result (none refl) (sym (same-ok {E = ErrorValue} None result h))
-placed-by kind id front bytes range result false false some none h = placed-none front bytes range
-    result (none refl) (without-none (whole_behind front bytes) result h)
+module _ (front bytes : List ℕ) where
+  placed-none : {range result : Option Contribution} → range ≡ None → result ≡ None
+      → Placed front bytes range result
+  placed-none none nothing = rw (none, nothing) (record {
+    within = λ r h. absurd (none-some r h);
+    lies = lies-none front bytes;
+  })
+
+  placed-range : (kind : SectionKind) (id : ℕ) (range result : Option Contribution)
+      → ((r : Contribution) → range ≡ Some r → 0 < r.size)
+      → moved_range kind id range (whole_behind front bytes) ≡ Ok result
+      → Placed front bytes range result
+  unfolding moved
+  placed-range kind id None result some h =
+      placed-none refl (sym (same-ok {E = ErrorValue} None result h))
+  placed-range kind id (Some range) result some h =
+      let end = range.offset.0 + range.size in
+      by-bool _ (eqb (length bytes) 0)
+      (λ none. let never = rw none at h in absurd cc)
+      (λ full. let fits = kept (leb end (length bytes)) _ _ result (rw full at h) in
+      let inside : end ≤ length bytes = leb-true end (length bytes) fits.0 in
+      record {
+        within = λ r e. rw (← same_Some _ _ e) inside;
+        lies = rw (← same-ok {E = ErrorValue} _ _ fits.1, part-inside bytes range inside)
+            (lies-at front bytes range.offset.0 range.size (some range refl) inside);
+      })
+
+  -- by the columns that the indexes have
+  pub placed-by : (kind : SectionKind) (id : ℕ) (range result : Option Contribution)
+      (own other : Bool) → ((r : Contribution) → range ≡ Some r → 0 < r.size)
+      → (own ≡ false → range ≡ None)
+      → cond own (moved_range kind id range (whole_behind front bytes))
+      (cond other (Ok None) (without_column (whole_behind front bytes))) ≡ Ok result
+      → Placed front bytes range result
+  placed-by kind id range result true other some none h = placed-range kind id range result some h
+  placed-by kind id range result false other some none h = placed-none (none refl)
+      (by-choice _ other _ _ _ h (λ same. sym (same-ok {E = ErrorValue} None result same))
+      (without-none (whole_behind front bytes) result))
 
 -- ---- ranges of an index's rows
-contribution-some : (at size : ℕ) (r : Contribution) → contribution at size ≡ Some r → 0 < r.size
-contribution-some at size r h =
-    by-bool _ (eqb size 0)
-    (λ none. absurd (none-some r (rw none at h)))
-    (λ some. let several = eqb-false size 0 some in
-    rw (← same_Some _ _ (rw some at h)) (omega arith))
-
-ranged : (f : ℕ → Option Contribution) (column : Option ℕ) (r : Contribution)
-    → option_and_then f column ≡ Some r → (i : ℕ) × (f i ≡ Some r)
-ranged f None r h = absurd (none-some r h)
-ranged f (Some i) r h = (i, h)
-
 -- a range that is there has bytes
 pub range-some : (row : Ranges) (kind : SectionKind) (r : Contribution) → range_in row kind ≡
     Some r → 0 < r.size
 unfolding range_in
-range-some row kind r h =
-    let column = ranged _ (column_place row.version row.columns kind) r h in
-    contribution-some _ _ r column.1
+range-some row kind r h = option_and_then_some _ (column_place row.version row.columns kind) r h
+    (λ i there is. let size = slice_index row.sizes i in
+    by-bool _ (eqb size 0)
+    (λ none. absurd (none-some r (rw none at is)))
+    (λ some. let several = eqb-false size 0 some in
+    rw (← same_Some _ _ (rw some at is)) (omega arith)))
 
 no-column : (f : ℕ → Option Contribution) (column : Option ℕ) → is_some column ≡ false
     → option_and_then f column ≡ None
 no-column f None h = refl
 no-column f (Some i) h = absurd cc
 
-row-like : (index : Index) (number : ℕ) (row : Ranges) (kind : SectionKind) → row_in index number ≡
-    Ok row → column_place row.version row.columns kind ≡ column_place index.version
-    index.columns kind
-unfolding row_in
-row-like index number row kind h = ap (λ (r : Ranges). column_place r.version r.columns kind)
-    (sym (same-ok {E = ReadError} _ row (kept _ _ _ row h).1))
-
 -- without a column there is no range
 pub range-none : (index : Index) (number : ℕ) (row : Ranges) (kind : SectionKind)
     → row_in index number ≡ Ok row → is_some (column_place index.version index.columns kind) ≡ false
     → range_in row kind ≡ None
-unfolding range_in
-range-none index number row kind h none = no-column _ (column_place row.version row.columns kind)
-    (ap is_some (row-like index number row kind h) ∙ none)
+unfolding range_in row_in
+range-none index number row kind h none =
+    let is = same-ok {E = ReadError} _ row (kept _ _ _ row h).1 in
+    rw (← is) (no-column _ (column_place index.version index.columns kind) none)
 
 -- a range inside bytes as long isn't outside
 pub not-outside : (bytes as_long : List ℕ) (range : Option Contribution) → length bytes ≡ length
     as_long → ((r : Contribution) → range ≡ Some r → r.offset.0 + r.size ≤ length as_long)
     → is_outside bytes range ≡ false
 not-outside bytes as_long None long within = refl
-not-outside bytes as_long (Some range) long within =
-    let inside = within range refl in
-    let lies : leb (range.offset.0 + range.size) (length bytes) ≡ true =
-    le-leb (range.offset.0 + range.size) (length bytes) (omega (arith, inside, long)) in
-    ap not lies
+not-outside bytes as_long (Some range) long within = rw (le-leb (range.offset.0 + range.size)
+    (length bytes) (omega (arith, within range refl, long))) refl

@@ -1,6 +1,6 @@
 -- What stands in a package stays when more is added.
-use Rattle.std.proofs.Common.{◌≡◌, ◌∙◌, ℕ, ◌+◌, ◌-◌, ◌≤◌, cond, List, [], ◌∷◌, ◌++◌, length, take}
-use Rattle.std.proofs.Common.{drop, ap, sym, refl, arith, Some, None, Option}
+use Rattle.std.proofs.Common.{[], ◌≡◌, ◌∙◌, ℕ, ◌+◌, ◌-◌, ◌≤◌, List, ◌∷◌, ◌++◌, length, take, drop}
+use Rattle.std.proofs.Common.{ap, sym, refl, arith, Some, None, Option}
 use Rattle.std.specs.Prelude.{slice_range}
 use Rattle.std.proofs.lemmas.Bool.{le-leb}
 use Rattle.std.proofs.lemmas.List.{append_assoc, append-nil, drop-append-le, take-append-le}
@@ -20,7 +20,7 @@ use Rattle.thorin_index.specs.Entries.{contribution_to}
 use Rattle.thorin_index.specs.declared.entry.IndexEntry.{IndexEntry}
 use Rattle.thorin_input.specs.Growing.{Contents, HasFront, with_bytes}
 use Rattle.thorin_join.specs.Meaning.{Meaning}
-use Rattle.thorin_join.specs.Represents.{LieInside, Shares, IsRowOf, AreRowsOf}
+use Rattle.thorin_join.specs.Represents.{LieInside, Shares, Owns, IsRowOf, AreRowsOf}
 use Rattle.thorin_join.proofs.Parts.Appended.{content-with_bytes}
 use Rattle.thorin_join.proofs.Parts.Strings.{front-front}
 use Rattle.dwp_base.proofs.Bools.{by-bool}
@@ -29,10 +29,8 @@ use Rattle.dwp_base.proofs.Bools.{by-bool}
 abbrev pub Grows : Contents → Contents → Type 0
 Grows c d = (kind : SectionKind) → HasFront (content_of kind c) (content_of kind d)
 
-pub front-long : (a b : List ℕ) → HasFront a b → length a ≤ length b
-front-long a b h =
-    let long : length b ≡ length a + length h.rest = ap length h.is ∙ length-append a h.rest in
-    omega (arith, long)
+pub front-long : {a b : List ℕ} → HasFront a b → length a ≤ length b
+front-long {a} h = omega (arith, ap length h.is, length-append a h.rest)
 
 pub grows-trans : (c d e : Contents) → Grows c d → Grows d e → Grows c e
 grows-trans c d e h k kind = record {
@@ -50,27 +48,21 @@ grows-with_bytes k x c kind =
 
 pub range-front : (a x : List ℕ) (i n : ℕ) → i + n ≤ length a → slice_range (a ++ x) i (i + n) ≡
     slice_range a i (i + n)
-range-front a x i n h =
-    let short : i + n - i ≤ length (drop i a) = let e = length-drop i a in omega arith in
-    ap (take (i + n - i)) (drop-append-le i a x (omega arith)) ∙ take-append-le (i + n - i)
-    (drop i a) x short
+range-front a x i n h = rw (drop-append-le i a x (omega arith))
+    (take-append-le (i + n - i) (drop i a) x (omega (arith, length-drop i a)))
 
 -- the bytes of a range that lies inside
 pub part-inside : (a : List ℕ) (range : Contribution) → range.offset.0 + range.size ≤ length a
     → part_of a (Some range) ≡ slice_range a range.offset.0 (range.offset.0 + range.size)
-part-inside a range h =
-    ap (λ b. cond b (slice_range a range.offset.0 (range.offset.0 + range.size)) []) (le-leb _ _ h)
+part-inside a range h = rw (le-leb _ _ h) refl
 
 part-kept : (a b : List ℕ) (part : Option Contribution) → HasFront a b → ((range : Contribution)
     → part ≡ Some range → range.offset.0 + range.size ≤ length a) → part_of b part ≡ part_of a part
 part-kept a b None front inside = refl
 part-kept a b (Some range) front inside =
-    let longer = front-long a b front in
     let within = inside range refl in
-    part-inside b range (omega arith)
-    ∙ ap (λ l. slice_range l range.offset.0 (range.offset.0 + range.size)) front.is
-    ∙ range-front a front.rest range.offset.0 range.size within
-    ∙ sym (part-inside a range within)
+    let later = part-inside b range (omega (arith, front-long front)) in
+    rw (later, part-inside a range within, front.is) (range-front a front.rest _ _ within)
 
 -- the part of a row
 pub keep-part : (c d : Contents) (row : IndexEntry) → Grows c d → LieInside c row
@@ -82,8 +74,7 @@ keep-part c d row grows lie kind = part-kept (content_of kind c) (content_of kin
 
 pub keep-lie : (c d : Contents) (row : IndexEntry) → Grows c d → LieInside c row → LieInside d row
 keep-lie c d row grows lie = record {
-  inside = λ kind range is. let longer = front-long (content_of kind c) (content_of kind d)
-      (grows kind) in let there = lie.inside kind range is in omega arith;
+  inside = λ kind range is. omega (arith, front-long (grows kind), lie.inside kind range is);
   some = lie.some;
 }
 
@@ -101,25 +92,19 @@ pub keep-rows : (order : Endianness) (c d : Contents) (s t : List (List ℕ)) (r
     (members : List (DwarfObject × Meaning)) → Grows c d → take (length s) t ≡ s
     → AreRowsOf order c s rows members → AreRowsOf order d t rows members
 keep-rows order c d s t [] [] grows longer are = tt
-keep-rows order c d s t [] (m ∷ ms) grows longer are = absurd are
-keep-rows order c d s t (r ∷ rs) [] grows longer are = absurd are
 keep-rows order c d s t (r ∷ rs) (m ∷ ms) grows longer are =
-    let is = are.0 in (
-      record {
-        name = is.name;
-        encoding = is.encoding;
-        lie = keep-lie c d r grows is.lie;
-        shares = keep-shares order c d s t r m.1 grows longer is.lie is.shares;
-        owns = record {
-          place = is.owns.place;
-          place_is = is.owns.place_is;
-          bytes = keep-part c d r grows is.lie (kind_at is.owns.place) ∙ is.owns.bytes;
-          encoding = is.owns.encoding;
-          header = is.owns.header;
-        };
-      },
-      keep-rows order c d s t rs ms grows longer are.1,
-    )
+    let is = are.0 in
+    let owns : Owns order d m.0 r m.1 = record {
+      place = is.owns.place;
+      place_is = is.owns.place_is;
+      bytes = keep-part c d r grows is.lie (kind_at is.owns.place) ∙ is.owns.bytes;
+      encoding = is.owns.encoding;
+      header = is.owns.header;
+    } in
+    let shares = keep-shares order c d s t r m.1 grows longer is.lie is.shares in
+    let lie = keep-lie c d r grows is.lie in
+    (assumption (owns, shares, lie), keep-rows order c d s t rs ms grows longer are.1)
+keep-rows order c d s t _ _ grows longer are = absurd are
 
 -- one more row
 pub rows-next : (order : Endianness) (c : Contents) (s : List (List ℕ)) (rows : List IndexEntry)
@@ -127,7 +112,6 @@ pub rows-next : (order : Endianness) (c : Contents) (s : List (List ℕ)) (rows 
     → AreRowsOf order c s rows members → IsRowOf order c s row member → AreRowsOf order c s
     (rows ++ row ∷ []) (members ++ member ∷ [])
 rows-next order c s [] [] row member are is = (is, tt)
-rows-next order c s [] (m ∷ ms) row member are is = absurd are
-rows-next order c s (r ∷ rs) [] row member are is = absurd are
 rows-next order c s (r ∷ rs) (m ∷ ms) row member are is =
     (are.0, rows-next order c s rs ms row member are.1 is)
+rows-next order c s _ _ row member are is = absurd are

@@ -1,5 +1,5 @@
 -- The units that a package represents are those that stand in the ranges of its rows.
-use Rattle.std.proofs.Common.{◌≡◌, ◌∙◌, ℕ, List, [], ◌∷◌, map, ap, sym, refl, true}
+use Rattle.std.proofs.Common.{[], ◌≡◌, ◌∙◌, ℕ, List, ◌∷◌, map, ap, sym, refl, true}
 use Rattle.std.specs.Prelude.{Ok}
 use Rattle.std.specs.Result.{result_unwrap_or}
 use Rattle.std.proofs.Math.Seq.{take-length}
@@ -54,10 +54,9 @@ module _ (order : Endianness) (contents : Contents) (strings : List (List ℕ))
       → ms ≡ map {B = DwarfObject × Meaning} (λ row.
       (row.id, meaning_at order contents strings row)) rows
   rows-are [] [] are = refl
-  rows-are [] (m ∷ ms) are = absurd are
-  rows-are (r ∷ rs) [] are = absurd are
   rows-are (r ∷ rs) (m ∷ ms) are = λ i. (sym are.0.name i, meaning-is r m are.0 i) ∷
       rows-are rs ms are.1 i
+  rows-are _ _ are = absurd are
 
 pub units-are : (made : InProgress) (ms : Members) → Represents made ms → ms ≡ units_of made
 units-are made ms has = rows-are made.file.order made.file.contents made.strings has.table

@@ -1,7 +1,7 @@
 -- Names of units that are apart: no two places have one name.
-use Rattle.std.proofs.Common.{◌≡◌, ◌∙◌, ℕ, ◌<◌, Bool, true, false, List, [], ◌∷◌, ◌++◌, length, map}
-use Rattle.std.proofs.Common.{true≢false, subst₂, inl, inr, get_or, All, AllPairs, ap, sym, subst}
-use Rattle.std.proofs.Common.{refl, arith, eq-eqb, eqb-true, append_assoc, append-nil}
+use Rattle.std.proofs.Common.{[], ◌≡◌, ◌∙◌, ℕ, ◌<◌, Bool, true, false, List, ◌∷◌, ◌++◌, length, map}
+use Rattle.std.proofs.Common.{true≢false, inl, inr, get_or, All, AllPairs, ap, sym, refl, arith}
+use Rattle.std.proofs.Common.{eq-eqb, eqb-true, append_assoc, append-nil}
 use Rattle.std.specs.List.{list_any}
 use Rattle.std.proofs.lemmas.Bool.{cases_order}
 use Rattle.std.proofs.lemmas.List.Elements.{filter_passes}
@@ -29,32 +29,25 @@ same_name-true (Compilation a) (Compilation b) h = ap (λ n. Compilation (record
     (eqb-true a.0 b.0 h)
 same_name-true (TypeUnit a) (TypeUnit b) h = ap (λ n. TypeUnit (record { 0 = n }))
     (eqb-true a.0 b.0 h)
-same_name-true (Compilation a) (TypeUnit b) h = cc
-same_name-true (TypeUnit a) (Compilation b) h = cc
+same_name-true _ _ h = absurd cc
 
 pub same_name-self : (a : DwarfObject) → same_name a a ≡ true
 same_name-self (Compilation a) = eq-eqb a.0 a.0 refl
 same_name-self (TypeUnit a) = eq-eqb a.0 a.0 refl
 
 pub same_name-equal : (a b : DwarfObject) → a ≡ b → same_name a b ≡ true
-same_name-equal a b h = subst (λ c. same_name a c ≡ true) h (same_name-self a)
+same_name-equal a b h = rw (← h) (same_name-self a)
 
 pub same_name-sym : (a b : DwarfObject) → same_name a b ≡ true → same_name b a ≡ true
 same_name-sym a b h = same_name-equal b a (sym (same_name-true a b h))
 
-not-among : (names : List DwarfObject) (name : DwarfObject) (k : ℕ) (d : DwarfObject)
-    → k < length names
-    → list_any (same_name name) names ≡ false → same_name (get_or names k d) name ≡ false
-not-among names name k d h e =
-    by-bool _ (same_name (get_or names k d) name)
-    (λ same. absurd (true≢false (sym (list_any_at (same_name name) names k d h
-    (same_name-sym (get_or names k d) name same)) ∙ e)))
-    (λ other. other)
-
 pub apart-more : (names : List DwarfObject) (name : DwarfObject) → AreApart names
     → list_any (same_name name) names ≡ false → AreApart (names ++ name ∷ [])
 apart-more names name h e = all_pairs_push (λ a b. same_name a b ≡ false) names name h
-    (λ k d within. not-among names name k d within e)
+    (λ k d within. by-bool _ (same_name (get_or names k d) name)
+    (λ same. absurd (true≢false (sym (list_any_at (same_name name) names k d within
+    (same_name-sym (get_or names k d) name same)) ∙ e)))
+    (λ other. other))
 
 pub apart-none : AreApart []
 apart-none i j d before within = absurd (omega arith)
@@ -62,12 +55,11 @@ apart-none i j d before within = absurd (omega arith)
 -- names that are apart stay so when units are joined to them
 pub joined_distinct : {X : Type 0} (names : List DwarfObject) (all : List (DwarfObject × X))
     → AreApart names → AreApart (names ++ map (λ u. u.0) (joining names all))
-joined_distinct names [] h = subst AreApart (sym (append-nil names)) h
+joined_distinct names [] h = rw (append-nil names) h
 joined_distinct names (u ∷ rest) h =
     by-bool _ (list_any (same_name u.0) names)
     (λ there. rw there (joined_distinct names rest h))
-    (λ new. rw new (subst AreApart (append_assoc names (u.0 ∷ [])
-    (map (λ d. d.0) (joining (names ++ u.0 ∷ []) rest)))
+    (λ new. rw new (rw append_assoc at
     (joined_distinct (names ++ u.0 ∷ []) rest (apart-more names u.0 h new))))
 
 -- two rows of one kind with one identifier have one name
@@ -76,52 +68,33 @@ pub same-sort : (a b : DwarfObject) → is_compilation a ≡ is_compilation b
     → identifier_of a ≡ identifier_of b → same_name a b ≡ true
 same-sort (Compilation a) (Compilation b) sort e = eq-eqb a.0 b.0 e
 same-sort (TypeUnit a) (TypeUnit b) sort e = eq-eqb a.0 b.0 e
-same-sort (Compilation a) (TypeUnit b) sort e = absurd cc
-same-sort (TypeUnit a) (Compilation b) sort e = absurd cc
+same-sort _ _ sort e = absurd cc
 
 -- rows of one sort have names of it
 pub chosen-sort : (b : Bool) (row : IndexEntry) → is_chosen b row ≡ true → is_compilation row.id ≡ b
 chosen-sort true row h = h
 chosen-sort false row h = is-false _ h
 
-rows-apart : (rows : List IndexEntry) (names : List DwarfObject) → map (λ r. r.id) rows ≡ names
-    → AreApart names → AllPairs (λ r s. same_name r.id s.id ≡ false) rows
-rows-apart rows names h apart i j d before within =
-    let here : get_or names i d.id ≡ (get_or rows i d).id = sym (ap (λ n. get_or n i d.id) h) ∙
-    get_or-map (λ r. r.id) rows i d in
-    let there : get_or names j d.id ≡ (get_or rows j d).id = sym (ap (λ n. get_or n j d.id) h) ∙
-    get_or-map (λ r. r.id) rows j d in
-    let long : length rows ≡ length names = sym (length-map rows (λ (r : IndexEntry). r.id))
-    ∙ ap length h in
-    subst₂ (λ a b. same_name a b ≡ false) here there (apart i j d.id before (omega arith))
-
-ids-differ : (b : Bool) (rows : List IndexEntry) (d : IndexEntry) (i j : ℕ)
-    → All (λ r. is_chosen b r ≡ true) rows → AllPairs (λ r s. same_name r.id s.id ≡ false) rows
-    → i < j → j < length rows → get_or (entry_ids rows) i 0 ≡ get_or (entry_ids rows) j 0 → ⊥
-ids-differ b rows d i j chosen apart before within h =
-    let at : get_or (entry_ids rows) i 0 ≡ identifier_of (get_or rows i d).id =
-    get_or-at (λ r. identifier_of r.id) rows i d 0 (omega arith) in
-    let to : get_or (entry_ids rows) j 0 ≡ identifier_of (get_or rows j d).id =
-    get_or-at (λ r. identifier_of r.id) rows j d 0 within in
-    let sort = chosen-sort b (get_or rows i d) (chosen i d (omega arith))
-    ∙ sym (chosen-sort b (get_or rows j d) (chosen j d within)) in
-    true≢false (sym (same-sort (get_or rows i d).id (get_or rows j d).id sort (sym at ∙ h ∙ to))
-    ∙ apart i j d before within)
-
 -- the identifiers of rows of one kind with names that are apart are distinct
 chosen-distinct : (b : Bool) (rows : List IndexEntry) → All (λ r. is_chosen b r ≡ true) rows
     → AllPairs (λ r s. same_name r.id s.id ≡ false) rows → AreDistinct (entry_ids rows)
 chosen-distinct b [] chosen apart i j hi hj h = absurd (omega arith)
 chosen-distinct b (d ∷ rest) chosen apart i j hi hj h =
-    let li : i < length (d ∷ rest) = subst (λ n. i < n) (length-map (d ∷ rest) (λ (r : IndexEntry).
-    identifier_of r.id)) hi in
-    let lj : j < length (d ∷ rest) = subst (λ n. j < n) (length-map (d ∷ rest) (λ (r : IndexEntry).
-    identifier_of r.id)) hj in
+    let long = length-map rest (λ (r : IndexEntry). identifier_of r.id) in
     elim (cases_order i j) [
-      | inr (inl before) ↦ absurd (ids-differ b (d ∷ rest) d i j chosen apart before lj h)
+      | inr (inl before) ↦ absurd (differ i j before (omega (arith, long)) h)
       | inl same ↦ same
-      | inr (inr after) ↦ absurd (ids-differ b (d ∷ rest) d j i chosen apart after li (sym h))
+      | inr (inr after) ↦ absurd (differ j i after (omega (arith, long)) (sym h))
     ]
+  where
+    differ : (i j : ℕ) → i < j → j < length (d ∷ rest) → get_or (entry_ids (d ∷ rest)) i 0 ≡ get_or
+        (entry_ids (d ∷ rest)) j 0 → ⊥
+    differ i j before within h =
+        let id = get_or-at (λ r. identifier_of r.id) (d ∷ rest) in
+        let sort = chosen-sort b (get_or (d ∷ rest) i d) (chosen i d (omega arith))
+        ∙ sym (chosen-sort b (get_or (d ∷ rest) j d) (chosen j d within)) in
+        true≢false (sym (same-sort (get_or (d ∷ rest) i d).id (get_or (d ∷ rest) j d).id sort
+        (sym (id i d 0 (omega arith)) ∙ h ∙ id j d 0 within)) ∙ apart i j d before within)
 
 -- rows whose names are apart: those of one kind have distinct identifiers
 pub distinct_chosen : (b : Bool) (rows : List IndexEntry) (names : List DwarfObject)
@@ -129,4 +102,6 @@ pub distinct_chosen : (b : Bool) (rows : List IndexEntry) (names : List DwarfObj
 distinct_chosen b rows names h apart =
     chosen-distinct b (rows_of b rows) (filter_passes (is_chosen b) rows)
     (AllPairs-filter (λ r s. same_name r.id s.id ≡ false) (is_chosen b) rows
-    (rows-apart rows names h apart))
+    (λ i j d before within. let at = get_or-map (λ r. r.id) rows in
+    let long = length-map rows (λ (r : IndexEntry). r.id) in
+    rw (← h, at i d, at j d) at (apart i j d.id before (omega (arith, long, ap length h)))))

@@ -1,6 +1,5 @@
 -- The units of an input are read one after another, and each is added to what those before it gave.
-use Rattle.std.proofs.Common.{◌≡◌, ◌∙◌, List, [], ◌∷◌, ◌++◌, refl, sym, ap, subst, Result, Ok}
-use Rattle.std.proofs.Common.{Option, Some, None}
+use Rattle.std.proofs.Common.{[], ◌≡◌, ◌∙◌, List, ◌∷◌, ◌++◌, refl, Result, Ok, Option, Some, None}
 use Rattle.dwp_base.proofs.Steps.{bind-was, bind-ok, same-ok}
 use Rattle.dwp_bytes.specs.Input.{section}
 use Rattle.dwp_bytes.specs.declared.error.ReadError.{ReadError}
@@ -10,9 +9,8 @@ use Rattle.dwp_table.specs.declared.object.DwarfObject.{DwarfObject}
 use Rattle.thorin_errors.specs.Answers.{as_error}
 use Rattle.thorin_errors.specs.Errors.{ErrorValue, ParseUnitHeader}
 use Rattle.thorin_input.specs.NewUnits.{New, Adding, Met, kept_bytes, with_unit, name_for}
-use Rattle.thorin_input.specs.NewUnits.{with_read}
-use Rattle.thorin_input.specs.NewUnits.{with_each_read, unit_section, none_met, with_met, once_test}
-use Rattle.thorin_input.specs.NewUnits.{with_section_at, with_section_in, with_section}
+use Rattle.thorin_input.specs.NewUnits.{with_read, with_each_read, unit_section, none_met}
+use Rattle.thorin_input.specs.NewUnits.{once_test, with_section_at, with_section_in, with_section}
 use Rattle.thorin_input.specs.NewUnits.{with_each_section, new_units}
 use Rattle.thorin_input.specs.Used.{Used}
 use Rattle.thorin_join.specs.Meaning.{UnitRead, named_unit, named_each, named_at, named_sections}
@@ -32,7 +30,7 @@ module _ (adding : Adding) where
 
   steps-append : (before mid after : New) (us vs : List (DwarfObject × UnitRead))
       → Steps before us mid → Steps mid vs after → Steps before (us ++ vs) after
-  steps-append before mid after [] vs h k = subst (λ n. Steps n vs after) (sym h) k
+  steps-append before mid after [] vs h k = rw h k
   steps-append before mid after (u ∷ us) vs h k =
       (h.0, h.1, steps-append h.0 mid after us vs h.2 k)
 
@@ -42,14 +40,6 @@ module _ (adding : Adding) where
     pub all : List (DwarfObject × UnitRead)
     pub is : meaning ≡ Ok all
     pub steps : Steps before all after
-
-  none-read : (before after : Met × New) → ◌≡◌ {A = Result (Met × New) ErrorValue} (Ok before)
-      (Ok after) → AreRead before.1 after.1 (Ok [])
-  none-read before after same = record {
-    all = [];
-    is = refl;
-    steps = ap (λ (m : Met × New). m.1) (same-ok before after same);
-  }
 
   each-read : (from : Used) (before after : New) (reads : List (Result Header ReadError))
       → with_each_read adding from before reads ≡ Ok after
@@ -63,12 +53,10 @@ module _ (adding : Adding) where
       let others = each-read from here.0 after rest here.2 in
       let one : DwarfObject × UnitRead = (name.0, record { from = from.kind; unit = unit.0 }) in
       let named : named_unit adding.source from.kind read ≡ Ok one =
-      bind-ok (as_error ParseUnitHeader read) unit.0 _ unit.1
-      ∙ bind-ok (name_for adding.source from.kind unit.0) name.0 _ name.1 in
+      bind-ok _ _ _ unit.1 ∙ bind-ok _ _ _ name.1 in
       record {
         all = one ∷ others.all;
-        is = bind-ok (named_unit adding.source from.kind read) one _ named
-            ∙ bind-ok (named_each adding.source from.kind rest) others.all _ others.is;
+        is = bind-ok _ _ _ named ∙ bind-ok _ _ _ others.is;
         steps = (here.0, record { from = from; kind = refl; is = name.2 }, others.steps);
       }
 
@@ -76,28 +64,27 @@ module _ (adding : Adding) where
       → with_section_in adding from place before ≡ Ok after
       → AreRead before.1 after.1 (named_at adding.source from place)
   unfolding with_section_at
-  section-read from None before after h = none-read before after h
+  section-read from None before after h =
+      rw (← same-ok _ after h) (record { all = []; is = refl; steps = refl })
   section-read from (Some place) before after h =
       let reads = units place (section adding.source.object.order from.bytes) in
       let s1 = bind-was (once_test adding place before.0) _ after h in
       let s2 = bind-was (with_each_read adding from before.1 reads) _ after s1.2 in
-      subst (λ n. AreRead before.1 n (named_at adding.source from (Some place)))
-      (ap (λ (m : Met × New). m.1) (same-ok (with_met place before.0, s2.0) after s2.2))
-      (each-read from before.1 s2.0 reads s2.1)
+      rw (← same-ok _ after s2.2) (each-read from before.1 s2.0 reads s2.1)
 
   sections-read : (before after : Met × New) (sections : List Used)
       → with_each_section adding before sections ≡ Ok after
       → AreRead before.1 after.1 (named_sections adding.source sections)
   unfolding with_section with_each_section named_sections
-  sections-read before after [] h = none-read before after h
+  sections-read before after [] h =
+      rw (← same-ok _ after h) (record { all = []; is = refl; steps = refl })
   sections-read before after (from ∷ rest) h =
       let here = bind-was (with_section adding before from) _ after h in
       let one = section-read from (unit_section from.kind) before here.0 here.1 in
       let others = sections-read here.0 after rest here.2 in
       record {
         all = one.all ++ others.all;
-        is = bind-ok (named_at adding.source from (unit_section from.kind)) one.all _ one.is
-            ∙ bind-ok (named_sections adding.source rest) others.all _ others.is;
+        is = bind-ok _ _ _ one.is ∙ bind-ok _ _ _ others.is;
         steps = steps-append before.1 here.0.1 after.1 one.all others.all one.steps others.steps;
       }
 
@@ -108,5 +95,4 @@ module _ (adding : Adding) where
   units-read new h =
       let start : Met × New = (none_met, record { units = []; differing = [] }) in
       let s = bind-was (with_each_section adding start adding.source.object.sections) _ new h in
-      subst (λ n. AreRead start.1 n (source_units adding.source)) (same-ok s.0.1 new s.2)
-      (sections-read start s.0 adding.source.object.sections s.1)
+      rw (← same-ok _ new s.2) (sections-read start s.0 adding.source.object.sections s.1)

@@ -1,7 +1,7 @@
 -- The units of an input are whole units of their names, wherever their bytes come to stand.
-use Rattle.std.proofs.Common.{◌≡◌, ◌∙◌, inl, inr, ℕ, zero, suc, ◌+◌, Bool, true, false, cond}
-use Rattle.std.proofs.Common.{nat_eq, List, [], ◌∷◌, ◌++◌, length, drop, ap, sym, refl, subst}
-use Rattle.std.proofs.Common.{Result, Ok, Err, Option, Some, None, arith}
+use Rattle.std.proofs.Common.{[], ◌≡◌, ◌∙◌, inl, inr, ℕ, zero, suc, ◌+◌, nat_eq, List, ◌∷◌, ◌++◌}
+use Rattle.std.proofs.Common.{length, drop, ap, sym, refl, Result, Ok, Err, Option, Some, None}
+use Rattle.std.proofs.Common.{arith}
 use Rattle.std.specs.Prelude.{slice_get}
 use Rattle.std.specs.List.{list_any}
 use Rattle.std.proofs.lemmas.List.{take-append-drop}
@@ -12,12 +12,12 @@ use Rattle.dwp_bytes.specs.Input.{Input, section}
 use Rattle.dwp_bytes.specs.declared.encoding.Encoding.{Encoding}
 use Rattle.dwp_bytes.specs.declared.error.ReadError.{ReadError}
 use Rattle.dwp_dwarf.specs.Units.{Unit as Header, UnitsAreTaken, unit_at, listed, units_within}
-use Rattle.dwp_dwarf.specs.Units.{units, unit_bytes}
+use Rattle.dwp_dwarf.specs.Units.{units}
 use Rattle.dwp_dwarf.specs.declared.unit.UnitSection.{UnitSection}
 use Rattle.dwp_dwarf.specs.declared.unit.UnitSection.TheVariants as places
 use Rattle.dwp_index.specs.Package.{encoding_in}
 use Rattle.dwp_table.specs.declared.object.DwarfObject.{DwarfObject}
-use Rattle.dwp_table.specs.declared.object.DwarfObject.TheVariants.{Compilation, TypeUnit}
+use Rattle.dwp_table.specs.declared.object.DwarfObject.TheVariants.{Compilation}
 use Rattle.thorin_errors.specs.Errors.{ErrorValue, ParseUnitHeader}
 use Rattle.thorin_errors.specs.Answers.{as_error}
 use Rattle.thorin_input.specs.Indexes.{Source}
@@ -28,12 +28,11 @@ use Rattle.thorin_input.specs.Names.{same_name}
 use Rattle.thorin_input.specs.NewUnits.{name_for, place_for, unit_section}
 use Rattle.thorin_join.specs.State.{kind_at}
 use Rattle.thorin_input.specs.Used.{Used}
-use Rattle.thorin_join.proofs.Units.HeadersRead.{ReadAlone, FiveOrType, unit-five, name-identity}
-use Rattle.thorin_join.proofs.Units.HeadersRead.{kind-place, Listed}
+use Rattle.thorin_join.proofs.Units.HeadersRead.{ReadAlone, name-identity, kind-place, Listed}
 use Rattle.thorin_join.proofs.Units.Sorts.{identity-sort}
 use Rattle.thorin_join.proofs.Moved.RootEntries.{IsShifted}
 use Rattle.thorin_join.proofs.Moved.Readings.{plain}
-use Rattle.thorin_join.proofs.Moved.Units.{unit-moves, unit-anywhere}
+use Rattle.thorin_join.proofs.Moved.Units.{unit-moves, unit-anywhere, FiveOrType, unit-five}
 use Rattle.dwp_base.proofs.Steps.{bind-was, same-ok}
 use Rattle.thorin_strings.proofs.NamedEntries.{as_error_ok}
 use Rattle.dwp_base.proofs.Bools.{by-bool}
@@ -111,103 +110,87 @@ pub error-ok : (f : ReadError → ErrorValue) (r : Result Header ReadError) (x :
 error-ok = as_error_ok
 
 module _ (taken : UnitsAreTaken) (alone : ReadAlone) where
-  within-at : (n : ℕ) (order : Endianness) (place : UnitSection) (d : ℕ) (left : List ℕ) (k : ℕ)
-      (u : Header) → slice_get (units_within n place (plain order d left)) k ≡ Some (Ok u)
-      → ReadAt order place u
-  unfolding units_within
-  within-at zero order place d left k u h = absurd cc
-  within-at (suc n) order place d left k u h =
-      by (nat_eq (length left) 0) (unit_at place (plain order d left)) k refl h (λ e m j g.
-      within-at n order place e m j u g)
-    where
-      by : (e : Bool) (r : Result (Header × Input) ReadError) (k : ℕ)
-          → unit_at place (plain order d left) ≡ r
-          → slice_get (cond e [] (listed r (units_within n place))) k ≡ Some (Ok u)
-          → ((e : ℕ) (m : List ℕ) (j : ℕ) → slice_get (units_within n place (plain order e m)) j ≡
-          Some (Ok u) → ReadAt order place u) → ReadAt order place u
-      by true r k e h' go = absurd cc
-      by false (Ok x) zero e h' go =
-          let same : x.0 ≡ u = cc in
+  module _ (order : Endianness) (place : UnitSection) where
+    within-at : (n d : ℕ) (left : List ℕ) (k : ℕ) (u : Header)
+        → slice_get (units_within n place (plain order d left)) k ≡ Some (Ok u)
+        → ReadAt order place u
+    unfolding units_within
+    within-at zero d left k u h = absurd cc
+    within-at (suc n) d left k u h =
+        by-bool _ (nat_eq (length left) 0)
+        (λ none. let never = rw none at h in absurd cc)
+        (λ some. by (unit_at place (plain order d left)) k refl (rw some at h) (λ e m j.
+        within-at n e m j u))
+      where
+        by : (r : Result (Header × Input) ReadError) (k : ℕ)
+            → unit_at place (plain order d left) ≡ r
+            → slice_get (listed r (units_within n place)) k ≡ Some (Ok u)
+            → ((e : ℕ) (m : List ℕ) (j : ℕ) → slice_get (units_within n place (plain order e m)) j
+            ≡ Some (Ok u) → ReadAt order place u) → ReadAt order place u
+        by (Ok x) zero e h' go = let same : x.0 ≡ u = cc in
+            record { d = d; left = left; rest = x.1; read = rw (← same) e }
+        by (Ok x) (suc k) e h' go =
+            let t = taken place (plain order d left) x.1 x.0 e in
+            go (d + t.0.taken) (drop t.0.taken left) k (rw t.0.is at h')
+        by (Err f) zero e h' go = absurd cc
+        by (Err f) (suc k) e h' go = absurd cc
+
+    pub known-in : (bytes : List ℕ) → AreKnown order place (units place (section order bytes))
+    unfolding units encoding_in
+    known-in bytes k unit h =
+        let at = within-at (length bytes) 0 bytes k unit h in
+        let i = plain order at.d at.left in
+        let t = taken place i at.rest unit at.read in
+        let own = unit.whole.bytes in
+        let more = drop t.0.taken at.left in
+        let whole_is : own ++ more ≡ at.left = ap (λ (i : Input). i.bytes ++ more) t.1
+        ∙ take-append-drop t.0.taken at.left in
+        let s = bind-was (unit_at place (section order own)) _ unit.encoding
+        (alone order place bytes k unit h) in
+        let moved = unit-moves taken order place own more at.d s.0.0 s.0.1 s.1 in
+        let same : moved.unit ≡ unit = ap (λ (x : Header × Input). x.0) (same-ok _ _
+        (sym moved.read ∙ ap (λ l. unit_at place (plain order at.d l)) whole_is ∙ at.read)) in (
           record {
-            d = d;
-            left = left;
-            rest = x.1;
-            read = e ∙ ap (λ (v : Header).
-                Ok (v, x.1)) same;
-          }
-      by false (Ok x) (suc k) e h' go =
-          let t = taken place (plain order d left) x.1 x.0 e in
-          go (d + t.0.taken) (drop t.0.taken left) k (rw t.0.is at h')
-      by false (Err f) zero e h' go = absurd cc
-      by false (Err f) (suc k) e h' go = absurd cc
+            alone = s.0.0;
+            rest = s.0.1;
+            read = s.1;
+            whole = sym (ap (λ (i : Input). i.bytes) (rw same at moved.whole));
+            type = rw same at moved.type;
+            encoding = same-ok _ _ s.2;
+            behind = at.d;
+            shifted = record {
+              type = sym (rw same at moved.type);
+              encoding = sym (rw same at moved.encoding);
+              offset = rw same at moved.offset;
+              entries = rw same at moved.entries;
+            };
+          },
+          λ is. (unit-five i).gives (unit, at.rest) (ap (λ p. unit_at p i) (sym is) ∙ at.read),
+        )
 
-  alone-of : (order : Endianness) (place : UnitSection) (unit : Header) → ReadAt order place unit
-      → encoding_in order place (unit_bytes unit) ≡ Ok unit.encoding → ReadsAlone order place unit
-  unfolding encoding_in
-  alone-of order place unit at enc =
-      let t = taken place (plain order at.d at.left) at.rest unit at.read in
-      let own = unit.whole.bytes in
-      let more = drop t.0.taken at.left in
-      let whole_is : own ++ more ≡ at.left = ap (λ (i : Input). i.bytes ++ more) t.1
-      ∙ take-append-drop t.0.taken at.left in
-      let s = bind-was (unit_at place (section order own)) _ unit.encoding enc in
-      let moved = unit-moves taken order place own more at.d s.0.0 s.0.1 s.1 in
-      let same : moved.unit ≡ unit = ap (λ (x : Header × Input). x.0)
-      (same-ok _ _ (sym moved.read ∙ ap (λ l. unit_at place (plain order at.d l))
-      whole_is ∙ at.read)) in
-      record {
-        alone = s.0.0;
-        rest = s.0.1;
-        read = s.1;
-        whole = sym (ap (λ (i : Input). i.bytes) moved.whole) ∙ ap (λ (v : Header).
-            v.whole.bytes) same;
-        type = moved.type ∙ ap (λ (v : Header). v.unit_type) same;
-        encoding = same-ok _ _ s.2;
-        behind = at.d;
-        shifted = subst (IsShifted at.d s.0.0) same (record {
-          type = sym moved.type;
-          encoding = sym moved.encoding;
-          offset = moved.offset;
-          entries = moved.entries;
-        });
-      }
+  goes-alone : (order : Endianness) (place : UnitSection) (name : DwarfObject) (unit : Header)
+      → IsKnown order place unit → type_signature unit.unit_type ≡ name_signature name
+      → ReadsAlone order (place_for name (kind_at place)) unit
+  goes-alone order places.Types (Compilation id) unit known sort = other-alone order places.Types
+      places.Info unit (five-named unit sort (known.1 refl)) known.0
+  goes-alone order places.Info (Compilation id) unit known sort = known.0
+  goes-alone order _ _ unit known sort = known.0
 
-  pub known-in : (order : Endianness) (place : UnitSection) (bytes : List ℕ)
-      → AreKnown order place (units place (section order bytes))
-  unfolding units
-  known-in order place bytes k unit h =
-      let at = within-at (length bytes) order place 0 bytes k unit h in (
-        alone-of order place unit at (alone order place bytes k unit h),
-        λ is. unit-five (plain order at.d at.left) (unit, at.rest)
-            (ap (λ p. unit_at p (plain order at.d at.left)) (sym is) ∙ at.read),
-      )
-
-  whole-by : (order : Endianness) (place : UnitSection) (name : DwarfObject) (unit : Header)
-      → ReadsAlone order place unit → type_signature unit.unit_type ≡ name_signature name
-      → IsWhole order place name unit.whole.bytes
-  whole-by order place name unit a sort =
-      let t = taken place (section order unit.whole.bytes) a.rest a.alone a.read in
-      record {
+  unit-goes : (order : Endianness) (place : UnitSection) (kind : SectionKind) (name : DwarfObject)
+      (unit : Header) → kind ≡ kind_at place → IsKnown order place unit
+      → type_signature unit.unit_type ≡ name_signature name
+      → Goes order (name, record { from = kind; unit = unit })
+  unit-goes order place kind name unit is known sort =
+      let a = goes-alone order place name unit known sort in
+      let t = taken _ (section order unit.whole.bytes) a.rest a.alone a.read in
+      rw is (record {
         unit = a.alone;
         rest = a.rest;
         read = a.read;
         whole = a.whole;
         some = let least = t.0.some in let most = t.0.enough in omega arith;
         sort = ap type_signature a.type ∙ sort;
-      }
-
-  unit-goes : (order : Endianness) (place : UnitSection) (name : DwarfObject) (unit : Header)
-      → IsKnown order place unit → type_signature unit.unit_type ≡ name_signature name
-      → Goes order (name, record { from = kind_at place; unit = unit })
-  unit-goes order places.Info (Compilation id) unit known sort =
-      whole-by order places.Info (Compilation id) unit known.0 sort
-  unit-goes order places.Info (TypeUnit signature) unit known sort =
-      whole-by order places.Info (TypeUnit signature) unit known.0 sort
-  unit-goes order places.Types (Compilation id) unit known sort =
-      whole-by order places.Info (Compilation id) unit (other-alone order places.Types places.Info
-      unit (five-named unit sort (known.1 refl)) known.0) sort
-  unit-goes order places.Types (TypeUnit signature) unit known sort =
-      whole-by order places.Types (TypeUnit signature) unit known.0 sort
+      })
 
   module _ (source : Source) where
     abbrev order : Endianness
@@ -217,37 +200,35 @@ module _ (taken : UnitsAreTaken) (alone : ReadAlone) where
         (us : List (DwarfObject × UnitRead)) → unit_section kind ≡ Some place
         → AreKnown order place reads → named_each source kind reads ≡ Ok us → AllGo order us
     unfolding named_each named_unit
-    each-goes kind place [] us at known h =
-        subst (AllGo order) (same-ok {E = ErrorValue} [] us h) tt
+    each-goes kind place [] us at known h = rw (← same-ok {E = ErrorValue} [] us h) tt
     each-goes kind place (read ∷ rest) us at known h =
         let a = bind-was (named_unit source kind read) _ us h in
         let b = bind-was (named_each source kind rest) _ us a.2 in
         let unit = bind-was (as_error ParseUnitHeader read) _ a.0 a.1 in
         let name = bind-was (name_for source kind unit.0) _ a.0 unit.2 in
         let id = name-identity source kind unit.0 name.0 name.1 in
-        let goes = unit-goes order place name.0 unit.0
+        let goes = unit-goes order place kind name.0 unit.0 (kind-place kind place at)
         (known 0 unit.0 (ap Some (error-ok ParseUnitHeader read unit.0 unit.1)))
         (identity-sort id.0 unit.0 name.0 id.1) in
-        let one = subst (Goes order) (same-ok {E = ErrorValue} _ a.0 name.2)
-        (subst (λ k. Goes order (name.0, record { from = k; unit = unit.0 }))
-        (sym (kind-place kind place at)) goes) in
-        subst (AllGo order) (same-ok {E = ErrorValue} (a.0 ∷ b.0) us b.2)
-        (one, each-goes kind place rest b.0 at (λ k unit is. known (suc k) unit is) b.1)
+        rw (← same-ok {E = ErrorValue} (a.0 ∷ b.0) us b.2) (
+          rw (← same-ok {E = ErrorValue} _ a.0 name.2) goes,
+          each-goes kind place rest b.0 at (λ k. known (suc k)) b.1,
+        )
 
     at-goes : (from : Used) (place : Option UnitSection) (us : List (DwarfObject × UnitRead))
         → unit_section from.kind ≡ place → named_at source from place ≡ Ok us → AllGo order us
-    at-goes from None us at h = subst (AllGo order) (same-ok {E = ErrorValue} [] us h) tt
+    at-goes from None us at h = rw (← same-ok {E = ErrorValue} [] us h) tt
     at-goes from (Some place) us at h = each-goes from.kind place
         (units place (section order from.bytes)) us at (known-in order place from.bytes) h
 
     sections-go : (sections : List Used) (us : List (DwarfObject × UnitRead))
         → named_sections source sections ≡ Ok us → AllGo order us
     unfolding named_sections
-    sections-go [] us h = subst (AllGo order) (same-ok {E = ErrorValue} [] us h) tt
+    sections-go [] us h = rw (← same-ok {E = ErrorValue} [] us h) tt
     sections-go (from ∷ rest) us h =
         let a = bind-was (named_at source from (unit_section from.kind)) _ us h in
         let b = bind-was (named_sections source rest) _ us a.2 in
-        subst (AllGo order) (same-ok {E = ErrorValue} (a.0 ++ b.0) us b.2) (go-append order a.0 b.0
+        rw (← same-ok {E = ErrorValue} (a.0 ++ b.0) us b.2) (go-append order a.0 b.0
         (at-goes from (unit_section from.kind) a.0 refl a.1) (sections-go rest b.0 b.1))
 
     -- all units of an input do so
