@@ -1,10 +1,10 @@
 -- What holds of each unit: of those that are read of an input, that are joined, and that are added
 -- to a package in turn.
 use Rattle.std.proofs.Common.{◌≡◌, ℕ, zero, suc, Bool, true, List, [], ◌∷◌, ◌++◌, refl, ap, subst}
-use Rattle.std.proofs.Common.{Ok, Option, Some, None, sym, ◌∙◌}
+use Rattle.std.proofs.Common.{Ok, Option, Some, None, sym, ◌∙◌, eqb}
 use Rattle.std.specs.Prelude.{slice_get}
 use Rattle.std.specs.List.{list_any, list_all}
-use Rattle.std.proofs.lemmas.Option.{none-some, same_Some}
+use Rattle.std.proofs.lemmas.Option.{none-some, same_Some, cond_some}
 use Rattle.dwp_base.proofs.Bools.{both, by-bool}
 use Rattle.dwp_base.proofs.Steps.{bind-was, same-ok}
 use Rattle.dwp_base.specs.declared.endian.Endianness.{Endianness}
@@ -14,19 +14,23 @@ use Rattle.dwp_dwarf.specs.declared.unit.UnitSection.{UnitSection}
 use Rattle.dwp_table.specs.declared.object.DwarfObject.{DwarfObject}
 use Rattle.thorin_errors.specs.Answers.{as_error}
 use Rattle.thorin_errors.specs.Errors.{ErrorValue, ParseUnitHeader}
-use Rattle.thorin_input.specs.Encodings.{has_encoding, section_has, all_have}
+use Rattle.thorin_input.specs.Encodings.{has_encoding, section_has, all_have, common}
 use Rattle.thorin_input.specs.Indexes.{Source}
 use Rattle.thorin_input.specs.Names.{same_name}
 use Rattle.thorin_input.specs.NewUnits.{Adding, NewUnit, name_for, unit_section}
 use Rattle.thorin_input.specs.Used.{Used}
 use Rattle.thorin_join.specs.Meaning.{UnitRead, named_unit, named_each, named_at, named_sections}
-use Rattle.thorin_join.specs.Meaning.{source_units, joining}
+use Rattle.thorin_join.specs.Meaning.{joining}
 use Rattle.thorin_join.specs.State.{InProgress, names_of, with_unit_added, with_new_unit}
 use Rattle.thorin_join.specs.State.{with_new_units}
 use Rattle.thorin_join.proofs.Units.HeadersRead.{Listed, Reads}
 use Rattle.thorin_join.proofs.Units.JoinedByName.{IsAdded, AreAdded}
 use Rattle.thorin_join.proofs.Units.Whole.{Goes, AllGo, error-ok}
-use Rattle.thorin_again.proofs.Kept.Encodings.{encoding-eq}
+use Rattle.std.proofs.lemmas.Bool.{eqb-true, eq-eqb}
+use Rattle.dwp_bytes.specs.declared.encoding.Encoding.{Encoding}
+use Rattle.dwp_bytes.specs.declared.encoding.Format.{Format}
+use Rattle.dwp_bytes.specs.declared.encoding.Format.TheVariants.{Dwarf32, Dwarf64}
+use Rattle.thorin_index.specs.EntryTests.{same_encoding, same_format}
 
 -- ---- lists
 
@@ -121,7 +125,7 @@ module _ (source : Source) (S : Used → Type 0) where
       reads-are used so place at (units place (section source.object.order used.bytes))
       (λ k unit e. (k, e)) us h
 
-  sections-are : (sections : List Used) (us : Reads) → Each S sections
+  pub sections-are : (sections : List Used) (us : Reads) → Each S sections
       → named_sections source sections ≡ Ok us → Are us
   unfolding named_sections
   sections-are [] us so h = subst Are (same-ok {E = ErrorValue} [] us h) tt
@@ -132,9 +136,36 @@ module _ (source : Source) (S : Used → Type 0) where
       b.0 (section-are used so.0 (unit_section used.kind) refl a.0 a.1)
       (sections-are rest b.0 so.1 b.1))
 
-  pub units-are : (all : Reads) → Each S source.object.sections → source_units source ≡ Ok all
-      → Are all
-  units-are all so h = sections-are source.object.sections all so h
+-- ---- encodings that are alike are one
+
+format-eq : (a b : Format) → same_format a b ≡ true → a ≡ b
+format-eq Dwarf32 Dwarf32 h = refl
+format-eq Dwarf64 Dwarf64 h = refl
+format-eq a b h = absurd cc
+
+encoding-eq : (a b : Encoding) → same_encoding a b ≡ true → a ≡ b
+encoding-eq a b h =
+    let x = both (eqb a.version b.version) _ h in
+    let y = both (same_format a.format b.format) _ x.1 in
+    λ i. record {
+      version = eqb-true a.version b.version x.0 i;
+      format = format-eq a.format b.format y.0 i;
+      address_size = eqb-true a.address_size b.address_size y.1 i;
+    }
+
+-- the one encoding of two groups is that of either
+pub common-are : (a b : Option Encoding) (own : Encoding) → common a b ≡ Some own → (a ≡ Some own)
+    × (b ≡ Some own)
+common-are (Some a) (Some b) own h =
+    let is = cond_some (same_encoding a b) a own h in
+    (ap Some is.1, ap Some (sym (encoding-eq a b is.0) ∙ is.1))
+common-are a b own h = absurd cc
+
+pub common-self : (e : Encoding) → common (Some e) (Some e) ≡ Some e
+common-self e =
+    let format : same_format e.format e.format ≡ true =
+    elim e.format as (λ f. same_format f f ≡ true) [ Dwarf32 ↦ refl | Dwarf64 ↦ refl ] in
+    rw (eq-eqb e.version e.version refl, format, eq-eqb e.address_size e.address_size refl) refl
 
 -- all units of a section have an encoding
 abbrev pub Has : Source → Used → Type 0
