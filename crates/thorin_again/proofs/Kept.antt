@@ -4,5 +4,4 @@ pub mod OneEncoding
 pub mod LongerTables
 pub mod SharedParts
 pub mod Names
-pub mod InfoThere
 pub mod PlainPackage

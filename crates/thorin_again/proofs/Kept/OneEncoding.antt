@@ -1,8 +1,8 @@
 -- What holds of all units of a package once an input was taken; and all units of plain objects of
 -- one encoding have it.
-use Rattle.std.proofs.Common.{◌≡◌, ◌∙◌, ℕ, ◌<◌, Bool, true, false, cond, ltb, inl, inr, List}
-use Rattle.std.proofs.Common.{[], ◌∷◌, length, map, refl, sym, ap, subst, Result, Ok, Err, Option}
-use Rattle.std.proofs.Common.{Some, None, arith, true≢false}
+use Rattle.std.proofs.Common.{◌≡◌, ◌∙◌, ℕ, ◌<◌, Bool, true, false, cond, ltb, inl, inr, List, []}
+use Rattle.std.proofs.Common.{◌∷◌, length, map, refl, sym, ap, subst, Result, Ok, Err, Option, Some}
+use Rattle.std.proofs.Common.{None, arith, true≢false}
 use Rattle.std.specs.Prelude.{All}
 use Rattle.std.specs.List.{list_all}
 use Rattle.std.proofs.lemmas.Bool.{ltb-true}
@@ -17,15 +17,13 @@ use Rattle.dwp_bytes.specs.declared.error.ReadError.{ReadError}
 use Rattle.dwp_index.specs.Index.{Ranges}
 use Rattle.dwp_table.specs.declared.object.DwarfObject.{DwarfObject}
 use Rattle.thorin_errors.specs.Errors.{ErrorValue}
-use Rattle.thorin_join.specs.Builder.{State, taken, with_input, with_own, own_after}
-use Rattle.thorin_join.specs.Builder.{names_in}
-use Rattle.thorin_input.specs.Encodings.{file_encoding, own_encoding, is_plain}
-use Rattle.thorin_input.specs.Encodings.{section_has}
+use Rattle.thorin_join.specs.Builder.{State, taken, with_input, with_own, own_after, names_in}
+use Rattle.thorin_input.specs.Encodings.{file_encoding, own_encoding, is_plain, section_has}
 use Rattle.thorin_input.specs.Indexes.{Source, is_package}
 use Rattle.thorin_join.specs.Join.{Joins}
 use Rattle.thorin_join.specs.Meaning.{Meaning, Members, UnitRead, keys, meaning_with, meaning_by}
-use Rattle.thorin_join.specs.Meaning.{unit_meaning, lie_inside, meant, source_units}
-use Rattle.thorin_join.specs.Meaning.{source_meaning, object_meaning, input_meaning}
+use Rattle.thorin_join.specs.Meaning.{unit_meaning, lie_inside, meant, source_units, source_meaning}
+use Rattle.thorin_join.specs.Meaning.{object_meaning, input_meaning}
 use Rattle.thorin_again.specs.OwnUnits.{AllOf, HoldsOwn}
 use Rattle.thorin_join.specs.Represents.{IsSoundBegun, units_begun}
 use Rattle.thorin_join.specs.State.{InProgress}

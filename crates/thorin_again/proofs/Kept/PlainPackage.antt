@@ -1,6 +1,6 @@
 -- A builder's package stays one of plain objects of one encoding.
-use Rattle.std.proofs.Common.{◌≡◌, ◌∙◌, ℕ, ◌<◌, true, false, ◌||◌, List, [], ◌∷◌, length}
-use Rattle.std.proofs.Common.{refl, sym, ap, subst, Ok, Option, Some, None, arith}
+use Rattle.std.proofs.Common.{◌≡◌, ◌∙◌, ℕ, ◌<◌, true, false, ◌||◌, List, [], ◌∷◌, length, refl, sym}
+use Rattle.std.proofs.Common.{ap, subst, Ok, Option, Some, None, arith}
 use Rattle.std.specs.Prelude.{is_some}
 use Rattle.std.specs.List.{list_any}
 use Rattle.std.proofs.lemmas.List.{length-map}
@@ -26,11 +26,10 @@ use Rattle.thorin_join.specs.State.{InProgress}
 use Rattle.thorin_join.proofs.Units.HeadersRead.{ReadAlone}
 use Rattle.thorin_join.proofs.Joined.Input.{made-order, new-sound}
 use Rattle.thorin_join.proofs.Parts.OffsetLaws.{NamesTheSameLaw}
-use Rattle.thorin_again.proofs.Kept.InfoThere.{info-there}
-use Rattle.thorin_again.proofs.Kept.Names.{names-kept}
+use Rattle.thorin_again.proofs.Kept.Names.{info-there, names-kept}
 use Rattle.thorin_again.proofs.Kept.OneEncoding.{Before, begun-now, own-adds, own-units}
-use Rattle.thorin_join.proofs.Joined.Taken.{takes}
 use Rattle.thorin_again.proofs.Kept.OneEncoding.{takes-units}
+use Rattle.thorin_join.proofs.Joined.Taken.{takes}
 use Rattle.thorin_again.proofs.Kept.SharedParts.{named-kept}
 use Rattle.thorin_again.proofs.Meant.Package.{are-indexes}
 use Rattle.thorin_again.proofs.Offsets.RewrittenAgain.{no-turn}

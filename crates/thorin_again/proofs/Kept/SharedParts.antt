@@ -1,7 +1,6 @@
 -- Each section that units share has a part that a row names, where plain objects add units.
-use Rattle.std.proofs.Common.{◌≡◌, ◌∙◌, ℕ, ◌<◌, true, false, eqb, List, [], ◌∷◌, ◌++◌}
-use Rattle.std.proofs.Common.{length, refl, sym, ap, subst, Ok, Option, arith, true≢false}
-use Rattle.std.proofs.Common.{length-append}
+use Rattle.std.proofs.Common.{◌≡◌, ◌∙◌, ℕ, ◌<◌, true, false, eqb, List, [], ◌∷◌, ◌++◌, length, refl}
+use Rattle.std.proofs.Common.{sym, ap, subst, Ok, Option, arith, true≢false, length-append}
 use Rattle.std.specs.Prelude.{is_some}
 use Rattle.std.specs.List.{list_any}
 use Rattle.std.proofs.lemmas.Bool.{eqb-true}
@@ -26,17 +25,16 @@ use Rattle.thorin_input.specs.NewUnits.{New, NewUnit}
 use Rattle.thorin_input.specs.Parts.{parts_of}
 use Rattle.thorin_input.specs.Format.{is_shared}
 use Rattle.thorin_again.specs.Plain.{HasNamedParts}
-use Rattle.thorin_join.specs.State.{InProgress, kind_at, row_at, adding}
-use Rattle.thorin_join.specs.State.{with_unit_added, with_new_units, with_source}
+use Rattle.thorin_join.specs.State.{InProgress, kind_at, row_at, adding, with_unit_added}
+use Rattle.thorin_join.specs.State.{with_new_units, with_source}
 use Rattle.thorin_join.proofs.Units.JoinedByName.{IsAdded, UnitsJoined, units-joined}
 use Rattle.thorin_join.proofs.Rows.OfUnits.{adjusted-plain, is-unit_row, whole-part}
 use Rattle.thorin_join.proofs.Parts.Appended.{content-with_bytes, content-with_parts, differ}
 use Rattle.thorin_join.proofs.Joined.Source.{with_all_parts, source-made}
 use Rattle.thorin_join.proofs.Rows.OneAdded.{row-other}
 use Rattle.thorin_again.proofs.Kept.EachUnit.{Each, each-all, each-new, each-added, each-unit}
-use Rattle.thorin_again.proofs.Kept.EachUnit.{each-joining, go-both, sections-are, WasRead}
-use Rattle.dwp_dwarf.specs.Units.{UnitsAreTaken}
-use Rattle.thorin_input.specs.Used.{Used}
+use Rattle.thorin_again.proofs.Kept.EachUnit.{each-joining, go-both, WasRead}
+use Rattle.dwp_dwarf.specs.Units.{Unit as Header, UnitsAreTaken}
 use Rattle.thorin_join.proofs.Units.HeadersRead.{ReadAlone}
 use Rattle.thorin_join.proofs.Units.Whole.{Goes, units-go}
 
@@ -113,18 +111,17 @@ module _ (source : Source) (before now : InProgress) (a : PlainAdded source befo
       (subst (λ (p : InProgress). length before.rows < length p.rows) a.is more))
 
   -- what holds of each unit that was added, for the unit that was read
-  pub news-are : UnitsAreTaken → ReadAlone → (S : Used → Type 0) → Each S source.object.sections
-      → (P : DwarfObject × NewUnit → Type 0)
+  pub news-are : UnitsAreTaken → ReadAlone → (T : UnitSection → Header → Type 0)
+      → Each (WasRead source T) a.joined.all → (P : DwarfObject × NewUnit → Type 0)
       → ((n : DwarfObject × NewUnit) (r : DwarfObject × UnitRead)
       → IsAdded (adding source before a.parts) n r → Goes source.object.order r
-      → WasRead source S r → P n) → Each P a.new.units
-  news-are taken alone S so P f =
+      → WasRead source T r → P n) → Each P a.new.units
+  news-are taken alone T read P f =
       let held = keys (adding source before a.parts).held in
       let j = a.joined in
       each-new (adding source before a.parts) P _ (λ n r is k. f n r is k.0 k.1) a.new.units
       (joining held j.all) j.are (each-joining _ held j.all (go-both source.object.order
-      (WasRead source S) j.all (units-go taken alone source j.all j.is)
-      (sections-are source S source.object.sections j.all so j.is)))
+      (WasRead source T) j.all (units-go taken alone source j.all j.is) read))
 
 -- ---- the rows of a plain object's units
 

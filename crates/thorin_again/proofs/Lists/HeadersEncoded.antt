@@ -20,9 +20,7 @@ use Rattle.thorin_input.specs.Encodings.{section_has}
 use Rattle.thorin_input.specs.Indexes.{Source}
 use Rattle.thorin_join.specs.Meaning.{Meaning, Members, source_units}
 use Rattle.thorin_join.proofs.Units.HeadersRead.{ReadAlone, Reads}
-use Rattle.thorin_again.proofs.Kept.EachUnit.{WasRead, Has, sections-are, read-encoding}
-use Rattle.thorin_again.proofs.Kept.EachUnit.{each-passed}
-use Rattle.thorin_again.proofs.Kept.EachUnit.{each-weaker}
+use Rattle.thorin_again.proofs.Kept.EachUnit.{WasRead, OfOne, are-of-one, each-weaker}
 use Rattle.thorin_again.proofs.Kept.OneEncoding.{CanMean}
 use Rattle.thorin_join.proofs.Units.Whole.{known-in}
 use Rattle.dwp_base.proofs.Bools.{by-bool}
@@ -99,16 +97,14 @@ pub read-encoded : UnitsAreTaken → ReadAlone → (source : Source) (all : Read
     → source_units source ≡ Ok all → CanMean (IsEncoded source.object.order) source all
 read-encoded taken alone source all has h =
     let order = source.object.order in
-    each-weaker (WasRead source (Has source)) _ (λ r w unit made.
-    let read = r.1.unit in
-    let a = (known-in taken alone order w.place w.used.bytes w.number read w.there).0 in
-    let here = header-has order w.place read.whole.bytes source.encoding
-    (in-of order w.place read.whole.bytes a.alone a.rest a.read ∙ ap Ok (a.encoding
-    ∙ read-encoding source r w)) in
+    each-weaker (WasRead source (OfOne source)) _ (λ r w unit made.
+    let a = w.so.0.0 in
+    let here = header-has order w.place r.1.unit.whole.bytes source.encoding
+    (in-of order w.place r.1.unit.whole.bytes a.alone a.rest a.read
+    ∙ ap Ok (a.encoding ∙ w.so.1)) in
     λ place found is. here place found (ap (encoding_in order place) (sym made.1) ∙ is)
     ∙ sym made.0)
-    all (sections-are source (Has source) source.object.sections all
-    (each-passed (section_has source.encoding order) source.object.sections has) h)
+    all (are-of-one taken alone source all has h)
 
 -- so of units with all that belongs to each
 abbrev pub AreEncoded : Endianness → Members → Type 0

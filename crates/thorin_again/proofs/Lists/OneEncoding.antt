@@ -35,7 +35,7 @@ use Rattle.thorin_again.proofs.Lists.Held.{InputsSound, packages-in-order}
 use Rattle.thorin_again.proofs.Lists.StringsWhole.{Encoded, input-encoded}
 use Rattle.thorin_again.proofs.Lists.HeadersEncoded.{IsEncoded, in-of}
 use Rattle.thorin_join.proofs.Units.HeadersRead.{ReadAlone}
-use Rattle.thorin_again.proofs.Kept.InfoThere.{info-there}
+use Rattle.thorin_again.proofs.Kept.Names.{info-there}
 use Rattle.thorin_again.proofs.Kept.EachUnit.{each-all}
 use Rattle.thorin_again.proofs.Kept.OneEncoding.{InputsJoined, units-hold}
 use Rattle.thorin_again.proofs.Opened.FirstEncoding.{EncodesItself, first-of}

@@ -1,8 +1,7 @@
 -- The one encoding of a builder, by the inputs that it took.
 use Rattle.std.proofs.Common.{inl, inr, ◌≡◌, ◌∙◌, ◌↔◌, ℕ, Bool, true, false, cond, ◌&&◌, List, []}
-use Rattle.std.proofs.Common.{◌∷◌, ◌++◌}
-use Rattle.std.proofs.Common.{length, map, refl, sym, ap, subst, Ok, Option, Some, None, ◌+◌, arith}
-use Rattle.std.proofs.Common.{true≢false, length-append}
+use Rattle.std.proofs.Common.{◌∷◌, ◌++◌, length, map, refl, sym, ap, subst, Ok, Option, Some, None}
+use Rattle.std.proofs.Common.{◌+◌, arith, true≢false, length-append}
 use Rattle.std.specs.Prelude.{All, is_some}
 use Rattle.std.proofs.lemmas.Bool.{lt-ltb}
 use Rattle.std.proofs.lemmas.List.Elements.{All-nil, All-cons, All-head, All-tail}

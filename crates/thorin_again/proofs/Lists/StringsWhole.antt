@@ -39,8 +39,8 @@ use Rattle.thorin_again.specs.PlainInputs.{AreTaken}
 use Rattle.thorin_input.specs.Growing.{Contents}
 use Rattle.thorin_again.specs.OwnUnits.{AllOf}
 use Rattle.thorin_again.specs.Plain.{IsPlain, NamesItself}
-use Rattle.thorin_join.specs.Represents.{IsSound, IsSoundBegun, AreRowsOf, meaning_at}
-use Rattle.thorin_join.specs.Represents.{units_of, units_in, units_begun}
+use Rattle.thorin_join.specs.Represents.{IsSound, IsSoundBegun, AreRowsOf, meaning_at, units_of}
+use Rattle.thorin_join.specs.Represents.{units_in, units_begun}
 use Rattle.thorin_join.specs.StandApart.{EachRow}
 use Rattle.thorin_join.specs.State.{InProgress, unit_bytes}
 use Rattle.thorin_index.specs.declared.entry.IndexEntry.{IndexEntry}
@@ -49,8 +49,7 @@ use Rattle.thorin_again.proofs.Lists.HeadersEncoded.{AreEncoded, IsEncoded, head
 use Rattle.thorin_again.proofs.Lists.HeadersEncoded.{read-encoded}
 use Rattle.thorin_join.proofs.Units.HeadersRead.{ReadAlone}
 use Rattle.thorin_join.proofs.Joined.Input.{made-order}
-use Rattle.thorin_again.proofs.Kept.OneEncoding.{InputsJoined, begun-now, units-hold}
-use Rattle.thorin_again.proofs.Kept.OneEncoding.{CanMean}
+use Rattle.thorin_again.proofs.Kept.OneEncoding.{InputsJoined, begun-now, units-hold, CanMean}
 use Rattle.thorin_again.proofs.Kept.SharedParts.{plain-added, order-added}
 use Rattle.thorin_again.proofs.Opened.Sections.{opened-elf}
 use Rattle.thorin_join.proofs.Joined.Taken.{takes}
