@@ -53,18 +53,12 @@ each-append : {X : Type 0} (P : X → Type 0) (xs ys : List X) → Each P xs →
 each-append P [] ys h k = k
 each-append P (x ∷ xs) ys h k = (h.0, each-append P xs ys h.1 k)
 
-each-at : {X : Type 0} (P : X → Type 0) (xs : List X) (k : ℕ) (x : X) → Each P xs
-    → slice_get xs k ≡ Some x → P x
-each-at P [] k x h e = absurd (none-some x e)
-each-at P (y ∷ ys) zero x h e = subst P (same_Some y x e) h.0
-each-at P (y ∷ ys) (suc k) x h e = each-at P ys k x h.1 e
-
 -- what passes a test
-each-passed : {X : Type 0} (test : X → Bool) (xs : List X) → list_all test xs ≡ true
-    → Each (λ x. test x ≡ true) xs
-each-passed test [] h = tt
-each-passed test (x ∷ xs) h =
-    let two = both (test x) (list_all test xs) h in (two.0, each-passed test xs two.1)
+passed-at : {X : Type 0} (test : X → Bool) (xs : List X) (k : ℕ) (x : X) → list_all test xs ≡ true
+    → slice_get xs k ≡ Some x → test x ≡ true
+passed-at test [] k x h e = absurd (none-some x e)
+passed-at test (y ∷ ys) zero x h e = rw (← same_Some y x e) (both (test y) _ h).0
+passed-at test (y ∷ ys) (suc k) x h e = passed-at test ys k x (both (test y) _ h).1 e
 
 pub each-joining : {X : Type 0} (P : DwarfObject × X → Type 0) (names : List DwarfObject)
     (us : List (DwarfObject × X)) → Each P us → Each P (joining names us)
@@ -164,19 +158,19 @@ abbrev pub OfOne : Source → UnitSection → Header → Type 0
 OfOne source place unit =
     IsKnown source.object.order place unit × (unit.encoding ≡ source.encoding)
 
-pub are-of-one : UnitsAreTaken → ReadAlone → (source : Source) (all : Reads)
-    → list_all (section_has source.encoding source.object.order) source.object.sections ≡ true
-    → source_units source ≡ Ok all → Each (WasRead source (OfOne source)) all
-are-of-one taken alone source all has h =
-    let order = source.object.order in
-    sections-are source (OfOne source) source.object.sections all
-    (each-weaker (λ used. section_has source.encoding order used ≡ true) _
-    (λ used is place here k unit there. (
-      known-in taken alone order place used.bytes k unit there,
-      encoding-eq unit.encoding source.encoding
-          (each-at (λ read. has_encoding source.encoding read ≡ true) _ k (Ok unit)
-          (each-passed (has_encoding source.encoding) _ (rw here at is)) there),
-    )) source.object.sections (each-passed _ source.object.sections has)) h
+pub of-one : UnitsAreTaken → ReadAlone → (source : Source) (sections : List Used)
+    → list_all (section_has source.encoding source.object.order) sections ≡ true
+    → Each (AllSo source (OfOne source)) sections
+of-one taken alone source [] has = tt
+of-one taken alone source (used ∷ rest) has =
+    let two = both (section_has source.encoding source.object.order used) _ has in (
+      λ place here k unit there. (
+        known-in taken alone source.object.order place used.bytes k unit there,
+        encoding-eq unit.encoding source.encoding
+            (passed-at (has_encoding source.encoding) _ k (Ok unit) (rw here at two.0) there),
+      ),
+      of-one taken alone source rest two.1,
+    )
 
 -- they are whole ones where they go to
 pub go-both : (order : Endianness) (Q : DwarfObject × UnitRead → Type 0) (rs : Reads)

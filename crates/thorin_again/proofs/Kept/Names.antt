@@ -32,7 +32,7 @@ use Rattle.thorin_join.proofs.Units.HeadersRead.{ReadAlone, kind-place, Listed, 
 use Rattle.thorin_join.proofs.Units.HeadersRead.{name-identity}
 use Rattle.thorin_join.proofs.Units.Sorts.{identity-sort}
 use Rattle.thorin_again.proofs.Kept.EachUnit.{Each, News, in-turn, WasRead, AllSo, OfOne}
-use Rattle.thorin_again.proofs.Kept.EachUnit.{sections-are, are-of-one, each-added}
+use Rattle.thorin_again.proofs.Kept.EachUnit.{sections-are, of-one, each-added}
 use Rattle.thorin_join.proofs.Moved.RootEntries.{identity-shifted}
 use Rattle.thorin_join.proofs.Units.Whole.{ReadsAlone, IsKnown, known-in, other-alone, five-named}
 use Rattle.thorin_join.proofs.Units.Whole.{Goes}
@@ -69,7 +69,7 @@ use Rattle.thorin_again.proofs.Kept.SharedParts.{shared-row, plain-part, plain-a
 use Rattle.thorin_again.proofs.Kept.SharedParts.{parted, news-are}
 use Rattle.thorin_join.proofs.Joined.Source.{grows-with_parts, keys-held}
 use Rattle.thorin_join.proofs.Rows.StandApart.{sound-inside}
-use Rattle.thorin_join.proofs.Rows.OneAdded.{Fits, content-put, row-name, row-own, own-place}
+use Rattle.thorin_join.proofs.Rows.OneAdded.{content-put, row-name, row-own, own-place}
 use Rattle.dwp_base.specs.declared.section.SectionKind.TheVariants as kinds
 use Rattle.dwp_base.proofs.EveryKind.{is-same}
 use Rattle.dwp_dwarf.proofs.Readings.{Gives, then_gives, test_gives, value_gives, error_gives, was}
@@ -106,65 +106,18 @@ put-stays front x {whole = whole} same h =
     (λ some. rw some (part-middle front x h.rest whole (length front)
     (h.is ∙ ap (λ l. l ++ h.rest) same ∙ append_assoc front x h.rest) refl))
 
--- ---- units that are added name themselves
+-- ---- rows name their units, however contents grow
 
-module _ (order : Endianness) (encoding : Encoding) where
-  pub keep-names : (c d : Contents) (row : IndexEntry) → Grows c d → LieInside c row
-      → NamesItself order encoding c row → NamesItself order encoding d row
-  keep-names c d row grows lie names unit rest read =
-      let place = place_of row.id row.debug_types in
-      let own : unit_bytes d row ≡ unit_bytes c row = keep-part c d row grows lie (kind_at place) in
-      let there = names unit rest (ap (λ l. unit_at place (section order l)) (sym own) ∙ read) in
-      (there.0, rw (keep-part c d row grows lie kinds.Abbrev) there.1)
+pub keep-names : (order : Endianness) (encoding : Encoding) (c d : Contents) (row : IndexEntry)
+    → Grows c d → LieInside c row → NamesItself order encoding c row
+    → NamesItself order encoding d row
+keep-names order encoding c d row grows lie names unit rest read =
+    let place = place_of row.id row.debug_types in
+    let own : unit_bytes d row ≡ unit_bytes c row = keep-part c d row grows lie (kind_at place) in
+    let there = names unit rest (ap (λ l. unit_at place (section order l)) (sym own) ∙ read) in
+    (there.0, rw (keep-part c d row grows lie kinds.Abbrev) there.1)
 
-  -- what is so of a unit that is added behind contents in which abbreviations are these
-  record CanName (base : Contents) (u : DwarfObject × NewUnit) : Type 0 where
-    fits : Fits u.1.row u.0 u.1.bytes u.1.place
-    named : (c : Contents) → Grows base c → (alone : Header) (rest : Input)
-        → unit_at u.1.place (section order u.1.bytes) ≡ Ok (alone, rest)
-        → (alone.encoding ≡ encoding)
-        × (identity (section order (part_of (content_of kinds.Abbrev c) u.1.row.debug_abbrev)) alone
-        ≡ Ok (Some u.0))
-
-  -- it names itself by its row, however the contents grow
-  new-names : (base c d : Contents) (u : DwarfObject × NewUnit) → CanName base u → Grows base c
-      → Grows (with_bytes (kind_at u.1.place) u.1.bytes c) d
-      → NamesItself order encoding d (row_at u.1.row c u.0 u.1.bytes u.1.place)
-  new-names base c d u can grows up unit rest read =
-      let place = u.1.place in
-      let x = u.1.bytes in
-      let k = kind_at place in
-      let row = row_at u.1.row c u.0 x place in
-      let id = row-name u.1.row c u.0 x place in
-      let place_is : place_of row.id row.debug_types ≡ place =
-      ap (λ n. place_of n row.debug_types) id ∙ sym (own-place u.1.row c u.0 x place can.fits) in
-      let own : unit_bytes d row ≡ x = ap (λ p. part_of (content_of (kind_at p) d)
-      (contribution_to (kind_at p) row)) place_is ∙ ap (part_of (content_of k d))
-      (row-own u.1.row c u.0 x place) ∙ put-stays (content_of k c) x (content-put k x c) (up k) in
-      let there = can.named d (grows-trans base (with_bytes k x c) d
-      (grows-trans base c (with_bytes k x c) grows (grows-with_bytes k x c)) up) unit rest
-      ((λ i. unit_at (sym place_is i) (section order (sym own i))) ∙ read) in
-      (there.0, rw (shared-row u.1.row c u.0 x place kinds.Abbrev refl, id) there.1)
-
-  -- the rows of a package with these contents name their units, however the contents grow
-  abbrev Name : Contents → InProgress → Type 0
-  Name base p = Grows base p.file.contents × ((d : Contents) → Grows p.file.contents d
-      → EachRow (NamesItself order encoding d) p.rows)
-
-  one-named : (base : Contents) (p : InProgress) (u : DwarfObject × NewUnit) → CanName base u
-      → Name base p → Name base (with_unit_added p u)
-  one-named base p u can names =
-      let c = p.file.contents in
-      let more = grows-with_bytes (kind_at u.1.place) u.1.bytes c in
-      let d : Contents = with_bytes (kind_at u.1.place) u.1.bytes c in (
-        grows-trans base c d names.0 more,
-        λ e up. row-append (NamesItself order encoding e) p.rows _
-            (names.1 e (grows-trans c d e more up)) (new-names base c e u can names.0 up),
-      )
-
--- ---- those of a plain object
-
--- where it goes to it is read alone
+-- where a unit goes to it is read alone
 goes-alone : (order : Endianness) (place : UnitSection) (name : DwarfObject) (unit : Header)
     → IsKnown order place unit → type_signature unit.unit_type ≡ name_signature name
     → ReadsAlone order (place_for name (kind_at place)) unit
@@ -174,8 +127,8 @@ goes-alone order places.Types (TypeUnit signature) unit known sort = known.0
 goes-alone order places.Info (Compilation id) unit known sort = known.0
 goes-alone order places.Info (TypeUnit signature) unit known sort = known.0
 
-module _ (source : Source) (made : InProgress)
-    (plain : is_package source.indexes ≡ false) (parts : Contents) (after : List (List ℕ))
+module _ (source : Source) (made : InProgress) (plain : is_package source.indexes ≡ false)
+    (parts : Contents) (after : List (List ℕ))
     (parts_are : parts_of source made.strings ≡ Ok (parts, after)) where
   abbrev order : Endianness
   order = source.object.order
@@ -183,7 +136,10 @@ module _ (source : Source) (made : InProgress)
   abbrev table : List ℕ
   table = first kinds.Abbrev source.object.sections
 
-  -- it has its name by the first abbreviations
+  abbrev base : Contents
+  base = with_parts parts made.file.contents
+
+  -- a unit has its name by the first abbreviations
   by-table : (kind : SectionKind) (unit : Header) (name : DwarfObject)
       → name_for source kind unit ≡ Ok name
       → identity (section order table) unit ≡ Ok (Some name)
@@ -192,33 +148,64 @@ module _ (source : Source) (made : InProgress)
       let s = bind-was (identity (section order table) unit) _ name (rw plain at h) in
       s.1 ∙ ap Ok (ok-some NotSplitUnit s.0 name s.2)
 
-  can-name : (n : DwarfObject × NewUnit) (r : DwarfObject × UnitRead)
-      → IsAdded (adding source made parts) n r → Goes order r → WasRead source (OfOne source) r
-      → CanName order source.encoding (with_parts parts made.file.contents) n
-  can-name n r is goes w = record {
-    fits = (can-lie source made parts n r is goes).fits;
-    named = λ c grows unit rest read.
-        let named = by-table r.1.from r.1.unit r.0 w.named in
-        let a = goes-alone order w.place r.0 r.1.unit w.so.0
-        (identity-sort (section order table) r.1.unit r.0 named) in
-        let place : n.1.place ≡ place_for r.0 (kind_at w.place) = is.place
-        ∙ ap (place_for r.0) w.from in
-        let same : unit ≡ a.alone = ap (λ (x : Header × Input). x.0) (same-ok {E = ReadError} _ _
-        (sym read ∙ (λ i. unit_at (place i) (section order (is.bytes i))) ∙ a.read)) in
-        let f = first-front kinds.Abbrev source.object.sections in
-        let part : part_of (content_of kinds.Abbrev c) n.1.row.debug_abbrev ≡ table ++ f.rest =
-        ap (part_of (content_of kinds.Abbrev c))
-        (plain-part source made parts n r plain is kinds.Abbrev refl)
-        ∙ put-stays (content_of kinds.Abbrev made.file.contents) (joined_parts kinds.Abbrev parts)
-        (content-with_parts kinds.Abbrev parts made.file.contents) (grows kinds.Abbrev)
-        ∙ parts-copied source made.strings parts after parts_are kinds.Abbrev refl ∙ f.is in (
-          ap (λ (u : Header). u.encoding) same ∙ a.encoding ∙ w.so.1,
-          (λ i. identity (section order (part i)) (same i))
-              ∙ identity-stays (section order table) f.rest a.alone (Some r.0)
-              (sym (identity-shifted (section order table) a.behind a.alone r.1.unit a.shifted)
-              ∙ named) ∙ ap (λ x. Ok (Some x)) (sym is.name),
-        );
-  }
+  -- a unit is added for one that was read
+  abbrev IsNew : DwarfObject × NewUnit → Type 0
+  IsNew n = (r : DwarfObject × UnitRead) × IsAdded (adding source made parts) n r × Goes order r
+      × WasRead source (OfOne source) r
+
+  -- its row names it
+  new-names : (c d : Contents) (n : DwarfObject × NewUnit) → IsNew n → Grows base c
+      → Grows (with_bytes (kind_at n.1.place) n.1.bytes c) d
+      → NamesItself order source.encoding d (row_at n.1.row c n.0 n.1.bytes n.1.place)
+  new-names c d n (r, is, goes, w) grows up unit rest read =
+      let place = n.1.place in
+      let x = n.1.bytes in
+      let k = kind_at place in
+      let row = row_at n.1.row c n.0 x place in
+      let id = row-name n.1.row c n.0 x place in
+      let place_is : place_of row.id row.debug_types ≡ place =
+      ap (λ n. place_of n row.debug_types) id
+      ∙ sym (own-place n.1.row c n.0 x place (can-lie source made parts n r is goes).fits) in
+      let own : unit_bytes d row ≡ x = ap (λ p. part_of (content_of (kind_at p) d)
+      (contribution_to (kind_at p) row)) place_is ∙ ap (part_of (content_of k d))
+      (row-own n.1.row c n.0 x place) ∙ put-stays (content_of k c) x (content-put k x c) (up k) in
+      let named = by-table r.1.from r.1.unit r.0 w.named in
+      let a = goes-alone order w.place r.0 r.1.unit w.so.0
+      (identity-sort (section order table) r.1.unit r.0 named) in
+      let goes_to = place_is ∙ is.place ∙ ap (place_for r.0) w.from in
+      let same : unit ≡ a.alone = ap (λ (x : Header × Input). x.0) (same-ok {E = ReadError} _ _
+      (sym read ∙ (λ i. unit_at (goes_to i) (section order ((own ∙ is.bytes) i))) ∙ a.read)) in
+      let f = first-front kinds.Abbrev source.object.sections in
+      let grown = grows-trans base (with_bytes k x c) d
+      (grows-trans base c (with_bytes k x c) grows (grows-with_bytes k x c)) up in
+      let part : part_of (content_of kinds.Abbrev d) row.debug_abbrev ≡ table ++ f.rest =
+      ap (part_of (content_of kinds.Abbrev d)) (shared-row n.1.row c n.0 x place kinds.Abbrev refl
+      ∙ plain-part source made parts n r plain is kinds.Abbrev refl)
+      ∙ put-stays (content_of kinds.Abbrev made.file.contents) (joined_parts kinds.Abbrev parts)
+      (content-with_parts kinds.Abbrev parts made.file.contents) (grown kinds.Abbrev)
+      ∙ parts-copied source made.strings parts after parts_are kinds.Abbrev refl ∙ f.is in (
+        ap (λ (u : Header). u.encoding) same ∙ a.encoding ∙ w.so.1,
+        (λ i. identity (section order (part i)) (same i))
+            ∙ identity-stays (section order table) f.rest a.alone (Some r.0)
+            (sym (identity-shifted (section order table) a.behind a.alone r.1.unit a.shifted)
+            ∙ named) ∙ ap (λ x. Ok (Some x)) (sym (id ∙ is.name)),
+      )
+
+  -- the rows of a package with these contents name their units, however the contents grow
+  abbrev Name : InProgress → Type 0
+  Name p = Grows base p.file.contents × ((d : Contents) → Grows p.file.contents d
+      → EachRow (NamesItself order source.encoding d) p.rows)
+
+  one-named : (p : InProgress) (u : DwarfObject × NewUnit) → IsNew u → Name p
+      → Name (with_unit_added p u)
+  one-named p u new names =
+      let c = p.file.contents in
+      let more = grows-with_bytes (kind_at u.1.place) u.1.bytes c in
+      let d : Contents = with_bytes (kind_at u.1.place) u.1.bytes c in (
+        grows-trans base c d names.0 more,
+        λ e up. row-append (NamesItself order source.encoding e) p.rows _
+            (names.1 e (grows-trans c d e more up)) (new-names c e u new names.0 up),
+      )
 
 pub both-rows : (P Q : IndexEntry → Type 0) (rows : List IndexEntry) → EachRow P rows
     → EachRow Q rows → EachRow (λ row. P row × Q row) rows
@@ -240,14 +227,16 @@ names-kept taken alone source before now plain has sound same h named =
     let c = before.file.contents in
     let q = parted source before now a in
     let b = q.file.contents in
-    let can = news-are source before now a taken alone (OfOne source)
-    (are-of-one taken alone source a.joined.all has a.joined.is) (CanName order encoding b)
-    (can-name source before plain a.parts a.after a.parts_are) in
+    let new = news-are source before now a taken alone (OfOne source)
+    (sections-are source (OfOne source) source.object.sections a.joined.all
+    (of-one taken alone source source.object.sections has) a.joined.is)
+    (IsNew source before plain a.parts a.after a.parts_are)
+    (λ n r is goes w. (r, is, goes, w)) in
     let old : EachRow (λ row. LieInside c row × NamesItself order encoding c row) before.rows =
     both-rows (LieInside c) (NamesItself order encoding c) before.rows (sound-inside before sound)
     (subst (λ o. EachRow (NamesItself o encoding c) before.rows) (sym same) named) in
-    let all = each-added (Name order encoding b) (CanName order encoding b)
-    (one-named order encoding b) q a.new.units can (
+    let all = each-added (Name source before plain a.parts a.after a.parts_are) _
+    (one-named source before plain a.parts a.after a.parts_are) q a.new.units new (
       grows-self b,
       λ d up. weaker _ (NamesItself order encoding d) (λ row s. keep-names order encoding c d row
           (grows-trans c b d (grows-with_parts a.parts c) up) s.0 s.1) before.rows old,
@@ -282,6 +271,10 @@ first-read encoding (Ok unit ∷ others) h =
 
 -- ---- its name
 
+-- units of the name go to info, wherever they stand
+abbrev GoesToInfo : Encoding → DwarfObject → Type 0
+GoesToInfo encoding name = (encoding.version ≡ 5) ⊎ (name_signature name ≡ None)
+
 -- a name is of these
 abbrev IsThere : DwarfObject → List DwarfObject → Type 0
 IsThere name names = list_any (same_name name) names ≡ true
@@ -295,11 +288,6 @@ there-right : (name : DwarfObject) (xs ys : List DwarfObject) → IsThere name y
 there-right name xs ys h = list_any-append (same_name name) xs ys ∙ or-right _ _ h
 
 module _ (taken : UnitsAreTaken) (alone : ReadAlone) (source : Source) (encoding : Encoding) where
-  -- a name is there, of a unit that stands in info
-  abbrev FirstNamed : Reads → Type 0
-  FirstNamed all = (name : DwarfObject) × IsThere name (keys all)
-      × ((encoding.version ≡ 5) ⊎ (name_signature name ≡ None))
-
   head-named : (kind : SectionKind) (u : Header) (others : Listed) (us : Reads)
       → named_each source kind (Ok u ∷ others) ≡ Ok us → (name : DwarfObject)
       × IsThere name (keys us) × (type_signature u.unit_type ≡ name_signature name)
@@ -318,7 +306,7 @@ module _ (taken : UnitsAreTaken) (alone : ReadAlone) (source : Source) (encoding
 
   first-named : (sections : List Used) (all : Reads) → named_sections source sections ≡ Ok all
       → first_encoding (units places.Info (section source.object.order (first kinds.Info sections)))
-      ≡ Ok encoding → FirstNamed all
+      ≡ Ok encoding → (name : DwarfObject) × IsThere name (keys all) × GoesToInfo encoding name
   unfolding named_sections units units_within
   first-named [] all h e = absurd (err-ok NoCompilationUnits encoding e)
   first-named (from ∷ rest) all h e =
@@ -364,27 +352,13 @@ each-format source (s ∷ ss) before after h =
       each-format source ss next.0 after next.2,
     )
 
-newer-place : (encoding : Encoding) (name : DwarfObject) (place : UnitSection)
-    → encoding.version ≡ 5 → is_in_format encoding (kind_at place) ≡ true
+to-info : (encoding : Encoding) (name : DwarfObject) (place : UnitSection)
+    → GoesToInfo encoding name → is_in_format encoding (kind_at place) ≡ true
     → place_for name (kind_at place) ≡ places.Info
-newer-place encoding (TypeUnit s) places.Types five h = absurd (true≢false (sym h
+to-info encoding (TypeUnit s) places.Types (inl five) h = absurd (true≢false (sym h
     ∙ ap (λ v. is_some (column_of (index_version_of v) kinds.Types)) five))
-newer-place encoding name place five h = refl
-
-older-place : (name : DwarfObject) (kind : SectionKind) → name_signature name ≡ None
-    → place_for name kind ≡ places.Info
-older-place (Compilation id) kind none = refl
-older-place (TypeUnit s) kind none = absurd (none-some s.0 (sym none))
-
-read-goes : (source : Source) (name : DwarfObject) → (source.encoding.version ≡ 5)
-    ⊎ (name_signature name ≡ None) → (r : DwarfObject × UnitRead)
-    → WasRead source (InFormat source) r → same_name name r.0 ≡ true
-    → place_for r.0 r.1.from ≡ places.Info
-read-goes source name sort r w same = elim sort [
-  | inl five ↦ rw w.from (newer-place source.encoding r.0 w.place five w.so)
-  | inr none ↦ older-place r.0 r.1.from
-      (ap name_signature (sym (same_name-true name r.0 same)) ∙ none)
-]
+to-info encoding (TypeUnit s) places.Types (inr none) h = absurd (none-some s.0 (sym none))
+to-info encoding name place sort h = refl
 
 -- ---- units that are added
 
@@ -461,12 +435,13 @@ info-there taken alone source before now is h info =
     let j = a.joined in
     let add = adding source before a.parts in
     let held = keys add.held in
-    let n = first-named taken alone source source.encoding source.object.sections
-        j.all j.is is in
+    let n = first-named taken alone source source.encoding source.object.sections j.all j.is is in
     let put = news-are source before now a taken alone (InFormat source)
     (sections-are source (InFormat source) source.object.sections j.all
-    (each-format source source.object.sections _ _ a.parts_are) j.is) (PutInInfo n.0) (λ u r are goes read same. (
-      are.place ∙ read-goes source n.0 n.2 r read (rw are.name at same),
+    (each-format source source.object.sections _ _ a.parts_are) j.is) (PutInInfo n.0)
+    (λ u r are goes w same. (
+      are.place ∙ rw w.from (to-info source.encoding r.0 w.place
+          (subst (GoesToInfo source.encoding) (same_name-true n.0 u.0 same ∙ are.name) n.2) w.so),
       subst (λ l. 0 < length l) (sym are.bytes) goes.some,
     )) in
     let has : HasInfo n.0 (parted source before now a) =

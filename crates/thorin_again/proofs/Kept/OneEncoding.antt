@@ -5,12 +5,13 @@ use Rattle.std.proofs.Common.{◌∷◌, length, map, refl, sym, ap, subst, Resu
 use Rattle.std.proofs.Common.{None, arith, true≢false}
 use Rattle.std.specs.Prelude.{All}
 use Rattle.std.specs.List.{list_all}
+use Rattle.std.specs.Option.{option_and_then, IfSome}
 use Rattle.std.proofs.lemmas.Bool.{ltb-true}
 use Rattle.std.proofs.lemmas.List.{length-map}
 use Rattle.std.proofs.lemmas.List.Elements.{All-nil, All-cons, All-append}
-use Rattle.std.proofs.lemmas.Option.{none-some, same_Some, cond_some, option_and_then_some}
-use Rattle.dwp_base.proofs.Bools.{both}
-use Rattle.dwp_base.proofs.Steps.{bind-was, same-ok, by-choice}
+use Rattle.std.proofs.lemmas.Option.{none-some, cond_some, IfSome_then}
+use Rattle.dwp_base.proofs.Bools.{both, by-bool}
+use Rattle.dwp_base.proofs.Steps.{bind-was, same-ok}
 use Rattle.dwp_elf_read.specs.Elf.{Elf}
 use Rattle.dwp_bytes.specs.declared.encoding.Encoding.{Encoding}
 use Rattle.dwp_bytes.specs.declared.error.ReadError.{ReadError}
@@ -19,11 +20,11 @@ use Rattle.dwp_table.specs.declared.object.DwarfObject.{DwarfObject}
 use Rattle.thorin_errors.specs.Errors.{ErrorValue}
 use Rattle.thorin_join.specs.Builder.{State, taken, with_input, with_own, own_after, names_in}
 use Rattle.thorin_input.specs.Encodings.{file_encoding, own_encoding, is_plain, section_has}
-use Rattle.thorin_input.specs.Indexes.{Source, is_package}
+use Rattle.thorin_input.specs.Indexes.{Source, is_package, index_for}
 use Rattle.thorin_join.specs.Join.{Joins}
 use Rattle.thorin_join.specs.Meaning.{Meaning, Members, UnitRead, keys, meaning_with, meaning_by}
 use Rattle.thorin_join.specs.Meaning.{unit_meaning, lie_inside, meant, source_units, source_meaning}
-use Rattle.thorin_join.specs.Meaning.{object_meaning, input_meaning}
+use Rattle.thorin_join.specs.Meaning.{object_meaning, input_meaning, placed_row}
 use Rattle.thorin_again.specs.OwnUnits.{AllOf, HoldsOwn}
 use Rattle.thorin_join.specs.Represents.{IsSoundBegun, units_begun}
 use Rattle.thorin_join.specs.State.{InProgress}
@@ -33,6 +34,7 @@ use Rattle.thorin_join.proofs.Joined.Source.{all_there}
 use Rattle.thorin_join.proofs.Joined.Taken.{Takes, TakesUnits, takes}
 use Rattle.thorin_join.proofs.Units.HeadersRead.{Reads}
 use Rattle.thorin_again.proofs.Kept.EachUnit.{Each, each-all, each-joining, common-are}
+use Rattle.thorin_input.specs.Rows.{own_range}
 
 -- ---- what an input means
 
@@ -40,28 +42,29 @@ use Rattle.thorin_again.proofs.Kept.EachUnit.{Each, each-all, each-joining, comm
 abbrev pub MadeOf : Source → List ℕ → Meaning → Type 0
 MadeOf source bytes unit = (unit.encoding ≡ source.encoding) × (unit.bytes ≡ bytes)
 
-module _ (source : Source) (bytes : List ℕ) (unit : Meaning) where
-  with-made : (row : Option Ranges) (strings : Result (List (List ℕ)) ReadError)
-      → meaning_with source bytes row strings ≡ Some unit → MadeOf source bytes unit
-  with-made row (Ok strings) h = let same = sym (same_Some _ unit h) in
-      (ap (λ (m : Meaning). m.encoding) same, ap (λ (m : Meaning). m.bytes) same)
-  with-made row (Err e) h = absurd (none-some unit h)
+with-made : (source : Source) (bytes : List ℕ) (row : Option Ranges)
+    (strings : Result (List (List ℕ)) ReadError)
+    → IfSome (meaning_with source bytes row strings) (MadeOf source bytes)
+with-made source bytes row (Ok strings) = (refl, refl)
+with-made source bytes row (Err e) = tt
 
-  by-made : (row : Option Ranges) → meaning_by source bytes row ≡ Some unit
-      → MadeOf source bytes unit
-  unfolding meaning_by
-  by-made row h = by-choice (MadeOf source bytes unit) (lie_inside source row) _ None (Some unit) h
-      (with-made row _) (λ e. absurd (none-some unit e))
+by-made : (source : Source) (bytes : List ℕ) (row : Option Ranges)
+    → IfSome (meaning_by source bytes row) (MadeOf source bytes)
+unfolding meaning_by
+by-made source bytes row = by-bool _ (lie_inside source row)
+    (λ inside. rw inside (with-made source bytes row _)) (λ outside. rw outside tt)
 
-unit-made : (source : Source) (read : DwarfObject × UnitRead) (unit : Meaning)
-    → unit_meaning source read ≡ Some unit → MadeOf source read.1.unit.whole.bytes unit
+unit-made : (source : Source) (read : DwarfObject × UnitRead)
+    → IfSome (unit_meaning source read) (MadeOf source read.1.unit.whole.bytes)
 unfolding unit_meaning
-unit-made source read unit h =
+unit-made source read =
     let bytes = read.1.unit.whole.bytes in
-    by-choice (MadeOf source bytes unit) (is_package source.indexes) _ _ (Some unit) h
-    (λ e. option_and_then_some (λ r. meaning_by source bytes (Some r)) _ unit e
-    (λ row _ is. by-made source bytes unit (Some row) is))
-    (by-made source bytes unit None)
+    by-bool _ (is_package source.indexes)
+    (λ packed. rw packed (elim (placed_row (index_for source.indexes read.0) read.1.from
+    (own_range read.1.unit)) as (λ row. IfSome (option_and_then (λ r.
+    meaning_by source bytes (Some r)) row) (MadeOf source bytes))
+    [ Some row ↦ by-made source bytes (Some row) | None ↦ tt ]))
+    (λ plain. rw plain (by-made source bytes None))
 
 -- ---- the units that an input adds
 
@@ -71,7 +74,7 @@ module _ (P : Meaning → Type 0) where
   HoldsOf units = All (λ (u : DwarfObject × Meaning). P u.1) units
 
   abbrev IfMeant : DwarfObject × Option Meaning → Type 0
-  IfMeant u = (unit : Meaning) → u.1 ≡ Some unit → P unit
+  IfMeant u = IfSome u.1 P
 
   -- it holds of what a unit of these that were read can mean
   abbrev pub CanMean : Source → Reads → Type 0
@@ -82,12 +85,12 @@ module _ (P : Meaning → Type 0) where
       → Each IfMeant (map {B = DwarfObject × Option Meaning} (meant source) reads)
   each-meant source [] h = tt
   each-meant source (r ∷ rs) h =
-      (λ unit is. h.0 unit (unit-made source r unit is), each-meant source rs h.1)
+      (IfSome_then (unit_meaning source r) (unit-made source r) h.0, each-meant source rs h.1)
 
   all-of : (added : Members) → Each IfMeant (all_there added) → HoldsOf added
   all-of [] h = All-nil (λ (u : DwarfObject × Meaning). P u.1)
   all-of (u ∷ us) h =
-      All-cons (λ (v : DwarfObject × Meaning). P v.1) u us (h.0 u.1 refl) (all-of us h.1)
+      All-cons (λ (v : DwarfObject × Meaning). P v.1) u us h.0 (all-of us h.1)
 
   -- what holds of the units before an input, and of those that it adds
   pub units-hold : (bytes : List ℕ) (begun now : Option InProgress)

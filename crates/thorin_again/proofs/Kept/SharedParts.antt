@@ -91,10 +91,10 @@ module _ (source : Source) (before now : InProgress) (a : PlainAdded source befo
   -- the content of a shared section is then what was there, and the part
   pub content-added : (kind : SectionKind) → is_shared kind ≡ true → content_of kind
       now.file.contents ≡ content_of kind before.file.contents ++ joined_parts kind a.parts
-  content-added kind shared = subst (λ (p : InProgress). content_of kind p.file.contents
-      ≡ content_of kind before.file.contents ++ joined_parts kind a.parts) (sym a.is)
-      (each-unit (λ p. content_of kind p.file.contents
-      ≡ content_of kind before.file.contents ++ joined_parts kind a.parts)
+  content-added kind shared =
+      let has = λ (p : InProgress). content_of kind p.file.contents
+      ≡ content_of kind before.file.contents ++ joined_parts kind a.parts in
+      subst has (sym a.is) (each-unit has
       (λ p u h. content-with_bytes kind (kind_at u.1.place) u.1.bytes p.file.contents
       ∙ rw (shared-apart u.1.place kind shared) h) (parted source before now a) a.new.units
       (content-with_parts kind a.parts before.file.contents))

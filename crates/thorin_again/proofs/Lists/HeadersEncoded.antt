@@ -20,9 +20,8 @@ use Rattle.thorin_input.specs.Encodings.{section_has}
 use Rattle.thorin_input.specs.Indexes.{Source}
 use Rattle.thorin_join.specs.Meaning.{Meaning, Members, source_units}
 use Rattle.thorin_join.proofs.Units.HeadersRead.{ReadAlone, Reads}
-use Rattle.thorin_again.proofs.Kept.EachUnit.{WasRead, OfOne, are-of-one, each-weaker}
+use Rattle.thorin_again.proofs.Kept.EachUnit.{WasRead, OfOne, of-one, sections-are, each-weaker}
 use Rattle.thorin_again.proofs.Kept.OneEncoding.{CanMean}
-use Rattle.thorin_join.proofs.Units.Whole.{known-in}
 use Rattle.dwp_base.proofs.Bools.{by-bool}
 use Rattle.dwp_base.proofs.Steps.{bind-was, same-ok}
 use Rattle.thorin_join.proofs.Steps.{err-ok}
@@ -104,7 +103,8 @@ read-encoded taken alone source all has h =
     ∙ ap Ok (a.encoding ∙ w.so.1)) in
     λ place found is. here place found (ap (encoding_in order place) (sym made.1) ∙ is)
     ∙ sym made.0)
-    all (are-of-one taken alone source all has h)
+    all (sections-are source (OfOne source) source.object.sections all
+    (of-one taken alone source source.object.sections has) h)
 
 -- so of units with all that belongs to each
 abbrev pub AreEncoded : Endianness → Members → Type 0

@@ -38,7 +38,7 @@ use Rattle.thorin_join.proofs.Units.HeadersRead.{ReadAlone}
 use Rattle.thorin_again.proofs.Kept.Names.{info-there}
 use Rattle.thorin_again.proofs.Kept.EachUnit.{each-all}
 use Rattle.thorin_again.proofs.Kept.OneEncoding.{InputsJoined, units-hold}
-use Rattle.thorin_again.proofs.Opened.FirstEncoding.{EncodesItself, first-of}
+use Rattle.thorin_again.proofs.Opened.FirstEncoding.{EncodesItself, first-of, input-encoding}
 use Rattle.thorin_again.proofs.Opened.Sections.{object-written, opened-elf}
 use Rattle.thorin_join.proofs.Files.Finished.{finished-own}
 use Rattle.thorin_join.proofs.Joined.Taken.{takes}
@@ -129,6 +129,4 @@ inputs-alike reads alone sound joins e accepted state are one file f differ back
     (rows-encode made.file.order e made.file.contents made.strings made.rows
     (λ k d within. (encoded k d within, all k d within)))
     (subst (λ l. 0 < length l) (sym (finished-own made file f.finished places.Info)) some) in
-    encoding-read (file_text file) (written_elf file) (written_object file) e
-    (opened-elf (file_text file) (written_elf file) back) (object-written file differ) first
-    ∙ ap Ok (sym (filled.0 k d within))
+    input-encoding file differ back ∙ first ∙ ap Ok (sym (filled.0 k d within))

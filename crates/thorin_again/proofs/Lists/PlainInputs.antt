@@ -1,11 +1,10 @@
 -- The one encoding of a builder, by the inputs that it took.
 use Rattle.std.proofs.Common.{inl, inr, ◌≡◌, ◌∙◌, ◌↔◌, ℕ, Bool, true, false, cond, ◌&&◌, List, []}
-use Rattle.std.proofs.Common.{◌∷◌, ◌++◌, length, map, refl, sym, ap, subst, Ok, Option, Some, None}
-use Rattle.std.proofs.Common.{◌+◌, arith, true≢false, length-append}
+use Rattle.std.proofs.Common.{◌∷◌, ◌++◌, length, refl, sym, ap, subst, Ok, Option, Some, None, ◌+◌}
+use Rattle.std.proofs.Common.{arith, true≢false, length-append}
 use Rattle.std.specs.Prelude.{All, is_some}
 use Rattle.std.proofs.lemmas.Bool.{lt-ltb}
 use Rattle.std.proofs.lemmas.List.Elements.{All-nil, All-cons, All-head, All-tail}
-use Rattle.std.proofs.lemmas.Option.{same_Some}
 use Rattle.dwp_base.proofs.Bools.{both}
 use Rattle.dwp_bytes.specs.declared.encoding.Encoding.{Encoding}
 use Rattle.dwp_table.specs.declared.object.DwarfObject.{DwarfObject}
@@ -24,6 +23,7 @@ use Rattle.thorin_again.proofs.Kept.OneEncoding.{InputsJoined, begun-now, taken-
 use Rattle.thorin_again.proofs.Kept.OneEncoding.{own-adds, own-units, takes-units, units-names}
 use Rattle.thorin_again.proofs.Lists.Held.{InputsSound}
 use Rattle.dwp_base.proofs.Steps.{same-ok}
+use Rattle.thorin_join.proofs.Joined.Source.{all_there}
 
 -- ---- plain objects of one encoding
 
@@ -78,30 +78,23 @@ adds-own bytes old new e h a =
 
 -- ---- joins are one
 
-abbrev Meant : Type 0
-Meant = DwarfObject × Option Meaning
+-- the units with all that belongs to each
+abbrev back : List (DwarfObject × Option Meaning) → Members
+back [] = []
+back ((name, Some unit) ∷ us) = (name, unit) ∷ back us
+back ((name, None) ∷ us) = back us
 
-abbrev some_of : DwarfObject × Meaning → Meant
-some_of u = (u.0, Some u.1)
-
-some-same : (us vs : Members) → map {B = Meant} some_of us ≡ map {B = Meant} some_of vs → us ≡ vs
-some-same [] [] h = refl
-some-same [] (v ∷ vs) h = absurd cc
-some-same (u ∷ us) [] h = absurd cc
-some-same (u ∷ us) (v ∷ vs) h =
-    let first : some_of u ≡ some_of v = cc in
-    let later : map {B = Meant} some_of us ≡ map {B = Meant} some_of vs = cc in
-    let unit = same_Some u.1 v.1 (ap (λ (x : Meant). x.1) first) in
-    λ i. ((first i).0, unit i) ∷ some-same us vs later i
+some-back : (us : Members) → back (all_there us) ≡ us
+some-back [] = refl
+some-back (u ∷ us) = ap (λ l. u ∷ l) (some-back us)
 
 joins-same : (bytes : List ℕ) (before one other : Members) → Joins bytes before one
     → Joins bytes before other → one ≡ other
 joins-same bytes before one other j k =
     let units : j.units ≡ k.units = same-ok {E = ErrorValue} j.units k.units
     (sym j.meaning ∙ k.meaning) in
-    let added : j.added ≡ k.added = some-same j.added k.added
-    (sym j.joined ∙ ap (joining (keys before)) units ∙ k.joined) in
-    j.is ∙ ap (λ l. before ++ l) added ∙ sym k.is
+    j.is ∙ ap (λ l. before ++ l) (sym (some-back j.added) ∙ ap back (sym j.joined
+    ∙ ap (joining (keys before)) units ∙ k.joined) ∙ some-back k.added) ∙ sym k.is
 
 joins-more : (bytes : List ℕ) (old : State) (now : Option InProgress) (before : Members)
     → before ≡ units_begun now → (j : Joins bytes (units_in old) before)
