@@ -21,7 +21,7 @@ use Rattle.thorin_input.specs.Names.{same_name}
 use Rattle.thorin_input.specs.NewUnits.{Adding, NewUnit, name_for, unit_section}
 use Rattle.thorin_input.specs.Used.{Used}
 use Rattle.thorin_join.specs.Meaning.{UnitRead, named_unit, named_each, named_at, named_sections}
-use Rattle.thorin_join.specs.Meaning.{joining, source_units}
+use Rattle.thorin_join.specs.Meaning.{joining}
 use Rattle.thorin_join.specs.State.{kind_at, InProgress, names_of, with_unit_added, with_new_unit}
 use Rattle.thorin_join.specs.State.{with_new_units}
 use Rattle.thorin_join.proofs.Units.HeadersRead.{Listed, Reads, ReadAlone, kind-place}

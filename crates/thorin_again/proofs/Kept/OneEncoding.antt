@@ -2,11 +2,11 @@
 -- one encoding have it.
 use Rattle.std.proofs.Common.{◌≡◌, ◌∙◌, ℕ, ◌<◌, Bool, true, false, cond, ltb, inl, inr, List, []}
 use Rattle.std.proofs.Common.{◌∷◌, length, map, refl, sym, ap, subst, Result, Ok, Err, Option, Some}
-use Rattle.std.proofs.Common.{None, arith, true≢false}
+use Rattle.std.proofs.Common.{◌↔◌, None, arith, true≢false}
 use Rattle.std.specs.Prelude.{All}
 use Rattle.std.specs.List.{list_all}
 use Rattle.std.specs.Option.{option_and_then, IfSome}
-use Rattle.std.proofs.lemmas.Bool.{ltb-true}
+use Rattle.std.proofs.lemmas.Bool.{ltb-true, lt-ltb}
 use Rattle.std.proofs.lemmas.List.{length-map}
 use Rattle.std.proofs.lemmas.List.Elements.{All-nil, All-cons, All-append}
 use Rattle.std.proofs.lemmas.Option.{none-some, cond_some, IfSome_then}
@@ -19,7 +19,7 @@ use Rattle.dwp_index.specs.Index.{Ranges}
 use Rattle.dwp_table.specs.declared.object.DwarfObject.{DwarfObject}
 use Rattle.thorin_errors.specs.Errors.{ErrorValue}
 use Rattle.thorin_join.specs.Builder.{State, taken, with_input, with_own, own_after, names_in}
-use Rattle.thorin_input.specs.Encodings.{file_encoding, own_encoding, is_plain, section_has}
+use Rattle.thorin_input.specs.Encodings.{common, file_encoding, own_encoding, is_plain, section_has}
 use Rattle.thorin_input.specs.Indexes.{Source, is_package, index_for}
 use Rattle.thorin_join.specs.Join.{Joins}
 use Rattle.thorin_join.specs.Meaning.{Meaning, Members, UnitRead, keys, meaning_with, meaning_by}
@@ -33,7 +33,7 @@ use Rattle.thorin_join.proofs.Joined.Input.{new-units}
 use Rattle.thorin_join.proofs.Joined.Source.{all_there}
 use Rattle.thorin_join.proofs.Joined.Taken.{Takes, TakesUnits, takes}
 use Rattle.thorin_join.proofs.Units.HeadersRead.{Reads}
-use Rattle.thorin_again.proofs.Kept.EachUnit.{Each, each-all, each-joining, common-are}
+use Rattle.thorin_again.proofs.Kept.EachUnit.{Each, each-all, each-joining, common-are, common-self}
 use Rattle.thorin_input.specs.Rows.{own_range}
 
 -- ---- what an input means
@@ -136,11 +136,13 @@ begun-now bytes old new h = (taken-as bytes old new h).3
 abbrev pub Before : Option InProgress → Option Encoding → Encoding → Type 0
 Before begun own e = (made : InProgress) → begun ≡ Some made → own ≡ Some e
 
-with-before : (begun : Option InProgress) (own found : Option Encoding) (e : Encoding)
-    → with_own begun own found ≡ Some e → Before begun own e × (found ≡ Some e)
-with-before None own found e h = (λ made is. absurd (none-some made is), h)
-with-before (Some made) own found e h =
-    let both = common-are own found e h in (λ other is. both.0, both.1)
+with-own-is : (begun : Option InProgress) (own found : Option Encoding) (e : Encoding)
+    → (with_own begun own found ≡ Some e) ↔ (Before begun own e × (found ≡ Some e))
+with-own-is None own found e = ((λ h. (λ made is. absurd (none-some made is), h)), (λ h. h.1))
+with-own-is (Some made) own found e = (
+  λ h. let both = common-are own found e h in (λ other is. both.0, both.1),
+  λ h. (λ i. common (h.0 made refl i) (h.1 i)) ∙ common-self e,
+)
 
 -- one of two, where it can't be the other
 not-else : {A : Type 0} (b : Bool) (x y z : A) → (y ≡ z → ⊥) → cond b x y ≡ z
@@ -185,17 +187,20 @@ pub record AddsOwn (bytes : List ℕ) (old new : State) (e : Encoding) : Type 0 
   pub before : Before old.begun old.own e
 
 pub own-adds : (bytes : List ℕ) (old new : State) (e : Encoding) → taken bytes old ≡ Ok new
-    → new.own ≡ Some e → AddsOwn bytes old new e
-own-adds bytes old new e h k =
+    → (new.own ≡ Some e) ↔ AddsOwn bytes old new e
+own-adds bytes old new e h =
     let own = taken-as bytes old new h in
-    let counted = not-else (ltb (length (names_in old.begun)) (length (names_in new.begun)))
-    (with_own old.begun old.own own.0) None (Some e) (λ none. none-some e none) (own.2 ∙ k) in
-    let found = with-before old.begun old.own own.0 e counted.1 in
-    record {
-      found = own.1 ∙ ap Ok found.1;
-      more = ltb-true _ _ counted.0;
-      before = found.0;
-    }
+    let is = with-own-is old.begun old.own own.0 e in (
+      λ k.
+          let counted = not-else (ltb (length (names_in old.begun)) (length (names_in new.begun)))
+          (with_own old.begun old.own own.0) None (Some e) (none-some e) (own.2 ∙ k) in
+          let found = is.0 counted.1 in
+          record { found = own.1 ∙ ap Ok found.1; more = ltb-true _ _ counted.0; before = found.0 },
+      λ a. sym own.2
+          ∙ ap (λ b. cond {A = Option Encoding} b (with_own old.begun old.own own.0) None)
+          (lt-ltb (length (names_in old.begun)) (length (names_in new.begun)) a.more)
+          ∙ is.1 (a.before, same-ok {E = ErrorValue} own.0 (Some e) (sym own.1 ∙ a.found)),
+    )
 
 all-before : (begun : Option InProgress) (own : Option Encoding) (e : Encoding)
     → Before begun own e → (own ≡ Some e → AllOf e (units_begun begun))
@@ -216,11 +221,11 @@ InputsJoined = (bytes : List ℕ) (begun now : Option InProgress) → IsSoundBeg
 pub taken-holds : InputsJoined → (bytes : List ℕ) (old new : State) → IsSoundBegun old.begun
     → HoldsOwn old → taken bytes old ≡ Ok new → HoldsOwn new
 taken-holds joined bytes old new sound holds h = record {
-  some = λ e k. omega (arith, (own-adds bytes old new e h k).more, units-names new.begun);
+  some = λ e k. omega (arith, ((own-adds bytes old new e h).0 k).more, units-names new.begun);
   all = λ e k.
       let now = begun-now bytes old new h in
       let t = takes bytes old.begun new.begun now in
-      let a = own-adds bytes old new e h k in
+      let a = (own-adds bytes old new e h).0 k in
       units-hold (λ unit. unit.encoding ≡ e) bytes old.begun new.begun
       (joined bytes old.begun new.begun sound now) t
       (λ u all read. each-all _ (λ r unit made. made.0

@@ -90,7 +90,7 @@ pub taken-plain : NamesTheSameLaw → UnitsAreTaken → ReadAlone → (bytes : L
     → IsSoundBegun old.begun → HoldsPlain old → taken bytes old ≡ Ok new → HoldsPlain new
 taken-plain names reads alone bytes old new sound holds h = record {
   made = λ encoding made own begun.
-      let a = own-adds bytes old new encoding h own in
+      let a = (own-adds bytes old new encoding h).0 own in
       let t = takes bytes old.begun new.begun (begun-now bytes old new h) in
       let u = (takes-units bytes encoding a.found old.begun new.begun t).1 in
       let source = u.source in

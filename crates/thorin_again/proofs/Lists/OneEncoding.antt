@@ -11,8 +11,7 @@ use Rattle.dwp_bytes.specs.declared.encoding.Encoding.{Encoding}
 use Rattle.dwp_dwarf.specs.Units.{UnitsAreTaken}
 use Rattle.dwp_dwarf.specs.declared.unit.UnitSection.TheVariants as places
 use Rattle.dwp_elf.specs.Contents.{content_of}
-use Rattle.dwp_elf.specs.FileText.{Object as File, file_text}
-use Rattle.dwp_elf.specs.Written.{written_elf}
+use Rattle.dwp_elf.specs.FileText.{Object as File}
 use Rattle.dwp_elf_read.specs.Elf.{Elf}
 use Rattle.dwp_index.specs.Package.{place_of}
 use Rattle.dwp_table.specs.declared.object.DwarfObject.{DwarfObject}
@@ -25,7 +24,6 @@ use Rattle.thorin_join.specs.Builder.{State, start, with_input, package_or_new, 
 use Rattle.thorin_join.specs.Join.{Joins}
 use Rattle.thorin_join.specs.Meaning.{Meaning, Members}
 use Rattle.thorin_again.specs.OneEncoding.{IsOfEncoding, HaveEncodingOnceWritten}
-use Rattle.thorin_again.specs.OwnInput.{written_object}
 use Rattle.thorin_again.specs.OwnUnits.{AllOf}
 use Rattle.thorin_again.specs.PlainInputs.{AreTaken}
 use Rattle.thorin_join.specs.Represents.{IsSoundBegun, meaning_at, units_of, units_in, units_begun}
@@ -39,7 +37,6 @@ use Rattle.thorin_again.proofs.Kept.Names.{info-there}
 use Rattle.thorin_again.proofs.Kept.EachUnit.{each-all}
 use Rattle.thorin_again.proofs.Kept.OneEncoding.{InputsJoined, units-hold}
 use Rattle.thorin_again.proofs.Opened.FirstEncoding.{EncodesItself, first-of, input-encoding}
-use Rattle.thorin_again.proofs.Opened.Sections.{object-written, opened-elf}
 use Rattle.thorin_join.proofs.Files.Finished.{finished-own}
 use Rattle.thorin_join.proofs.Joined.Taken.{takes}
 

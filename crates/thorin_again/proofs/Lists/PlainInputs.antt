@@ -1,16 +1,15 @@
 -- The one encoding of a builder, by the inputs that it took.
-use Rattle.std.proofs.Common.{inl, inr, ◌≡◌, ◌∙◌, ◌↔◌, ℕ, Bool, true, false, cond, ◌&&◌, List, []}
-use Rattle.std.proofs.Common.{◌∷◌, ◌++◌, length, refl, sym, ap, subst, Ok, Option, Some, None, ◌+◌}
+use Rattle.std.proofs.Common.{inl, inr, ◌≡◌, ◌∙◌, ◌↔◌, ℕ, Bool, true, false, ◌&&◌, List, [], ◌∷◌}
+use Rattle.std.proofs.Common.{◌++◌, length, refl, sym, ap, subst, Ok, Option, Some, None, ◌+◌}
 use Rattle.std.proofs.Common.{arith, true≢false, length-append}
 use Rattle.std.specs.Prelude.{All, is_some}
-use Rattle.std.proofs.lemmas.Bool.{lt-ltb}
 use Rattle.std.proofs.lemmas.List.Elements.{All-nil, All-cons, All-head, All-tail}
 use Rattle.dwp_base.proofs.Bools.{both}
 use Rattle.dwp_bytes.specs.declared.encoding.Encoding.{Encoding}
 use Rattle.dwp_table.specs.declared.object.DwarfObject.{DwarfObject}
 use Rattle.thorin_errors.specs.Errors.{ErrorValue}
-use Rattle.thorin_input.specs.Encodings.{own_encoding, file_encoding, common}
-use Rattle.thorin_join.specs.Builder.{State, start, taken, names_in, with_own, package_or_new}
+use Rattle.thorin_input.specs.Encodings.{own_encoding, file_encoding}
+use Rattle.thorin_join.specs.Builder.{State, start, taken, names_in, package_or_new}
 use Rattle.thorin_join.specs.Join.{Joins}
 use Rattle.thorin_join.specs.Meaning.{Meaning, Members, keys, joining}
 use Rattle.thorin_again.specs.Own.{has_sections, packs_again}
@@ -18,9 +17,8 @@ use Rattle.thorin_again.specs.PlainInputs.{AreTaken, IsPlainOf, EachAdds, IsOfPl
 use Rattle.thorin_join.specs.Represents.{IsSoundBegun, units_in, units_begun}
 use Rattle.thorin_join.specs.State.{InProgress}
 use Rattle.thorin_join.proofs.Joined.Taken.{takes}
-use Rattle.thorin_again.proofs.Kept.EachUnit.{common-self}
-use Rattle.thorin_again.proofs.Kept.OneEncoding.{InputsJoined, begun-now, taken-as, Before, AddsOwn}
-use Rattle.thorin_again.proofs.Kept.OneEncoding.{own-adds, own-units, takes-units, units-names}
+use Rattle.thorin_again.proofs.Kept.OneEncoding.{InputsJoined, begun-now, Before, own-adds}
+use Rattle.thorin_again.proofs.Kept.OneEncoding.{own-units, takes-units, units-names}
 use Rattle.thorin_again.proofs.Lists.Held.{InputsSound}
 use Rattle.dwp_base.proofs.Steps.{same-ok}
 use Rattle.thorin_join.proofs.Joined.Source.{all_there}
@@ -49,13 +47,6 @@ own-of : (bytes : List ℕ) (e : Encoding) → IsPlainOf e bytes → own_encodin
 unfolding own_encoding file_encoding
 own-of bytes e p = rw (p.opens, p.info, p.used, p.first, p.plain, p.all) refl
 
--- ---- what a builder has of an encoding before an input of it
-
-before-with : (begun : Option InProgress) (own found : Option Encoding) (e : Encoding)
-    → Before begun own e → found ≡ Some e → with_own begun own found ≡ Some e
-before-with None own found e h k = k
-before-with (Some made) own found e h k = (λ i. common (h made refl i) (k i)) ∙ common-self e
-
 -- an input that was taken has begun a package
 begun-some : (bytes : List ℕ) (old new : State) → taken bytes old ≡ Ok new
     → (made : InProgress) × (new.begun ≡ Some made)
@@ -65,16 +56,6 @@ begun-some bytes old new h =
       | inl w ↦ (w.1.made, sym w.1.is)
       | inr none ↦ (package_or_new t.file old.begun, sym none.1)
     ]
-
-adds-own : (bytes : List ℕ) (old new : State) (e : Encoding) → taken bytes old ≡ Ok new
-    → AddsOwn bytes old new e → new.own ≡ Some e
-adds-own bytes old new e h a =
-    let own = taken-as bytes old new h in
-    let found : own.0 ≡ Some e = same-ok {E = ErrorValue} own.0 (Some e) (sym own.1 ∙ a.found) in
-    sym own.2
-    ∙ ap (λ b. cond {A = Option Encoding} b (with_own old.begun old.own own.0) None)
-    (lt-ltb (length (names_in old.begun)) (length (names_in new.begun)) a.more)
-    ∙ before-with old.begun old.own own.0 e a.before found
 
 -- ---- joins are one
 
@@ -136,7 +117,7 @@ exactly sound joins e (bytes ∷ rest) old new fine are =
       λ h.
           let later = others.0 h in
           let begun = begun-some bytes from next took in
-          let a = own-adds bytes from next e took (later.before begun.0 begun.1) in
+          let a = (own-adds bytes from next e took).0 (later.before begun.0 begun.1) in
           record {
             plain = All-cons (IsPlainOf e) bytes rest (plain-of bytes from next e took a.found)
                 later.plain;
@@ -151,7 +132,7 @@ exactly sound joins e (bytes ∷ rest) old new fine are =
       λ each.
           let here = each.adds.1 in
           let same = joins-same bytes (units_in old) each.adds.0 (units_in next) here j in
-          let own = adds-own bytes from next e took (record {
+          let own = (own-adds bytes from next e took).1 (record {
             found = own-of bytes e (All-head (IsPlainOf e) bytes rest each.plain);
             more = omega (
               arith,

@@ -123,19 +123,9 @@ abbrev HasHeader : Package → index.FoundUnit → Type 0
 HasHeader pack found =
     (place : UnitSection) × (encoding_in pack.order place found.bytes ≡ Ok found.encoding)
 
-unit-header : (pack : Package) (name : DwarfObject) (number : ℕ) (row : Ranges)
-    (found : index.FoundUnit) → unit_in pack name number row ≡ Ok found → HasHeader pack found
-unfolding unit_in
-unit-header pack name number row found h =
-    let s1 = bind-was (all_inside (first_outside pack.contents row)) _ found h in
-    let place = place_of name (range_in row kinds.Types) in
-    let read = encoding_in pack.order place (row_bytes pack.contents row (kind_of place)) in
-    let s2 = bind-was (index.as_error errors.Unit read) _ found s1.2 in
-    subst (HasHeader pack) (same-ok {E = PackageError} _ found s2.2)
-    (place, error-was errors.Unit read s2.0 s2.1)
-
 found-header : (pack : Package) (name : DwarfObject) (found : index.FoundUnit) (count : ℕ)
     → found_counted pack name ≡ Ok (Some found, count) → HasHeader pack found
+unfolding unit_in
 found-header pack name found count h =
     let s = bind-was (row_counted pack name) (unit_of_row pack name) (Some found, count)
     (sym (by_row pack name) ∙ h) in
@@ -149,8 +139,13 @@ found-header pack name found count h =
     by (None, c) k = absurd (none-some found (ap unit (same-ok {E = PackageError} _ _ k)))
     by (Some (number, row), c) k =
         let u = bind-was (unit_in pack name number row) _ (Some found, count) k in
-        subst (HasHeader pack) (same_Some u.0 found (ap unit (same-ok {E = PackageError} _ _ u.2)))
-        (unit-header pack name number row u.0 u.1)
+        let inside = bind-was (all_inside (first_outside pack.contents row)) _ u.0 u.1 in
+        let place = place_of name (range_in row kinds.Types) in
+        let read = encoding_in pack.order place (row_bytes pack.contents row (kind_of place)) in
+        let s = bind-was (index.as_error errors.Unit read) _ u.0 inside.2 in
+        subst (HasHeader pack) (same-ok {E = PackageError} _ u.0 s.2
+        ∙ same_Some u.0 found (ap unit (same-ok {E = PackageError} _ _ u.2)))
+        (place, error-was errors.Unit read s.0 s.1)
 
 -- what look-ups of these units give
 abbrev pub Finds : Package → Members → Type 0
