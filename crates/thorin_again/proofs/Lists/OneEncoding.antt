@@ -16,9 +16,7 @@ use Rattle.dwp_elf_read.specs.Elf.{Elf}
 use Rattle.dwp_index.specs.Package.{place_of}
 use Rattle.dwp_table.specs.declared.object.DwarfObject.{DwarfObject}
 use Rattle.thorin_index.specs.declared.entry.IndexEntry.{IndexEntry}
-use Rattle.thorin_input.specs.Encodings.{encoding_of}
 use Rattle.thorin_input.specs.Growing.{Contents}
-use Rattle.thorin_input.specs.Used.{InputFile, opened, input_file_of}
 use Rattle.thorin_again.specs.Again.{input_encoding}
 use Rattle.thorin_join.specs.Builder.{State, start, with_input, package_or_new, IsFinishedState}
 use Rattle.thorin_join.specs.Join.{Joins}
@@ -56,23 +54,17 @@ new-info : (file : Elf) (begun : Option InProgress) → ((made : InProgress) →
 new-info file None h = λ some. absurd (omega (arith, some))
 new-info file (Some made) h = h made refl
 
-encoding-read : (bytes : List ℕ) (file : Elf) (object : InputFile) (first : Encoding)
-    → opened bytes ≡ Ok file → input_file_of file ≡ Ok object → encoding_of object ≡ Ok first
-    → input_encoding bytes ≡ Ok first
-unfolding input_encoding
-encoding-read bytes file object first opens is read = rw (opens, is) read
-
 input-filled : UnitsAreTaken → ReadAlone → (e : Encoding) (bytes : List ℕ)
     (begun now : Option InProgress) → IsOfEncoding e bytes
     → Joins bytes (units_begun begun) (units_begun now) → with_input bytes begun ≡ Ok now
     → Filled e begun → Filled e now
+unfolding input_encoding
 input-filled reads alone e bytes begun now one j h before =
     let t = takes bytes begun now h in
     let info = new-info t.file begun before.1 in (
       units-hold (λ unit. unit.encoding ≡ e) bytes begun now j t
-          (λ u all read. each-all _ (λ r unit made. made.0 ∙ one.1 u.source.encoding
-          (encoding-read bytes t.file u.source.object u.source.encoding t.opens u.object_is
-          u.encoding_is)) all)
+          (λ u all read. each-all _ (λ r unit made. made.0
+          ∙ one.1 u.source.encoding (rw (t.opens, u.object_is) u.encoding_is)) all)
           before.0,
       λ made is. elim t.does [
         | inl w ↦ subst HasInfo (same_Some _ made (w.1.is ∙ is)) (λ some. info-there reads alone

@@ -152,28 +152,6 @@ abbrev pub Finds : Package → Members → Type 0
 Finds pack units = (name : DwarfObject) → MatchOption (lookup (same_name name) units)
     (GivesNone pack name (look_limit units name)) (GivesUnit pack name (look_limit units name))
 
--- they give all strings
-whole-finds : (pack : Package) (order : Endianness) (units : Members) → pack.order ≡ order
-    → AreEncoded order units → Finds pack units → (name : DwarfObject)
-    → MatchOption (lookup (same_name name) units) (GivesNone pack name (look_limit units name))
-    (GivesWhole pack name (look_limit units name))
-whole-finds pack order units same are finds name =
-    by (lookup (same_name name) units) (IfSome-lookup_from_All (IsEncoded order) (same_name name)
-    units (All-map (IsEncoded order) (λ (u : DwarfObject × Meaning). u.1) units are)) (finds name)
-  where
-    most : ℕ
-    most = look_limit units name
-
-    by : (found : Option Meaning) → IfSome found (IsEncoded order)
-        → MatchOption found (GivesNone pack name most) (GivesUnit pack name most)
-        → MatchOption found (GivesNone pack name most) (GivesWhole pack name most)
-    by None is h = h
-    by (Some unit) is g =
-        let p = found-header pack name g.found g.count g.counted in
-        let encoding : g.found.encoding ≡ unit.encoding = is p.0 g.found.encoding
-        ((λ i. encoding_in (sym same i) p.0 (sym g.is.bytes i)) ∙ p.1) in
-        record { gives = g; encoding = encoding; string = g.is.string encoding }
-
 -- the byte order of a package is that of its file
 pack-order : (bytes : List ℕ) (file : Elf) (pack : Package) → elf_of bytes ≡ Ok file
     → package_of bytes ≡ Ok pack → pack.order ≡ file.order
@@ -184,6 +162,7 @@ pack-order bytes file pack is h =
     let s4 = bind-was (index_in_section file.order (content s2.0 kinds.TuIndex)) _ pack s3.2 in
     ap (λ (p : Package). p.order) (sym (same-ok {E = PackageError} _ pack s4.2))
 
+-- look-ups give all strings
 answers-whole : (order : Endianness) (units : Members) (file : File)
     → elf_of (file_text file) ≡ Ok (written_elf file) → file.order ≡ order
     → AreEncoded order units → (pack : Package) → package_of (file_text file) ≡ Ok pack
@@ -191,9 +170,23 @@ answers-whole : (order : Endianness) (units : Members) (file : File)
 answers-whole order units file back same are pack parsed finds = record {
   pack = pack;
   parsed = parsed;
-  finds = whole-finds pack order units
-      (pack-order (file_text file) (written_elf file) pack back parsed ∙ same) are finds;
+  finds = λ name. by name (lookup (same_name name) units) (IfSome-lookup_from_All (IsEncoded order)
+      (same_name name) units (All-map (IsEncoded order) (λ (u : DwarfObject × Meaning). u.1) units
+      are)) (finds name);
 }
+  where
+    by : (name : DwarfObject) (found : Option Meaning) → IfSome found (IsEncoded order)
+        → MatchOption found (GivesNone pack name (look_limit units name))
+        (GivesUnit pack name (look_limit units name))
+        → MatchOption found (GivesNone pack name (look_limit units name))
+        (GivesWhole pack name (look_limit units name))
+    by name None is h = h
+    by name (Some unit) is g =
+        let p = found-header pack name g.found g.count g.counted in
+        let order_is = pack-order (file_text file) (written_elf file) pack back parsed ∙ same in
+        let encoding : g.found.encoding ≡ unit.encoding = is p.0 g.found.encoding
+        ((λ i. encoding_in (sym order_is i) p.0 (sym g.is.bytes i)) ∙ p.1) in
+        record { gives = g; encoding = encoding; string = g.is.string encoding }
 
 -- ---- the file of a state
 
