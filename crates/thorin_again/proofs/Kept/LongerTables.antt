@@ -9,7 +9,7 @@ use Rattle.dwp_base.specs.Reading.{◌>>=◌}
 use Rattle.dwp_bytes.specs.Input.{Input, byte_at, skip_at}
 use Rattle.dwp_bytes.specs.Leb.{leb_at, uleb_at, signed_leb_at, sleb_at, is_i64}
 use Rattle.dwp_bytes.specs.declared.error.ReadError.{ReadError}
-use Rattle.dwp_bytes.specs.declared.error.ReadError.TheVariants.{UnknownCode, OffsetOutOfRange}
+use Rattle.dwp_bytes.specs.declared.error.ReadError.TheVariants.{UnknownCode}
 use Rattle.dwp_dwarf.specs.Abbreviations.{Declaration, constant_at, specification_at, is_last}
 use Rattle.dwp_dwarf.specs.Abbreviations.{specifications_within, specifications_at, tag_at}
 use Rattle.dwp_dwarf.specs.Abbreviations.{children_at, declaration_at, code_at, declaration_within}
@@ -23,7 +23,6 @@ use Rattle.dwp_table.specs.declared.object.DwarfObject.{DwarfObject}
 use Rattle.thorin_errors.specs.Errors.{NoDie, ParseUnitAbbreviations, GimliRead}
 use Rattle.thorin_errors.specs.Answers.{as_error}
 use Rattle.thorin_identity.specs.Identity.{root_identity, identity_by, identity}
-use Rattle.thorin_join.proofs.Steps.{err-ok}
 use Rattle.thorin_strings.proofs.NamedEntries.{as_error_ok}
 use Rattle.dwp_base.proofs.Bools.{by-bool}
 use Rattle.dwp_base.proofs.Steps.{bind-was, bind-ok, same-ok}
@@ -31,7 +30,7 @@ use Rattle.dwp_dwarf.proofs.Readings.{more}
 use Rattle.dwp_index.proofs.TwoPlaces.{choice}
 
 pub ok-some : {A E : Type 0} (e : E) (r : Option A) (x : A) → ok_or r e ≡ Ok x → r ≡ Some x
-ok-some e None x h = absurd (err-ok e x h)
+ok-some e None x h = absurd cc
 ok-some e (Some y) x h = ap Some (same-ok y x h)
 
 module _ (rest : List ℕ) where
@@ -146,7 +145,7 @@ module _ (rest : List ℕ) where
   unfolding from_at skip_at
   from-stays offset i table h =
       by-bool _ (ltb (length i.bytes) offset)
-      (λ short. absurd (err-ok OffsetOutOfRange table (rw short at h)))
+      (λ short. let wrong = rw short at h in absurd cc)
       (λ fits. let enough = ltb-false (length i.bytes) offset fits in
       rw (
         le-ltb (length (i.bytes ++ rest)) offset (omega (arith, enough, longer i)),

@@ -4,7 +4,7 @@
 -- object's encoding, and its name's unit goes there.
 use Rattle.std.proofs.Common.{◌≡◌, ◌∙◌, ℕ, false, List, refl, sym, ap, Ok, Some, true, [], ◌∷◌}
 use Rattle.std.proofs.Common.{◌++◌, length, subst, eqb, ◌-◌, leb, ◌&&◌, ◌⊎◌, inl, inr, Err, None}
-use Rattle.std.proofs.Common.{◌<◌, is_some, map, arith, true≢false, length-append}
+use Rattle.std.proofs.Common.{◌<◌, map, arith, true≢false, length-append}
 use Rattle.dwp_base.specs.declared.endian.Endianness.{Endianness}
 use Rattle.dwp_base.specs.declared.section.SectionKind.{SectionKind}
 use Rattle.dwp_base.specs.declared.section.SectionKind.TheVariants as kinds
@@ -37,8 +37,7 @@ use Rattle.thorin_join.proofs.Moved.RootEntries.{identity-shifted}
 use Rattle.thorin_join.proofs.Units.Whole.{ReadsAlone, IsKnown, known-in, other-alone, five-named}
 use Rattle.thorin_join.proofs.Units.Whole.{Goes}
 use Rattle.thorin_again.proofs.Kept.LongerTables.{ok-some, identity-stays}
-use Rattle.thorin_errors.specs.Errors.{NotSplitUnit, ErrorValue, ParseUnitHeader}
-use Rattle.thorin_errors.specs.Errors.{NoCompilationUnits}
+use Rattle.thorin_errors.specs.Errors.{NotSplitUnit, ErrorValue}
 use Rattle.dwp_base.proofs.Steps.{bind-was, same-ok}
 use Rattle.std.specs.List.{list_all, list_any}
 use Rattle.std.proofs.lemmas.Bool.{eqb-true}
@@ -77,13 +76,10 @@ use Rattle.std.specs.Prelude.{slice_get, Some}
 use Rattle.dwp_dwarf.specs.declared.unit.UnitSection.TheVariants as places
 use Rattle.thorin_input.specs.Names.{same_name}
 use Rattle.thorin_join.proofs.Units.NamesApart.{same_name-self, same_name-true}
-use Rattle.thorin_join.proofs.Steps.{err-ok, past, unless}
+use Rattle.thorin_join.proofs.Steps.{past, unless}
 use Rattle.thorin_join.proofs.Moved.Units.{newer-five}
 use Rattle.std.proofs.Math.Bool.{or-false}
 use Rattle.std.proofs.lemmas.List.Folds.{list_any-append}
-use Rattle.std.proofs.lemmas.Option.{none-some}
-use Rattle.dwp_bytes.specs.Encoding.{index_version_of}
-use Rattle.dwp_table.specs.Columns.{column_of}
 use Rattle.thorin_input.specs.Format.{is_in_format}
 use Rattle.thorin_join.proofs.Rows.AllAdded.{names-added}
 
@@ -264,8 +260,8 @@ unit-none i = then_gives (was (initial_length_at i)) (λ length _. then_gives
 -- what is read first, where its encoding is that
 first-read : (encoding : Encoding) (reads : Listed) → first_encoding reads ≡ Ok encoding
     → (unit : Header) × (others : Listed) × (reads ≡ Ok unit ∷ others) × (unit.encoding ≡ encoding)
-first-read encoding [] h = absurd (err-ok NoCompilationUnits encoding h)
-first-read encoding (Err e ∷ others) h = absurd (err-ok (ParseUnitHeader e) encoding h)
+first-read encoding [] h = absurd cc
+first-read encoding (Err e ∷ others) h = absurd cc
 first-read encoding (Ok unit ∷ others) h =
     (unit, others, refl, same-ok {E = ErrorValue} _ encoding h)
 
@@ -308,7 +304,7 @@ module _ (taken : UnitsAreTaken) (alone : ReadAlone) (source : Source) (encoding
       → first_encoding (units places.Info (section source.object.order (first kinds.Info sections)))
       ≡ Ok encoding → (name : DwarfObject) × IsThere name (keys all) × GoesToInfo encoding name
   unfolding named_sections units units_within
-  first-named [] all h e = absurd (err-ok NoCompilationUnits encoding e)
+  first-named [] all h e = absurd cc
   first-named (from ∷ rest) all h e =
       let a = bind-was (named_at source from (unit_section from.kind)) _ all h in
       let b = bind-was (named_sections source rest) _ all a.2 in
@@ -356,8 +352,8 @@ to-info : (encoding : Encoding) (name : DwarfObject) (place : UnitSection)
     → GoesToInfo encoding name → is_in_format encoding (kind_at place) ≡ true
     → place_for name (kind_at place) ≡ places.Info
 to-info encoding (TypeUnit s) places.Types (inl five) h = absurd (true≢false (sym h
-    ∙ ap (λ v. is_some (column_of (index_version_of v) kinds.Types)) five))
-to-info encoding (TypeUnit s) places.Types (inr none) h = absurd (none-some s.0 (sym none))
+    ∙ ap (λ v. is_in_format (record encoding { version = v }) kinds.Types) five))
+to-info encoding (TypeUnit s) places.Types (inr none) h = absurd cc
 to-info encoding name place sort h = refl
 
 -- ---- units that are added

@@ -10,7 +10,6 @@ use Rattle.dwp_bytes.specs.Input.{Input, section, number_at, split_at, offset_at
 use Rattle.dwp_bytes.specs.declared.encoding.Encoding.{Encoding}
 use Rattle.dwp_bytes.specs.declared.encoding.Format.{Format}
 use Rattle.dwp_bytes.specs.declared.error.ReadError.{ReadError}
-use Rattle.dwp_bytes.specs.declared.error.ReadError.TheVariants.{UnknownVersion}
 use Rattle.dwp_dwarf.specs.Units.{Unit as Header, UnitsAreTaken, unit_at, units, header_at}
 use Rattle.dwp_dwarf.specs.Units.{older_at, older_type_at, address_size_at, initial_length_at}
 use Rattle.dwp_dwarf.specs.declared.unit.UnitSection.{UnitSection}
@@ -24,7 +23,6 @@ use Rattle.thorin_again.proofs.Kept.EachUnit.{WasRead, OfOne, of-one, sections-a
 use Rattle.thorin_again.proofs.Kept.OneEncoding.{CanMean}
 use Rattle.dwp_base.proofs.Bools.{by-bool}
 use Rattle.dwp_base.proofs.Steps.{bind-was, same-ok}
-use Rattle.thorin_join.proofs.Steps.{err-ok}
 
 -- ---- a header has one encoding, in whichever section it is read
 
@@ -44,7 +42,7 @@ header-encoding p q format whole i u v h k =
     let x = bind-was (older_type_at p format c.0.1) _ u c.2 in
     let y = bind-was (older_type_at q format c.0.1) _ v (rw (other, older, b.1, c.1) at l) in
     rw (← same-ok {E = ReadError} _ u x.2, ← same-ok {E = ReadError} _ v y.2) refl)
-    (λ none. absurd (err-ok UnknownVersion u (rw (other, none) at a.2))))
+    (λ none. let wrong = rw (other, none) at a.2 in absurd cc))
 
 places-encoding : (p q : UnitSection) (i : Input) (u v : Header × Input) → unit_at p i ≡ Ok u
     → unit_at q i ≡ Ok v → u.0.encoding ≡ v.0.encoding
