@@ -375,10 +375,11 @@ module _ (name : DwarfObject) where
       (λ same. let new = put same in
       rw (content-with_bytes kinds.Info (kind_at u.1.place) u.1.bytes c, new.0)
       (omega (arith, length-append (content_of kinds.Info c) u.1.bytes, new.1)))
-      (λ other. let old = has (rw (names-added p u, list_any-append {X = DwarfObject}, other,
-      or-false) at there) in
-      omega (arith, old, front-long _ _ (grows-with_bytes (kind_at u.1.place)
-          u.1.bytes c kinds.Info)))
+      (λ other. omega (
+        arith,
+        has (rw (names-added p u, list_any-append {X = DwarfObject}, other, or-false) at there),
+        front-long _ _ (grows-with_bytes (kind_at u.1.place) u.1.bytes c kinds.Info),
+      ))
 
   -- ---- the name is there in the end
 
@@ -416,11 +417,6 @@ module _ (name : DwarfObject) where
 
 -- ---- an object that was added
 
-some-rows : (rows : List IndexEntry) (name : DwarfObject)
-    → IsThere name (map (λ (r : IndexEntry). r.id) rows) → 0 < length rows
-some-rows [] name h = absurd (true≢false (sym h))
-some-rows (r ∷ rs) name h = omega arith
-
 pub info-there : UnitsAreTaken → ReadAlone → (source : Source) (before now : InProgress)
     → encoding_of source.object ≡ Ok source.encoding → with_source source before ≡ Ok now
     → (0 < length before.rows → 0 < length (content_of kinds.Info before.file.contents))
@@ -443,7 +439,8 @@ info-there taken alone source before now is h info =
     let has : HasInfo n.0 (parted source before now a) =
     λ there. omega (
       arith,
-      info (some-rows before.rows n.0 there),
+      info ((elim before.rows as (λ rows. IsThere n.0 (map (λ (r : IndexEntry). r.id) rows)
+          → 0 < length rows) [ [] ↦ λ e. absurd cc | r ∷ rs ↦ λ e. omega arith ]) there),
       front-long _ _ (grows-with_parts a.parts before.file.contents kinds.Info),
     ) in
     rw a.is (units-put n.0 (parted source before now a) a.new.units put has

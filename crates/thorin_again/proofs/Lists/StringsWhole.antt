@@ -1,6 +1,6 @@
 -- Where each input has one encoding, each unit of a package has its strings.
 use Rattle.std.proofs.Common.{inl, inr, ◌≡◌, ◌∙◌, ℕ, List, [], ◌∷◌, map, refl, sym, ap, subst}
-use Rattle.std.proofs.Common.{Result, Ok, Err, Option, Some, None}
+use Rattle.std.proofs.Common.{Ok, Err, Option, Some, None}
 use Rattle.std.specs.Prelude.{All, MatchOption}
 use Rattle.std.specs.Map.{lookup}
 use Rattle.std.specs.Option.{IfSome}
@@ -113,11 +113,6 @@ input-encoded reads alone bytes begun now one j h before made is =
 
 -- ---- look-ups
 
-error-was : {X E F : Type 0} (f : E → F) (r : Result X E) (x : X) → index.as_error f r ≡ Ok x
-    → r ≡ Ok x
-error-was f (Ok y) x h = cc
-error-was f (Err e) x h = absurd cc
-
 -- the header of a unit that was found
 abbrev HasHeader : Package → index.FoundUnit → Type 0
 HasHeader pack found =
@@ -145,7 +140,8 @@ found-header pack name found count h =
         let s = bind-was (index.as_error errors.Unit read) _ u.0 inside.2 in
         subst (HasHeader pack) (same-ok {E = PackageError} _ u.0 s.2
         ∙ same_Some u.0 found (ap unit (same-ok {E = PackageError} _ _ u.2)))
-        (place, error-was errors.Unit read s.0 s.1)
+        (place, (elim read as (λ r. index.as_error errors.Unit r ≡ Ok s.0 → r ≡ Ok s.0)
+        [ Ok y ↦ λ k. cc | Err e ↦ λ k. absurd cc ]) s.1)
 
 -- what look-ups of these units give
 abbrev pub Finds : Package → Members → Type 0
