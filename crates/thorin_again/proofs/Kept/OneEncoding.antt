@@ -202,12 +202,6 @@ own-adds bytes old new e h =
           ∙ is.1 (a.before, same-ok {E = ErrorValue} own.0 (Some e) (sym own.1 ∙ a.found)),
     )
 
-all-before : (begun : Option InProgress) (own : Option Encoding) (e : Encoding)
-    → Before begun own e → (own ≡ Some e → AllOf e (units_begun begun))
-    → AllOf e (units_begun begun)
-all-before None own e is all = All-nil (λ (u : DwarfObject × Meaning). u.1.encoding ≡ e)
-all-before (Some made) own e is all = all (is made refl)
-
 pub units-names : (begun : Option InProgress) → length (units_begun begun) ≡ length (names_in begun)
 units-names None = refl
 units-names (Some made) = length-map made.rows _ ∙ sym (length-map made.rows _)
@@ -230,5 +224,9 @@ taken-holds joined bytes old new sound holds h = record {
       (joined bytes old.begun new.begun sound now) t
       (λ u all read. each-all _ (λ r unit made. made.0
       ∙ (own-units bytes e a.found t.file old.begun new.begun u t.opens).is) all)
-      (all-before old.begun old.own e a.before (holds.all e));
+      ((elim old.begun as (λ b. Before b old.own e → (old.own ≡ Some e → AllOf e (units_begun b))
+      → AllOf e (units_begun b)) [
+        | None ↦ λ is all. All-nil (λ (u : DwarfObject × Meaning). u.1.encoding ≡ e)
+        | Some made ↦ λ is all. all (is made refl)
+      ]) a.before (holds.all e));
 }

@@ -79,11 +79,6 @@ plain-before encoding file None own before holds = record {
 }
 plain-before encoding file (Some made) own before holds = holds made (before made refl) refl
 
-names-before : (file : Elf) (begun : Option InProgress) → length (names_in begun) ≡ length
-    (package_or_new file begun).rows
-names-before file None = refl
-names-before file (Some made) = length-map made.rows _
-
 -- ---- an input that is taken
 
 pub taken-plain : NamesTheSameLaw → UnitsAreTaken → ReadAlone → (bytes : List ℕ) (old new : State)
@@ -104,7 +99,8 @@ taken-plain names reads alone bytes old new sound holds h = record {
       let more : length before.rows < length u.made.rows = omega (
         arith,
         a.more,
-        names-before t.file old.begun,
+        elim old.begun as (λ b. length (names_in b) ≡ length (package_or_new t.file b).rows)
+            [ None ↦ refl | Some held ↦ length-map held.rows _ ],
         ap (λ b. length (names_in b)) (sym u.is),
         length-map u.made.rows (λ (row : IndexEntry). row.id),
       ) in

@@ -12,7 +12,6 @@ use Rattle.dwp_dwarf.specs.Units.{UnitsAreTaken}
 use Rattle.dwp_dwarf.specs.declared.unit.UnitSection.TheVariants as places
 use Rattle.dwp_elf.specs.Contents.{content_of}
 use Rattle.dwp_elf.specs.FileText.{Object as File}
-use Rattle.dwp_elf_read.specs.Elf.{Elf}
 use Rattle.dwp_index.specs.Package.{place_of}
 use Rattle.dwp_table.specs.declared.object.DwarfObject.{DwarfObject}
 use Rattle.thorin_index.specs.declared.entry.IndexEntry.{IndexEntry}
@@ -49,11 +48,6 @@ abbrev Filled : Encoding → Option InProgress → Type 0
 Filled e begun = AllOf e (units_begun begun)
     × ((made : InProgress) → begun ≡ Some made → HasInfo made)
 
-new-info : (file : Elf) (begun : Option InProgress) → ((made : InProgress) → begun ≡ Some made
-    → HasInfo made) → HasInfo (package_or_new file begun)
-new-info file None h = λ some. absurd (omega (arith, some))
-new-info file (Some made) h = h made refl
-
 input-filled : UnitsAreTaken → ReadAlone → (e : Encoding) (bytes : List ℕ)
     (begun now : Option InProgress) → IsOfEncoding e bytes
     → Joins bytes (units_begun begun) (units_begun now) → with_input bytes begun ≡ Ok now
@@ -61,7 +55,11 @@ input-filled : UnitsAreTaken → ReadAlone → (e : Encoding) (bytes : List ℕ)
 unfolding input_encoding
 input-filled reads alone e bytes begun now one j h before =
     let t = takes bytes begun now h in
-    let info = new-info t.file begun before.1 in (
+    let info = (elim begun as (λ b. ((made : InProgress) → b ≡ Some made → HasInfo made)
+    → HasInfo (package_or_new t.file b)) [
+      | None ↦ λ has some. absurd (omega (arith, some))
+      | Some made ↦ λ has. has made refl
+    ]) before.1 in (
       units-hold (λ unit. unit.encoding ≡ e) bytes begun now j t
           (λ u all read. each-all _ (λ r unit made. made.0
           ∙ one.1 u.source.encoding (rw (t.opens, u.object_is) u.encoding_is)) all)
