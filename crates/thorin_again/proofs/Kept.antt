@@ -1,9 +1,7 @@
 -- What plain objects of one encoding keep of a package.
-pub mod Encodings
 pub mod EachUnit
 pub mod OneEncoding
 pub mod LongerTables
 pub mod SharedParts
 pub mod Names
-pub mod InfoThere
 pub mod PlainPackage

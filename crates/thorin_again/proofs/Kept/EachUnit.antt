@@ -1,32 +1,37 @@
 -- What holds of each unit: of those that are read of an input, that are joined, and that are added
 -- to a package in turn.
 use Rattle.std.proofs.Common.{◌≡◌, ℕ, zero, suc, Bool, true, List, [], ◌∷◌, ◌++◌, refl, ap, subst}
-use Rattle.std.proofs.Common.{Ok, Option, Some, None, sym, ◌∙◌}
+use Rattle.std.proofs.Common.{Ok, Option, Some, None, sym, ◌∙◌, eqb}
 use Rattle.std.specs.Prelude.{slice_get}
 use Rattle.std.specs.List.{list_any, list_all}
-use Rattle.std.proofs.lemmas.Option.{none-some, same_Some}
+use Rattle.std.proofs.lemmas.Option.{none-some, same_Some, cond_some}
 use Rattle.dwp_base.proofs.Bools.{both, by-bool}
 use Rattle.dwp_base.proofs.Steps.{bind-was, same-ok}
 use Rattle.dwp_base.specs.declared.endian.Endianness.{Endianness}
 use Rattle.dwp_bytes.specs.Input.{section}
-use Rattle.dwp_dwarf.specs.Units.{Unit as Header, units}
+use Rattle.dwp_dwarf.specs.Units.{Unit as Header, UnitsAreTaken, units}
+use Rattle.dwp_base.specs.declared.section.SectionKind.{SectionKind}
 use Rattle.dwp_dwarf.specs.declared.unit.UnitSection.{UnitSection}
 use Rattle.dwp_table.specs.declared.object.DwarfObject.{DwarfObject}
 use Rattle.thorin_errors.specs.Answers.{as_error}
 use Rattle.thorin_errors.specs.Errors.{ErrorValue, ParseUnitHeader}
-use Rattle.thorin_input.specs.Encodings.{has_encoding, section_has, all_have}
+use Rattle.thorin_input.specs.Encodings.{has_encoding, section_has, common}
 use Rattle.thorin_input.specs.Indexes.{Source}
 use Rattle.thorin_input.specs.Names.{same_name}
 use Rattle.thorin_input.specs.NewUnits.{Adding, NewUnit, name_for, unit_section}
 use Rattle.thorin_input.specs.Used.{Used}
 use Rattle.thorin_join.specs.Meaning.{UnitRead, named_unit, named_each, named_at, named_sections}
-use Rattle.thorin_join.specs.Meaning.{source_units, joining}
-use Rattle.thorin_join.specs.State.{InProgress, names_of, with_unit_added, with_new_unit}
+use Rattle.thorin_join.specs.Meaning.{joining}
+use Rattle.thorin_join.specs.State.{kind_at, InProgress, names_of, with_unit_added, with_new_unit}
 use Rattle.thorin_join.specs.State.{with_new_units}
-use Rattle.thorin_join.proofs.Units.HeadersRead.{Listed, Reads}
+use Rattle.thorin_join.proofs.Units.HeadersRead.{Listed, Reads, ReadAlone, kind-place}
 use Rattle.thorin_join.proofs.Units.JoinedByName.{IsAdded, AreAdded}
-use Rattle.thorin_join.proofs.Units.Whole.{Goes, AllGo, error-ok}
-use Rattle.thorin_again.proofs.Kept.Encodings.{encoding-eq}
+use Rattle.thorin_join.proofs.Units.Whole.{Goes, AllGo, IsKnown, known-in, error-ok}
+use Rattle.std.proofs.lemmas.Bool.{eqb-true, eq-eqb}
+use Rattle.dwp_bytes.specs.declared.encoding.Encoding.{Encoding}
+use Rattle.dwp_bytes.specs.declared.encoding.Format.{Format}
+use Rattle.dwp_bytes.specs.declared.encoding.Format.TheVariants.{Dwarf32, Dwarf64}
+use Rattle.thorin_index.specs.EntryTests.{same_encoding, same_format}
 
 -- ---- lists
 
@@ -48,18 +53,12 @@ each-append : {X : Type 0} (P : X → Type 0) (xs ys : List X) → Each P xs →
 each-append P [] ys h k = k
 each-append P (x ∷ xs) ys h k = (h.0, each-append P xs ys h.1 k)
 
-each-at : {X : Type 0} (P : X → Type 0) (xs : List X) (k : ℕ) (x : X) → Each P xs
-    → slice_get xs k ≡ Some x → P x
-each-at P [] k x h e = absurd (none-some x e)
-each-at P (y ∷ ys) zero x h e = subst P (same_Some y x e) h.0
-each-at P (y ∷ ys) (suc k) x h e = each-at P ys k x h.1 e
-
 -- what passes a test
-pub each-passed : {X : Type 0} (test : X → Bool) (xs : List X) → list_all test xs ≡ true
-    → Each (λ x. test x ≡ true) xs
-each-passed test [] h = tt
-each-passed test (x ∷ xs) h =
-    let two = both (test x) (list_all test xs) h in (two.0, each-passed test xs two.1)
+passed-at : {X : Type 0} (test : X → Bool) (xs : List X) (k : ℕ) (x : X) → list_all test xs ≡ true
+    → slice_get xs k ≡ Some x → test x ≡ true
+passed-at test [] k x h e = absurd (none-some x e)
+passed-at test (y ∷ ys) zero x h e = rw (← same_Some y x e) (both (test y) _ h).0
+passed-at test (y ∷ ys) (suc k) x h e = passed-at test ys k x (both (test y) _ h).1 e
 
 pub each-joining : {X : Type 0} (P : DwarfObject × X → Type 0) (names : List DwarfObject)
     (us : List (DwarfObject × X)) → Each P us → Each P (joining names us)
@@ -71,84 +70,107 @@ each-joining P names (u ∷ us) h =
 
 -- ---- units that are read
 
--- a unit was read, under its name, of a section of which it holds
-pub record WasRead (source : Source) (S : Used → Type 0) (r : DwarfObject × UnitRead) : Type 0 where
-  pub used : Used
-  pub so : S used
-  pub from : used.kind ≡ r.1.from
+-- a unit was read, under its name, of a section of this place, and this is so of it
+pub record WasRead (source : Source) (T : UnitSection → Header → Type 0)
+    (r : DwarfObject × UnitRead) : Type 0 where
   pub place : UnitSection
-  pub at : unit_section used.kind ≡ Some place
-  pub number : ℕ
-  pub there : slice_get (units place (section source.object.order used.bytes)) number
-      ≡ Some (Ok r.1.unit)
-  pub named : name_for source used.kind r.1.unit ≡ Ok r.0
+  pub from : r.1.from ≡ kind_at place
+  pub so : T place r.1.unit
+  pub named : name_for source r.1.from r.1.unit ≡ Ok r.0
 
-module _ (source : Source) (S : Used → Type 0) where
+module _ (source : Source) (T : UnitSection → Header → Type 0) where
+  -- it is so of each unit that is read of a section
+  abbrev pub AllSo : Used → Type 0
+  AllSo used = (place : UnitSection) → unit_section used.kind ≡ Some place → (k : ℕ)
+      (unit : Header) → slice_get (units place (section source.object.order used.bytes)) k
+      ≡ Some (Ok unit) → T place unit
+
   abbrev Are : Reads → Type 0
-  Are us = Each (WasRead source S) us
+  Are us = Each (WasRead source T) us
 
-  reads-are : (used : Used) → S used → (place : UnitSection) → unit_section used.kind ≡ Some place
-      → (reads : Listed) → ((k : ℕ) (unit : Header) → slice_get reads k ≡ Some (Ok unit)
-      → (n : ℕ) × (slice_get (units place (section source.object.order used.bytes)) n
-      ≡ Some (Ok unit)))
-      → (us : Reads) → named_each source used.kind reads ≡ Ok us → Are us
+  reads-are : (kind : SectionKind) (place : UnitSection) → kind ≡ kind_at place → (reads : Listed)
+      → ((k : ℕ) (unit : Header) → slice_get reads k ≡ Some (Ok unit) → T place unit)
+      → (us : Reads) → named_each source kind reads ≡ Ok us → Are us
   unfolding named_each named_unit
-  reads-are used so place at [] among us h = subst Are (same-ok {E = ErrorValue} [] us h) tt
-  reads-are used so place at (read ∷ rest) among us h =
-      let a = bind-was (named_unit source used.kind read) _ us h in
-      let b = bind-was (named_each source used.kind rest) _ us a.2 in
+  reads-are kind place from [] so us h = subst Are (same-ok {E = ErrorValue} [] us h) tt
+  reads-are kind place from (read ∷ rest) so us h =
+      let a = bind-was (named_unit source kind read) _ us h in
+      let b = bind-was (named_each source kind rest) _ us a.2 in
       let c = bind-was (as_error ParseUnitHeader read) _ a.0 a.1 in
-      let d = bind-was (name_for source used.kind c.0) _ a.0 c.2 in
-      let n = among 0 c.0 (ap Some (error-ok ParseUnitHeader read c.0 c.1)) in
+      let d = bind-was (name_for source kind c.0) _ a.0 c.2 in
+      let unit = so 0 c.0 (ap Some (error-ok ParseUnitHeader read c.0 c.1)) in
       subst Are (same-ok {E = ErrorValue} (a.0 ∷ b.0) us b.2) (
-        subst (WasRead source S) (same-ok {E = ErrorValue} _ a.0 d.2) (record {
-          used = used;
-          so = so;
-          from = refl;
-          place = place;
-          at = at;
-          number = n.0;
-          there = n.1;
-          named = d.1;
-        }),
-        reads-are used so place at rest (λ k unit e. among (suc k) unit e) b.0 b.1,
+        subst (WasRead source T) (same-ok {E = ErrorValue} _ a.0 d.2)
+            (record { place = place; from = from; so = unit; named = d.1 }),
+        reads-are kind place from rest (λ k. so (suc k)) b.0 b.1,
       )
 
-  section-are : (used : Used) → S used → (place : Option UnitSection)
+  section-are : (used : Used) → AllSo used → (place : Option UnitSection)
       → unit_section used.kind ≡ place → (us : Reads) → named_at source used place ≡ Ok us → Are us
-  section-are used so None at us h = subst Are (same-ok {E = ErrorValue} [] us h) tt
-  section-are used so (Some place) at us h =
-      reads-are used so place at (units place (section source.object.order used.bytes))
-      (λ k unit e. (k, e)) us h
+  section-are used so None here us h = subst Are (same-ok {E = ErrorValue} [] us h) tt
+  section-are used so (Some place) here us h =
+      reads-are used.kind place (kind-place used.kind place here) _ (so place here) us h
 
-  sections-are : (sections : List Used) (us : Reads) → Each S sections
+  pub sections-are : (sections : List Used) (us : Reads) → Each AllSo sections
       → named_sections source sections ≡ Ok us → Are us
   unfolding named_sections
   sections-are [] us so h = subst Are (same-ok {E = ErrorValue} [] us h) tt
   sections-are (used ∷ rest) us so h =
       let a = bind-was (named_at source used (unit_section used.kind)) _ us h in
       let b = bind-was (named_sections source rest) _ us a.2 in
-      subst Are (same-ok {E = ErrorValue} (a.0 ++ b.0) us b.2) (each-append (WasRead source S) a.0
+      subst Are (same-ok {E = ErrorValue} (a.0 ++ b.0) us b.2) (each-append (WasRead source T) a.0
       b.0 (section-are used so.0 (unit_section used.kind) refl a.0 a.1)
       (sections-are rest b.0 so.1 b.1))
 
-  pub units-are : (all : Reads) → Each S source.object.sections → source_units source ≡ Ok all
-      → Are all
-  units-are all so h = sections-are source.object.sections all so h
+-- ---- encodings that are alike are one
 
--- all units of a section have an encoding
-abbrev pub Has : Source → Used → Type 0
-Has source used = section_has source.encoding source.object.order used ≡ true
+format-eq : (a b : Format) → same_format a b ≡ true → a ≡ b
+format-eq Dwarf32 Dwarf32 h = refl
+format-eq Dwarf64 Dwarf64 h = refl
+format-eq a b h = absurd cc
 
-pub read-encoding : (source : Source) (r : DwarfObject × UnitRead) → WasRead source (Has source) r
-    → r.1.unit.encoding ≡ source.encoding
-read-encoding source r w =
-    let reads = units w.place (section source.object.order w.used.bytes) in
-    let all : list_all (has_encoding source.encoding) reads ≡ true =
-    ap (all_have source.encoding source.object.order w.used.bytes) (sym w.at) ∙ w.so in
-    encoding-eq r.1.unit.encoding source.encoding (each-at (λ read.
-    has_encoding source.encoding read ≡ true) reads w.number (Ok r.1.unit)
-    (each-passed (has_encoding source.encoding) reads all) w.there)
+encoding-eq : (a b : Encoding) → same_encoding a b ≡ true → a ≡ b
+encoding-eq a b h =
+    let x = both (eqb a.version b.version) _ h in
+    let y = both (same_format a.format b.format) _ x.1 in
+    λ i. record {
+      version = eqb-true a.version b.version x.0 i;
+      format = format-eq a.format b.format y.0 i;
+      address_size = eqb-true a.address_size b.address_size y.1 i;
+    }
+
+-- the one encoding of two groups is that of either
+pub common-are : (a b : Option Encoding) (own : Encoding) → common a b ≡ Some own → (a ≡ Some own)
+    × (b ≡ Some own)
+common-are (Some a) (Some b) own h =
+    let is = cond_some (same_encoding a b) a own h in
+    (ap Some is.1, ap Some (sym (encoding-eq a b is.0) ∙ is.1))
+common-are a b own h = absurd cc
+
+pub common-self : (e : Encoding) → common (Some e) (Some e) ≡ Some e
+common-self e =
+    let format : same_format e.format e.format ≡ true =
+    elim e.format as (λ f. same_format f f ≡ true) [ Dwarf32 ↦ refl | Dwarf64 ↦ refl ] in
+    rw (eq-eqb e.version e.version refl, format, eq-eqb e.address_size e.address_size refl) refl
+
+-- what is known of a unit of an input of one encoding
+abbrev pub OfOne : Source → UnitSection → Header → Type 0
+OfOne source place unit =
+    IsKnown source.object.order place unit × (unit.encoding ≡ source.encoding)
+
+pub of-one : UnitsAreTaken → ReadAlone → (source : Source) (sections : List Used)
+    → list_all (section_has source.encoding source.object.order) sections ≡ true
+    → Each (AllSo source (OfOne source)) sections
+of-one taken alone source [] has = tt
+of-one taken alone source (used ∷ rest) has =
+    let two = both (section_has source.encoding source.object.order used) _ has in (
+      λ place here k unit there. (
+        known-in taken alone source.object.order place used.bytes k unit there,
+        encoding-eq unit.encoding source.encoding
+            (passed-at (has_encoding source.encoding) _ k (Ok unit) (rw here at two.0) there),
+      ),
+      of-one taken alone source rest two.1,
+    )
 
 -- they are whole ones where they go to
 pub go-both : (order : Endianness) (Q : DwarfObject × UnitRead → Type 0) (rs : Reads)

@@ -1,7 +1,7 @@
 -- What is read of a table of abbreviations stays where more bytes follow.
-use Rattle.std.proofs.Common.{◌≡◌, ◌∙◌, ℕ, zero, suc, ◌+◌, ◌-◌, ◌^◌, ◌≤◌, false, eqb, ltb, List, []}
-use Rattle.std.proofs.Common.{◌∷◌, ◌++◌, length, Result, Ok, Err, Option, Some, None, refl, ap}
-use Rattle.std.proofs.Common.{subst, arith, length-append}
+use Rattle.std.proofs.Common.{◌≡◌, ◌∙◌, ℕ, zero, suc, ◌^◌, ◌≤◌, eqb, ltb, List, [], ◌∷◌, ◌++◌}
+use Rattle.std.proofs.Common.{length, Result, Ok, Err, Option, Some, None, refl, ap, subst, arith}
+use Rattle.std.proofs.Common.{length-append}
 use Rattle.std.specs.Option.{ok_or}
 use Rattle.std.proofs.lemmas.Bool.{le-ltb, ltb-false, eqb-false, ne_eqb}
 use Rattle.std.proofs.lemmas.List.{drop-append-le}
@@ -23,18 +23,14 @@ use Rattle.dwp_table.specs.declared.object.DwarfObject.{DwarfObject}
 use Rattle.thorin_errors.specs.Errors.{NoDie, ParseUnitAbbreviations, GimliRead}
 use Rattle.thorin_errors.specs.Answers.{as_error}
 use Rattle.thorin_identity.specs.Identity.{root_identity, identity_by, identity}
-use Rattle.thorin_join.proofs.Steps.{err-ok}
 use Rattle.thorin_strings.proofs.NamedEntries.{as_error_ok}
 use Rattle.dwp_base.proofs.Bools.{by-bool}
 use Rattle.dwp_base.proofs.Steps.{bind-was, bind-ok, same-ok}
+use Rattle.dwp_dwarf.proofs.Readings.{more}
 use Rattle.dwp_index.proofs.TwoPlaces.{choice}
 
--- the input with more bytes behind
-abbrev pub more : Input → List ℕ → Input
-more i rest = record i { bytes = i.bytes ++ rest }
-
 pub ok-some : {A E : Type 0} (e : E) (r : Option A) (x : A) → ok_or r e ≡ Ok x → r ≡ Some x
-ok-some e None x h = absurd (err-ok e x h)
+ok-some e None x h = absurd cc
 ok-some e (Some y) x h = ap Some (same-ok y x h)
 
 module _ (rest : List ℕ) where
@@ -42,11 +38,6 @@ module _ (rest : List ℕ) where
   abbrev Stays : {A : Type 0} → (short long : Result (A × Input) ReadError) → Type 0
   Stays (Ok x) long = long ≡ Ok (x.0, more x.1 rest)
   Stays (Err e) long = Unit {0}
-
-  -- so it is with what comes behind
-  abbrev StaysBehind : (short long : Result Input ReadError) → Type 0
-  StaysBehind (Ok i) long = long ≡ Ok (more i rest)
-  StaysBehind (Err e) long = Unit {0}
 
   -- one step, and then another
   then-by : {A C : Type 0} (T : (short long : Result C ReadError) → Type 0)
@@ -64,17 +55,16 @@ module _ (rest : List ℕ) where
 
   -- ---- bytes and numbers
 
-  byte-of : (i : Input) (bytes : List ℕ)
-      → Stays (byte_at (record i { bytes = bytes })) (byte_at (record i { bytes = bytes ++ rest }))
-  unfolding byte_at
-  byte-of i [] = tt
-  byte-of i (b ∷ bs) =
-      let short = le-ltb (suc (length bs)) 1 (omega arith) in
-      let long = le-ltb (suc (length (bs ++ rest))) 1 (omega arith) in
-      rw (short, long) refl
-
   stays-byte : (i : Input) → Stays (byte_at i) (byte_at (more i rest))
-  stays-byte i = byte-of i i.bytes
+  unfolding byte_at
+  stays-byte i = elim i.bytes as (λ l. Stays (byte_at (record i { bytes = l }))
+      (byte_at (record i { bytes = l ++ rest }))) [
+        | [] ↦ tt
+        | b ∷ bs ↦ rw (
+          le-ltb (suc (length bs)) 1 (omega arith),
+          le-ltb (suc (length (bs ++ rest))) 1 (omega arith),
+        ) refl
+      ]
 
   stays-leb : (n : ℕ) (i : Input) → Stays (leb_at n i) (leb_at n (more i rest))
   unfolding leb_at
@@ -99,16 +89,14 @@ module _ (rest : List ℕ) where
 
   -- ---- declarations
 
-  stays-constant : (form : ℕ) (i : Input)
-      → Stays (constant_at form i) (constant_at form (more i rest))
-  unfolding constant_at
-  stays-constant form i =
-      choice Stays (eqb form 0x21) _ _ _ _ (then _ _ _ _ (stays-sleb i) (λ x j. refl)) refl
-
   stays-specification : (i : Input) → Stays (specification_at i) (specification_at (more i rest))
-  unfolding specification_at
+  unfolding specification_at constant_at
   stays-specification i = then _ _ _ _ (stays-uleb i) (λ name j. then _ _ _ _ (stays-uleb j)
-      (λ form k. then _ _ _ _ (stays-constant form k) (λ c l. refl)))
+      (λ form k. then _ _ _ _ (choice Stays (eqb form 0x21) _ _ _ _ (then _ _ _ _ (stays-sleb k)
+      (λ x l. refl)) refl) (λ c l. refl)))
+
+  longer : (i : Input) → length i.bytes ≤ length (i.bytes ++ rest)
+  longer i = omega (arith, length-append i.bytes rest)
 
   -- a list of pairs, also where more of them may be read
   stays-within : (n m : ℕ) (i : Input) → n ≤ m
@@ -120,24 +108,13 @@ module _ (rest : List ℕ) where
       choice Stays (is_last first) _ _ _ _ refl
       (then _ _ _ _ (stays-within n m j (omega (arith, le))) (λ others k. refl)))
 
-  stays-specifications : (i : Input) → Stays (specifications_at i) (specifications_at (more i rest))
-  unfolding specifications_at
-  stays-specifications i = stays-within (length i.bytes) (length (i.bytes ++ rest)) i
-      (omega (arith, length-append i.bytes rest))
-
-  stays-tag : (i : Input) → Stays (tag_at i) (tag_at (more i rest))
-  unfolding tag_at
-  stays-tag i = then _ _ _ _ (stays-uleb i) (λ tag j. choice Stays (eqb tag 0) _ _ _ _ tt refl)
-
-  stays-children : (i : Input) → Stays (children_at i) (children_at (more i rest))
-  unfolding children_at
-  stays-children i = then _ _ _ _ (stays-byte i) (λ byte j. choice Stays (eqb byte 0) _ _ _ _ refl
-      (choice Stays (eqb byte 1) _ _ _ _ refl tt))
-
   stays-declaration : (i : Input) → Stays (declaration_at i) (declaration_at (more i rest))
-  unfolding declaration_at
-  stays-declaration i = then _ _ _ _ (stays-tag i) (λ tag j. then _ _ _ _ (stays-children j)
-      (λ children k. then _ _ _ _ (stays-specifications k) (λ list l. refl)))
+  unfolding declaration_at tag_at children_at specifications_at
+  stays-declaration i =
+      then _ _ _ _ (then _ _ _ _ (stays-uleb i) (λ tag j. choice Stays (eqb tag 0) _ _ _ _ tt refl))
+      (λ tag j. then _ _ _ _ (then _ _ _ _ (stays-byte j) (λ byte k.
+      choice Stays (eqb byte 0) _ _ _ _ refl (choice Stays (eqb byte 1) _ _ _ _ refl tt)))
+      (λ children k. then _ _ _ _ (stays-within _ _ k (longer k)) (λ list l. refl)))
 
   -- a declaration that was found is found there too
   abbrev Found : (short long : Result (Option Declaration) ReadError) → Type 0
@@ -154,57 +131,30 @@ module _ (rest : List ℕ) where
   found-within wanted (suc n) (suc m) i le =
       by-bool _ (eqb (length i.bytes) 0)
       (λ none. rw none tt)
-      (λ some.
-      let there : eqb (length (i.bytes ++ rest)) 0 ≡ false = ne_eqb (length (i.bytes ++ rest)) 0
-      (λ none. eqb-false (length i.bytes) 0 some (omega (arith, none, length-append i.bytes rest)))
-      in
-      rw (some, there) (then-by Found _ _ _ _ (λ e z. tt) (stays-uleb i) (λ code j.
+      (λ some. rw (some, ne_eqb (length (i.bytes ++ rest)) 0 (λ none.
+      eqb-false (length i.bytes) 0 some (omega (arith, none, longer i))))
+      (then-by Found _ _ _ _ (λ e z. tt) (stays-uleb i) (λ code j.
       choice Found (eqb code 0) _ _ _ _ tt (then-by Found _ _ _ _ (λ e z. tt)
       (stays-declaration j) (λ first k. choice Found (eqb code wanted) _ _ _ _ refl
       (found-within wanted n m k (omega (arith, le))))))))
 
-  declaration-stays : (wanted : ℕ) (i : Input) (d : Declaration)
-      → declaration wanted i ≡ Ok (Some d)
-      → declaration wanted (more i rest) ≡ Ok (Some d)
-  unfolding declaration
-  declaration-stays wanted i d h =
-      subst (λ r. Found r (declaration wanted (more i rest))) h (found-within wanted
-      (length i.bytes) (length (i.bytes ++ rest)) i (omega (arith, length-append i.bytes rest)))
-
   -- ---- the identity of a unit
 
-  still-fits : (n : ℕ) (i : Input) → ltb (length i.bytes) n ≡ false
-      → ltb (length (i.bytes ++ rest)) n ≡ false
-  still-fits n i fits = le-ltb (length (i.bytes ++ rest)) n (omega (
-    arith,
-    ltb-false (length i.bytes) n fits,
-    length-append i.bytes rest,
-  ))
-
-  stays-skip : (n : ℕ) (i : Input) → Stays (skip_at n i) (skip_at n (more i rest))
-  unfolding skip_at
-  stays-skip n i =
-      by-bool _ (ltb (length i.bytes) n)
-      (λ short. rw short tt)
-      (λ fits. rw (
-        fits,
-        still-fits n i fits,
-        drop-append-le n i.bytes rest
-            (ltb-false (length i.bytes) n fits),
-      ) refl)
-
-  stays-from : (offset : ℕ) (i : Input)
-      → StaysBehind (from_at offset i) (from_at offset (more i rest))
-  unfolding from_at
-  stays-from offset i =
+  from-stays : (offset : ℕ) (i table : Input) → from_at offset i ≡ Ok table
+      → from_at offset (more i rest) ≡ Ok (more table rest)
+  unfolding from_at skip_at
+  from-stays offset i table h =
       by-bool _ (ltb (length i.bytes) offset)
-      (λ short. rw short tt)
-      (λ fits. rw (fits, still-fits offset i fits)
-      (then-by StaysBehind _ _ _ _ (λ e z. tt) (stays-skip offset i) (λ u j. refl)))
+      (λ short. let wrong = rw short at h in absurd cc)
+      (λ fits. let enough = ltb-false (length i.bytes) offset fits in
+      rw (
+        le-ltb (length (i.bytes ++ rest)) offset (omega (arith, enough, longer i)),
+        drop-append-le offset i.bytes rest enough,
+      ) (ap (λ (t : Input). Ok (more t rest)) (same-ok _ table (rw fits at h))))
 
   root-stays : (section : Input) (unit : Header) (name : Option DwarfObject)
       → root_identity section unit ≡ Ok name → root_identity (more section rest) unit ≡ Ok name
-  unfolding root_identity
+  unfolding root_identity declaration
   root-stays section unit name h =
       let a = bind-was (as_error ParseUnitAbbreviations (from_at unit.abbrev_offset section)) _ name
       h in
@@ -212,12 +162,12 @@ module _ (rest : List ℕ) where
       let c = bind-was (ok_or b.0 NoDie) _ name b.2 in
       let d = bind-was (as_error ParseUnitAbbreviations (declaration c.0.0 a.0)) _ name c.2 in
       let e = bind-was (ok_or d.0 (GimliRead UnknownCode)) _ name d.2 in
-      let table : from_at unit.abbrev_offset (more section rest) ≡ Ok (more a.0 rest) =
-      subst (λ r. StaysBehind r (from_at unit.abbrev_offset (more section rest)))
-      (as_error_ok ParseUnitAbbreviations (from_at unit.abbrev_offset section) a.0 a.1)
-      (stays-from unit.abbrev_offset section) in
-      let found = declaration-stays c.0.0 a.0 e.0 (as_error_ok ParseUnitAbbreviations
-      (declaration c.0.0 a.0) d.0 d.1 ∙ ap Ok (ok-some (GimliRead UnknownCode) d.0 e.0 e.1)) in
+      let found = subst (λ r. Found r (declaration c.0.0 (more a.0 rest)))
+      (as_error_ok ParseUnitAbbreviations (declaration c.0.0 a.0) d.0 d.1
+      ∙ ap Ok (ok-some (GimliRead UnknownCode) d.0 e.0 e.1))
+      (found-within c.0.0 (length a.0.bytes) (length (a.0.bytes ++ rest)) a.0 (longer a.0)) in
+      let table = from-stays unit.abbrev_offset section a.0
+      (as_error_ok ParseUnitAbbreviations (from_at unit.abbrev_offset section) a.0 a.1) in
       bind-ok _ (more a.0 rest) _ (ap (as_error ParseUnitAbbreviations) table)
       ∙ bind-ok _ b.0 _ b.1
       ∙ bind-ok _ c.0 _ c.1
@@ -227,12 +177,8 @@ module _ (rest : List ℕ) where
   by-type : (section : Input) (unit : Header) (name : Option DwarfObject) (type : UnitType)
       → identity_by section unit type ≡ Ok name → identity_by (more section rest)
       unit type ≡ Ok name
-  by-type section unit name (unit_types.Skeleton id) h = h
-  by-type section unit name (unit_types.SplitCompilation id) h = h
-  by-type section unit name (unit_types.TypeUnit signature offset) h = h
-  by-type section unit name (unit_types.SplitType signature offset) h = h
   by-type section unit name unit_types.Compilation h = root-stays section unit name h
-  by-type section unit name unit_types.Partial h = h
+  by-type section unit name type h = h
 
 -- the identity that a unit has by a table of abbreviations it has too where bytes follow the table
 pub identity-stays : (section : Input) (rest : List ℕ) (unit : Header) (name : Option DwarfObject)

@@ -1,14 +1,19 @@
 -- Each unit of a plain object of one encoding names itself by the object's first abbreviations, and
--- so by those of its row each unit of a package that such objects are added to.
-use Rattle.std.proofs.Common.{◌≡◌, ◌∙◌, ℕ, false, List, refl, sym, ap, Ok, Some, ◌+◌, ◌<◌, ◌≤◌}
-use Rattle.std.proofs.Common.{true, [], ◌∷◌, ◌++◌, length, subst, arith, length-append, eqb}
+-- so by those of its row each unit of a package that such objects are added to. And info of such a
+-- package has bytes, where it has units: the first unit of an object stands in info, with the
+-- object's encoding, and its name's unit goes there.
+use Rattle.std.proofs.Common.{◌≡◌, ◌∙◌, ℕ, false, List, refl, sym, ap, Ok, Some, true, [], ◌∷◌}
+use Rattle.std.proofs.Common.{◌++◌, length, subst, eqb, ◌-◌, leb, ◌&&◌, ◌⊎◌, inl, inr, Err, None}
+use Rattle.std.proofs.Common.{◌<◌, map, arith, true≢false, length-append}
 use Rattle.dwp_base.specs.declared.endian.Endianness.{Endianness}
 use Rattle.dwp_base.specs.declared.section.SectionKind.{SectionKind}
 use Rattle.dwp_base.specs.declared.section.SectionKind.TheVariants as kinds
-use Rattle.dwp_bytes.specs.Input.{Input, section}
+use Rattle.dwp_bytes.specs.Input.{Input, section, number_at, split_at, offset_at}
 use Rattle.dwp_bytes.specs.declared.encoding.Encoding.{Encoding}
 use Rattle.dwp_bytes.specs.declared.error.ReadError.{ReadError}
-use Rattle.dwp_dwarf.specs.Units.{Unit as Header, UnitsAreTaken, unit_at}
+use Rattle.dwp_dwarf.specs.Units.{Unit as Header, UnitsAreTaken, unit_at, older_type_at, older_at}
+use Rattle.dwp_dwarf.specs.Units.{header_at, initial_length_at, address_size_at, units_within}
+use Rattle.dwp_dwarf.specs.Units.{units}
 use Rattle.dwp_dwarf.specs.declared.unit.UnitSection.{UnitSection}
 use Rattle.dwp_dwarf.specs.declared.unit.UnitSection.TheVariants as places
 use Rattle.dwp_table.specs.declared.object.DwarfObject.{DwarfObject}
@@ -16,291 +21,195 @@ use Rattle.dwp_table.specs.declared.object.DwarfObject.TheVariants.{Compilation,
 use Rattle.thorin_identity.specs.Identity.{identity}
 use Rattle.thorin_input.specs.Indexes.{Source, is_package}
 use Rattle.thorin_join.specs.Laid.{type_signature, name_signature}
-use Rattle.thorin_join.specs.Meaning.{UnitRead, joined_content}
-use Rattle.thorin_input.specs.NewUnits.{name_for, place_for, NewUnit}
-use Rattle.thorin_input.specs.Rows.{abbreviations_for, whole_row}
+use Rattle.thorin_join.specs.Meaning.{UnitRead, joined_content, keys, named_unit, named_each}
+use Rattle.thorin_join.specs.Meaning.{named_at, named_sections, joining}
+use Rattle.thorin_input.specs.NewUnits.{name_for, place_for, NewUnit, unit_section}
+use Rattle.thorin_input.specs.Rows.{abbreviations_for}
 use Rattle.thorin_join.specs.State.{kind_at, InProgress, row_at, unit_bytes, adding, with_new_units}
-use Rattle.thorin_join.specs.State.{with_source}
+use Rattle.thorin_join.specs.State.{with_source, with_unit_added, names_of}
 use Rattle.thorin_input.specs.Used.{first, Used}
-use Rattle.thorin_join.proofs.Units.HeadersRead.{ReadAlone, name-identity, kind-place}
+use Rattle.thorin_join.proofs.Units.HeadersRead.{ReadAlone, kind-place, Listed, Reads}
+use Rattle.thorin_join.proofs.Units.HeadersRead.{name-identity}
 use Rattle.thorin_join.proofs.Units.Sorts.{identity-sort}
-use Rattle.thorin_again.proofs.Kept.EachUnit.{WasRead, Has, read-encoding, Each, each-passed}
-use Rattle.thorin_again.proofs.Kept.EachUnit.{each-weaker, in-turn}
+use Rattle.thorin_again.proofs.Kept.EachUnit.{Each, News, in-turn, WasRead, AllSo, OfOne}
+use Rattle.thorin_again.proofs.Kept.EachUnit.{sections-are, of-one, each-added}
 use Rattle.thorin_join.proofs.Moved.RootEntries.{identity-shifted}
 use Rattle.thorin_join.proofs.Units.Whole.{ReadsAlone, IsKnown, known-in, other-alone, five-named}
 use Rattle.thorin_join.proofs.Units.Whole.{Goes}
 use Rattle.thorin_again.proofs.Kept.LongerTables.{ok-some, identity-stays}
-use Rattle.thorin_errors.specs.Errors.{NotSplitUnit}
+use Rattle.thorin_errors.specs.Errors.{NotSplitUnit, ErrorValue}
 use Rattle.dwp_base.proofs.Steps.{bind-was, same-ok}
-use Rattle.std.specs.List.{list_all}
-use Rattle.std.proofs.lemmas.Bool.{eqb-false}
-use Rattle.std.proofs.lemmas.Option.{none-some, same_Some}
-use Rattle.dwp_base.specs.declared.section.Contribution.{Contribution}
+use Rattle.std.specs.List.{list_all, list_any}
+use Rattle.std.proofs.lemmas.Bool.{eqb-true}
+use Rattle.std.proofs.lemmas.List.{append_assoc, append-nil, map-append}
 use Rattle.dwp_base.specs.Sections.{same_kind}
-use Rattle.dwp_base.proofs.Bools.{by-bool}
+use Rattle.dwp_base.proofs.Bools.{by-bool, or-right}
 use Rattle.dwp_elf.specs.Contents.{content_of}
 use Rattle.dwp_index.specs.Package.{part_of, place_of}
 use Rattle.thorin_index.specs.Entries.{contribution_to}
 use Rattle.thorin_index.specs.declared.entry.IndexEntry.{IndexEntry}
-use Rattle.thorin_input.specs.Encodings.{section_has}
-use Rattle.thorin_input.specs.Growing.{Contents, with_bytes, with_parts, joined_parts, range_put}
-use Rattle.thorin_input.specs.Parts.{parts_of}
-use Rattle.thorin_input.specs.Format.{is_shared}
+use Rattle.thorin_input.specs.Encodings.{section_has, first_encoding, encoding_of}
+use Rattle.thorin_input.specs.Growing.{Contents, HasFront, with_bytes, with_parts, joined_parts}
+use Rattle.thorin_input.specs.Parts.{parts_of, Parts, has_part, stands_once, with_part}
+use Rattle.thorin_input.specs.Parts.{with_each_part}
 use Rattle.thorin_again.specs.Plain.{NamesItself, HasNamedUnits}
 use Rattle.thorin_join.specs.Represents.{IsSound, LieInside}
 use Rattle.thorin_join.specs.StandApart.{EachRow}
-use Rattle.thorin_join.proofs.Units.JoinedByName.{IsAdded}
-use Rattle.thorin_join.proofs.Rows.Stay.{Grows, grows-with_bytes, keep-part, keep-lie}
+use Rattle.thorin_join.proofs.Units.JoinedByName.{IsAdded, added-keys}
+use Rattle.thorin_join.proofs.Rows.Stay.{Grows, grows-trans, grows-with_bytes, keep-part}
+use Rattle.thorin_join.proofs.Rows.Stay.{front-long}
+use Rattle.thorin_join.proofs.Rows.Ranges.{whole_behind}
+use Rattle.thorin_again.proofs.Meant.RowByRow.{part-middle}
 use Rattle.thorin_join.proofs.Rows.LieInTurn.{can-lie}
 use Rattle.thorin_again.proofs.Offsets.Tiled.{row-append, weaker}
-use Rattle.thorin_join.proofs.Rows.OfUnits.{is-unit_row, whole-else}
-use Rattle.thorin_join.proofs.Parts.Appended.{content-with_parts, parts-copied}
+use Rattle.thorin_join.proofs.Parts.Appended.{content-with_parts, parts-copied, no-bytes}
+use Rattle.thorin_join.proofs.Parts.Appended.{content-with_bytes}
 use Rattle.thorin_again.proofs.Kept.SharedParts.{shared-row, plain-part, plain-added, order-added}
 use Rattle.thorin_again.proofs.Kept.SharedParts.{parted, news-are}
-use Rattle.thorin_join.proofs.Joined.Source.{grows-with_parts}
+use Rattle.thorin_join.proofs.Joined.Source.{grows-with_parts, keys-held}
 use Rattle.thorin_join.proofs.Rows.StandApart.{sound-inside}
-use Rattle.thorin_join.proofs.Rows.OneAdded.{Fits, content-put, part-put, range_for, row-name}
-use Rattle.thorin_join.proofs.Rows.OneAdded.{row-own, own-place, row-part, lie-by}
-use Rattle.thorin_join.proofs.Rows.Meaning.{unshared}
-
--- ---- the units of a plain object by its first section of abbreviations
-
--- a unit, read of its own bytes alone where it goes to, has the encoding, and by these
--- abbreviations its name
-abbrev NamedAlone : Endianness → Encoding → List ℕ → DwarfObject × UnitRead → Type 0
-NamedAlone order encoding table read = (alone : Header) (rest : Input)
-    → unit_at (place_for read.0 read.1.from) (section order read.1.unit.whole.bytes) ≡
-    Ok (alone, rest)
-    → (alone.encoding ≡ encoding) × (identity (section order table) alone ≡ Ok (Some read.0))
-
-plain-name : (source : Source) (kind : SectionKind) (unit : Header) (name : DwarfObject)
-    → is_package source.indexes ≡ false → name_for source kind unit ≡ Ok name
-    → identity (section source.object.order (first kinds.Abbrev source.object.sections)) unit
-    ≡ Ok (Some name)
-unfolding name_for abbreviations_for
-plain-name source kind unit name plain h =
-    let s = bind-was (identity (section source.object.order (first kinds.Abbrev
-    source.object.sections)) unit) _ name (rw plain at h) in
-    s.1 ∙ ap Ok (ok-some NotSplitUnit s.0 name s.2)
-
--- where it goes to it is read alone
-goes-alone : (order : Endianness) (place : UnitSection) (name : DwarfObject) (unit : Header)
-    → IsKnown order place unit → type_signature unit.unit_type ≡ name_signature name
-    → ReadsAlone order (place_for name (kind_at place)) unit
-goes-alone order places.Info (Compilation id) unit known sort = known.0
-goes-alone order places.Info (TypeUnit signature) unit known sort = known.0
-goes-alone order places.Types (Compilation id) unit known sort = other-alone order places.Types
-    places.Info unit (five-named unit sort (known.1 refl)) known.0
-goes-alone order places.Types (TypeUnit signature) unit known sort = known.0
-
-named-alone : UnitsAreTaken → ReadAlone → (source : Source)
-    → is_package source.indexes ≡ false → (read : DwarfObject × UnitRead)
-    → WasRead source (Has source) read → NamedAlone source.object.order source.encoding
-    (first kinds.Abbrev source.object.sections) read
-named-alone taken alone source plain read w other rest is =
-    let order = source.object.order in
-    let table = section order (first kinds.Abbrev source.object.sections) in
-    let unit = read.1.unit in
-    let known = known-in taken alone order w.place w.used.bytes w.number unit w.there in
-    let id = name-identity source w.used.kind unit read.0 w.named in
-    let a = goes-alone order w.place read.0 unit known (identity-sort id.0 unit read.0 id.1) in
-    let from : read.1.from ≡ kind_at w.place = sym w.from ∙ kind-place w.used.kind w.place w.at in
-    let same : other ≡ a.alone = ap (λ (x : Header × Input). x.0) (same-ok {E = ReadError} _ _
-    (sym is ∙ ap (λ k. unit_at (place_for read.0 k) (section order unit.whole.bytes)) from
-    ∙ a.read)) in (
-      ap (λ (u : Header). u.encoding) same ∙ a.encoding ∙ read-encoding source read w,
-      ap (identity table) same ∙ sym (identity-shifted table a.behind a.alone unit a.shifted)
-          ∙ plain-name source w.used.kind unit read.0 plain w.named,
-    )
+use Rattle.thorin_join.proofs.Rows.OneAdded.{content-put, row-name, row-own, own-place}
+use Rattle.dwp_base.specs.declared.section.SectionKind.TheVariants as kinds
+use Rattle.dwp_base.proofs.EveryKind.{is-same}
+use Rattle.dwp_dwarf.proofs.Readings.{Gives, then_gives, test_gives, value_gives, error_gives, was}
+use Rattle.std.specs.Prelude.{slice_get, Some}
+use Rattle.dwp_dwarf.specs.declared.unit.UnitSection.TheVariants as places
+use Rattle.thorin_input.specs.Names.{same_name}
+use Rattle.thorin_join.proofs.Units.NamesApart.{same_name-self, same_name-true}
+use Rattle.thorin_join.proofs.Steps.{past, unless}
+use Rattle.thorin_join.proofs.Moved.Units.{newer-five}
+use Rattle.std.proofs.Math.Bool.{or-false}
+use Rattle.std.proofs.lemmas.List.Folds.{list_any-append}
+use Rattle.thorin_input.specs.Format.{is_in_format}
+use Rattle.thorin_join.proofs.Rows.AllAdded.{names-added}
 
 -- ---- the abbreviations of a row begin with those of the first section
 
-record Front (kind : SectionKind) (sections : List Used) : Type 0 where
-  rest : List ℕ
-  is : joined_content kind sections ≡ first kind sections ++ rest
-
-first-front : (kind : SectionKind) (sections : List Used) → Front kind sections
+first-front : (kind : SectionKind) (sections : List Used)
+    → HasFront (first kind sections) (joined_content kind sections)
 first-front kind [] = record { rest = []; is = refl }
 first-front kind (s ∷ ss) =
-    let later = first-front kind ss in
     by-bool _ (same_kind s.kind kind)
-    (λ here. record { rest = joined_content kind ss; is = rw here refl })
-    (λ other. record { rest = later.rest; is = rw other later.is })
+    (λ here. rw here (record { rest = joined_content kind ss; is = refl }))
+    (λ other. rw other (first-front kind ss))
 
--- ---- units that are added name themselves
+-- bytes that were put behind others stand in their range, whatever follows them
+put-stays : (front x : List ℕ) {own whole : List ℕ} → own ≡ front ++ x → HasFront own whole
+    → part_of whole (whole_behind front x) ≡ x
+put-stays front x {whole = whole} same h =
+    by-bool _ (eqb (length x) 0)
+    (λ none. rw none (sym (no-bytes x (eqb-true (length x) 0 none))))
+    (λ some. rw some (part-middle front x h.rest whole (length front)
+    (h.is ∙ ap (λ l. l ++ h.rest) same ∙ append_assoc front x h.rest) refl))
 
-module _ (order : Endianness) (encoding : Encoding) where
-  -- what is so of a unit that is added behind contents in which abbreviations are these
-  record CanName (c : Contents) (u : DwarfObject × NewUnit) : Type 0 where
-    fits : Fits u.1.row u.0 u.1.bytes u.1.place
-    lie : LieInside c u.1.row
-    named : (alone : Header) (rest : Input)
-        → unit_at u.1.place (section order u.1.bytes) ≡ Ok (alone, rest)
-        → (alone.encoding ≡ encoding)
-        × (identity (section order (part_of (content_of kinds.Abbrev c) u.1.row.debug_abbrev)) alone
-        ≡ Ok (Some u.0))
+-- ---- rows name their units, however contents grow
 
-  -- a row that lies inside, and whose unit names itself
-  abbrev Stands : Contents → IndexEntry → Type 0
-  Stands c row = LieInside c row × NamesItself order encoding c row
+pub keep-names : (order : Endianness) (encoding : Encoding) (c d : Contents) (row : IndexEntry)
+    → Grows c d → LieInside c row → NamesItself order encoding c row
+    → NamesItself order encoding d row
+keep-names order encoding c d row grows lie names unit rest read =
+    let place = place_of row.id row.debug_types in
+    let own : unit_bytes d row ≡ unit_bytes c row = keep-part c d row grows lie (kind_at place) in
+    let there = names unit rest (ap (λ l. unit_at place (section order l)) (sym own) ∙ read) in
+    (there.0, rw (keep-part c d row grows lie kinds.Abbrev) there.1)
 
-  pub keep-names : (c d : Contents) (row : IndexEntry) → Grows c d → LieInside c row
-      → NamesItself order encoding c row → NamesItself order encoding d row
-  keep-names c d row grows lie names unit rest read =
-      let place = place_of row.id row.debug_types in
-      let own : unit_bytes d row ≡ unit_bytes c row = keep-part c d row grows lie (kind_at place) in
-      let there = names unit rest (ap (λ l. unit_at place (section order l)) (sym own) ∙ read) in
-      (there.0, rw (keep-part c d row grows lie kinds.Abbrev) there.1)
+-- where a unit goes to it is read alone
+goes-alone : (order : Endianness) (place : UnitSection) (name : DwarfObject) (unit : Header)
+    → IsKnown order place unit → type_signature unit.unit_type ≡ name_signature name
+    → ReadsAlone order (place_for name (kind_at place)) unit
+goes-alone order places.Types (Compilation id) unit known sort = other-alone order places.Types
+    places.Info unit (five-named unit sort (known.1 refl)) known.0
+goes-alone order places.Types (TypeUnit signature) unit known sort = known.0
+goes-alone order places.Info (Compilation id) unit known sort = known.0
+goes-alone order places.Info (TypeUnit signature) unit known sort = known.0
 
-  keep-stands : (c d : Contents) → Grows c d → (row : IndexEntry) → Stands c row → Stands d row
-  keep-stands c d grows row s = (keep-lie c d row grows s.0, keep-names c d row grows s.0 s.1)
+module _ (source : Source) (made : InProgress) (plain : is_package source.indexes ≡ false)
+    (parts : Contents) (after : List (List ℕ))
+    (parts_are : parts_of source made.strings ≡ Ok (parts, after)) where
+  abbrev order : Endianness
+  order = source.object.order
 
-  keep-can : (c d : Contents) → Grows c d → (u : DwarfObject × NewUnit) → CanName c u → CanName d u
-  keep-can c d grows u h = record {
-    fits = h.fits;
-    lie = keep-lie c d u.1.row grows h.lie;
-    named = λ alone rest read. let there = h.named alone rest read in
-        (there.0, rw (keep-part c d u.1.row grows h.lie kinds.Abbrev) there.1);
-  }
+  abbrev table : List ℕ
+  table = first kinds.Abbrev source.object.sections
 
-  new-stands : (c : Contents) (u : DwarfObject × NewUnit) → CanName c u
-      → Stands (with_bytes (kind_at u.1.place) u.1.bytes c)
-      (row_at u.1.row c u.0 u.1.bytes u.1.place)
-  new-stands c u can =
-      let place = u.1.place in
-      let x = u.1.bytes in
-      let shared = u.1.row in
+  abbrev base : Contents
+  base = with_parts parts made.file.contents
+
+  -- a unit has its name by the first abbreviations
+  by-table : (kind : SectionKind) (unit : Header) (name : DwarfObject)
+      → name_for source kind unit ≡ Ok name
+      → identity (section order table) unit ≡ Ok (Some name)
+  unfolding name_for abbreviations_for
+  by-table kind unit name h =
+      let s = bind-was (identity (section order table) unit) _ name (rw plain at h) in
+      s.1 ∙ ap Ok (ok-some NotSplitUnit s.0 name s.2)
+
+  -- a unit is added for one that was read
+  abbrev IsNew : DwarfObject × NewUnit → Type 0
+  IsNew n = (r : DwarfObject × UnitRead) × IsAdded (adding source made parts) n r × Goes order r
+      × WasRead source (OfOne source) r
+
+  -- its row names it
+  new-names : (c d : Contents) (n : DwarfObject × NewUnit) → IsNew n → Grows base c
+      → Grows (with_bytes (kind_at n.1.place) n.1.bytes c) d
+      → NamesItself order source.encoding d (row_at n.1.row c n.0 n.1.bytes n.1.place)
+  new-names c d n (r, is, goes, w) grows up unit rest read =
+      let place = n.1.place in
+      let x = n.1.bytes in
       let k = kind_at place in
-      let d = with_bytes k x c in
-      let row = row_at shared c u.0 x place in
-      let id = row-name shared c u.0 x place in
-      let lies = λ (kind : SectionKind) (range : Contribution)
-      (is : contribution_to kind row ≡ Some range). lie-by shared c k x kind
-      (contribution_to kind row) range can.fits.some can.lie is (row-part shared c u.0 x place kind)
-      in
+      let row = row_at n.1.row c n.0 x place in
+      let id = row-name n.1.row c n.0 x place in
       let place_is : place_of row.id row.debug_types ≡ place =
-      ap (λ n. place_of n row.debug_types) id ∙ sym (own-place shared c u.0 x place can.fits) in
+      ap (λ n. place_of n row.debug_types) id
+      ∙ sym (own-place n.1.row c n.0 x place (can-lie source made parts n r is goes).fits) in
       let own : unit_bytes d row ≡ x = ap (λ p. part_of (content_of (kind_at p) d)
       (contribution_to (kind_at p) row)) place_is ∙ ap (part_of (content_of k d))
-      (row-own shared c u.0 x place) ∙ part-put k x c can.fits.some in
-      let abbreviations : part_of (content_of kinds.Abbrev d) row.debug_abbrev ≡ part_of
-      (content_of kinds.Abbrev c) shared.debug_abbrev =
-      ap (part_of (content_of kinds.Abbrev d)) (shared-row shared c u.0 x place kinds.Abbrev refl)
-      ∙ keep-part c d shared (grows-with_bytes k x c) can.lie kinds.Abbrev in (
-        record {
-          inside = λ kind range is. (lies kind range is).0;
-          some = λ kind range is. (lies kind range is).1;
-        },
-        λ unit rest read.
-            let there = can.named unit rest
-            ((λ i. unit_at (sym place_is i) (section order (sym own i))) ∙ read) in
-            (there.0, rw (abbreviations, id) there.1),
+      (row-own n.1.row c n.0 x place) ∙ put-stays (content_of k c) x (content-put k x c) (up k) in
+      let named = by-table r.1.from r.1.unit r.0 w.named in
+      let a = goes-alone order w.place r.0 r.1.unit w.so.0
+      (identity-sort (section order table) r.1.unit r.0 named) in
+      let goes_to = place_is ∙ is.place ∙ ap (place_for r.0) w.from in
+      let same : unit ≡ a.alone = ap (λ (x : Header × Input). x.0) (same-ok {E = ReadError} _ _
+      (sym read ∙ (λ i. unit_at (goes_to i) (section order ((own ∙ is.bytes) i))) ∙ a.read)) in
+      let f = first-front kinds.Abbrev source.object.sections in
+      let grown = grows-trans base (with_bytes k x c) d
+      (grows-trans base c (with_bytes k x c) grows (grows-with_bytes k x c)) up in
+      let part : part_of (content_of kinds.Abbrev d) row.debug_abbrev ≡ table ++ f.rest =
+      ap (part_of (content_of kinds.Abbrev d)) (shared-row n.1.row c n.0 x place kinds.Abbrev refl
+      ∙ plain-part source made parts n r plain is kinds.Abbrev refl)
+      ∙ put-stays (content_of kinds.Abbrev made.file.contents) (joined_parts kinds.Abbrev parts)
+      (content-with_parts kinds.Abbrev parts made.file.contents) (grown kinds.Abbrev)
+      ∙ parts-copied source made.strings parts after parts_are kinds.Abbrev refl ∙ f.is in (
+        ap (λ (u : Header). u.encoding) same ∙ a.encoding ∙ w.so.1,
+        (λ i. identity (section order (part i)) (same i))
+            ∙ identity-stays (section order table) f.rest a.alone (Some r.0)
+            (sym (identity-shifted (section order table) a.behind a.alone r.1.unit a.shifted)
+            ∙ named) ∙ ap (λ x. Ok (Some x)) (sym (id ∙ is.name)),
       )
 
-  units-stand : (p : InProgress) (us : List (DwarfObject × NewUnit))
-      → Each (CanName p.file.contents) us → EachRow (Stands p.file.contents) p.rows
-      → EachRow (Stands (with_new_units p us).file.contents) (with_new_units p us).rows
-  units-stand p us can h =
-      (in-turn (λ q vs. Each (CanName q.file.contents) vs
-      × EachRow (Stands q.file.contents) q.rows)
-      (λ q v vs there k. (k.0.1, k.1))
-      (λ q v vs k.
-      let c = q.file.contents in
-      let d : Contents = with_bytes (kind_at v.1.place) v.1.bytes c in
-      let grows : Grows c d = grows-with_bytes (kind_at v.1.place) v.1.bytes c in (
-        each-weaker (CanName c) (CanName d) (keep-can c d grows) vs k.0.1,
-        row-append (Stands d) q.rows (row_at v.1.row c v.0 v.1.bytes v.1.place)
-            (weaker (Stands c) (Stands d) (keep-stands c d grows) q.rows k.1)
-            (new-stands c v k.0.0),
-      )) p us (can, h)).1
+  -- the rows of a package with these contents name their units, however the contents grow
+  abbrev Name : InProgress → Type 0
+  Name p = Grows base p.file.contents × ((d : Contents) → Grows p.file.contents d
+      → EachRow (NamesItself order source.encoding d) p.rows)
 
--- ---- those of a plain object
-
-put-inside : (kind : SectionKind) (parts c : Contents) (range : Contribution)
-    → range_put kind (joined_parts kind parts) c ≡ Some range
-    → (range.offset.0 + range.size ≤ length (content_of kind (with_parts parts c)))
-    × (0 < range.size)
-put-inside kind parts c range h =
-    let x = joined_parts kind parts in
-    let long = ap length (content-with_parts kind parts c) ∙ length-append (content_of kind c) x in
-    by-bool _ (eqb (length x) 0)
-    (λ none. absurd (none-some range (rw none at h)))
-    (λ some. subst (λ (r : Contribution). (r.offset.0 + r.size ≤ length (content_of kind
-    (with_parts parts c))) × (0 < r.size)) (same_Some (range_for kind x c) range (rw some at h))
-    (omega (arith, long), omega (arith, eqb-false (length x) 0 some)))
-
-module _ (source : Source) (made : InProgress) (parts : Contents) (plain : is_package source.indexes
-    ≡ false) (n : DwarfObject × NewUnit) (r : DwarfObject × UnitRead)
-    (is : IsAdded (adding source made parts) n r) where
-  abbrev c : Contents
-  c = with_parts parts made.file.contents
-
-  abbrev Inside : SectionKind → Type 0
-  Inside kind = (range : Contribution) → contribution_to kind n.1.row ≡ Some range
-      → (range.offset.0 + range.size ≤ length (content_of kind c)) × (0 < range.size)
-
-  all-inside : (kind : SectionKind) → Inside kind
-  all-inside kind range e =
-      let whole = whole_row source.encoding made.file.contents parts in
-      let row = is-unit_row source.indexes whole r.0 n.1.row is.row in
-      let else = whole-else source.encoding made.file.contents parts in
-      by-bool _ (is_shared kind) (λ shared. put-inside kind parts made.file.contents range
-      (sym (plain-part source made parts n r plain is kind shared) ∙ e))
-      (λ other. absurd (none-some range (sym (unshared n.1.row (row.info ∙ else.1)
-      (row.types ∙ else.2) kind other) ∙ e)))
-
-  new-inside : LieInside c n.1.row
-  new-inside = record {
-    inside = λ kind range e. (all-inside kind range e).0;
-    some = λ kind range e.
-        (all-inside kind range e).1;
-  }
-
--- the part that was put, nothing too
-part-of-put : (kind : SectionKind) (parts c : Contents)
-    → part_of (content_of kind (with_parts parts c)) (range_put kind (joined_parts kind parts) c) ≡
-    joined_parts kind parts
-part-of-put kind parts c = rw (content-with_parts kind parts c) (by (joined_parts kind parts))
-  where
-    by : (x : List ℕ) → part_of (content_of kind c ++ x) (range_put kind x c) ≡ x
-    by [] = refl
-    by (b ∷ bs) =
-        ap (λ l. part_of l (range_put kind (b ∷ bs) c)) (sym (content-put kind (b ∷ bs) c)) ∙
-        part-put kind (b ∷ bs) c (omega arith)
-
-can-name : (source : Source) (made : InProgress) (parts : Contents) (after : List (List ℕ))
-    (n : DwarfObject × NewUnit) (r : DwarfObject × UnitRead) → is_package source.indexes ≡ false
-    → parts_of source made.strings ≡ Ok (parts, after)
-    → IsAdded (adding source made parts) n r → Goes source.object.order r
-    → NamedAlone source.object.order source.encoding (first kinds.Abbrev source.object.sections) r
-    → CanName source.object.order source.encoding (with_parts parts made.file.contents) n
-can-name source made parts after n r plain parts_are is goes named =
-    let order = source.object.order in
-    let table = first kinds.Abbrev source.object.sections in
-    let f = first-front kinds.Abbrev source.object.sections in
-    let part : part_of (content_of kinds.Abbrev (with_parts parts made.file.contents))
-    n.1.row.debug_abbrev ≡ table ++ f.rest =
-    ap (part_of (content_of kinds.Abbrev (with_parts parts made.file.contents)))
-    (plain-part source made parts n r plain is kinds.Abbrev refl)
-    ∙ part-of-put kinds.Abbrev parts made.file.contents
-    ∙ parts-copied source made.strings parts after parts_are kinds.Abbrev refl
-    ∙ f.is in
-    record {
-      fits = (can-lie source made parts n r is goes).fits;
-      lie = new-inside source made parts plain n r is;
-      named = λ alone rest read.
-          let there = named alone rest
-          ((λ i. unit_at (sym is.place i) (section order (sym is.bytes i))) ∙ read) in (
-            there.0,
-            ap (λ l. identity (section order l) alone) part ∙ identity-stays (section order table)
-                f.rest alone (Some r.0) there.1 ∙ ap (λ x. Ok (Some x)) (sym is.name),
-          );
-    }
+  one-named : (p : InProgress) (u : DwarfObject × NewUnit) → IsNew u → Name p
+      → Name (with_unit_added p u)
+  one-named p u new names =
+      let c = p.file.contents in
+      let more = grows-with_bytes (kind_at u.1.place) u.1.bytes c in
+      let d : Contents = with_bytes (kind_at u.1.place) u.1.bytes c in (
+        grows-trans base c d names.0 more,
+        λ e up. row-append (NamesItself order source.encoding e) p.rows _
+            (names.1 e (grows-trans c d e more up)) (new-names c e u new names.0 up),
+      )
 
 pub both-rows : (P Q : IndexEntry → Type 0) (rows : List IndexEntry) → EachRow P rows
     → EachRow Q rows → EachRow (λ row. P row × Q row) rows
 both-rows P Q [] h k = tt
 both-rows P Q (r ∷ rs) h k = ((h.0, k.0), both-rows P Q rs h.1 k.1)
+
+grows-self : (c : Contents) → Grows c c
+grows-self c kind = record { rest = []; is = sym (append-nil (content_of kind c)) }
 
 pub names-kept : UnitsAreTaken → ReadAlone → (source : Source) (before now : InProgress)
     → is_package source.indexes ≡ false → list_all (section_has source.encoding source.object.order)
@@ -311,20 +220,229 @@ names-kept taken alone source before now plain has sound same h named =
     let a = plain-added source before now h in
     let order = source.object.order in
     let encoding = source.encoding in
-    let q = parted source before now a in
-    let can = news-are source before now a taken alone (Has source)
-    (each-passed (section_has encoding order) source.object.sections has)
-    (CanName order encoding (with_parts a.parts before.file.contents)) (λ n r is goes read.
-    can-name source before a.parts a.after n r plain a.parts_are is goes
-    (named-alone taken alone source plain r read)) in
     let c = before.file.contents in
-    let old : EachRow (Stands order encoding c) before.rows =
+    let q = parted source before now a in
+    let b = q.file.contents in
+    let new = news-are source before now a taken alone (OfOne source)
+    (sections-are source (OfOne source) source.object.sections a.joined.all
+    (of-one taken alone source source.object.sections has) a.joined.is)
+    (IsNew source before plain a.parts a.after a.parts_are)
+    (λ n r is goes w. (r, is, goes, w)) in
+    let old : EachRow (λ row. LieInside c row × NamesItself order encoding c row) before.rows =
     both-rows (LieInside c) (NamesItself order encoding c) before.rows (sound-inside before sound)
     (subst (λ o. EachRow (NamesItself o encoding c) before.rows) (sym same) named) in
-    let stand = units-stand order encoding q a.new.units can (weaker (Stands order encoding c)
-    (Stands order encoding q.file.contents) (keep-stands order encoding c q.file.contents
-    (grows-with_parts a.parts c)) before.rows old) in
-    let all = with_new_units q a.new.units in
+    let all = each-added (Name source before plain a.parts a.after a.parts_are) _
+    (one-named source before plain a.parts a.after a.parts_are) q a.new.units new (
+      grows-self b,
+      λ d up. weaker _ (NamesItself order encoding d) (λ row s. keep-names order encoding c d row
+          (grows-trans c b d (grows-with_parts a.parts c) up) s.0 s.1) before.rows old,
+    ) in
     rw (order-added source before now a ∙ sym same, a.is)
-    (weaker (Stands order encoding all.file.contents) (NamesItself order encoding
-    all.file.contents) (λ row s. s.1) all.rows stand)
+    (all.1 (with_new_units q a.new.units).file.contents (grows-self _))
+
+-- ---- a unit in info is of version 5, or no type unit
+
+abbrev FiveOrNone : Header → Type 0
+FiveOrNone unit = (unit.encoding.version ≡ 5) ⊎ (type_signature unit.unit_type ≡ None)
+
+unit-none : (i : Input) → Gives (Header × Input) (unit_at places.Info i) (λ x. FiveOrNone x.0)
+unfolding unit_at header_at older_at older_type_at
+unit-none i = then_gives (was (initial_length_at i)) (λ length _. then_gives
+    (was (split_at length.0.1 length.1)) (λ body _. then_gives
+    (was (split_at (body.1.place - i.place) i)) (λ whole _. then_gives {Q = FiveOrNone}
+    (then_gives (was (number_at 2 body.0)) (λ version _. test_gives (eqb version.0 5)
+    (λ _. record { gives = λ u e. inl (newer-five length.0.0 whole.0 version.1 u e) })
+    (λ _. test_gives (leb 2 version.0 && leb version.0 4)
+    (λ _. then_gives (was (offset_at length.0.0 version.1)) (λ offset _. then_gives
+    (was (address_size_at offset.1)) (λ size _. value_gives (inr refl))))
+    (λ _. error_gives)))) (λ u is. value_gives is))))
+
+-- what is read first, where its encoding is that
+first-read : (encoding : Encoding) (reads : Listed) → first_encoding reads ≡ Ok encoding
+    → (unit : Header) × (others : Listed) × (reads ≡ Ok unit ∷ others) × (unit.encoding ≡ encoding)
+first-read encoding [] h = absurd cc
+first-read encoding (Err e ∷ others) h = absurd cc
+first-read encoding (Ok unit ∷ others) h =
+    (unit, others, refl, same-ok {E = ErrorValue} _ encoding h)
+
+-- ---- its name
+
+-- units of the name go to info, wherever they stand
+abbrev GoesToInfo : Encoding → DwarfObject → Type 0
+GoesToInfo encoding name = (encoding.version ≡ 5) ⊎ (name_signature name ≡ None)
+
+-- a name is of these
+abbrev IsThere : DwarfObject → List DwarfObject → Type 0
+IsThere name names = list_any (same_name name) names ≡ true
+
+there-left : (name : DwarfObject) (xs ys : List DwarfObject) → IsThere name xs
+    → IsThere name (xs ++ ys)
+there-left name xs ys h = list_any-append (same_name name) xs ys ∙ rw h refl
+
+there-right : (name : DwarfObject) (xs ys : List DwarfObject) → IsThere name ys
+    → IsThere name (xs ++ ys)
+there-right name xs ys h = list_any-append (same_name name) xs ys ∙ or-right _ _ h
+
+module _ (taken : UnitsAreTaken) (alone : ReadAlone) (source : Source) (encoding : Encoding) where
+  head-named : (kind : SectionKind) (u : Header) (others : Listed) (us : Reads)
+      → named_each source kind (Ok u ∷ others) ≡ Ok us → (name : DwarfObject)
+      × IsThere name (keys us) × (type_signature u.unit_type ≡ name_signature name)
+  unfolding named_each named_unit
+  head-named kind u others us h =
+      let a = bind-was (named_unit source kind (Ok u)) _ us h in
+      let b = bind-was (named_each source kind others) _ us a.2 in
+      let name = bind-was (name_for source kind u) _ a.0 a.1 in
+      let id = name-identity source kind u name.0 name.1 in (
+        name.0,
+        subst (λ (l : Reads). IsThere name.0 (keys l)) (same-ok {E = ErrorValue} _ us b.2)
+            (subst (λ (x : DwarfObject × UnitRead). IsThere name.0 (x.0 ∷ keys b.0))
+            (same-ok {E = ErrorValue} _ a.0 name.2) (rw (same_name-self name.0) refl)),
+        identity-sort id.0 u name.0 id.1,
+      )
+
+  first-named : (sections : List Used) (all : Reads) → named_sections source sections ≡ Ok all
+      → first_encoding (units places.Info (section source.object.order (first kinds.Info sections)))
+      ≡ Ok encoding → (name : DwarfObject) × IsThere name (keys all) × GoesToInfo encoding name
+  unfolding named_sections units units_within
+  first-named [] all h e = absurd cc
+  first-named (from ∷ rest) all h e =
+      let a = bind-was (named_at source from (unit_section from.kind)) _ all h in
+      let b = bind-was (named_sections source rest) _ all a.2 in
+      rw (← same-ok {E = ErrorValue} (a.0 ++ b.0) all b.2, map-append (λ u. u.0) a.0 b.0)
+      (by-bool _ (same_kind from.kind kinds.Info)
+      (λ is.
+      let f = first-read encoding _ (rw is at e) in
+      let known = (known-in taken alone source.object.order places.Info from.bytes 0 f.0
+      (ap (λ (l : Listed). slice_get l 0) f.2)).0 in
+      let read : named_at source from (Some places.Info) ≡ Ok a.0 =
+      ap (λ k. named_at source from (unit_section k)) (sym (is-same from.kind kinds.Info is))
+      ∙ a.1 in
+      let head = head-named from.kind f.0 f.1 a.0 (ap (named_each source from.kind) (sym f.2)
+      ∙ read) in (
+        head.0,
+        there-left head.0 (keys a.0) (keys b.0) head.1,
+        elim ((unit-none _).gives _ known.read) [
+          | inl five ↦ inl (ap (λ (x : Encoding). x.version) (sym (known.encoding ∙ f.3)) ∙ five)
+          | inr none ↦ inr (sym head.2 ∙ ap type_signature (sym known.type) ∙ none)
+        ],
+      ))
+      (λ other. let l = first-named rest b.0 b.1 (rw other at e) in
+      (l.0, there-right l.0 (keys a.0) (keys b.0) l.1, l.2)))
+
+-- ---- where units of that name go
+
+-- a section of this place is in the format
+abbrev InFormat : Source → UnitSection → Header → Type 0
+InFormat source place unit = is_in_format source.encoding (kind_at place) ≡ true
+
+each-format : (source : Source) (sections : List Used) (before after : Parts)
+    → with_each_part source before sections ≡ Ok after
+    → Each (AllSo source (InFormat source)) sections
+unfolding with_each_part with_part
+each-format source [] before after h = tt
+each-format source (s ∷ ss) before after h =
+    let next = bind-was (with_part source before s) _ after h in
+    let once = past (stands_once source s.kind && has_part s.kind before.0) _ _ next.0 next.1 in (
+      λ place here k unit there. rw (← kind-place s.kind place here)
+          (unless (is_in_format source.encoding s.kind) _ _ next.0 once.1).0,
+      each-format source ss next.0 after next.2,
+    )
+
+to-info : (encoding : Encoding) (name : DwarfObject) (place : UnitSection)
+    → GoesToInfo encoding name → is_in_format encoding (kind_at place) ≡ true
+    → place_for name (kind_at place) ≡ places.Info
+to-info encoding (TypeUnit s) places.Types (inl five) h = absurd (true≢false (sym h
+    ∙ ap (λ v. is_in_format (record encoding { version = v }) kinds.Types) five))
+to-info encoding (TypeUnit s) places.Types (inr none) h = absurd cc
+to-info encoding name place sort h = refl
+
+-- ---- units that are added
+
+module _ (name : DwarfObject) where
+  -- a unit of the name has bytes, and goes to info
+  abbrev PutInInfo : DwarfObject × NewUnit → Type 0
+  PutInInfo u = same_name name u.0 ≡ true → (u.1.place ≡ places.Info) × (0 < length u.1.bytes)
+
+  -- where a unit of the name is there, info has bytes
+  abbrev HasInfo : InProgress → Type 0
+  HasInfo p = IsThere name (names_of p) → 0 < length (content_of kinds.Info p.file.contents)
+
+  one-put : (p : InProgress) (u : DwarfObject × NewUnit) → PutInInfo u → HasInfo p
+      → HasInfo (with_unit_added p u)
+  one-put p u put has there =
+      let c = p.file.contents in
+      by-bool _ (same_name name u.0)
+      (λ same. let new = put same in
+      rw (content-with_bytes kinds.Info (kind_at u.1.place) u.1.bytes c, new.0)
+      (omega (arith, length-append (content_of kinds.Info c) u.1.bytes, new.1)))
+      (λ other. omega (
+        arith,
+        has (rw (names-added p u, list_any-append {X = DwarfObject}, other, or-false) at there),
+        front-long _ _ (grows-with_bytes (kind_at u.1.place) u.1.bytes c kinds.Info),
+      ))
+
+  -- ---- the name is there in the end
+
+  -- a name that was met, where another of it is there
+  met-there : (names others : List DwarfObject) (u : DwarfObject) → IsThere u names
+      → IsThere name (names ++ u ∷ others) → IsThere name (names ++ others)
+  met-there names others u met there =
+      by-bool _ (same_name name u)
+      (λ same. there-left name names others (rw (same_name-true name u same) met))
+      (λ other. list_any-append (same_name name) names others
+      ∙ rw (list_any-append (same_name name) names (u ∷ others), other) at there)
+
+  joining-there : (names : List DwarfObject) (all : Reads) → IsThere name (names ++ keys all)
+      → IsThere name (names ++ keys (joining names all))
+  joining-there names [] h = h
+  joining-there names (r ∷ rs) h =
+      by-bool _ (list_any (same_name r.0) names)
+      (λ met. rw met (joining-there names rs (met-there names (keys rs) r.0 met h)))
+      (λ new. rw (new, ← append_assoc names (r.0 ∷ []) (keys (joining (names ++ r.0 ∷ []) rs)))
+      (joining-there (names ++ r.0 ∷ []) rs (rw append_assoc h)))
+
+  units-put : (p : InProgress) (us : News) → Each PutInInfo us → HasInfo p
+      → IsThere name (names_of p ++ keys us)
+      → 0 < length (content_of kinds.Info (with_new_units p us).file.contents)
+  units-put p us put has there =
+      let all = in-turn (λ q vs. Each PutInInfo vs × HasInfo q
+      × IsThere name (names_of q ++ keys vs))
+      (λ q v vs met k. (k.0.1, k.1, met-there (names_of q) (keys vs) v.0 met k.2))
+      (λ q v vs k. (
+        k.0.1,
+        one-put q v k.0.0 k.1,
+        rw (names-added q v, append_assoc (names_of q) (v.0 ∷ []) (keys vs)) k.2,
+      )) p us (put, has, there) in
+      all.1 (rw append-nil at all.2)
+
+-- ---- an object that was added
+
+pub info-there : UnitsAreTaken → ReadAlone → (source : Source) (before now : InProgress)
+    → encoding_of source.object ≡ Ok source.encoding → with_source source before ≡ Ok now
+    → (0 < length before.rows → 0 < length (content_of kinds.Info before.file.contents))
+    → 0 < length (content_of kinds.Info now.file.contents)
+unfolding encoding_of
+info-there taken alone source before now is h info =
+    let a = plain-added source before now h in
+    let j = a.joined in
+    let add = adding source before a.parts in
+    let held = keys add.held in
+    let n = first-named taken alone source source.encoding source.object.sections j.all j.is is in
+    let put = news-are source before now a taken alone (InFormat source)
+    (sections-are source (InFormat source) source.object.sections j.all
+    (each-format source source.object.sections _ _ a.parts_are) j.is) (PutInInfo n.0)
+    (λ u r are goes w same. (
+      are.place ∙ rw w.from (to-info source.encoding r.0 w.place
+          (subst (GoesToInfo source.encoding) (same_name-true n.0 u.0 same ∙ are.name) n.2) w.so),
+      subst (λ l. 0 < length l) (sym are.bytes) goes.some,
+    )) in
+    let has : HasInfo n.0 (parted source before now a) =
+    λ there. omega (
+      arith,
+      info ((elim before.rows as (λ rows. IsThere n.0 (map (λ (r : IndexEntry). r.id) rows)
+          → 0 < length rows) [ [] ↦ λ e. absurd cc | r ∷ rs ↦ λ e. omega arith ]) there),
+      front-long _ _ (grows-with_parts a.parts before.file.contents kinds.Info),
+    ) in
+    rw a.is (units-put n.0 (parted source before now a) a.new.units put has
+    (rw (← keys-held before, added-keys add a.new.units (joining held j.all) j.are)
+    (joining-there n.0 held j.all (there-right n.0 held (keys j.all) n.1))))

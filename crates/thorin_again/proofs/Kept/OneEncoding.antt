@@ -1,43 +1,40 @@
 -- What holds of all units of a package once an input was taken; and all units of plain objects of
 -- one encoding have it.
-use Rattle.std.proofs.Common.{◌≡◌, ◌∙◌, ℕ, ◌<◌, Bool, true, false, cond, ◌&&◌, ltb, inl, inr, List}
-use Rattle.std.proofs.Common.{[], ◌∷◌, length, map, refl, sym, ap, subst, Result, Ok, Err, Option}
-use Rattle.std.proofs.Common.{Some, None, arith, true≢false}
+use Rattle.std.proofs.Common.{◌≡◌, ◌∙◌, ℕ, ◌<◌, Bool, true, false, cond, ltb, inl, inr, List, []}
+use Rattle.std.proofs.Common.{◌∷◌, length, map, refl, sym, ap, subst, Result, Ok, Err, Option, Some}
+use Rattle.std.proofs.Common.{◌↔◌, None, arith, true≢false}
 use Rattle.std.specs.Prelude.{All}
 use Rattle.std.specs.List.{list_all}
-use Rattle.std.specs.Option.{option_and_then}
-use Rattle.std.proofs.lemmas.Bool.{ltb-true}
+use Rattle.std.specs.Option.{option_and_then, IfSome}
+use Rattle.std.proofs.lemmas.Bool.{ltb-true, lt-ltb}
 use Rattle.std.proofs.lemmas.List.{length-map}
 use Rattle.std.proofs.lemmas.List.Elements.{All-nil, All-cons, All-append}
-use Rattle.std.proofs.lemmas.Option.{none-some, same_Some}
-use Rattle.dwp_base.proofs.Bools.{both}
-use Rattle.dwp_base.proofs.Steps.{bind-was, bind-ok, same-ok, by-choice}
+use Rattle.std.proofs.lemmas.Option.{none-some, cond_some, IfSome_then}
+use Rattle.dwp_base.proofs.Bools.{both, by-bool}
+use Rattle.dwp_base.proofs.Steps.{bind-was, same-ok}
 use Rattle.dwp_elf_read.specs.Elf.{Elf}
 use Rattle.dwp_bytes.specs.declared.encoding.Encoding.{Encoding}
 use Rattle.dwp_bytes.specs.declared.error.ReadError.{ReadError}
 use Rattle.dwp_index.specs.Index.{Ranges}
 use Rattle.dwp_table.specs.declared.object.DwarfObject.{DwarfObject}
 use Rattle.thorin_errors.specs.Errors.{ErrorValue}
-use Rattle.thorin_join.specs.Builder.{State, start, taken, with_input, with_own, own_after}
-use Rattle.thorin_join.specs.Builder.{names_in}
-use Rattle.thorin_input.specs.Encodings.{encoding_of, file_encoding, own_encoding, is_plain}
-use Rattle.thorin_input.specs.Encodings.{section_has}
-use Rattle.thorin_input.specs.Indexes.{Source, is_package, index_for, indexes_of}
+use Rattle.thorin_join.specs.Builder.{State, taken, with_input, with_own, own_after, names_in}
+use Rattle.thorin_input.specs.Encodings.{common, file_encoding, own_encoding, is_plain, section_has}
+use Rattle.thorin_input.specs.Indexes.{Source, is_package, index_for}
 use Rattle.thorin_join.specs.Join.{Joins}
 use Rattle.thorin_join.specs.Meaning.{Meaning, Members, UnitRead, keys, meaning_with, meaning_by}
-use Rattle.thorin_join.specs.Meaning.{unit_meaning, lie_inside, placed_row, meant, source_units}
-use Rattle.thorin_join.specs.Meaning.{source_meaning, object_meaning, input_meaning, joining}
+use Rattle.thorin_join.specs.Meaning.{unit_meaning, lie_inside, meant, source_units, source_meaning}
+use Rattle.thorin_join.specs.Meaning.{object_meaning, input_meaning, placed_row}
 use Rattle.thorin_again.specs.OwnUnits.{AllOf, HoldsOwn}
 use Rattle.thorin_join.specs.Represents.{IsSoundBegun, units_begun}
-use Rattle.thorin_input.specs.Rows.{own_range}
 use Rattle.thorin_join.specs.State.{InProgress}
-use Rattle.thorin_input.specs.Used.{InputFile, opened, has_info, input_file_of}
-use Rattle.thorin_join.proofs.Joined.Input.{meaning-at, new-units}
+use Rattle.thorin_input.specs.Used.{InputFile, opened, has_info}
+use Rattle.thorin_join.proofs.Joined.Input.{new-units}
 use Rattle.thorin_join.proofs.Joined.Source.{all_there}
-use Rattle.thorin_join.proofs.Joined.Taken.{TakesUnits, takes}
+use Rattle.thorin_join.proofs.Joined.Taken.{Takes, TakesUnits, takes}
 use Rattle.thorin_join.proofs.Units.HeadersRead.{Reads}
-use Rattle.thorin_again.proofs.Kept.EachUnit.{Each, each-all, each-joining}
-use Rattle.thorin_again.proofs.Kept.Encodings.{common-are}
+use Rattle.thorin_again.proofs.Kept.EachUnit.{Each, each-all, each-joining, common-are, common-self}
+use Rattle.thorin_input.specs.Rows.{own_range}
 
 -- ---- what an input means
 
@@ -45,33 +42,29 @@ use Rattle.thorin_again.proofs.Kept.Encodings.{common-are}
 abbrev pub MadeOf : Source → List ℕ → Meaning → Type 0
 MadeOf source bytes unit = (unit.encoding ≡ source.encoding) × (unit.bytes ≡ bytes)
 
-module _ (source : Source) (bytes : List ℕ) (unit : Meaning) where
-  with-made : (row : Option Ranges) (strings : Result (List (List ℕ)) ReadError)
-      → meaning_with source bytes row strings ≡ Some unit → MadeOf source bytes unit
-  with-made row (Ok strings) h = let same = sym (same_Some _ unit h) in
-      (ap (λ (m : Meaning). m.encoding) same, ap (λ (m : Meaning). m.bytes) same)
-  with-made row (Err e) h = absurd (none-some unit h)
+with-made : (source : Source) (bytes : List ℕ) (row : Option Ranges)
+    (strings : Result (List (List ℕ)) ReadError)
+    → IfSome (meaning_with source bytes row strings) (MadeOf source bytes)
+with-made source bytes row (Ok strings) = (refl, refl)
+with-made source bytes row (Err e) = tt
 
-  by-made : (row : Option Ranges) → meaning_by source bytes row ≡ Some unit
-      → MadeOf source bytes unit
-  unfolding meaning_by
-  by-made row h = by-choice (MadeOf source bytes unit) (lie_inside source row) _ None (Some unit) h
-      (with-made row _) (λ e. absurd (none-some unit e))
+by-made : (source : Source) (bytes : List ℕ) (row : Option Ranges)
+    → IfSome (meaning_by source bytes row) (MadeOf source bytes)
+unfolding meaning_by
+by-made source bytes row = by-bool _ (lie_inside source row)
+    (λ inside. rw inside (with-made source bytes row _)) (λ outside. rw outside tt)
 
-  placed-made : (row : Option Ranges) → option_and_then (λ r. meaning_by source bytes (Some r)) row
-      ≡ Some unit → MadeOf source bytes unit
-  placed-made (Some r) h = by-made (Some r) h
-  placed-made None h = absurd (none-some unit h)
-
-unit-made : (source : Source) (read : DwarfObject × UnitRead) (unit : Meaning)
-    → unit_meaning source read ≡ Some unit → MadeOf source read.1.unit.whole.bytes unit
+unit-made : (source : Source) (read : DwarfObject × UnitRead)
+    → IfSome (unit_meaning source read) (MadeOf source read.1.unit.whole.bytes)
 unfolding unit_meaning
-unit-made source read unit h =
+unit-made source read =
     let bytes = read.1.unit.whole.bytes in
-    by-choice (MadeOf source bytes unit) (is_package source.indexes) _ _ (Some unit) h
-    (placed-made source bytes unit (placed_row (index_for source.indexes read.0) read.1.from
-    (own_range read.1.unit)))
-    (by-made source bytes unit None)
+    by-bool _ (is_package source.indexes)
+    (λ packed. rw packed (elim (placed_row (index_for source.indexes read.0) read.1.from
+    (own_range read.1.unit)) as (λ row. IfSome (option_and_then (λ r.
+    meaning_by source bytes (Some r)) row) (MadeOf source bytes))
+    [ Some row ↦ by-made source bytes (Some row) | None ↦ tt ]))
+    (λ plain. rw plain (by-made source bytes None))
 
 -- ---- the units that an input adds
 
@@ -81,7 +74,7 @@ module _ (P : Meaning → Type 0) where
   HoldsOf units = All (λ (u : DwarfObject × Meaning). P u.1) units
 
   abbrev IfMeant : DwarfObject × Option Meaning → Type 0
-  IfMeant u = (unit : Meaning) → u.1 ≡ Some unit → P unit
+  IfMeant u = IfSome u.1 P
 
   -- it holds of what a unit of these that were read can mean
   abbrev pub CanMean : Source → Reads → Type 0
@@ -92,50 +85,31 @@ module _ (P : Meaning → Type 0) where
       → Each IfMeant (map {B = DwarfObject × Option Meaning} (meant source) reads)
   each-meant source [] h = tt
   each-meant source (r ∷ rs) h =
-      (λ unit is. h.0 unit (unit-made source r unit is), each-meant source rs h.1)
+      (IfSome_then (unit_meaning source r) (unit-made source r) h.0, each-meant source rs h.1)
 
   all-of : (added : Members) → Each IfMeant (all_there added) → HoldsOf added
   all-of [] h = All-nil (λ (u : DwarfObject × Meaning). P u.1)
   all-of (u ∷ us) h =
-      All-cons (λ (v : DwarfObject × Meaning). P v.1) u us (h.0 u.1 refl) (all-of us h.1)
+      All-cons (λ (v : DwarfObject × Meaning). P v.1) u us h.0 (all-of us h.1)
 
-  added-hold : (source : Source) (names : List DwarfObject)
-      (units : List (DwarfObject × Option Meaning)) (added : Members)
-      → source_meaning source ≡ Ok units → joining names units ≡ all_there added
-      → ((all : Reads) → source_units source ≡ Ok all → CanMean source all) → HoldsOf added
-  unfolding source_meaning
-  added-hold source names units added h joined can =
-      let s = bind-was (source_units source) _ units h in
-      all-of added (subst (Each IfMeant) joined (each-joining IfMeant names units
-      (subst (Each IfMeant) (same-ok {E = ErrorValue} _ units s.2)
-      (each-meant source s.0 (can s.0 s.1)))))
-
-source-means : (bytes : List ℕ) (file : Elf) (begun now : Option InProgress)
-    (u : TakesUnits file begun now) → opened bytes ≡ Ok file → has_info file ≡ true
-    → input_meaning bytes ≡ source_meaning u.source
-unfolding object_meaning
-source-means bytes file begun now u opens info =
-    meaning-at bytes file true opens info
-    ∙ bind-ok (input_file_of file) u.source.object object_meaning u.object_is
-    ∙ bind-ok (encoding_of u.source.object) u.source.encoding _ u.encoding_is
-    ∙ bind-ok (indexes_of u.source.object u.source.encoding) u.source.indexes _ u.indexes_are
-
--- what holds of the units before an input, and of those that it adds
-pub units-hold : (P : Meaning → Type 0) (bytes : List ℕ) (begun now : Option InProgress)
-    → Joins bytes (units_begun begun) (units_begun now) → with_input bytes begun ≡ Ok now
-    → ((file : Elf) (u : TakesUnits file begun now) → opened bytes ≡ Ok file
-    → (all : Reads) → source_units u.source ≡ Ok all → CanMean P u.source all)
-    → HoldsOf P (units_begun begun) → HoldsOf P (units_begun now)
-units-hold P bytes begun now j h can before =
-    let t = takes bytes begun now h in
-    elim t.does [
-      | inl w ↦ subst (HoldsOf P) (sym j.is) (All-append (λ (u : DwarfObject × Meaning). P u.1)
-          (units_begun begun) j.added before (added-hold P w.1.source
-          (keys (units_begun begun)) j.units j.added
-          (sym (source-means bytes t.file begun now w.1 t.opens w.0) ∙ j.meaning) j.joined
-          (can t.file w.1 t.opens)))
-      | inr none ↦ subst (HoldsOf P) (sym (new-units t.file begun) ∙ ap units_begun none.1) before
-    ]
+  -- what holds of the units before an input, and of those that it adds
+  pub units-hold : (bytes : List ℕ) (begun now : Option InProgress)
+      → Joins bytes (units_begun begun) (units_begun now) → (t : Takes bytes begun now)
+      → ((u : TakesUnits t.file begun now) (all : Reads) → source_units u.source ≡ Ok all
+      → CanMean u.source all) → HoldsOf (units_begun begun) → HoldsOf (units_begun now)
+  unfolding input_meaning object_meaning source_meaning
+  units-hold bytes begun now j t can before = elim t.does [
+    | inl w ↦
+        let u = w.1 in
+        let s = bind-was (source_units u.source) _ j.units
+        (rw (t.opens, w.0, u.object_is, u.encoding_is, u.indexes_are) at j.meaning) in
+        subst HoldsOf (sym j.is) (All-append (λ (u : DwarfObject × Meaning). P u.1)
+        (units_begun begun) j.added before (all-of j.added (subst (Each IfMeant) j.joined
+        (each-joining IfMeant (keys (units_begun begun)) j.units
+        (subst (Each IfMeant) (same-ok {E = ErrorValue} _ j.units s.2)
+        (each-meant u.source s.0 (can u s.0 s.1)))))))
+    | inr none ↦ subst HoldsOf (sym (new-units t.file begun) ∙ ap units_begun none.1) before
+  ]
 
 -- ---- the encoding of a builder's inputs
 
@@ -158,25 +132,23 @@ pub begun-now : (bytes : List ℕ) (old new : State) → taken bytes old ≡ Ok 
     → with_input bytes old.begun ≡ Ok new.begun
 begun-now bytes old new h = (taken-as bytes old new h).3
 
--- nothing has begun, or the builder's inputs have this encoding
+-- where something has begun, the builder's inputs have this encoding
 abbrev pub Before : Option InProgress → Option Encoding → Encoding → Type 0
-Before None own e = Unit {0}
-Before (Some made) own e = own ≡ Some e
+Before begun own e = (made : InProgress) → begun ≡ Some made → own ≡ Some e
 
-with-before : (begun : Option InProgress) (own found : Option Encoding) (e : Encoding)
-    → with_own begun own found ≡ Some e → Before begun own e × (found ≡ Some e)
-with-before None own found e h = (tt, h)
-with-before (Some made) own found e h = common-are own found e h
+with-own-is : (begun : Option InProgress) (own found : Option Encoding) (e : Encoding)
+    → (with_own begun own found ≡ Some e) ↔ (Before begun own e × (found ≡ Some e))
+with-own-is None own found e = ((λ h. (λ made is. absurd (none-some made is), h)), (λ h. h.1))
+with-own-is (Some made) own found e = (
+  λ h. let both = common-are own found e h in (λ other is. both.0, both.1),
+  λ h. (λ i. common (h.0 made refl i) (h.1 i)) ∙ common-self e,
+)
 
-some-or-none : (b : Bool) (own : Option Encoding) (e : Encoding)
-    → cond {A = Option Encoding} b own None ≡ Some e → (b ≡ true) × (own ≡ Some e)
-some-or-none true own e h = (refl, h)
-some-or-none false own e h = absurd cc
-
-ok-or-none : (b : Bool) (r : Result (Option Encoding) ErrorValue) (e : Encoding)
-    → cond b r (Ok None) ≡ Ok (Some e) → (b ≡ true) × (r ≡ Ok (Some e))
-ok-or-none true r e h = (refl, h)
-ok-or-none false r e h = absurd cc
+-- one of two, where it can't be the other
+not-else : {A : Type 0} (b : Bool) (x y z : A) → (y ≡ z → ⊥) → cond b x y ≡ z
+    → (b ≡ true) × (x ≡ z)
+not-else true x y z other h = (refl, h)
+not-else false x y z other h = absurd (other h)
 
 -- units of that encoding were taken, of a plain object
 pub record OwnUnits (object : InputFile) (encoding e : Encoding) : Type 0 where
@@ -188,33 +160,25 @@ module _ (bytes : List ℕ) (e : Encoding) (found : own_encoding bytes ≡ Ok (S
   info-read : (file : Elf) → opened bytes ≡ Ok file → (has_info file ≡ true)
       × (file_encoding file ≡ Ok (Some e))
   unfolding own_encoding
-  info-read file opens = ok-or-none (has_info file) (file_encoding file) e
-      (sym (bind-ok (opened bytes) file _ opens) ∙ found)
+  info-read file opens = not-else (has_info file) (file_encoding file) (Ok None) (Ok (Some e))
+      (λ none. absurd cc) (rw opens at found)
 
   pub own-units : (file : Elf) (begun now : Option InProgress) (u : TakesUnits file begun now)
       → opened bytes ≡ Ok file → OwnUnits u.source.object u.source.encoding e
   unfolding file_encoding
   own-units file begun now u opens =
-      let one = some-or-none (is_plain u.source.object.sections && list_all
-      (section_has u.source.encoding
-      u.source.object.order) u.source.object.sections) (Some u.source.encoding) e
-      (same-ok {E = ErrorValue} _ (Some e)
-      (sym (bind-ok (input_file_of file) u.source.object _ u.object_is ∙ bind-ok
-      (encoding_of u.source.object)
-      u.source.encoding _ u.encoding_is) ∙ (info-read file opens).1)) in
+      let one = cond_some _ u.source.encoding e (same-ok {E = ErrorValue} _ (Some e)
+      (rw (u.object_is, u.encoding_is) at (info-read file opens).1)) in
       let two = both (is_plain u.source.object.sections) _ one.0 in
-      record { is = same_Some u.source.encoding e one.1; plain = two.0; all = two.1 }
+      record { is = one.1; plain = two.0; all = two.1 }
 
   -- such an object has units
-  pub takes-units : (begun now : Option InProgress) → with_input bytes begun ≡ Ok now
-      → (file : Elf) × (opened bytes ≡ Ok file) × (has_info file ≡ true)
-      × TakesUnits file begun now
-  takes-units begun now h =
-      let t = takes bytes begun now h in
-      elim t.does [
-        | inl w ↦ (t.file, t.opens, w.0, w.1)
-        | inr none ↦ absurd (true≢false (sym (info-read t.file t.opens).0 ∙ none.0))
-      ]
+  pub takes-units : (begun now : Option InProgress) (t : Takes bytes begun now)
+      → (has_info t.file ≡ true) × TakesUnits t.file begun now
+  takes-units begun now t = elim t.does [
+    | inl w ↦ w
+    | inr none ↦ absurd (true≢false (sym (info-read t.file t.opens).0 ∙ none.0))
+  ]
 
 -- an input of that encoding was taken, which added a unit
 pub record AddsOwn (bytes : List ℕ) (old new : State) (e : Encoding) : Type 0 where
@@ -223,23 +187,20 @@ pub record AddsOwn (bytes : List ℕ) (old new : State) (e : Encoding) : Type 0 
   pub before : Before old.begun old.own e
 
 pub own-adds : (bytes : List ℕ) (old new : State) (e : Encoding) → taken bytes old ≡ Ok new
-    → new.own ≡ Some e → AddsOwn bytes old new e
-own-adds bytes old new e h k =
+    → (new.own ≡ Some e) ↔ AddsOwn bytes old new e
+own-adds bytes old new e h =
     let own = taken-as bytes old new h in
-    let counted = some-or-none (ltb (length (names_in old.begun)) (length (names_in new.begun)))
-    (with_own old.begun old.own own.0) e (own.2 ∙ k) in
-    let found = with-before old.begun old.own own.0 e counted.1 in
-    record {
-      found = own.1 ∙ ap Ok found.1;
-      more = ltb-true (length (names_in old.begun)) (length (names_in new.begun)) counted.0;
-      before = found.0;
-    }
-
-all-before : (begun : Option InProgress) (own : Option Encoding) (e : Encoding)
-    → Before begun own e → (own ≡ Some e → AllOf e (units_begun begun))
-    → AllOf e (units_begun begun)
-all-before None own e is all = All-nil (λ (u : DwarfObject × Meaning). u.1.encoding ≡ e)
-all-before (Some made) own e is all = all is
+    let is = with-own-is old.begun old.own own.0 e in (
+      λ k.
+          let counted = not-else (ltb (length (names_in old.begun)) (length (names_in new.begun)))
+          (with_own old.begun old.own own.0) None (Some e) (none-some e) (own.2 ∙ k) in
+          let found = is.0 counted.1 in
+          record { found = own.1 ∙ ap Ok found.1; more = ltb-true _ _ counted.0; before = found.0 },
+      λ a. sym own.2
+          ∙ ap (λ b. cond {A = Option Encoding} b (with_own old.begun old.own own.0) None)
+          (lt-ltb (length (names_in old.begun)) (length (names_in new.begun)) a.more)
+          ∙ is.1 (a.before, same-ok {E = ErrorValue} own.0 (Some e) (sym own.1 ∙ a.found)),
+    )
 
 pub units-names : (begun : Option InProgress) → length (units_begun begun) ≡ length (names_in begun)
 units-names None = refl
@@ -253,19 +214,19 @@ InputsJoined = (bytes : List ℕ) (begun now : Option InProgress) → IsSoundBeg
 -- an input that is taken keeps it so
 pub taken-holds : InputsJoined → (bytes : List ℕ) (old new : State) → IsSoundBegun old.begun
     → HoldsOwn old → taken bytes old ≡ Ok new → HoldsOwn new
-taken-holds joined bytes old new sound holds h =
-    let now = begun-now bytes old new h in
-    record {
-      some = λ e k. omega (arith, (own-adds bytes old new e h k).more, units-names new.begun);
-      all = λ e k.
-          let a = own-adds bytes old new e h k in
-          units-hold (λ unit. unit.encoding ≡ e) bytes old.begun new.begun
-          (joined bytes old.begun new.begun sound now) now
-          (λ file u opens all read. each-all _ (λ r unit made. made.0
-          ∙ (own-units bytes e a.found file old.begun new.begun u opens).is) all)
-          (all-before old.begun old.own e a.before (holds.all e));
-    }
-
--- and where nothing has begun
-pub own-start : HoldsOwn start
-own-start = record { some = λ e k. absurd cc; all = λ e k. absurd cc }
+taken-holds joined bytes old new sound holds h = record {
+  some = λ e k. omega (arith, ((own-adds bytes old new e h).0 k).more, units-names new.begun);
+  all = λ e k.
+      let now = begun-now bytes old new h in
+      let t = takes bytes old.begun new.begun now in
+      let a = (own-adds bytes old new e h).0 k in
+      units-hold (λ unit. unit.encoding ≡ e) bytes old.begun new.begun
+      (joined bytes old.begun new.begun sound now) t
+      (λ u all read. each-all _ (λ r unit made. made.0
+      ∙ (own-units bytes e a.found t.file old.begun new.begun u t.opens).is) all)
+      ((elim old.begun as (λ b. Before b old.own e → (old.own ≡ Some e → AllOf e (units_begun b))
+      → AllOf e (units_begun b)) [
+        | None ↦ λ is all. All-nil (λ (u : DwarfObject × Meaning). u.1.encoding ≡ e)
+        | Some made ↦ λ is all. all (is made refl)
+      ]) a.before (holds.all e));
+}

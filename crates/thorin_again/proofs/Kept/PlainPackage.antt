@@ -1,12 +1,10 @@
 -- A builder's package stays one of plain objects of one encoding.
-use Rattle.std.proofs.Common.{◌≡◌, ◌∙◌, ℕ, ◌<◌, true, false, ◌||◌, List, [], ◌∷◌, length}
-use Rattle.std.proofs.Common.{refl, sym, ap, subst, Ok, Option, Some, None, arith}
+use Rattle.std.proofs.Common.{◌≡◌, ◌∙◌, ℕ, ◌<◌, true, false, ◌||◌, List, [], ◌∷◌, length, refl, sym}
+use Rattle.std.proofs.Common.{ap, subst, Ok, Option, Some, None, arith}
 use Rattle.std.specs.Prelude.{is_some}
 use Rattle.std.specs.List.{list_any}
 use Rattle.std.proofs.lemmas.List.{length-map}
 use Rattle.std.proofs.lemmas.Option.{same_Some}
-use Rattle.dwp_base.specs.declared.class.Class.{Class}
-use Rattle.dwp_base.specs.declared.endian.Endianness.{Endianness}
 use Rattle.dwp_base.specs.declared.section.SectionKind.{SectionKind}
 use Rattle.dwp_base.specs.declared.section.SectionKind.TheVariants.{CuIndex, TuIndex}
 use Rattle.dwp_base.specs.Sections.{same_kind}
@@ -24,14 +22,14 @@ use Rattle.thorin_input.specs.Indexes.{Indexes, is_package, indexes_of}
 use Rattle.thorin_input.specs.Used.{Used, InputFile, first}
 use Rattle.thorin_again.specs.Plain.{IsPlain, HoldsPlain}
 use Rattle.thorin_join.specs.Represents.{IsSoundBegun}
-use Rattle.thorin_join.specs.State.{InProgress, empty}
+use Rattle.thorin_join.specs.State.{InProgress}
 use Rattle.thorin_join.proofs.Units.HeadersRead.{ReadAlone}
 use Rattle.thorin_join.proofs.Joined.Input.{made-order, new-sound}
 use Rattle.thorin_join.proofs.Parts.OffsetLaws.{NamesTheSameLaw}
-use Rattle.thorin_again.proofs.Kept.InfoThere.{info-there}
-use Rattle.thorin_again.proofs.Kept.Names.{names-kept}
+use Rattle.thorin_again.proofs.Kept.Names.{info-there, names-kept}
 use Rattle.thorin_again.proofs.Kept.OneEncoding.{Before, begun-now, own-adds, own-units}
 use Rattle.thorin_again.proofs.Kept.OneEncoding.{takes-units}
+use Rattle.thorin_join.proofs.Joined.Taken.{takes}
 use Rattle.thorin_again.proofs.Kept.SharedParts.{named-kept}
 use Rattle.thorin_again.proofs.Meant.Package.{are-indexes}
 use Rattle.thorin_again.proofs.Offsets.RewrittenAgain.{no-turn}
@@ -53,43 +51,33 @@ plain-indexes : (object : InputFile) (encoding : Encoding) (indexes : Indexes)
 plain-indexes object encoding indexes plain h =
     let are = are-indexes object encoding indexes h in
     let none = is-false (list_any is_index object.sections) plain in
+    let apart = λ (s : Used) (other : is_index s ≡ false).
+    neither (same_kind s.kind CuIndex) (same_kind s.kind TuIndex) other in
     let c = same-ok {E = ErrorValue} _ _ (sym are.compilations ∙ none-taken object.order CuIndex
-    (first CuIndex object.sections) (none-found CuIndex (λ s other. (neither
-    (same_kind s.kind CuIndex) (same_kind s.kind TuIndex) other).0) object.sections none)) in
+    _ (none-found CuIndex (λ s other. (apart s other).0) object.sections none)) in
     let t = same-ok {E = ErrorValue} _ _ (sym are.types ∙ none-taken object.order TuIndex
-    (first TuIndex object.sections) (none-found TuIndex (λ s other. (neither
-    (same_kind s.kind CuIndex) (same_kind s.kind TuIndex) other).1) object.sections none)) in
+    _ (none-found TuIndex (λ s other. (apart s other).1) object.sections none)) in
     λ i. is_some (c i) || is_some (t i)
 
 -- ---- the package before it: of such objects, or a new one
 
-new-plain : (encoding : Encoding) (class : Class) (machine : ℕ) (order : Endianness)
-    → IsPlain encoding (empty class machine order)
-new-plain encoding class machine order = record {
+plain-before : (encoding : Encoding) (file : Elf) (begun : Option InProgress)
+    (own : Option Encoding) → Before begun own encoding
+    → ((made : InProgress) → own ≡ Some encoding → begun ≡ Some made → IsPlain encoding made)
+    → IsPlain encoding (package_or_new file begun)
+plain-before encoding file None own before holds = record {
   named = λ kind shared some. absurd (omega (arith, some));
   offsets = record {
     ranges = [];
     tile = refl;
     rows = tt;
     named = λ range there. absurd there;
-    strings = λ final table front. no-turn order encoding (data_of final) [] 0 [];
+    strings = λ final table front. no-turn file.order encoding (data_of final) [] 0 [];
   };
   units = tt;
   info = λ some. absurd (omega (arith, some));
 }
-
-plain-before : (encoding : Encoding) (file : Elf) (begun : Option InProgress)
-    (own : Option Encoding) → Before begun own encoding
-    → ((made : InProgress) → own ≡ Some encoding → begun ≡ Some made → IsPlain encoding made)
-    → IsPlain encoding (package_or_new file begun)
-plain-before encoding file None own before holds =
-    new-plain encoding file.class file.machine file.order
-plain-before encoding file (Some made) own before holds = holds made before refl
-
-names-before : (file : Elf) (begun : Option InProgress) → length (names_in begun) ≡ length
-    (package_or_new file begun).rows
-names-before file None = refl
-names-before file (Some made) = length-map made.rows _
+plain-before encoding file (Some made) own before holds = holds made (before made refl) refl
 
 -- ---- an input that is taken
 
@@ -97,29 +85,28 @@ pub taken-plain : NamesTheSameLaw → UnitsAreTaken → ReadAlone → (bytes : L
     → IsSoundBegun old.begun → HoldsPlain old → taken bytes old ≡ Ok new → HoldsPlain new
 taken-plain names reads alone bytes old new sound holds h = record {
   made = λ encoding made own begun.
-      let a = own-adds bytes old new encoding h own in
-      let w = takes-units bytes encoding a.found old.begun new.begun (begun-now bytes old new h) in
-      let u = w.3 in
-      let is = own-units bytes encoding a.found w.0 old.begun new.begun u w.1 in
-      let before = package_or_new w.0 old.begun in
+      let a = (own-adds bytes old new encoding h).0 own in
+      let t = takes bytes old.begun new.begun (begun-now bytes old new h) in
+      let u = (takes-units bytes encoding a.found old.begun new.begun t).1 in
       let source = u.source in
-      let plain = plain-indexes u.source.object u.source.encoding u.source.indexes is.plain
+      let is = own-units bytes encoding a.found t.file old.begun new.begun u t.opens in
+      let before = package_or_new t.file old.begun in
+      let plain = plain-indexes source.object source.encoding source.indexes is.plain
       u.indexes_are in
-      let order = made-order w.0 u.source.object old.begun u.object_is u.order_is in
-      let before_sound = new-sound w.0 old.begun sound in
-      let now : names_in new.begun ≡ names_in (Some u.made) = ap names_in (sym u.is) in
+      let order = made-order t.file source.object old.begun u.object_is u.order_is in
+      let before_sound = new-sound t.file old.begun sound in
+      let now : u.made ≡ made = same_Some u.made made (u.is ∙ begun) in
       let more : length before.rows < length u.made.rows = omega (
         arith,
         a.more,
-        names-before w.0
-            old.begun,
-        ap length now,
+        elim old.begun as (λ b. length (names_in b) ≡ length (package_or_new t.file b).rows)
+            [ None ↦ refl | Some held ↦ length-map held.rows _ ],
+        ap (λ b. length (names_in b)) (sym u.is),
         length-map u.made.rows (λ (row : IndexEntry). row.id),
       ) in
-      let was : IsPlain u.source.encoding before = subst (λ e. IsPlain e before) (sym is.is)
-      (plain-before encoding w.0 old.begun old.own a.before (holds.made encoding)) in
-      let same : u.made ≡ made = same_Some u.made made (u.is ∙ begun) in
-      subst (IsPlain encoding) same (subst (λ e. IsPlain e u.made) is.is (record {
+      let was : IsPlain source.encoding before = subst (λ e. IsPlain e before) (sym is.is)
+      (plain-before encoding t.file old.begun old.own a.before (holds.made encoding)) in
+      subst (IsPlain encoding) now (subst (λ e. IsPlain e u.made) is.is (record {
         named = named-kept source before u.made plain u.with more was.named;
         offsets = tiled-kept names source before u.made plain before_sound.units.table order u.with
             more was.offsets;

@@ -1,6 +1,7 @@
 -- The header of a unit that was read has the encoding that is recorded of it, wherever its bytes
 -- are read again.
-use Rattle.std.proofs.Common.{◌≡◌, ◌∙◌, ℕ, true, nat_eq, ◌&&◌, List, sym, ap, Result, Ok, ◌-◌}
+use Rattle.std.proofs.Common.{◌≡◌, ◌∙◌, ℕ, true, nat_eq, ◌&&◌, List, refl, sym, ap, Result, Ok, ◌-◌}
+use Rattle.dwp_dwarf.proofs.Readings.{one_answer}
 use Rattle.std.specs.Prelude.{All, nat_le}
 use Rattle.std.specs.List.{list_all}
 use Rattle.dwp_base.specs.Reading.{◌>>=◌}
@@ -9,7 +10,6 @@ use Rattle.dwp_bytes.specs.Input.{Input, section, number_at, split_at, offset_at
 use Rattle.dwp_bytes.specs.declared.encoding.Encoding.{Encoding}
 use Rattle.dwp_bytes.specs.declared.encoding.Format.{Format}
 use Rattle.dwp_bytes.specs.declared.error.ReadError.{ReadError}
-use Rattle.dwp_bytes.specs.declared.error.ReadError.TheVariants.{UnknownVersion}
 use Rattle.dwp_dwarf.specs.Units.{Unit as Header, UnitsAreTaken, unit_at, units, header_at}
 use Rattle.dwp_dwarf.specs.Units.{older_at, older_type_at, address_size_at, initial_length_at}
 use Rattle.dwp_dwarf.specs.declared.unit.UnitSection.{UnitSection}
@@ -19,42 +19,30 @@ use Rattle.thorin_input.specs.Encodings.{section_has}
 use Rattle.thorin_input.specs.Indexes.{Source}
 use Rattle.thorin_join.specs.Meaning.{Meaning, Members, source_units}
 use Rattle.thorin_join.proofs.Units.HeadersRead.{ReadAlone, Reads}
-use Rattle.thorin_again.proofs.Kept.EachUnit.{WasRead, Has, units-are, read-encoding, each-passed}
-use Rattle.thorin_again.proofs.Kept.EachUnit.{each-weaker}
+use Rattle.thorin_again.proofs.Kept.EachUnit.{WasRead, OfOne, of-one, sections-are, each-weaker}
 use Rattle.thorin_again.proofs.Kept.OneEncoding.{CanMean}
-use Rattle.thorin_join.proofs.Units.Whole.{known-in}
 use Rattle.dwp_base.proofs.Bools.{by-bool}
 use Rattle.dwp_base.proofs.Steps.{bind-was, same-ok}
-use Rattle.thorin_join.proofs.Steps.{err-ok}
 
 -- ---- a header has one encoding, in whichever section it is read
-
-older-encoding : (p q : UnitSection) (format : Format) (version : ℕ) (whole i : Input)
-    (u v : Header) → older_at p format version whole i ≡ Ok u
-    → older_at q format version whole i ≡ Ok v → u.encoding ≡ v.encoding
-unfolding older_at
-older-encoding p q format version whole i u v h k =
-    let a = bind-was (offset_at format i) _ u h in
-    let b = bind-was (address_size_at a.0.1) _ u a.2 in
-    let x = bind-was (older_type_at p format b.0.1) _ u b.2 in
-    let y = bind-was (older_type_at q format b.0.1) _ v (rw (a.1, b.1) at k) in
-    ap (λ (w : Header). w.encoding) (sym (same-ok {E = ReadError} _ u x.2))
-    ∙ ap (λ (w : Header). w.encoding) (same-ok {E = ReadError} _ v y.2)
 
 header-encoding : (p q : UnitSection) (format : Format) (whole i : Input) (u v : Header)
     → header_at p format whole i ≡ Ok u → header_at q format whole i ≡ Ok v
     → u.encoding ≡ v.encoding
-unfolding header_at
+unfolding header_at older_at
 header-encoding p q format whole i u v h k =
     let a = bind-was (number_at 2 i) _ u h in
     let l = rw a.1 at k in
     by-bool _ (nat_eq a.0.0 5)
-    (λ five. ap (λ (w : Header). w.encoding) (same-ok {E = ReadError} u v
-    (sym (rw five at a.2) ∙ rw five at l)))
+    (λ five. ap (λ (w : Header). w.encoding) (one_answer _ (rw five at a.2) (rw five at l)))
     (λ other. by-bool _ (nat_le 2 a.0.0 && nat_le a.0.0 4)
-    (λ older. older-encoding p q format a.0.0 whole a.0.1 u v (rw (other, older) at a.2)
-    (rw (other, older) at l))
-    (λ none. absurd (err-ok UnknownVersion u (rw (other, none) at a.2))))
+    (λ older.
+    let b = bind-was (offset_at format a.0.1) _ u (rw (other, older) at a.2) in
+    let c = bind-was (address_size_at b.0.1) _ u b.2 in
+    let x = bind-was (older_type_at p format c.0.1) _ u c.2 in
+    let y = bind-was (older_type_at q format c.0.1) _ v (rw (other, older, b.1, c.1) at l) in
+    rw (← same-ok {E = ReadError} _ u x.2, ← same-ok {E = ReadError} _ v y.2) refl)
+    (λ none. let wrong = rw (other, none) at a.2 in absurd cc))
 
 places-encoding : (p q : UnitSection) (i : Input) (u v : Header × Input) → unit_at p i ≡ Ok u
     → unit_at q i ≡ Ok v → u.0.encoding ≡ v.0.encoding
@@ -65,9 +53,8 @@ places-encoding p q i u v h k =
     let c = bind-was (split_at (b.0.1.place - i.place) i) _ u b.2 in
     let x = bind-was (header_at p a.0.0.0 c.0.0 b.0.0) _ u c.2 in
     let y = bind-was (header_at q a.0.0.0 c.0.0 b.0.0) _ v (rw (a.1, b.1, c.1) at k) in
-    ap (λ (w : Header × Input). w.0.encoding) (sym (same-ok {E = ReadError} _ u x.2))
-    ∙ header-encoding p q a.0.0.0 c.0.0 b.0.0 x.0 y.0 x.1 y.1
-    ∙ ap (λ (w : Header × Input). w.0.encoding) (same-ok {E = ReadError} _ v y.2)
+    rw (← same-ok {E = ReadError} _ u x.2, ← same-ok {E = ReadError} _ v y.2)
+    (header-encoding p q a.0.0.0 c.0.0 b.0.0 x.0 y.0 x.1 y.1)
 
 -- ---- bytes whose header has an encoding
 
@@ -107,16 +94,15 @@ pub read-encoded : UnitsAreTaken → ReadAlone → (source : Source) (all : Read
     → source_units source ≡ Ok all → CanMean (IsEncoded source.object.order) source all
 read-encoded taken alone source all has h =
     let order = source.object.order in
-    each-weaker (WasRead source (Has source)) _ (λ r w unit made.
-    let read = r.1.unit in
-    let a = (known-in taken alone order w.place w.used.bytes w.number read w.there).0 in
-    let here = header-has order w.place read.whole.bytes source.encoding
-    (in-of order w.place read.whole.bytes a.alone a.rest a.read ∙ ap Ok (a.encoding
-    ∙ read-encoding source r w)) in
+    each-weaker (WasRead source (OfOne source)) _ (λ r w unit made.
+    let a = w.so.0.0 in
+    let here = header-has order w.place r.1.unit.whole.bytes source.encoding
+    (in-of order w.place r.1.unit.whole.bytes a.alone a.rest a.read
+    ∙ ap Ok (a.encoding ∙ w.so.1)) in
     λ place found is. here place found (ap (encoding_in order place) (sym made.1) ∙ is)
     ∙ sym made.0)
-    all (units-are source (Has source) all (each-passed (section_has source.encoding order)
-    source.object.sections has) h)
+    all (sections-are source (OfOne source) source.object.sections all
+    (of-one taken alone source source.object.sections has) h)
 
 -- so of units with all that belongs to each
 abbrev pub AreEncoded : Endianness → Members → Type 0

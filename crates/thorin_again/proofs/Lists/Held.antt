@@ -10,7 +10,7 @@ use Rattle.thorin_again.specs.Plain.{HoldsPlain}
 use Rattle.thorin_again.specs.PlainInputs.{AreTaken}
 use Rattle.thorin_join.specs.Represents.{IsSoundBegun, units_begun}
 use Rattle.thorin_join.specs.State.{InProgress}
-use Rattle.thorin_again.proofs.Kept.OneEncoding.{InputsJoined, begun-now, own-start}
+use Rattle.thorin_again.proofs.Kept.OneEncoding.{InputsJoined, begun-now}
 
 -- what stays so of a builder, whatever executables refer to, as inputs of this kind are taken
 in-order : (Q : List ℕ → Type 0) (P : State → Type 0)
@@ -30,13 +30,9 @@ abbrev pub InputsSound : Type 0
 InputsSound = (bytes : List ℕ) (begun now : Option InProgress) → IsSoundBegun begun
     → with_input bytes begun ≡ Ok now → IsSoundBegun now
 
-abbrev OwnKept : Type 0
-OwnKept = (bytes : List ℕ) (old new : State) → IsSoundBegun old.begun → HoldsOwn old
-    → taken bytes old ≡ Ok new → HoldsOwn new
-
-abbrev PlainKept : Type 0
-PlainKept = (bytes : List ℕ) (old new : State) → IsSoundBegun old.begun → HoldsPlain old
-    → taken bytes old ≡ Ok new → HoldsPlain new
+abbrev IsKept : (State → Type 0) → Type 0
+IsKept P = (bytes : List ℕ) (old new : State) → IsSoundBegun old.begun → P old
+    → taken bytes old ≡ Ok new → P new
 
 -- what stays so of a sound package
 pub packages-in-order : InputsSound → InputsJoined → (Q : List ℕ → Type 0)
@@ -59,7 +55,8 @@ pub record Holds (state : State) : Type 0 where
   pub own : HoldsOwn state
   pub plain : HoldsPlain state
 
-pub inputs-hold : InputsSound → OwnKept → PlainKept → (accepted : List (List ℕ)) (state : State)
+pub inputs-hold : InputsSound → IsKept HoldsOwn → IsKept HoldsPlain
+    → (accepted : List (List ℕ)) (state : State)
     → AreTaken accepted start state → Holds state
 inputs-hold sound own plain accepted state are =
     in-order (λ bytes. Unit {0}) Holds
@@ -74,6 +71,6 @@ inputs-hold sound own plain accepted state are =
       plain = plain bytes old new h.sound h.plain took;
     }) accepted start state are (λ k d within. tt) (record {
       sound = tt;
-      own = own-start;
+      own = record { some = λ e k. absurd cc; all = λ e k. absurd cc };
       plain = record { made = λ e made k b. absurd cc };
     })

@@ -1,8 +1,9 @@
 -- Where all inputs have one encoding, so has what is written, as an input.
-use Rattle.std.proofs.Common.{inl, inr, ◌≡◌, ◌∙◌, ℕ, ◌<◌, List, [], ◌∷◌, length, map, sym, ap}
+use Rattle.std.proofs.Common.{inl, inr, ◌≡◌, ◌∙◌, ℕ, ◌<◌, List, [], ◌∷◌, length, map, refl, sym, ap}
 use Rattle.std.proofs.Common.{subst, Ok, Option, Some, None, arith}
 use Rattle.std.specs.Prelude.{All}
 use Rattle.std.proofs.lemmas.List.{length-map}
+use Rattle.std.proofs.lemmas.Option.{same_Some}
 use Rattle.std.proofs.lemmas.List.Elements.{All-nil, All-head, All-tail}
 use Rattle.dwp_base.specs.declared.endian.Endianness.{Endianness}
 use Rattle.dwp_base.specs.declared.section.SectionKind.TheVariants as kinds
@@ -10,80 +11,63 @@ use Rattle.dwp_bytes.specs.declared.encoding.Encoding.{Encoding}
 use Rattle.dwp_dwarf.specs.Units.{UnitsAreTaken}
 use Rattle.dwp_dwarf.specs.declared.unit.UnitSection.TheVariants as places
 use Rattle.dwp_elf.specs.Contents.{content_of}
-use Rattle.dwp_elf.specs.FileText.{Object as File, file_text}
-use Rattle.dwp_elf.specs.Written.{written_elf}
-use Rattle.dwp_elf_read.specs.Elf.{Elf}
+use Rattle.dwp_elf.specs.FileText.{Object as File}
 use Rattle.dwp_index.specs.Package.{place_of}
 use Rattle.dwp_table.specs.declared.object.DwarfObject.{DwarfObject}
 use Rattle.thorin_index.specs.declared.entry.IndexEntry.{IndexEntry}
-use Rattle.thorin_input.specs.Encodings.{encoding_of}
 use Rattle.thorin_input.specs.Growing.{Contents}
-use Rattle.thorin_input.specs.Used.{InputFile, opened, input_file_of}
 use Rattle.thorin_again.specs.Again.{input_encoding}
 use Rattle.thorin_join.specs.Builder.{State, start, with_input, package_or_new, IsFinishedState}
 use Rattle.thorin_join.specs.Join.{Joins}
 use Rattle.thorin_join.specs.Meaning.{Meaning, Members}
 use Rattle.thorin_again.specs.OneEncoding.{IsOfEncoding, HaveEncodingOnceWritten}
-use Rattle.thorin_again.specs.OwnInput.{written_object}
 use Rattle.thorin_again.specs.OwnUnits.{AllOf}
 use Rattle.thorin_again.specs.PlainInputs.{AreTaken}
 use Rattle.thorin_join.specs.Represents.{IsSoundBegun, meaning_at, units_of, units_in, units_begun}
 use Rattle.thorin_join.specs.StandApart.{EachRow}
 use Rattle.thorin_join.specs.State.{InProgress, unit_bytes}
 use Rattle.thorin_again.proofs.Lists.Held.{InputsSound, packages-in-order}
-use Rattle.thorin_again.proofs.Lists.StringsWhole.{Encoded, none-encoded, input-encoded}
-use Rattle.thorin_again.proofs.Lists.StringsWhole.{encoded-made}
-use Rattle.thorin_again.proofs.Lists.HeadersEncoded.{AreEncoded, IsEncoded, in-of}
+use Rattle.thorin_again.proofs.Lists.StringsWhole.{Encoded, input-encoded}
+use Rattle.thorin_again.proofs.Lists.HeadersEncoded.{IsEncoded, in-of}
 use Rattle.thorin_join.proofs.Units.HeadersRead.{ReadAlone}
-use Rattle.thorin_again.proofs.Kept.InfoThere.{info-there}
+use Rattle.thorin_again.proofs.Kept.Names.{info-there}
 use Rattle.thorin_again.proofs.Kept.EachUnit.{each-all}
 use Rattle.thorin_again.proofs.Kept.OneEncoding.{InputsJoined, units-hold}
-use Rattle.thorin_again.proofs.Opened.FirstEncoding.{EncodesItself, first-of}
-use Rattle.thorin_again.proofs.Opened.Sections.{object-written, opened-elf}
+use Rattle.thorin_again.proofs.Opened.FirstEncoding.{EncodesItself, first-of, input-encoding}
 use Rattle.thorin_join.proofs.Files.Finished.{finished-own}
 use Rattle.thorin_join.proofs.Joined.Taken.{takes}
 
 -- ---- one input
 
 -- info has bytes where there are units
-abbrev HasInfo : Option InProgress → Type 0
-HasInfo None = Unit {0}
-HasInfo (Some made) = 0 < length made.rows
-    → 0 < length (content_of kinds.Info made.file.contents)
+abbrev HasInfo : InProgress → Type 0
+HasInfo made = 0 < length made.rows → 0 < length (content_of kinds.Info made.file.contents)
 
--- and all units have the encoding
+-- all units have the encoding too
 abbrev Filled : Encoding → Option InProgress → Type 0
-Filled e begun = AllOf e (units_begun begun) × HasInfo begun
-
-new-info : (file : Elf) (begun : Option InProgress) → HasInfo begun
-    → HasInfo (Some (package_or_new file begun))
-new-info file None h = λ some. absurd (omega (arith, some))
-new-info file (Some made) h = h
-
-encoding-read : (bytes : List ℕ) (file : Elf) (object : InputFile) (first : Encoding)
-    → opened bytes ≡ Ok file → input_file_of file ≡ Ok object → encoding_of object ≡ Ok first
-    → input_encoding bytes ≡ Ok first
-unfolding input_encoding
-encoding-read bytes file object first opens is read = rw (opens, is) read
+Filled e begun = AllOf e (units_begun begun)
+    × ((made : InProgress) → begun ≡ Some made → HasInfo made)
 
 input-filled : UnitsAreTaken → ReadAlone → (e : Encoding) (bytes : List ℕ)
     (begun now : Option InProgress) → IsOfEncoding e bytes
     → Joins bytes (units_begun begun) (units_begun now) → with_input bytes begun ≡ Ok now
     → Filled e begun → Filled e now
+unfolding input_encoding
 input-filled reads alone e bytes begun now one j h before =
-    let t = takes bytes begun now h in (
-      units-hold (λ unit. unit.encoding ≡ e) bytes begun now j h
-          (λ file u opens all read. each-all _ (λ r unit made. made.0 ∙ one.1 u.source.encoding
-          (encoding-read bytes file u.source.object u.source.encoding opens u.object_is
-          u.encoding_is)) all)
+    let t = takes bytes begun now h in
+    let info = (elim begun as (λ b. ((made : InProgress) → b ≡ Some made → HasInfo made)
+    → HasInfo (package_or_new t.file b)) [
+      | None ↦ λ has some. absurd (omega (arith, some))
+      | Some made ↦ λ has. has made refl
+    ]) before.1 in (
+      units-hold (λ unit. unit.encoding ≡ e) bytes begun now j t
+          (λ u all read. each-all _ (λ r unit made. made.0
+          ∙ one.1 u.source.encoding (rw (t.opens, u.object_is) u.encoding_is)) all)
           before.0,
-      elim t.does [
-        | inl w ↦
-            let u = w.1 in
-            subst HasInfo u.is (λ some. info-there reads alone u.source
-            (package_or_new t.file begun) u.made u.encoding_is u.with
-            (new-info t.file begun before.1))
-        | inr none ↦ subst HasInfo none.1 (new-info t.file begun before.1)
+      λ made is. elim t.does [
+        | inl w ↦ subst HasInfo (same_Some _ made (w.1.is ∙ is)) (λ some. info-there reads alone
+            w.1.source (package_or_new t.file begun) w.1.made w.1.encoding_is w.1.with info)
+        | inr none ↦ subst HasInfo (same_Some _ made (none.1 ∙ is)) info
       ],
     )
 
@@ -94,37 +78,18 @@ module _ (order : Endianness) (e : Encoding) (contents : Contents) (strings : Li
   units rows = map {B = DwarfObject × Meaning} (λ row.
       (row.id, meaning_at order contents strings row)) rows
 
-  rows-encode : (rows : List IndexEntry) → AreEncoded order (units rows) → AllOf e (units rows)
-      → EachRow (EncodesItself order e contents) rows
-  rows-encode [] are all = tt
-  rows-encode (r ∷ rs) are all =
-      let unit : DwarfObject × Meaning = (r.id, meaning_at order contents strings r) in
-      let place = place_of r.id r.debug_types in
-      let is = λ (u : DwarfObject × Meaning). IsEncoded order u.1 in
-      let has = λ (u : DwarfObject × Meaning). u.1.encoding ≡ e in (
-        λ own left read. All-head is unit (units rs) are place own.encoding
-            (in-of order place (unit_bytes contents r) own left read)
-            ∙ All-head has unit (units rs) all,
-        rows-encode rs (All-tail is unit (units rs) are) (All-tail has unit (units rs) all),
-      )
+  abbrev Is : DwarfObject × Meaning → Type 0
+  Is u = IsEncoded order u.1 × (u.1.encoding ≡ e)
 
-have-encoding : UnitsAreTaken → (e : Encoding) (state : State) (file : File)
-    → IsSoundBegun state.begun → Encoded state.begun → Filled e state.begun
-    → IsFinishedState state file → HaveEncodingOnceWritten (units_in state) file
-have-encoding reads e state file sound encoded filled f differ back k d within =
-    let made = f.made in
-    let here : Filled e (Some made) = subst (Filled e) f.begun filled in
-    let are : AreEncoded made.file.order (units_of made) = subst (AreEncoded made.file.order)
-    (ap units_begun f.begun) (encoded-made state.begun made f.begun encoded) in
-    let long = ap (λ b. length (units_begun b)) f.begun ∙ length-map made.rows _ in
-    let some : 0 < length made.rows = omega (arith, long, within) in
-    let first = first-of reads made file e (subst IsSoundBegun f.begun sound) f.finished differ
-    (rows-encode made.file.order e made.file.contents made.strings made.rows are here.0)
-    (subst (λ l. 0 < length l) (sym (finished-own made file f.finished places.Info))
-    (here.1 some)) in
-    encoding-read (file_text file) (written_elf file) (written_object file) e
-    (opened-elf (file_text file) (written_elf file) back) (object-written file differ) first
-    ∙ ap Ok (sym (filled.0 k d within))
+  rows-encode : (rows : List IndexEntry) → All Is (units rows)
+      → EachRow (EncodesItself order e contents) rows
+  rows-encode [] are = tt
+  rows-encode (r ∷ rs) are =
+      let is = All-head Is _ (units rs) are in (
+        λ own left read. is.0 (place_of r.id r.debug_types) own.encoding
+            (in-of order _ (unit_bytes contents r) own left read) ∙ is.1,
+        rows-encode rs (All-tail Is _ (units rs) are),
+      )
 
 -- ---- inputs in order
 
@@ -132,11 +97,23 @@ pub inputs-alike : UnitsAreTaken → ReadAlone → InputsSound → InputsJoined 
     → (accepted : List (List ℕ)) (state : State)
     → AreTaken accepted start state → All (IsOfEncoding e) accepted → (file : File)
     → IsFinishedState state file → HaveEncodingOnceWritten (units_in state) file
-inputs-alike reads alone sound joins e accepted state are one file f =
+inputs-alike reads alone sound joins e accepted state are one file f differ back k d within =
     let is = packages-in-order sound joins (IsOfEncoding e) (λ begun. Encoded begun
     × Filled e begun) (λ bytes begun now q j h before. (
       input-encoded reads alone bytes begun now q.0 j h before.0,
       input-filled reads alone e bytes begun now q j h before.1,
-    )) accepted state are one
-    (none-encoded, (All-nil (λ (u : DwarfObject × Meaning). u.1.encoding ≡ e), tt)) in
-    have-encoding reads e state file is.0 is.1.0 is.1.1 f
+    )) accepted state are one (
+      λ made none. absurd cc,
+      (All-nil (λ (u : DwarfObject × Meaning). u.1.encoding ≡ e), λ made none. absurd cc),
+    ) in
+    let made = f.made in
+    let filled = is.1.1 in
+    let encoded = is.1.0 made f.begun in
+    let all : AllOf e (units_of made) = subst (AllOf e) (ap units_begun f.begun) filled.0 in
+    let long = ap (λ b. length (units_begun b)) f.begun ∙ length-map made.rows _ in
+    let some = filled.1 made f.begun (omega (arith, long, within)) in
+    let first = first-of reads made file e (subst IsSoundBegun f.begun is.0) f.finished differ
+    (rows-encode made.file.order e made.file.contents made.strings made.rows
+    (λ k d within. (encoded k d within, all k d within)))
+    (subst (λ l. 0 < length l) (sym (finished-own made file f.finished places.Info)) some) in
+    input-encoding file differ back ∙ first ∙ ap Ok (sym (filled.0 k d within))

@@ -1,72 +1,51 @@
 -- The one encoding of a builder, by the inputs that it took.
-use Rattle.std.specs.List.{list_all}
-use Rattle.std.proofs.Common.{inl, inr, ◌≡◌, ◌∙◌, ◌↔◌, ℕ, true, cond, ◌&&◌, List, [], ◌∷◌, ◌++◌}
-use Rattle.std.proofs.Common.{length, map, refl, sym, ap, subst, Ok, Option, Some, None, ◌+◌, arith}
-use Rattle.std.proofs.Common.{true≢false, length-append}
+use Rattle.std.proofs.Common.{inl, inr, ◌≡◌, ◌∙◌, ◌↔◌, ℕ, Bool, true, false, ◌&&◌, List, [], ◌∷◌}
+use Rattle.std.proofs.Common.{◌++◌, length, refl, sym, ap, subst, Ok, Option, Some, None, ◌+◌}
+use Rattle.std.proofs.Common.{arith, true≢false, length-append}
 use Rattle.std.specs.Prelude.{All, is_some}
-use Rattle.std.proofs.lemmas.Bool.{lt-ltb}
 use Rattle.std.proofs.lemmas.List.Elements.{All-nil, All-cons, All-head, All-tail}
-use Rattle.std.proofs.lemmas.Option.{same_Some}
 use Rattle.dwp_base.proofs.Bools.{both}
 use Rattle.dwp_bytes.specs.declared.encoding.Encoding.{Encoding}
 use Rattle.dwp_table.specs.declared.object.DwarfObject.{DwarfObject}
 use Rattle.thorin_errors.specs.Errors.{ErrorValue}
-use Rattle.thorin_input.specs.Encodings.{own_encoding, file_encoding, common, section_has}
-use Rattle.thorin_join.specs.Builder.{State, start, taken, names_in, with_own, package_or_new}
+use Rattle.thorin_input.specs.Encodings.{own_encoding, file_encoding}
+use Rattle.thorin_join.specs.Builder.{State, start, taken, names_in, package_or_new}
 use Rattle.thorin_join.specs.Join.{Joins}
 use Rattle.thorin_join.specs.Meaning.{Meaning, Members, keys, joining}
 use Rattle.thorin_again.specs.Own.{has_sections, packs_again}
 use Rattle.thorin_again.specs.PlainInputs.{AreTaken, IsPlainOf, EachAdds, IsOfPlainObjects}
-use Rattle.thorin_join.specs.Represents.{IsSoundBegun, units_in}
+use Rattle.thorin_join.specs.Represents.{IsSoundBegun, units_in, units_begun}
 use Rattle.thorin_join.specs.State.{InProgress}
 use Rattle.thorin_join.proofs.Joined.Taken.{takes}
-use Rattle.thorin_again.proofs.Kept.Encodings.{common-self}
-use Rattle.thorin_again.proofs.Kept.OneEncoding.{InputsJoined, begun-now, taken-as, Before, AddsOwn}
-use Rattle.thorin_again.proofs.Kept.OneEncoding.{own-adds, own-units, takes-units, units-names}
+use Rattle.thorin_again.proofs.Kept.OneEncoding.{InputsJoined, begun-now, Before, own-adds}
+use Rattle.thorin_again.proofs.Kept.OneEncoding.{own-units, takes-units, units-names}
 use Rattle.thorin_again.proofs.Lists.Held.{InputsSound}
 use Rattle.dwp_base.proofs.Steps.{same-ok}
+use Rattle.thorin_join.proofs.Joined.Source.{all_there}
 
 -- ---- plain objects of one encoding
 
 plain-of : (bytes : List ℕ) (old new : State) (e : Encoding) → taken bytes old ≡ Ok new
     → own_encoding bytes ≡ Ok (Some e) → IsPlainOf e bytes
 plain-of bytes old new e h found =
-    let w = takes-units bytes e found old.begun new.begun (begun-now bytes old new h) in
-    let u = w.3 in
-    let is = own-units bytes e found w.0 old.begun new.begun u w.1 in
+    let t = takes bytes old.begun new.begun (begun-now bytes old new h) in
+    let w = takes-units bytes e found old.begun new.begun t in
+    let u = w.1 in
+    let is = own-units bytes e found t.file old.begun new.begun u t.opens in
     record {
-      file = w.0;
-      opens = w.1;
-      info = w.2;
+      file = t.file;
+      opens = t.opens;
+      info = w.0;
       object = u.source.object;
       used = u.object_is;
       plain = is.plain;
       first = u.encoding_is ∙ ap Ok is.is;
-      all = subst (λ x. list_all (section_has x u.source.object.order)
-          u.source.object.sections ≡ true) is.is
-          is.all;
+      all = rw is.is at is.all;
     }
 
 own-of : (bytes : List ℕ) (e : Encoding) → IsPlainOf e bytes → own_encoding bytes ≡ Ok (Some e)
 unfolding own_encoding file_encoding
 own-of bytes e p = rw (p.opens, p.info, p.used, p.first, p.plain, p.all) refl
-
--- ---- what a builder has of an encoding before an input of it
-
-before-own : (begun : Option InProgress) (own : Option Encoding) (e : Encoding) → own ≡ Some e
-    → Before begun own e
-before-own None own e h = tt
-before-own (Some made) own e h = h
-
-own-before : (begun : Option InProgress) (made : InProgress) (own : Option Encoding) (e : Encoding)
-    → begun ≡ Some made → Before begun own e → own ≡ Some e
-own-before None made own e there h = absurd cc
-own-before (Some m) made own e there h = h
-
-before-with : (begun : Option InProgress) (own found : Option Encoding) (e : Encoding)
-    → Before begun own e → found ≡ Some e → with_own begun own found ≡ Some e
-before-with None own found e h k = k
-before-with (Some made) own found e h k = (λ i. common (h i) (k i)) ∙ common-self e
 
 -- an input that was taken has begun a package
 begun-some : (bytes : List ℕ) (old new : State) → taken bytes old ≡ Ok new
@@ -78,51 +57,34 @@ begun-some bytes old new h =
       | inr none ↦ (package_or_new t.file old.begun, sym none.1)
     ]
 
-adds-own : (bytes : List ℕ) (old new : State) (e : Encoding) → taken bytes old ≡ Ok new
-    → AddsOwn bytes old new e → new.own ≡ Some e
-adds-own bytes old new e h a =
-    let own = taken-as bytes old new h in
-    let found : own.0 ≡ Some e = same-ok {E = ErrorValue} own.0 (Some e) (sym own.1 ∙ a.found) in
-    sym own.2
-    ∙ ap (λ b. cond {A = Option Encoding} b (with_own old.begun old.own own.0) None)
-    (lt-ltb (length (names_in old.begun)) (length (names_in new.begun)) a.more)
-    ∙ before-with old.begun old.own own.0 e a.before found
-
 -- ---- joins are one
 
-abbrev Meant : Type 0
-Meant = DwarfObject × Option Meaning
+-- the units with all that belongs to each
+abbrev back : List (DwarfObject × Option Meaning) → Members
+back [] = []
+back ((name, Some unit) ∷ us) = (name, unit) ∷ back us
+back ((name, None) ∷ us) = back us
 
-abbrev some_of : DwarfObject × Meaning → Meant
-some_of u = (u.0, Some u.1)
-
-some-same : (us vs : Members) → map {B = Meant} some_of us ≡ map {B = Meant} some_of vs → us ≡ vs
-some-same [] [] h = refl
-some-same [] (v ∷ vs) h = absurd cc
-some-same (u ∷ us) [] h = absurd cc
-some-same (u ∷ us) (v ∷ vs) h =
-    let first : some_of u ≡ some_of v = cc in
-    let later : map {B = Meant} some_of us ≡ map {B = Meant} some_of vs = cc in
-    let name : u.0 ≡ v.0 = ap (λ (x : Meant). x.0) first in
-    let unit : u.1 ≡ v.1 = same_Some u.1 v.1 (ap (λ (x : Meant). x.1) first) in
-    λ i. (name i, unit i) ∷ some-same us vs later i
+some-back : (us : Members) → back (all_there us) ≡ us
+some-back [] = refl
+some-back (u ∷ us) = ap (λ l. u ∷ l) (some-back us)
 
 joins-same : (bytes : List ℕ) (before one other : Members) → Joins bytes before one
     → Joins bytes before other → one ≡ other
 joins-same bytes before one other j k =
     let units : j.units ≡ k.units = same-ok {E = ErrorValue} j.units k.units
     (sym j.meaning ∙ k.meaning) in
-    let added : j.added ≡ k.added = some-same j.added k.added
-    (sym j.joined ∙ ap (joining (keys before)) units ∙ k.joined) in
-    j.is ∙ ap (λ l. before ++ l) added ∙ sym k.is
+    j.is ∙ ap (λ l. before ++ l) (sym (some-back j.added) ∙ ap back (sym j.joined
+    ∙ ap (joining (keys before)) units ∙ k.joined) ∙ some-back k.added) ∙ sym k.is
 
-joins-more : (bytes : List ℕ) (old new : State) → (j : Joins bytes (units_in old) (units_in new))
-    → length (names_in new.begun) ≡ length (names_in old.begun) + length j.added
-joins-more bytes old new j = omega (
+joins-more : (bytes : List ℕ) (old : State) (now : Option InProgress) (before : Members)
+    → before ≡ units_begun now → (j : Joins bytes (units_in old) before)
+    → length (names_in now) ≡ length (names_in old.begun) + length j.added
+joins-more bytes old now before same j = omega (
   arith,
   units-names old.begun,
-  units-names new.begun,
-  ap length j.is ∙ length-append (units_in old) j.added,
+  units-names now,
+  ap length (sym same ∙ j.is) ∙ length-append (units_in old) j.added,
 )
 
 -- ---- inputs in order
@@ -140,9 +102,9 @@ exactly sound joins e [] old new fine are = (
   λ h. record {
     plain = All-nil (IsPlainOf e);
     adds = ap units_in are.1;
-    before = subst (λ (s : State). Before s.begun s.own e) are.1 h;
+    before = rw are.1 at h;
   },
-  λ each. subst (λ (s : State). Before s.begun s.own e) (sym are.1) each.before,
+  λ each. rw are.1 each.before,
 )
 exactly sound joins e (bytes ∷ rest) old new fine are =
     let from : State = record old { targets = are.0 } in
@@ -155,15 +117,14 @@ exactly sound joins e (bytes ∷ rest) old new fine are =
       λ h.
           let later = others.0 h in
           let begun = begun-some bytes from next took in
-          let a = own-adds bytes from next e took (own-before next.begun begun.0 next.own e begun.1
-          later.before) in
+          let a = (own-adds bytes from next e took).0 (later.before begun.0 begun.1) in
           record {
             plain = All-cons (IsPlainOf e) bytes rest (plain-of bytes from next e took a.found)
                 later.plain;
             adds = (
               units_in next,
               j,
-              omega (arith, joins-more bytes from next j, a.more),
+              omega (arith, joins-more bytes from next.begun (units_in next) refl j, a.more),
               later.adds,
             );
             before = a.before;
@@ -171,14 +132,11 @@ exactly sound joins e (bytes ∷ rest) old new fine are =
       λ each.
           let here = each.adds.1 in
           let same = joins-same bytes (units_in old) each.adds.0 (units_in next) here j in
-          let own = adds-own bytes from next e took (record {
+          let own = (own-adds bytes from next e took).1 (record {
             found = own-of bytes e (All-head (IsPlainOf e) bytes rest each.plain);
             more = omega (
               arith,
-              ap length here.is ∙ length-append (units_in old) here.added,
-              ap length same,
-              units-names old.begun,
-              units-names next.begun,
+              joins-more bytes from next.begun each.adds.0 same here,
               each.adds.2,
             );
             before = each.before;
@@ -186,40 +144,31 @@ exactly sound joins e (bytes ∷ rest) old new fine are =
           others.1 (record {
             plain = All-tail (IsPlainOf e) bytes rest each.plain;
             adds = subst (λ m. EachAdds rest m (units_in new)) same each.adds.3;
-            before = before-own next.begun next.own e own;
+            before = λ made is. own;
           }),
     )
 
 -- ---- from a new builder
 
-some-own : (own : Option Encoding) → is_some own ≡ true → (e : Encoding) × (own ≡ Some e)
-some-own None h = absurd (true≢false (sym h))
-some-own (Some e) h = (e, refl)
-
-some-begun : (begun : Option InProgress) → has_sections begun ≡ true
-    → (made : InProgress) × (begun ≡ Some made)
-some-begun None h = absurd (true≢false (sym h))
-some-begun (Some made) h = (made, refl)
+some-there : {A : Type 0} (test : Option A → Bool) → test None ≡ false → (o : Option A)
+    → test o ≡ true → (x : A) × (o ≡ Some x)
+some-there test none None h = absurd (true≢false (sym h ∙ none))
+some-there test none (Some x) h = (x, refl)
 
 pub again-exactly : InputsSound → InputsJoined → (accepted : List (List ℕ)) (state : State)
     → AreTaken accepted start state → (packs_again state ≡ true) ↔ IsOfPlainObjects accepted state
-again-exactly sound joins accepted state are = (there, back)
-  where
-    there : packs_again state ≡ true → IsOfPlainObjects accepted state
-    there h =
-        let two = both (is_some state.own) (has_sections state.begun) h in
-        let own = some-own state.own two.0 in
-        let each = (exactly sound joins own.0 accepted start state tt are).0
-        (before-own state.begun state.own own.0 own.1) in
-        record { encoding = own.0; plain = each.plain; adds = each.adds; sections = two.1 }
-
-    back : IsOfPlainObjects accepted state → packs_again state ≡ true
-    back is =
-        let before = (exactly sound joins is.encoding accepted start state tt are).1 (record {
-          plain = is.plain;
-          adds = is.adds;
-          before = tt;
-        }) in
-        let begun = some-begun state.begun is.sections in
-        let own = own-before state.begun begun.0 state.own is.encoding begun.1 before in
-        λ i. is_some (own i) && is.sections i
+again-exactly sound joins accepted state are = (
+  λ h.
+      let two = both (is_some state.own) (has_sections state.begun) h in
+      let own = some-there is_some refl state.own two.0 in
+      let each = (exactly sound joins own.0 accepted start state tt are).0 (λ made is. own.1) in
+      record { encoding = own.0; plain = each.plain; adds = each.adds; sections = two.1 },
+  λ is.
+      let before = (exactly sound joins is.encoding accepted start state tt are).1 (record {
+        plain = is.plain;
+        adds = is.adds;
+        before = λ made none. absurd cc;
+      }) in
+      let begun = some-there has_sections refl state.begun is.sections in
+      λ i. is_some (before begun.0 begun.1 i) && is.sections i,
+)
