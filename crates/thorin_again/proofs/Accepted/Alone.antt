@@ -1,15 +1,13 @@
 -- The units of a package that took one input alone are the input's, and what is packed of it
 -- answers as they do.
-use Rattle.std.proofs.Common.{◌≡◌, ◌∙◌, ℕ, suc, Bool, false, cond, List, [], ◌∷◌, ◌++◌, map, refl}
-use Rattle.std.proofs.Common.{sym, ap, subst, Ok, Option, None, arith}
-use Rattle.std.specs.Prelude.{MatchOption, unwrap_or}
+use Rattle.std.proofs.Common.{◌≡◌, ◌∙◌, ℕ, Bool, cond, List, [], ◌∷◌, ◌++◌, map, refl, sym, ap, Ok}
+use Rattle.std.proofs.Common.{Option, None, unwrap_or, IsPermutation, append_assoc}
 use Rattle.std.specs.Cmp.{IsEquivalence}
-use Rattle.std.specs.List.{list_any, IsDistinct, AllByRecursion}
-use Rattle.std.specs.List.Sorted.{IsPermutation}
-use Rattle.std.specs.Map.{lookup}
-use Rattle.std.proofs.lemmas.List.{append_assoc}
-use Rattle.std.proofs.lemmas.List.Elements.{recursion_from_All}
-use Rattle.std.proofs.lemmas.List.Sorted.{IsPermutation-map, sum_by-IsPermutation}
+use Rattle.std.specs.List.{IsDistinct, list_any}
+use Rattle.std.proofs.lemmas.List.Elements.{All-from_recursion}
+use Rattle.std.proofs.lemmas.List.Folds.{list_any-append, list_any_none}
+use Rattle.std.proofs.lemmas.List.Sorted.{IsPermutation-map, IsPermutation-middle}
+use Rattle.std.proofs.lemmas.List.Sorted.{sum_by-IsPermutation}
 use Rattle.std.proofs.lemmas.Map.Keys.{IsDistinct-IsPermutation}
 use Rattle.indexmap.proofs.MapLemmas.{lookup_permutation}
 use Rattle.dwp_table.specs.declared.object.DwarfObject.{DwarfObject}
@@ -17,64 +15,43 @@ use Rattle.thorin_errors.specs.Errors.{ErrorValue}
 use Rattle.thorin_again.specs.Again.{all_meant}
 use Rattle.thorin_join.specs.Builder.{State, start, with_input, taken}
 use Rattle.thorin_input.specs.Encodings.{own_encoding}
-use Rattle.thorin_join.specs.Join.{Joins, IsPackageOf, GivesNone, GivesUnit, same_sort, limit_of}
-use Rattle.thorin_join.specs.Join.{look_limit}
+use Rattle.thorin_join.specs.Join.{Joins, IsPackageOf, same_sort, limit_of, look_limit}
 use Rattle.thorin_join.specs.Meaning.{Meaning, Members, input_meaning, keys, joining}
 use Rattle.thorin_input.specs.Names.{same_name}
-use Rattle.thorin_join.specs.Represents.{AreApart}
 use Rattle.thorin_again.proofs.Lists.StringsWhole.{Finds}
 use Rattle.thorin_join.proofs.Units.NamesApart.{same_name-self, same_name-true, same_name-sym}
 use Rattle.thorin_again.proofs.Taken.NamesFree.{different-sym}
 use Rattle.dwp_base.proofs.Steps.{bind-was, same-ok}
-use Rattle.dwp_base.proofs.Bools.{by-bool}
+use Rattle.dwp_base.proofs.Bools.{by-bool, neither}
 use Rattle.std.proofs.lemmas.List.Sums.{length-filter}
 
 -- ---- names
 
-pub flips : (a b : DwarfObject) → same_name a b ≡ same_name b a
+flips : (a b : DwarfObject) → same_name a b ≡ same_name b a
 flips a b =
     by-bool _ (same_name a b)
     (λ e. e ∙ sym (same_name-sym a b e))
     (λ e. e ∙ sym (different-sym a b e))
 
-pub equivalence : IsEquivalence same_name
+equivalence : IsEquivalence same_name
 equivalence = record {
   refl = same_name-self;
   symm = flips;
   congr = λ x y z h. ap (λ n. same_name n z) (same_name-true x y h);
 }
 
-pub apart-distinct : (names : List DwarfObject) → AreApart names → IsDistinct same_name names
-unfolding IsDistinct
-apart-distinct [] h = tt
-apart-distinct (n ∷ ns) h = (
-  recursion_from_All (λ m. same_name n m ≡ false) ns
-      (λ k d within. h 0 (suc k) d (omega arith) (omega (arith, within))),
-  apart-distinct ns (λ i j d below within. h (suc i) (suc j) d (omega (arith, below))
-      (omega (arith, within))),
-)
-
-at-name : (P : DwarfObject → Type 0) (names : List DwarfObject) (n : DwarfObject)
-    (rest : List DwarfObject) → AllByRecursion P (names ++ n ∷ rest) → P n
-at-name P [] n rest h = h.0
-at-name P (m ∷ ms) n rest h = at-name P ms n rest h.1
-
-not-before : (names : List DwarfObject) (n : DwarfObject) (rest : List DwarfObject)
-    → IsDistinct same_name (names ++ n ∷ rest) → list_any (same_name n) names ≡ false
-unfolding IsDistinct
-not-before [] n rest h = refl
-not-before (m ∷ ms) n rest h =
-    rw (
-      different-sym m n (at-name (λ y. same_name m y ≡ false) ms n rest h.0),
-      not-before ms n rest h.1,
-    ) refl
-
 -- units of distinct names are joined as they are
-pub joining-apart : {X : Type 0} (names : List DwarfObject) (us : List (DwarfObject × X))
+joining-apart : {X : Type 0} (names : List DwarfObject) (us : List (DwarfObject × X))
     → IsDistinct same_name (names ++ keys us) → joining names us ≡ us
+unfolding IsDistinct
 joining-apart names [] h = refl
 joining-apart names (u ∷ us) h =
-    rw (not-before names u.0 (keys us) h) (ap (λ l. u ∷ l) (joining-apart (names ++ u.0 ∷ []) us
+    let apart = IsDistinct-IsPermutation same_name flips _ _
+    (IsPermutation-middle names u.0 (keys us)) h in
+    let new = list_any_none (same_name u.0) (names ++ keys us) (All-from_recursion _ _ apart.0) in
+    rw (neither (list_any (same_name u.0) names) _
+        (rw (list_any-append (same_name u.0) names (keys us)) at new)).0
+    (ap (λ l. u ∷ l) (joining-apart (names ++ u.0 ∷ []) us
     (rw (append_assoc names (u.0 ∷ []) (keys us)) h)))
 
 -- ---- units
@@ -124,9 +101,7 @@ alone-finds us vs bytes perm distinct p name =
     let same = lookup_permutation equivalence us vs perm apart (same_name name) (λ x y h.
     ap (λ n. same_name n y) (same_name-true name x h)) in
     let test : DwarfObject × Meaning → Bool = λ u. same_sort name u.0 in
-    let limit : look_limit vs name ≡ look_limit us name = ap limit_of (length-filter test vs
-    ∙ sum_by-IsPermutation (λ u. cond (test u) 1 0) us vs perm ∙ sym (length-filter test us)) in
-    subst (λ m. MatchOption (lookup (same_name name) us) (GivesNone p.pack name m)
-    (GivesUnit p.pack name m)) limit
-    (subst (λ l. MatchOption l (GivesNone p.pack name (look_limit vs name))
-    (GivesUnit p.pack name (look_limit vs name))) same (p.finds name))
+    let limit : look_limit us name ≡ look_limit vs name = ap limit_of (length-filter test us
+    ∙ sym (sum_by-IsPermutation (λ u. cond (test u) 1 0) us vs perm)
+    ∙ sym (length-filter test vs)) in
+    rw (limit, ← same) (p.finds name)
