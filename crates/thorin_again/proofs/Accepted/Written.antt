@@ -1,12 +1,31 @@
 -- A written package of plain objects of one encoding is accepted: by any package of its byte
 -- order, unless it is foreseen otherwise, and by a new one.
-use Rattle.std.proofs.Common.{subst, ◌||◌, ◌≡◌, ◌∙◌, ℕ, ◌<◌, Bool, true, false, not, ◌&&◌, List, []}
-use Rattle.std.proofs.Common.{◌∷◌, length, refl, sym, Result, Ok, Err, Option, Some, None, arith}
-use Rattle.std.proofs.Common.{inl, length-append, ap, nat_lt, is_some, ltb-true, lt-ltb}
+use Rattle.std.proofs.Common.{◌≡◌, ◌∙◌, ℕ, Bool, cond, List, [], ◌∷◌, ◌++◌, map, refl, sym, ap, Ok}
+use Rattle.std.proofs.Common.{Option, unwrap_or, IsPermutation, append_assoc, subst, ◌||◌, ◌<◌}
+use Rattle.std.proofs.Common.{true, false, not, ◌&&◌, length, Result, Err, Some, None, arith, inl}
+use Rattle.std.proofs.Common.{length-append, nat_lt, is_some, ltb-true, lt-ltb}
+use Rattle.std.specs.Cmp.{IsEquivalence}
+use Rattle.std.specs.List.{IsDistinct, list_any}
+use Rattle.std.proofs.lemmas.List.Elements.{All-from_recursion}
+use Rattle.std.proofs.lemmas.List.Folds.{list_any-append, list_any_none}
+use Rattle.std.proofs.lemmas.List.Sorted.{IsPermutation-map, IsPermutation-middle}
+use Rattle.std.proofs.lemmas.List.Sorted.{sum_by-IsPermutation}
+use Rattle.std.proofs.lemmas.Map.Keys.{IsDistinct-IsPermutation, IsDistinct-from_apart}
+use Rattle.indexmap.proofs.MapLemmas.{lookup_permutation}
+use Rattle.dwp_table.specs.declared.object.DwarfObject.{DwarfObject}
+use Rattle.thorin_again.specs.Again.{all_meant, HaveEncodingOf, MeansOnceWritten}
+use Rattle.thorin_join.specs.Join.{Joins, IsPackageOf, same_sort, limit_of, look_limit}
+use Rattle.thorin_join.specs.Meaning.{Meaning, Members, input_meaning, keys, joining, pieces_by}
+use Rattle.thorin_input.specs.Names.{same_name}
+use Rattle.thorin_again.proofs.Lists.StringsWhole.{Finds, own-encoded, alone-whole, FinishedLaw}
+use Rattle.thorin_join.proofs.Units.NamesApart.{same_name-self, same_name-true, same_name-sym}
+use Rattle.thorin_join.proofs.Units.NamesApart.{apart-none}
+use Rattle.thorin_again.proofs.Taken.NamesFree.{different-sym}
+use Rattle.dwp_base.proofs.Bools.{by-bool, neither, both}
+use Rattle.std.proofs.lemmas.List.Sums.{length-filter}
 use Rattle.std.proofs.lemmas.List.{length-map}
 use Rattle.dwp_base.specs.declared.section.SectionKind.{SectionKind}
 use Rattle.dwp_base.specs.declared.section.SectionKind.TheVariants as kinds
-use Rattle.dwp_base.proofs.Bools.{both, by-bool}
 use Rattle.dwp_bytes.specs.declared.encoding.Encoding.{Encoding}
 use Rattle.dwp_dwarf.specs.Units.{UnitsAreTaken}
 use Rattle.dwp_dwarf.specs.declared.unit.UnitSection.TheVariants as places
@@ -49,19 +68,84 @@ use Rattle.thorin_again.proofs.Opened.FirstEncoding.{EncodesItself, first-of, in
 use Rattle.thorin_again.proofs.Meant.Package.{lie-kept}
 use Rattle.thorin_again.proofs.Opened.Parts.{own-parts-tried, Unless, and-then, answered}
 use Rattle.thorin_again.proofs.Offsets.Tiled.{weaker}
-use Rattle.std.specs.List.{IsDistinct}
-use Rattle.thorin_again.specs.Again.{HaveEncodingOf, MeansOnceWritten}
-use Rattle.thorin_join.specs.Meaning.{Meaning, pieces_by, keys}
-use Rattle.thorin_input.specs.Names.{same_name}
-use Rattle.thorin_join.proofs.Units.NamesApart.{apart-none}
 use Rattle.thorin_again.proofs.Lists.Held.{InputsSound}
-use Rattle.thorin_again.proofs.Lists.StringsWhole.{own-encoded, alone-whole, FinishedLaw}
 use Rattle.thorin_again.proofs.Lists.HeadersEncoded.{AreEncoded}
-use Rattle.thorin_again.proofs.Accepted.Alone.{taken-input, alone-units, alone-finds}
-use Rattle.std.proofs.lemmas.Map.Keys.{IsDistinct-from_apart}
-use Rattle.thorin_again.proofs.Kept.OneEncoding.{InputsJoined}
+use Rattle.thorin_again.proofs.Kept.OneEncoding.{InputsJoined, begun-now}
 use Rattle.thorin_join.proofs.Units.InRows.{keys-units}
 use Rattle.thorin_input.specs.InputStrings.{rewritten}
+
+-- ---- names
+
+flips : (a b : DwarfObject) → same_name a b ≡ same_name b a
+flips a b =
+    by-bool _ (same_name a b)
+    (λ e. e ∙ sym (same_name-sym a b e))
+    (λ e. e ∙ sym (different-sym a b e))
+
+equivalence : IsEquivalence same_name
+equivalence = record {
+  refl = same_name-self;
+  symm = flips;
+  congr = λ x y z h. ap (λ n. same_name n z) (same_name-true x y h);
+}
+
+-- units of distinct names are joined as they are
+joining-apart : {X : Type 0} (names : List DwarfObject) (us : List (DwarfObject × X))
+    → IsDistinct same_name (names ++ keys us) → joining names us ≡ us
+unfolding IsDistinct
+joining-apart names [] h = refl
+joining-apart names (u ∷ us) h =
+    let apart = IsDistinct-IsPermutation same_name flips _ _
+    (IsPermutation-middle names u.0 (keys us)) h in
+    let new = list_any_none (same_name u.0) (names ++ keys us) (All-from_recursion _ _ apart.0) in
+    rw (neither (list_any (same_name u.0) names) _
+        (rw (list_any-append (same_name u.0) names (keys us)) at new)).0
+    (ap (λ l. u ∷ l) (joining-apart (names ++ u.0 ∷ []) us
+    (rw (append_assoc names (u.0 ∷ []) (keys us)) h)))
+
+-- ---- units
+
+keys-meant : (us : Members) → keys (all_meant us) ≡ keys us
+keys-meant [] = refl
+keys-meant (u ∷ us) = ap (λ l. u.0 ∷ l) (keys-meant us)
+
+meant-back : (other : Meaning) (us : Members) → map {B = DwarfObject × Meaning} (λ u.
+    (u.0, unwrap_or u.1 other)) (all_meant us) ≡ us
+meant-back other [] = refl
+meant-back other (u ∷ us) = ap (λ l. u ∷ l) (meant-back other us)
+
+-- the units that were joined alone are those that the input means
+alone-units : (bytes : List ℕ) (other : Meaning) (us now : Members) → IsDistinct same_name
+    (keys us) → Joins bytes [] now
+    → ((meant : List (DwarfObject × Option Meaning)) → input_meaning bytes ≡ Ok meant
+    → IsPermutation (all_meant us) meant) → IsPermutation us now
+alone-units bytes other us now distinct joins means =
+    let perm = means joins.units joins.meaning in
+    let apart = IsDistinct-IsPermutation same_name flips (keys (all_meant us)) (keys joins.units)
+    (IsPermutation-map (λ u. u.0) (all_meant us) joins.units perm)
+    (rw (keys-meant us) distinct) in
+    let units : joins.units ≡ all_meant joins.added = sym (joining-apart [] joins.units apart)
+    ∙ joins.joined in
+    let full : DwarfObject × Option Meaning → DwarfObject × Meaning = λ u.
+    (u.0, unwrap_or u.1 other) in
+    let back = IsPermutation-map full (all_meant us) (all_meant joins.added) (rw units at perm) in
+    rw joins.is (rw (meant-back other us, meant-back other joins.added) at back)
+
+-- ---- answers
+
+-- look-ups in a package of these units find them, in whatever order
+alone-finds : (us vs : Members) (bytes : List ℕ) → IsPermutation us vs → IsDistinct same_name
+    (keys us) → (p : IsPackageOf vs bytes) → Finds p.pack us
+alone-finds us vs bytes perm distinct p name =
+    let apart = IsDistinct-IsPermutation same_name flips (keys us) (keys vs)
+    (IsPermutation-map (λ u. u.0) us vs perm) distinct in
+    let same = lookup_permutation equivalence us vs perm apart (same_name name) (λ x y h.
+    ap (λ n. same_name n y) (same_name-true name x h)) in
+    let test : DwarfObject × Meaning → Bool = λ u. same_sort name u.0 in
+    let limit : look_limit us name ≡ look_limit vs name = ap limit_of (length-filter test us
+    ∙ sym (sum_by-IsPermutation (λ u. cond (test u) 1 0) us vs perm)
+    ∙ sym (length-filter test vs)) in
+    rw (limit, ← same) (p.finds name)
 
 -- ---- what the state of a written file has
 
@@ -242,7 +326,7 @@ module _ (names : NamesTheSameLaw) (law : PackagedLaw) (reads : UnitsAreTaken)
   own-by-new sounds joins means finishes =
       let after = new-accepted.0 in
       let bytes = file_text file in
-      let input = taken-input bytes after new-accepted.1 in
+      let input = begun-now bytes start after new-accepted.1 in
       let encoded : HaveEncodingOf bytes (units_in state) = λ k d within.
       input-encoding file differ back ∙ own.first ∙ ap Ok (sym (own.all k d within)) in
       let distinct = names-distinct state.begun sound in

@@ -86,11 +86,6 @@ identity-by : (a b : Input) (h : Header) (type : UnitType) → is_compile type �
 identity-by a b h unit_types.Compilation c = absurd cc
 identity-by a b h type c = refl
 
-identity-any : (a b : Input) (h : Header) → is_compile h.unit_type ≡ false
-    → identity a h ≡ identity b h
-unfolding identity
-identity-any a b h c = identity-by a b h h.unit_type c
-
 -- ---- rows
 
 get-seam : {X : Type 0} (xs ys : List X) (y : X) → slice_get (xs ++ y ∷ ys) (length xs) ≡ Some y
@@ -308,13 +303,12 @@ module _ (first_law : FirstLaw) (find_law : FindLaw) (source : Source) (contents
     pub named-again : type_signature h.unit_type ≡ name_signature row.id
         → identity (section source.object.order abbreviations) h ≡ Ok (Some row.id)
         → name_for source kind h ≡ Ok row.id
-    unfolding name_for abbreviations_for row_abbreviations numbered_abbreviations
+    unfolding name_for abbreviations_for row_abbreviations numbered_abbreviations identity
     named-again agrees named =
         by-bool _ (is_compile h.unit_type)
         (λ compiled. let same = compile-sort source.indexes h.unit_type row.id compiled agrees in
         rw (again.packed, compiled, same, there.1, own-range, row-first, parts.there)
         (rw (outside kinds.Abbrev, bytes-are kinds.Abbrev, named) refl))
-        (λ other. let same = identity-any
+        (λ other. rw (again.packed, other, identity-by
         (section source.object.order (first kinds.Abbrev source.object.sections))
-        (section source.object.order abbreviations) h other in
-        rw (again.packed, other, same, named) refl)
+        (section source.object.order abbreviations) h h.unit_type other, named) refl)

@@ -123,10 +123,11 @@ lie-kept made file laid f place =
 -- ---- the file, taken as an input
 
 -- an input without info has no encoding
-encoding-none : (object : InputFile) (e : Encoding) → first kinds.Info object.sections ≡ []
-    → encoding_of object ≡ Ok e → ⊥
+encoding-none : (file : File) (e : Encoding) → KindsDiffer file.contents
+    → content_of kinds.Info file.contents ≡ [] → encoding_of (written_object file) ≡ Ok e → ⊥
 unfolding encoding_of units units_within
-encoding-none object e none h = let no = rw none at h in absurd cc
+encoding-none file e differ none h =
+    let no = rw (first-written kinds.Info file.contents differ, none) at h in absurd cc
 
 -- the file of a finished state
 module _ (reads : UnitsAreTaken) (first_law : FirstLaw) (find_law : FindLaw) (is_read : IndexIsRead)
@@ -156,8 +157,7 @@ module _ (reads : UnitsAreTaken) (first_law : FirstLaw) (find_law : FindLaw) (is
   no-units : (rows : List IndexEntry) → HaveEncodingOf (file_text file) (with_names mean rows)
       → content_of kinds.Info file.contents ≡ [] → with_names mean rows ≡ []
   no-units [] h none = refl
-  no-units (r ∷ rs) h none = absurd (encoding-none (written_object file) (mean r).encoding
-      (first-written kinds.Info file.contents differ ∙ none)
+  no-units (r ∷ rs) h none = absurd (encoding-none file (mean r).encoding differ none
       (sym (input-encoding file differ back) ∙ h 0 (r.id, mean r) (omega arith)))
 
   -- the row of each unit is its row, and the unit has the encoding
@@ -199,9 +199,8 @@ module _ (reads : UnitsAreTaken) (first_law : FirstLaw) (find_law : FindLaw) (is
 
     -- an input with units has rows
     some-rows : made.rows ≡ [] → ⊥
-    some-rows none = encoding-none (written_object file) encoding
-        (first-written kinds.Info file.contents differ
-        ∙ rw none at (lie-kept made file sound.laid f places.Info)) encoding_is
+    some-rows none = encoding-none file encoding differ
+        (rw none at (lie-kept made file sound.laid f places.Info)) encoding_is
 
     again : IsAgain source file.contents made.strings made.rows
     again = own-again is_read has_entries made file sound (tested-state state made fin.begun passed)

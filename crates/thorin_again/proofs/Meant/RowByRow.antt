@@ -32,12 +32,7 @@ part-middle : (pre own rest whole : List ℕ) (offset : ℕ) → whole ≡ pre +
     → length pre ≡ offset → part_of whole (Some (range_at offset own)) ≡ own
 part-middle pre own rest whole offset is at =
     let size : offset + length own - offset ≡ length own = omega arith in
-    part-inside whole (range_at offset own) (omega (
-      arith,
-      ap length is,
-      length-append pre (own ++ rest),
-      length-append own rest,
-    ))
+    part-inside whole (range_at offset own) (rw is (simp length-append (omega arith)))
     ∙ rw (is, size, ← at, drop-append_seam pre (own ++ rest)) (take-append_seam own rest)
 
 no-reads : (n : ℕ) (place : UnitSection) (i : Input) → i.bytes ≡ []

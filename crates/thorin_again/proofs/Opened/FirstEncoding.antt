@@ -62,11 +62,8 @@ first-of taken made file encoding sound fin differ encoded some =
   where
     has-rows : (rows : List IndexEntry) → Lie made.file.order places.Info 0 rows
         (content_of (kind_at places.Info) made.file.contents) → 0 < length rows
-    has-rows [] none = absurd (omega (
-      arith,
-      some,
-      ap length (finished-own made file fin places.Info ∙ none),
-    ))
+    has-rows [] none = let no = ap length (finished-own made file fin places.Info ∙ none) in
+        absurd (omega (arith, some))
     has-rows (r ∷ rs) lie = omega arith
 
 -- it is what the encoding of the written bytes is

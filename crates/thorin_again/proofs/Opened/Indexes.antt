@@ -17,7 +17,7 @@ use Rattle.dwp_base.specs.declared.section.SectionKind.TheVariants.{CuIndex, TuI
 use Rattle.dwp_base.proofs.Bools.{by-bool}
 use Rattle.dwp_bytes.specs.Encoding.{index_version_of}
 use Rattle.dwp_bytes.specs.declared.encoding.Encoding.{Encoding}
-use Rattle.dwp_elf.specs.Contents.{KindsDiffer, content_of}
+use Rattle.dwp_elf.specs.Contents.{KindsDiffer}
 use Rattle.dwp_elf.specs.FileText.{Object as File, file_text}
 use Rattle.dwp_elf.specs.Written.{written_elf}
 use Rattle.dwp_index.specs.Index.{Index}
@@ -121,24 +121,23 @@ one-is-there (row ∷ rows) some =
 module _ (is_read : IndexIsRead) (made : InProgress) (file : File) (sound : IsSound made)
     (tests : Tested made) (fits : IdentifiersFit made.rows) (f : IsFinished made file)
     (differ : KindsDiffer file.contents) where
-  one-taken : (b : Bool) (kind : SectionKind) (bytes : List ℕ)
-      → IsIndexOf made.file.order (rows_of b made.rows) bytes
-      → index_tests (rows_of b made.rows) ≡ Ok tt → content_of kind file.contents ≡ bytes
-      → IndexTaken file.order (rows_of b made.rows) (first kind (written_object file).sections)
-  one-taken b kind bytes text tested is =
-      rw (finished-order made file f, first-written kind file.contents differ, is)
-      (index-taken is_read made.file.order (rows_of b made.rows) bytes text tested
-      (chosen-fit b made.rows fits))
-
   pub compilations-taken : IndexTaken file.order (rows_of true made.rows)
       (first CuIndex (written_object file).sections)
-  compilations-taken = one-taken true CuIndex f.compilation_index f.compilations
-      tests.compilation_rows (finished-compilations made file f sound.units.no_compilations)
+  compilations-taken = rw (
+    finished-order made file f,
+    first-written CuIndex file.contents differ,
+    finished-compilations made file f sound.units.no_compilations,
+  ) (index-taken is_read made.file.order (rows_of true made.rows) f.compilation_index f.compilations
+      tests.compilation_rows (chosen-fit true made.rows fits))
 
   pub types-taken : IndexTaken file.order (rows_of false made.rows)
       (first TuIndex (written_object file).sections)
-  types-taken = one-taken false TuIndex f.type_index f.types tests.type_rows
-      (finished-types made file f sound.units.no_types)
+  types-taken = rw (
+    finished-order made file f,
+    first-written TuIndex file.contents differ,
+    finished-types made file f sound.units.no_types,
+  ) (index-taken is_read made.file.order (rows_of false made.rows) f.type_index f.types
+      tests.type_rows (chosen-fit false made.rows fits))
 
   abbrev pub indexes-taken : Indexes
   indexes-taken = record { compilations = compilations-taken.index; types = types-taken.index }

@@ -119,10 +119,9 @@ module _ (E : ErrorValue → Type 0) (source : Source) where
       (then-on E (rewritten source bytes before.1) _ _ had.1
       (λ w. parts-tried cs (before.0 ++ (StrOffsets, w.0) ∷ [], w.1)
       (more w.0 StrOffsets (is-same kind StrOffsets same))
-      (can-rest c cs before.1 w.1 differ (λ s. absurd (omega (
-        arith,
-        ap length (none-behind StrOffsets c cs differ same),
-      ))) can))))
+      (can-rest c cs before.1 w.1 differ (λ s. let no =
+          ap length (none-behind StrOffsets c cs differ
+      same) in absurd (omega arith)) can))))
       (λ other. by-bool _ (is_copied kind)
       (λ copied. rw (copied, other) (parts-tried cs (before.0 ++ c ∷ [], before.1)
       (more bytes kind refl) same-strings))
