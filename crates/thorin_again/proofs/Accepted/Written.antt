@@ -19,7 +19,6 @@ use Rattle.thorin_join.specs.Meaning.{Meaning, Members, input_meaning, keys, joi
 use Rattle.thorin_input.specs.Names.{same_name}
 use Rattle.thorin_again.proofs.Lists.StringsWhole.{Finds, own-encoded, alone-whole, FinishedLaw}
 use Rattle.thorin_join.proofs.Units.NamesApart.{same_name-self, same_name-true, same_name-sym}
-use Rattle.thorin_join.proofs.Units.NamesApart.{apart-none}
 use Rattle.thorin_again.proofs.Taken.NamesFree.{different-sym}
 use Rattle.dwp_base.proofs.Bools.{by-bool, neither, both}
 use Rattle.std.proofs.lemmas.List.Sums.{length-filter}
@@ -162,13 +161,6 @@ own-there : (own : Option Encoding) (b : Bool) → (is_some own && b) ≡ true �
     × (own ≡ Some encoding) × (b ≡ true)
 own-there None b h = absurd cc
 own-there (Some encoding) b h = (encoding, refl, h)
-
--- the names of a sound builder's units are distinct
-names-distinct : (begun : Option InProgress) → IsSoundBegun begun → IsDistinct same_name
-    (keys (units_begun begun))
-names-distinct None sound = IsDistinct-from_apart same_name [] apart-none
-names-distinct (Some made) sound =
-    rw (keys-units made) (IsDistinct-from_apart same_name (names_of made) sound.apart)
 
 -- the law of packing again
 abbrev MeansLaw : Type 0
@@ -329,7 +321,8 @@ module _ (names : NamesTheSameLaw) (law : PackagedLaw) (reads : UnitsAreTaken)
       let input = begun-now bytes start after new-accepted.1 in
       let encoded : HaveEncodingOf bytes (units_in state) = λ k d within.
       input-encoding file differ back ∙ own.first ∙ ap Ok (sym (own.all k d within)) in
-      let distinct = names-distinct state.begun sound in
+      let distinct = subst (λ b. IsDistinct same_name (keys (units_begun b))) (sym f.begun)
+      (rw (keys-units made) (IsDistinct-from_apart same_name (names_of made) has.sound.apart)) in
       let none : Meaning = record {
         bytes = [];
         pieces = pieces_by (λ kind. []);

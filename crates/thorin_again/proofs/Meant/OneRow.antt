@@ -178,10 +178,11 @@ module _ (first_law : FirstLaw) (find_law : FindLaw) (source : Source) (contents
       let same : other ≡ ps.row = same-ok _ _ (sym h ∙ ap (row_in index) next ∙ ps.there) in
       let has_range = non_empty-some (contribution_to kind r) range
       (sym (ps.parts kind) ∙ ap (λ x. range_in x kind) (sym same) ∙ e) in
-      let early : r ≡ get_or (rows_of sort before) l row = ap (λ rs. get_or rs l row) chosen-are
-      ∙ get_or_append_left (rows_of sort before) (row ∷ rows_of sort later) row l within in
+      let early = ap (λ rs. contribution_to kind (get_or rs l row)) chosen-are
+      ∙ ap (contribution_to kind) (get_or_append_left (rows_of sort before)
+      (row ∷ rows_of sort later) row l within) in
       let low = All-filter (is_chosen sort) (IsBelow kind offset) before below l row within range
-      (ap (contribution_to kind) (sym early) ∙ has_range) in
+      (sym early ∙ has_range) in
       omega arith
 
   row-first : row_by_place (Some index) kind range ≡ Some (number + 1)

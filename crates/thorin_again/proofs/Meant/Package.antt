@@ -190,12 +190,10 @@ module _ (reads : UnitsAreTaken) (first_law : FirstLaw) (find_law : FindLaw) (is
 
     tested-at : (place : UnitSection) → AreTested source (split.of place)
     tested-at =
-        let infos = split.of places.Info in
-        let types = split.of places.Types in
+        let n = length (split.of places.Info) in
         let both = All-permutation (IsTested source) _ _ (IsPermutation-sym _ _ split.are) tested in
-        each-place _ (rw take-append_seam at (All-take (IsTested source) (length infos)
-            (infos ++ types) both))
-        (rw drop-append_seam at (All-drop (IsTested source) (length infos) (infos ++ types) both))
+        each-place _ (rw take-append_seam at (All-take (IsTested source) n _ both))
+        (rw drop-append_seam at (All-drop (IsTested source) n _ both))
 
     -- an input with units has rows
     some-rows : made.rows ≡ [] → ⊥

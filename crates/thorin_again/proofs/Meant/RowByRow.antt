@@ -107,8 +107,7 @@ module _ (taken : UnitsAreTaken) (order : Endianness) (contents : Contents) (pla
       let long = ap length head.are ∙ length-append own head.rest in
       let some : 0 < length bytes = omega (arith, head.is.some) in
       let more : n ≡ suc (n - 1) = omega arith in
-      let content_is : content_of kind contents ≡ pre ++ (own ++ head.rest) =
-      content ∙ ap (λ l. pre ++ l) head.are in
+      let content_is = content ∙ ap (λ l. pre ++ l) head.are in
       subst (P (r ∷ rs)) (sym (ap (λ k. units_within k place (plain order offset bytes)) more
       ∙ one-read (n - 1) place (plain order offset bytes) moved.unit (plain order end head.rest)
       some read))

@@ -1,5 +1,5 @@
 -- The encoding of a written package of plain objects, as an input, is that of all its units.
-use Rattle.std.proofs.Common.{◌≡◌, ◌∙◌, ◌<◌, List, [], ◌∷◌, length, refl, sym, ap, Ok, arith}
+use Rattle.std.proofs.Common.{◌≡◌, ◌∙◌, ◌<◌, [], ◌∷◌, length, refl, sym, ap, Ok, arith}
 use Rattle.dwp_base.specs.declared.endian.Endianness.{Endianness}
 use Rattle.dwp_bytes.specs.Input.{Input, section}
 use Rattle.dwp_bytes.specs.declared.encoding.Encoding.{Encoding}
@@ -57,14 +57,13 @@ first-of taken made file encoding sound fin differ encoded some =
     (sym place_is) ∙ ap (part_of (content_of (kind_at places.Info) contents)) u.range ∙ u.part in
     ap Ok (u.shifted.encoding ∙ names.0 u.alone u.rest
     ((λ i. unit_at (sym place_is i) (section order (bytes_are i))) ∙ u.read)))
-    sound.laid.once sound.laid.info encoded (has-rows (rows_at places.Info made.rows)
-    sound.laid.info)
-  where
-    has-rows : (rows : List IndexEntry) → Lie made.file.order places.Info 0 rows
-        (content_of (kind_at places.Info) made.file.contents) → 0 < length rows
-    has-rows [] none = let no = ap length (finished-own made file fin places.Info ∙ none) in
-        absurd (omega (arith, some))
-    has-rows (r ∷ rs) lie = omega arith
+    sound.laid.once sound.laid.info encoded ((elim (rows_at places.Info made.rows) as
+    (λ rows. Lie order places.Info 0 rows (content_of (kind_at places.Info) contents)
+    → 0 < length rows) [
+      | [] ↦ λ none. let no = ap length (finished-own made file fin places.Info ∙ none) in
+          absurd (omega (arith, some))
+      | r ∷ rs ↦ λ lie. omega arith
+    ]) sound.laid.info)
 
 -- it is what the encoding of the written bytes is
 pub input-encoding : (file : File) → KindsDiffer file.contents

@@ -188,10 +188,6 @@ own-made state encoding file own =
           (all k (unit d) (omega (arith, within, long))));
     }
 
-same-itself : (order : Endianness) → same_order order order ≡ true
-same-itself Little = refl
-same-itself Big = refl
-
 pub up-to-parts : IndexIsRead → (state : State) (encoding : Encoding) (file : File)
     → IsOwn state encoding file → (before : Option InProgress) → order_of before file.order ≡
     file.order → TakesUpToParts file encoding before
@@ -212,7 +208,7 @@ up-to-parts is_read state encoding file own before same =
         object-written file own.kinds,
         own.first,
         same,
-        same-itself file.order,
+        elim file.order as (λ o. same_order o o ≡ true) [ Little ↦ refl | Big ↦ refl ],
         read,
       ) refl;
     }

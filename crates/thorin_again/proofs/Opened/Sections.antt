@@ -67,11 +67,6 @@ names-none : (n : ℕ) (bytes : List ℕ)
 unfolding used_kind is_of_kind
 names-none n bytes = by-bool _ (eqb (length bytes) 0) (λ e. rw e refl) (λ e. rw e refl)
 
-bytes-are : (n : ℕ) (kind : SectionKind) (bytes : List ℕ)
-    → used_bytes kind (plain_section n 1 (name_of kind) bytes) ≡ Ok bytes
-unfolding used_bytes contents.used_bytes
-bytes-are n kind bytes = rw (not-older kind) refl
-
 -- ---- no kind that was seen comes again
 
 pub fewer : (b : Bool) (n : ℕ) → cond b 1 0 + n ≡ 0 → n ≡ 0
@@ -137,14 +132,14 @@ Seen used kind = list_any (has_kind kind) used
 
 used-written : (n : ℕ) (names : List ℕ) (cs : Contents) (used : List Used) → Fresh (Seen used) cs
     → used_from used (written_sections n names cs) ≡ Ok (used ++ written_used cs)
-unfolding used_from
+unfolding used_from used_bytes contents.used_bytes
 used-written n names [] used fresh = rw (names-none n names, append-nil) refl
 used-written n names (c ∷ cs) used fresh =
     by-bool _ (eqb (length c.1) 0)
     (λ none. rw (kind-plain n (name_of c.0) c.1, none)
     (used-written (n + 1) names cs used (fresh-rest (Seen used) c cs fresh)))
     (λ some. let new = found-any (has_kind c.0) used ∙ not-seen (Seen used) c cs fresh in
-    rw (kind-plain n (name_of c.0) c.1, some, kind-named c.0, new, and-false, bytes-are n c.0 c.1)
+    rw (kind-plain n (name_of c.0) c.1, some, kind-named c.0, new, and-false, not-older c.0)
     (used-written (n + 1) names cs (used ++ section_of c ∷ [])
     (fresh-more has_kind used (section_of c) c cs (λ kind. refl) fresh)
     ∙ ap Ok (append_assoc used (section_of c ∷ []) (written_used cs))))
