@@ -15,7 +15,7 @@ use Rattle.indexmap.proofs.MapLemmas.{lookup_permutation}
 use Rattle.dwp_table.specs.declared.object.DwarfObject.{DwarfObject}
 use Rattle.thorin_again.specs.Again.{all_meant, HaveEncodingOf, MeansOnceWritten}
 use Rattle.thorin_join.specs.Join.{Joins, IsPackageOf, same_sort, limit_of, look_limit}
-use Rattle.thorin_join.specs.Meaning.{Meaning, Members, input_meaning, keys, joining, pieces_by}
+use Rattle.thorin_join.specs.Meaning.{Meaning, Members, input_meaning, keys, joining}
 use Rattle.thorin_input.specs.Names.{same_name}
 use Rattle.thorin_again.proofs.Lists.StringsWhole.{Finds, own-encoded, alone-whole, FinishedLaw}
 use Rattle.thorin_join.proofs.Units.NamesApart.{same_name-self, same_name-true, same_name-sym}
@@ -323,13 +323,9 @@ module _ (names : NamesTheSameLaw) (law : PackagedLaw) (reads : UnitsAreTaken)
       input-encoding file differ back ∙ own.first ∙ ap Ok (sym (own.all k d within)) in
       let distinct = subst (λ b. IsDistinct same_name (keys (units_begun b))) (sym f.begun)
       (rw (keys-units made) (IsDistinct-from_apart same_name (names_of made) has.sound.apart)) in
-      let none : Meaning = record {
-        bytes = [];
-        pieces = pieces_by (λ kind. []);
-        strings = [];
-        encoding = encoding;
-      } in
-      let perm = alone-units bytes none (units_in state) (units_in after) distinct
+      let no : Meaning = record { bytes = []; pieces = λ k c. []; strings = [];
+          encoding = encoding } in
+      let perm = alone-units bytes no (units_in state) (units_in after) distinct
       (joins bytes None after.begun tt input) (means state file sound tested f differ back encoded
       start after new-accepted.1) in
       let encoded_units : AreEncoded made.file.order (units_in state) =

@@ -55,7 +55,6 @@ use Rattle.thorin_join.proofs.Files.RowsFound.{id-at}
 use Rattle.thorin_join.proofs.Parts.StringLists.{strings-are}
 use Rattle.thorin_join.proofs.Moved.Readings.{plain}
 use Rattle.thorin_join.proofs.Units.InRows.{pieces-same}
-use Rattle.thorin_again.proofs.Meant.UnitsBySection.{IsTested}
 use Rattle.dwp_base.proofs.Steps.{same-ok}
 use Rattle.dwp_base.proofs.Bools.{by-bool}
 use Rattle.thorin_join.proofs.Steps.{kept}
@@ -267,24 +266,20 @@ module _ (first_law : FirstLaw) (find_law : FindLaw) (source : Source) (contents
     own-range : own_range h ≡ range
     own-range = ap (λ (i : Input). range_at i.place i.bytes) whole
 
-    -- what passes the test of its row has its identifier
-    identifier-is : (name : DwarfObject) → row_test source.indexes kind name h ≡ Ok tt
-        → index_for source.indexes name ≡ index_for source.indexes row.id
-        → identifier_of row.id ≡ identifier_of name
-    unfolding row_test
-    identifier-is name tested alike = same-id name (same-number _ (number + 1)
-        (kept _ _ _ _ (rw (again.packed, alike, own-range, by-place) at tested)).0)
-
     -- the unit has the name of its row, and means what was joined
     pub row-means-again : (name : DwarfObject) → source.encoding ≡ unit.encoding
         → type_signature h.unit_type ≡ name_signature row.id → name_for source kind h ≡ Ok name
-        → IsTested source (name, record { from = kind; unit = h }) → (name ≡ row.id)
+        → (is_compilation name ≡ true → row_test source.indexes kind name h ≡ Ok tt)
+        → (name ≡ row.id)
         × (unit_meaning source (name, record { from = kind; unit = h }) ≡ Some unit)
-    unfolding unit_meaning
+    unfolding unit_meaning row_test
     row-means-again name same_encoding agrees named tested =
         let id = name-identity source kind h name named in
         let is_name : name ≡ row.id = same-name source.indexes row.id name
-        (sym (identity-sort id.0 h name id.1) ∙ agrees) (λ c. identifier-is name (tested c)) in (
+        (sym (identity-sort id.0 h name id.1) ∙ agrees) (λ c alike. same-id name (same-number _
+        (number + 1) (kept _ _ _ _ (rw (again.packed, alike, own-range, by-place) at
+            (tested c))).0))
+        in (
           is_name,
           rw (again.packed, is_name, own-range, there.1, row-first, parts.there, whole)
               (means same_encoding),

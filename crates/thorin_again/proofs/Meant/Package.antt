@@ -1,60 +1,179 @@
 -- A finished package, taken as an input, means the units that were joined in it.
-use Rattle.std.proofs.Common.{subst, suc, ◌≡◌, ◌∙◌, true, false, not, List, [], ◌∷◌, ◌++◌, map, ap₂}
-use Rattle.std.proofs.Common.{sym, refl, Ok, Option, arith, length, IsPermutation, ap}
-use Rattle.std.proofs.lemmas.List.{map-append}
-use Rattle.std.proofs.lemmas.List.Elements.{All-take, All-drop, All-head, All-tail}
-use Rattle.std.proofs.lemmas.List.Sorted.{IsPermutation-refl, IsPermutation-sym}
-use Rattle.std.proofs.lemmas.List.Sorted.{IsPermutation-trans, IsPermutation-map}
+use Rattle.std.proofs.Common.{◌≡◌, ◌∙◌, ℕ, true, not, List, [], ◌∷◌, ◌++◌, sym, refl, Ok}
+use Rattle.std.proofs.Common.{append-nil, true≢false, All, IsPermutation, subst, suc, false, map}
+use Rattle.std.proofs.Common.{ap₂, Option, arith, length, ap}
+use Rattle.std.specs.List.{list_any}
+use Rattle.std.proofs.lemmas.List.Elements.{All-nil, All-cons, All-take, All-drop, All-head}
+use Rattle.std.proofs.lemmas.List.Elements.{All-tail}
+use Rattle.std.proofs.Math.Dec.{eqb-suc-zero}
+use Rattle.std.proofs.lemmas.List.Sorted.{IsPermutation-refl, IsPermutation-trans}
+use Rattle.std.proofs.lemmas.List.Sorted.{IsPermutation-append_right, IsPermutation-append_comm}
+use Rattle.std.proofs.lemmas.List.Sorted.{IsPermutation-sym, IsPermutation-map}
 use Rattle.std.proofs.lemmas.List.Sorted.{IsPermutation-filter_both, All-permutation}
-use Rattle.std.proofs.Math.Seq.{take-length, drop-append_seam, take-append_seam}
+use Rattle.dwp_base.specs.declared.section.SectionKind.{SectionKind}
 use Rattle.dwp_base.specs.declared.section.SectionKind.TheVariants as kinds
-use Rattle.dwp_bytes.specs.declared.encoding.Encoding.{Encoding}
-use Rattle.dwp_dwarf.specs.Units.{UnitsAreTaken, units, units_within}
+use Rattle.dwp_base.proofs.Bools.{both, by-bool, is-false}
+use Rattle.dwp_bytes.specs.Input.{section}
+use Rattle.dwp_dwarf.specs.Units.{units, units_within, UnitsAreTaken}
 use Rattle.dwp_dwarf.specs.declared.unit.UnitSection.{UnitSection}
 use Rattle.dwp_dwarf.specs.declared.unit.UnitSection.TheVariants as places
 use Rattle.dwp_elf.specs.Contents.{KindsDiffer, content_of}
+use Rattle.dwp_table.specs.declared.object.DwarfObject.{DwarfObject}
+use Rattle.thorin_input.specs.Growing.{Contents}
+use Rattle.thorin_input.specs.Indexes.{Source, Indexes, indexes_of, index_in, version_test}
+use Rattle.thorin_join.specs.Meaning.{UnitRead, joining, can_join, named_each, named_at}
+use Rattle.thorin_join.specs.Meaning.{named_sections, Meaning, keys, meant, source_units}
+use Rattle.thorin_join.specs.Meaning.{source_meaning, input_meaning, object_meaning, named_unit}
+use Rattle.thorin_input.specs.Names.{same_name, is_compilation}
+use Rattle.thorin_input.specs.NewUnits.{Adding, NewUnit, unit_section, new_units, name_for}
+use Rattle.thorin_input.specs.Rows.{row_test}
+use Rattle.thorin_join.specs.State.{kind_at, InProgress, adding, abbreviations_test, with_source}
+use Rattle.thorin_join.specs.State.{names_of}
+use Rattle.thorin_join.proofs.Units.JoinedByName.{AreAdded, units-joined}
+use Rattle.thorin_join.proofs.Units.HeadersRead.{Reads}
+use Rattle.thorin_again.proofs.Opened.Sections.{rest-differ, section_of, none-behind, empty-first}
+use Rattle.thorin_again.proofs.Opened.Sections.{no-info, object-written, first-written, opened-elf}
+use Rattle.dwp_base.proofs.Steps.{bind-was, same-ok}
+use Rattle.dwp_base.specs.Sections.{same_kind}
+use Rattle.thorin_again.specs.OwnInput.{written_used, written_object, own_source}
+use Rattle.std.proofs.lemmas.List.{map-append}
+use Rattle.std.proofs.Math.Seq.{take-length, drop-append_seam, take-append_seam}
+use Rattle.dwp_base.specs.declared.section.SectionKind.TheVariants as kinds
+use Rattle.dwp_bytes.specs.declared.encoding.Encoding.{Encoding}
+use Rattle.dwp_dwarf.specs.declared.unit.UnitSection.TheVariants as places
 use Rattle.dwp_elf.specs.FileText.{Object as File, file_text}
 use Rattle.dwp_elf.specs.Written.{written_elf}
 use Rattle.dwp_elf_read.specs.Elf.{elf_of}
 use Rattle.dwp_index.specs.Package.{place_of}
-use Rattle.dwp_table.specs.declared.object.DwarfObject.{DwarfObject}
 use Rattle.thorin_index.specs.declared.entry.IndexEntry.{IndexEntry}
 use Rattle.thorin_again.specs.Again.{HaveEncodingOf, all_meant, MeansWhereTaken}
 use Rattle.thorin_join.specs.Builder.{State, IdentifiersFit, IsFinished, IsFinishedState}
 use Rattle.thorin_join.specs.Builder.{finish_test, package_or_new, order_test, with_source_or_new}
 use Rattle.thorin_join.specs.Builder.{with_units, with_input, taken}
 use Rattle.thorin_input.specs.Encodings.{encoding_of}
-use Rattle.thorin_input.specs.Indexes.{Indexes, Source, indexes_of, index_in, version_test}
 use Rattle.thorin_join.specs.Laid.{IsLaid, Lie, is_at, rows_at, same_place}
-use Rattle.thorin_join.specs.Meaning.{Meaning, keys, meant, source_units, source_meaning}
-use Rattle.thorin_join.specs.Meaning.{input_meaning, object_meaning, UnitRead, named_unit}
-use Rattle.thorin_join.specs.Meaning.{named_each}
-use Rattle.thorin_input.specs.NewUnits.{new_units, name_for}
 use Rattle.thorin_input.specs.Parts.{parts_of}
 use Rattle.thorin_join.specs.Represents.{IsSound, IsSoundBegun, meaning_at, units_of, units_in}
 use Rattle.thorin_join.specs.Represents.{IsRowOf, AreRowsOf}
-use Rattle.thorin_join.specs.State.{InProgress, kind_at, adding, abbreviations_test, with_source}
-use Rattle.thorin_join.specs.State.{names_of}
 use Rattle.thorin_input.specs.Used.{InputFile, opened, has_info, first}
 use Rattle.thorin_join.proofs.Files.Indexes.{IndexIsRead, IndexHasEntries}
-use Rattle.thorin_join.proofs.Units.JoinedByName.{units-joined}
 use Rattle.thorin_join.proofs.Rows.Stay.{keep-rows}
 use Rattle.thorin_again.proofs.Meant.RowPlaces.{FirstLaw, FindLaw, IsAgain}
 use Rattle.thorin_again.proofs.Meant.OneSection.{with_names}
 use Rattle.thorin_again.proofs.Meant.OneRow.{row-means-again}
 use Rattle.thorin_again.proofs.Meant.RowByRow.{of-section}
 use Rattle.thorin_again.proofs.Opened.FirstEncoding.{input-encoding}
-use Rattle.thorin_again.proofs.Meant.UnitsBySection.{each-place, IsTested, AreTested, Split}
-use Rattle.thorin_again.proofs.Meant.UnitsBySection.{joined-tested, sections-split}
 use Rattle.thorin_join.proofs.Files.Finished.{Tested, tested-state, finished-order, finished-grows}
 use Rattle.thorin_join.proofs.Files.Finished.{finished-own, finished-strings}
-use Rattle.thorin_join.proofs.Units.HeadersRead.{Reads}
 use Rattle.thorin_join.proofs.Units.NamesApart.{distinct_chosen}
-use Rattle.thorin_again.proofs.Opened.Sections.{no-info, object-written, first-written, opened-elf}
-use Rattle.thorin_again.specs.OwnInput.{written_object, own_source}
-use Rattle.dwp_base.proofs.Steps.{bind-was, same-ok}
-use Rattle.dwp_base.proofs.Bools.{by-bool}
 use Rattle.thorin_again.proofs.Opened.Indexes.{compilations-taken, indexes-packed, types-taken}
+
+-- ---- the rows of compilation units that are accepted were tested
+
+abbrev IsTested : Source → DwarfObject × UnitRead → Type 0
+IsTested source u = is_compilation u.0 ≡ true → row_test source.indexes u.1.from u.0
+    u.1.unit ≡ Ok tt
+
+abbrev AreTested : Source → Reads → Type 0
+AreTested source us = All (IsTested source) us
+
+joined-tested : (adding : Adding) (names : List DwarfObject) (all : Reads)
+    (ns : List (DwarfObject × NewUnit))
+    → can_join names all ≡ true → AreAdded adding ns (joining names all)
+    → AreTested adding.source all
+joined-tested adding names [] ns can are = All-nil _
+joined-tested adding names (u ∷ us) ns can are =
+    by-bool _ (list_any (same_name u.0) names)
+    (λ there.
+    let passed = both (not (is_compilation u.0)) _ (rw there at can) in
+    All-cons (IsTested adding.source) u us (λ is.
+        absurd (true≢false (sym is ∙ is-false _ passed.0)))
+    (joined-tested adding names us ns passed.1 (rw there at are)))
+    (λ new. (elim ns as (λ l. AreAdded adding l (u ∷ joining (names ++ u.0 ∷ []) us)
+    → AreTested adding.source (u ∷ us)) [
+      | [] ↦ λ none. absurd none
+      | n ∷ ms ↦ λ some. All-cons (IsTested adding.source) u us (λ is. some.0.tested)
+          (joined-tested adding (names ++ u.0 ∷ []) us ms (rw new at can) some.1)
+    ]) (rw new at are))
+
+-- ---- the units of info and of types
+
+record Split (source : Source) (cs : Contents) (all : Reads) : Type 0 where
+  of : UnitSection → Reads
+  read : (place : UnitSection) → named_each source (kind_at place) (units place
+      (section source.object.order (content_of (kind_at place) cs))) ≡ Ok (of place)
+  are : IsPermutation (of places.Info ++ of places.Types) all
+
+-- contents that are alike at both places have the same split
+split-as : (source : Source) (cs ds : Contents) (all : Reads) → ((place : UnitSection)
+    → content_of (kind_at place) ds ≡ content_of (kind_at place) cs)
+    → Split source cs all → Split source ds all
+split-as source cs ds all same rest = record {
+  of = rest.of;
+  read = λ place. rw (same place) (rest.read place);
+  are = rest.are;
+}
+
+-- what there is at either place
+abbrev each-place : (P : UnitSection → Type 0) → P places.Info → P places.Types
+    → (place : UnitSection) → P place
+each-place P info types places.Info = info
+each-place P info types places.Types = types
+
+-- behind a section no other of its place has units
+no-units : (source : Source) (c : SectionKind × List ℕ) (cs : Contents) (all : Reads)
+    → KindsDiffer (c ∷ cs) → (rest : Split source cs all) (place : UnitSection)
+    → same_kind c.0 (kind_at place) ≡ true → rest.of place ≡ []
+unfolding named_each units units_within
+no-units source c cs all apart rest place same =
+    sym (same-ok [] _ (rw (none-behind (kind_at place) c cs apart same) at (rest.read place)))
+
+-- one more section
+section-split : (source : Source) (c : SectionKind × List ℕ) (cs : Contents)
+    (here others : Reads) → KindsDiffer (c ∷ cs) → Split source cs others
+    → named_at source (section_of c) (unit_section c.0) ≡ Ok here
+    → Split source (c ∷ cs) (here ++ others)
+section-split source (kinds.Info, bytes) cs here others apart rest h =
+    let none = no-units source (kinds.Info, bytes) cs others apart rest places.Info refl in
+    record {
+      of = each-place (λ place. Reads) here (rest.of places.Types);
+      read = each-place _ h (rest.read places.Types);
+      are = IsPermutation-append_right here (rest.of places.Types) others (rw none at rest.are);
+    }
+section-split source (kinds.Types, bytes) cs here others apart rest h =
+    let none = no-units source (kinds.Types, bytes) cs others apart rest places.Types refl in
+    record {
+      of = each-place (λ place. Reads) (rest.of places.Info) here;
+      read = each-place _ (rest.read places.Info) h;
+      are = IsPermutation-trans _ (here ++ rest.of places.Info) _
+          (IsPermutation-append_comm (rest.of places.Info) here)
+          (IsPermutation-append_right here (rest.of places.Info) others
+          (rw (none, append-nil) at rest.are));
+    }
+section-split source (kind, bytes) cs here others apart rest h =
+    rw (← same-ok [] here h) (split-as source cs ((kind, bytes) ∷ cs) others
+    (each-place _ refl refl) rest)
+
+-- the units of a file's sections are those of info and those of types, in some order
+sections-split : (source : Source) (cs : Contents) (all : Reads) → KindsDiffer cs
+    → named_sections source (written_used cs) ≡ Ok all → Split source cs all
+unfolding named_sections named_each units units_within
+sections-split source [] all differ h =
+    rw (← same-ok [] all h) (record {
+      of = λ place. [];
+      read = each-place _ refl refl;
+      are = IsPermutation-refl [];
+    })
+sections-split source ((kind, []) ∷ cs) all differ h =
+    split-as source cs ((kind, []) ∷ cs) all (λ place. empty-first (kind_at place) kind cs differ)
+    (sections-split source cs all (rest-differ (kind, []) cs differ) h)
+sections-split source ((kind, b ∷ bs) ∷ cs) all differ h =
+    let c : SectionKind × List ℕ = (kind, b ∷ bs) in
+    let s1 = bind-was (named_at source (section_of c) (unit_section kind)) _ all
+    (rw eqb-suc-zero at h) in
+    let s2 = bind-was (named_sections source (written_used cs)) _ all s1.2 in
+    rw (← same-ok _ all s2.2) (section-split source c cs s1.0 s2.0 differ
+    (sections-split source cs s2.0 (rest-differ c cs differ) s2.1) s1.1)
 
 -- ---- the package, read again
 
@@ -154,10 +273,10 @@ module _ (reads : UnitsAreTaken) (first_law : FirstLaw) (find_law : FindLaw) (is
   encoded = rw fin.begun at one
 
   -- without content of info nothing was joined
-  no-units : (rows : List IndexEntry) → HaveEncodingOf (file_text file) (with_names mean rows)
+  none-joined : (rows : List IndexEntry) → HaveEncodingOf (file_text file) (with_names mean rows)
       → content_of kinds.Info file.contents ≡ [] → with_names mean rows ≡ []
-  no-units [] h none = refl
-  no-units (r ∷ rs) h none = absurd (encoding-none file (mean r).encoding differ none
+  none-joined [] h none = refl
+  none-joined (r ∷ rs) h none = absurd (encoding-none file (mean r).encoding differ none
       (sym (input-encoding file differ back) ∙ h 0 (r.id, mean r) (omega arith)))
 
   -- the row of each unit is its row, and the unit has the encoding
@@ -278,4 +397,4 @@ module _ (reads : UnitsAreTaken) (first_law : FirstLaw) (find_law : FindLaw) (is
       (λ none.
       let no_units : means ≡ [] = same-ok _ _ (sym (rw (opens, none) at meaning)) in
       rw no_units (subst (λ us. IsPermutation (all_meant us) [])
-      (sym (no-units made.rows encoded (no-info file none))) (IsPermutation-refl []))))
+      (sym (none-joined made.rows encoded (no-info file none))) (IsPermutation-refl []))))
