@@ -290,26 +290,23 @@ module _ (names : NamesTheSameLaw) (law : PackagedLaw) (reads : UnitsAreTaken)
   pub own-all : IsAccepted file
   own-all before fine same =
       let now = package_or_new (written_elf file) before.begun in
-      let table = (new-sound (written_elf file) before.begun fine).units.table in
       taken-unless IsForeseen before same (λ indexes read. (
-        foreseen _ (own-offsets is_read has_entries state encoding file own made
-            f.begun plain indexes
-            read now.strings),
+        foreseen _ (own-offsets is_read has_entries state encoding file own made f.begun plain
+            indexes read now.strings),
         λ p e. own-units names law reads first_law find_law is_read has_entries state encoding file
-            own made f.begun plain indexes read now p.0 p.1 table e,
+            own made f.begun plain indexes read now p.0 p.1
+            (new-sound (written_elf file) before.begun fine).units.table e,
       ))
 
   -- a new one takes them
   new-accepted : (after : State) × (taken (file_text file) start ≡ Ok after)
   new-accepted =
-      let new = begun_by (written_elf file) in
-      let table = (new-sound (written_elf file) None tt).units.table in
       answered (taken (file_text file) start) (taken-unless (λ e. ⊥) start refl (λ indexes read. (
         rw (own-offsets-alone is_read has_entries state encoding file own made f.begun plain indexes
             read).1 tt,
-        λ p e. rw (own-units-new names law reads first_law find_law is_read
-            has_entries state encoding
-            file own made f.begun plain indexes read new refl p.0 p.1 table e).1 tt,
+        λ p e. rw (own-units-new names law reads first_law find_law is_read has_entries state
+            encoding file own made f.begun plain indexes read (begun_by (written_elf file)) refl p.0
+            p.1 (new-sound (written_elf file) None tt).units.table e).1 tt,
       )))
 
   -- and has their units then

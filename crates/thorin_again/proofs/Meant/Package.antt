@@ -314,14 +314,10 @@ module _ (reads : UnitsAreTaken) (first_law : FirstLaw) (find_law : FindLaw) (is
         each-place _ (rw take-append_seam at (All-take (IsTested source) n _ both))
         (rw drop-append_seam at (All-drop (IsTested source) n _ both))
 
-    -- an input with units has rows
-    some-rows : made.rows ≡ [] → ⊥
-    some-rows none = encoding-none file encoding differ
-        (rw none at (lie-kept made file sound.laid f places.Info)) encoding_is
-
     again : IsAgain source file.contents made.strings made.rows
     again = own-again is_read has_entries made file sound (tested-state state made fin.begun passed)
-        fin.identifiers f differ encoding indexes indexes_are some-rows
+        fin.identifiers f differ encoding indexes indexes_are (λ none. encoding-none file encoding
+        differ (rw none at (lie-kept made file sound.laid f places.Info)) encoding_is)
 
     -- the units of a section mean what its rows do, in their order
     units-are : (place : UnitSection) → units_meant (split.of place) ≡ all_meant

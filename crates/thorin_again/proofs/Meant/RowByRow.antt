@@ -35,8 +35,7 @@ part-middle pre own rest whole offset is at =
     part-inside whole (range_at offset own) (rw is (simp length-append (omega arith)))
     ∙ rw (is, size, ← at, drop-append_seam pre (own ++ rest)) (take-append_seam own rest)
 
-no-reads : (n : ℕ) (place : UnitSection) (i : Input) → i.bytes ≡ []
-    → units_within n place i ≡ []
+no-reads : (n : ℕ) (place : UnitSection) (i : Input) → i.bytes ≡ [] → units_within n place i ≡ []
 unfolding units_within
 no-reads zero place i h = refl
 no-reads (suc n) place i h = rw h refl
@@ -55,10 +54,8 @@ pub record IsUnitOf (order : Endianness) (contents : Contents) (place : UnitSect
   pub offset : ℕ
   pub own : List ℕ
   pub below : Below (kind_at place) offset before
-  pub range : contribution_to (kind_at place) row
-      ≡ Some (range_at offset own)
-  pub part : part_of (content_of (kind_at place) contents)
-      (Some (range_at offset own)) ≡ own
+  pub range : contribution_to (kind_at place) row ≡ Some (range_at offset own)
+  pub part : part_of (content_of (kind_at place) contents) (Some (range_at offset own)) ≡ own
   pub whole : unit.whole ≡ plain order offset own
   pub sort : type_signature unit.unit_type ≡ name_signature row.id
   pub alone : Header

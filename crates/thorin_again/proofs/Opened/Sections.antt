@@ -1,23 +1,19 @@
 -- A written file is opened as an input, its sections are taken, and what is not empty is there
 -- under its name.
 use Rattle.std.proofs.Common.{◌≡◌, ◌∙◌, ℕ, ◌+◌, ◌≤◌, ◌||◌, Bool, true, false, cond, eqb, List, []}
-use Rattle.std.proofs.Common.{◌∷◌, ◌++◌, length, Result, Ok, None, refl, sym, ap, arith, ◌<◌}
-use Rattle.std.proofs.Common.{true≢false, codes, bytes_eq}
+use Rattle.std.proofs.Common.{◌∷◌, ◌++◌, length, Ok, None, refl, sym, ap, arith, ◌<◌, true≢false}
+use Rattle.std.proofs.Common.{codes, bytes_eq}
 use Rattle.std.proofs.lemmas.Bool.{eqb-true, eqb-false, false_from_ne_true, or_left, or_right}
 use Rattle.std.proofs.lemmas.List.{append_assoc, append-nil, nil_from_length}
 use Rattle.std.proofs.Math.Dec.{eqb-suc-zero}
-use Rattle.dwp_base.specs.declared.class.Class.{Class}
 use Rattle.dwp_base.specs.declared.section.SectionKind.{SectionKind}
-use Rattle.dwp_base.specs.Reading.{◌>>=◌}
 use Rattle.dwp_base.specs.Sections.{name_of, same_kind, kind_named}
 use Rattle.dwp_base.proofs.EveryKind.{not-older, same-self, kind-named, is-same, every}
 use Rattle.dwp_elf.specs.Contents.{count_of, KindsDiffer, content_of}
 use Rattle.dwp_elf.specs.FileText.{Object as File, name_table}
 use Rattle.dwp_elf.specs.Written.{plain_section, written_sections, written_elf}
 use Rattle.dwp_elf_read.specs.Elf.{Elf, elf_of, SectionMeaning, is_named}
-use Rattle.dwp_elf_read.specs.Identification.{kind_of, class_of, identity_of}
-use Rattle.dwp_elf_read.specs.declared.error.ReadError.{ReadError}
-use Rattle.dwp_elf_read.specs.declared.kind.FileKind.{FileKind}
+use Rattle.dwp_elf_read.specs.Identification.{kind_of, identity_of}
 use Rattle.dwp_elf_read.specs.declared.kind.FileKind.TheVariants.{Archive, Elf32, Elf64}
 use Rattle.dwp_index.specs.Contents as contents
 use Rattle.dwp_index.specs.Contents.{is_of_kind}
@@ -38,19 +34,16 @@ use Rattle.dwp_base.specs.declared.section.SectionKind.TheVariants.{Info}
 
 -- ---- the file is opened
 
-in-kind : {X : Type 0} (kind : FileKind) (f : Class → Result X ReadError) (x : X)
-    (bytes : List ℕ) (file : Elf)
-    → (class_of kind >>= f) ≡ Ok x → elf_of bytes ≡ Ok file → elf_in bytes kind ≡ Ok file
-in-kind Archive f x bytes file h e = absurd cc
-in-kind Elf32 f x bytes file h e = ap (as_error ParseObjectFile) e
-in-kind Elf64 f x bytes file h e = ap (as_error ParseObjectFile) e
-
 pub opened-elf : (bytes : List ℕ) (file : Elf) → elf_of bytes ≡ Ok file → opened bytes ≡ Ok file
 unfolding opened elf_of identity_of
 opened-elf bytes file h =
     let i = bind-was (identity_of bytes) _ file h in
     let k = bind-was (kind_of bytes) _ i.0 i.1 in
-    rw k.1 (in-kind k.0 _ i.0 bytes file k.2 h)
+    rw k.1 ((elim k.0 as (λ kind. kind_of bytes ≡ Ok kind → elf_in bytes kind ≡ Ok file) [
+      | Archive ↦ λ e. let none = rw e at h in absurd cc
+      | Elf32 ↦ λ e. ap (as_error ParseObjectFile) h
+      | Elf64 ↦ λ e. ap (as_error ParseObjectFile) h
+    ]) k.1)
 
 -- ---- the sections of written contents
 
