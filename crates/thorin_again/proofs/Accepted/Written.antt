@@ -28,7 +28,6 @@ use Rattle.dwp_base.specs.declared.section.SectionKind.TheVariants as kinds
 use Rattle.dwp_bytes.specs.declared.encoding.Encoding.{Encoding}
 use Rattle.dwp_dwarf.specs.Units.{UnitsAreTaken}
 use Rattle.dwp_dwarf.specs.declared.unit.UnitSection.TheVariants as places
-use Rattle.dwp_dwarf.specs.declared.unit.UnitSection.{UnitSection}
 use Rattle.dwp_elf.specs.Contents.{KindsDiffer, content_of}
 use Rattle.dwp_elf.specs.FileText.{Object as File, file_text}
 use Rattle.dwp_elf.specs.Written.{written_elf}
@@ -50,8 +49,7 @@ use Rattle.thorin_input.specs.Format.{is_shared}
 use Rattle.thorin_input.specs.Parts.{Parts, parts_of}
 use Rattle.thorin_again.specs.Plain.{IsPlain, HoldsPlain, NamesItself}
 use Rattle.thorin_join.specs.Represents.{IsSoundBegun, units_of, units_begun, units_in}
-use Rattle.thorin_join.specs.State.{InProgress, adding, abbreviations_test, with_source, kind_at}
-use Rattle.thorin_join.specs.State.{names_of}
+use Rattle.thorin_join.specs.State.{InProgress, adding, abbreviations_test, with_source, names_of}
 use Rattle.thorin_input.specs.Used.{counts_once}
 use Rattle.thorin_join.proofs.Files.Indexes.{IndexIsRead, IndexHasEntries}
 use Rattle.thorin_join.proofs.Joined.Input.{new-sound}
@@ -236,15 +234,12 @@ module _ (names : NamesTheSameLaw) (law : PackagedLaw) (reads : UnitsAreTaken)
       (data-there made.strings strings))
 
   -- rows name each kind that has bytes, but those that count once
-  unit-used : (place : UnitSection) → 0 < length (content_of (kind_at place) file.contents)
-      → is_used made.rows (kind_at place) ≡ true
-  unit-used place = lie-used file.order place 0 made.rows (content_of (kind_at place) file.contents)
-      (lie-kept made file has.sound.laid fin place)
-
   kind-used : (kind : SectionKind) → 0 < length (content_of kind file.contents)
       → counts_once kind ≡ false → is_used made.rows kind ≡ true
-  kind-used kinds.Info some once = unit-used places.Info some
-  kind-used kinds.Types some once = unit-used places.Types some
+  kind-used kinds.Info some once = lie-used file.order places.Info 0 made.rows _
+      (lie-kept made file has.sound.laid fin places.Info) some
+  kind-used kinds.Types some once = lie-used file.order places.Types 0 made.rows _
+      (lie-kept made file has.sound.laid fin places.Types) some
   kind-used kind some once =
       by-bool _ (is_shared kind)
       (λ shared. plain.named kind shared (rw (finished-shared made file fin kind shared) at some))
@@ -274,13 +269,9 @@ module _ (names : NamesTheSameLaw) (law : PackagedLaw) (reads : UnitsAreTaken)
             has.tests.type_rows kind (kind-used kind some);
         offsets = λ some. (strings-there some, given.0);
       }) in
-      rw (
-        t.is,
-        opened-elf (file_text file) (written_elf file) back,
-        info-written file info,
-        object-written file differ,
-        own.first,
-      ) (and-then E _ _
+      let opens = opened-elf (file_text file) (written_elf file) back in
+      rw (t.is, opens, info-written file info, object-written file differ,
+          own.first) (and-then E _ _
       (and-then E _ _ (and-then E _ _ parts (λ p e. rw abbreviations-tested
       (and-then E _ _ (given.1 p e) (λ new h. tt)))) (λ m h. tt)) (λ now h. tt))
 

@@ -208,17 +208,14 @@ module _ (first_law : FirstLaw) (find_law : FindLaw) (source : Source) (contents
   outside k = ap₂ is_outside (again.held k) (found-range k) ∙ inside-by (content_of k contents)
       (contribution_to k row) (is.lie.inside k)
 
-  own-is : own ≡ unit.bytes
-  own-is =
-      let same : place ≡ is.owns.place = place-eq place (place_of row.id row.debug_types) here ∙ sym
-      is.owns.place_is in
-      sym part ∙ ap (part_of (content_of kind contents)) (sym range_is) ∙ ap (λ p.
-      part_of (content_of (kind_at p) contents) (contribution_to (kind_at p) row))
-      same ∙ is.owns.bytes
-
   means : source.encoding ≡ unit.encoding → meaning_by source own (Some parts.row) ≡ Some unit
   unfolding meaning_by
   means same_encoding =
+      let same : place ≡ is.owns.place = place-eq place (place_of row.id row.debug_types) here ∙ sym
+      is.owns.place_is in
+      let own_is = sym part ∙ ap (part_of (content_of kind contents)) (sym range_is) ∙ ap (λ p.
+      part_of (content_of (kind_at p) contents) (contribution_to (kind_at p) row)) same
+      ∙ is.owns.bytes in
       let inside : lie_inside source (Some parts.row) ≡ true = λ i. is_none (find (λ k. outside k i)
       shared_kinds) in
       let strings_are =
@@ -228,7 +225,7 @@ module _ (first_law : FirstLaw) (find_law : FindLaw) (source : Source) (contents
       (part_of (content_of kinds.StrOffsets contents) (contribution_to kinds.StrOffsets row))
       unit.strings (is.shares.string strings again.table (take-length strings)) in
       rw inside (ap (meaning_with source own (Some parts.row)) strings_are ∙ (λ i. Some (record {
-        bytes = own-is i;
+        bytes = own_is i;
         pieces = pieces-same _ unit.pieces (λ k copied. bytes-are k ∙ is.shares.content k copied) i;
         strings = unit.strings;
         encoding = same_encoding i;

@@ -70,7 +70,6 @@ pub input-encoding : (file : File) → KindsDiffer file.contents
     → elf_of (file_text file) ≡ Ok (written_elf file)
     → input_encoding (file_text file) ≡ encoding_of (written_object file)
 unfolding input_encoding
-input-encoding file differ back = rw (
-  opened-elf (file_text file) (written_elf file) back,
-  object-written file differ,
-) refl
+input-encoding file differ back =
+    let opens = opened-elf (file_text file) (written_elf file) back in
+    rw (opens, object-written file differ) refl

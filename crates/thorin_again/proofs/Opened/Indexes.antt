@@ -123,20 +123,19 @@ module _ (is_read : IndexIsRead) (made : InProgress) (file : File) (sound : IsSo
     (differ : KindsDiffer file.contents) where
   pub compilations-taken : IndexTaken file.order (rows_of true made.rows)
       (first CuIndex (written_object file).sections)
-  compilations-taken = rw (
-    finished-order made file f,
-    first-written CuIndex file.contents differ,
-    finished-compilations made file f sound.units.no_compilations,
-  ) (index-taken is_read made.file.order (rows_of true made.rows) f.compilation_index f.compilations
+  compilations-taken =
+      let same = finished-compilations made file f sound.units.no_compilations in
+      rw (finished-order made file f, first-written CuIndex file.contents differ, same)
+      (index-taken is_read made.file.order (rows_of true made.rows)
+          f.compilation_index f.compilations
       tests.compilation_rows (chosen-fit true made.rows fits))
 
   pub types-taken : IndexTaken file.order (rows_of false made.rows)
       (first TuIndex (written_object file).sections)
-  types-taken = rw (
-    finished-order made file f,
-    first-written TuIndex file.contents differ,
-    finished-types made file f sound.units.no_types,
-  ) (index-taken is_read made.file.order (rows_of false made.rows) f.type_index f.types
+  types-taken =
+      let same = finished-types made file f sound.units.no_types in
+      rw (finished-order made file f, first-written TuIndex file.contents differ, same)
+      (index-taken is_read made.file.order (rows_of false made.rows) f.type_index f.types
       tests.type_rows (chosen-fit false made.rows fits))
 
   abbrev pub indexes-taken : Indexes
@@ -149,12 +148,10 @@ module _ (is_read : IndexIsRead) (made : InProgress) (file : File) (sound : IsSo
   indexes-read : (encoding : Encoding) → HaveVersion encoding.version made.rows
       → indexes_of (written_object file) encoding ≡ Ok indexes-taken
   unfolding indexes_of
-  indexes-read encoding have = rw (
-    compilations-taken.taken CuIndex,
-    types-taken.taken TuIndex,
-    compilations-taken.fits encoding CuIndex (version-chosen true encoding.version made.rows have),
-    types-taken.fits encoding TuIndex (version-chosen false encoding.version made.rows have),
-  ) refl
+  indexes-read encoding have =
+      let c = compilations-taken.fits encoding CuIndex (version-chosen true _ made.rows have) in
+      let t = types-taken.fits encoding TuIndex (version-chosen false _ made.rows have) in
+      rw (compilations-taken.taken CuIndex, types-taken.taken TuIndex, c, t) refl
 
 -- ---- up to the parts
 

@@ -106,12 +106,8 @@ module _ (E : ErrorValue → Type 0) (source : Source) where
       let more = λ (put : List ℕ) (k : SectionKind) (is : kind ≡ k).
       fresh-more (λ j (part : SectionKind × List ℕ). same_kind part.0 j) before.0 (k, put) c cs
       (λ j. ap (λ l. same_kind l j) (sym is)) fresh in
-      rw (
-        eqb-suc-zero,
-        not-seen (Had before) c cs fresh,
-        and-false,
-        can.format kind (rw (front c cs) (omega arith)),
-      )
+      let fits = can.format kind (rw (front c cs) (omega arith)) in
+      rw (eqb-suc-zero, not-seen (Had before) c cs fresh, and-false, fits)
       (by-bool _ (same_kind kind StrOffsets)
       (λ same.
       let had = (rw same at can.offsets) (omega arith) in
