@@ -219,10 +219,8 @@ module _ (names : NamesTheSameLaw) (law : PackagedLaw) (reads : UnitsAreTaken)
 
   abbreviations-tested : abbreviations_test (written_object file) ≡ Ok tt
   unfolding abbreviations_test
-  abbreviations-tested =
-      let some : 0 < length (content_of kinds.Abbrev file.contents) =
-      rw (finished-shared made file fin kinds.Abbrev refl) (ltb-true 0 _ has-both.0) in
-      rw (present-written kinds.Abbrev file some) refl
+  abbreviations-tested = rw (present-written kinds.Abbrev file (rw (finished-shared made file fin
+      kinds.Abbrev refl) (ltb-true 0 _ has-both.0))) refl
 
   strings-there : 0 < length (content_of kinds.StrOffsets file.contents)
       → (written_object file).has_strings ≡ true

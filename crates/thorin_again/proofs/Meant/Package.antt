@@ -285,10 +285,8 @@ module _ (reads : UnitsAreTaken) (first_law : FirstLaw) (find_law : FindLaw) (is
       → HaveEncodingOf (file_text file) (with_names mean rows)
       → IsRowOf file.order file.contents made.strings r (r.id, mean r)
       × (encoding_of (written_object file) ≡ Ok (mean r).encoding)
-  row-at rows [] rs r cut are all = (
-    (rw cut at are).0,
-    sym (input-encoding file differ back) ∙ (rw cut at all) 0 (r.id, mean r) (omega arith),
-  )
+  row-at rows [] rs r cut are all = let first = (rw cut at all) 0 (r.id, mean r) (omega arith) in
+      ((rw cut at are).0, sym (input-encoding file differ back) ∙ first)
   row-at rows (b ∷ bs) rs r cut are all = row-at (bs ++ r ∷ rs) bs rs r refl (rw cut at are).1
       (λ k d within. (rw cut at all) (suc k) d (omega (arith, within)))
 

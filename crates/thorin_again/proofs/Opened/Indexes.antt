@@ -96,11 +96,9 @@ index-taken is_read order (row ∷ rows) bytes text tested fit =
       fits = λ encoding kind have. rw (have 0 row (omega arith)) (by-bool _ (leb 5 encoding.version)
           (λ e. rw e refl) (λ e. rw e refl));
       there = refl;
-      has = λ law distinct. (
-        version,
-        law order row.encoding (row ∷ rows) bytes tested distinct fit text index read,
-        omega arith,
-      );
+      has = λ law distinct.
+          let has = law order row.encoding (row ∷ rows) bytes tested distinct fit text index read in
+          (version, has, omega arith);
     }
 
 version-chosen : (b : Bool) (version : ℕ) (rows : List IndexEntry) → HaveVersion version rows
@@ -170,10 +168,8 @@ own-made state encoding file own =
     let begun = own.finished.begun in
     let all : AllOf encoding (units_of made) = rw begun at own.all in
     let some : 0 < length (units_of made) = rw begun at own.some in
-    let unit : IndexEntry → DwarfObject × Meaning = λ row. (
-      row.id,
-      meaning_at made.file.order made.file.contents made.strings row,
-    ) in
+    let mean = meaning_at made.file.order made.file.contents made.strings in
+    let unit : IndexEntry → DwarfObject × Meaning = λ row. (row.id, mean row) in
     let long : length (units_of made) ≡ length made.rows = length-map made.rows unit in
     record {
       sound = rw begun at own.sound;
@@ -192,6 +188,9 @@ unfolding with_input with_units order_test
 up-to-parts is_read state encoding file own before same =
     let f = own.finished in
     let m = own-made state encoding file own in
+    let opens = opened-elf (file_text file) (written_elf file) own.read_back in
+    let object = object-written file own.kinds in
+    let order = elim file.order as (λ o. same_order o o ≡ true) [ Little ↦ refl | Big ↦ refl ] in
     let read = indexes-read is_read f.made file m.sound m.tests f.identifiers f.finished own.kinds
     encoding m.version in
     record {
@@ -199,15 +198,7 @@ up-to-parts is_read state encoding file own before same =
       read = read;
       finished = indexes-packed is_read f.made file m.sound m.tests f.identifiers f.finished
           own.kinds m.some;
-      is = rw (
-        opened-elf (file_text file) (written_elf file) own.read_back,
-        info-written file own.info,
-        object-written file own.kinds,
-        own.first,
-        same,
-        elim file.order as (λ o. same_order o o ≡ true) [ Little ↦ refl | Big ↦ refl ],
-        read,
-      ) refl;
+      is = rw (opens, info-written file own.info, object, own.first, same, order, read) refl;
     }
 
 -- ---- the format
