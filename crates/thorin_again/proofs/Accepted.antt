@@ -1,3 +1,2 @@
 -- A written package is accepted.
-pub mod Alone
 pub mod Written

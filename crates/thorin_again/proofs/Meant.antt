@@ -1,5 +1,4 @@
 -- What a written package means as an input.
-pub mod UnitsBySection
 pub mod RowPlaces
 pub mod OneRow
 pub mod RowByRow

@@ -1,5 +1,4 @@
 -- A written package as an input: its sections, parts and indexes.
-pub mod Unless
 pub mod Sections
 pub mod Parts
 pub mod Indexes

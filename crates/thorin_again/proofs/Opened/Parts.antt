@@ -1,16 +1,16 @@
 -- The sections of a written package are taken as parts, or refused with an error of some sort,
 -- where its string offsets are.
-use Rattle.std.proofs.Common.{subst, not, Ok, ◌≡◌, ℕ, ◌<◌, Bool, true, eqb, List, [], ◌∷◌, ◌++◌}
-use Rattle.std.proofs.Common.{length, refl, sym, ap, arith}
+use Rattle.std.proofs.Common.{not, subst, Result, Err, Ok, ◌≡◌, ℕ, ◌<◌, Bool, true, List, [], ◌∷◌}
+use Rattle.std.proofs.Common.{◌++◌, length, refl, sym, ap, arith}
 use Rattle.std.proofs.Math.Bool.{and-false}
-use Rattle.std.proofs.lemmas.Bool.{cond-false, eqb-false}
+use Rattle.std.proofs.Math.Dec.{eqb-suc-zero}
 use Rattle.dwp_base.specs.declared.section.SectionKind.{SectionKind}
 use Rattle.dwp_base.specs.declared.section.SectionKind.TheVariants.{StrOffsets}
 use Rattle.dwp_base.specs.Sections.{same_kind}
 use Rattle.dwp_base.specs.Reading.{◌>>=◌}
 use Rattle.dwp_base.proofs.Bools.{by-bool}
 use Rattle.dwp_base.proofs.EveryKind.{is-same, same-self}
-use Rattle.dwp_elf.specs.Contents.{count_of, KindsDiffer, content_of}
+use Rattle.dwp_elf.specs.Contents.{KindsDiffer, content_of}
 use Rattle.thorin_errors.specs.Errors.{ErrorValue}
 use Rattle.thorin_input.specs.Growing.{Contents}
 use Rattle.thorin_input.specs.Indexes.{Source}
@@ -19,10 +19,34 @@ use Rattle.thorin_input.specs.Format.{is_in_format, is_copied}
 use Rattle.thorin_input.specs.InputStrings.{rewritten}
 use Rattle.thorin_input.specs.Parts.{Parts, has_part, with_offsets, with_part, with_each_part}
 use Rattle.thorin_input.specs.Parts.{parts_of}
-use Rattle.thorin_again.proofs.Opened.Sections.{Fresh, fresh-rest, fresh-more, not-seen}
-use Rattle.thorin_again.proofs.Opened.Sections.{rest-differ, last-counts}
-use Rattle.thorin_again.proofs.Opened.Unless.{Unless, then-on, answered, unless-ok}
-use Rattle.thorin_join.proofs.Files.Contents.{nothing}
+use Rattle.thorin_again.proofs.Opened.Sections.{Fresh, fresh-differ, fresh-rest, fresh-more}
+use Rattle.thorin_again.proofs.Opened.Sections.{not-seen, none-behind}
+use Rattle.std.proofs.lemmas.Bool.{cond-false}
+
+-- ---- an answer, or an error of some sort
+
+abbrev pub Unless : (ErrorValue → Type 0) → {X : Type 0} → Result X ErrorValue → Type 0
+Unless E (Ok x) = Unit {0}
+Unless E (Err e) = E e
+
+-- a step, and then another
+pub and-then : (E : ErrorValue → Type 0) {X Y : Type 0} (r : Result X ErrorValue)
+    (f : X → Result Y ErrorValue) → Unless E r → ((x : X) → r ≡ Ok x → Unless E (f x))
+    → Unless E (r >>= f)
+and-then E (Ok x) f h k = k x refl
+and-then E (Err e) f h k = h
+
+-- a step in a step, and then another
+then-on : (E : ErrorValue → Type 0) {X Y Z : Type 0} (r : Result X ErrorValue)
+    (f : X → Result Y ErrorValue) (g : Y → Result Z ErrorValue) → Unless E r
+    → ((x : X) → Unless E (f x >>= g)) → Unless E ((r >>= f) >>= g)
+then-on E (Ok x) f g h k = k x
+then-on E (Err e) f g h k = h
+
+-- where no error is of that sort, there is an answer
+pub answered : {X : Type 0} (r : Result X ErrorValue) → Unless (λ e. ⊥) r → (x : X) × (r ≡ Ok x)
+answered (Ok x) h = (x, refl)
+answered (Err e) h = absurd h
 
 -- ---- the contents behind the first
 
@@ -31,8 +55,7 @@ pub behind : (kind : SectionKind) (c : SectionKind × List ℕ) (cs : Contents) 
     → 0 < length (content_of kind cs) → content_of kind (c ∷ cs) ≡ content_of kind cs
 behind kind c cs differ some =
     by-bool _ (same_kind c.0 kind)
-    (λ same. let none = nothing kind cs (last-counts _ (count_of kind cs) same (differ kind)) in
-    absurd (omega (arith, some, ap length none)))
+    (λ same. absurd (omega (arith, ap length (none-behind kind c cs differ same))))
     (λ other. rw other refl)
 
 pub front : (c : SectionKind × List ℕ) (cs : Contents) → content_of c.0 (c ∷ cs) ≡ c.1
@@ -51,9 +74,8 @@ module _ (E : ErrorValue → Type 0) (source : Source) where
   pub record CanTry (cs : Contents) (strings : List (List ℕ)) : Type 0 where
     pub format : (kind : SectionKind) → 0 < length (content_of kind cs)
         → is_in_format source.encoding kind ≡ true
-    pub has : 0 < length (content_of StrOffsets cs) → source.object.has_strings ≡ true
-    pub written : 0 < length (content_of StrOffsets cs)
-        → Unless E (rewritten source (content_of StrOffsets cs) strings)
+    pub offsets : 0 < length (content_of StrOffsets cs) → (source.object.has_strings ≡ true)
+        × Unless E (rewritten source (content_of StrOffsets cs) strings)
 
   -- the strings change with the string offsets alone
   can-rest : (c : SectionKind × List ℕ) (cs : Contents) (strings now : List (List ℕ))
@@ -61,48 +83,45 @@ module _ (E : ErrorValue → Type 0) (source : Source) where
       → CanTry (c ∷ cs) strings → CanTry cs now
   can-rest c cs strings now differ same can = record {
     format = λ kind some. can.format kind (rw (behind kind c cs differ some) some);
-    has = λ some. can.has (rw (behind StrOffsets c cs differ some) some);
-    written = λ some. let is = behind StrOffsets c cs differ some in
-        rw (← same some, ← is) (can.written (rw is some));
+    offsets = λ some. let is = behind StrOffsets c cs differ some in
+        rw (← same some, ← is) (can.offsets (rw is some));
   }
 
   abbrev Had : Parts → SectionKind → Bool
   Had before kind = has_part kind before.0
 
-  parts-tried : (cs : Contents) (before : Parts) → KindsDiffer cs → Fresh (Had before) cs
+  parts-tried : (cs : Contents) (before : Parts) → Fresh (Had before) cs
       → CanTry cs before.1 → Unless E (with_each_part source before (written_used cs))
   unfolding with_each_part with_part
-  parts-tried [] before differ fresh can = tt
-  parts-tried (c ∷ cs) before differ fresh can =
-      let rest = rest-differ c cs differ in
-      let same-parts : Fresh (Had before) cs = fresh-rest (Had before) c cs fresh in
-      let same-strings : CanTry cs before.1 = can-rest c cs before.1 before.1 differ (λ s. refl)
-      can in
-      let more = λ (bytes : List ℕ) (k : SectionKind) (is : c.0 ≡ k).
-      fresh-more (λ kind (part : SectionKind × List ℕ). same_kind part.0 kind) before.0 (k, bytes)
-      c cs (λ kind. ap (λ j. same_kind j kind) (sym is)) differ fresh in
-      by-bool _ (eqb (length c.1) 0)
-      (λ none. rw none (parts-tried cs before rest same-parts same-strings))
-      (λ some.
-      let there : 0 < length c.1 = omega (arith, eqb-false (length c.1) 0 some) in
-      rw (
-        some,
-        not-seen (Had before) c cs fresh,
-        and-false,
-        can.format c.0 (rw (front c cs) there),
-      )
-      (by-bool _ (same_kind c.0 StrOffsets)
-      (λ same. rw (same, offsets-by source before c.1 ((rw same at can.has) there))
-      (then-on E (rewritten source c.1 before.1) _ _ ((rw same at can.written) there)
-      (λ w. parts-tried cs (before.0 ++ (StrOffsets, w.0) ∷ [], w.1) rest
-      (more w.0 StrOffsets (is-same c.0 StrOffsets same))
-      (can-rest c cs before.1 w.1 differ (λ s. let none = nothing StrOffsets cs
-      (last-counts _ (count_of StrOffsets cs) same (differ StrOffsets)) in
-      absurd (omega (arith, s, ap length none))) can))))
-      (λ other. by-bool _ (is_copied c.0)
-      (λ copied. rw (copied, other) (parts-tried cs (before.0 ++ c ∷ [], before.1) rest
-      (more c.1 c.0 refl) same-strings))
-      (λ apart. rw (apart, other) (parts-tried cs before rest same-parts same-strings)))))
+  parts-tried [] before fresh can = tt
+  parts-tried ((kind, []) ∷ cs) before fresh can = parts-tried cs before
+      (fresh-rest (Had before) (kind, []) cs fresh) (can-rest (kind, []) cs before.1 before.1
+      (fresh-differ (Had before) ((kind, []) ∷ cs) fresh) (λ s. refl) can)
+  parts-tried ((kind, b ∷ bs) ∷ cs) before fresh can =
+      let bytes = b ∷ bs in
+      let c : SectionKind × List ℕ = (kind, b ∷ bs) in
+      let differ = fresh-differ (Had before) (c ∷ cs) fresh in
+      let rest = fresh-rest (Had before) c cs fresh in
+      let same-strings = can-rest c cs before.1 before.1 differ (λ s. refl) can in
+      let more = λ (put : List ℕ) (k : SectionKind) (is : kind ≡ k).
+      fresh-more (λ j (part : SectionKind × List ℕ). same_kind part.0 j) before.0 (k, put) c cs
+      (λ j. ap (λ l. same_kind l j) (sym is)) fresh in
+      let fits = can.format kind (rw (front c cs) (omega arith)) in
+      rw (eqb-suc-zero, not-seen (Had before) c cs fresh, and-false, fits)
+      (by-bool _ (same_kind kind StrOffsets)
+      (λ same.
+      let had = (rw same at can.offsets) (omega arith) in
+      rw (same, offsets-by source before bytes had.0)
+      (then-on E (rewritten source bytes before.1) _ _ had.1
+      (λ w. parts-tried cs (before.0 ++ (StrOffsets, w.0) ∷ [], w.1)
+      (more w.0 StrOffsets (is-same kind StrOffsets same))
+      (can-rest c cs before.1 w.1 differ (λ s. let no =
+          ap length (none-behind StrOffsets c cs differ
+      same) in absurd (omega arith)) can))))
+      (λ other. by-bool _ (is_copied kind)
+      (λ copied. rw (copied, other) (parts-tried cs (before.0 ++ c ∷ [], before.1)
+      (more bytes kind refl) same-strings))
+      (λ apart. rw (apart, other) (parts-tried cs before rest same-strings))))
 
   -- those of an input that has the sections of written contents
   pub own-parts-tried : (contents : Contents) (strings : List (List ℕ))
@@ -110,7 +129,7 @@ module _ (E : ErrorValue → Type 0) (source : Source) where
       → CanTry contents strings → Unless E (parts_of source strings)
   own-parts-tried contents strings are differ can =
       subst (λ l. Unless E (with_each_part source ([], strings) l)) (sym are)
-      (parts-tried contents ([], strings) differ (λ kind there. absurd cc) can)
+      (parts-tried contents ([], strings) (λ kind. let d = differ kind in omega arith) can)
 
 -- the parts of a written package are taken
 pub own-parts : (source : Source) (contents : Contents) (strings : List (List ℕ))
@@ -120,6 +139,5 @@ own-parts source contents strings are differ can =
     answered (parts_of source strings) (own-parts-tried (λ e. ⊥) source contents strings are differ
     (record {
       format = can.format;
-      has = can.has;
-      written = λ some. let w = can.written some in unless-ok (λ e. ⊥) _ w.0 w.1;
+      offsets = λ some. (can.has some, rw (can.written some).1 tt);
     }))
