@@ -2,6 +2,5 @@
 pub mod RewrittenAgain
 pub mod WholeRanges
 pub mod Tiled
-pub mod RangesApart
 pub mod RangesFill
 pub mod OfPackage

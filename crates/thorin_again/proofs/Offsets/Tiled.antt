@@ -1,16 +1,17 @@
 -- The ranges of string offsets fill their section, where plain objects of one encoding are added.
-use Rattle.std.proofs.Common.{◌≡◌, ◌∙◌, ℕ, ◌+◌, ◌<◌, false, inl, inr, List, [], ◌∷◌, ◌++◌, length}
-use Rattle.std.proofs.Common.{refl, sym, ap, subst, Ok, Some, arith, length-append}
+use Rattle.std.proofs.Common.{◌≡◌, ◌∙◌, ℕ, ◌+◌, ◌<◌, ◌⊎◌, false, inl, inr, List, [], ◌∷◌, ◌++◌}
+use Rattle.std.proofs.Common.{length}
+use Rattle.std.proofs.Common.{refl, sym, ap, subst, Ok, Some, arith, take, length-append}
 use Rattle.std.proofs.Math.Nat.{add-zero}
 use Rattle.std.proofs.lemmas.List.{append-nil}
 use Rattle.std.proofs.lemmas.Option.{none-some, same_Some}
 use Rattle.dwp_base.specs.declared.endian.Endianness.{Endianness}
 use Rattle.dwp_base.specs.declared.section.Contribution.{Contribution}
 use Rattle.dwp_base.specs.declared.section.SectionKind.TheVariants.{StrOffsets}
-use Rattle.dwp_bytes.specs.StringOffsets.{entry_count}
 use Rattle.dwp_bytes.specs.declared.encoding.Encoding.{Encoding}
 use Rattle.dwp_elf.specs.Contents.{content_of}
 use Rattle.thorin_index.specs.declared.entry.IndexEntry.{IndexEntry}
+use Rattle.thorin_strings.specs.StringOffsets.{remapped}
 use Rattle.thorin_strings.specs.Strings.{IsTable, data_of}
 use Rattle.thorin_input.specs.Growing.{joined_parts, range_put}
 use Rattle.thorin_input.specs.Indexes.{Source, is_package}
@@ -18,7 +19,7 @@ use Rattle.thorin_again.specs.Plain.{IsWholeRange, Tile, IsAmong, HasOneOf, IsOf
 use Rattle.thorin_again.specs.Plain.{HasTiledOffsets}
 use Rattle.thorin_join.specs.StandApart.{EachRow}
 use Rattle.thorin_join.specs.State.{InProgress, row_at, with_source}
-use Rattle.thorin_again.proofs.Offsets.RewrittenAgain.{Lead, range-leads, no-turn, turn, grown}
+use Rattle.thorin_again.proofs.Offsets.RewrittenAgain.{no-turn, turn, grown}
 use Rattle.thorin_join.proofs.Parts.Appended.{no-bytes}
 use Rattle.thorin_join.proofs.Parts.OffsetLaws.{NamesTheSameLaw}
 use Rattle.thorin_join.proofs.Parts.Strings.{front-front}
@@ -26,7 +27,7 @@ use Rattle.thorin_again.proofs.Kept.EachUnit.{each-added, each-unit}
 use Rattle.thorin_again.proofs.Kept.SharedParts.{PlainAdded, plain-added, parted, order-added}
 use Rattle.thorin_again.proofs.Kept.SharedParts.{content-added, RowHas, rows-share, once-more}
 use Rattle.thorin_join.proofs.Rows.OneAdded.{place-put, range_for, own-bytes}
-use Rattle.thorin_again.proofs.Offsets.WholeRanges.{MadeBy, part-made, made-fills, unchanged}
+use Rattle.thorin_again.proofs.Offsets.WholeRanges.{MadeBy, part-made, made-fills}
 use Rattle.thorin_input.specs.Parts.{has_part}
 use Rattle.thorin_join.proofs.Parts.FirstUses.{units-strings}
 
@@ -42,40 +43,19 @@ pub weaker : (P Q : IndexEntry → Type 0) → ((row : IndexEntry) → P row →
 weaker P Q f [] h = tt
 weaker P Q f (r ∷ rs) h = (f r h.0, weaker P Q f rs h.1)
 
-among-more : (range more : Contribution) (ranges : List Contribution) → IsAmong range ranges
-    → IsAmong range (ranges ++ more ∷ [])
-among-more range more [] h = absurd h
-among-more range more (r ∷ rs) (inl e) = inl e
-among-more range more (r ∷ rs) (inr h) = inr (among-more range more rs h)
+-- what holds of one of a list, and of a longer one
+abbrev Any : {X : Type 0} → (X → Type 0) → List X → Type 0
+Any P [] = ⊥
+Any P (x ∷ xs) = P x ⊎ Any P xs
 
-among-last : (range : Contribution) (ranges : List Contribution)
-    → IsAmong range (ranges ++ range ∷ [])
-among-last range [] = inl refl
-among-last range (r ∷ rs) = inr (among-last range rs)
+any-more : {X : Type 0} (P : X → Type 0) (xs : List X) (y : X) → Any P xs → Any P (xs ++ y ∷ [])
+any-more P [] y h = absurd h
+any-more P (x ∷ xs) y (inl e) = inl e
+any-more P (x ∷ xs) y (inr h) = inr (any-more P xs y h)
 
-tile-append : (o : Endianness) (e : Encoding) (at : ℕ) (rs : List Contribution) (end : ℕ)
-    (r : Contribution) → Tile o e at rs end → r.offset.0 ≡ end → IsWholeRange o e r.size
-    → Tile o e at (rs ++ r ∷ []) (end + r.size)
-tile-append o e at [] end r h from whole = (from ∙ sym h, whole, ap (λ n. n + r.size) h)
-tile-append o e at (x ∷ rs) end r h from whole = (
-  h.0,
-  h.1,
-  tile-append o e (at + x.size) rs end
-      r h.2 from whole,
-)
-
--- ---- some row has each range
-
-some-before : (range : Contribution) (rows : List IndexEntry) (row : IndexEntry)
-    → IsOfSome range rows → IsOfSome range (rows ++ row ∷ [])
-some-before range [] row h = absurd h
-some-before range (r ∷ rs) row (inl e) = inl e
-some-before range (r ∷ rs) row (inr h) = inr (some-before range rs row h)
-
-some-last : (range : Contribution) (rows : List IndexEntry) (row : IndexEntry)
-    → row.debug_str_offsets ≡ Some range → IsOfSome range (rows ++ row ∷ [])
-some-last range [] row h = inl h
-some-last range (r ∷ rs) row h = inr (some-last range rs row h)
+any-last : {X : Type 0} (P : X → Type 0) (xs : List X) (y : X) → P y → Any P (xs ++ y ∷ [])
+any-last P [] y h = inl h
+any-last P (x ∷ xs) y h = inr (any-last P xs y h)
 
 among-by : (P : Contribution → Type 0) (ranges : List Contribution) (more : Contribution)
     → ((r : Contribution) → IsAmong r ranges → P r) → P more
@@ -85,11 +65,17 @@ among-by P [] more h own r (inr k) = absurd k
 among-by P (x ∷ xs) more h own r (inl e) = h r (inl e)
 among-by P (x ∷ xs) more h own r (inr k) = among-by P xs more (λ z l. h z (inr l)) own r k
 
-gives-same : (o p : Endianness) (encoding : Encoding) (xs ys : List ℕ) (ranges : List Contribution)
-    (s t : List (List ℕ)) → p ≡ o → ys ≡ xs → t ≡ s → GiveStrings o encoding xs ranges s
+tile-append : (o : Endianness) (e : Encoding) (at : ℕ) (rs : List Contribution) (end : ℕ)
+    (r : Contribution) → Tile o e at rs end → r.offset.0 ≡ end → IsWholeRange o e r.size
+    → Tile o e at (rs ++ r ∷ []) (end + r.size)
+tile-append o e at [] end r h from whole = (from ∙ sym h, whole, ap (λ n. n + r.size) h)
+tile-append o e at (x ∷ rs) end r h from whole =
+    (h.0, h.1, tile-append o e (at + x.size) rs end r h.2 from whole)
+
+gives-same : {o p : Endianness} {xs ys : List ℕ} {s t : List (List ℕ)} (encoding : Encoding)
+    (ranges : List Contribution) → p ≡ o → ys ≡ xs → t ≡ s → GiveStrings o encoding xs ranges s
     → GiveStrings p encoding ys ranges t
-gives-same o p encoding xs ys ranges s t order bytes strings gives =
-    rw (order, bytes, strings) gives
+gives-same encoding ranges order bytes strings gives = rw (order, bytes, strings) gives
 
 -- ---- a plain object that was added
 
@@ -117,20 +103,20 @@ module _ (names : NamesTheSameLaw) (source : Source) (before now : InProgress)
   part = part-made names source plain before.strings a.parts a.after table a.parts_are
 
   -- where a range is put, the ranges give the strings after it
-  more-strings : IsWholeRange order source.encoding (length joined)
+  more-strings : ((final : List (List ℕ)) → IsTable final → take (length a.after) final ≡ a.after
+      → (written : List ℕ) × (remapped source.object.order source.encoding (data_of final) joined
+      (length joined) before.strings ≡ Ok (written, a.after)))
       → GiveStrings order source.encoding (old ++ joined) (tiled.ranges ++ range ∷ []) a.after
-  more-strings whole final final_table front =
-      let lead = subst (λ o. Lead o source.encoding (data_of final) joined
-      (entry_count source.encoding (length joined)) before.strings a.after) same
-      (part.again final final_table front) in
-      let one = range-leads order source.encoding (data_of final) joined before.strings a.after
-      whole lead in
+  more-strings gives final final_table front =
+      let one = gives final final_table front in
       grown order source.encoding (data_of final) old joined 0 0 (length old) tiled.ranges
       (range ∷ []) [] before.strings a.after refl tiled.tile (omega arith)
       (tiled.strings final final_table
       (front-front before.strings a.after final part.kept front))
       (turn order source.encoding (data_of final) (old ++ joined) (length old) range []
-      before.strings a.after a.after (one.0, rw (own-bytes old joined) one.1)
+      before.strings a.after a.after (one.0, rw (own-bytes old joined) (subst (λ o. remapped o
+      source.encoding (data_of final) joined (length joined) before.strings ≡ Ok (one.0, a.after))
+      same one.1))
       (no-turn order source.encoding (data_of final) (old ++ joined) (length old + length joined)
       a.after))
 
@@ -161,14 +147,13 @@ module _ (names : NamesTheSameLaw) (source : Source) (before now : InProgress)
             → part ≡ Some r → IsAmong r ranges) new)
             (weaker (HasOneOf tiled.ranges) (HasOneOf ranges) wider before.rows tiled.rows));
         named = named;
-        strings = gives-same order now.file.order source.encoding (old ++ joined)
-            (content_of StrOffsets now.file.contents) ranges a.after now.strings order_is content
-            strings_are gives;
+        strings = gives-same source.encoding ranges order_is content strings_are gives;
       }
 
   named-before : (r : Contribution) → IsAmong r tiled.ranges → IsOfSome r now.rows
   named-before r there =
-      rw a.is (each-unit (λ p. IsOfSome r p.rows) (λ p u k. some-before r p.rows
+      rw a.is (each-unit (λ p. IsOfSome r p.rows) (λ p u k. any-more
+      (λ (row : IndexEntry). row.debug_str_offsets ≡ Some r) p.rows
       (row_at u.1.row p.file.contents u.0 u.1.bytes u.1.place) k) (parted source before now a)
       a.new.units (tiled.named r there))
 
@@ -176,30 +161,25 @@ module _ (names : NamesTheSameLaw) (source : Source) (before now : InProgress)
   tiled-kept = elim (made-fills names source plain before.strings joined a.after
       (has_part StrOffsets a.parts) part) [
         | inl none ↦
-            let empty = no-bytes joined none in
-            let same_strings =
-            unchanged names source plain before.strings joined a.after
-            (has_part StrOffsets a.parts) none part in
-            made-so tiled.ranges (rw (none, add-zero (length old)) tiled.tile) (λ row has. has)
-            (λ r e. absurd (none-some r (rw none at e)))
-            named-before (gives-same order order source.encoding old (old ++ joined) tiled.ranges
-            before.strings a.after refl (ap (λ l. old ++ l) empty ∙ append-nil old) same_strings
-            tiled.strings)
+            made-so tiled.ranges (rw (none.0, add-zero (length old)) tiled.tile) (λ row has. has)
+            (λ r e. absurd (none-some r (rw none.0 at e)))
+            named-before (gives-same source.encoding tiled.ranges refl (ap (λ l. old ++ l)
+            (no-bytes joined none.0) ∙ append-nil old) none.1 tiled.strings)
         | inr whole ↦
-            let is_whole = subst (λ o. IsWholeRange o source.encoding (length joined)) same whole in
-            let put = place-put StrOffsets joined before.file.contents whole.some in
+            let is_whole = subst (λ o. IsWholeRange o source.encoding (length joined)) same
+            whole.0 in
+            let put = place-put StrOffsets joined before.file.contents whole.0.some in
             made-so (tiled.ranges ++ range ∷ [])
             (tile-append order source.encoding 0 tiled.ranges (length old) range tiled.tile refl
             is_whole)
-            (λ row has r e. among-more r range tiled.ranges (has r e))
-            (λ r e. subst (λ x. IsAmong x (tiled.ranges ++ range ∷ []))
-            (same_Some range r (sym put ∙ e)) (among-last range tiled.ranges))
+            (λ row has r e. any-more (λ x. r ≡ x) tiled.ranges range (has r e))
+            (λ r e. any-last (λ x. r ≡ x) tiled.ranges range (same_Some r range (sym e ∙ put)))
             (among-by (λ r. IsOfSome r now.rows) tiled.ranges range named-before
             (once-more source before now a more (λ p. IsOfSome range p.rows)
             (RowHas (λ row. row.debug_str_offsets ≡ Some range))
-            (λ p u has. some-last range p.rows (row_at u.1.row p.file.contents u.0
-            u.1.bytes u.1.place)
+            (λ p u has. any-last (λ (row : IndexEntry). row.debug_str_offsets ≡ Some range) p.rows
+            (row_at u.1.row p.file.contents u.0 u.1.bytes u.1.place)
             (has p.file.contents))
             (rows-share source before now a plain StrOffsets refl (λ part. part ≡ Some range) put)))
-            (more-strings is_whole)
+            (more-strings whole.1)
       ]
