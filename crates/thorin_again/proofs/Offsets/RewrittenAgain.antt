@@ -1,10 +1,9 @@
 -- Whole ranges of string offsets that lie one directly behind the other pass the tests, and are
 -- rewritten unless the offset of a string doesn't fit; those that were rewritten, once more from
 -- the same strings on, give the same strings.
-use Rattle.std.proofs.Common.{◌≡◌, ◌∙◌, ℕ, zero, suc, ◌+◌, ◌-◌, ◌*◌, ◌%◌, ◌<◌, ◌≤◌, true, false}
-use Rattle.std.proofs.Common.{◌&&◌, inl, inr, List, [], ◌∷◌, ◌++◌, length, drop, refl, sym, ap}
-use Rattle.std.proofs.Common.{subst, Result, Ok, Err, Option, arith, ltb, take, length-append}
-use Rattle.std.proofs.Common.{add-mul}
+use Rattle.std.proofs.Common.{◌≡◌, ◌∙◌, ℕ, zero, suc, ◌+◌, ◌-◌, ◌*◌, ◌%◌, ◌<◌, ◌≤◌, inl, inr, List}
+use Rattle.std.proofs.Common.{[], ◌∷◌, ◌++◌, length, drop, refl, sym, ap, Ok, Option, arith, ltb}
+use Rattle.std.proofs.Common.{take, length-append, add-mul}
 use Rattle.std.specs.Prelude.{nat_lt, slice_range}
 use Rattle.std.proofs.lemmas.Bool.{le-leb, le-ltb, lt-ltb, eq-eqb, ne_eqb}
 use Rattle.std.proofs.lemmas.Nat.{row_fits}
@@ -24,9 +23,9 @@ use Rattle.thorin_errors.specs.Answers.{as_error}
 use Rattle.thorin_errors.specs.Errors.{StrAtOffset, ErrorValue, OffsetAtIndex}
 use Rattle.thorin_packaged.specs.PackagedOffsets.{ranges_test, rewritten_from}
 use Rattle.thorin_packaged.specs.PackagedReading.{range_bytes}
-use Rattle.thorin_strings.specs.StringOffsets.{header_of, offset_at, named_at, offset_limit}
-use Rattle.thorin_strings.specs.StringOffsets.{fitting_offset, remapped_entry, remapped_entries}
-use Rattle.thorin_strings.specs.StringOffsets.{remapped, entry_bytes}
+use Rattle.thorin_strings.specs.StringOffsets.{offset_at, named_at, offset_limit, fitting_offset}
+use Rattle.thorin_strings.specs.StringOffsets.{remapped_entry, remapped_entries, remapped}
+use Rattle.thorin_strings.specs.StringOffsets.{entry_bytes}
 use Rattle.thorin_strings.specs.Strings.{offset_of, IsTable, data_of}
 use Rattle.thorin_join.proofs.Parts.OffsetRanges.{count-again}
 use Rattle.thorin_again.specs.OwnRefusals.{IsStringOffset}

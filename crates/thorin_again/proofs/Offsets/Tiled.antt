@@ -1,7 +1,6 @@
 -- The ranges of string offsets fill their section, where plain objects of one encoding are added.
 use Rattle.std.proofs.Common.{◌≡◌, ◌∙◌, ℕ, ◌+◌, ◌<◌, ◌⊎◌, false, inl, inr, List, [], ◌∷◌, ◌++◌}
-use Rattle.std.proofs.Common.{length}
-use Rattle.std.proofs.Common.{refl, sym, ap, subst, Ok, Some, arith, take, length-append}
+use Rattle.std.proofs.Common.{length, refl, sym, ap, subst, Ok, Some, arith, take, length-append}
 use Rattle.std.proofs.Math.Nat.{add-zero}
 use Rattle.std.proofs.lemmas.List.{append-nil}
 use Rattle.std.proofs.lemmas.Option.{none-some, same_Some}

@@ -1,7 +1,6 @@
 -- What a plain object gives to string offsets is nothing, or a whole range.
 use Rattle.std.proofs.Common.{◌≡◌, ◌∙◌, ℕ, ◌+◌, ◌*◌, ◌<◌, Bool, true, false, eqb, leb, ◌&&◌, ◌⊎◌}
-use Rattle.std.proofs.Common.{⊎_elim}
-use Rattle.std.proofs.Common.{inl, inr, List, [], ◌∷◌, ◌++◌, length, take, refl, sym, ap, subst, Ok}
+use Rattle.std.proofs.Common.{⊎_elim, inl, inr, List, [], ◌++◌, length, take, refl, sym, ap, Ok}
 use Rattle.std.proofs.Common.{arith, true≢false, zero-mul, length-append, add-mul}
 use Rattle.std.proofs.lemmas.Bool.{eqb-true, eqb-false, leb-false, lt-ltb}
 use Rattle.std.proofs.Math.Seq.{take-length}
@@ -16,8 +15,7 @@ use Rattle.thorin_strings.specs.StringOffsets.{header_of, remapped_entries, rema
 use Rattle.thorin_strings.specs.Strings.{IsTable, data_of}
 use Rattle.thorin_input.specs.Growing.{Contents, joined_parts}
 use Rattle.thorin_input.specs.Indexes.{Source, is_package}
-use Rattle.thorin_input.specs.Parts.{Parts, has_part, stands_once}
-use Rattle.thorin_input.specs.Parts.{parts_of}
+use Rattle.thorin_input.specs.Parts.{Parts, has_part, stands_once, parts_of}
 use Rattle.thorin_again.specs.Plain.{IsWholeRange}
 use Rattle.thorin_input.specs.Used.{Used, first}
 use Rattle.thorin_join.proofs.Parts.FirstUses.{no-entries}

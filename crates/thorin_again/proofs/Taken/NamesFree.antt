@@ -1,7 +1,6 @@
 -- Names of units that none of those so far has.
-use Rattle.std.proofs.Common.{◌≡◌, ℕ, ◌<◌, ◌≢◌, true, false, List, [], ◌∷◌, ◌++◌, map, length}
-use Rattle.std.proofs.Common.{get_or}
-use Rattle.std.proofs.Common.{refl, sym, ap, ◌∙◌, ⊎_elim, Some, None, arith, true≢false}
+use Rattle.std.proofs.Common.{◌≡◌, ℕ, ◌<◌, ◌≢◌, false, List, [], ◌∷◌, ◌++◌, map, get_or, refl, sym}
+use Rattle.std.proofs.Common.{ap, ◌∙◌, ⊎_elim, Some, None, arith, true≢false}
 use Rattle.std.specs.Map.{lookup}
 use Rattle.std.specs.Option.{option_map}
 use Rattle.std.specs.Prelude.{slice_get}

@@ -2,8 +2,7 @@
 -- of them, since no name comes twice; by any other unless a compilation unit is there already.
 use Rattle.std.proofs.Common.{◌≡◌, ◌∙◌, ◌≢◌, ◌⊎◌, ℕ, ◌+◌, ◌≤◌, true, false, eqb, List, [], ◌∷◌}
 use Rattle.std.proofs.Common.{◌++◌, refl, sym, ap, subst, Result, Ok, Err, Option, Some, None}
-use Rattle.std.proofs.Common.{length}
-use Rattle.std.proofs.Common.{⊎_elim, true≢false, arith, length-append, ◌<◌}
+use Rattle.std.proofs.Common.{length, ⊎_elim, true≢false, arith, length-append}
 use Rattle.std.specs.Prelude.{slice_get}
 use Rattle.std.proofs.lemmas.Option.{none-some, same_Some}
 use Rattle.dwp_base.specs.Reading.{◌>>=◌}
@@ -31,7 +30,7 @@ use Rattle.thorin_input.specs.Parts.{parts_of}
 use Rattle.thorin_input.specs.Rows.{row_test, unit_row}
 use Rattle.thorin_input.specs.Used.{Used}
 use Rattle.thorin_strings.specs.Strings.{IsTable}
-use Rattle.thorin_join.specs.Laid.{is_at, same_place, Lie, rows_at}
+use Rattle.thorin_join.specs.Laid.{is_at, same_place}
 use Rattle.thorin_join.specs.Represents.{AreRowsOf, LieInside, meaning_at}
 use Rattle.thorin_join.specs.StandApart.{EachRow}
 use Rattle.thorin_join.specs.State.{InProgress, kind_at, unit_bytes, adding}
@@ -43,12 +42,11 @@ use Rattle.thorin_again.specs.Plain.{NamesItself}
 use Rattle.thorin_again.proofs.Meant.OneRow.{found-row, found-range, row-tested, named-again}
 use Rattle.thorin_again.proofs.Meant.OneSection.{with_names}
 use Rattle.thorin_again.proofs.Meant.RowByRow.{IsUnitOf, of-section}
-use Rattle.thorin_again.proofs.Meant.RowPlaces.{FirstLaw, FindLaw, place-eq, get-seam, IsAgain}
+use Rattle.thorin_again.proofs.Meant.RowPlaces.{FirstLaw, FindLaw, place-eq, get-seam}
 use Rattle.thorin_again.proofs.Offsets.OfPackage.{IsReadOf, finished-shared}
 use Rattle.thorin_again.proofs.Taken.NamesFree.{Free, IsMore, free-more, rows-differ}
 use Rattle.thorin_again.proofs.Taken.RowsGiven.{row-given}
 use Rattle.dwp_base.specs.declared.section.SectionKind.{SectionKind}
-use Rattle.thorin_index.specs.IndexText.{is_used}
 use Rattle.thorin_join.specs.Meaning.{Meaning}
 use Rattle.thorin_input.specs.Format.{is_shared}
 use Rattle.thorin_join.proofs.Rows.Stay.{keep-lie}

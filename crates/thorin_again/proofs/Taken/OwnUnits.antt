@@ -1,10 +1,9 @@
 -- The units of a written package of plain objects, as those of an input.
-use Rattle.std.proofs.Common.{◌≡◌, ◌∙◌, ℕ, ◌<◌, true, false, cond, eqb, ◌&&◌, List, [], ◌∷◌, length}
-use Rattle.std.proofs.Common.{refl, sym, ap, subst, Ok, Option, Some, None, arith, inl, inr}
+use Rattle.std.proofs.Common.{◌≡◌, ◌∙◌, ℕ, ◌<◌, true, false, eqb, List, [], ◌∷◌, length, refl, sym}
+use Rattle.std.proofs.Common.{ap, subst, Ok, Option, Some, None, arith, inl, inr}
 use Rattle.std.proofs.Math.Bool.{and-false}
 use Rattle.std.proofs.lemmas.Bool.{eqb-false}
 use Rattle.dwp_base.specs.Reading.{◌>>=◌}
-use Rattle.dwp_base.specs.Sections.{same_kind}
 use Rattle.dwp_base.specs.declared.section.SectionKind.{SectionKind}
 use Rattle.dwp_base.specs.declared.section.SectionKind.TheVariants as kinds
 use Rattle.dwp_base.proofs.Bools.{by-bool}

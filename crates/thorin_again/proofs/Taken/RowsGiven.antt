@@ -1,11 +1,10 @@
 -- A unit of a written package gets a row, whatever package it is added to.
-use Rattle.std.proofs.Common.{◌≡◌, ◌∙◌, ℕ, ◌+◌, ◌<◌, ◌≤◌, Bool, true, false, cond, ◌⊎◌, ⊎_elim}
-use Rattle.std.proofs.Common.{List}
-use Rattle.std.proofs.Common.{[], ◌∷◌, length, refl, sym, ap, Result, Ok, Err, Option, Some, None}
-use Rattle.std.proofs.Common.{arith, true≢false}
+use Rattle.std.proofs.Common.{◌≡◌, ◌∙◌, ℕ, ◌+◌, ◌<◌, ◌≤◌, Bool, true, false, ◌⊎◌, ⊎_elim, List, []}
+use Rattle.std.proofs.Common.{◌∷◌, length, refl, sym, ap, Result, Ok, Option, Some, None, arith}
+use Rattle.std.proofs.Common.{true≢false}
 use Rattle.std.specs.Prelude.{is_some}
 use Rattle.std.proofs.lemmas.Bool.{le-leb}
-use Rattle.dwp_base.specs.Reading.{◌>>=◌, read_each}
+use Rattle.dwp_base.specs.Reading.{read_each}
 use Rattle.dwp_base.specs.Sections.{all_kinds}
 use Rattle.dwp_base.proofs.Bools.{by-bool}
 use Rattle.dwp_base.specs.declared.section.Contribution.{Contribution}
