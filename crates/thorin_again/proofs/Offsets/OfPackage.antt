@@ -62,35 +62,28 @@ finished-shared made file f kind shared =
 
 -- ---- string offsets
 
--- the range of a row can be rewritten
+-- the range of some row can be rewritten
 module _ (order : Endianness) (encoding : Encoding) (c : Contents) (strings : List (List ℕ))
     (table : IsTable strings) (range : Contribution)
     (whole : IsWholeRange order encoding range.size) where
-  abbrev bytes : List ℕ
-  bytes = content_of kinds.StrOffsets c
-
-  row-can : (row : IndexEntry) (member : DwarfObject × Meaning)
-      → IsRowOf order c strings row member → member.1.encoding ≡ encoding
-      → row.debug_str_offsets ≡ Some range → CanRewrite order encoding (data_of strings) bytes range
-  row-can row member is same e =
-      let own = range_bytes bytes range in
-      let inside = is.lie.inside kinds.StrOffsets range e in
-      let own_is : own ≡ part_of bytes row.debug_str_offsets =
-      sym (ap (part_of bytes) e ∙ part-inside bytes range inside) in (
-        whole,
-        are-named order encoding (data_of strings) own range.size
-            (slice-long bytes range.offset.0 range.size inside) whole
-            (slice_get member.1.strings) (λ k.
-            (λ i. string_in order (sym same i) (data_of strings) (own_is i) k)
-            ∙ is.shares.string strings table (take-length strings) k),
-      )
-
   some-can : (rows : List IndexEntry) (ms : Members) → AreRowsOf order c strings rows ms
       → AllOf encoding ms → IsOfSome range rows
-      → CanRewrite order encoding (data_of strings) bytes range
+      → CanRewrite order encoding (data_of strings) (content_of kinds.StrOffsets c) range
   some-can [] ms are all h = absurd h
   some-can (row ∷ rows) [] are all h = absurd are
-  some-can (row ∷ rows) (m ∷ ms) are all (inl e) = row-can row m are.0 (all 0 m (omega arith)) e
+  some-can (row ∷ rows) (m ∷ ms) are all (inl e) =
+      let bytes = content_of kinds.StrOffsets c in
+      let own = range_bytes bytes range in
+      let inside = are.0.lie.inside kinds.StrOffsets range e in
+      let own_is : own ≡ part_of bytes row.debug_str_offsets =
+      sym (ap (part_of bytes) e ∙ part-inside bytes range inside) in
+      let same = all 0 m (omega arith) in (
+        whole,
+        are-named order encoding (data_of strings) own range.size
+            (slice-long bytes range.offset.0 range.size inside) whole (slice_get m.1.strings) (λ k.
+            (λ i. string_in order (sym same i) (data_of strings) (own_is i) k)
+            ∙ are.0.shares.string strings table (take-length strings) k),
+      )
   some-can (row ∷ rows) (m ∷ ms) are all (inr h) = some-can rows ms are.1
       (All-tail (λ (u : DwarfObject × Meaning). u.1.encoding ≡ encoding) m ms all) h
 

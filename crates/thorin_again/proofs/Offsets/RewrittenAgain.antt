@@ -45,13 +45,6 @@ use Rattle.thorin_join.proofs.Rows.Stay.{range-front}
 abbrev Written : Type 0
 Written = List ℕ × List (List ℕ)
 
-fits-or : (format : Format) (offset : ℕ)
-    → Unless IsStringOffset (fitting_offset format offset)
-unfolding fitting_offset
-fits-or format offset =
-    by-bool _ (nat_lt (offset_limit format) offset) (λ long. rw long (offset, refl))
-    (λ fits. rw fits tt)
-
 whole-rest : (format : Format) (size header count : ℕ) → size ≡ header + count * offset_size format
     → (size - header) % offset_size format ≡ 0
 whole-rest Dwarf32 size header count e = omega (arith, e)
@@ -80,11 +73,6 @@ module _ (order : Endianness) (encoding : Encoding) where
       (omega (arith, tile.0)))
 
   -- a whole range has its entries behind its header
-  whole-count : (size : ℕ) (whole : IsWholeRange order encoding size)
-      → entry_count encoding size ≡ whole.count
-  whole-count size whole =
-      count-again encoding.format size (header_size encoding) whole.count whole.long
-
   pub whole-remapped : (section bytes : List ℕ) (size : ℕ) (strings : List (List ℕ))
       → (whole : IsWholeRange order encoding size)
       → remapped order encoding section bytes size strings
@@ -94,7 +82,7 @@ module _ (order : Endianness) (encoding : Encoding) where
   whole-remapped section bytes size strings whole = rw (
     ne_eqb size 0 (λ none. omega (arith, whole.some)),
     le-ltb size (header_size encoding) (omega (arith, whole.long)),
-    whole-count size whole,
+    count-again encoding.format size (header_size encoding) whole.count whole.long,
     whole.written,
   ) refl
 
@@ -106,14 +94,15 @@ module _ (order : Endianness) (encoding : Encoding) where
 
     entries-rewritten : (n : ℕ) (strings : List (List ℕ)) → AreNamed n
         → Unless IsStringOffset (remapped_entries order encoding section bytes n strings)
-    unfolding remapped_entries remapped_entry
+    unfolding remapped_entries remapped_entry fitting_offset
     entries-rewritten zero strings named = tt
     entries-rewritten (suc n) strings named =
         let here = named n (omega arith) in
         and-then IsStringOffset _ _
         (entries-rewritten n strings (λ k less. named k (omega (arith, less))))
-        (λ before e. rw here.1 (then-on IsStringOffset _ _ _
-        (fits-or encoding.format (offset_of before.1 here.0)) (λ offset. tt)))
+        (λ before e. rw here.1 (by-bool _ (nat_lt (offset_limit encoding.format)
+        (offset_of before.1 here.0)) (λ long. rw long (offset_of before.1 here.0, refl))
+        (λ fits. rw fits tt)))
 
     -- entries of all the bytes that a reader of packages reads
     pub are-named : (size : ℕ) → size ≡ length bytes → (whole : IsWholeRange order encoding size)
@@ -122,7 +111,8 @@ module _ (order : Endianness) (encoding : Encoding) where
     unfolding named_at offset_at string_in entry_in
     are-named size long whole there read k less =
         let at = header_size encoding + k * width in
-        let count = ap (entry_count encoding) (sym long) ∙ whole-count size whole in
+        let count = count-again encoding.format (length bytes) (header_size encoding) whole.count
+        (omega (arith, whole.long, long)) in
         let room : k * width + width ≤ whole.count * width =
         row_fits k width whole.count width less (omega arith) in
         let enough = le-ltb (length bytes) (at + width) (omega (arith, whole.long, room, long)) in
@@ -159,7 +149,8 @@ module _ (order : Endianness) (encoding : Encoding) where
   Lead section bytes n before after = (offsets : List ℕ)
       × (remapped_entries order encoding section bytes n before ≡ Ok (offsets, after))
 
-  entries-alike : (s t xs ys : List ℕ) (n : ℕ) (strings : List (List ℕ))
+  -- where the same strings are named, the same is written
+  pub entries-alike : (s t xs ys : List ℕ) (n : ℕ) (strings : List (List ℕ))
       → ((k : ℕ) → k < n → named_at order encoding s xs k ≡ named_at order encoding t ys k)
       → remapped_entries order encoding s xs n strings ≡ remapped_entries order
       encoding t ys n strings
@@ -169,20 +160,6 @@ module _ (order : Endianness) (encoding : Encoding) where
     entries-alike s t xs ys n strings (λ k less. h k (omega (arith, less))),
     h n (omega arith),
   ) refl
-
-  -- what was rewritten, in the section of any strings that begin with those after it
-  pub leads-again : (section bytes : List ℕ) (size : ℕ) (strings : List (List ℕ))
-      (written : Written)
-      → NamesTheSame order encoding section bytes size strings written.0 written.1
-      → Lead section bytes (entry_count encoding size) strings written.1
-      → (final : List (List ℕ)) → IsTable final → take (length written.1) final ≡ written.1
-      → Lead (data_of final) written.0 (entry_count encoding size) strings written.1
-  leads-again section bytes size strings written law lead final final_table kept = (
-    lead.0,
-    entries-alike (data_of final) section written.0 bytes (entry_count encoding size) strings
-        (λ k less. let one = law.named k less in
-        one.new final final_table kept ∙ sym one.old) ∙ lead.1,
-  )
 
   -- ---- joined ranges without a header
 

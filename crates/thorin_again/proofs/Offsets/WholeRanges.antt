@@ -20,7 +20,7 @@ use Rattle.thorin_again.specs.Plain.{IsWholeRange}
 use Rattle.thorin_input.specs.Used.{Used, first}
 use Rattle.thorin_join.proofs.Parts.FirstUses.{no-entries}
 use Rattle.thorin_join.proofs.Parts.OffsetRanges.{count-again, range-of}
-use Rattle.thorin_again.proofs.Offsets.RewrittenAgain.{Lead, leads-again, leads-joined}
+use Rattle.thorin_again.proofs.Offsets.RewrittenAgain.{Lead, entries-alike, leads-joined}
 use Rattle.thorin_again.proofs.Offsets.RewrittenAgain.{whole-remapped}
 use Rattle.thorin_join.proofs.Parts.Appended.{each-part, joined_parts-more, joined_parts-other}
 use Rattle.thorin_join.proofs.Parts.Appended.{Rewritten, Adds}
@@ -52,11 +52,11 @@ module _ (names : NamesTheSameLaw) (source : Source) (plain : is_package source.
   Fills size n = ((size ≡ 0) × (n ≡ 0)) ⊎ ((size ≡ header_size encoding + n * width)
       × (header : List ℕ) × (header_of order encoding (n * width) ≡ Ok header))
 
-  -- so many entries, rewritten again from the first strings on, give those so far, in the section
-  -- of any that begin with them
-  abbrev Again : List ℕ → ℕ → List (List ℕ) → Type 0
-  Again new n strings = (final : List (List ℕ)) → IsTable final → take (length strings) final ≡
-      strings → Lead order encoding (data_of final) new n start strings
+  -- so many entries, rewritten again from these strings on, give those, in the section of any that
+  -- begin with them
+  abbrev Again : List ℕ → ℕ → (before after : List (List ℕ)) → Type 0
+  Again new n before after = (final : List (List ℕ)) → IsTable final → take (length after) final ≡
+      after → Lead order encoding (data_of final) new n before after
 
   pub record Made (new : List ℕ) (strings : List (List ℕ)) (has : Bool) : Type 0 where
     table : IsTable strings
@@ -64,7 +64,7 @@ module _ (names : NamesTheSameLaw) (source : Source) (plain : is_package source.
     count : ℕ
     fills : Fills (length new) count
     pub kept : take (length start) strings ≡ start
-    again : Again new count strings
+    again : Again new count start strings
 
   abbrev pub MadeBy : Parts → Type 0
   MadeBy parts = Made (joined_parts StrOffsets parts.0) parts.1 (has_part StrOffsets parts.0)
@@ -108,9 +108,12 @@ module _ (names : NamesTheSameLaw) (source : Source) (plain : is_package source.
       let law = names order encoding section bytes (length bytes) before.1 own strings
       so_far.table rewrites in
       let one = one-fills bytes before.1 w.written so_far.table rewrites in
-      let alone = leads-again order encoding section bytes (length bytes) before.1 w.written law
-      one.1 in
-      let all : (n : ℕ) × Fills (length (new ++ own)) n × Again (new ++ own) n strings =
+      let alone : Again own m before.1 strings = λ final table kept. (
+        one.1.0,
+        entries-alike order encoding (data_of final) section own bytes m before.1 (λ k less.
+            let name = law.named k less in name.new final table kept ∙ sym name.old) ∙ one.1.1,
+      ) in
+      let all : (n : ℕ) × Fills (length (new ++ own)) n × Again (new ++ own) n start strings =
       by-bool _ (leb 5 encoding.version)
       (λ standard. let empty = so_far.fresh (once standard) in
       (m, rw empty.0 one.0, λ final table kept. rw (empty.0, ← empty.1) (alone final table kept)))

@@ -77,36 +77,26 @@ then-fares E P Q (Err e) f h k = h
 abbrev pub MayMeet : Type 0 → (ErrorValue → Type 0) → Type 0
 MayMeet Fresh E = Fresh ⊎ ((id : ℕ) → E (DuplicateUnit id))
 
+-- in a package without units there is one more then
+abbrev Added : Type 0 → DwarfObject → New → New → Type 0
+Added Fresh name new next = Fresh → IsMore name new next
+
 module _ (Fresh : Type 0) (E : ErrorValue → Type 0) (may : MayMeet Fresh E) (add : Adding)
-    (from : Used) (unit : Header) (new : New) where
-  -- in a package without units there is one more then
-  abbrev Added : DwarfObject → New → Type 0
-  Added name next = Fresh → IsMore name new next
-
-  kept-fares : (kept : List ℕ) (name : DwarfObject) → (Fresh → ⊥)
-      → Fares E (Added name) (with_unit (Some kept) add from name unit new)
-  unfolding with_unit
-  kept-fares kept (Compilation id) never = ⊎_elim (λ f. absurd (never f)) (λ twice. twice id.0) may
-  kept-fares kept (TypeUnit signature) never = λ f. absurd (never f)
-
-  module _ (name : DwarfObject) (row : IndexEntry) (address : eqb from.address 0 ≡ true)
-      (tested : row_test add.source.indexes from.kind name unit ≡ Ok tt)
-      (given : unit_row add.source.indexes add.whole name ≡ Ok row) where
-    unit-fares : (kept : Option (List ℕ)) → (Fresh → kept ≡ None)
-        → Fares E (Added name) (with_unit kept add from name unit new)
-    unfolding with_unit with_first
-    unit-fares (Some kept) none = kept-fares kept name (λ f. none-some kept (sym (none f)))
-    unit-fares None none = rw (address, tested, given) (λ f. record {
-      unit = record { place = place_for name from.kind; bytes = unit.whole.bytes; row = row };
-      is = refl;
-    })
-
-    read-fares : (Fresh → add.held ≡ []) → (Fresh → Free name new)
-        → name_for add.source from.kind unit ≡ Ok name
-        → Fares E (Added name) (with_read add from new (Ok unit))
-    unfolding with_read
-    read-fares held free named = rw named (unit-fares (kept_bytes add.held new.units name)
-        (λ f. rw (held f, free f) refl))
+    (from : Used) (address : eqb from.address 0 ≡ true) (unit : Header) (new : New)
+    (row : IndexEntry) where
+  unit-fares : (kept : Option (List ℕ)) (name : DwarfObject) → (Fresh → kept ≡ None)
+      → row_test add.source.indexes from.kind name unit ≡ Ok tt
+      → unit_row add.source.indexes add.whole name ≡ Ok row
+      → Fares E (Added Fresh name new) (with_unit kept add from name unit new)
+  unfolding with_unit with_first
+  unit-fares (Some kept) (Compilation id) none tested given =
+      ⊎_elim (λ f. absurd (none-some kept (sym (none f)))) (λ twice. twice id.0) may
+  unit-fares (Some kept) (TypeUnit signature) none tested given =
+      λ f. absurd (none-some kept (sym (none f)))
+  unit-fares None name none tested given = rw (address, tested, given) (λ f. record {
+    unit = record { place = place_for name from.kind; bytes = unit.whole.bytes; row = row };
+    is = refl;
+  })
 
 -- ---- all of a section, row by row
 
@@ -207,7 +197,7 @@ module _ (names : NamesTheSameLaw) (law : PackagedLaw) (taken : UnitsAreTaken)
       (reads : List (Result Header ReadError)) → rows ≡ front ++ r ∷ rs
       → IsUnitOf file.order file.contents place front r h → TakesRows rs reads
       → TakesRows (r ∷ rs) (Ok h ∷ reads)
-  unfolding with_each_read
+  unfolding with_each_read with_read
   one-taken front r rs h reads split u later new are itself left =
       let contents = file.contents in
       let strings = is.made.strings in
@@ -238,13 +228,13 @@ module _ (names : NamesTheSameLaw) (law : PackagedLaw) (taken : UnitsAreTaken)
       add.whole (λ k. joined_parts k parts_taken) before.file.contents
       part-long
       (whole-part encoding before.file.contents parts_taken) in
-      then-fares E (Added Fresh E may add from h new r.id) After (with_read add from new (Ok h))
-      (λ next. with_each_read add from next reads)
-      (read-fares Fresh E may add from h new r.id given.0 address (rw from_is tested) given.1
-      (λ f. rw (none_there f) refl)
-      (λ f. left f (length front) r at (ap (λ p. is_met p met) (sym place_is) ∙ unmet)
-      (λ here. omega (arith, long)))
-      (rw from_is named))
+      let free = λ (f : Fresh). left f (length front) r at (ap (λ p. is_met p met) (sym place_is)
+      ∙ unmet) (λ here. omega (arith, long)) in
+      let named_from : name_for source from.kind h ≡ Ok r.id = rw from_is named in
+      then-fares E (Added Fresh r.id new) After (with_read add from new (Ok h))
+      (λ next. with_each_read add from next reads) (rw named_from (unit-fares Fresh E may add from
+      address h new given.0 (kept_bytes add.held new.units r.id) r.id
+      (λ f. rw (none_there f, free f) refl) (rw from_is tested) given.1))
       (λ next more. later next are.1 itself.1 (λ f n row there to_come last.
       let other : n ≢ length front = λ same. let one : row ≡ r = same_Some row r (sym there
       ∙ ap (slice_get rows) same ∙ at) in
