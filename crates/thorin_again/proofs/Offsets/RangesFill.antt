@@ -57,32 +57,16 @@ any-chosen test rows h =
     (λ none. inr (rw (list_any-append test (rows_of true rows) (rows_of false rows), none)
     at both))
 
--- a row that passes, and its parts in the index of these rows
-pub record Passing (test : IndexEntry → Bool) (read : Option Index)
-    (rows : List IndexEntry) : Type 0 where
-  pub index : Index
-  pub is : read ≡ Some index
-  pub number : ℕ
-  pub row : IndexEntry
-  pub at : slice_get rows number ≡ Some row
-  pub passes : test row ≡ true
-  pub parts : HasParts index (number + 1) row
-
-pub row-passing : (test : IndexEntry → Bool) (read : Option Index) (rows : List IndexEntry)
-    → HasRows read rows → list_any test rows ≡ true → Passing test read rows
-row-passing test None rows has h = let none = rw has at h in absurd cc
-row-passing test (Some index) rows has h =
+-- what follows from a row that passes, and its parts in the index of these rows
+pub by-passing : (P : Type 0) (test : IndexEntry → Bool) (read : Option Index)
+    (rows : List IndexEntry) → HasRows read rows → list_any test rows ≡ true
+    → ((index : Index) (n : ℕ) (row : IndexEntry) → read ≡ Some index → slice_get rows n ≡ Some row
+    → test row ≡ true → HasParts index (n + 1) row → P) → P
+by-passing P test None rows has h f = let none = rw has at h in absurd cc
+by-passing P test (Some index) rows has h f =
     let any = Any-from_list_any test rows h in
     let at = slice_get_read rows (length rows) any.0 any.1 refl any.2 (sym any.3) in
-    record {
-      index = index;
-      is = refl;
-      number = any.0;
-      row = any.1;
-      at = at;
-      passes = any.4;
-      parts = has.1.each any.0 any.1 at;
-    }
+    f index any.0 any.1 refl at any.4 (has.1.each any.0 any.1 at)
 
 -- ---- each range that some row has is there
 
@@ -96,10 +80,11 @@ some-has r (row ∷ rows) (inl e) =
     rw (e, eq-eqb r.offset.0 r.offset.0 refl, eq-eqb r.size r.size refl) refl
 some-has r (row ∷ rows) (inr h) = or-right (has-range r row) _ (some-has r rows h)
 
-own-range : (r : Contribution) (read : Option Index) (rows : List IndexEntry) → 0 < r.size
-    → (f : Passing (has-range r) read rows) → range_in f.parts.row StrOffsets ≡ Some r
-own-range r read rows some f =
-    f.parts.parts StrOffsets ∙ ap non_empty (range_is r f.row.debug_str_offsets f.passes)
+own-range : (r : Contribution) (row : IndexEntry) (index : Index) (n : ℕ) → 0 < r.size
+    → has-range r row ≡ true → (parts : HasParts index n row)
+    → range_in parts.row StrOffsets ≡ Some r
+own-range r row index n some has parts =
+    parts.parts StrOffsets ∙ ap non_empty (range_is r row.debug_str_offsets has)
     ∙ rw (ne_eqb r.size 0 (λ none. omega arith)) refl
 
 ranges-there : (compilations types : Option Index) (rows : List IndexEntry) (r : Contribution)
@@ -107,12 +92,13 @@ ranges-there : (compilations types : Option Index) (rows : List IndexEntry) (r :
     → 0 < r.size → IsOfSome r rows → IsAmong r (offset_ranges compilations types)
 ranges-there compilations types rows r c t some h =
     ⊎_elim
-    (λ u. let f = row-passing (has-range r) compilations (rows_of true rows) c u in
-    rw f.is (compilation_there f.index (f.number + 1) f.parts.row r f.parts.there
-    (own-range r compilations (rows_of true rows) some f) types))
-    (λ u. let f = row-passing (has-range r) types (rows_of false rows) t u in
-    rw f.is (type_there f.index (f.number + 1) f.parts.row r f.parts.there
-    (own-range r types (rows_of false rows) some f) compilations))
+    (λ u. by-passing _ (has-range r) compilations (rows_of true rows) c u
+        (λ index n row is at has parts.
+    rw is (compilation_there index (n + 1) parts.row r parts.there
+    (own-range r row index (n + 1) some has parts) types)))
+    (λ u. by-passing _ (has-range r) types (rows_of false rows) t u (λ index n row is at has parts.
+    rw is (type_there index (n + 1) parts.row r parts.there
+    (own-range r row index (n + 1) some has parts) compilations)))
     (any-chosen (has-range r) rows (some-has r rows h))
 
 -- ---- ranges in the order of others, of which some may be left out

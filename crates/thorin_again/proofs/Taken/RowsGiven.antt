@@ -32,7 +32,7 @@ use Rattle.thorin_join.proofs.Rows.OfUnits.{own-index, some-index}
 use Rattle.thorin_join.proofs.Files.UnitsFound.{part-there}
 use Rattle.thorin_join.proofs.Rows.Ranges.{range-none}
 use Rattle.thorin_join.proofs.Rows.OneAdded.{place-put}
-use Rattle.thorin_again.proofs.Offsets.RangesFill.{each-chosen, at-row, any-chosen, row-passing}
+use Rattle.thorin_again.proofs.Offsets.RangesFill.{each-chosen, at-row, any-chosen, by-passing}
 use Rattle.thorin_again.proofs.Opened.Unless.{Unless, and-then, answered}
 
 -- ---- a section that some row names has a column in the index of that row
@@ -41,18 +41,18 @@ pub used-chosen : (kind : SectionKind) (rows : List IndexEntry) → is_used rows
     → (is_used (rows_of true rows) kind ≡ true) ⊎ (is_used (rows_of false rows) kind ≡ true)
 used-chosen kind = any-chosen (λ row. is_some (contribution_to kind row))
 
-column-there : (kind : SectionKind) (c : Contents) (b : Bool) (index : Option Index)
-    (rows : List IndexEntry) → HasRows index (rows_of b rows) → EachRow (LieInside c) rows
-    → is_used (rows_of b rows) kind ≡ true → has_column_for kind index ≡ true
-column-there kind c b index rows has lie used =
-    let f = row-passing (λ row. is_some (contribution_to kind row)) index (rows_of b rows) has used
-    in
-    let inside = at-row (LieInside c) (rows_of b rows) f.number f.row
-    (each-chosen (LieInside c) b rows lie) f.at in
-    rw f.is (by-bool _ (is_some (column_place f.index.version f.index.columns kind)) (λ e. e)
-    (λ e. absurd (true≢false (sym f.passes ∙ ap is_some (sym (part-there
-    (contribution_to kind f.row) (inside.some kind)) ∙ sym (f.parts.parts kind)
-    ∙ range-none f.index (f.number + 1) f.parts.row kind f.parts.there e)))))
+column-there : (kind : SectionKind) (c : Contents) (b : Bool) (read : Option Index)
+    (rows : List IndexEntry) → HasRows read (rows_of b rows) → EachRow (LieInside c) rows
+    → is_used (rows_of b rows) kind ≡ true → has_column_for kind read ≡ true
+column-there kind c b read rows has lie used =
+    by-passing _ (λ row. is_some (contribution_to kind row)) read (rows_of b rows) has used
+    (λ index n row is at passes parts.
+    let inside = at-row (LieInside c) (rows_of b rows) n row (each-chosen (LieInside c) b rows lie)
+    at in
+    rw is (by-bool _ (is_some (column_place index.version index.columns kind)) (λ e. e)
+    (λ e. absurd (true≢false (sym passes ∙ ap is_some (sym (part-there (contribution_to kind row)
+    (inside.some kind)) ∙ sym (parts.parts kind)
+    ∙ range-none index (n + 1) parts.row kind parts.there e))))))
 
 -- where a unit's own index and the other have no column, neither index has
 no-columns : (kind : SectionKind) (a : Adjustor) (name : DwarfObject)
