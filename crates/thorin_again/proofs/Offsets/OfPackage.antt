@@ -28,7 +28,7 @@ use Rattle.thorin_again.specs.OwnUnits.{AllOf}
 use Rattle.thorin_input.specs.InputStrings.{rewritten}
 use Rattle.thorin_input.specs.Format.{is_shared}
 use Rattle.thorin_again.specs.Plain.{IsWholeRange, IsOfSome, IsPlain, HasTiledOffsets}
-use Rattle.thorin_join.specs.Represents.{IsSound, IsRowOf, AreRowsOf, units_of}
+use Rattle.thorin_join.specs.Represents.{IsSound, AreRowsOf, units_of}
 use Rattle.thorin_join.specs.State.{InProgress}
 use Rattle.thorin_packaged.specs.PackagedOffsets.{packaged_offsets, rewritten_from}
 use Rattle.thorin_packaged.specs.PackagedReading.{range_bytes}

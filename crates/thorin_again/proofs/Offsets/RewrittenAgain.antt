@@ -2,8 +2,8 @@
 -- rewritten unless the offset of a string doesn't fit; those that were rewritten, once more from
 -- the same strings on, give the same strings.
 use Rattle.std.proofs.Common.{◌≡◌, ◌∙◌, ℕ, zero, suc, ◌+◌, ◌-◌, ◌*◌, ◌%◌, ◌<◌, ◌≤◌, inl, inr, List}
-use Rattle.std.proofs.Common.{[], ◌∷◌, ◌++◌, length, drop, refl, sym, ap, Ok, Option, arith, ltb}
-use Rattle.std.proofs.Common.{take, length-append, add-mul}
+use Rattle.std.proofs.Common.{[], ◌∷◌, ◌++◌, length, drop, refl, ap, Ok, Option, arith, ltb}
+use Rattle.std.proofs.Common.{length-append, add-mul}
 use Rattle.std.specs.Prelude.{nat_lt, slice_range}
 use Rattle.std.proofs.lemmas.Bool.{le-leb, le-ltb, lt-ltb, eq-eqb, ne_eqb}
 use Rattle.std.proofs.lemmas.Nat.{row_fits}
@@ -26,7 +26,7 @@ use Rattle.thorin_packaged.specs.PackagedReading.{range_bytes}
 use Rattle.thorin_strings.specs.StringOffsets.{offset_at, named_at, offset_limit, fitting_offset}
 use Rattle.thorin_strings.specs.StringOffsets.{remapped_entry, remapped_entries, remapped}
 use Rattle.thorin_strings.specs.StringOffsets.{entry_bytes}
-use Rattle.thorin_strings.specs.Strings.{offset_of, IsTable, data_of}
+use Rattle.thorin_strings.specs.Strings.{offset_of}
 use Rattle.thorin_join.proofs.Parts.OffsetRanges.{count-again}
 use Rattle.thorin_again.specs.OwnRefusals.{IsStringOffset}
 use Rattle.thorin_again.specs.Plain.{IsWholeRange, Tile, IsAmong}
@@ -37,7 +37,6 @@ use Rattle.std.proofs.Math.Seq.{drop-append-add}
 use Rattle.std.proofs.lemmas.Bool.Decides.{nat_tests}
 use Rattle.std.proofs.lemmas.List.{length-drop, drop-append-le}
 use Rattle.thorin_packaged.proofs.OffsetsJoined.{number_front, no_header}
-use Rattle.thorin_strings.specs.Rewritten.{NamesTheSame}
 use Rattle.thorin_join.proofs.Parts.FirstUses.{error-inv}
 use Rattle.thorin_join.proofs.Rows.Stay.{range-front}
 
