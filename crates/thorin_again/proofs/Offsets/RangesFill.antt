@@ -120,12 +120,6 @@ part-among (x ∷ xs) (y ∷ ys) r (inl p) (inl e) = inl (e ∙ p.0)
 part-among (x ∷ xs) (y ∷ ys) r (inl p) (inr h) = inr (part-among xs ys r p.1 h)
 part-among (x ∷ xs) (y ∷ ys) r (inr p) h = inr (part-among (x ∷ xs) ys r p h)
 
-cmp-less : (r x : Contribution) → r.offset.0 < x.offset.0 → place_cmp r x ≡ Less
-cmp-less r x h = rw (← nat_cmp_is r.offset.0 x.offset.0 Less h) refl
-
-cmp-greater : (r x : Contribution) → x.offset.0 < r.offset.0 → place_cmp r x ≡ Greater
-cmp-greater r x h = rw (← nat_cmp_is r.offset.0 x.offset.0 Greater h) refl
-
 cmp-self : (x : Contribution) → place_cmp x x ≡ Equal
 cmp-self x = rw (
   ← nat_cmp_is x.offset.0 x.offset.0 Equal refl,
@@ -165,11 +159,12 @@ module _ (order : Endianness) (encoding : Encoding) where
       rw (ap (place_cmp r) (p.0 ∙ sym e) ∙ cmp-self r) (inl p)
   put-part at end (y ∷ ys) (x ∷ xs) r tile (inl p) (inr h) =
       let less : x.offset.0 < r.offset.0 = rw p.0 (tile-apart at end y ys r tile h) in
-      rw (cmp-greater r x less) (inl (p.0, put-part (at + y.size) end ys xs r tile.2 p.1 h))
+      rw (← nat_cmp_is r.offset.0 x.offset.0 Greater less)
+          (inl (p.0, put-part (at + y.size) end ys xs r tile.2 p.1 h))
   put-part at end (y ∷ ys) (x ∷ xs) r tile (inr p) (inl e) =
       let less : r.offset.0 < x.offset.0 = rw e (tile-apart at end y ys x tile
       (part-among (x ∷ xs) ys x p (inl refl))) in
-      rw (cmp-less r x less) (inl (e, p))
+      rw (← nat_cmp_is r.offset.0 x.offset.0 Less less) (inl (e, p))
   put-part at end (y ∷ ys) (x ∷ xs) r tile (inr p) (inr h) =
       part-later (insert_key place_cmp (x ∷ xs) r) ys y
       (put-part (at + y.size) end ys (x ∷ xs) r tile.2 p h)

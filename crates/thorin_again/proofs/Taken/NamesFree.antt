@@ -20,24 +20,14 @@ use Rattle.thorin_join.proofs.Units.NamesApart.{same_name-sym}
 abbrev pub Free : DwarfObject → New → Type 0
 Free name new = lookup (same_name name) new.units ≡ None
 
--- the units with one more
-pub record IsMore (name : DwarfObject) (new next : New) : Type 0 where
-  pub unit : NewUnit
-  pub is : next.units ≡ new.units ++ (name, unit) ∷ []
-
-lookup-more : (name other : DwarfObject) (units : List (DwarfObject × NewUnit)) (u : NewUnit)
+-- with a unit of another name it stays so
+pub free-more : (name other : DwarfObject) (units : List (DwarfObject × NewUnit)) (u : NewUnit)
     → lookup (same_name name) units ≡ None → same_name name other ≡ false → lookup (same_name name)
     (units ++ (other, u) ∷ []) ≡ None
-lookup-more name other [] u h e = rw e refl
-lookup-more name other (x ∷ xs) u h e = by-bool _ (same_name name x.0)
+free-more name other [] u h e = rw e refl
+free-more name other (x ∷ xs) u h e = by-bool _ (same_name name x.0)
     (λ same. absurd (none-some x.1 (sym (rw same at h))))
-    (λ others. rw others (lookup-more name other xs u (rw others at h) e))
-
--- one of another name leaves it free
-pub free-more : (name other : DwarfObject) (new next : New) → IsMore other new next → Free name new
-    → same_name name other ≡ false → Free name next
-free-more name other new next more free e =
-    rw more.is (lookup-more name other new.units more.unit free e)
+    (λ others. rw others (free-more name other xs u (rw others at h) e))
 
 pub different-sym : (a b : DwarfObject) → same_name a b ≡ false → same_name b a ≡ false
 different-sym a b h =

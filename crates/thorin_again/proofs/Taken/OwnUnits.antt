@@ -25,7 +25,8 @@ use Rattle.thorin_index.specs.Entries.{contribution_to}
 use Rattle.thorin_index.specs.declared.entry.IndexEntry.{IndexEntry}
 use Rattle.thorin_input.specs.Growing.{Contents, joined_parts}
 use Rattle.thorin_input.specs.Indexes.{Indexes, Source, indexes_of}
-use Rattle.thorin_input.specs.NewUnits.{New, Adding, Met, is_met, with_met, kept_bytes, place_for}
+use Rattle.thorin_input.specs.NewUnits.{New, NewUnit, Adding, Met, is_met, with_met, kept_bytes}
+use Rattle.thorin_input.specs.NewUnits.{place_for}
 use Rattle.thorin_input.specs.NewUnits.{name_for, with_read, with_each_read, with_first, with_unit}
 use Rattle.thorin_input.specs.NewUnits.{unit_section, none_met, once_test, with_section_at}
 use Rattle.thorin_input.specs.NewUnits.{with_section_in, with_section, with_each_section, new_units}
@@ -47,7 +48,7 @@ use Rattle.thorin_again.proofs.Meant.OneSection.{with_names}
 use Rattle.thorin_again.proofs.Meant.RowByRow.{IsUnitOf, of-section}
 use Rattle.thorin_again.proofs.Meant.RowPlaces.{FirstLaw, FindLaw, place-eq, get-seam}
 use Rattle.thorin_again.proofs.Offsets.OfPackage.{IsReadOf, finished-shared, read-of}
-use Rattle.thorin_again.proofs.Taken.NamesFree.{Free, IsMore, free-more, rows-differ}
+use Rattle.thorin_again.proofs.Taken.NamesFree.{Free, free-more, rows-differ}
 use Rattle.thorin_again.proofs.Taken.RowsGiven.{row-given}
 use Rattle.dwp_base.specs.declared.section.SectionKind.{SectionKind}
 use Rattle.thorin_join.specs.Meaning.{Meaning}
@@ -125,20 +126,18 @@ module _ (E : ErrorValue → Type 0) (add : Adding) (contents : Contents) (P : M
   each-taken (c ∷ cs) differ held met new unmet so =
       let later = each-taken cs (rest-differ c cs differ) (λ kind some.
       let is = behind kind c cs differ some in held kind (rw is some) ∙ is) in
-      let passed = later met new (λ place some. unmet place (omega (arith, some))) so in
       by-bool _ (eqb (length c.1) 0)
-      (λ none. rw none passed)
+      (λ none. rw none (later met new (λ place some. unmet place (omega (arith, some))) so))
       (λ some. rw some (by (unit_section c.0) refl (omega (arith, eqb-false (length c.1) 0 some))
-      passed later))
+      later))
     where
       by : (place : Option UnitSection) → unit_section c.0 ≡ place → 0 < length c.1
-          → Fares E Done (with_each_section add (met, new) (written_used cs))
           → ((m : Met) (n : New) → Unmet m cs → P m n
           → Fares E Done (with_each_section add (m, n) (written_used cs)))
           → Fares E Done (with_section_in add (section_of c) place (met, new) >>= λ next.
           with_each_section add next (written_used cs))
-      by None at some passed later = passed
-      by (Some place) at some passed later =
+      by None at some later = later met new (λ place some. unmet place (omega (arith, some))) so
+      by (Some place) at some later =
           let kind = kind-place c.0 place at in
           let is = front c cs in
           let bytes : c.1 ≡ content_of (kind_at place) contents =
@@ -174,7 +173,8 @@ MayMeet Fresh E = Fresh ⊎ ((id : ℕ) → E (DuplicateUnit id))
 
 -- in a package without units there is one more then
 abbrev Added : Type 0 → DwarfObject → New → New → Type 0
-Added Fresh name new next = Fresh → IsMore name new next
+Added Fresh name new next = Fresh → (unit : NewUnit)
+    × (next.units ≡ new.units ++ (name, unit) ∷ [])
 
 module _ (Fresh : Type 0) (E : ErrorValue → Type 0) (may : MayMeet Fresh E) (add : Adding)
     (from : Used) (address : eqb from.address 0 ≡ true) (unit : Header) (new : New)
@@ -188,10 +188,10 @@ module _ (Fresh : Type 0) (E : ErrorValue → Type 0) (may : MayMeet Fresh E) (a
       ⊎_elim (λ f. absurd (none-some kept (sym (none f)))) (λ twice. twice id.0) may
   unit-fares (Some kept) (TypeUnit signature) none tested given =
       λ f. absurd (none-some kept (sym (none f)))
-  unit-fares None name none tested given = rw (address, tested, given) (λ f. record {
-    unit = record { place = place_for name from.kind; bytes = unit.whole.bytes; row = row };
-    is = refl;
-  })
+  unit-fares None name none tested given = rw (address, tested, given) (λ f. (
+    record { place = place_for name from.kind; bytes = unit.whole.bytes; row = row },
+    refl,
+  ))
 
 -- ---- all of a section, row by row
 
@@ -227,23 +227,6 @@ module _ (names : NamesTheSameLaw) (law : PackagedLaw) (taken : UnitsAreTaken)
 
   abbrev mean : IndexEntry → Meaning
   mean row = meaning_at is.made.file.order is.made.file.contents is.made.strings row
-
-  -- the part of a shared section is as long as the section
-  part-long : (kind : SectionKind) → is_shared kind ≡ true
-      → length (joined_parts kind parts_taken) ≡ length (content_of kind file.contents)
-  part-long = copied-or-offsets
-      (λ k. length (joined_parts k parts_taken) ≡ length (content_of k file.contents))
-      (λ k copied. ap length (parts-first source is.again.packed before.strings parts_taken after
-      parts_are k copied ∙ is.again.held k))
-      ((rows-read names law source is.again.packed before.strings parts_taken after table
-      parts_are).size ∙ ap length (is.again.held kinds.StrOffsets))
-
-  -- the rows lie inside the file's contents
-  rows-inside : EachRow (LieInside file.contents) rows
-  rows-inside = weaker (LieInside is.made.file.contents) (LieInside file.contents) (λ row lie.
-      keep-lie is.made.file.contents file.contents row (finished-grows is.made file
-          is.finished) lie)
-      rows (sound-inside is.made is.sound)
 
   -- ---- one section
   module _ (met : Met) (place : UnitSection) (from : Used) (from_is : from.kind ≡ kind_at place)
@@ -310,15 +293,22 @@ module _ (names : NamesTheSameLaw) (law : PackagedLaw) (taken : UnitsAreTaken)
         u.sort identified in
         let tested = row-tested first_law find_law source contents strings rows is.again front rs r
         split (mean r) are.0 place u.offset u.own u.below u.here u.range u.part h u.whole in
+        let inside = weaker (LieInside old) (LieInside contents) (λ row l. keep-lie old contents row
+        (finished-grows is.made file is.finished) l) rows (sound-inside is.made is.sound) in
+        let parts_long = copied-or-offsets
+        (λ k. length (joined_parts k parts_taken) ≡ length (content_of k contents))
+        (λ k copied. ap length (parts-first source is.again.packed before.strings parts_taken after
+        parts_are k copied ∙ is.again.held k))
+        ((rows-read names law source is.again.packed before.strings parts_taken after table
+        parts_are).size ∙ ap length (is.again.held kinds.StrOffsets)) in
         let given = row-given indexes is.again.packed contents rows is.again.compilations
-        is.again.types rows-inside (λ k shared there. is.plain.named k shared
+        is.again.types inside (λ k shared there. is.plain.named k shared
         (rw (finished-shared is.made file is.finished k shared) at there)) r are.0.lie _
         (found-row first_law find_law source contents strings rows is.again front rs r split
         (mean r) are.0 place u.offset u.own u.below u.here u.range u.part)
         (found-range first_law find_law source contents strings rows is.again front rs r split
         (mean r) are.0 place u.offset u.own u.below u.here u.range u.part)
-        add.whole (λ k. joined_parts k parts_taken) before.file.contents
-        part-long
+        add.whole (λ k. joined_parts k parts_taken) before.file.contents parts_long
         (whole-part encoding before.file.contents parts_taken) in
         let free = λ (f : Fresh). left f (length front) r at (ap (λ p. is_met p met) (sym place_is)
         ∙ unmet) (λ here. omega (arith, long)) in
@@ -331,9 +321,9 @@ module _ (names : NamesTheSameLaw) (law : PackagedLaw) (taken : UnitsAreTaken)
         let other : n ≢ length front = λ same. let one : row ≡ r = same_Some row r (sym there
         ∙ ap (slice_get rows) same ∙ at) in
         omega (arith, last (ap (is_at place) one ∙ u.here), long, same) in
-        free-more row.id r.id new next (more f)
+        rw (more f).1 (free-more row.id r.id new.units (more f).0
         (left f n row there to_come (λ here. omega (arith, last here)))
-        (rows-differ rows is.sound.apart n (length front) row r there at other)))
+        (rows-differ rows is.sound.apart n (length front) row r there at other))))
 
     -- all of the section
     section-taken : (new : New) → Open Fresh rows met new
