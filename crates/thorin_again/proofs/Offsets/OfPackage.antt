@@ -38,6 +38,7 @@ use Rattle.thorin_join.proofs.Rows.Stay.{part-inside}
 use Rattle.thorin_again.proofs.Offsets.RewrittenAgain.{CanRewrite, are-named, all-rewritten}
 use Rattle.thorin_again.proofs.Offsets.RewrittenAgain.{tile-tested}
 use Rattle.thorin_again.proofs.Offsets.RangesFill.{tile-lies, ranges-are}
+use Rattle.thorin_again.proofs.Opened.Indexes.{OwnMade, own-made}
 use Rattle.thorin_again.proofs.Meant.Package.{own-again}
 use Rattle.thorin_join.proofs.Parts.Appended.{content-with_bytes, differ}
 use Rattle.thorin_join.proofs.Parts.Strings.{rewritten-package}
@@ -91,9 +92,8 @@ module _ (order : Endianness) (encoding : Encoding) (c : Contents) (strings : Li
 pub record IsReadOf (encoding : Encoding) (file : File) (indexes : Indexes) : Type 0 where
   pub made : InProgress
   pub finished : IsFinished made file
-  pub sound : IsSound made
+  pub own : OwnMade encoding made
   pub plain : IsPlain encoding made
-  pub all : AllOf encoding (units_of made)
   pub again : IsAgain (own_source file encoding indexes) file.contents made.strings made.rows
 
 module _ (is_read : IndexIsRead) (has_entries : IndexHasEntries) (state : State)
@@ -104,19 +104,14 @@ module _ (is_read : IndexIsRead) (has_entries : IndexHasEntries) (state : State)
   pub read-of : IsReadOf encoding file indexes
   read-of =
       let fin = own.finished in
-      let made = fin.made in
-      let sound = rw fin.begun at own.sound in
-      let count : 0 < length (units_of made) = rw fin.begun at own.some in
-      let long : length (units_of made) ≡ length made.rows = length-map made.rows _ in
+      let has = own-made state encoding file own in
       record {
-        made = made;
+        made = fin.made;
         finished = fin.finished;
-        sound = sound;
-        plain = subst (IsPlain encoding) (same_Some other made (sym begun ∙ fin.begun)) plain;
-        all = rw fin.begun at own.all;
-        again = own-again is_read has_entries made file sound
-            (tested-state state made fin.begun own.tested) fin.identifiers fin.finished own.kinds
-            encoding indexes read (λ none. omega (arith, ap length none, count, long));
+        own = has;
+        plain = subst (IsPlain encoding) (same_Some other fin.made (sym begun ∙ fin.begun)) plain;
+        again = own-again is_read has_entries fin.made file has.sound has.tests fin.identifiers
+            fin.finished own.kinds encoding indexes read has.some;
       }
 
   abbrev made : InProgress
@@ -151,16 +146,17 @@ module _ (is_read : IndexIsRead) (has_entries : IndexHasEntries) (state : State)
       (rewritten (own_source file encoding indexes) (content_of kinds.StrOffsets file.contents)
       strings)
   own-offsets strings =
-      let units = read-of.sound.units in
+      let units = read-of.own.sound.units in
       let bytes = content_of kinds.StrOffsets made.file.contents in
       rw (offsets-are strings) (all-rewritten made.file.order encoding (data_of made.strings) bytes
       0 tiled.ranges strings (λ r h. some-can made.file.order encoding made.file.contents
       made.strings units.table r (tile-lies made.file.order encoding 0 (length bytes) tiled.ranges r
-      tiled.tile h).1 made.rows (units_of made) units.rows read-of.all (tiled.named r h)))
+      tiled.tile h).1 made.rows (units_of made) units.rows read-of.own.all (tiled.named r h)))
 
   -- where there are no strings they are, with the package's strings
   pub own-offsets-alone : (w : List ℕ × List (List ℕ)) × (rewritten
       (own_source file encoding indexes) (content_of kinds.StrOffsets file.contents) [] ≡ Ok w)
   own-offsets-alone =
-      let given = tiled.strings made.strings read-of.sound.units.table (take-length made.strings) in
+      let given = tiled.strings made.strings read-of.own.sound.units.table
+          (take-length made.strings) in
       ((given.0, made.strings), offsets-are [] ∙ given.1)

@@ -277,7 +277,8 @@ module _ (names : NamesTheSameLaw) (law : PackagedLaw) (taken : UnitsAreTaken)
         (sym place_is) ∙ ap (part_of (content_of (kind_at place) contents)) u.range ∙ u.part in
         let order = is.made.file.order in
         let old = is.made.file.contents in
-        let lie = at-row (LieInside old) rows (length front) r (sound-inside is.made is.sound) at in
+        let lie = at-row (LieInside old) rows (length front) r
+            (sound-inside is.made is.own.sound) at in
         let itself = subst (λ o. NamesItself o encoding contents r)
         (sym (finished-order is.made file is.finished)) (keep-names order encoding old contents r
         (finished-grows is.made file is.finished) lie
@@ -294,7 +295,7 @@ module _ (names : NamesTheSameLaw) (law : PackagedLaw) (taken : UnitsAreTaken)
         let tested = row-tested first_law find_law source contents strings rows is.again front rs r
         split (mean r) are.0 place u.offset u.own u.below u.here u.range u.part h u.whole in
         let inside = weaker (LieInside old) (LieInside contents) (λ row l. keep-lie old contents row
-        (finished-grows is.made file is.finished) l) rows (sound-inside is.made is.sound) in
+        (finished-grows is.made file is.finished) l) rows (sound-inside is.made is.own.sound) in
         let parts_long = copied-or-offsets
         (λ k. length (joined_parts k parts_taken) ≡ length (content_of k contents))
         (λ k copied. ap length (parts-first source is.again.packed before.strings parts_taken after
@@ -323,7 +324,7 @@ module _ (names : NamesTheSameLaw) (law : PackagedLaw) (taken : UnitsAreTaken)
         omega (arith, last (ap (is_at place) one ∙ u.here), long, same) in
         rw (more f).1 (free-more row.id r.id new.units (more f).0
         (left f n row there to_come (λ here. omega (arith, last here)))
-        (rows-differ rows is.sound.apart n (length front) row r there at other))))
+        (rows-differ rows is.own.sound.apart n (length front) row r there at other))))
 
     -- all of the section
     section-taken : (new : New) → Open Fresh rows met new
@@ -331,9 +332,9 @@ module _ (names : NamesTheSameLaw) (law : PackagedLaw) (taken : UnitsAreTaken)
     section-taken new opened = subst (λ l. Fares E After (with_each_read add from new
         (units place (section file.order l)))) (sym bytes)
             (of-section taken file.order file.contents
-        place rows TakesRows end-taken elsewhere-taken one-taken is.sound.laid.once
-        (lie-kept is.made file is.sound.laid is.finished place) new
-        (rows-kept is.made file is.sound is.finished)
+        place rows TakesRows end-taken elsewhere-taken one-taken is.own.sound.laid.once
+        (lie-kept is.made file is.own.sound.laid is.finished place) new
+        (rows-kept is.made file is.own.sound is.finished)
         (λ f n row at free last. opened f n row at free))
 
   taken-all : KindsDiffer file.contents → Unless E (new_units add)
