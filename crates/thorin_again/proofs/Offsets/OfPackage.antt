@@ -1,8 +1,7 @@
 -- A written package of plain objects as an input: its indexes, and its string offsets.
-use Rattle.std.proofs.Common.{◌≡◌, ◌∙◌, ℕ, ◌<◌, true, false, List, [], ◌∷◌, length, refl, sym, ap}
+use Rattle.std.proofs.Common.{◌≡◌, ◌∙◌, ℕ, true, false, List, [], ◌∷◌, length, refl, sym, ap}
 use Rattle.std.proofs.Common.{subst, Ok, Some, arith, inl, inr, true≢false}
 use Rattle.std.specs.Prelude.{slice_get}
-use Rattle.std.proofs.lemmas.List.{length-map}
 use Rattle.std.proofs.lemmas.List.Elements.{All-tail}
 use Rattle.std.proofs.lemmas.Option.{same_Some}
 use Rattle.std.proofs.Math.Seq.{take-length}
@@ -28,7 +27,7 @@ use Rattle.thorin_again.specs.OwnUnits.{AllOf}
 use Rattle.thorin_input.specs.InputStrings.{rewritten}
 use Rattle.thorin_input.specs.Format.{is_shared}
 use Rattle.thorin_again.specs.Plain.{IsWholeRange, IsOfSome, IsPlain, HasTiledOffsets}
-use Rattle.thorin_join.specs.Represents.{IsSound, AreRowsOf, units_of}
+use Rattle.thorin_join.specs.Represents.{AreRowsOf, units_of}
 use Rattle.thorin_join.specs.State.{InProgress}
 use Rattle.thorin_packaged.specs.PackagedOffsets.{packaged_offsets, rewritten_from}
 use Rattle.thorin_packaged.specs.PackagedReading.{range_bytes}
@@ -43,7 +42,7 @@ use Rattle.thorin_again.proofs.Meant.Package.{own-again}
 use Rattle.thorin_join.proofs.Parts.Appended.{content-with_bytes, differ}
 use Rattle.thorin_join.proofs.Parts.Strings.{rewritten-package}
 use Rattle.thorin_again.proofs.Meant.RowPlaces.{IsAgain}
-use Rattle.thorin_join.proofs.Files.Finished.{tested-state, finished-order}
+use Rattle.thorin_join.proofs.Files.Finished.{finished-order}
 
 -- the contents that units share stay when a package is finished
 pub finished-shared : (made : InProgress) (file : File) → IsFinished made file

@@ -12,7 +12,7 @@ use Rattle.std.proofs.lemmas.Bool.{eq-eqb, ne_eqb}
 use Rattle.std.proofs.lemmas.List.FromFn.{length-map-range_with_len, get_or-map-range_with_len}
 use Rattle.std.proofs.lemmas.List.Folds.{list_any-append, Any-from_list_any}
 use Rattle.std.proofs.lemmas.List.Sorted.{list_any-IsPermutation, IsPermutation-filter_both}
-use Rattle.std.proofs.lemmas.Option.{none-some, same_Some, slice_get_read}
+use Rattle.std.proofs.lemmas.Option.{none-some, same_Some, slice_get_cases, slice_get_read}
 use Rattle.dwp_base.specs.declared.endian.Endianness.{Endianness}
 use Rattle.dwp_base.specs.declared.section.Contribution.{Contribution}
 use Rattle.dwp_base.specs.declared.section.SectionKind.TheVariants.{StrOffsets}
@@ -29,7 +29,7 @@ use Rattle.thorin_join.specs.Builder.{is_chosen, rows_of}
 use Rattle.thorin_join.specs.StandApart.{EachRow}
 use Rattle.thorin_join.proofs.Files.Indexes.{HasRows}
 use Rattle.thorin_again.specs.Plain.{IsWholeRange, Tile, IsAmong, HasOneOf, IsOfSome}
-use Rattle.thorin_again.proofs.Meant.RowPlaces.{get-there, non_empty-some}
+use Rattle.thorin_again.proofs.Meant.RowPlaces.{non_empty-some}
 
 -- ---- the rows of compilation units and those of type units
 
@@ -211,13 +211,16 @@ module _ (order : Endianness) (encoding : Encoding) where
         let count = length index.offsets in
         each-part (map range (range_with_len 1 count)) xs (λ n less r e.
         let within : n < count = omega (arith, less, length-map-range_with_len range 1 count) in
-        let there = get-there rows n (omega (arith, within, has.1.count)) in
-        let parts = has.1.each n there.0 there.1 in
-        at-row (HasOneOf ys) rows n there.0 each there.1 r
-        (non_empty-some there.0.debug_str_offsets r (sym (parts.parts StrOffsets)
-        ∙ sym (range_of_found index StrOffsets (n + 1) parts.row parts.there)
-        ∙ sym (get_or-map-range_with_len range 1 count n (n + 1) None within (omega arith)) ∙ e)))
-        part
+        elim (slice_get_cases rows n).1 [
+          | inl there ↦
+              let parts = has.1.each n there.0 there.2 in
+              at-row (HasOneOf ys) rows n there.0 each there.2 r
+              (non_empty-some there.0.debug_str_offsets r (sym (parts.parts StrOffsets)
+              ∙ sym (range_of_found index StrOffsets (n + 1) parts.row parts.there)
+              ∙ sym (get_or-map-range_with_len range 1 count n (n + 1) None within (omega arith))
+              ∙ e))
+          | inr past ↦ absurd (omega (arith, within, past.0, has.1.count))
+        ]) part
 
     -- those of the rows of both indexes are all of them
     pub ranges-are : (compilations types : Option Index) (rows : List IndexEntry)

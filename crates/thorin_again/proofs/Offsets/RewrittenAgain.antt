@@ -31,7 +31,7 @@ use Rattle.thorin_join.proofs.Parts.OffsetRanges.{count-again}
 use Rattle.thorin_again.specs.OwnRefusals.{IsStringOffset}
 use Rattle.thorin_again.specs.Plain.{IsWholeRange, Tile, IsAmong}
 use Rattle.thorin_again.proofs.Offsets.RangesFill.{tile-end}
-use Rattle.thorin_again.proofs.Opened.Unless.{Unless, and-then, then-on}
+use Rattle.thorin_again.proofs.Opened.Unless.{Unless, and-then}
 use Rattle.std.proofs.Math.Nat.{add-zero}
 use Rattle.std.proofs.Math.Seq.{drop-append-add}
 use Rattle.std.proofs.lemmas.Bool.Decides.{nat_tests}
@@ -135,11 +135,13 @@ module _ (order : Endianness) (encoding : Encoding) where
   all-rewritten section bytes at (r ∷ rs) strings can =
       let here = can r (inl refl) in
       let own = range_bytes bytes r in
-      rw (whole-remapped section own r.size strings here.0) (then-on IsStringOffset _ _ _
-      (entries-rewritten section own here.0.count strings here.1)
-      (λ entries. and-then IsStringOffset _ _
-      (all-rewritten section bytes (r.offset.0 + r.size) rs entries.1 (λ x h. can x (inr h)))
-      (λ rest e. tt)))
+      and-then IsStringOffset (remapped order encoding section own r.size strings) _
+      (rw (whole-remapped section own r.size strings here.0)
+      (and-then IsStringOffset _ _ (entries-rewritten section own here.0.count strings here.1)
+      (λ entries e. tt)))
+      (λ range e. and-then IsStringOffset _ _
+      (all-rewritten section bytes (r.offset.0 + r.size) rs range.1 (λ x h. can x (inr h)))
+      (λ rest f. tt))
 
   -- ---- rewritten once more
 

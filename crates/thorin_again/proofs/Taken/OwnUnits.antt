@@ -36,7 +36,6 @@ use Rattle.thorin_input.specs.Used.{Used}
 use Rattle.thorin_strings.specs.Strings.{IsTable}
 use Rattle.thorin_join.specs.Laid.{is_at, same_place}
 use Rattle.thorin_join.specs.Represents.{AreRowsOf, LieInside, meaning_at}
-use Rattle.thorin_join.specs.StandApart.{EachRow}
 use Rattle.thorin_join.specs.State.{InProgress, kind_at, unit_bytes, adding}
 use Rattle.thorin_join.proofs.Moved.RootEntries.{identity-shifted}
 use Rattle.thorin_join.proofs.Parts.OffsetLaws.{NamesTheSameLaw, PackagedLaw}
@@ -46,13 +45,12 @@ use Rattle.thorin_again.specs.Plain.{NamesItself, IsPlain}
 use Rattle.thorin_again.proofs.Meant.OneRow.{found-row, found-range, row-tested, named-again}
 use Rattle.thorin_again.proofs.Meant.OneSection.{with_names}
 use Rattle.thorin_again.proofs.Meant.RowByRow.{IsUnitOf, of-section}
-use Rattle.thorin_again.proofs.Meant.RowPlaces.{FirstLaw, FindLaw, place-eq, get-seam}
+use Rattle.thorin_again.proofs.Meant.RowPlaces.{FirstLaw, FindLaw, place-eq}
 use Rattle.thorin_again.proofs.Offsets.OfPackage.{IsReadOf, finished-shared, read-of}
 use Rattle.thorin_again.proofs.Taken.NamesFree.{Free, free-more, rows-differ}
 use Rattle.thorin_again.proofs.Taken.RowsGiven.{row-given}
 use Rattle.dwp_base.specs.declared.section.SectionKind.{SectionKind}
 use Rattle.thorin_join.specs.Meaning.{Meaning}
-use Rattle.thorin_input.specs.Format.{is_shared}
 use Rattle.thorin_join.proofs.Rows.Stay.{keep-lie}
 use Rattle.thorin_again.proofs.Kept.Names.{keep-names}
 use Rattle.thorin_again.proofs.Offsets.RangesFill.{at-row}
@@ -195,6 +193,10 @@ module _ (Fresh : Type 0) (E : ErrorValue → Type 0) (may : MayMeet Fresh E) (a
 
 -- ---- all of a section, row by row
 
+at-seam : {X : Type 0} (xs ys : List X) {y : X} → slice_get (xs ++ y ∷ ys) (length xs) ≡ Some y
+at-seam [] ys = refl
+at-seam (x ∷ xs) ys = at-seam xs ys
+
 -- what remains to be met after a section
 unmet-before : (place other : UnitSection) (met : Met) → is_met other (with_met place met) ≡ false
     → (same_place place other ≡ false) × (is_met other met ≡ false)
@@ -269,7 +271,7 @@ module _ (names : NamesTheSameLaw) (law : PackagedLaw) (taken : UnitsAreTaken)
     one-taken front r rs h reads split u later new are left =
         let contents = file.contents in
         let strings = is.made.strings in
-        let at : slice_get rows (length front) ≡ Some r = rw split (get-seam front rs r) in
+        let at : slice_get rows (length front) ≡ Some r = rw split (at-seam front rs) in
         let long = ap length split ∙ length-append front (r ∷ rs) in
         let place_is = place-eq place (place_of r.id r.debug_types) u.here in
         let bytes_are : unit_bytes contents r ≡ u.own =
