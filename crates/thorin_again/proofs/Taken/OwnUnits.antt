@@ -163,34 +163,6 @@ module _ (E : ErrorValue → Type 0) (add : Adding) (contents : Contents) (P : M
       each-place (λ p. is_met p none_met ≡ false) refl refl place) start))
       (λ all h. tt)
 
--- ---- one unit
-
--- either the package had no units, or a compilation unit that is there already may be refused
-abbrev MayMeet : Type 0 → (ErrorValue → Type 0) → Type 0
-MayMeet Fresh E = Fresh ⊎ ((id : ℕ) → E (DuplicateUnit id))
-
--- in a package without units there is one more then
-abbrev Added : Type 0 → DwarfObject → New → New → Type 0
-Added Fresh name new next = Fresh → (unit : NewUnit)
-    × (next.units ≡ new.units ++ (name, unit) ∷ [])
-
-module _ (Fresh : Type 0) (E : ErrorValue → Type 0) (may : MayMeet Fresh E) (add : Adding)
-    (from : Used) (address : eqb from.address 0 ≡ true) (unit : Header) (new : New)
-    (row : IndexEntry) where
-  unit-fares : (kept : Option (List ℕ)) (name : DwarfObject) → (Fresh → kept ≡ None)
-      → row_test add.source.indexes from.kind name unit ≡ Ok tt
-      → unit_row add.source.indexes add.whole name ≡ Ok row
-      → Fares E (Added Fresh name new) (with_unit kept add from name unit new)
-  unfolding with_unit with_first
-  unit-fares (Some kept) (Compilation id) none tested given =
-      ⊎_elim (λ f. absurd (none-some kept (sym (none f)))) (λ twice. twice id.0) may
-  unit-fares (Some kept) (TypeUnit signature) none tested given =
-      λ f. absurd (none-some kept (sym (none f)))
-  unit-fares None name none tested given = rw (address, tested, given) (λ f. (
-    record { place = place_for name from.kind; bytes = unit.whole.bytes; row = row },
-    refl,
-  ))
-
 -- ---- all of a section, row by row
 
 at-seam : {X : Type 0} (xs ys : List X) {y : X} → slice_get (xs ++ y ∷ ys) (length xs) ≡ Some y
@@ -205,14 +177,11 @@ unmet-before places.Info places.Types met h = (refl, h)
 unmet-before places.Types places.Info met h = (refl, h)
 unmet-before places.Types places.Types met h = absurd (true≢false h)
 
--- in a package without units, the names of rows in sections that weren't met are free
-abbrev Open : Type 0 → List IndexEntry → Met → New → Type 0
-Open Fresh rows met new = Fresh → (n : ℕ) (row : IndexEntry) → slice_get rows n ≡ Some row
-    → is_met (place_of row.id row.debug_types) met ≡ false → Free row.id new
-
+-- the units of a written package, added to one that had no units, or by which a compilation unit
+-- that is there already may be refused
 module _ (names : NamesTheSameLaw) (law : PackagedLaw) (taken : UnitsAreTaken)
     (first_law : FirstLaw) (find_law : FindLaw) (Fresh : Type 0) (E : ErrorValue → Type 0)
-    (may : MayMeet Fresh E) (encoding : Encoding) (file : File)
+    (may : Fresh ⊎ ((id : ℕ) → E (DuplicateUnit id))) (encoding : Encoding) (file : File)
     (indexes : Indexes) (is : IsReadOf encoding file indexes) (before : InProgress)
     (parts_taken : Contents) (after : List (List ℕ)) (table : IsTable before.strings)
     (parts_are : parts_of (own_source file encoding indexes) before.strings
@@ -230,11 +199,36 @@ module _ (names : NamesTheSameLaw) (law : PackagedLaw) (taken : UnitsAreTaken)
   abbrev mean : IndexEntry → Meaning
   mean row = meaning_at is.made.file.order is.made.file.contents is.made.strings row
 
+  -- in a package without units there is one more then
+  abbrev Added : DwarfObject → New → New → Type 0
+  Added name new next = Fresh → (unit : NewUnit)
+      × (next.units ≡ new.units ++ (name, unit) ∷ [])
+
+  -- and the names of rows in sections that weren't met are free
+  abbrev Open : Met → New → Type 0
+  Open met new = Fresh → (n : ℕ) (row : IndexEntry) → slice_get rows n ≡ Some row
+      → is_met (place_of row.id row.debug_types) met ≡ false → Free row.id new
+
   -- ---- one section
   module _ (met : Met) (place : UnitSection) (from : Used) (from_is : from.kind ≡ kind_at place)
       (address : eqb from.address 0 ≡ true)
       (bytes : from.bytes ≡ content_of (kind_at place) file.contents)
       (unmet : is_met place met ≡ false) where
+    unit-fares : (h : Header) (new : New) (row : IndexEntry) (kept : Option (List ℕ))
+        (name : DwarfObject) → (Fresh → kept ≡ None)
+        → row_test add.source.indexes from.kind name h ≡ Ok tt
+        → unit_row add.source.indexes add.whole name ≡ Ok row
+        → Fares E (Added name new) (with_unit kept add from name h new)
+    unfolding with_unit with_first
+    unit-fares h new row (Some kept) (Compilation id) none tested given =
+        ⊎_elim (λ f. absurd (none-some kept (sym (none f)))) (λ twice. twice id.0) may
+    unit-fares h new row (Some kept) (TypeUnit signature) none tested given =
+        λ f. absurd (none-some kept (sym (none f)))
+    unit-fares h new row None name none tested given = rw (address, tested, given) (λ f. (
+      record { place = place_for name from.kind; bytes = h.whole.bytes; row = row },
+      refl,
+    ))
+
     -- those of the section's rows too, where they are among the last so many
     abbrev Left : ℕ → New → Type 0
     Left m new = Fresh → (n : ℕ) (row : IndexEntry) → slice_get rows n ≡ Some row
@@ -242,7 +236,7 @@ module _ (names : NamesTheSameLaw) (law : PackagedLaw) (taken : UnitsAreTaken)
         → (is_at place row ≡ true → length rows ≤ n + m) → Free row.id new
 
     abbrev After : New → Type 0
-    After new = Open Fresh rows (with_met place met) new
+    After new = Open (with_met place met) new
 
     -- what is read of the last rows is taken
     abbrev TakesRows : List IndexEntry → List (Result Header ReadError) → Type 0
@@ -316,10 +310,10 @@ module _ (names : NamesTheSameLaw) (law : PackagedLaw) (taken : UnitsAreTaken)
         let free = λ (f : Fresh). left f (length front) r at (ap (λ p. is_met p met) (sym place_is)
         ∙ unmet) (λ here. omega (arith, long)) in
         let named_from : name_for source from.kind h ≡ Ok r.id = rw from_is named in
-        then-fares E (Added Fresh r.id new) After (with_read add from new (Ok h))
-        (λ next. with_each_read add from next reads) (rw named_from (unit-fares Fresh E may add from
-        address h new given.0 (kept_bytes add.held new.units r.id) r.id
-        (λ f. rw (none_there f, free f) refl) (rw from_is tested) given.1))
+        then-fares E (Added r.id new) After (with_read add from new (Ok h))
+        (λ next. with_each_read add from next reads) (rw named_from (unit-fares h new given.0
+        (kept_bytes add.held new.units r.id) r.id (λ f. rw (none_there f, free f) refl)
+        (rw from_is tested) given.1))
         (λ next more. later next are.1 (λ f n row there to_come last.
         let other : n ≢ length front = λ same. let one : row ≡ r = same_Some row r (sym there
         ∙ ap (slice_get rows) same ∙ at) in
@@ -329,7 +323,7 @@ module _ (names : NamesTheSameLaw) (law : PackagedLaw) (taken : UnitsAreTaken)
         (rows-differ rows is.own.sound.apart n (length front) row r there at other))))
 
     -- all of the section
-    section-taken : (new : New) → Open Fresh rows met new
+    section-taken : (new : New) → Open met new
         → Fares E After (with_each_read add from new (units place (section file.order from.bytes)))
     section-taken new opened = subst (λ l. Fares E After (with_each_read add from new
         (units place (section file.order l)))) (sym bytes)
@@ -340,7 +334,7 @@ module _ (names : NamesTheSameLaw) (law : PackagedLaw) (taken : UnitsAreTaken)
         (λ f n row at free last. opened f n row at free))
 
   taken-all : KindsDiffer file.contents → Unless E (new_units add)
-  taken-all differ = new-taken E add file.contents (Open Fresh rows) section-taken refl differ
+  taken-all differ = new-taken E add file.contents Open section-taken refl differ
       (λ fresh n row at unmet. refl)
 
 -- ---- those of a written package
