@@ -238,27 +238,26 @@ pub weaker : (P Q : IndexEntry → Type 0) → ((row : IndexEntry) → P row →
 weaker P Q f [] h = tt
 weaker P Q f (r ∷ rs) h = (f r h.0, weaker P Q f rs h.1)
 
--- what holds of one of a list, and of a longer one
+-- what holds of one of a list, or of another
 abbrev Any : {X : Type 0} → (X → Type 0) → List X → Type 0
 Any P [] = ⊥
 Any P (x ∷ xs) = P x ⊎ Any P xs
 
-any-more : {X : Type 0} (P : X → Type 0) (xs : List X) (y : X) → Any P xs → Any P (xs ++ y ∷ [])
-any-more P [] y h = absurd h
-any-more P (x ∷ xs) y (inl e) = inl e
-any-more P (x ∷ xs) y (inr h) = inr (any-more P xs y h)
+any-left : {X : Type 0} (P : X → Type 0) (xs ys : List X) → Any P xs → Any P (xs ++ ys)
+any-left P [] ys h = absurd h
+any-left P (x ∷ xs) ys (inl e) = inl e
+any-left P (x ∷ xs) ys (inr h) = inr (any-left P xs ys h)
 
-any-last : {X : Type 0} (P : X → Type 0) (xs : List X) (y : X) → P y → Any P (xs ++ y ∷ [])
-any-last P [] y h = inl h
-any-last P (x ∷ xs) y h = inr (any-last P xs y h)
+any-right : {X : Type 0} (P : X → Type 0) (xs ys : List X) → Any P ys → Any P (xs ++ ys)
+any-right P [] ys h = h
+any-right P (x ∷ xs) ys h = inr (any-right P xs ys h)
 
-among-by : (P : Contribution → Type 0) (ranges : List Contribution) (more : Contribution)
-    → ((r : Contribution) → IsAmong r ranges → P r) → P more
-    → (r : Contribution) → IsAmong r (ranges ++ more ∷ []) → P r
-among-by P [] more h own r (inl e) = subst P (sym e) own
-among-by P [] more h own r (inr k) = absurd k
-among-by P (x ∷ xs) more h own r (inl e) = h r (inl e)
-among-by P (x ∷ xs) more h own r (inr k) = among-by P xs more (λ z l. h z (inr l)) own r k
+any-either : {X : Type 0} (P : X → Type 0) (xs ys : List X) → Any P (xs ++ ys)
+    → Any P xs ⊎ Any P ys
+any-either P [] ys h = inr h
+any-either P (x ∷ xs) ys (inl e) = inl (inl e)
+any-either P (x ∷ xs) ys (inr h) =
+    ⊎_elim (λ k. inl (inr k)) (λ k. inr k) (any-either P xs ys h)
 
 tile-append : (o : Endianness) (e : Encoding) (at : ℕ) (rs : List Contribution) (end : ℕ)
     (r : Contribution) → Tile o e at rs end → r.offset.0 ≡ end → IsWholeRange o e r.size
@@ -316,66 +315,62 @@ module _ (names : NamesTheSameLaw) (source : Source) (before now : InProgress)
           (length old + length joined)
       a.after))
 
-  -- what these ranges are of the section and the strings before them, and of the rows
+  -- what these ranges more are of the section and the strings before them, and of the rows
   made-so : (ranges : List Contribution)
-      → Tile now_order source.encoding 0 ranges (length old + length joined)
-      → ((row : IndexEntry) → HasOneOf tiled.ranges row → HasOneOf ranges row)
+      → Tile now_order source.encoding 0 (tiled.ranges ++ ranges) (length old + length joined)
       → ((r : Contribution) → range_put StrOffsets joined before.file.contents ≡ Some r
       → IsAmong r ranges)
       → ((r : Contribution) → IsAmong r ranges → IsOfSome r now.rows)
-      → GiveStrings now_order source.encoding (old ++ joined) ranges a.after
+      → GiveStrings now_order source.encoding (old ++ joined) (tiled.ranges ++ ranges) a.after
       → HasTiledOffsets source.encoding now
-  made-so ranges tile wider new named gives =
+  made-so ranges tile new named gives =
       let q = parted source before now a in
+      let all = tiled.ranges ++ ranges in
       let content : content_of StrOffsets now.file.contents ≡ old ++ joined =
       content-added source before now a StrOffsets refl in
       let order_is = order-added source before now a in
       let strings_are : now.strings ≡ a.after =
       ap (λ (p : InProgress). p.strings) a.is ∙ units-strings q a.new.units in
       record {
-        ranges = ranges;
+        ranges = all;
         tile = rw (order_is, content, length-append old joined) tile;
-        rows = rw a.is (each-added (λ p. EachRow (HasOneOf ranges) p.rows)
-            (RowHas (HasOneOf ranges))
-            (λ p u has rows. row-append (HasOneOf ranges) p.rows (row_at u.1.row p.file.contents u.0
+        rows = rw a.is (each-added (λ p. EachRow (HasOneOf all) p.rows) (RowHas (HasOneOf all))
+            (λ p u has rows. row-append (HasOneOf all) p.rows (row_at u.1.row p.file.contents u.0
             u.1.bytes u.1.place) rows (has p.file.contents)) q a.new.units
             (rows-share source before now a plain StrOffsets refl (λ part. (r : Contribution)
-            → part ≡ Some r → IsAmong r ranges) new)
-            (weaker (HasOneOf tiled.ranges) (HasOneOf ranges) wider before.rows tiled.rows));
-        named = named;
-        strings = gives-same source.encoding ranges order_is content strings_are gives;
+            → part ≡ Some r → IsAmong r all)
+            (λ r e. any-right (λ x. r ≡ x) tiled.ranges ranges (new r e)))
+            (weaker (HasOneOf tiled.ranges) (HasOneOf all) (λ row has r e.
+            any-left (λ x. r ≡ x) tiled.ranges ranges (has r e)) before.rows tiled.rows));
+        named = λ r h. ⊎_elim (λ k. rw a.is (each-unit (λ p. IsOfSome r p.rows) (λ p u so. any-left
+            (λ (row : IndexEntry). row.debug_str_offsets ≡ Some r) p.rows
+            (row_at u.1.row p.file.contents u.0 u.1.bytes u.1.place ∷ []) so) q a.new.units
+            (tiled.named r k))) (named r) (any-either (λ x. r ≡ x) tiled.ranges ranges h);
+        strings = gives-same source.encoding all order_is content strings_are gives;
       }
-
-  named-before : (r : Contribution) → IsAmong r tiled.ranges → IsOfSome r now.rows
-  named-before r there =
-      rw a.is (each-unit (λ p. IsOfSome r p.rows) (λ p u k. any-more
-      (λ (row : IndexEntry). row.debug_str_offsets ≡ Some r) p.rows
-      (row_at u.1.row p.file.contents u.0 u.1.bytes u.1.place) k) (parted source before now a)
-      a.new.units (tiled.named r there))
 
   pub tiled-kept : HasTiledOffsets source.encoding now
   tiled-kept = elim (made-fills names source plain before.strings joined a.after
       (has_part StrOffsets a.parts) part) [
         | inl none ↦
-            made-so tiled.ranges (rw (none.0, add-zero (length old)) tiled.tile) (λ row has. has)
-            (λ r e. absurd (none-some r (rw none.0 at e)))
-            named-before (gives-same source.encoding tiled.ranges refl (ap (λ l. old ++ l)
-            (no-bytes joined none.0) ∙ append-nil old) none.1 tiled.strings)
+            made-so [] (rw (append-nil tiled.ranges, none.0, add-zero (length old)) tiled.tile)
+            (λ r e. absurd (none-some r (rw none.0 at e))) (λ r h. absurd h)
+            (rw (append-nil tiled.ranges) (gives-same source.encoding tiled.ranges refl
+            (ap (λ l. old ++ l) (no-bytes joined none.0) ∙ append-nil old) none.1 tiled.strings))
         | inr whole ↦
             let is_whole = subst (λ o. IsWholeRange o source.encoding (length joined)) same
             whole.0 in
             let put = place-put StrOffsets joined before.file.contents whole.0.some in
-            made-so (tiled.ranges ++ range ∷ [])
-            (tile-append now_order source.encoding 0 tiled.ranges (length old) range tiled.tile refl
-            is_whole)
-            (λ row has r e. any-more (λ x. r ≡ x) tiled.ranges range (has r e))
-            (λ r e. any-last (λ x. r ≡ x) tiled.ranges range (same_Some r range (sym e ∙ put)))
-            (among-by (λ r. IsOfSome r now.rows) tiled.ranges range named-before
+            made-so (range ∷ []) (tile-append now_order source.encoding 0 tiled.ranges (length old)
+            range tiled.tile refl is_whole)
+            (λ r e. inl (same_Some r range (sym e ∙ put)))
+            (λ r h. ⊎_elim (λ e. subst (λ x. IsOfSome x now.rows) (sym e)
             (once-more source before now a more (λ p. IsOfSome range p.rows)
             (RowHas (λ row. row.debug_str_offsets ≡ Some range))
-            (λ p u has. any-last (λ (row : IndexEntry). row.debug_str_offsets ≡ Some range) p.rows
-            (row_at u.1.row p.file.contents u.0 u.1.bytes u.1.place)
-            (has p.file.contents))
+            (λ p u has. any-right (λ (row : IndexEntry). row.debug_str_offsets ≡ Some range) p.rows
+            (row_at u.1.row p.file.contents u.0 u.1.bytes u.1.place ∷ [])
+            (inl (has p.file.contents)))
             (rows-share source before now a plain StrOffsets refl (λ part. part ≡ Some range) put)))
+            (λ k. absurd k) h)
             (more-strings whole.1)
       ]
