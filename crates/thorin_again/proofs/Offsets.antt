@@ -1,7 +1,5 @@
 -- The string offsets of a written package, rewritten once more.
 pub mod RewrittenAgain
-pub mod WholeRanges
 pub mod Tiled
-pub mod RangesApart
 pub mod RangesFill
 pub mod OfPackage

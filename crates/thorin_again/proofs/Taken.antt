@@ -1,7 +1,4 @@
 -- The units of a written package are taken as those of an input.
 pub mod RowsGiven
 pub mod NamesFree
-pub mod ReadAgain
-pub mod OneSection
-pub mod EachSection
 pub mod OwnUnits

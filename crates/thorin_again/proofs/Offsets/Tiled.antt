@@ -1,34 +1,230 @@
--- The ranges of string offsets fill their section, where plain objects of one encoding are added.
-use Rattle.std.proofs.Common.{◌≡◌, ◌∙◌, ℕ, ◌+◌, ◌<◌, false, inl, inr, List, [], ◌∷◌, ◌++◌, length}
-use Rattle.std.proofs.Common.{refl, sym, ap, subst, Ok, Some, arith, length-append}
+-- The ranges of string offsets fill their section, where plain objects of one encoding are added:
+-- what each gives to string offsets is nothing, or a whole range.
+use Rattle.std.proofs.Common.{◌≡◌, ◌∙◌, ℕ, ◌+◌, ◌*◌, ◌<◌, Bool, true, false, eqb, leb, ◌&&◌, ◌⊎◌}
+use Rattle.std.proofs.Common.{⊎_elim, inl, inr, List, [], ◌++◌, length, take, refl, sym, ap, Ok}
+use Rattle.std.proofs.Common.{arith, true≢false, zero-mul, length-append, add-mul, ◌∷◌, subst, Some}
+use Rattle.std.proofs.lemmas.Bool.{eqb-true, eqb-false, leb-false, lt-ltb}
+use Rattle.std.proofs.Math.Seq.{take-length}
+use Rattle.dwp_base.specs.declared.endian.Endianness.{Endianness}
+use Rattle.dwp_base.specs.declared.section.SectionKind.TheVariants.{StrOffsets, Str}
+use Rattle.dwp_base.proofs.EveryKind.{is-same}
+use Rattle.dwp_bytes.specs.Encoding.{offset_size}
+use Rattle.dwp_bytes.specs.StringOffsets.{header_size, entry_count}
+use Rattle.dwp_bytes.specs.declared.encoding.Encoding.{Encoding}
+use Rattle.thorin_errors.specs.Errors.{ErrorValue}
+use Rattle.thorin_strings.specs.StringOffsets.{header_of, remapped_entries, remapped, entry_bytes}
+use Rattle.thorin_strings.specs.Strings.{IsTable, data_of}
+use Rattle.thorin_input.specs.Growing.{Contents, joined_parts, range_put}
+use Rattle.thorin_input.specs.Indexes.{Source, is_package}
+use Rattle.thorin_input.specs.Parts.{Parts, has_part, stands_once, parts_of}
+use Rattle.thorin_again.specs.Plain.{IsWholeRange, Tile, IsAmong, HasOneOf, IsOfSome, GiveStrings}
+use Rattle.thorin_again.specs.Plain.{HasTiledOffsets}
+use Rattle.thorin_input.specs.Used.{Used, first}
+use Rattle.thorin_join.proofs.Parts.FirstUses.{no-entries, units-strings}
+use Rattle.thorin_join.proofs.Parts.OffsetRanges.{count-again, range-of}
+use Rattle.thorin_again.proofs.Offsets.RewrittenAgain.{Lead, entries-alike, leads-joined}
+use Rattle.thorin_again.proofs.Offsets.RewrittenAgain.{whole-remapped, no-turn, turn, grown}
+use Rattle.thorin_join.proofs.Parts.Appended.{each-part, joined_parts-more, joined_parts-other}
+use Rattle.thorin_join.proofs.Parts.Appended.{Rewritten, Adds, no-bytes}
+use Rattle.thorin_join.proofs.Parts.OffsetLaws.{NamesTheSameLaw}
+use Rattle.thorin_join.proofs.Parts.PlainOffsets.{has-more, has-other, not-there}
+use Rattle.thorin_join.proofs.Parts.Strings.{front-front, rewritten-plain}
+use Rattle.dwp_base.proofs.Steps.{same-ok}
+use Rattle.dwp_base.proofs.Bools.{by-bool}
+use Rattle.thorin_packaged.proofs.OffsetsJoined.{no_header}
 use Rattle.std.proofs.Math.Nat.{add-zero}
 use Rattle.std.proofs.lemmas.List.{append-nil}
 use Rattle.std.proofs.lemmas.Option.{none-some, same_Some}
-use Rattle.dwp_base.specs.declared.endian.Endianness.{Endianness}
 use Rattle.dwp_base.specs.declared.section.Contribution.{Contribution}
-use Rattle.dwp_base.specs.declared.section.SectionKind.TheVariants.{StrOffsets}
-use Rattle.dwp_bytes.specs.StringOffsets.{entry_count}
-use Rattle.dwp_bytes.specs.declared.encoding.Encoding.{Encoding}
 use Rattle.dwp_elf.specs.Contents.{content_of}
 use Rattle.thorin_index.specs.declared.entry.IndexEntry.{IndexEntry}
-use Rattle.thorin_strings.specs.Strings.{IsTable, data_of}
-use Rattle.thorin_input.specs.Growing.{joined_parts, range_put}
-use Rattle.thorin_input.specs.Indexes.{Source, is_package}
-use Rattle.thorin_again.specs.Plain.{IsWholeRange, Tile, IsAmong, HasOneOf, IsOfSome, GiveStrings}
-use Rattle.thorin_again.specs.Plain.{HasTiledOffsets}
 use Rattle.thorin_join.specs.StandApart.{EachRow}
 use Rattle.thorin_join.specs.State.{InProgress, row_at, with_source}
-use Rattle.thorin_again.proofs.Offsets.RewrittenAgain.{Lead, range-leads, no-turn, turn, grown}
-use Rattle.thorin_join.proofs.Parts.Appended.{no-bytes}
-use Rattle.thorin_join.proofs.Parts.OffsetLaws.{NamesTheSameLaw}
-use Rattle.thorin_join.proofs.Parts.Strings.{front-front}
 use Rattle.thorin_again.proofs.Kept.EachUnit.{each-added, each-unit}
 use Rattle.thorin_again.proofs.Kept.SharedParts.{PlainAdded, plain-added, parted, order-added}
 use Rattle.thorin_again.proofs.Kept.SharedParts.{content-added, RowHas, rows-share, once-more}
 use Rattle.thorin_join.proofs.Rows.OneAdded.{place-put, range_for, own-bytes}
-use Rattle.thorin_again.proofs.Offsets.WholeRanges.{MadeBy, part-made, made-fills, unchanged}
-use Rattle.thorin_input.specs.Parts.{has_part}
-use Rattle.thorin_join.proofs.Parts.FirstUses.{units-strings}
+
+-- ---- the part of string offsets that a plain object makes is whole
+
+module _ (names : NamesTheSameLaw) (source : Source) (plain : is_package source.indexes ≡ false)
+    (start : List (List ℕ)) where
+  abbrev order : Endianness
+  order = source.object.order
+
+  abbrev encoding : Encoding
+  encoding = source.encoding
+
+  abbrev width : ℕ
+  width = offset_size encoding.format
+
+  abbrev section : List ℕ
+  section = first Str source.object.sections
+
+  -- no bytes, or so many whole entries behind a header
+  abbrev Fills : ℕ → ℕ → Type 0
+  Fills size n = ((size ≡ 0) × (n ≡ 0)) ⊎ ((size ≡ header_size encoding + n * width)
+      × (header : List ℕ) × (header_of order encoding (n * width) ≡ Ok header))
+
+  -- so many entries, rewritten again from these strings on, give those, in the section of any that
+  -- begin with them
+  abbrev Again : List ℕ → ℕ → (before after : List (List ℕ)) → Type 0
+  Again new n before after = (final : List (List ℕ)) → IsTable final → take (length after) final ≡
+      after → Lead order encoding (data_of final) new n before after
+
+  record Made (new : List ℕ) (strings : List (List ℕ)) (has : Bool) : Type 0 where
+    table : IsTable strings
+    fresh : has ≡ false → (new ≡ []) × (strings ≡ start)
+    count : ℕ
+    fills : Fills (length new) count
+    kept : take (length start) strings ≡ start
+    again : Again new count start strings
+
+  abbrev MadeBy : Parts → Type 0
+  MadeBy parts = Made (joined_parts StrOffsets parts.0) parts.1 (has_part StrOffsets parts.0)
+
+  one-fills : (bytes : List ℕ) (strings : List (List ℕ)) (written : List ℕ × List (List ℕ))
+      → IsTable strings → remapped order encoding section bytes (length bytes) strings ≡ Ok written
+      → Fills (length written.0) (entry_count encoding (length bytes))
+      × Lead order encoding section bytes (entry_count encoding (length bytes)) strings written.1
+  unfolding remapped_entries
+  one-fills bytes strings written table h =
+      elim (range-of order encoding section bytes (length bytes) strings written h) [
+        | inl none ↦
+            let count = ap (entry_count encoding) none.0 ∙ no-entries encoding in
+            rw (← none.1) (inl (refl, count), ([], rw count refl))
+        | inr r ↦ (
+          inr ((names order encoding section bytes (length bytes) strings written.0 written.1
+              table h).long (eqb-false (length bytes) 0 r.some), r.header, r.header_is),
+          (
+            r.entries.0,
+            r.entries_are ∙ ap (λ (w : List ℕ × List (List ℕ)). Ok (r.entries.0, w.1)) r.is,
+          ),
+        )
+      ]
+
+  -- before DWARF 5 there are the entries alone
+  older-long : encoding.version < 5 → (size n : ℕ) → Fills size n → size ≡ n * width
+  older-long old size n (inl none) = rw (none.0, none.1) (sym (zero-mul width))
+  older-long old size n (inr some) = omega (arith, some.0, no_header encoding old)
+
+  made-rewritten : (before : Parts) (bytes : List ℕ) (next : Parts) → MadeBy before
+      → (leb 5 encoding.version ≡ true → has_part StrOffsets before.0 ≡ false)
+      → Rewritten source before bytes next → MadeBy next
+  unfolding header_of
+  made-rewritten before bytes next so_far once w =
+      let new = joined_parts StrOffsets before.0 in
+      let own = w.written.0 in
+      let strings = w.written.1 in
+      let m = entry_count encoding (length bytes) in
+      let rewrites : remapped order encoding section bytes (length bytes) before.1 ≡ Ok w.written =
+      sym (rewritten-plain source bytes before.1 plain) ∙ w.rewrites in
+      let law = names order encoding section bytes (length bytes) before.1 own strings
+      so_far.table rewrites in
+      let one = one-fills bytes before.1 w.written so_far.table rewrites in
+      let alone : Again own m before.1 strings = λ final table kept. (
+        one.1.0,
+        entries-alike order encoding (data_of final) section own bytes m before.1 (λ k less.
+            let name = law.named k less in name.new final table kept ∙ sym name.old) ∙ one.1.1,
+      ) in
+      let all : (n : ℕ) × Fills (length (new ++ own)) n × Again (new ++ own) n start strings =
+      by-bool _ (leb 5 encoding.version)
+      (λ standard. let empty = so_far.fresh (once standard) in
+      (m, rw empty.0 one.0, λ final table kept. rw (empty.0, ← empty.1) (alone final table kept)))
+      (λ gnu.
+      let old = leb-false 5 encoding.version gnu in
+      let long = older-long old (length new) so_far.count so_far.fills in
+      let more = older-long old (length own) m one.0 in (
+        so_far.count + m,
+        inr (
+          omega (arith, long, more, no_header encoding old, add-mul so_far.count m width,
+              length-append new own),
+          [],
+          rw (lt-ltb encoding.version 5 old) refl,
+        ),
+        λ final table kept. leads-joined order encoding old (data_of final) new own so_far.count
+            long m start before.1 strings (so_far.again final table
+            (front-front before.1 strings final law.kept kept)) (alone final table kept),
+      )) in
+      rw (
+        w.is,
+        has-more before.0 own,
+        joined_parts-more StrOffsets before.0 StrOffsets own,
+      ) (record {
+        table = law.table;
+        fresh = λ none. absurd (true≢false none);
+        count = all.0;
+        fills = all.1;
+        kept = front-front start before.1 strings so_far.kept law.kept;
+        again = all.2;
+      })
+
+  made-step : (before : Parts) (s : Used) (next : Parts) → MadeBy before
+      → (stands_once source s.kind && has_part s.kind before.0) ≡ false → Adds source before s
+      next → MadeBy next
+  made-step before s next so_far once (inl (o, w)) =
+      made-rewritten before s.bytes next so_far (λ standard. not-there (is_package source.indexes)
+      (leb 5 encoding.version) (has_part StrOffsets before.0) standard
+      (rw (is-same s.kind StrOffsets o) at once)) w
+  made-step before s next so_far once (inr (inl (o, c, is))) =
+      rw (
+        is,
+        has-other before.0 s.kind s.bytes o,
+        joined_parts-other StrOffsets before.0 s.kind s.bytes o,
+      ) so_far
+  made-step before s next so_far once (inr (inr (o, c, is))) = rw is so_far
+
+  -- the part of an input gives the strings after it
+  part-made : (parts : Contents) (after : List (List ℕ)) → IsTable start
+      → parts_of source start ≡ Ok (parts, after) → MadeBy (parts, after)
+  unfolding remapped_entries
+  part-made parts after table h = each-part source (λ before ss now. MadeBy before → MadeBy now)
+      (λ now so_far. so_far)
+      (λ before s next ss now made rest later so_far.
+      later (made-step before s next so_far made.once made.adds))
+      source.object.sections ([], start) (parts, after) h (record {
+        table = table;
+        fresh = λ none. (refl, refl);
+        count = 0;
+        fills = inl (refl, refl);
+        kept = take-length start;
+        again = λ final final_table kept. ([], refl);
+      })
+
+  -- without bytes the strings stay; else they are a whole range, which gives the strings again
+  made-fills : (new : List ℕ) (after : List (List ℕ)) (has : Bool) → Made new after has
+      → ((length new ≡ 0) × (after ≡ start)) ⊎ (IsWholeRange order encoding (length new)
+      × ((final : List (List ℕ)) → IsTable final → take (length after) final ≡ after
+      → (written : List ℕ) × (remapped order encoding (data_of final) new (length new) start
+      ≡ Ok (written, after))))
+  unfolding remapped_entries
+  made-fills new after has made = by-bool _ (eqb (length new) 0)
+      (λ none.
+      let empty = eqb-true (length new) 0 none in
+      let no : made.count ≡ 0 = ⊎_elim (λ n. n.1) (λ f. sym (count-again encoding.format
+      (length new) (header_size encoding) made.count f.0) ∙ ap (entry_count encoding) empty
+      ∙ no-entries encoding) made.fills in
+      let lead = rw no at (made.again after made.table (take-length after)) in
+      inl (empty, ap (λ (w : List ℕ × List (List ℕ)). w.1)
+      (sym (same-ok {E = ErrorValue} ([], start) (lead.0, after) lead.1))))
+      (λ some.
+      let there = eqb-false (length new) 0 some in
+      elim made.fills [
+        | inl none ↦ absurd (there none.0)
+        | inr f ↦
+            let whole : IsWholeRange order encoding (length new) = record {
+              some = omega (arith, there);
+              count = made.count;
+              long = f.0;
+              header = f.1;
+              written = f.2;
+            } in
+            inr (whole, λ final table kept. let lead = made.again final table kept in (
+              whole.header ++ entry_bytes order encoding.format lead.0,
+              whole-remapped order encoding (data_of final) new (length new) start whole
+                  ∙ rw lead.1 refl,
+            ))
+      ])
 
 -- ---- rows that are added
 
@@ -42,54 +238,38 @@ pub weaker : (P Q : IndexEntry → Type 0) → ((row : IndexEntry) → P row →
 weaker P Q f [] h = tt
 weaker P Q f (r ∷ rs) h = (f r h.0, weaker P Q f rs h.1)
 
-among-more : (range more : Contribution) (ranges : List Contribution) → IsAmong range ranges
-    → IsAmong range (ranges ++ more ∷ [])
-among-more range more [] h = absurd h
-among-more range more (r ∷ rs) (inl e) = inl e
-among-more range more (r ∷ rs) (inr h) = inr (among-more range more rs h)
+-- what holds of one of a list, or of another
+abbrev Any : {X : Type 0} → (X → Type 0) → List X → Type 0
+Any P [] = ⊥
+Any P (x ∷ xs) = P x ⊎ Any P xs
 
-among-last : (range : Contribution) (ranges : List Contribution)
-    → IsAmong range (ranges ++ range ∷ [])
-among-last range [] = inl refl
-among-last range (r ∷ rs) = inr (among-last range rs)
+any-left : {X : Type 0} (P : X → Type 0) (xs ys : List X) → Any P xs → Any P (xs ++ ys)
+any-left P [] ys h = absurd h
+any-left P (x ∷ xs) ys (inl e) = inl e
+any-left P (x ∷ xs) ys (inr h) = inr (any-left P xs ys h)
+
+any-right : {X : Type 0} (P : X → Type 0) (xs ys : List X) → Any P ys → Any P (xs ++ ys)
+any-right P [] ys h = h
+any-right P (x ∷ xs) ys h = inr (any-right P xs ys h)
+
+any-either : {X : Type 0} (P : X → Type 0) (xs ys : List X) → Any P (xs ++ ys)
+    → Any P xs ⊎ Any P ys
+any-either P [] ys h = inr h
+any-either P (x ∷ xs) ys (inl e) = inl (inl e)
+any-either P (x ∷ xs) ys (inr h) =
+    ⊎_elim (λ k. inl (inr k)) (λ k. inr k) (any-either P xs ys h)
 
 tile-append : (o : Endianness) (e : Encoding) (at : ℕ) (rs : List Contribution) (end : ℕ)
     (r : Contribution) → Tile o e at rs end → r.offset.0 ≡ end → IsWholeRange o e r.size
     → Tile o e at (rs ++ r ∷ []) (end + r.size)
 tile-append o e at [] end r h from whole = (from ∙ sym h, whole, ap (λ n. n + r.size) h)
-tile-append o e at (x ∷ rs) end r h from whole = (
-  h.0,
-  h.1,
-  tile-append o e (at + x.size) rs end
-      r h.2 from whole,
-)
+tile-append o e at (x ∷ rs) end r h from whole =
+    (h.0, h.1, tile-append o e (at + x.size) rs end r h.2 from whole)
 
--- ---- some row has each range
-
-some-before : (range : Contribution) (rows : List IndexEntry) (row : IndexEntry)
-    → IsOfSome range rows → IsOfSome range (rows ++ row ∷ [])
-some-before range [] row h = absurd h
-some-before range (r ∷ rs) row (inl e) = inl e
-some-before range (r ∷ rs) row (inr h) = inr (some-before range rs row h)
-
-some-last : (range : Contribution) (rows : List IndexEntry) (row : IndexEntry)
-    → row.debug_str_offsets ≡ Some range → IsOfSome range (rows ++ row ∷ [])
-some-last range [] row h = inl h
-some-last range (r ∷ rs) row h = inr (some-last range rs row h)
-
-among-by : (P : Contribution → Type 0) (ranges : List Contribution) (more : Contribution)
-    → ((r : Contribution) → IsAmong r ranges → P r) → P more
-    → (r : Contribution) → IsAmong r (ranges ++ more ∷ []) → P r
-among-by P [] more h own r (inl e) = subst P (sym e) own
-among-by P [] more h own r (inr k) = absurd k
-among-by P (x ∷ xs) more h own r (inl e) = h r (inl e)
-among-by P (x ∷ xs) more h own r (inr k) = among-by P xs more (λ z l. h z (inr l)) own r k
-
-gives-same : (o p : Endianness) (encoding : Encoding) (xs ys : List ℕ) (ranges : List Contribution)
-    (s t : List (List ℕ)) → p ≡ o → ys ≡ xs → t ≡ s → GiveStrings o encoding xs ranges s
+gives-same : {o p : Endianness} {xs ys : List ℕ} {s t : List (List ℕ)} (encoding : Encoding)
+    (ranges : List Contribution) → p ≡ o → ys ≡ xs → t ≡ s → GiveStrings o encoding xs ranges s
     → GiveStrings p encoding ys ranges t
-gives-same o p encoding xs ys ranges s t order bytes strings gives =
-    rw (order, bytes, strings) gives
+gives-same encoding ranges order bytes strings gives = rw (order, bytes, strings) gives
 
 -- ---- a plain object that was added
 
@@ -98,8 +278,8 @@ module _ (names : NamesTheSameLaw) (source : Source) (before now : InProgress)
     (same : source.object.order ≡ before.file.order) (h : with_source source before ≡ Ok now)
     (more : length before.rows < length now.rows)
     (tiled : HasTiledOffsets source.encoding before) where
-  abbrev order : Endianness
-  order = before.file.order
+  abbrev now_order : Endianness
+  now_order = before.file.order
 
   abbrev a : PlainAdded source before now
   a = plain-added source before now h
@@ -117,89 +297,80 @@ module _ (names : NamesTheSameLaw) (source : Source) (before now : InProgress)
   part = part-made names source plain before.strings a.parts a.after table a.parts_are
 
   -- where a range is put, the ranges give the strings after it
-  more-strings : IsWholeRange order source.encoding (length joined)
-      → GiveStrings order source.encoding (old ++ joined) (tiled.ranges ++ range ∷ []) a.after
-  more-strings whole final final_table front =
-      let lead = subst (λ o. Lead o source.encoding (data_of final) joined
-      (entry_count source.encoding (length joined)) before.strings a.after) same
-      (part.again final final_table front) in
-      let one = range-leads order source.encoding (data_of final) joined before.strings a.after
-      whole lead in
-      grown order source.encoding (data_of final) old joined 0 0 (length old) tiled.ranges
+  more-strings : ((final : List (List ℕ)) → IsTable final → take (length a.after) final ≡ a.after
+      → (written : List ℕ) × (remapped source.object.order source.encoding (data_of final) joined
+      (length joined) before.strings ≡ Ok (written, a.after)))
+      → GiveStrings now_order source.encoding (old ++ joined) (tiled.ranges ++ range ∷ []) a.after
+  more-strings gives final final_table front =
+      let one = gives final final_table front in
+      grown now_order source.encoding (data_of final) old joined 0 0 (length old) tiled.ranges
       (range ∷ []) [] before.strings a.after refl tiled.tile (omega arith)
       (tiled.strings final final_table
       (front-front before.strings a.after final part.kept front))
-      (turn order source.encoding (data_of final) (old ++ joined) (length old) range []
-      before.strings a.after a.after (one.0, rw (own-bytes old joined) one.1)
-      (no-turn order source.encoding (data_of final) (old ++ joined) (length old + length joined)
+      (turn now_order source.encoding (data_of final) (old ++ joined) (length old) range []
+      before.strings a.after a.after (one.0, rw (own-bytes old joined) (subst (λ o. remapped o
+      source.encoding (data_of final) joined (length joined) before.strings ≡ Ok (one.0, a.after))
+      same one.1))
+      (no-turn now_order source.encoding (data_of final) (old ++ joined)
+          (length old + length joined)
       a.after))
 
-  -- what these ranges are of the section and the strings before them, and of the rows
+  -- what these ranges more are of the section and the strings before them, and of the rows
   made-so : (ranges : List Contribution)
-      → Tile order source.encoding 0 ranges (length old + length joined)
-      → ((row : IndexEntry) → HasOneOf tiled.ranges row → HasOneOf ranges row)
+      → Tile now_order source.encoding 0 (tiled.ranges ++ ranges) (length old + length joined)
       → ((r : Contribution) → range_put StrOffsets joined before.file.contents ≡ Some r
       → IsAmong r ranges)
       → ((r : Contribution) → IsAmong r ranges → IsOfSome r now.rows)
-      → GiveStrings order source.encoding (old ++ joined) ranges a.after
+      → GiveStrings now_order source.encoding (old ++ joined) (tiled.ranges ++ ranges) a.after
       → HasTiledOffsets source.encoding now
-  made-so ranges tile wider new named gives =
+  made-so ranges tile new named gives =
       let q = parted source before now a in
+      let all = tiled.ranges ++ ranges in
       let content : content_of StrOffsets now.file.contents ≡ old ++ joined =
       content-added source before now a StrOffsets refl in
       let order_is = order-added source before now a in
       let strings_are : now.strings ≡ a.after =
       ap (λ (p : InProgress). p.strings) a.is ∙ units-strings q a.new.units in
       record {
-        ranges = ranges;
+        ranges = all;
         tile = rw (order_is, content, length-append old joined) tile;
-        rows = rw a.is (each-added (λ p. EachRow (HasOneOf ranges) p.rows)
-            (RowHas (HasOneOf ranges))
-            (λ p u has rows. row-append (HasOneOf ranges) p.rows (row_at u.1.row p.file.contents u.0
+        rows = rw a.is (each-added (λ p. EachRow (HasOneOf all) p.rows) (RowHas (HasOneOf all))
+            (λ p u has rows. row-append (HasOneOf all) p.rows (row_at u.1.row p.file.contents u.0
             u.1.bytes u.1.place) rows (has p.file.contents)) q a.new.units
             (rows-share source before now a plain StrOffsets refl (λ part. (r : Contribution)
-            → part ≡ Some r → IsAmong r ranges) new)
-            (weaker (HasOneOf tiled.ranges) (HasOneOf ranges) wider before.rows tiled.rows));
-        named = named;
-        strings = gives-same order now.file.order source.encoding (old ++ joined)
-            (content_of StrOffsets now.file.contents) ranges a.after now.strings order_is content
-            strings_are gives;
+            → part ≡ Some r → IsAmong r all)
+            (λ r e. any-right (λ x. r ≡ x) tiled.ranges ranges (new r e)))
+            (weaker (HasOneOf tiled.ranges) (HasOneOf all) (λ row has r e.
+            any-left (λ x. r ≡ x) tiled.ranges ranges (has r e)) before.rows tiled.rows));
+        named = λ r h. ⊎_elim (λ k. rw a.is (each-unit (λ p. IsOfSome r p.rows) (λ p u so. any-left
+            (λ (row : IndexEntry). row.debug_str_offsets ≡ Some r) p.rows
+            (row_at u.1.row p.file.contents u.0 u.1.bytes u.1.place ∷ []) so) q a.new.units
+            (tiled.named r k))) (named r) (any-either (λ x. r ≡ x) tiled.ranges ranges h);
+        strings = gives-same source.encoding all order_is content strings_are gives;
       }
-
-  named-before : (r : Contribution) → IsAmong r tiled.ranges → IsOfSome r now.rows
-  named-before r there =
-      rw a.is (each-unit (λ p. IsOfSome r p.rows) (λ p u k. some-before r p.rows
-      (row_at u.1.row p.file.contents u.0 u.1.bytes u.1.place) k) (parted source before now a)
-      a.new.units (tiled.named r there))
 
   pub tiled-kept : HasTiledOffsets source.encoding now
   tiled-kept = elim (made-fills names source plain before.strings joined a.after
       (has_part StrOffsets a.parts) part) [
         | inl none ↦
-            let empty = no-bytes joined none in
-            let same_strings =
-            unchanged names source plain before.strings joined a.after
-            (has_part StrOffsets a.parts) none part in
-            made-so tiled.ranges (rw (none, add-zero (length old)) tiled.tile) (λ row has. has)
-            (λ r e. absurd (none-some r (rw none at e)))
-            named-before (gives-same order order source.encoding old (old ++ joined) tiled.ranges
-            before.strings a.after refl (ap (λ l. old ++ l) empty ∙ append-nil old) same_strings
-            tiled.strings)
+            made-so [] (rw (append-nil tiled.ranges, none.0, add-zero (length old)) tiled.tile)
+            (λ r e. absurd (none-some r (rw none.0 at e))) (λ r h. absurd h)
+            (rw (append-nil tiled.ranges) (gives-same source.encoding tiled.ranges refl
+            (ap (λ l. old ++ l) (no-bytes joined none.0) ∙ append-nil old) none.1 tiled.strings))
         | inr whole ↦
-            let is_whole = subst (λ o. IsWholeRange o source.encoding (length joined)) same whole in
-            let put = place-put StrOffsets joined before.file.contents whole.some in
-            made-so (tiled.ranges ++ range ∷ [])
-            (tile-append order source.encoding 0 tiled.ranges (length old) range tiled.tile refl
-            is_whole)
-            (λ row has r e. among-more r range tiled.ranges (has r e))
-            (λ r e. subst (λ x. IsAmong x (tiled.ranges ++ range ∷ []))
-            (same_Some range r (sym put ∙ e)) (among-last range tiled.ranges))
-            (among-by (λ r. IsOfSome r now.rows) tiled.ranges range named-before
+            let is_whole = subst (λ o. IsWholeRange o source.encoding (length joined)) same
+            whole.0 in
+            let put = place-put StrOffsets joined before.file.contents whole.0.some in
+            made-so (range ∷ []) (tile-append now_order source.encoding 0 tiled.ranges (length old)
+            range tiled.tile refl is_whole)
+            (λ r e. inl (same_Some r range (sym e ∙ put)))
+            (λ r h. ⊎_elim (λ e. subst (λ x. IsOfSome x now.rows) (sym e)
             (once-more source before now a more (λ p. IsOfSome range p.rows)
             (RowHas (λ row. row.debug_str_offsets ≡ Some range))
-            (λ p u has. some-last range p.rows (row_at u.1.row p.file.contents u.0
-            u.1.bytes u.1.place)
-            (has p.file.contents))
+            (λ p u has. any-right (λ (row : IndexEntry). row.debug_str_offsets ≡ Some range) p.rows
+            (row_at u.1.row p.file.contents u.0 u.1.bytes u.1.place ∷ [])
+            (inl (has p.file.contents)))
             (rows-share source before now a plain StrOffsets refl (λ part. part ≡ Some range) put)))
-            (more-strings is_whole)
+            (λ k. absurd k) h)
+            (more-strings whole.1)
       ]
