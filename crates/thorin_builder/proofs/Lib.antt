@@ -3,6 +3,4 @@ pub mod NewUnitLemmas
 pub mod Extending
 pub mod Running
 pub mod AddedAgain
-pub mod Agreeing
-pub mod UnitsLater
-pub mod StringsLater
+pub mod Later

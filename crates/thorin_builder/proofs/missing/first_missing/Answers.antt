@@ -1,8 +1,7 @@
-use Rattle.std.proofs.Common.{◌≡◌, ◌∙◌, ℕ, ◌+◌, Bool, true, false, cond, List, ◌∷◌, drop, length}
-use Rattle.std.proofs.Common.{Some, None, sym, refl, inl, inr, rules, arith}
+use Rattle.std.proofs.Common.{◌≡◌, ◌∙◌, ℕ, ◌+◌, Bool, true, false, cond, List, ◌∷◌, drop}
+use Rattle.std.proofs.Common.{Some, sym, refl, rules, arith}
 use Rattle.std.specs.Prelude.{filter, slice_get}
-use Rattle.std.proofs.lemmas.Bool.{cases_lt}
-use Rattle.std.proofs.lemmas.List.{at_drop_more, at_drop_all}
+use Rattle.std.proofs.lemmas.List.{at_drop_more}
 use Rattle.std.proofs.lemmas.Option.{get_or_from_slice_get, slice_get_within}
 use Rattle.dwp_base.proofs.Finds.{slice_get_none}
 use Rattle.thorin_join.specs.Builder.{is_missing}
@@ -18,21 +17,12 @@ first-left p xs i x b at is =
     at_drop_more (filter p) xs i x (slice_get_within xs i x at)
     ∙ rw (get_or_from_slice_get xs i x x at, is) refl
 
--- none is left behind the last
-none-left : {A : Type 0} (p : A → Bool) (xs : List A) (i : ℕ) → slice_get xs i ≡ None
-    → filter p (drop i xs) ≡ filter p (drop (i + 1) xs)
-none-left p xs i at = elim (cases_lt i (length xs)) [
-  | inl less ↦ absurd (slice_get_none xs i less at)
-  | inr past ↦ at_drop_all (filter p) xs i past
-      ∙ sym (at_drop_all (filter p) xs (i + 1) (omega arith))
-]
-
 pub returns-then-not-contains : goal.returns-then-not-contains
 returns-then-not-contains c =
     let names = c.args.contained.now.keys in
     let missing : is_missing names c.in-Some.target.now ≡ true =
-    missing-is c.in-Some.target.now names _ c.contains.ensures ∙ search
-        (rules, c.if-not-contains) in
+    missing-is c.in-Some.target.now names _ c.contains.ensures
+    ∙ search (rules, c.if-not-contains) in
     sym c.loop-place.invariant ∙ first-left (is_missing names) c.args.targets.now.keys
     c.loop-place.place c.in-Some.target.now true
     (search (rules, c.in-Some.ensures.key, c.get_index.ensures.key)) missing
@@ -49,7 +39,6 @@ loop-place-preserved c =
           w.in-Some.target.now false
           (search (rules, w.in-Some.ensures.key, c.get_index.ensures.key)) there)
           ∙ c.loop-place.invariant
-      | in_default w ↦
-          sym (none-left (is_missing names) c.args.targets.now.keys c.loop-place.place
-          (search (rules, w.in_default, c.get_index.ensures.key))) ∙ c.loop-place.invariant
+      | in_default w ↦ absurd (slice_get_none c.args.targets.now.keys c.loop-place.place
+          (omega arith) (search (rules, w.in_default, c.get_index.ensures.key)))
     ]

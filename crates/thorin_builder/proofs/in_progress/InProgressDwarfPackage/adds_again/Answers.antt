@@ -11,13 +11,13 @@ use Rattle.dwp_index.specs.Package.{part_of, place_of}
 use Rattle.dwp_table.specs.declared.object.DwarfObject.{DwarfObject}
 use Rattle.thorin_index.specs.Entries.{contribution_to}
 use Rattle.thorin_index.specs.declared.entry.IndexEntry.{IndexEntry}
-use Rattle.thorin_input.specs.Encodings.{encoding_of, own_encoding, file_encoding, one_encoding}
+use Rattle.thorin_input.specs.Encodings.{own_encoding, file_encoding, one_encoding}
 use Rattle.thorin_input.specs.Growing.{Contents, with_parts}
-use Rattle.thorin_input.specs.Indexes.{Source, indexes_of}
+use Rattle.thorin_input.specs.Indexes.{Source}
 use Rattle.thorin_input.specs.NewUnits.{New, new_units}
 use Rattle.thorin_input.specs.Parts.{parts_of}
 use Rattle.thorin_input.specs.Rows.{whole_row}
-use Rattle.thorin_input.specs.Used.{opened, input_file_of}
+use Rattle.thorin_input.specs.Used.{input_file_of}
 use Rattle.thorin_input.specs.View as view
 use Rattle.thorin_join.specs.Builder.{with_input, with_units, with_source_or_new, order_test}
 use Rattle.thorin_join.specs.State.{InProgress, kind_at, unit_bytes, held_units, adding}
@@ -30,8 +30,7 @@ use Rattle.thorin_builder.specs.StateView.{in_progress_of}
 use Rattle.thorin_builder.specs.declared.repeated.Repeated.{Repeated}
 use Rattle.thorin_builder.proofs.AddedAgain.{later-refl, with_again}
 use Rattle.thorin_builder.proofs.Extending.{with_source-is}
-use Rattle.thorin_builder.proofs.StringsLater.{parts-later}
-use Rattle.thorin_builder.proofs.UnitsLater.{units-later}
+use Rattle.thorin_builder.proofs.Later.{parts-later, units-later}
 use Rattle.thorin_builder.proofs.in_progress.InProgressDwarfPackage.adds_again.Goals as goal
 
 -- an input without units adds nothing
@@ -42,8 +41,7 @@ nothing-more made = ap (λ d. record made { differing = d }) (append-nil made.di
 pub returns-then-not-walked-clause-found : goal.returns-then-not-walked-clause-found
 unfolding own_encoding with_input
 returns-then-not-walked-clause-found c =
-    let file = elf c.in_ok-file.file in
-    let given : opened c.args.bytes.now ≡ Ok file = search (rules, c.in_ok-file.ensures) in
+    let given = c.in_ok-file.ensures in
     let none = sym c.over-walked.ensures.units ∙ c.if-not-walked.true in
     rw (c.new.ensures.items, c.new-then-not-walked.ensures.items) (record {
       own = None;
@@ -94,25 +92,21 @@ pub returns-clause-found : goal.returns-clause-found
 unfolding own_encoding file_encoding with_input with_units with_source_or_new
 returns-clause-found c =
     let made = in_progress_of c.args.self.now in
-    let file = elf c.in_ok-file.file in
     let source : Source = record {
       object = view.object c.in_ok-object.object;
       encoding = c.in_ok-encoding.encoding;
       indexes = view.indexes c.in_ok-indexes.indexes;
     } in
-    let given : opened c.args.bytes.now ≡ Ok file = search (rules, c.in_ok-file.ensures) in
+    let given = c.in_ok-file.ensures in
     let units = sym c.over-walked.ensures.units ∙ c.if-not-walked.false in
-    let object : input_file_of file ≡ Ok source.object =
+    let object : input_file_of (elf c.in_ok-file.file) ≡ Ok source.object =
     search (rules, c.over-walked.ensures.input, c.in_ok-object.was) in
-    let encoding : encoding_of source.object ≡ Ok source.encoding =
-    search (rules, c.in_ok-encoding.ensures) in
+    let encoding = c.in_ok-encoding.ensures in
     let order : source.object.order ≡ made.file.order =
     search (rules, c.endianness.ensures, c.ne.ensures, c.if-ne) in
-    let indexes : indexes_of source.object source.encoding ≡ Ok source.indexes =
-    search (rules, c.in_ok-indexes.ensures) in
-    IfOk-weaker c.source_adds_again.result _ _ (λ found known.
-        IfSome_then found known (λ again adds.
-    record {
+    let indexes = c.in_ok-indexes.ensures in
+    IfOk-weaker c.source_adds_again.result _ _
+    (λ found known. IfSome_then found known (λ again adds. record {
       own = one_encoding source.object source.encoding;
       own_is = rw (given, units, object, encoding) refl;
       adds = λ later after.
