@@ -1,7 +1,7 @@
 use Rattle.std.proofs.Common.{◌≡◌, ◌∙◌, ℕ, ap, map, sym, rules, List, ◌++◌, Ok}
 use Rattle.std.proofs.Math.Seq.{take-length}
 use Rattle.dwp_table.specs.declared.object.DebugTypeSignature.{DebugTypeSignature}
-use Rattle.thorin_input.specs.Growing.{Contents, with_parts}
+use Rattle.thorin_input.specs.Growing.{Contents}
 use Rattle.thorin_input.specs.View as view
 use Rattle.thorin_builder.specs.UnitView.{new_of}
 use Rattle.thorin_input.specs.NewUnits.{new_units}
@@ -63,9 +63,7 @@ returns-clause-meaning c =
     signatures c.args.self.now.differing.items c.in_ok-new.new.differing.items
     c.extend_from_slice.new.self.items
     (search (rules, c.in_ok-extend_from_slice.ensures.items, c.deref.ensures)) in
-    let file : c.put_parts.new.file ≡ record p.file {
-      contents = with_parts parts.0 p.file.contents;
-    } = search (rules, c.in_ok-put_parts.ensures.contents) in
+    let file = c.in_ok-put_parts.ensures.contents in
     let read : new_units (adding source p parts.0) ≡ Ok new =
     search (rules, c.in_ok-new.ensures, c.in_ok-whole.ensures.row) in
     let all : with_all p parts new ≡ in_progress_of c.add_units.new.self =

@@ -19,7 +19,7 @@ invariant_of-self-in-Some g c =
     let begun : old.begun ≡ Some made = ap begun_of c.in-Some.is in
     let known : AddsAgainTo bytes again old.begun =
     search (rules, c.requires.known.1, c.self.view_is) in
-    let added : now ≡ with_again again made = search (rules, c.in_ok-add_again.ensures.added) in
+    let added : now ≡ with_again again made = c.in_ok-add_again.ensures.added in
     let new : State = record old { begun = Some now; own = None } in
     let step = taken-known bytes again old made now begun known added in (
       c.self.invariant.0,
@@ -39,8 +39,7 @@ returns-clause-later g c =
           let made = in_progress_of w.in-Some.package in
           let now = in_progress_of w.add_again.new.self in
           let begun : old.begun ≡ Some made = search (rules, c.self.view_is, w.in-Some.is) in
-          let added : now ≡ with_again again made =
-          search (rules, w.in_ok-add_again.ensures.added) in
+          let added : now ≡ with_again again made = w.in_ok-add_again.ensures.added in
           let is : c.match-self.self.state.begun ≡ Some now = search (rules, w.self-is) in
           rw is (later-known bytes again old made now begun c.requires.known.1 added)
       | in_default w ↦

@@ -1,10 +1,10 @@
-use Rattle.std.proofs.Common.{◌≡◌, ◌∙◌, Bool, true, false, not, cond, sym, refl, rules, Ok}
+use Rattle.std.proofs.Common.{◌≡◌, ◌∙◌, Bool, true, false, not, cond, sym, refl}
 use Rattle.std.proofs.Common.{Option, Some, None}
 use Rattle.std.specs.Prelude.{is_some}
 use Rattle.std.proofs.lemmas.Bool.{le-ltb, lt-ltb}
 use Rattle.thorin_builder.specs.declared.in_progress.InProgressDwarfPackage.{InProgressDwarfPackage}
-use Rattle.thorin_join.specs.Builder.{State, with_input, with_own, own_after}
-use Rattle.thorin_input.specs.Encodings.{own_encoding, common}
+use Rattle.thorin_join.specs.Builder.{State, with_own, own_after}
+use Rattle.thorin_input.specs.Encodings.{common}
 use Rattle.dwp_bytes.specs.declared.encoding.Encoding.{Encoding}
 use Rattle.thorin_builder.specs.BuilderView.{building}
 use Rattle.thorin_builder.specs.StateView.{begun_of}
@@ -24,20 +24,14 @@ with-own (Some made) false own found h = refl
 
 -- a refused object leaves it so
 pub invariant_of-self : goal.invariant_of-self
-invariant_of-self g c =
-    let same : begun_of c.add_input.new.in_progress ≡ begun_of c.self.inside.in_progress =
-    search (rules, c.in_err-encoding.ensures.err) in
-    rw same c.self.invariant
+invariant_of-self g c = rw c.in_err-encoding.ensures.err c.self.invariant
 
 pub invariant_of-self-2 : goal.invariant_of-self-2
 invariant_of-self-2 g c =
     let old : State = (building c.self.inside).state in
     let now = begun_of c.add_input.new.in_progress in
     let found = c.in_ok-encoding.encoding in
-    let made : with_input c.args.bytes.now old.begun ≡ Ok now =
-    search (rules, c.in_ok-encoding.ensures.meaning) in
-    let encoding : own_encoding c.args.bytes.now ≡ Ok found =
-    search (rules, c.in_ok-encoding.ensures.own) in
+    let made = c.in_ok-encoding.ensures.meaning in
     let units = c.unit_count-units.result in
     let count = c.unit_count.result in
     let own : own_after old now found ≡ c.if-unit_count-units.self =
@@ -55,8 +49,8 @@ invariant_of-self-2 g c =
           (sym w.common.ensures ∙ sym w.self-is)
     ]) in
     let new : State = record old { begun = now; own = c.if-unit_count-units.self } in
-    let step = taken-as c.args.bytes.now old now found c.if-unit_count-units.self made encoding
-    own in (
+    let step = taken-as c.args.bytes.now old now found c.if-unit_count-units.self made
+    c.in_ok-encoding.ensures.own own in (
       c.self.invariant.0,
       c.inputs_are_joined.ensures.sound c.args.bytes.now old.begun now c.self.invariant.1 made,
       c.one_encoding_is_kept.ensures c.args.bytes.now old new c.self.invariant.1
@@ -69,9 +63,6 @@ pub returns-clause-later : goal.returns-clause-later
 returns-clause-later g c =
     let old = begun_of c.self.inside.in_progress in
     let now = begun_of c.add_input.new.in_progress in
-    let made : with_input c.args.bytes.now old ≡ Ok now =
-    search (rules, c.in_ok-encoding.ensures.meaning) in
-    let is : c.args.self.now.state.begun ≡ old = search (rules, c.self.view_is) in
-    rw is (joined-later c.args.bytes.now old now
-    c.in_ok-encoding.ensures.extends
-    (c.inputs_are_joined.ensures.joins c.args.bytes.now old now c.self.invariant.1 made))
+    rw (← c.self.view_is) (joined-later c.args.bytes.now old now c.in_ok-encoding.ensures.extends
+    (c.inputs_are_joined.ensures.joins c.args.bytes.now old now c.self.invariant.1
+    c.in_ok-encoding.ensures.meaning))

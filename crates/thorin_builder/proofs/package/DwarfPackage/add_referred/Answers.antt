@@ -1,7 +1,6 @@
 use Rattle.std.proofs.Common.{◌≡◌, refl, rules, Ok, Err, []}
 use Rattle.std.specs.Path.{path_bytes}
 use Rattle.thorin_errors.specs.declared.error.InputError.TheVariants.{Io, Memory}
-use Rattle.thorin_errors.specs.declared.error.MissingReferencedObjectBehaviour.TheVariants as behaviour
 use Rattle.thorin_builder.specs.Taking.{Outcome, PassesOver, TakesReferredFile, accepted_of}
 use Rattle.thorin_builder.proofs.AddedAgain.{are-taken-later, taken-remembered}
 use Rattle.thorin_builder.proofs.Extending.{on_ok-both}
@@ -49,13 +48,11 @@ failed g c outcome passes =
 
 pub returns-in-Skip-clause-taken : goal.returns-in-Skip-clause-taken
 returns-in-Skip-clause-taken g c =
-    let skips : c.args.missing ≡ behaviour.Skip = search (rules, c.in-Skip) in
-    failed g (goal.at.returns-in-Skip-clause-taken g c).In-Err-Io _ (rw skips refl)
+    failed g (goal.at.returns-in-Skip-clause-taken g c).In-Err-Io _ (rw c.in-Skip.is refl)
 
 pub returns-in-Error-clause-taken : goal.returns-in-Error-clause-taken
 returns-in-Error-clause-taken g c =
-    let stops : c.args.missing ≡ behaviour.Error = search (rules, c.in-Error) in
-    failed g (goal.at.returns-in-Error-clause-taken g c).In-Err-Io _ (rw stops refl)
+    failed g (goal.at.returns-in-Error-clause-taken g c).In-Err-Io _ (rw c.in-Error.is refl)
 
 pub returns-in-Err-Memory-clause-taken : goal.returns-in-Err-Memory-clause-taken
 returns-in-Err-Memory-clause-taken g c =

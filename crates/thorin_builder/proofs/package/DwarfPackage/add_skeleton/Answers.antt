@@ -1,10 +1,9 @@
-use Rattle.std.proofs.Common.{◌≡◌, ℕ, List, refl, rules, inl, inr, [], Ok, Err}
+use Rattle.std.proofs.Common.{ℕ, List, refl, rules, inl, inr, [], Ok, Err}
 use Rattle.std.proofs.lemmas.Result.{on_ok_weaker}
 use Rattle.thorin_errors.specs.declared.error.InputError.TheVariants.{Io, Memory}
 use Rattle.thorin_join.specs.Builder.{State}
 use Rattle.thorin_builder.specs.Repeated.{IsTaken}
 use Rattle.thorin_builder.specs.Taking.{Outcome, TakesReferredFile, TakesSkeleton, accepted_of}
-use Rattle.thorin_builder.specs.Taking.{with_target}
 use Rattle.thorin_builder.proofs.AddedAgain.{are-taken-later, target-kept, taken-found}
 use Rattle.thorin_builder.proofs.package.DwarfPackage.add_skeleton.Given.{Over}
 use Rattle.thorin_builder.proofs.package.DwarfPackage.add_skeleton.Goals.{In_ok-add_target, In-Some}
@@ -28,9 +27,7 @@ took : (g : Over) (c : goal.In_ok-add_target g) (outcome : Outcome) (new : State
     c.args.missing (c.args.named.target, c.args.named.path.now) c.args.self.now.state outcome new
     accepted
 took g c outcome new file =
-    let target : c.add_target.new.self.state ≡ with_target c.args.named.target
-    c.args.self.now.state = search (rules, c.in_ok-add_target.ensures.target) in
-    let moved = rw target at file in
+    let moved = rw c.in_ok-add_target.ensures.target at file in
     (moved.accepted, inr (inl (record {
       absent = search (rules, c.is_there.ensures, c.if-is_there);
       file = moved;
@@ -54,8 +51,8 @@ found : (g : Over) (c : goal.In-Some g)
 found g c = taken-found (g.R.InputReader.offer c.args.reader.now)
     c.args.known.now.taken.entries c.add_target.new.self.state.begun c.args.named.path.now
     c.in-Some.again.now (rw (← target-kept c.args.named.target c.args.self.now.state
-    c.add_target.new.self.state (search (rules, c.in_ok-add_target.ensures.target)))
-    c.requires.known) (search (rules, c.get.ensures.value, c.in-Some.is))
+    c.add_target.new.self.state c.in_ok-add_target.ensures.target) c.requires.known)
+    (search (rules, c.get.ensures.value, c.in-Some.is))
 
 pub add_again-requires : goal.add_again-requires
 add_again-requires g c =
@@ -83,7 +80,7 @@ returns-else-not-admits-clause-known g c =
     (g.R.InputReader.offer c.args.reader.now) c.args.known.now.taken.entries
     c.add_target.new.self.state.begun c.add_again.new.self.state.begun later
     (rw (← target-kept c.args.named.target c.args.self.now.state c.add_target.new.self.state
-    (search (rules, c.in_ok-add_target.ensures.target))) c.requires.known))
+    c.in_ok-add_target.ensures.target) c.requires.known))
     c.add_again.ensures.later
 
 pub returns-in-None-clause-taken : goal.returns-in-None-clause-taken

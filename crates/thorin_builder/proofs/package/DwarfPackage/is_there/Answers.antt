@@ -1,6 +1,5 @@
-use Rattle.std.proofs.Common.{◌≡◌, ◌∙◌, ap, refl, rules}
+use Rattle.std.proofs.Common.{◌∙◌, ap, refl}
 use Rattle.std.specs.List.{list_any}
-use Rattle.dwp_table.specs.declared.object.DwarfObject.TheVariants.{Compilation}
 use Rattle.thorin_input.specs.Names.{same_name}
 use Rattle.thorin_builder.proofs.Names.{among-is}
 use Rattle.thorin_builder.proofs.Running.{names-begun}
@@ -8,9 +7,7 @@ use Rattle.thorin_builder.proofs.package.DwarfPackage.is_there.Goals as goal
 
 pub returns-in-Compilation : goal.returns-in-Compilation
 returns-in-Compilation g c =
-    let is : c.args.target ≡ Compilation c.in-Compilation.field-0 =
-    search (rules, c.in-Compilation.is) in
     c.contains.ensures ∙ among-is c.args.target c.contained_units.result.now.keys
     ∙ ap (list_any (same_name c.args.target))
     (c.contained_units.ensures.names ∙ names-begun c.args.self.now.state)
-    ∙ rw is refl
+    ∙ rw c.in-Compilation.is refl

@@ -1,4 +1,4 @@
-use Rattle.std.proofs.Common.{◌≡◌, ◌∙◌, sym, subst, refl, rules, true, true≢false, Some, None}
+use Rattle.std.proofs.Common.{◌≡◌, ◌∙◌, sym, refl, true, true≢false, Some, None}
 use Rattle.std.specs.Option.{is_some}
 use Rattle.thorin_again.specs.OwnUnits.{HoldsOwn, HasOneEncoding}
 use Rattle.thorin_join.specs.Builder.{State}
@@ -20,7 +20,5 @@ one-of state holds there = (elim state.own as (λ own. state.own ≡ own → is_
 
 pub returns-then-is_some-clause-encoding : goal.returns-then-is_some-clause-encoding
 returns-then-is_some-clause-encoding g c =
-    let state : State = (building c.self.inside).state in
-    let is : state ≡ c.args.self.now.state = search (rules, c.self.view_is) in
-    λ h. subst HasOneEncoding is
-    (one-of state c.self.invariant.2 (sym c.is_some.ensures ∙ c.if-is_some.true))
+    λ h. rw (← c.self.view_is) (one-of (building c.self.inside).state c.self.invariant.2
+    (sym c.is_some.ensures ∙ c.if-is_some.true))
