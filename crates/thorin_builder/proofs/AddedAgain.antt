@@ -116,11 +116,7 @@ module _ (offer : Offer) where
       → IsLaterBegun begun now → AreTaken offer es begun → AreTaken offer es now
   are-taken-later [] begun now h k = tt
   are-taken-later (e ∷ es) begun now h k = (
-    record {
-      bytes = k.0.bytes;
-      may = k.0.may;
-      adds = again-later k.0.bytes e.1 begun now h k.0.adds;
-    },
+    record { bytes = k.0.bytes; may = k.0.may; adds = again-later _ e.1 begun now h k.0.adds },
     are-taken-later es begun now h k.1,
   )
 

@@ -1,5 +1,5 @@
 use Rattle.std.proofs.Common.{◌≡◌, ◌∙◌, ℕ, ◌+◌, Bool, true, false, cond, List, ◌∷◌, drop}
-use Rattle.std.proofs.Common.{Some, sym, refl, rules, arith}
+use Rattle.std.proofs.Common.{Some, ap, not, sym, refl, rules, arith}
 use Rattle.std.specs.Prelude.{filter, slice_get}
 use Rattle.std.proofs.lemmas.List.{at_drop_more}
 use Rattle.std.proofs.lemmas.Option.{get_or_from_slice_get, slice_get_within}
@@ -20,9 +20,8 @@ first-left p xs i x b at is =
 pub returns-then-not-contains : goal.returns-then-not-contains
 returns-then-not-contains c =
     let names = c.args.contained.now.keys in
-    let missing : is_missing names c.in-Some.target.now ≡ true =
-    missing-is c.in-Some.target.now names _ c.contains.ensures
-    ∙ search (rules, c.if-not-contains) in
+    let missing = missing-is c.in-Some.target.now names _ c.contains.ensures
+    ∙ ap not c.if-not-contains.true in
     sym c.loop-place.invariant ∙ first-left (is_missing names) c.args.targets.now.keys
     c.loop-place.place c.in-Some.target.now true
     (search (rules, c.in-Some.ensures.key, c.get_index.ensures.key)) missing
@@ -32,9 +31,8 @@ loop-place-preserved c =
     let names = c.args.contained.now.keys in
     elim c.match-get_index.branch [
       | in-Some+else-not-contains w ↦
-          let there : is_missing names w.in-Some.target.now ≡ false =
-          missing-is w.in-Some.target.now names _ w.contains.ensures
-          ∙ search (rules, w.if-not-contains) in
+          let there = missing-is w.in-Some.target.now names _ w.contains.ensures
+          ∙ ap not w.if-not-contains.false in
           sym (first-left (is_missing names) c.args.targets.now.keys c.loop-place.place
           w.in-Some.target.now false
           (search (rules, w.in-Some.ensures.key, c.get_index.ensures.key)) there)

@@ -14,13 +14,12 @@ use Rattle.thorin_index.specs.declared.entry.IndexEntry.{IndexEntry}
 use Rattle.thorin_input.specs.Encodings.{own_encoding, file_encoding, one_encoding}
 use Rattle.thorin_input.specs.Growing.{Contents, with_parts}
 use Rattle.thorin_input.specs.Indexes.{Source}
-use Rattle.thorin_input.specs.NewUnits.{New, new_units}
+use Rattle.thorin_input.specs.NewUnits.{New}
 use Rattle.thorin_input.specs.Parts.{parts_of}
-use Rattle.thorin_input.specs.Rows.{whole_row}
 use Rattle.thorin_input.specs.Used.{input_file_of}
 use Rattle.thorin_input.specs.View as view
 use Rattle.thorin_join.specs.Builder.{with_input, with_units, with_source_or_new, order_test}
-use Rattle.thorin_join.specs.State.{InProgress, kind_at, unit_bytes, held_units, adding}
+use Rattle.thorin_join.specs.State.{InProgress, kind_at, unit_bytes, held_units}
 use Rattle.thorin_join.specs.State.{with_source}
 use Rattle.thorin_join.specs.State.{with_all, with_new_units}
 use Rattle.thorin_join.proofs.Parts.Appended.{content-with_parts, parts-none}
@@ -58,13 +57,10 @@ unfolding with_all with_new_units
 source-again source again made later h k =
     let parts = map view.part again.parts.items in
     let new : New = record { units = []; differing = map (λ s. s.0) again.differing.items } in
-    let units : new_units (adding source later parts) ≡ Ok new =
-    rw k.held (units-later source (whole_row source.encoding made.file.contents parts)
-    (whole_row source.encoding later.file.contents parts) (held_units made) k.more new
-    h.units refl) in
     with_source-is source later (parts, later.strings) new
     (parts-later source made.strings later.strings (parts, made.strings) h.parts k.strings)
-    h.abbreviations units
+    h.abbreviations
+    (rw k.held (units-later source _ _ (held_units made) k.more new h.units refl))
 
 -- units keep their bytes, since no part of an input is of a section of units
 held-apart : (source : Source) (strings : List (List ℕ)) (parts : Contents)

@@ -1,11 +1,9 @@
-use Rattle.std.proofs.Common.{◌≡◌, ◌∙◌, ℕ, ap, map, sym, rules, List, ◌++◌, Ok}
+use Rattle.std.proofs.Common.{◌≡◌, ◌∙◌, ℕ, ap, map, sym, rules, List, Ok}
 use Rattle.std.proofs.Math.Seq.{take-length}
-use Rattle.dwp_table.specs.declared.object.DebugTypeSignature.{DebugTypeSignature}
 use Rattle.thorin_input.specs.Growing.{Contents}
 use Rattle.thorin_input.specs.View as view
 use Rattle.thorin_builder.specs.UnitView.{new_of}
-use Rattle.thorin_input.specs.NewUnits.{new_units}
-use Rattle.thorin_join.specs.State.{Extends, adding, with_all, with_new_units}
+use Rattle.thorin_join.specs.State.{Extends, with_all, with_new_units}
 use Rattle.thorin_builder.specs.StateView.{in_progress_of}
 use Rattle.thorin_builder.proofs.Extending.{grown-extends, strings-extend, signatures-kept}
 use Rattle.thorin_builder.proofs.Extending.{with_source-is, signatures}
@@ -58,17 +56,13 @@ returns-clause-meaning c =
     let parts : Contents × List (List ℕ) =
     (map view.part c.in_ok-parts.parts.items, c.parts_of.new.strings) in
     let new = new_of c.in_ok-new.new in
-    let more : map (λ (s : DebugTypeSignature). s.0) c.extend_from_slice.new.self.items ≡
-    p.differing ++ new.differing =
-    signatures c.args.self.now.differing.items c.in_ok-new.new.differing.items
+    let more = signatures c.args.self.now.differing.items c.in_ok-new.new.differing.items
     c.extend_from_slice.new.self.items
     (search (rules, c.in_ok-extend_from_slice.ensures.items, c.deref.ensures)) in
     let file = c.in_ok-put_parts.ensures.contents in
-    let read : new_units (adding source p parts.0) ≡ Ok new =
-    search (rules, c.in_ok-new.ensures, c.in_ok-whole.ensures.row) in
     let all : with_all p parts new ≡ in_progress_of c.add_units.new.self =
+    let strings = c.parts_of.new.strings in
     sym (c.in_ok-add_units.ensures.meaning ∙ (λ i. with_new_units
-    (record p { file = file i; strings = c.parts_of.new.strings; differing =
-        more i }) new.units)) in
-    with_source-is source p parts new c.in_ok-parts.ensures.meaning (search (rules)) read
-    ∙ ap Ok all
+    (record p { file = file i; strings = strings; differing = more i }) new.units)) in
+    with_source-is source p parts new c.in_ok-parts.ensures.meaning (search (rules))
+    (search (rules, c.in_ok-new.ensures, c.in_ok-whole.ensures.row)) ∙ ap Ok all

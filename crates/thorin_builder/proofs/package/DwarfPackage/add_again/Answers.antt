@@ -1,6 +1,5 @@
 use Rattle.std.proofs.Common.{◌≡◌, ap, rules, Some, None}
 use Rattle.thorin_join.specs.Builder.{State}
-use Rattle.thorin_builder.specs.Repeated.{AddsAgainTo}
 use Rattle.thorin_builder.specs.BuilderView.{building}
 use Rattle.thorin_builder.specs.StateView.{in_progress_of, begun_of}
 use Rattle.thorin_builder.proofs.AddedAgain.{input-known, taken-known, later-known, later-same}
@@ -17,8 +16,7 @@ invariant_of-self-in-Some g c =
     let made = in_progress_of c.in-Some.package in
     let now = in_progress_of c.add_again.new.self in
     let begun : old.begun ≡ Some made = ap begun_of c.in-Some.is in
-    let known : AddsAgainTo bytes again old.begun =
-    search (rules, c.requires.known.1, c.self.view_is) in
+    let known = rw (← c.self.view_is) at c.requires.known.1 in
     let added : now ≡ with_again again made = c.in_ok-add_again.ensures.added in
     let new : State = record old { begun = Some now; own = None } in
     let step = taken-known bytes again old made now begun known added in (
