@@ -1,25 +1,18 @@
 -- A package that loses nothing of what it had.
-use Rattle.std.proofs.Common.{◌≡◌, ◌∙◌, ℕ, true, false, List, ◌++◌, length, take, map}
-use Rattle.std.proofs.Common.{refl, Ok, Err, Result, true≢false}
+use Rattle.std.proofs.Common.{◌≡◌, ℕ, true, false, List, [], ◌∷◌, ◌++◌, length, take, map}
+use Rattle.std.proofs.Common.{refl, sym, Ok, Err, Result, true≢false}
 use Rattle.std.specs.Result.{OnOk, OnErr, is_err}
-use Rattle.std.proofs.lemmas.List.{map-append, take-append-le}
-use Rattle.std.proofs.Math.Seq.{take-length}
+use Rattle.std.proofs.lemmas.List.{append-nil, map-append}
+use Rattle.std.proofs.Math.Seq.{take-append_seam, take-length}
 use Rattle.dwp_elf.specs.FileText.{Object as File}
 use Rattle.dwp_table.specs.declared.object.DebugTypeSignature.{DebugTypeSignature}
-use Rattle.thorin_input.specs.Growing.{Contents, IsGrown, with_parts}
+use Rattle.thorin_input.specs.Growing.{Contents, Begins, IsGrown}
 use Rattle.thorin_input.specs.Indexes.{Source}
 use Rattle.thorin_input.specs.NewUnits.{New, new_units}
 use Rattle.thorin_input.specs.Parts.{parts_of}
-use Rattle.thorin_join.specs.State.{InProgress, Extends, with_source, with_all, with_new_units}
+use Rattle.thorin_join.specs.State.{InProgress, Extends, with_source, with_all}
 use Rattle.thorin_join.specs.State.{abbreviations_test, adding}
 use Rattle.thorin_input.specs.Used.{InputFile}
-use Rattle.thorin_index.proofs.RowLemmas.{at_least}
-use Rattle.thorin_builder.proofs.Grown.{is_grown-refl}
-
--- what stands at the front of a list stays there where more is added behind
-pub front-append : {A : Type 0} (a b x : List A) → take (length a) b ≡ a
-    → take (length a) (b ++ x) ≡ a
-front-append a b x h = take-append-le (length a) b x (at_least a b h) ∙ h
 
 -- the signatures of type units, once more are added
 abbrev signatures_of : List DebugTypeSignature → List ℕ
@@ -31,8 +24,16 @@ signatures a b n h = rw h (map-append (λ (s : DebugTypeSignature). s.0) a b)
 
 pub signatures-kept : (a b n : List DebugTypeSignature) → n ≡ a ++ b
     → take (length (signatures_of a)) (signatures_of n) ≡ signatures_of a
-signatures-kept a b n h =
-    rw (signatures a b n h) (front-append (signatures_of a) (signatures_of a) _ (take-length _))
+signatures-kept a b n h = rw (signatures a b n h) (take-append_seam (signatures_of a) _)
+
+-- a file has what it had, and so has a package
+begins-refl : (a : Contents) → Begins a a
+begins-refl [] = tt
+begins-refl (c ∷ cs) = (refl, record { rest = []; is = sym (append-nil c.1) }, begins-refl cs)
+
+is_grown-refl : (o : File) → IsGrown o o
+is_grown-refl o =
+    record { class = refl; machine = refl; order = refl; contents = begins-refl o.contents }
 
 pub extends-refl : (p : InProgress) → Extends p p
 extends-refl p = record {
@@ -43,22 +44,21 @@ extends-refl p = record {
 }
 
 -- a file that grew, and more strings and signatures
-pub grown-extends : (p : InProgress) (f : File) (strings : List (List ℕ)) (differing : List ℕ)
+pub grown-extends : {p : InProgress} {f : File} {strings : List (List ℕ)} {differing : List ℕ}
     → ((before : File) → IsGrown before p.file → IsGrown before f)
     → take (length p.strings) strings ≡ p.strings
     → take (length p.differing) differing ≡ p.differing
     → Extends p (record p { file = f; strings = strings; differing = differing })
-grown-extends p f strings differing grown kept more = record {
+grown-extends {p = p} grown kept more = record {
   file = grown p.file (is_grown-refl p.file);
   strings = kept;
   rows = take-length p.rows;
   differing = more;
 }
 
-pub strings-extend : (p : InProgress) (strings : List (List ℕ))
+pub strings-extend : {p : InProgress} {strings : List (List ℕ)}
     → take (length p.strings) strings ≡ p.strings → Extends p (record p { strings = strings })
-strings-extend p strings kept =
-    grown-extends p p.file strings p.differing (λ before h. h) kept (take-length p.differing)
+strings-extend {p = p} kept = grown-extends (λ before h. h) kept (take-length p.differing)
 
 abbreviations-there : (object : InputFile) → object.has_abbreviations ≡ true
     → abbreviations_test object ≡ Ok tt
@@ -74,18 +74,6 @@ pub with_source-is : (source : Source) (p : InProgress) (parts : Contents
 unfolding with_source
 with_source-is source p parts new hp ha hn =
     rw (hp, abbreviations-there source.object ha, hn) refl
-
--- what is added, one after the other
-pub with_all-is : (p : InProgress) (parts : Contents × List (List ℕ)) (new : New) (q r : InProgress)
-    → q ≡ record p {
-      file = record p.file { contents = with_parts parts.0 p.file.contents };
-      strings = parts.1;
-      differing = p.differing ++ new.differing;
-    }
-    → r ≡ with_new_units q new.units
-    → with_all p parts new ≡ r
-unfolding with_all
-with_all-is p parts new q r hq hr = rw (hr, hq) refl
 
 -- what holds of no error
 pub no_err : {T E : Type 0} (P : Type 0) (r : Result T E) → is_err r ≡ false → OnErr r P

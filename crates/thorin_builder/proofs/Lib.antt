@@ -1,12 +1,6 @@
 pub mod Names
 pub mod NewUnitLemmas
 pub mod Extending
-pub mod HeldLemmas
 pub mod Running
-pub mod MissingLemmas
-pub mod Grown
-pub mod OwnKept
 pub mod AddedAgain
-pub mod PartsApart
-pub mod UnitsLater
-pub mod StringsLater
+pub mod Later

@@ -1,45 +1,42 @@
-use Rattle.std.proofs.Common.{◌≡◌, ◌∙◌, Some, None, true, false, not, ap, sym, rules}
-use Rattle.std.specs.Prelude.{slice_get}
-use Rattle.std.specs.List.{list_any}
+use Rattle.std.proofs.Common.{◌≡◌, ◌∙◌, ℕ, ◌+◌, Bool, true, false, cond, List, ◌∷◌, drop}
+use Rattle.std.proofs.Common.{Some, ap, not, sym, refl, rules, arith}
+use Rattle.std.specs.Prelude.{filter, slice_get}
+use Rattle.std.proofs.lemmas.List.{at_drop_more}
+use Rattle.std.proofs.lemmas.Option.{get_or_from_slice_get, slice_get_within}
+use Rattle.dwp_base.proofs.Finds.{slice_get_none}
 use Rattle.thorin_join.specs.Builder.{is_missing}
-use Rattle.thorin_input.specs.Names.{same_name}
-use Rattle.thorin_builder.proofs.Names.{among-is}
-use Rattle.thorin_builder.proofs.MissingLemmas.{first-passes, first-fails, none-left}
+use Rattle.thorin_builder.proofs.Names.{missing-is}
 use Rattle.thorin_builder.proofs.missing.first_missing.Goals.{in-Some+else-not-contains, in_default}
 use Rattle.thorin_builder.proofs.missing.first_missing.Goals as goal
 
+-- the first of those that are left passes, or is passed over
+first-left : {A : Type 0} (p : A → Bool) (xs : List A) (i : ℕ) (x : A) (b : Bool)
+    → slice_get xs i ≡ Some x → p x ≡ b
+    → filter p (drop i xs) ≡ cond b (x ∷ filter p (drop (i + 1) xs)) (filter p (drop (i + 1) xs))
+first-left p xs i x b at is =
+    at_drop_more (filter p) xs i x (slice_get_within xs i x at)
+    ∙ rw (get_or_from_slice_get xs i x x at, is) refl
+
 pub returns-then-not-contains : goal.returns-then-not-contains
 returns-then-not-contains c =
-    let target = c.in-Some.target.now in
-    let at : slice_get c.args.targets.now.keys c.loop-place.place ≡ Some target =
-    search (rules, c.in-Some.ensures.key, c.get_index.ensures.key) in
-    let among : list_any (same_name target) c.args.contained.now.keys ≡ false =
-    sym (among-is target c.args.contained.now.keys) ∙ search (
-      rules,
-      c.contains.ensures,
-      c.if-not-contains,
-    ) in
-    sym c.loop-place.invariant ∙ first-passes (is_missing c.args.contained.now.keys)
-    c.args.targets.now.keys c.loop-place.place target at (ap not among)
+    let names = c.args.contained.now.keys in
+    let missing = missing-is c.in-Some.target.now names _ c.contains.ensures
+    ∙ ap not c.if-not-contains.true in
+    sym c.loop-place.invariant ∙ first-left (is_missing names) c.args.targets.now.keys
+    c.loop-place.place c.in-Some.target.now true
+    (search (rules, c.in-Some.ensures.key, c.get_index.ensures.key)) missing
 
 pub loop-place-preserved : goal.loop-place-preserved
 loop-place-preserved c =
+    let names = c.args.contained.now.keys in
     elim c.match-get_index.branch [
       | in-Some+else-not-contains w ↦
-          let target = w.in-Some.target.now in
-          let at : slice_get c.args.targets.now.keys c.loop-place.place ≡ Some target =
-          search (rules, w.in-Some.ensures.key, c.get_index.ensures.key) in
-          let among : list_any (same_name target) c.args.contained.now.keys ≡ true =
-          sym (among-is target c.args.contained.now.keys) ∙ search (
-            rules,
-            w.contains.ensures,
-            w.if-not-contains,
-          ) in
-          first-fails (is_missing c.args.contained.now.keys) c.args.targets.now.keys
-          c.loop-place.place target at (ap not among) ∙ c.loop-place.invariant
-      | in_default w ↦
-          let at : slice_get c.args.targets.now.keys c.loop-place.place ≡ None =
-          search (rules, w.in_default, c.get_index.ensures.key) in
-          none-left (is_missing c.args.contained.now.keys) c.args.targets.now.keys
-          c.loop-place.place at ∙ c.loop-place.invariant
+          let there = missing-is w.in-Some.target.now names _ w.contains.ensures
+          ∙ ap not w.if-not-contains.false in
+          sym (first-left (is_missing names) c.args.targets.now.keys c.loop-place.place
+          w.in-Some.target.now false
+          (search (rules, w.in-Some.ensures.key, c.get_index.ensures.key)) there)
+          ∙ c.loop-place.invariant
+      | in_default w ↦ absurd (slice_get_none c.args.targets.now.keys c.loop-place.place
+          (omega arith) (search (rules, w.in_default, c.get_index.ensures.key)))
     ]

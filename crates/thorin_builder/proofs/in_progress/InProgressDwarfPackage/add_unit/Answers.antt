@@ -1,12 +1,15 @@
+use Rattle.std.proofs.Common.{◌∙◌}
 use Rattle.std.proofs.Math.Seq.{take-append_seam}
-use Rattle.thorin_builder.proofs.Extending.{front-append}
+use Rattle.std.proofs.lemmas.List.{take-append-le}
+use Rattle.thorin_index.proofs.RowLemmas.{at_least}
 use Rattle.thorin_builder.proofs.in_progress.InProgressDwarfPackage.add_unit.Goals as goal
 
 pub returns-in-Ok-clause-extends : goal.returns-in-Ok-clause-extends
 returns-in-Ok-clause-extends c before h = record {
   file = c.put.ensures.grown before.file h.file;
   strings = h.strings;
-  rows = rw c.in_ok-push.ensures.pushed (front-append before.rows c.args.self.now.rows _ h.rows);
+  rows = rw c.in_ok-push.ensures.pushed (take-append-le _ c.args.self.now.rows _
+      (at_least before.rows c.args.self.now.rows h.rows) ∙ h.rows);
   differing = h.differing;
 }
 

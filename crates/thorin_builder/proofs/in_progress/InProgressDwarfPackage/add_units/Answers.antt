@@ -1,9 +1,7 @@
-use Rattle.std.proofs.Common.{suc, arith, ◌≡◌, ◌∙◌, ap, sym, get_or}
+use Rattle.std.proofs.Common.{suc, arith, ◌≡◌, ◌∙◌, ap, get_or}
 use Rattle.std.proofs.lemmas.List.{get_or_default}
-use Rattle.thorin_index.specs.declared.entry.IndexEntry.{IndexEntry}
 use Rattle.thorin_index.specs.Rows.{blank}
-use Rattle.thorin_join.specs.State.{InProgress, with_new_unit, with_new_units}
-use Rattle.thorin_builder.specs.StateView.{in_progress_of}
+use Rattle.thorin_join.specs.State.{InProgress, with_new_units}
 use Rattle.thorin_builder.proofs.NewUnitLemmas.{with_rows}
 use Rattle.thorin_builder.proofs.in_progress.InProgressDwarfPackage.add_units.Goals as goal
 
@@ -16,20 +14,10 @@ loop-name-preserved c =
     let row : c.index-row.result.now ≡ get_or rows c.in-Some.unit.now.row blank =
     c.index-row.ensures ∙ get_or_default rows c.in-Some.unit.now.row _ blank
     (numbered 0 (c.in-Some.name.now, c.in-Some.unit.now) (omega arith)) in
-    let added = c.in_ok-add_unit.ensures.meaning
-    ∙ ap (λ (r : IndexEntry). with_new_unit (in_progress_of c.loop-name.self) (
-      c.in-Some.name.now,
-      record {
-        place = c.in-Some.unit.now.place;
-        bytes = c.in-Some.unit.now.bytes.now;
-        row = record r { id = c.in-Some.name.now };
-      },
-    )) row in
+    let added = rw row at c.in_ok-add_unit.ensures.meaning in
     record {
       units = ap (λ (made : InProgress). with_new_units made (with_rows rows c.next.new.self)) added
-          ∙ sym (ap (λ units. with_new_units (in_progress_of c.loop-name.self)
-          (with_rows rows units)) steps)
-          ∙ c.loop-name.invariant.units;
+          ∙ (rw steps at c.loop-name.invariant.units);
       numbered = λ k d less. numbered (suc k) d (omega arith);
       extends = λ before h. c.add_unit.ensures.extends before
           (c.loop-name.invariant.extends before h);

@@ -1,43 +1,125 @@
-use Rattle.std.proofs.Common.{◌≡◌, ◌∙◌, sym, rules, Ok}
+use Rattle.std.proofs.Common.{◌≡◌, ◌∙◌, ℕ, List, map, ap, sym, refl, rules, [], Some, None, Ok}
+use Rattle.std.proofs.lemmas.List.{append-nil}
+use Rattle.std.proofs.lemmas.Option.{IfSome_then}
+use Rattle.std.proofs.lemmas.Result.{IfOk-weaker}
+use Rattle.std.proofs.Math.Seq.{take-length}
+use Rattle.dwp_base.specs.declared.endian.Endianness.{Endianness}
+use Rattle.dwp_base.specs.declared.endian.Endianness.TheVariants.{Little, Big}
+use Rattle.dwp_elf.specs.Contents.{content_of}
 use Rattle.dwp_elf_read.specs.View.{elf}
-use Rattle.thorin_input.specs.Encodings.{encoding_of}
-use Rattle.thorin_input.specs.Indexes.{Source, indexes_of}
-use Rattle.thorin_input.specs.Used.{opened, input_file_of}
+use Rattle.dwp_index.specs.Package.{part_of, place_of}
+use Rattle.dwp_table.specs.declared.object.DwarfObject.{DwarfObject}
+use Rattle.thorin_index.specs.Entries.{contribution_to}
+use Rattle.thorin_index.specs.declared.entry.IndexEntry.{IndexEntry}
+use Rattle.thorin_input.specs.Encodings.{own_encoding, file_encoding, one_encoding}
+use Rattle.thorin_input.specs.Growing.{Contents, with_parts}
+use Rattle.thorin_input.specs.Indexes.{Source}
+use Rattle.thorin_input.specs.NewUnits.{New}
+use Rattle.thorin_input.specs.Parts.{parts_of}
+use Rattle.thorin_input.specs.Used.{input_file_of}
 use Rattle.thorin_input.specs.View as view
+use Rattle.thorin_join.specs.Builder.{with_input, with_units, with_source_or_new, order_test}
+use Rattle.thorin_join.specs.State.{InProgress, kind_at, unit_bytes, held_units}
+use Rattle.thorin_join.specs.State.{with_source}
+use Rattle.thorin_join.specs.State.{with_all, with_new_units}
+use Rattle.thorin_join.proofs.Parts.Appended.{content-with_parts, parts-none}
+use Rattle.thorin_join.proofs.Rows.OneAdded.{not-copied, not-offsets}
+use Rattle.thorin_builder.specs.Repeated.{IsLater, AddsNoUnit, with_more}
 use Rattle.thorin_builder.specs.StateView.{in_progress_of}
-use Rattle.thorin_builder.proofs.AddedAgain.{input-again, nothing-again, found-again}
+use Rattle.thorin_builder.specs.declared.repeated.Repeated.{Repeated}
+use Rattle.thorin_builder.proofs.AddedAgain.{later-refl, with_again}
+use Rattle.thorin_builder.proofs.Extending.{with_source-is}
+use Rattle.thorin_builder.proofs.Later.{parts-later, units-later}
 use Rattle.thorin_builder.proofs.in_progress.InProgressDwarfPackage.adds_again.Goals as goal
 
+-- an input without units adds nothing
+nothing-more : (made : InProgress) → with_more [] [] made ≡ made
+unfolding with_parts
+nothing-more made = ap (λ d. record made { differing = d }) (append-nil made.differing)
+
 pub returns-then-not-walked-clause-found : goal.returns-then-not-walked-clause-found
+unfolding own_encoding with_input
 returns-then-not-walked-clause-found c =
-    rw (c.new.ensures.items, c.new-then-not-walked.ensures.items)
-    (nothing-again c.args.bytes.now (elf c.in_ok-file.file) (in_progress_of c.args.self.now)
-    (search (rules, c.in_ok-file.ensures))
-    (sym c.over-walked.ensures.units ∙ c.if-not-walked.true))
+    let given = c.in_ok-file.ensures in
+    let none = sym c.over-walked.ensures.units ∙ c.if-not-walked.true in
+    rw (c.new.ensures.items, c.new-then-not-walked.ensures.items) (record {
+      own = None;
+      own_is = rw (given, none) refl;
+      adds = λ later after. rw (given, none, nothing-more later) refl;
+      stays = λ later. rw (nothing-more later) (later-refl later);
+    })
+
+-- an input that adds no unit adds the same to each package that this one becomes
+source-again : (source : Source) (again : Repeated) (made later : InProgress)
+    → AddsNoUnit source again made → IsLater made later
+    → with_source source later ≡ Ok (with_again again later)
+unfolding with_all with_new_units
+source-again source again made later h k =
+    let parts = map view.part again.parts.items in
+    let new : New = record { units = []; differing = map (λ s. s.0) again.differing.items } in
+    with_source-is source later (parts, later.strings) new
+    (parts-later source made.strings later.strings (parts, made.strings) h.parts k.strings)
+    h.abbreviations
+    (rw k.held (units-later source _ _ (held_units made) k.more new h.units refl))
+
+-- units keep their bytes, since no part of an input is of a section of units
+held-apart : (source : Source) (strings : List (List ℕ)) (parts : Contents)
+    → parts_of source strings ≡ Ok (parts, strings) → (made : InProgress)
+    → held_units (with_more parts [] made) ≡ held_units made
+held-apart source strings parts h made =
+    let c = made.file.contents in
+    let stays : (row : IndexEntry) → unit_bytes (with_parts parts c) row ≡ unit_bytes c row =
+    λ row.
+    let place = place_of row.id row.debug_types in
+    let none = parts-none source strings parts strings h (kind_at place) (not-copied place)
+    (not-offsets place).1 in
+    ap (λ l. part_of l (contribution_to (kind_at place) row))
+    (content-with_parts (kind_at place) parts c
+    ∙ rw none (append-nil (content_of (kind_at place) c))) in
+    λ i. map {B = DwarfObject × List ℕ} (λ row. (row.id, stays row i)) made.rows
+
+order-tested : (order : Endianness) (made : InProgress) → made.file.order ≡ order
+    → order_test order (Some made) ≡ Ok tt
+unfolding order_test
+order-tested Little made h = rw h refl
+order-tested Big made h = rw h refl
 
 pub returns-clause-found : goal.returns-clause-found
+unfolding own_encoding file_encoding with_input with_units with_source_or_new
 returns-clause-found c =
     let made = in_progress_of c.args.self.now in
-    let file = elf c.in_ok-file.file in
     let source : Source = record {
       object = view.object c.in_ok-object.object;
       encoding = c.in_ok-encoding.encoding;
       indexes = view.indexes c.in_ok-indexes.indexes;
     } in
-    let given : opened c.args.bytes.now ≡ Ok file = search (rules, c.in_ok-file.ensures) in
-    let object : input_file_of file ≡ Ok source.object =
+    let given = c.in_ok-file.ensures in
+    let units = sym c.over-walked.ensures.units ∙ c.if-not-walked.false in
+    let object : input_file_of (elf c.in_ok-file.file) ≡ Ok source.object =
     search (rules, c.over-walked.ensures.input, c.in_ok-object.was) in
-    let encoding : encoding_of source.object ≡ Ok source.encoding =
-    search (rules, c.in_ok-encoding.ensures) in
-    let order : source.object.order ≡ made.file.order = search (
-      rules,
-      c.endianness.ensures,
-      c.ne.ensures,
-      c.if-ne,
-    ) in
-    let indexes : indexes_of source.object source.encoding ≡ Ok source.indexes =
-    search (rules, c.in_ok-indexes.ensures) in
-    found-again c.source_adds_again.result _ _ (λ again found.
-    input-again c.args.bytes.now file source made again given
-    (sym c.over-walked.ensures.units ∙ c.if-not-walked.false) object encoding order indexes found)
-    c.source_adds_again.ensures.found
+    let encoding = c.in_ok-encoding.ensures in
+    let order : source.object.order ≡ made.file.order =
+    search (rules, c.endianness.ensures, c.ne.ensures, c.if-ne) in
+    let indexes = c.in_ok-indexes.ensures in
+    IfOk-weaker c.source_adds_again.result _ _
+    (λ found known. IfSome_then found known (λ again adds. record {
+      own = one_encoding source.object source.encoding;
+      own_is = rw (given, units, object, encoding) refl;
+      adds = λ later after.
+          rw (
+            given,
+            units,
+            object,
+            encoding,
+            order-tested source.object.order later (after.order ∙ sym order),
+            indexes,
+            source-again source again made later adds after,
+          ) refl;
+      stays = λ later. record {
+        order = refl;
+        strings = take-length later.strings;
+        more = [];
+        held = held-apart source made.strings _ adds.parts later
+            ∙ sym (append-nil (held_units later));
+      };
+    })) c.source_adds_again.ensures.found

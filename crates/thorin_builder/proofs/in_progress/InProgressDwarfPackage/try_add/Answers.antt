@@ -1,83 +1,68 @@
-use Rattle.std.proofs.Common.{◌≡◌, ◌∙◌, ℕ, ap, map, rules, List, ◌++◌, Ok}
+use Rattle.std.proofs.Common.{◌≡◌, ◌∙◌, ℕ, ap, map, sym, rules, List, Ok}
 use Rattle.std.proofs.Math.Seq.{take-length}
-use Rattle.dwp_table.specs.declared.object.DebugTypeSignature.{DebugTypeSignature}
-use Rattle.thorin_input.specs.Growing.{Contents, with_parts}
+use Rattle.thorin_input.specs.Growing.{Contents}
 use Rattle.thorin_input.specs.View as view
 use Rattle.thorin_builder.specs.UnitView.{new_of}
-use Rattle.thorin_input.specs.NewUnits.{new_units}
-use Rattle.thorin_join.specs.State.{adding}
+use Rattle.thorin_join.specs.State.{Extends, with_all, with_new_units}
 use Rattle.thorin_builder.specs.StateView.{in_progress_of}
 use Rattle.thorin_builder.proofs.Extending.{grown-extends, strings-extend, signatures-kept}
-use Rattle.thorin_builder.proofs.Extending.{with_source-is, with_all-is, signatures}
+use Rattle.thorin_builder.proofs.Extending.{with_source-is, signatures}
+use Rattle.thorin_builder.proofs.in_progress.InProgressDwarfPackage.try_add.Goals.{After-add_units}
 use Rattle.thorin_builder.proofs.in_progress.InProgressDwarfPackage.try_add.Goals as goal
 
 pub returns-in_err-parts-clause-extends : goal.returns-in_err-parts-clause-extends
-returns-in_err-parts-clause-extends c =
-    strings-extend (in_progress_of c.args.self.now) _ c.parts_of.ensures.kept
+returns-in_err-parts-clause-extends c = strings-extend c.parts_of.ensures.kept
 
 pub returns-then-not-source-clause-extends : goal.returns-then-not-source-clause-extends
-returns-then-not-source-clause-extends c =
-    strings-extend (in_progress_of c.args.self.now) _ c.parts_of.ensures.kept
+returns-then-not-source-clause-extends c = strings-extend c.parts_of.ensures.kept
 
 pub returns-in_err-whole-clause-extends : goal.returns-in_err-whole-clause-extends
-returns-in_err-whole-clause-extends c =
-    strings-extend (in_progress_of c.args.self.now) _ c.parts_of.ensures.kept
+returns-in_err-whole-clause-extends c = strings-extend c.parts_of.ensures.kept
 
 pub returns-in_err-new-clause-extends : goal.returns-in_err-new-clause-extends
-returns-in_err-new-clause-extends c =
-    strings-extend (in_progress_of c.args.self.now) _ c.parts_of.ensures.kept
+returns-in_err-new-clause-extends c = strings-extend c.parts_of.ensures.kept
 
 pub returns-in_err-put_parts-clause-extends : goal.returns-in_err-put_parts-clause-extends
 returns-in_err-put_parts-clause-extends c =
-    grown-extends (in_progress_of c.args.self.now) _ _ _ c.put_parts.ensures.grown
-    c.parts_of.ensures.kept (take-length _)
+    grown-extends c.put_parts.ensures.grown c.parts_of.ensures.kept (take-length _)
 
 pub returns-in_err-extend_from_slice-clause-extends :
     goal.returns-in_err-extend_from_slice-clause-extends
-returns-in_err-extend_from_slice-clause-extends c =
-    rw c.in_err-extend_from_slice.ensures.items (grown-extends (in_progress_of c.args.self.now)
-    _ _ _ c.put_parts.ensures.grown c.parts_of.ensures.kept (take-length _))
+returns-in_err-extend_from_slice-clause-extends c = rw c.in_err-extend_from_slice.ensures.items
+    (grown-extends c.put_parts.ensures.grown c.parts_of.ensures.kept (take-length _))
+
+-- once the units were added, or some of them
+added : (c : goal.After-add_units)
+    → Extends (in_progress_of c.args.self.now) (in_progress_of c.add_units.new.self)
+added c =
+    c.add_units.ensures.extends (in_progress_of c.args.self.now)
+    (grown-extends c.put_parts.ensures.grown c.parts_of.ensures.kept
+    (signatures-kept c.args.self.now.differing.items c.in_ok-new.new.differing.items
+    c.extend_from_slice.new.self.items
+    (search (rules, c.in_ok-extend_from_slice.ensures.items, c.deref.ensures))))
 
 pub returns-in_err-add_units-clause-extends : goal.returns-in_err-add_units-clause-extends
 returns-in_err-add_units-clause-extends c =
-    let more = signatures-kept c.args.self.now.differing.items c.in_ok-new.new.differing.items
-    c.extend_from_slice.new.self.items
-    (search (rules, c.in_ok-extend_from_slice.ensures.items, c.deref.ensures)) in
-    c.add_units.ensures.extends _ (grown-extends (in_progress_of c.args.self.now) _ _ _
-    c.put_parts.ensures.grown c.parts_of.ensures.kept more)
+    added (goal.at.returns-in_err-add_units-clause-extends c).After-add_units
 
 pub returns-clause-extends : goal.returns-clause-extends
-returns-clause-extends c =
-    let more = signatures-kept c.args.self.now.differing.items c.in_ok-new.new.differing.items
-    c.extend_from_slice.new.self.items
-    (search (rules, c.in_ok-extend_from_slice.ensures.items, c.deref.ensures)) in
-    c.add_units.ensures.extends _ (grown-extends (in_progress_of c.args.self.now) _ _ _
-    c.put_parts.ensures.grown c.parts_of.ensures.kept more)
+returns-clause-extends c = added (goal.at.returns-clause-extends c).After-add_units
 
 pub returns-clause-meaning : goal.returns-clause-meaning
+unfolding with_all
 returns-clause-meaning c =
     let p = in_progress_of c.args.self.now in
     let source = view.source c.args.source.now in
     let parts : Contents × List (List ℕ) =
     (map view.part c.in_ok-parts.parts.items, c.parts_of.new.strings) in
     let new = new_of c.in_ok-new.new in
-    let more : map (λ (s : DebugTypeSignature). s.0) c.extend_from_slice.new.self.items ≡
-    p.differing ++ new.differing =
-    signatures c.args.self.now.differing.items c.in_ok-new.new.differing.items
-    c.extend_from_slice.new.self.items (search (
-      rules,
-      c.in_ok-extend_from_slice.ensures.items,
-      c.deref.ensures,
-    )) in
-    let file : c.put_parts.new.file ≡ record p.file {
-      contents =
-          with_parts parts.0 p.file.contents;
-    } = search (rules, c.in_ok-put_parts.ensures.contents) in
-    let read : new_units (adding source p parts.0) ≡ Ok new =
-    search (rules, c.in_ok-new.ensures, c.in_ok-whole.ensures.row) in
-    let steps = with_source-is source p parts new c.in_ok-parts.ensures.meaning
-    (search (rules)) read in
-    let all = with_all-is p parts new _ (in_progress_of c.add_units.new.self)
-    (λ i. record p { file = file i; strings = c.parts_of.new.strings; differing = more i })
-    c.in_ok-add_units.ensures.meaning in
-    steps ∙ ap Ok all
+    let more = signatures c.args.self.now.differing.items c.in_ok-new.new.differing.items
+    c.extend_from_slice.new.self.items
+    (search (rules, c.in_ok-extend_from_slice.ensures.items, c.deref.ensures)) in
+    let file = c.in_ok-put_parts.ensures.contents in
+    let all : with_all p parts new ≡ in_progress_of c.add_units.new.self =
+    let strings = c.parts_of.new.strings in
+    sym (c.in_ok-add_units.ensures.meaning ∙ (λ i. with_new_units
+    (record p { file = file i; strings = strings; differing = more i }) new.units)) in
+    with_source-is source p parts new c.in_ok-parts.ensures.meaning (search (rules))
+    (search (rules, c.in_ok-new.ensures, c.in_ok-whole.ensures.row)) ∙ ap Ok all

@@ -1,7 +1,8 @@
-use Rattle.std.proofs.Common.{◌≡◌, ◌∙◌, ◌+◌, ◌<◌, ℕ, List, [], ◌∷◌, map, drop, get_or, length, Err}
+use Rattle.std.proofs.Common.{◌≡◌, ◌∙◌, ◌<◌, ℕ, List, [], map, drop, get_or, length, Err}
 use Rattle.std.proofs.Common.{ap, sym, refl}
 use Rattle.std.proofs.lemmas.List.{drop_more}
 use Rattle.std.proofs.lemmas.Result.{err_from_is_err_and}
+use Rattle.dwp_base.proofs.Steps.{bind-err}
 use Rattle.thorin_errors.specs.Errors.{ErrorValue}
 use Rattle.thorin_input.specs.declared.object.UsedSection.{UsedSection}
 use Rattle.thorin_input.specs.NewUnits.{Met, New, none_met, new_units, with_section}
@@ -22,15 +23,10 @@ stopped : (adding : Adding) (sections : List UsedSection) (i : ℕ) (d : UsedSec
     → new_units (adding_of adding) ≡ Err error
 unfolding new_units with_each_section
 stopped adding sections i d before error all inside left first =
-    let more : drop i adding.source.now.object.sections.items
-    ≡ get_or sections i d ∷ drop (i + 1) sections =
-    ap (drop i) (sym all) ∙ drop_more sections i d inside in
-    let met : with_each_section (adding_of adding) (
-      none_met,
-      record { units = []; differing = [] },
-    ) (map used adding.source.now.object.sections.items) ≡ Err error =
-    sym left ∙ rw (more, first) refl in
-    rw met refl
+    bind-err _ error _ (sym left ∙ rw (
+      ap (drop i) (sym all) ∙ drop_more sections i d inside,
+      first,
+    ) refl)
 
 pub returns-in_err-add_section-clause-meaning : goal.returns-in_err-add_section-clause-meaning
 returns-in_err-add_section-clause-meaning c =

@@ -1,9 +1,9 @@
-use Rattle.std.proofs.Common.{◌≡◌, ap, rules, map, Some, None}
-use Rattle.thorin_input.specs.View as view
+use Rattle.std.proofs.Common.{◌≡◌, ap, rules, Some, None}
 use Rattle.thorin_join.specs.Builder.{State}
-use Rattle.thorin_builder.specs.Repeated.{AddsAgainTo, with_more}
+use Rattle.thorin_builder.specs.BuilderView.{building}
 use Rattle.thorin_builder.specs.StateView.{in_progress_of, begun_of}
 use Rattle.thorin_builder.proofs.AddedAgain.{input-known, taken-known, later-known, later-same}
+use Rattle.thorin_builder.proofs.AddedAgain.{with_again}
 use Rattle.thorin_builder.proofs.package.DwarfPackage.add_again.Goals.{in-Some+in_ok-add_again}
 use Rattle.thorin_builder.proofs.package.DwarfPackage.add_again.Goals.{in_default}
 use Rattle.thorin_builder.proofs.package.DwarfPackage.add_again.Goals as goal
@@ -12,19 +12,12 @@ pub invariant_of-self-in-Some : goal.invariant_of-self-in-Some
 invariant_of-self-in-Some g c =
     let bytes = c.requires.known.0 in
     let again = c.args.again.now in
-    let old : State = record {
-      begun = begun_of c.self.inside.in_progress;
-      targets = c.self.inside.targets.keys;
-      own = c.self.inside.own;
-    } in
+    let old : State = (building c.self.inside).state in
     let made = in_progress_of c.in-Some.package in
     let now = in_progress_of c.add_again.new.self in
     let begun : old.begun ≡ Some made = ap begun_of c.in-Some.is in
-    let known : AddsAgainTo bytes again old.begun =
-    search (rules, c.requires.known.1, c.self.view_is) in
-    let added : now ≡ with_more (map view.part again.parts.items)
-    (map (λ s. s.0) again.differing.items) made =
-    search (rules, c.in_ok-add_again.ensures.added) in
+    let known = rw (← c.self.view_is) at c.requires.known.1 in
+    let added : now ≡ with_again again made = c.in_ok-add_again.ensures.added in
     let new : State = record old { begun = Some now; own = None } in
     let step = taken-known bytes again old made now begun known added in (
       c.self.invariant.0,
@@ -44,9 +37,7 @@ returns-clause-later g c =
           let made = in_progress_of w.in-Some.package in
           let now = in_progress_of w.add_again.new.self in
           let begun : old.begun ≡ Some made = search (rules, c.self.view_is, w.in-Some.is) in
-          let added : now ≡ with_more (map view.part again.parts.items)
-          (map (λ s. s.0) again.differing.items) made =
-          search (rules, w.in_ok-add_again.ensures.added) in
+          let added : now ≡ with_again again made = w.in_ok-add_again.ensures.added in
           let is : c.match-self.self.state.begun ≡ Some now = search (rules, w.self-is) in
           rw is (later-known bytes again old made now begun c.requires.known.1 added)
       | in_default w ↦

@@ -1,40 +1,38 @@
-use Rattle.std.proofs.Common.{◌∙◌, Ok, subst, sym}
+use Rattle.std.proofs.Common.{◌∙◌, rules}
 use Rattle.std.proofs.lemmas.Result.{err_from_is_err_and}
-use Rattle.thorin_executable.specs.View.{IsNextNamed, IsPathAfter}
-use Rattle.thorin_builder.specs.Taking.{CanBePassedOver}
-use Rattle.thorin_builder.proofs.Running.{next-taken, next-refused, list-ended, list-error}
+use Rattle.thorin_builder.proofs.Running.{none-taken, next-taken, next-refused, list-ended}
+use Rattle.thorin_builder.proofs.Running.{list-error}
 use Rattle.thorin_builder.proofs.package.DwarfPackage.add_each.Goals as goal
+
+pub loop-known-init : goal.loop-known-init
+loop-known-init g c = search (rules, none-taken)
 
 pub returns-in_err-unit-clause-taken : goal.returns-in_err-unit-clause-taken
 returns-in_err-unit-clause-taken g c =
     let p = err_from_is_err_and c.from_residual.result c.from_residual.ensures.1 in
-    rw (p.1, p.2) (list-error _ _ _ _ _ _ _ c.loop-known.invariant.0 c.in_err-unit.ensures.next)
+    rw (p.1, p.2) (list-error _ _ _ _ _ _ c.loop-known.invariant.0 _ c.in_err-unit.ensures.next)
 
 pub add_skeleton-requires : goal.add_skeleton-requires
 add_skeleton-requires g c =
-    let after = subst (λ found. IsPathAfter (Ok found) c.loop-known.units.path
-    c.next.new.self.path) c.in-Some.is c.in_ok-unit.ensures.path in
+    let after = rw c.in-Some.is at c.in_ok-unit.ensures.path in
     record {
-      unread = λ t. subst (λ p. CanBePassedOver (g.R.InputReader.offer c.args.reader.now p)
-          c.args.missing) (sym (c.path.ensures ∙ after (c.is_still.ensures t).1))
+      unread = λ t. rw (c.path.ensures ∙ after (c.is_still.ensures t).1)
           (c.loop-known.invariant.2 (c.is_still.ensures t).0);
       known = c.loop-known.invariant.3;
     }
 
 pub returns-in_err-add_skeleton-clause-taken : goal.returns-in_err-add_skeleton-clause-taken
 returns-in_err-add_skeleton-clause-taken g c =
-    let first = subst (λ found. IsNextNamed c.loop-known.units.listed (Ok found)
-    c.next.new.self.path c.next.new.self.listed) c.in-Some.is c.in_ok-unit.ensures.next in
+    let first = rw c.in-Some.is at c.in_ok-unit.ensures.next in
     let p = err_from_is_err_and c.from_residual-in_err-add_skeleton.result
     c.from_residual-in_err-add_skeleton.ensures.1 in
-    rw (p.1, p.2) (next-refused _ _ _ _ _ _ _ _ _ _ _ c.loop-known.invariant.0 first
+    rw (p.1, p.2) (next-refused _ _ _ _ _ _ c.loop-known.invariant.0 _ _ _ _ _ first
     (rw c.path.ensures at c.in_err-add_skeleton.ensures.taken.1))
 
 pub loop-known-preserved : goal.loop-known-preserved
 loop-known-preserved g c =
-    let first = subst (λ found. IsNextNamed c.loop-known.units.listed (Ok found)
-    c.next.new.self.path c.next.new.self.listed) c.in-Some.is c.in_ok-unit.ensures.next in (
-      next-taken _ _ _ _ _ _ _ _ _ _ c.loop-known.invariant.0 first
+    let first = rw c.in-Some.is at c.in_ok-unit.ensures.next in (
+      next-taken _ _ _ _ _ _ c.loop-known.invariant.0 _ _ _ _ first
           (rw c.path.ensures at c.in_ok-add_skeleton.ensures.taken.1),
       c.add_skeleton.ensures.session ∙ c.loop-known.invariant.1,
       rw c.path.ensures at c.add_skeleton.ensures.unread,
@@ -43,6 +41,5 @@ loop-known-preserved g c =
 
 pub returns-clause-taken : goal.returns-clause-taken
 returns-clause-taken g c =
-    let end = subst (λ found. IsNextNamed c.loop-known.units.listed (Ok found)
-    c.next.new.self.path c.next.new.self.listed) c.in_default.is c.in_ok-unit.ensures.next in
+    let end = rw c.in_default.is at c.in_ok-unit.ensures.next in
     list-ended _ _ _ _ _ _ c.loop-known.invariant.0 end.0

@@ -11,23 +11,15 @@ returns-in-Ok-clause-taken g c = record {
 }
 
 pub returns-in-Err-Io-clause-taken : goal.returns-in-Err-Io-clause-taken
-returns-in-Err-Io-clause-taken g c = record {
-  read = Err (Io c.in-Err-Io.cause);
-  within = search (
-    rules,
-    c.in-Err-Io.ensures.offered,
-    c.in-Err-Io.cause-is,
-    c.in-Err-Io.field-0-is,
-  );
-  accepted = [];
-  taken = (search (rules, c.in-Err-Io.cause-is), refl, refl);
-}
+returns-in-Err-Io-clause-taken g c =
+    let io = c.in-Err-Io in
+    record {
+      read = Err (Io io.cause);
+      within = search (rules, io.ensures.offered, io.cause-is, io.field-0-is);
+      accepted = [];
+      taken = (search (rules, io.cause-is), refl, refl);
+    }
 
 pub returns-clause-taken : goal.returns-clause-taken
-returns-clause-taken g c = record {
-  read = Err Memory;
-  within = tt;
-  accepted = [];
-  taken =
-      (refl, refl, refl);
-}
+returns-clause-taken g c =
+    record { read = Err Memory; within = tt; accepted = []; taken = (refl, refl, refl) }

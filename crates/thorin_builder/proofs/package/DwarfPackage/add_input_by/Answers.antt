@@ -4,20 +4,17 @@ use Rattle.thorin_builder.specs.Taking.{accepted_of}
 use Rattle.thorin_builder.proofs.package.DwarfPackage.add_input_by.Goals as goal
 
 pub returns-in-Ok-clause-taken : goal.returns-in-Ok-clause-taken
-returns-in-Ok-clause-taken g c = record {
-  read = Ok c.in-Ok.bytes.now;
-  within = c.in-Ok.ensures.offered;
-  accepted = accepted_of c.add_object_bytes.result c.in-Ok.bytes.now;
-  taken = (
+returns-in-Ok-clause-taken g c =
+    let given = c.add_object_bytes.ensures in
     record {
-      meaning = c.add_object_bytes.ensures.meaning;
-      joins =
-          c.add_object_bytes.ensures.joins;
-      unchanged = c.add_object_bytes.ensures.err;
-    },
-    refl,
-  );
-}
+      read = Ok c.in-Ok.bytes.now;
+      within = c.in-Ok.ensures.offered;
+      accepted = accepted_of c.add_object_bytes.result c.in-Ok.bytes.now;
+      taken = (
+        record { meaning = given.meaning; joins = given.joins; unchanged = given.err },
+        refl,
+      );
+    }
 
 pub returns-in-Err-Io-clause-taken : goal.returns-in-Err-Io-clause-taken
 returns-in-Err-Io-clause-taken g c = record {
@@ -28,9 +25,5 @@ returns-in-Err-Io-clause-taken g c = record {
 }
 
 pub returns-in-Err-Memory-clause-taken : goal.returns-in-Err-Memory-clause-taken
-returns-in-Err-Memory-clause-taken g c = record {
-  read = Err Memory;
-  within = tt;
-  accepted = [];
-  taken = (refl, refl, refl);
-}
+returns-in-Err-Memory-clause-taken g c =
+    record { read = Err Memory; within = tt; accepted = []; taken = (refl, refl, refl) }

@@ -1,10 +1,11 @@
 use Rattle.std.proofs.Common.{◌≡◌, refl, rules, Ok, Err, []}
 use Rattle.std.specs.Path.{path_bytes}
 use Rattle.thorin_errors.specs.declared.error.InputError.TheVariants.{Io, Memory}
-use Rattle.thorin_errors.specs.declared.error.MissingReferencedObjectBehaviour.TheVariants as behaviour
-use Rattle.thorin_builder.specs.Taking.{accepted_of}
+use Rattle.thorin_builder.specs.Taking.{Outcome, PassesOver, TakesReferredFile, accepted_of}
 use Rattle.thorin_builder.proofs.AddedAgain.{are-taken-later, taken-remembered}
 use Rattle.thorin_builder.proofs.Extending.{on_ok-both}
+use Rattle.thorin_builder.proofs.package.DwarfPackage.add_referred.Given.{Over}
+use Rattle.thorin_builder.proofs.package.DwarfPackage.add_referred.Goals.{In-Err-Io}
 use Rattle.thorin_builder.proofs.package.DwarfPackage.add_referred.Goals as goal
 
 pub returns-in-Ok-clause-taken : goal.returns-in-Ok-clause-taken
@@ -28,38 +29,31 @@ returns-in-Ok-clause-known g c =
     c.args.known.now.taken.entries c.args.self.now.state.begun c.add_read.new.self.state.begun
     later c.requires.known) remembered)
 
-pub returns-in-Skip-clause-taken : goal.returns-in-Skip-clause-taken
-returns-in-Skip-clause-taken g c =
-    let offer = g.R.InputReader.offer c.args.reader.now in
+-- what comes of an object that can't be read
+failed : (g : Over) (c : goal.In-Err-Io g) (outcome : Outcome)
+    → PassesOver c.args.missing c.in-Err-Io.e outcome
+    → TakesReferredFile (g.R.InputReader.offer c.args.reader.now c.args.named.path.now)
+    c.args.missing c.args.self.now.state outcome c.args.self.now.state
+failed g c outcome passes =
     let path : path_bytes c.new.result ≡ c.args.named.path.now = search (rules, c.new.ensures) in
-    let fails : offer (path_bytes c.new.result) (Err c.in-Err-Io.e) =
+    let fails : g.R.InputReader.offer c.args.reader.now (path_bytes c.new.result)
+    (Err c.in-Err-Io.e) =
     search (rules, c.in-Err-Io.ensures.offered, c.in-Err-Io.e-is, c.in-Err-Io.field-0-is) in
-    let skips : c.args.missing ≡ behaviour.Skip = search (rules, c.in-Skip) in
     record {
       read = Err (Io c.in-Err-Io.e);
       within = rw path at fails;
       accepted = [];
-      taken = (rw skips refl, refl, refl);
+      taken = (passes, refl, refl);
     }
+
+pub returns-in-Skip-clause-taken : goal.returns-in-Skip-clause-taken
+returns-in-Skip-clause-taken g c =
+    failed g (goal.at.returns-in-Skip-clause-taken g c).In-Err-Io _ (rw c.in-Skip.is refl)
 
 pub returns-in-Error-clause-taken : goal.returns-in-Error-clause-taken
 returns-in-Error-clause-taken g c =
-    let offer = g.R.InputReader.offer c.args.reader.now in
-    let path : path_bytes c.new.result ≡ c.args.named.path.now = search (rules, c.new.ensures) in
-    let fails : offer (path_bytes c.new.result) (Err c.in-Err-Io.e) =
-    search (rules, c.in-Err-Io.ensures.offered, c.in-Err-Io.e-is, c.in-Err-Io.field-0-is) in
-    let stops : c.args.missing ≡ behaviour.Error = search (rules, c.in-Error) in
-    record {
-      read = Err (Io c.in-Err-Io.e);
-      within = rw path at fails;
-      accepted = [];
-      taken = (rw stops refl, refl, refl);
-    }
+    failed g (goal.at.returns-in-Error-clause-taken g c).In-Err-Io _ (rw c.in-Error.is refl)
 
 pub returns-in-Err-Memory-clause-taken : goal.returns-in-Err-Memory-clause-taken
-returns-in-Err-Memory-clause-taken g c = record {
-  read = Err Memory;
-  within = tt;
-  accepted = [];
-  taken = (refl, refl, refl);
-}
+returns-in-Err-Memory-clause-taken g c =
+    record { read = Err Memory; within = tt; accepted = []; taken = (refl, refl, refl) }

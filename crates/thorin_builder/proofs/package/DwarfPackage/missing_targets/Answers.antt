@@ -1,14 +1,10 @@
-use Rattle.std.proofs.Common.{◌≡◌, ◌∙◌, ap, rules}
+use Rattle.std.proofs.Common.{◌∙◌, ap₂, rules}
 use Rattle.std.specs.Prelude.{filter}
-use Rattle.thorin_join.specs.Builder.{is_missing, names_in}
+use Rattle.thorin_join.specs.Builder.{is_missing}
 use Rattle.thorin_builder.proofs.Running.{names-begun}
 use Rattle.thorin_builder.proofs.package.DwarfPackage.missing_targets.Goals as goal
 
 pub returns : goal.returns
-returns g c =
-    let names : c.contained_units.result.now.keys ≡ names_in c.args.self.now.state.begun =
-    c.contained_units.ensures.names ∙ names-begun c.args.self.now.state in
-    c.new.ensures
-    ∙ ap (λ n. filter (is_missing n) c.self.inside.targets.keys) names
-    ∙ ap (λ t. filter (is_missing (names_in c.args.self.now.state.begun)) t)
+returns g c = c.new.ensures ∙ ap₂ (λ names targets. filter (is_missing names) targets)
+    (c.contained_units.ensures.names ∙ names-begun c.args.self.now.state)
     (search (rules, c.self.view_is))
