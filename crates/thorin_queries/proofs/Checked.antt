@@ -1,6 +1,6 @@
 -- What was checked.
-use Rattle.std.proofs.Common.{◌≡◌, ◌∙◌, ℕ, zero, suc, get_or, ◌<◌, Bool, true, false, List, [], ◌∷◌}
-use Rattle.std.proofs.Common.{◌++◌, Option, Result, Ok, Err, Bor, refl, length, inl, inr, arith}
+use Rattle.std.proofs.Common.{◌≡◌, ℕ, zero, suc, get_or, ◌<◌, Bool, true, false, List, [], ◌∷◌}
+use Rattle.std.proofs.Common.{Option, Result, Ok, Err, Bor, refl, length, inl, inr, arith}
 use Rattle.std.proofs.Common.{append_assoc}
 use Rattle.std.specs.declared.io.Error.{Error as IoError}
 use Rattle.std.proofs.KnownBytes.{Appends-trans, Keeps-refl}
@@ -11,10 +11,10 @@ use Rattle.dwp_index.specs.Package.{Package, package_of}
 use Rattle.dwp_index.specs.declared.units.UnitEntry.{UnitEntry}
 use Rattle.thorin_executable.specs.Skeletons.{skeletons_by}
 use Rattle.thorin_queries.specs.Answers.{FailsToRead}
-use Rattle.thorin_queries.specs.Checking.{counts_line, has_no_index, IsTaken, TellsTaken}
-use Rattle.thorin_queries.specs.Checking.{TellsExecutable, TellsPackage, FailsOne, IsOfReading}
-use Rattle.thorin_queries.specs.Checking.{IsOfChecking, Finishes, ChecksIndexed, ChecksPackage}
-use Rattle.thorin_queries.specs.Checking.{ChecksBytes, Checks}
+use Rattle.thorin_queries.specs.Checking.{has_no_index, IsTaken, TellsTaken, TellsExecutable}
+use Rattle.thorin_queries.specs.Checking.{TellsPackage, FailsOne, IsOfReading, IsOfChecking}
+use Rattle.thorin_queries.specs.Checking.{Finishes, ChecksIndexed, ChecksPackage, ChecksBytes}
+use Rattle.thorin_queries.specs.Checking.{Checks}
 use Rattle.thorin_queries.specs.Faults.{TellsListed}
 use Rattle.thorin_queries.specs.Listing.{AreByRow}
 use Rattle.thorin_queries.specs.Telling.{IsOfPrinting, Grows, fault_count, Progress, Outcome, Told}

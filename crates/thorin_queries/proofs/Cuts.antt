@@ -1,8 +1,7 @@
 -- Names that are cut.
 use Rattle.std.proofs.Common.{◌≡◌, ◌∙◌, ⊎_elim, ℕ, zero, suc, ◌-◌, ◌<◌, ◌≤◌, List, [], ◌++◌, codes}
 use Rattle.std.proofs.Common.{length, take, drop, slice_range, IsCharBoundary, true, false, refl}
-use Rattle.std.proofs.Common.{sym}
-use Rattle.std.proofs.Common.{ap, subst, arith, append-nil, le-leb, lt-ltb, le-ltb}
+use Rattle.std.proofs.Common.{sym, ap, subst, arith, append-nil, le-leb, lt-ltb, le-ltb}
 use Rattle.std.proofs.lemmas.Bool.{lt-leb, cases_lt}
 use Rattle.std.proofs.Math.Nat.{sub-zero}
 use Rattle.std.specs.Fmt.{is_char_start}

@@ -16,10 +16,10 @@ use Rattle.dwp_table.specs.declared.object.DwarfObject.{DwarfObject}
 use Rattle.thorin_queries.specs.Checking.{TellsSomeStrings}
 use Rattle.thorin_queries.specs.Ends.{fault_of}
 use Rattle.thorin_queries.specs.Faults.{fault_line, TellsText, IsTextOf, IsSomeText, IsUnreadText}
-use Rattle.thorin_queries.specs.Faults.{IsOwnText, TellsOwn, TellsItself, TellsFound, TellsLooked}
-use Rattle.thorin_queries.specs.Faults.{TellsUnit, has_abbreviations, is_bare, string_text}
-use Rattle.thorin_queries.specs.Faults.{string_of, TellsString, TellsStrings, TellsStringsOf}
-use Rattle.thorin_queries.specs.Faults.{row_line, AreRows, broken_line, IsBroken}
+use Rattle.thorin_queries.specs.Faults.{IsOwnText, TellsOwn, TellsItself, TellsFound, TellsUnit}
+use Rattle.thorin_queries.specs.Faults.{has_abbreviations, is_bare, string_text, string_of}
+use Rattle.thorin_queries.specs.Faults.{TellsString, TellsStrings, TellsStringsOf, row_line}
+use Rattle.thorin_queries.specs.Faults.{AreRows, broken_line, IsBroken}
 use Rattle.thorin_queries.specs.Overlaps.{IsClash, overlap_text}
 use Rattle.thorin_queries.specs.Telling.{Outcome, Progress, Told, Tells, IsLine, ForEach}
 use Rattle.thorin_queries.specs.Telling.{IsOfPrinting, Grows, PassesOn}

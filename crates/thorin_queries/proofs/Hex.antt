@@ -1,5 +1,5 @@
 -- What `{:016x}` writes.
-use Rattle.std.proofs.Common.{◌≡◌, ℕ, ◌-◌, ◌^◌, List, [], false, append-nil}
+use Rattle.std.proofs.Common.{◌≡◌, ℕ, ◌-◌, ◌^◌, [], false, append-nil}
 use Rattle.std.proofs.Math.Nat.{sub-zero}
 use Rattle.std.specs.Fmt.{padded_integral, format_spec, char_count, digits}
 use Rattle.thorin_queries.specs.Lines.{hex16}

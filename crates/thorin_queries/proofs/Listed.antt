@@ -1,7 +1,6 @@
 -- What was listed.
 use Rattle.std.proofs.Common.{◌≡◌, ◌∙◌, ℕ, Bool, true, false, List, [], ◌++◌, Option, Result, Ok}
-use Rattle.std.proofs.Common.{Err}
-use Rattle.std.proofs.Common.{refl, sym, inl, inr, append-nil, true≢false}
+use Rattle.std.proofs.Common.{Err, refl, sym, inl, inr, append-nil, true≢false}
 use Rattle.std.specs.declared.io.Error.{Error as IoError}
 use Rattle.std.proofs.KnownBytes.{Appends-nil, Keeps-refl}
 use Rattle.dwp_index.specs.Package.{Package}

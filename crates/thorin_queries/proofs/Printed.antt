@@ -1,6 +1,6 @@
 -- What was printed, or begun.
-use Rattle.std.proofs.Common.{ℕ, Bool, List, [], length, take, Option, Some, None, Result, Ok}
-use Rattle.std.proofs.Common.{Err, OnErr, refl, inr, arith, take_all}
+use Rattle.std.proofs.Common.{ℕ, Bool, List, [], length, take, Option, Result, Ok, Err, OnErr, refl}
+use Rattle.std.proofs.Common.{inr, arith, take_all}
 use Rattle.std.specs.declared.io.Error.{Error as IoError}
 use Rattle.std.specs.Io.KnownBytes.{Appends, Keeps}
 use Rattle.std.proofs.KnownBytes.{Appends-kept, Appends-nil, Keeps-refl}

@@ -8,8 +8,8 @@ use Rattle.thorin_errors.specs.Answers.{MemoryAside}
 use Rattle.thorin_errors.specs.Errors.{ErrorValue, error_of}
 use Rattle.thorin_errors.specs.declared.error.Error.{Error}
 use Rattle.thorin_errors.specs.declared.error.Error.TheVariants.{Memory}
-use Rattle.thorin_queries.specs.Faults.{fault_line, missing_text, missing_lines, IsBroken}
-use Rattle.thorin_queries.specs.Faults.{TellsEnd, TellsListed}
+use Rattle.thorin_queries.specs.Faults.{fault_line, missing_text, missing_lines, IsBroken, TellsEnd}
+use Rattle.thorin_queries.specs.Faults.{TellsListed}
 use Rattle.thorin_queries.specs.Telling.{Outcome, Progress, Told, Tells, Is}
 use Rattle.thorin_queries.proofs.Told.{told_then, told_as, stopped_behind}
 

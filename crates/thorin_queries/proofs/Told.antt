@@ -2,16 +2,15 @@
 use Rattle.std.proofs.Common.{◌≡◌, ◌∙◌, ℕ, ◌+◌, ◌-◌, ◌^◌, ◌<◌, ◌≤◌, List, [], ◌∷◌, ◌++◌, length}
 use Rattle.std.proofs.Common.{min, Option, Result, Ok, Err, OnOk, take, get_or, refl, sym, arith}
 use Rattle.std.proofs.Common.{append_assoc, append-nil, take_all}
-use Rattle.std.specs.List.{concat}
 use Rattle.std.specs.Io.KnownBytes.{Appends, Keeps}
 use Rattle.std.proofs.KnownBytes.{Appends-nil, Appends-trans, Appends-kept}
 pub use Rattle.std.proofs.KnownBytes.{Appends-kept as flushed}
 use Rattle.std.proofs.lemmas.List.{take_more}
 use Rattle.std.proofs.lemmas.List.Folds.{concat-append}
 use Rattle.thorin_queries.specs.Answers.{HasBeginning}
-use Rattle.thorin_queries.specs.Telling.{Grows, counted_on, Progress, Told, TellsOr}
-use Rattle.thorin_queries.specs.Telling.{Tells, IsLine, IsNone, Prints, HandsOver, PassesOn}
-use Rattle.thorin_queries.specs.Telling.{Outcome, InTurn, ForEach}
+use Rattle.thorin_queries.specs.Telling.{Grows, counted_on, Progress, Told, TellsOr, Tells, IsLine}
+use Rattle.thorin_queries.specs.Telling.{IsNone, Prints, HandsOver, PassesOn, Outcome, InTurn}
+use Rattle.thorin_queries.specs.Telling.{ForEach}
 use Rattle.thorin_queries.specs.declared.output.Failure.{Failure}
 
 -- ---- what was printed

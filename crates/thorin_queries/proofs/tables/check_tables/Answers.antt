@@ -1,15 +1,12 @@
-use Rattle.thorin_queries.specs.Checking.{lacks_abbreviations, lacks_strings, TellsSections}
 use Rattle.thorin_queries.proofs.Told.{told_then, in_turn, in_turn_or, stopped_behind}
 use Rattle.thorin_queries.proofs.tables.check_tables.Goals as goal
 
 pub returns-in-Ok-check_section : goal.returns-in-Ok-check_section
 returns-in-Ok-check_section g c =
-    let pack = c.args.opened.pack.now in
-    in_turn_or (TellsSections (lacks_abbreviations pack c.args.opened.entries.now)
-    (lacks_strings pack)) _ _ _ _ _ c.check_indexes.result
-    (told_then in_turn
-    (rw (c.lacks_abbreviations-no_abbreviations.ensures pack c.requires) at c.in-Ok.ensures)
-    (rw (c.lacks_strings-no_strings.ensures pack c.requires) at c.in-Ok-check_section.ensures))
+    let abbreviations = c.lacks_abbreviations-no_abbreviations.ensures _ c.requires in
+    let strings = c.lacks_strings-no_strings.ensures _ c.requires in
+    in_turn_or _ _ _ _ _ _ c.check_indexes.result (told_then in_turn
+    (rw abbreviations at c.in-Ok.ensures) (rw strings at c.in-Ok-check_section.ensures))
     c.check_indexes.ensures
 
 pub returns-in-Err-check_section : goal.returns-in-Err-check_section
