@@ -1,14 +1,13 @@
 -- What words ask for.
-use Rattle.std.proofs.Common.{◌≡◌, ◌≢◌, ◌∙◌, ℕ, Bool, true, false, cond, List, [], ◌∷◌, ◌++◌, inl}
-use Rattle.std.proofs.Common.{inr, refl, sym, ap}
-use Rattle.std.specs.Prelude.{codes, Some, None, find}
-use Rattle.std.specs.Str.{bytes_eq}
+use Rattle.std.proofs.Common.{◌≡◌, ◌≢◌, ◌∙◌, ℕ, Bool, true, List, [], ◌∷◌, codes, Some, None, find}
+use Rattle.std.proofs.Common.{bytes_eq, inl, inr, refl, sym}
 use Rattle.std.specs.Str.Pattern.{FindsTextPrefix, StripsPrefix}
 use Rattle.std.proofs.lemmas.Bool.{false≢true}
 use Rattle.std.proofs.lemmas.Option.{same_Some}
 use Rattle.std.proofs.lemmas.Slice.Eq.{bytes_eq-Decides}
 use Rattle.dwp_base.specs.Sections.{short_name, kind_of_short_name, all_kinds, rank_of}
 use Rattle.dwp_base.specs.declared.section.SectionKind.{SectionKind}
+use Rattle.dwp_base.proofs.Bools.{by-bool}
 use Rattle.dwp_base.proofs.EveryKind.{at-rank}
 use Rattle.thorin_queries.specs.Finding.{HasDigits}
 use Rattle.dwp_index.proofs.HeldContents.{found-none}
@@ -16,22 +15,18 @@ use Rattle.dwp_index.proofs.HeldContents.{found-none}
 -- the digits behind `0x`
 pub digits_behind : (text digits : List ℕ) → StripsPrefix (FindsTextPrefix (codes "0x")) text digits
     → HasDigits text digits
-digits_behind text digits h =
-    inl (h.1.1 ∙ ap (λ ds. codes "0x" ++ ds) (sym h.2))
+digits_behind text digits h = inl (rw h.2 h.1.1)
 
 -- the text is digits alone
 pub digits_alone : (text : List ℕ) → FindsTextPrefix (codes "0x") text None → HasDigits text text
 digits_alone text h = inr (h, refl)
 
--- what is found passes, and where nothing is none does
-found-step : {X : Type 0} (p : X → Bool) (y : X) (ys : List X) (x : X) (b : Bool) → p y ≡ b
-    → (find p ys ≡ Some x → p x ≡ true) → cond b (Some y) (find p ys) ≡ Some x → p x ≡ true
-found-step p y ys x true here later e = ap p (sym (same_Some _ _ e)) ∙ here
-found-step p y ys x false here later e = later e
-
+-- what is found passes
 found-passes : {X : Type 0} (p : X → Bool) (xs : List X) (x : X) → find p xs ≡ Some x → p x ≡ true
 found-passes p [] x e = absurd cc
-found-passes p (y ∷ ys) x e = found-step p y ys x (p y) refl (found-passes p ys x) e
+found-passes p (y ∷ ys) x e = by-bool _ (p y)
+    (λ here. rw (same_Some _ _ (rw here at e)) at here)
+    (λ there. found-passes p ys x (rw there at e))
 
 -- the kind that was found by its short name
 pub its_short_name : (text : List ℕ) (kind : SectionKind) → kind_of_short_name text ≡ Some kind

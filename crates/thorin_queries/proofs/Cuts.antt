@@ -1,21 +1,12 @@
 -- Names that are cut.
-use Rattle.std.proofs.Common.{◌≡◌, ◌∙◌, ⊎_elim, ℕ, zero, suc, ◌-◌, ◌<◌, ◌≤◌, List}
-use Rattle.std.proofs.Common.{[], ◌++◌, codes, length, take, drop, true, false, refl, sym, ap}
-use Rattle.std.proofs.Common.{subst, arith, le-leb}
-use Rattle.std.proofs.lemmas.Bool.{lt-leb, lt-ltb, le-ltb, cases_lt}
+use Rattle.std.proofs.Common.{◌≡◌, ◌∙◌, ⊎_elim, ℕ, zero, suc, ◌-◌, ◌<◌, ◌≤◌, List, [], ◌++◌, codes}
+use Rattle.std.proofs.Common.{length, take, drop, slice_range, IsCharBoundary, true, false, refl}
+use Rattle.std.proofs.Common.{sym, ap, subst, arith, append-nil, le-leb, lt-ltb, le-ltb}
+use Rattle.std.proofs.lemmas.Bool.{lt-leb, cases_lt}
 use Rattle.std.proofs.Math.Nat.{sub-zero}
-use Rattle.std.proofs.lemmas.List.{append-nil}
-use Rattle.std.specs.Prelude.{slice_range}
 use Rattle.std.specs.Fmt.{is_char_start}
 use Rattle.std.specs.Fmt.Cut.{floor_char_boundary}
-use Rattle.std.specs.Str.{IsCharBoundary}
 use Rattle.thorin_queries.specs.Shown.{cut}
-
--- what `floor_char_boundary` ensures of its result `kept`
-abbrev pub IsLastBoundary : List ℕ → ℕ → ℕ → Type 0
-IsLastBoundary bs i kept =
-    (kept ≤ i) × IsCharBoundary bs kept
-    × ((j : ℕ) → kept < j → j ≤ i → ¬ (IsCharBoundary bs j))
 
 -- `IsCharBoundary`'s fact on a byte decides `is_char_start`
 starts : (b : ℕ) → (128 ≤ b → 192 ≤ b) → is_char_start b ≡ true
@@ -27,17 +18,17 @@ continues b h = ⊎_elim (λ low. absurd (h (λ high. omega arith)))
     (λ high. ⊎_elim (λ mid. rw (le-ltb b 128 high, lt-leb 192 b mid) refl)
     (λ top. absurd (h (λ _. top))) (cases_lt b 192)) (cases_lt b 128)
 
--- those clauses fix its result
-floor_is : (bs : List ℕ) (i kept : ℕ) → i < length bs → IsLastBoundary bs i kept
-    → floor_char_boundary bs i ≡ kept
+-- what `floor_char_boundary` ensures fixes its result
+floor_is : (bs : List ℕ) (i kept : ℕ) → i < length bs → kept ≤ i → IsCharBoundary bs kept
+    → ((j : ℕ) → kept < j → j ≤ i → ¬ (IsCharBoundary bs j)) → floor_char_boundary bs i ≡ kept
 unfolding floor_char_boundary
-floor_is bs zero kept within last = omega arith
-floor_is bs (suc i) kept within last = ⊎_elim
-    (λ below. rw (continues _ (λ h. last.2 (suc i) below (omega arith) (omega arith, λ _. h)))
-    (floor_is bs i kept (omega arith)
-    (omega arith, last.1, λ j p q. last.2 j p (omega arith))))
+floor_is bs zero kept within low boundary nearest = omega arith
+floor_is bs (suc i) kept within low boundary nearest = ⊎_elim
+    (λ below. rw (continues _ (λ h. nearest (suc i) below (omega arith) (omega arith, λ _. h)))
+    (floor_is bs i kept (omega arith) (omega arith) boundary
+    (λ j p q. nearest j p (omega arith))))
     (λ above. let same : kept ≡ suc i = omega arith in
-    rw (starts _ ((subst (IsCharBoundary bs) same last.1).1 within)) (sym same))
+    rw (starts _ ((subst (IsCharBoundary bs) same boundary).1 within)) (sym same))
     (cases_lt kept (suc i))
 
 pub is_whole : (name text : List ℕ) → length name ≤ 4096 → text ≡ name ++ ([] ++ [])
@@ -51,15 +42,14 @@ module _ (name front back : List ℕ) (first last : ℕ) (long : 4096 < length n
     (bound-2 : last ≤ length name - 2047) (boundary-2 : IsCharBoundary name last)
     (nearest-2 : (j : ℕ) → last < j → j ≤ length name - 2047 → ¬ (IsCharBoundary name j))
   where
-    cut_is : cut name ≡ take first name ++ (codes ".." ++ drop last name)
-    unfolding cut
-    cut_is = rw (
-      lt-leb (length name) 4096 long,
-      floor_is name 2047 first (omega arith) (bound, boundary, nearest),
-      floor_is name (length name - 2047) last (omega arith) (bound-2, boundary-2, nearest-2),
-    )
-        refl
-
     pub is_cut : front ≡ slice_range name 0 first → back ≡ drop last name
         → front ++ (codes ".." ++ back) ≡ cut name
-    is_cut f b = rw (f ∙ ap (λ n. take n name) (sub-zero first), b) (sym cut_is)
+    unfolding cut
+    is_cut f b = rw (
+      lt-leb (length name) 4096 long,
+      floor_is name 2047 first (omega arith) bound boundary nearest,
+      floor_is name (length name - 2047) last (omega arith) bound-2 boundary-2 nearest-2,
+      f ∙ ap (λ n. take n name) (sub-zero first),
+      b,
+    )
+        refl

@@ -1,9 +1,7 @@
 -- Lines that are added one after the other.
 use Rattle.std.proofs.Common.{◌≡◌, ◌∙◌, ℕ, ◌+◌, ◌<◌, List, ◌∷◌, ◌++◌, length, take, drop, get_or}
-use Rattle.std.proofs.Common.{sym, ap, add-one}
-use Rattle.std.specs.List.{flat_map}
+use Rattle.std.proofs.Common.{flat_map, sym, ap, add-one, drop-cons}
 use Rattle.std.proofs.lemmas.List.{flat_map_more, take_more}
-use Rattle.std.proofs.Math.Seq.{drop-cons}
 
 -- the lines of one more
 pub flat_map_next : {A : Type 0} (f : A → List ℕ) (xs : List A) (i : ℕ) (d : A)

@@ -1,18 +1,13 @@
 -- What was listed.
-use Rattle.std.proofs.Common.{◌≡◌, ◌∙◌, ℕ, Bool, true, false, List, [], ◌++◌, refl, sym}
-use Rattle.std.proofs.Common.{inl, inr}
-use Rattle.std.specs.Prelude.{Option, Result, Ok, Err, ◌⊎◌}
+use Rattle.std.proofs.Common.{◌≡◌, ◌∙◌, ℕ, Bool, true, false, List, [], ◌++◌, Option, Result, Ok}
+use Rattle.std.proofs.Common.{Err, refl, sym, inl, inr, append-nil, true≢false}
 use Rattle.std.specs.declared.io.Error.{Error as IoError}
-use Rattle.std.specs.Io.KnownBytes.{Keeps}
 use Rattle.std.proofs.KnownBytes.{Appends-nil, Keeps-refl}
-use Rattle.std.proofs.lemmas.Bool.{true≢false}
-use Rattle.std.proofs.lemmas.List.{append-nil}
-use Rattle.dwp_index.specs.Package.{Package, package_of}
+use Rattle.dwp_index.specs.Package.{Package}
 use Rattle.dwp_index.specs.declared.error.PackageError.{PackageError}
 use Rattle.dwp_index.specs.declared.units.UnitEntry.{UnitEntry}
-use Rattle.thorin_queries.specs.Answers.{Comes, FailsToRead, OrNoMemory}
-use Rattle.thorin_queries.specs.Listing.{AreByRow, ListView, Lines, lines_of, IsListed}
-use Rattle.thorin_queries.specs.Listing.{view_of, ListsPackage, ListsBytes, Lists}
+use Rattle.thorin_queries.specs.Answers.{FailsToRead, OrNoMemory}
+use Rattle.thorin_queries.specs.Listing.{AreByRow, Lines, IsListed, ListsPackage, ListsBytes, Lists}
 use Rattle.thorin_queries.specs.declared.listing.ListForm.{ListForm}
 use Rattle.thorin_queries.specs.declared.output.Failure.{Failure}
 use Rattle.thorin_queries.specs.declared.output.Failure.TheVariants as failures
@@ -24,11 +19,8 @@ module _ (form : ListForm) (lines : Lines) (is_all : Bool) (old text : List ℕ)
   pub listed_part : old ≡ [] → text ≡ old ++ lines.printed → is_all ≡ lines.is_all
       → is_all ≡ false
       → IsListed form lines (record { printed = text; answer = Err failures.Malformed })
-  listed_part none added all ends = record {
-    totals = [];
-    no_totals = λ e. refl;
-    is = rw (← all, ends, added, none) refl;
-  }
+  listed_part none added all ends =
+      record { totals = []; no_totals = λ e. refl; is = rw (← all, ends, added, none) refl }
 
   -- without totals
   pub listed_plain : old ≡ [] → text ≡ old ++ lines.printed → is_all ≡ lines.is_all
@@ -60,23 +52,6 @@ pub same_entries : (pack : Package) (entries lent : List UnitEntry) → lent ≡
     → AreByRow pack entries → AreByRow pack lent
 same_entries pack entries lent same h = rw same h
 
-pub entries_listed : (form : ListForm) (pack : Package) (old new : Option (List ℕ))
-    (result : Result ℕ Failure) (entries : List UnitEntry) (given : Result ℕ Failure)
-    (text lent : List ℕ) (view : ListView) → view ≡ view_of form pack → AreByRow pack entries
-    → IsListed form (lines_of view pack entries) (record { printed = text; answer = given })
-    → lent ≡ text → Comes result (record { printed = lent; answer = given }) old new
-    → OrNoMemory (ListsPackage form pack old new result) old new result
-unfolding OrNoMemory
-entries_listed form pack old new result entries given text lent view seen by_row listed same
-    comes =
-    inl (record {
-      entries = entries;
-      by_row = by_row;
-      meant = record { printed = text; answer = given };
-      listed = rw seen at listed;
-      comes = rw same at comes;
-    })
-
 pub bytes_listed : (form : ListForm) (pack : Package) (p : Result Package PackageError)
     (old new : Option (List ℕ)) (result : Result ℕ Failure) → p ≡ Ok pack
     → OrNoMemory (ListsPackage form pack old new result) old new result
@@ -89,26 +64,8 @@ pub bytes_malformed : (form : ListForm) (cause : PackageError) (p : Result Packa
 unfolding OrNoMemory
 bytes_malformed form cause p a e = inl (rw e (refl, Appends-nil a))
 
-module _ (offer : List ℕ → Result (List ℕ) IoError → Type 0) (path : List ℕ)
-    (form : ListForm) where
-  listed_or : (old new : Option (List ℕ)) (result : Result ℕ Failure) (bytes : List ℕ)
-      → offer path (Ok bytes)
-      → ListsBytes form (package_of bytes) old new result
-      ⊎ ((result ≡ Err failures.Memory) × Keeps old new)
-      → Lists offer path form old new result
-  unfolding Lists
-  listed_or old new result bytes read (inl h) = inl (bytes, read, h)
-  listed_or old new result bytes read (inr h) = inr (rw h.0 (tt, h.1))
-
-  pub was_listed : (old new : Option (List ℕ)) (result : Result ℕ Failure)
-      (bytes lent : List ℕ) → offer path (Ok bytes) → lent ≡ bytes
-      → OrNoMemory (ListsBytes form (package_of lent) old new result) old new result
-      → Lists offer path form old new result
-  unfolding OrNoMemory
-  was_listed old new result bytes lent read same h =
-      listed_or old new result bytes read (rw same at h)
-
-  pub not_listed : (a : Option (List ℕ)) (failure : Failure) → FailsToRead offer path failure
-      → Lists offer path form a a (Err failure)
-  unfolding Lists
-  not_listed a failure h = inr (h, Keeps-refl a)
+pub not_listed : (offer : List ℕ → Result (List ℕ) IoError → Type 0) (path : List ℕ)
+    (form : ListForm) (a : Option (List ℕ)) (failure : Failure) → FailsToRead offer path failure
+    → Lists offer path form a a (Err failure)
+unfolding Lists
+not_listed offer path form a failure h = inr (h, Keeps-refl a)

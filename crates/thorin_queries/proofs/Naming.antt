@@ -1,8 +1,6 @@
 -- What is read at most.
-use Rattle.std.proofs.Common.{◌≡◌, ◌∙◌, ⊎_elim, ℕ, length, sym, ap, arith}
-use Rattle.std.specs.Prelude.{Err}
-use Rattle.std.proofs.lemmas.Bool.{le-ltb, cases_lt}
-use Rattle.std.proofs.lemmas.List.{take_all}
+use Rattle.std.proofs.Common.{◌≡◌, ◌∙◌, ⊎_elim, ℕ, length, Err, sym, ap, arith, le-ltb, take_all}
+use Rattle.std.proofs.lemmas.Bool.{cases_lt}
 use Rattle.dwp_bytes.specs.Input.{Input, front, truncate_at}
 use Rattle.dwp_bytes.specs.declared.error.ReadError.{ReadError}
 

@@ -1,11 +1,9 @@
 -- What was printed, or begun.
-use Rattle.std.proofs.Common.{◌≡◌, ℕ, Bool, List, length, take, sym, ◌∙◌, ap, arith, refl}
-use Rattle.std.proofs.Common.{inl, inr}
-use Rattle.std.specs.Prelude.{Option, Some, None, Result, Ok, Err, OnErr}
+use Rattle.std.proofs.Common.{ℕ, Bool, List, [], length, take, Option, Result, Ok, Err, OnErr, refl}
+use Rattle.std.proofs.Common.{inr, arith, take_all}
 use Rattle.std.specs.declared.io.Error.{Error as IoError}
 use Rattle.std.specs.Io.KnownBytes.{Appends, Keeps}
 use Rattle.std.proofs.KnownBytes.{Appends-kept, Appends-nil, Keeps-refl}
-use Rattle.std.proofs.lemmas.List.{take_all, append-nil}
 use Rattle.std.proofs.Math.Seq.{take-append_seam}
 use Rattle.dwp_elf.proofs.SoFar.{SoFar, Keeps-from_none}
 use Rattle.thorin_queries.specs.Answers.{Answer, HasBeginning, Comes, Reads, FailsToRead}
@@ -20,12 +18,6 @@ pub whole : (old new : Option (List ℕ)) (bytes : List ℕ) → Appends old new
     → HasBeginning old new bytes
 unfolding HasBeginning
 whole old new bytes h = (length bytes, rw (take_all (length bytes) bytes (omega arith)) h)
-
--- what was handed over so far is a beginning
-pub part : (old new : Option (List ℕ)) (all rest : List ℕ) → SoFar old new all rest
-    → HasBeginning old new all
-unfolding HasBeginning
-part old new all rest s = (length s.done, rw (s.split, take-append_seam s.done rest) s.appended)
 
 -- all was printed, and the answer is the one that is meant
 pub came : (given : Result ℕ Failure) (text : List ℕ) (old new : Option (List ℕ))
@@ -52,14 +44,14 @@ pub nothing : (a : Option (List ℕ)) (bytes : List ℕ) → HasBeginning a a by
 unfolding HasBeginning
 nothing a bytes = (0, Appends-nil a)
 
--- where nothing more was handed over
-pub part_kept : (old middle new : Option (List ℕ)) (all rest : List ℕ)
-    → SoFar old middle all rest → Keeps middle new → HasBeginning old new all
-part_kept old middle new all rest s k = part old new all rest (record {
-  done = s.done;
-  split = s.split;
-  appended = Appends-kept old middle new s.done s.appended k;
-})
+-- what was handed over so far is a beginning, where nothing more was
+pub part : (old middle new : Option (List ℕ)) (all rest : List ℕ) → SoFar old middle all rest
+    → Keeps middle new → HasBeginning old new all
+unfolding HasBeginning
+part old middle new all rest s k = (
+  length s.done,
+  rw (s.split, take-append_seam s.done rest) (Appends-kept old middle new s.done s.appended k),
+)
 
 -- a write that took no bytes, and one that was interrupted
 pub none_taken : (old new : Option (List ℕ)) (bytes : List ℕ)
@@ -68,25 +60,14 @@ none_taken old new bytes h = Keeps-from_none old new 0 bytes refl h
 
 pub none_added : (old new : Option (List ℕ)) (bytes : List ℕ) → Keeps old new
     → Appends old new (take 0 bytes)
-none_added None new bytes h = tt
-none_added (Some xs) None bytes h = h
-none_added (Some xs) (Some ys) bytes h = h ∙ sym (append-nil xs)
+none_added old new bytes h = Appends-kept old old new [] (Appends-nil old) h
 
-module _ (offer : List ℕ → Result (List ℕ) IoError → Type 0) (path : List ℕ)
-    (meant : List ℕ → Answer) where
-  -- a file was read, and its bytes answered
-  pub was_read : (old new : Option (List ℕ)) (result : Result ℕ Failure) (bytes lent : List ℕ)
-      → offer path (Ok bytes) → lent ≡ bytes → Comes result (meant lent) old new
-      → Reads offer path meant old new result
-  unfolding Reads
-  was_read old new result bytes lent read same comes =
-      inl (bytes, read, rw same at comes)
-
-  -- it can't be read
-  pub unread : (a : Option (List ℕ)) (failure : Failure) → FailsToRead offer path failure
-      → Reads offer path meant a a (Err failure)
-  unfolding Reads
-  unread a failure h = inr (h, Keeps-refl a)
+-- it can't be read
+pub unread : (offer : List ℕ → Result (List ℕ) IoError → Type 0) (path : List ℕ)
+    (meant : List ℕ → Answer) (a : Option (List ℕ)) (failure : Failure)
+    → FailsToRead offer path failure → Reads offer path meant a a (Err failure)
+unfolding Reads
+unread offer path meant a failure h = inr (h, Keeps-refl a)
 
 -- the words ask for no unit, or for nothing of it: nothing was handed over
 pub not_sought : (offer : List ℕ → Result (List ℕ) IoError → Type 0) (path : List ℕ)
@@ -95,7 +76,5 @@ pub not_sought : (offer : List ℕ → Result (List ℕ) IoError → Type 0) (pa
     → Seeks as_json object wanted (Err failure)
     → FindsAsked offer path as_json a a object wanted (Err failure)
 not_sought offer path as_json a (Ok object) (Ok wanted) failure h = absurd cc
-not_sought offer path as_json a (Ok object) (Err cause) failure h =
-    let same : failure ≡ cause = cc in (ap Err same, Keeps-refl a)
-not_sought offer path as_json a (Err cause) wanted failure h =
-    let same : failure ≡ cause = cc in (ap Err same, Keeps-refl a)
+not_sought offer path as_json a (Ok object) (Err cause) failure h = (cc, Keeps-refl a)
+not_sought offer path as_json a (Err cause) wanted failure h = (cc, Keeps-refl a)

@@ -1,8 +1,6 @@
 -- What was told of the units that an executable names.
-use Rattle.std.proofs.Common.{◌≡◌, ◌≢◌, ℕ, List, [], ◌∷◌, ◌++◌, refl}
-use Rattle.std.proofs.Common.{append_assoc}
-use Rattle.std.proofs.lemmas.List.{append-nil}
-use Rattle.std.specs.Prelude.{Option, Some, None, Result, Ok, Err, OnOk}
+use Rattle.std.proofs.Common.{◌≡◌, ◌≢◌, List, [], ◌∷◌, ◌++◌, ℕ, Option, Some, None, Result, Ok, Err}
+use Rattle.std.proofs.Common.{OnOk, refl, append_assoc, append-nil}
 use Rattle.dwp_index.specs.Package.{Package, FoundUnit, found}
 use Rattle.dwp_index.specs.declared.error.PackageError.{PackageError}
 use Rattle.thorin_executable.specs.Skeletons.{Named, Listed}
@@ -10,10 +8,10 @@ use Rattle.thorin_errors.specs.Answers.{MemoryAside}
 use Rattle.thorin_errors.specs.Errors.{ErrorValue, error_of}
 use Rattle.thorin_errors.specs.declared.error.Error.{Error}
 use Rattle.thorin_errors.specs.declared.error.Error.TheVariants.{Memory}
-use Rattle.thorin_queries.specs.Faults.{fault_line, missing_text, missing_lines, IsBroken}
+use Rattle.thorin_queries.specs.Faults.{fault_line, missing_text, missing_lines, IsBroken, TellsEnd}
 use Rattle.thorin_queries.specs.Faults.{TellsListed}
 use Rattle.thorin_queries.specs.Telling.{Outcome, Progress, Told, Tells, Is}
-use Rattle.thorin_queries.proofs.Told.{told_then, tells_as, stopped_behind}
+use Rattle.thorin_queries.proofs.Told.{told_then, told_as, stopped_behind}
 
 module _ (executable : List ℕ) (named : Named)
     (looked : Result (Option FoundUnit) PackageError) where
@@ -30,63 +28,52 @@ module _ (executable : List ℕ) (named : Named)
       → fault_line named.0 text ∷ [] ≡ missing_lines executable named looked
   missing_none e text is = rw (e, is) refl
 
-module _ (pack : Package) (executable : List ℕ) (all : Listed) where
-  -- what is told of those that are left makes, behind these lines, what is told of all
-  pub record GoesOn (left : Listed) (lines : List (List ℕ)) : Type 0 where
-    pub on : (more : List (List ℕ)) → TellsListed pack executable left more
-        → TellsListed pack executable all (lines ++ more)
+module _ (pack : Package) (executable : List ℕ) where
+  -- no unit is left, but the end
+  at_end : {end : Option ErrorValue} (left : Listed) (lines : List (List ℕ)) → left ≡ ([], end)
+      → TellsEnd executable end lines → TellsListed pack executable left lines
+  at_end left lines e h = rw e (record { ended = lines; end = h; all = refl })
 
-  pub on_none : GoesOn all []
-  on_none = record { on = λ more t. t }
-
-  pub on_next : (before after : Listed) (first : Named) → before ≡ (first ∷ after.0, after.1)
-      → (ls ms : List (List ℕ)) → GoesOn before ls
-      → Is (missing_lines executable first (found pack first.0)) ms → GoesOn after (ls ++ ms)
-  on_next before after first e ls ms h k = record {
-    on = λ more t. rw (append_assoc ls ms more) (h.on (ms ++ more) (rw e (record {
-      ended = t.ended;
-      end = t.end;
-      all = rw (t.all, k, append_assoc) refl;
-    })));
-  }
-
-  pub on_end : (before : Listed) → before ≡ ([], None) → (ls : List (List ℕ)) → GoesOn before ls
-      → TellsListed pack executable all ls
-  on_end before e ls h = rw (← append-nil ls)
-      (h.on [] (rw e (record { ended = []; end = refl; all = refl })))
-
-  pub on_broken : (before : Listed) (fault : ErrorValue) → before ≡ ([], Some fault)
-      → (ls ms : List (List ℕ)) → GoesOn before ls → IsBroken executable ms
-      → TellsListed pack executable all (ls ++ ms)
-  on_broken before fault e ls ms h k =
-      h.on ms (rw e (record { ended = ms; end = k; all = refl }))
-
--- a list that begins with its fault
-pub only_broken : (pack : Package) (executable : List ℕ) (listed : Listed) (fault : ErrorValue)
-    (a b : Progress) (result : Outcome) → listed ≡ ([], Some fault)
-    → Tells (IsBroken executable) a b result → Tells (TellsListed pack executable listed) a b result
-only_broken pack executable listed fault a b result e h =
-    tells_as (IsBroken executable) (TellsListed pack executable listed) a b result
-    (λ lines k. rw e (record { ended = lines; end = k; all = refl })) h
-
-module _ (pack : Package) (executable : List ℕ) (listed : Listed) (a b : Progress) where
-  -- the fault that a list begins with was told
-  pub read_broken : (error : Error) (result : Outcome)
+  -- the error that a list begins with was told
+  pub read_broken : (listed : Listed) (a b : Progress) (error : Error) (result : Outcome)
       → MemoryAside error (listed ≡ ([], Some (error_of error)))
       → OnOk result (error ≢ Memory) → Tells (IsBroken executable) a b result
       → Tells (TellsListed pack executable listed) a b result
-  read_broken error (Ok done) aside known h =
-      only_broken pack executable listed (error_of error) a b (Ok done) (aside known) h
-  read_broken error (Err failure) aside known h = h
+  read_broken listed a b error (Ok done) aside known h =
+      told_as h (λ lines k. at_end listed lines (aside known) k)
+  read_broken listed a b error (Err failure) aside known h = h
 
--- the fault that ends a list was told
-pub end_broken : (pack : Package) (executable : List ℕ) (all before : Listed) (a b c : Progress)
-    (error : Error) (result : Outcome)
-    → MemoryAside error (before ≡ ([], Some (error_of error))) → OnOk result (error ≢ Memory)
-    → Told (GoesOn pack executable all before) a b → Tells (IsBroken executable) b c result
-    → Tells (TellsListed pack executable all) a c result
-end_broken pack executable all before a b c error (Ok done) aside known p q =
-    told_then
-    (on_broken pack executable all before (error_of error) (aside known)) p q
-end_broken pack executable all before a b c error (Err failure) aside known p q =
-    (q.0, stopped_behind c.written p q.1)
+  module _ (all : Listed) where
+    -- what is told of those that are left makes, behind these lines, what is told of all
+    pub record GoesOn (left : Listed) (lines : List (List ℕ)) : Type 0 where
+      pub on : (more : List (List ℕ)) → TellsListed pack executable left more
+          → TellsListed pack executable all (lines ++ more)
+
+    pub on_none : GoesOn all []
+    on_none = record { on = λ more t. t }
+
+    pub on_next : (before after : Listed) (first : Named) → before ≡ (first ∷ after.0, after.1)
+        → (ls ms : List (List ℕ)) → GoesOn before ls
+        → Is (missing_lines executable first (found pack first.0)) ms → GoesOn after (ls ++ ms)
+    on_next before after first e ls ms h k = record {
+      on = λ more t. rw (append_assoc ls ms more) (h.on (ms ++ more) (rw e (record {
+        ended = t.ended;
+        end = t.end;
+        all = rw (t.all, k, append_assoc) refl;
+      })));
+    }
+
+    pub on_end : (before : Listed) → before ≡ ([], None) → (ls : List (List ℕ))
+        → GoesOn before ls → TellsListed pack executable all ls
+    on_end before e ls h = rw (← append-nil ls) (h.on [] (at_end before [] e refl))
+
+    -- the error that ends a list was told
+    pub end_broken : (before : Listed) {a b : Progress} (c : Progress) (error : Error)
+        (result : Outcome) → MemoryAside error (before ≡ ([], Some (error_of error)))
+        → OnOk result (error ≢ Memory) → Told (GoesOn before) a b
+        → Tells (IsBroken executable) b c result
+        → Tells (TellsListed pack executable all) a c result
+    end_broken before c error (Ok done) aside known p q =
+        told_then (λ ls ms h k. h.on ms (at_end before ms (aside known) k)) p q
+    end_broken before c error (Err failure) aside known p q =
+        (q.0, stopped_behind c.written p q.1)

@@ -1,13 +1,8 @@
 -- Texts as they are spelled, and in JSON.
-use Rattle.std.proofs.Common.{◌≡◌, ℕ, Bool, true, false, List, refl}
+use Rattle.std.proofs.Common.{◌≡◌, ℕ, Bool, List, flat_map, chars, IsUtf8, refl}
+use Rattle.std.proofs.lemmas.Bool.{false_from_ne_true}
 use Rattle.std.proofs.lemmas.Str.{IsUtf8-from_is_utf8, is_utf8-from_IsUtf8}
-use Rattle.std.specs.List.{flat_map}
-use Rattle.std.specs.Str.{chars, is_utf8, IsUtf8}
 use Rattle.thorin_queries.specs.Spelled.{spelled, spelled_character, spelled_byte}
-
-is_none : (bytes : List ℕ) (b : Bool) → is_utf8 bytes ≡ b → ¬ (IsUtf8 bytes) → b ≡ false
-is_none bytes true e n = absurd (n (IsUtf8-from_is_utf8 bytes e))
-is_none bytes false e n = refl
 
 -- a text
 pub spelled_text : (as_json : Bool) (bytes name : List ℕ) → name ≡ bytes → IsUtf8 bytes
@@ -19,4 +14,5 @@ spelled_text as_json bytes name same text = rw (same, is_utf8-from_IsUtf8 bytes 
 pub spelled_bytes : (as_json : Bool) (bytes : List ℕ) → ¬ (IsUtf8 bytes)
     → flat_map (spelled_byte as_json) bytes ≡ spelled as_json bytes
 unfolding spelled
-spelled_bytes as_json bytes n = rw (is_none bytes (is_utf8 bytes) refl n) refl
+spelled_bytes as_json bytes n =
+    rw (false_from_ne_true _ (λ e. n (IsUtf8-from_is_utf8 bytes e))) refl

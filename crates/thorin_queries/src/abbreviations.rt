@@ -94,7 +94,7 @@ impl<'a> Remembered<'a> {
     fn read(&mut self, unit: &PackagedUnit<'a>, object: DwarfObject) -> Result<Own, AllocError> {
         match header_of(unit, object, self.order) {
             Ok(header) => self.read_behind(unit, &header),
-            Err(fault) => unread(self.alloc, &fault),
+            Err(error) => unread(self.alloc, &error),
         }
     }
 
@@ -109,14 +109,14 @@ impl<'a> Remembered<'a> {
         match self.tables.identifier(start as usize, end as usize, header) {
             Ok(Some(own)) => Ok(Own::Is(own)),
             Ok(None) => Ok(Own::Nameless),
-            Err(fault) => unread(self.alloc, &fault),
+            Err(error) => unread(self.alloc, &error),
         }
     }
 }
 
 /// What is said of a unit's own identifier that can't be read.
-fn unread<D: fmt::Display>(alloc: Global, fault: &D) -> Result<Own, AllocError> {
-    let cause = format!(in alloc; "{fault}")?;
+fn unread<D: fmt::Display>(alloc: Global, error: &D) -> Result<Own, AllocError> {
+    let cause = format!(in alloc; "{error}")?;
     Ok(Own::Unread(cause))
 }
 
@@ -132,7 +132,7 @@ pub(crate) fn header_of<'a>(
     let reader = SliceReader::new(unit.bytes(), order);
     match UnitHeaders::new(reader, place_of(unit, object)).next() {
         Some(Ok(header)) => Ok(header),
-        Some(Err(fault)) => Err(fault),
+        Some(Err(error)) => Err(error),
         None => Err(ReadError::UnexpectedEof),
     }
 }

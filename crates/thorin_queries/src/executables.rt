@@ -160,7 +160,7 @@ fn check_named<'s, Sess: Session<RelocationEntry>, O: Write>(
     let alloc = *faults.waiting.allocator();
     match NamedUnits::read_by(alloc, session, bytes, nameless) {
         Ok(mut units) => check_skeletons(naming, &mut units, faults, out),
-        Err(fault) => tell_fault(naming.executable, &fault, faults, out),
+        Err(error) => tell_fault(naming.executable, &error, faults, out),
     }
 }
 
@@ -185,7 +185,7 @@ fn check_skeletons<O: Write>(
                 }
             }
             Ok(None) => return Ok(()),
-            Err(fault) => return tell_fault(naming.executable, &fault, faults, out),
+            Err(error) => return tell_fault(naming.executable, &error, faults, out),
         }
     }
 }
@@ -245,8 +245,8 @@ fn tell_fault<O: Write>(
     }
 }
 
-fn fault_text(alloc: Global, fault: &Error) -> Result<String, AllocError> {
-    format!(in alloc; "{fault}")
+fn fault_text(alloc: Global, error: &Error) -> Result<String, AllocError> {
+    format!(in alloc; "{error}")
 }
 
 /// Adds the line of an executable that can't be read to its end.

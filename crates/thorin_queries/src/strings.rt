@@ -196,15 +196,15 @@ fn string_text(
 {
     match ends.fault_of(unit, i) {
         None => Ok(None),
-        Some(fault) => some(unread_text(i, fault, near)),
+        Some(error) => some(unread_text(i, error, near)),
     }
 }
 
 /// What is told of a string that can't be read.
-fn unread_text(i: u64, fault: ReadError, near: &String) -> Result<String, AllocError>
+fn unread_text(i: u64, error: ReadError, near: &String) -> Result<String, AllocError>
     ensures { IfOk result (λ text. (cause : List ℕ) × (string_bytes text ≡ string_text i cause)) }
 {
-    let cause = format!(in *near.allocator(); "{fault}")?;
+    let cause = format!(in *near.allocator(); "{error}")?;
     let cause = cause.as_str();
     format!(in *near.allocator(); "string {i} can't be read: {cause}")
 }

@@ -86,18 +86,18 @@ fn count_headers<R: Reader>(reader: R, kind: UnitSection) -> usize {
 pub fn tell_refused<E: Write>(
     err: &mut E,
     name: &str,
-    fault: &Error,
+    error: &Error,
     decompresses: bool,
 ) -> Result<(), Failure> {
     let name = Name(name);
-    let causes = Causes(fault);
-    let advice = advice_on(fault, decompresses);
+    let causes = Causes(error);
+    let advice = advice_on(error, decompresses);
     written(writeln!(err, "{name}: {causes}{advice}"))
 }
 
-/// What can be done about a fault, if anything.
-fn advice_on(fault: &Error, decompresses: bool) -> &'static str {
-    match fault {
+/// What can be done about an error, if anything.
+fn advice_on(error: &Error, decompresses: bool) -> &'static str {
+    match error {
         Error::DecompressData(_) => {
             if decompresses {
                 ": not by zlib, or damaged"
@@ -161,50 +161,50 @@ impl fmt::Display for Name<'_> {
     }
 }
 
-/// A fault with the causes below it, outermost first.
+/// An error with the causes below it, outermost first.
 #[derive(Drop)]
 struct Causes<'a>(&'a Error);
 
 impl fmt::Display for Causes<'_> {
     fn fmt<W: fmt::Write>(&self, f: &mut fmt::Formatter<W>) -> fmt::Result {
-        let fault = self.0;
-        match fault {
-            Error::ReadInput(cause) => write!(f, "{fault}: {cause}"),
+        let error = self.0;
+        match error {
+            Error::ReadInput(cause) => write!(f, "{error}: {cause}"),
             Error::ParseFileKind(cause)
             | Error::ParseObjectFile(cause)
             | Error::DecompressData(cause)
-            | Error::NamelessSection(cause, _) => write!(f, "{fault}: {cause}"),
+            | Error::NamelessSection(cause, _) => write!(f, "{error}: {cause}"),
             Error::ParseUnitAbbreviations(cause)
             | Error::ParseUnitHeader(cause)
             | Error::ParseUnit(cause)
             | Error::OffsetAtIndex(cause, _)
             | Error::StrAtOffset(cause, _)
             | Error::ParseIndex(cause, _)
-            | Error::RowNotInIndex(cause, _) => write!(f, "{fault}: {cause}"),
+            | Error::RowNotInIndex(cause, _) => write!(f, "{error}: {cause}"),
             Error::RelocationWithInvalidSymbol(section, _)
             | Error::MultipleRelocations(section, _)
             | Error::UnsupportedRelocation(section, _) => {
-                write_printed(*section.allocator(), fault, f)
+                write_printed(*section.allocator(), error, f)
             }
-            _ => write!(f, "{fault}"),
+            _ => write!(f, "{error}"),
         }
     }
 }
 
-/// Writes the text of a fault that has a name out of a file.
+/// Writes the text of an error that has a name out of a file.
 fn write_printed<W: fmt::Write>(
     alloc: Global,
-    fault: &Error,
+    error: &Error,
     f: &mut fmt::Formatter<W>,
 ) -> fmt::Result {
-    match printed_fault(alloc, fault) {
+    match printed_fault(alloc, error) {
         Ok(text) => f.write_str(text.as_str()),
         Err(_) => Err(fmt::Error),
     }
 }
 
-/// The text of a fault without control characters.
-fn printed_fault(alloc: Global, fault: &Error) -> Result<String, AllocError> {
-    let text = format!(in alloc; "{fault}")?;
+/// The text of an error without control characters.
+fn printed_fault(alloc: Global, error: &Error) -> Result<String, AllocError> {
+    let text = format!(in alloc; "{error}")?;
     printed(alloc, text.as_str())
 }

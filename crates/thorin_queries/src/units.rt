@@ -140,7 +140,7 @@ fn text_of<'a>(
     match units.pack.find(entry.object) {
         Ok(Some(unit)) => text_of_found(units, entry, &unit, shares, seen),
         Ok(None) => some(format!(in seen.alloc; "not found under its identifier")),
-        Err(fault) => some(unread_text(seen.alloc, fault)),
+        Err(error) => some(unread_text(seen.alloc, error)),
     }
 }
 

@@ -4,7 +4,6 @@ use Rattle.thorin_queries.proofs.checking.check_all.Goals as goal
 
 pub returns-in-Err-check_tables : goal.returns-in-Err-check_tables
 returns-in-Err-check_tables g c = (
-  of_printing (g.F.FileReader.offer c.args.files.now) c.args.named.executables.now
-      c.in-Err-check_tables.failure c.in-Err-check_tables.ensures.0,
+  of_printing (g.F.FileReader.offer c.args.files.now) _ _ c.in-Err-check_tables.ensures.0,
   stopped_behind _ c.in-Ok.ensures c.in-Err-check_tables.ensures.1,
 )

@@ -1,8 +1,9 @@
-use Rattle.thorin_queries.proofs.Checked.{was_checked}
+use Rattle.std.proofs.Common.{inl}
+use Rattle.thorin_queries.specs.Checking.{Checks}
 use Rattle.thorin_queries.proofs.checking.check_by.Goals as goal
 
 pub returns-in-Ok : goal.returns-in-Ok
+unfolding Checks
 returns-in-Ok g c =
-    was_checked (g.F.FileReader.offer c.args.files.now) c.args.reading c.args.executables.now
-    c.args.file.now _ _ c.check_bytes.result c.in-Ok.bytes.items c.as_slice.result.now
-    c.in-Ok.ensures.read c.as_slice.ensures.value c.check_bytes.ensures
+    let comes = rw c.as_slice.ensures.value at c.check_bytes.ensures in
+    inl (c.in-Ok.bytes.items, c.in-Ok.ensures.read, comes)

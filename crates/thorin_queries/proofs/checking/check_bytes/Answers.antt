@@ -1,7 +1,5 @@
-use Rattle.dwp_elf_read.specs.View.{elf}
 use Rattle.thorin_queries.proofs.Indexed.{has_indexes}
 use Rattle.thorin_queries.proofs.checking.check_bytes.Goals as goal
 
 pub check_package-requires : goal.check_package-requires
-check_package-requires g c = has_indexes (elf c.in-Ok.file) c.args.bytes.now c.in-Ok-parse.pack
-    c.in-Ok.ensures c.in-Ok-parse.ensures
+check_package-requires g c = has_indexes _ _ _ c.in-Ok.ensures c.in-Ok-parse.ensures

@@ -1,19 +1,14 @@
-use Rattle.std.proofs.Common.{ℕ, List}
-use Rattle.std.specs.Borrow.{Bor}
-use Rattle.thorin_queries.specs.Checking.{TellsExecutable}
 use Rattle.thorin_queries.proofs.Checked.{reading_one}
 use Rattle.thorin_queries.proofs.Told.{told_next, stopped_behind}
 use Rattle.thorin_queries.proofs.executables.check_executables.Goals as goal
 
 pub loop-i-preserved : goal.loop-i-preserved
 loop-i-preserved g c =
-    told_next (λ (e : Bor (List ℕ)). TellsExecutable (g.F.FileReader.offer c.args.files.now)
-    c.args.named.reading c.args.pack.now e.now) c.args.named.executables.now c.loop-i.i _
-    c.loop-i-test.true c.loop-i.invariant c.in-Ok.ensures
+    told_next _ _ c.loop-i.i _ c.loop-i-test.true c.loop-i.invariant c.in-Ok.ensures
 
 pub returns-in-Err : goal.returns-in-Err
 returns-in-Err g c = (
-  reading_one (g.F.FileReader.offer c.args.files.now) c.args.named.executables.now c.loop-i.i _
-      _ c.loop-i-test.true c.in-Err.ensures.0,
+  reading_one (g.F.FileReader.offer c.args.files.now) _ c.loop-i.i _ _ c.loop-i-test.true
+      c.in-Err.ensures.0,
   stopped_behind _ c.loop-i.invariant c.in-Err.ensures.1,
 )

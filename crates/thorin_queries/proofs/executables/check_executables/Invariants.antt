@@ -1,14 +1,12 @@
-use Rattle.std.proofs.Common.{ℕ, List, take}
-use Rattle.std.specs.Borrow.{Bor}
-use Rattle.thorin_queries.specs.Checking.{TellsExecutable}
-use Rattle.thorin_queries.specs.Telling.{progress, Told, ForEach}
+use Rattle.std.proofs.Common.{take}
+use Rattle.thorin_queries.specs.Checking.{TellsExecutables}
+use Rattle.thorin_queries.specs.Telling.{progress, Told}
 use Rattle.thorin_queries.proofs.executables.check_executables.Given as goal
 
 -- the faults of the executables so far
 abbrev pub invariant-loop-i : goal.invariant-loop-i
 invariant-loop-i g l = Told
-    (ForEach (λ (e : Bor (List ℕ)). TellsExecutable (g.F.FileReader.offer l.files)
-    l.named.reading l.pack e.now)
+    (TellsExecutables (g.F.FileReader.offer l.files) l.named.reading l.pack
     (take l.i l.named.executables.now))
     (progress (g.O.Write.contents l.initial.out) l.initial.faults)
     (progress (g.O.Write.contents l.out) l.faults)

@@ -1,9 +1,10 @@
-use Rattle.thorin_queries.proofs.Listed.{was_listed}
+use Rattle.std.proofs.Common.{inl, inr, ⊎_elim}
+use Rattle.thorin_queries.specs.Answers.{OrNoMemory}
+use Rattle.thorin_queries.specs.Listing.{Lists}
 use Rattle.thorin_queries.proofs.listing.list_by.Goals as goal
 
 pub returns-in-Ok : goal.returns-in-Ok
-returns-in-Ok g c =
-    was_listed (g.F.FileReader.offer c.args.files.now) c.args.file.now c.args.form
-    (g.O.Write.contents c.args.out.now) (g.O.Write.contents c.list_bytes.new.out)
-    c.list_bytes.result c.in-Ok.bytes.items c.as_slice.result.now c.in-Ok.ensures.read
-    c.as_slice.ensures.value c.list_bytes.ensures
+unfolding Lists OrNoMemory
+returns-in-Ok g c = ⊎_elim
+    (λ h. inl (c.in-Ok.bytes.items, c.in-Ok.ensures.read, rw c.as_slice.ensures.value at h))
+    (λ h. inr (rw h.0 (tt, h.1))) c.list_bytes.ensures

@@ -1,5 +1,4 @@
-use Rattle.std.proofs.Common.{drop}
-use Rattle.std.specs.Prelude.{string_bytes}
+use Rattle.std.proofs.Common.{drop, string_bytes}
 use Rattle.thorin_queries.specs.Listing.{view_by}
 use Rattle.thorin_queries.proofs.Walk.{LinesSoFar}
 use Rattle.thorin_queries.proofs.listing.put_lines.Given as goal

@@ -1,7 +1,4 @@
-use Rattle.std.specs.Prelude.{string_bytes}
-use Rattle.dwp_base.specs.declared.section.SectionKind.TheVariants.{Info}
 use Rattle.dwp_index.specs.Index.{range_in}
-use Rattle.dwp_table.specs.Columns.{contribution_kinds}
 use Rattle.thorin_queries.specs.Listing.{range_size}
 use Rattle.thorin_queries.proofs.Lines.{flat_map_next}
 use Rattle.thorin_queries.proofs.listing.put_sizes.Goals as goal
@@ -9,6 +6,5 @@ use Rattle.thorin_queries.proofs.listing.put_sizes.Goals as goal
 pub loop-kind-preserved : goal.loop-kind-preserved
 loop-kind-preserved c =
     flat_map_next (λ kind. range_size c.args.as_json kind (range_in c.args.unit.now.row kind))
-    contribution_kinds c.loop-kind.kind-index Info (string_bytes c.args.text.now)
-    (string_bytes c.loop-kind.text) (string_bytes c.put_size.new.text) c.loop-kind-test.true
-    c.loop-kind.invariant (rw c.range.ensures at c.in_ok-put_size.ensures)
+    _ c.loop-kind.kind-index _ _ _ _ c.loop-kind-test.true c.loop-kind.invariant
+    (rw c.range.ensures at c.in_ok-put_size.ensures)

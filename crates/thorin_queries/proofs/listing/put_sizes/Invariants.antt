@@ -1,6 +1,4 @@
-use Rattle.std.proofs.Common.{◌≡◌, ◌++◌, take}
-use Rattle.std.specs.Prelude.{string_bytes}
-use Rattle.std.specs.List.{flat_map}
+use Rattle.std.proofs.Common.{◌≡◌, ◌++◌, take, string_bytes, flat_map}
 use Rattle.dwp_index.specs.Index.{range_in}
 use Rattle.dwp_table.specs.Columns.{contribution_kinds}
 use Rattle.thorin_queries.specs.Listing.{range_size}

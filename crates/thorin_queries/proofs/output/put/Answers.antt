@@ -1,7 +1,8 @@
 use Rattle.std.proofs.Common.{◌++◌, take, sym, ap, ◌∙◌, take-append-drop}
+use Rattle.std.proofs.KnownBytes.{Keeps-refl}
 use Rattle.std.proofs.lemmas.List.{take_rest}
 use Rattle.dwp_elf.proofs.SoFar.{so_far_more}
-use Rattle.thorin_queries.proofs.Printed.{on_err, part, part_kept}
+use Rattle.thorin_queries.proofs.Printed.{on_err, part}
 use Rattle.thorin_queries.proofs.output.put.Goals as goal
 
 pub loop-turn-preserved : goal.loop-turn-preserved
@@ -13,13 +14,8 @@ loop-turn-preserved g c =
     c.in_ok-taken.ensures.bytes
 
 pub returns-in_err-taken-clause-part : goal.returns-in_err-taken-clause-part
-returns-in_err-taken-clause-part g c =
-    on_err c.from_residual.result _
-    (part_kept (g.O.Write.contents c.args.out.now) (g.O.Write.contents c.loop-turn.out)
-    (g.O.Write.contents c.put_some.new.out) c.args.bytes.now c.loop-turn.rest.now
-    c.loop-turn.invariant c.in_err-taken.ensures.kept)
+returns-in_err-taken-clause-part g c = on_err c.from_residual.result _
+    (part _ _ _ _ _ c.loop-turn.invariant c.in_err-taken.ensures.kept)
 
 pub returns-clause-part : goal.returns-clause-part
-returns-clause-part g c =
-    part (g.O.Write.contents c.args.out.now) (g.O.Write.contents c.loop-turn.out)
-    c.args.bytes.now c.loop-turn.rest.now c.loop-turn.invariant
+returns-clause-part g c = part _ _ _ _ _ c.loop-turn.invariant (Keeps-refl _)

@@ -1,5 +1,4 @@
-use Rattle.std.proofs.Common.{◌≡◌, ◌++◌, take, string_bytes}
-use Rattle.std.specs.List.{flat_map}
+use Rattle.std.proofs.Common.{◌≡◌, ◌++◌, take, string_bytes, flat_map}
 use Rattle.thorin_queries.specs.Spelled.{spelled_byte}
 use Rattle.thorin_queries.proofs.spelled.put_bytes.Given as goal
 

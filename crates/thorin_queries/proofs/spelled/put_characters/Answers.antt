@@ -1,8 +1,6 @@
-use Rattle.std.proofs.Common.{◌∙◌, ◌++◌, sym, ap, string_bytes}
-use Rattle.std.proofs.lemmas.List.{map-id}
+use Rattle.std.proofs.Common.{◌∙◌, ◌++◌, flat_map, sym, ap, map-id, string_bytes}
 use Rattle.std.proofs.lemmas.Iterator.{YieldsList-from_chars}
 use Rattle.std.proofs.lemmas.Iterator.Consumers.{YieldsList-end}
-use Rattle.std.specs.List.{flat_map}
 use Rattle.thorin_queries.specs.Spelled.{spelled_character}
 use Rattle.thorin_queries.proofs.spelled.put_characters.Goals as goal
 

@@ -1,5 +1,4 @@
-use Rattle.std.proofs.Common.{◌≡◌, ◌++◌, string_bytes}
-use Rattle.std.specs.List.{flat_map}
+use Rattle.std.proofs.Common.{◌≡◌, ◌++◌, string_bytes, flat_map}
 use Rattle.thorin_queries.specs.Spelled.{spelled_character}
 use Rattle.thorin_queries.proofs.spelled.put_characters.Given as goal
 

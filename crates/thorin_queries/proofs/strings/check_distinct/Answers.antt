@@ -1,18 +1,10 @@
-use Rattle.std.proofs.Common.{ℕ, Bool}
-use Rattle.dwp_index.specs.Package.{found}
-use Rattle.dwp_table.specs.declared.object.DwarfObject.{DwarfObject}
-use Rattle.thorin_queries.specs.Faults.{TellsStringsOf}
 use Rattle.thorin_queries.proofs.Told.{told_next, stopped_behind}
 use Rattle.thorin_queries.proofs.strings.check_distinct.Goals as goal
 
 pub loop-i-preserved : goal.loop-i-preserved
 loop-i-preserved g c =
-    told_next (λ (s : (ℕ × ℕ × ℕ × Bool) × DwarfObject).
-    TellsStringsOf s.1 (found c.args.pack.now s.1)) c.args.strings.now c.loop-i.i _
-    c.loop-i-test.true c.loop-i.invariant c.in-Ok.ensures
+    told_next _ _ c.loop-i.i _ c.loop-i-test.true c.loop-i.invariant c.in-Ok.ensures
 
 pub returns-in-Err : goal.returns-in-Err
-returns-in-Err g c = (
-  c.in-Err.ensures.0,
-  stopped_behind _ c.loop-i.invariant c.in-Err.ensures.1,
-)
+returns-in-Err g c =
+    (c.in-Err.ensures.0, stopped_behind _ c.loop-i.invariant c.in-Err.ensures.1)

@@ -1,6 +1,5 @@
-use Rattle.std.proofs.Common.{ℕ, Bool, take}
+use Rattle.std.proofs.Common.{take}
 use Rattle.dwp_index.specs.Package.{found}
-use Rattle.dwp_table.specs.declared.object.DwarfObject.{DwarfObject}
 use Rattle.thorin_queries.specs.Faults.{TellsStringsOf}
 use Rattle.thorin_queries.specs.Telling.{progress, Told, ForEach}
 use Rattle.thorin_queries.proofs.strings.check_distinct.Given as goal
@@ -8,7 +7,6 @@ use Rattle.thorin_queries.proofs.strings.check_distinct.Given as goal
 -- the faults of the units so far
 abbrev pub invariant-loop-i : goal.invariant-loop-i
 invariant-loop-i g l = Told
-    (ForEach (λ (s : (ℕ × ℕ × ℕ × Bool) × DwarfObject). TellsStringsOf s.1 (found l.pack s.1))
-    (take l.i l.strings))
+    (ForEach (λ s. TellsStringsOf s.1 (found l.pack s.1)) (take l.i l.strings))
     (progress (g.O.Write.contents l.initial.out) l.initial.faults)
     (progress (g.O.Write.contents l.out) l.faults)

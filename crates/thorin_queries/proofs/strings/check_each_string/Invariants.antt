@@ -1,11 +1,10 @@
 use Rattle.thorin_queries.specs.Faults.{TellsNumbered}
-use Rattle.thorin_queries.proofs.Faulted.{first_strings}
 use Rattle.thorin_queries.specs.Telling.{progress, Told, ForEach}
+use Rattle.thorin_queries.proofs.Faulted.{first_strings}
 use Rattle.thorin_queries.proofs.strings.check_each_string.Given as goal
 
 -- the faults of the strings so far
 abbrev pub invariant-loop-i : goal.invariant-loop-i
-invariant-loop-i g l = Told (ForEach (TellsNumbered l.object)
-    (first_strings l.unit l.i))
+invariant-loop-i g l = Told (ForEach (TellsNumbered l.object) (first_strings l.unit l.i))
     (progress (g.O.Write.contents l.initial.out) l.initial.faults)
     (progress (g.O.Write.contents l.out) l.faults)

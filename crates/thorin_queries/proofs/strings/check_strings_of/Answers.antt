@@ -1,5 +1,6 @@
-use Rattle.thorin_queries.proofs.Faulted.{strings_none, strings_unread}
+use Rattle.std.proofs.Common.{refl}
 use Rattle.thorin_queries.proofs.Reached.{of_found}
+use Rattle.thorin_queries.proofs.Told.{none_told}
 use Rattle.thorin_queries.proofs.strings.check_strings_of.Goals as goal
 
 pub check_each_string-requires : goal.check_each_string-requires
@@ -9,7 +10,7 @@ check_each_string-requires g c =
 
 pub returns-in-Ok-None : goal.returns-in-Ok-None
 returns-in-Ok-None g c =
-    strings_none _ _ _ (rw c.in-Ok-None.field-0-is at c.in-Ok-None.ensures)
+    none_told _ (rw (rw c.in-Ok-None.field-0-is at c.in-Ok-None.ensures) refl) _
 
 pub returns-in-Err : goal.returns-in-Err
-returns-in-Err g c = strings_unread _ _ _ _ c.in-Err.ensures
+returns-in-Err g c = none_told _ (rw c.in-Err.ensures refl) _

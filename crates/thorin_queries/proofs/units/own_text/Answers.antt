@@ -1,5 +1,4 @@
-use Rattle.std.proofs.Common.{rules, arith}
-use Rattle.std.specs.Prelude.{◌++◌, codes, string_bytes}
+use Rattle.std.proofs.Common.{rules, arith, ◌++◌, codes, string_bytes}
 use Rattle.thorin_queries.specs.Lines.{hex16}
 use Rattle.thorin_queries.proofs.Faulted.{is_own_text}
 use Rattle.thorin_queries.proofs.Hex.{hex16_written}
