@@ -71,7 +71,7 @@ use Rattle.thorin_again.proofs.Opened.Sections.{rest-differ, section_of}
 use Rattle.thorin_join.specs.Builder.{State}
 use Rattle.thorin_join.proofs.Files.Indexes.{IndexIsRead, IndexHasEntries}
 use Rattle.thorin_again.specs.OwnRefusals.{IsForeseen, UnlessForeseen}
-use Rattle.thorin_again.proofs.Opened.Unless.{Unless, answered}
+use Rattle.thorin_again.proofs.Opened.Parts.{Unless, answered}
 
 -- an answer of which something holds, or a refusal of some sort
 abbrev Fares : {X : Type 0} → (ErrorValue → Type 0) → (X → Type 0) → Result X ErrorValue
