@@ -7,7 +7,6 @@ use Rattle.std.specs.List.{list_any, list_all}
 use Rattle.std.proofs.lemmas.Option.{none-some, same_Some, cond_some}
 use Rattle.dwp_base.proofs.Bools.{both, by-bool}
 use Rattle.dwp_base.proofs.Steps.{bind-was, same-ok}
-use Rattle.dwp_base.specs.declared.endian.Endianness.{Endianness}
 use Rattle.dwp_bytes.specs.Input.{section}
 use Rattle.dwp_dwarf.specs.Units.{Unit as Header, UnitsAreTaken, units}
 use Rattle.dwp_base.specs.declared.section.SectionKind.{SectionKind}
@@ -26,7 +25,7 @@ use Rattle.thorin_join.specs.State.{kind_at, InProgress, names_of, with_unit_add
 use Rattle.thorin_join.specs.State.{with_new_units}
 use Rattle.thorin_join.proofs.Units.HeadersRead.{Listed, Reads, ReadAlone, kind-place}
 use Rattle.thorin_join.proofs.Units.JoinedByName.{IsAdded, AreAdded}
-use Rattle.thorin_join.proofs.Units.Whole.{Goes, AllGo, IsKnown, known-in, error-ok}
+use Rattle.thorin_join.proofs.Units.Whole.{IsKnown, known-in, error-ok}
 use Rattle.std.proofs.lemmas.Bool.{eqb-true, eq-eqb}
 use Rattle.dwp_bytes.specs.declared.encoding.Encoding.{Encoding}
 use Rattle.dwp_bytes.specs.declared.encoding.Format.{Format}
@@ -47,6 +46,11 @@ each-weaker P Q f (x ∷ xs) h = (f x h.0, each-weaker P Q f xs h.1)
 pub each-all : {X : Type 0} (P : X → Type 0) → ((x : X) → P x) → (xs : List X) → Each P xs
 each-all P f [] = tt
 each-all P f (x ∷ xs) = (f x, each-all P f xs)
+
+pub each-both : {X : Type 0} (P Q : X → Type 0) (xs : List X) → Each P xs → Each Q xs
+    → Each (λ x. P x × Q x) xs
+each-both P Q [] h k = tt
+each-both P Q (x ∷ xs) h k = ((h.0, k.0), each-both P Q xs h.1 k.1)
 
 each-append : {X : Type 0} (P : X → Type 0) (xs ys : List X) → Each P xs → Each P ys
     → Each P (xs ++ ys)
@@ -171,12 +175,6 @@ of-one taken alone source (used ∷ rest) has =
       ),
       of-one taken alone source rest two.1,
     )
-
--- they are whole ones where they go to
-pub go-both : (order : Endianness) (Q : DwarfObject × UnitRead → Type 0) (rs : Reads)
-    → AllGo order rs → Each Q rs → Each (λ r. Goes order r × Q r) rs
-go-both order Q [] go h = tt
-go-both order Q (r ∷ rs) go h = ((go.0, h.0), go-both order Q rs go.1 h.1)
 
 -- ---- units that are added
 

@@ -31,7 +31,7 @@ use Rattle.thorin_input.specs.Used.{first, Used}
 use Rattle.thorin_join.proofs.Units.HeadersRead.{ReadAlone, kind-place, Listed, Reads}
 use Rattle.thorin_join.proofs.Units.HeadersRead.{name-identity}
 use Rattle.thorin_join.proofs.Units.Sorts.{identity-sort}
-use Rattle.thorin_again.proofs.Kept.EachUnit.{Each, News, in-turn, WasRead, AllSo, OfOne}
+use Rattle.thorin_again.proofs.Kept.EachUnit.{Each, each-both, News, in-turn, WasRead, AllSo, OfOne}
 use Rattle.thorin_again.proofs.Kept.EachUnit.{sections-are, of-one, each-added}
 use Rattle.thorin_join.proofs.Moved.RootEntries.{identity-shifted}
 use Rattle.thorin_join.proofs.Units.Whole.{ReadsAlone, IsKnown, known-in, other-alone, five-named}
@@ -135,15 +135,6 @@ module _ (source : Source) (made : InProgress) (plain : is_package source.indexe
   abbrev base : Contents
   base = with_parts parts made.file.contents
 
-  -- a unit has its name by the first abbreviations
-  by-table : (kind : SectionKind) (unit : Header) (name : DwarfObject)
-      → name_for source kind unit ≡ Ok name
-      → identity (section order table) unit ≡ Ok (Some name)
-  unfolding name_for abbreviations_for
-  by-table kind unit name h =
-      let s = bind-was (identity (section order table) unit) _ name (rw plain at h) in
-      s.1 ∙ ap Ok (ok-some NotSplitUnit s.0 name s.2)
-
   -- a unit is added for one that was read
   abbrev IsNew : DwarfObject × NewUnit → Type 0
   IsNew n = (r : DwarfObject × UnitRead) × IsAdded (adding source made parts) n r × Goes order r
@@ -153,6 +144,7 @@ module _ (source : Source) (made : InProgress) (plain : is_package source.indexe
   new-names : (c d : Contents) (n : DwarfObject × NewUnit) → IsNew n → Grows base c
       → Grows (with_bytes (kind_at n.1.place) n.1.bytes c) d
       → NamesItself order source.encoding d (row_at n.1.row c n.0 n.1.bytes n.1.place)
+  unfolding name_for abbreviations_for
   new-names c d n (r, is, goes, w) grows up unit rest read =
       let place = n.1.place in
       let x = n.1.bytes in
@@ -165,7 +157,8 @@ module _ (source : Source) (made : InProgress) (plain : is_package source.indexe
       let own : unit_bytes d row ≡ x = ap (λ p. part_of (content_of (kind_at p) d)
       (contribution_to (kind_at p) row)) place_is ∙ ap (part_of (content_of k d))
       (row-own n.1.row c n.0 x place) ∙ put-stays (content_of k c) x (content-put k x c) (up k) in
-      let named = by-table r.1.from r.1.unit r.0 w.named in
+      let s = bind-was (identity (section order table) r.1.unit) _ r.0 (rw plain at w.named) in
+      let named = s.1 ∙ ap Ok (ok-some NotSplitUnit s.0 r.0 s.2) in
       let a = goes-alone order w.place r.0 r.1.unit w.so.0
       (identity-sort (section order table) r.1.unit r.0 named) in
       let goes_to = place_is ∙ is.place ∙ ap (place_for r.0) w.from in
@@ -205,8 +198,7 @@ module _ (source : Source) (made : InProgress) (plain : is_package source.indexe
 
 pub both-rows : (P Q : IndexEntry → Type 0) (rows : List IndexEntry) → EachRow P rows
     → EachRow Q rows → EachRow (λ row. P row × Q row) rows
-both-rows P Q [] h k = tt
-both-rows P Q (r ∷ rs) h k = ((h.0, k.0), both-rows P Q rs h.1 k.1)
+both-rows P Q rows h k = each-both P Q rows h k
 
 grows-self : (c : Contents) → Grows c c
 grows-self c kind = record { rest = []; is = sym (append-nil (content_of kind c)) }

@@ -33,7 +33,7 @@ use Rattle.thorin_join.proofs.Parts.Appended.{content-with_bytes, content-with_p
 use Rattle.thorin_join.proofs.Joined.Source.{with_all_parts, source-made}
 use Rattle.thorin_join.proofs.Rows.OneAdded.{row-other}
 use Rattle.thorin_again.proofs.Kept.EachUnit.{Each, each-all, each-new, each-added, each-unit}
-use Rattle.thorin_again.proofs.Kept.EachUnit.{each-joining, go-both, WasRead}
+use Rattle.thorin_again.proofs.Kept.EachUnit.{each-joining, each-both, WasRead}
 use Rattle.dwp_dwarf.specs.Units.{Unit as Header, UnitsAreTaken}
 use Rattle.thorin_join.proofs.Units.HeadersRead.{ReadAlone}
 use Rattle.thorin_join.proofs.Units.Whole.{Goes, units-go}
@@ -120,7 +120,7 @@ module _ (source : Source) (before now : InProgress) (a : PlainAdded source befo
       let held = keys (adding source before a.parts).held in
       let j = a.joined in
       each-new (adding source before a.parts) P _ (λ n r is k. f n r is k.0 k.1) a.new.units
-      (joining held j.all) j.are (each-joining _ held j.all (go-both source.object.order
+      (joining held j.all) j.are (each-joining _ held j.all (each-both (Goes source.object.order)
       (WasRead source T) j.all (units-go taken alone source j.all j.is) read))
 
 -- ---- the rows of a plain object's units
