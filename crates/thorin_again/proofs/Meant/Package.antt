@@ -74,13 +74,10 @@ abbrev IsTested : Source → DwarfObject × UnitRead → Type 0
 IsTested source u = is_compilation u.0 ≡ true → row_test source.indexes u.1.from u.0
     u.1.unit ≡ Ok tt
 
-abbrev AreTested : Source → Reads → Type 0
-AreTested source us = All (IsTested source) us
-
 joined-tested : (adding : Adding) (names : List DwarfObject) (all : Reads)
     (ns : List (DwarfObject × NewUnit))
     → can_join names all ≡ true → AreAdded adding ns (joining names all)
-    → AreTested adding.source all
+    → All (IsTested adding.source) all
 joined-tested adding names [] ns can are = All-nil _
 joined-tested adding names (u ∷ us) ns can are =
     by-bool _ (list_any (same_name u.0) names)
@@ -90,7 +87,7 @@ joined-tested adding names (u ∷ us) ns can are =
         absurd (true≢false (sym is ∙ is-false _ passed.0)))
     (joined-tested adding names us ns passed.1 (rw there at are)))
     (λ new. (elim ns as (λ l. AreAdded adding l (u ∷ joining (names ++ u.0 ∷ []) us)
-    → AreTested adding.source (u ∷ us)) [
+    → All (IsTested adding.source) (u ∷ us)) [
       | [] ↦ λ none. absurd none
       | n ∷ ms ↦ λ some. All-cons (IsTested adding.source) u us (λ is. some.0.tested)
           (joined-tested adding (names ++ u.0 ∷ []) us ms (rw new at can) some.1)
@@ -103,16 +100,6 @@ record Split (source : Source) (cs : Contents) (all : Reads) : Type 0 where
   read : (place : UnitSection) → named_each source (kind_at place) (units place
       (section source.object.order (content_of (kind_at place) cs))) ≡ Ok (of place)
   are : IsPermutation (of places.Info ++ of places.Types) all
-
--- contents that are alike at both places have the same split
-split-as : (source : Source) (cs ds : Contents) (all : Reads) → ((place : UnitSection)
-    → content_of (kind_at place) ds ≡ content_of (kind_at place) cs)
-    → Split source cs all → Split source ds all
-split-as source cs ds all same rest = record {
-  of = rest.of;
-  read = λ place. rw (same place) (rest.read place);
-  are = rest.are;
-}
 
 -- what there is at either place
 abbrev each-place : (P : UnitSection → Type 0) → P places.Info → P places.Types
@@ -151,8 +138,11 @@ section-split source (kinds.Types, bytes) cs here others apart rest h =
           (rw (none, append-nil) at rest.are));
     }
 section-split source (kind, bytes) cs here others apart rest h =
-    rw (← same-ok [] here h) (split-as source cs ((kind, bytes) ∷ cs) others
-    (each-place _ refl refl) rest)
+    rw (← same-ok [] here h) (record {
+      of = rest.of;
+      read = each-place _ (rest.read places.Info) (rest.read places.Types);
+      are = rest.are;
+    })
 
 -- the units of a file's sections are those of info and those of types, in some order
 sections-split : (source : Source) (cs : Contents) (all : Reads) → KindsDiffer cs
@@ -165,8 +155,12 @@ sections-split source [] all differ h =
       are = IsPermutation-refl [];
     })
 sections-split source ((kind, []) ∷ cs) all differ h =
-    split-as source cs ((kind, []) ∷ cs) all (λ place. empty-first (kind_at place) kind cs differ)
-    (sections-split source cs all (rest-differ (kind, []) cs differ) h)
+    let rest = sections-split source cs all (rest-differ (kind, []) cs differ) h in
+    record {
+      of = rest.of;
+      read = λ place. rw (empty-first (kind_at place) kind cs differ) (rest.read place);
+      are = rest.are;
+    }
 sections-split source ((kind, b ∷ bs) ∷ cs) all differ h =
     let c : SectionKind × List ℕ = (kind, b ∷ bs) in
     let s1 = bind-was (named_at source (section_of c) (unit_section kind)) _ all
@@ -295,7 +289,7 @@ module _ (reads : UnitsAreTaken) (first_law : FirstLaw) (find_law : FindLaw) (is
       (encoding_is : encoding_of (written_object file) ≡ Ok encoding)
       (indexes_are : indexes_of (written_object file) encoding ≡ Ok indexes)
       (units_are : source_units (own_source file encoding indexes) ≡ Ok all)
-      (tested : AreTested (own_source file encoding indexes) all) where
+      (tested : All (IsTested (own_source file encoding indexes)) all) where
     abbrev source : Source
     source = own_source file encoding indexes
 
@@ -305,7 +299,7 @@ module _ (reads : UnitsAreTaken) (first_law : FirstLaw) (find_law : FindLaw) (is
     split : Split source file.contents all
     split = sections-split source file.contents all differ units_are
 
-    tested-at : (place : UnitSection) → AreTested source (split.of place)
+    tested-at : (place : UnitSection) → All (IsTested source) (split.of place)
     tested-at =
         let n = length (split.of places.Info) in
         let both = All-permutation (IsTested source) _ _ (IsPermutation-sym _ _ split.are) tested in
@@ -323,7 +317,8 @@ module _ (reads : UnitsAreTaken) (first_law : FirstLaw) (find_law : FindLaw) (is
     unfolding named_each named_unit
     units-are place = of-section reads file.order file.contents place made.rows
         (λ todo got. (us : Reads) → named_each source (kind_at place) got ≡ Ok us
-        → AreTested source us → units_meant us ≡ all_meant (with_names mean (rows_at place todo)))
+        → All (IsTested source) us → units_meant us ≡ all_meant
+            (with_names mean (rows_at place todo)))
         (λ us named rest. ap units_meant (sym (same-ok [] us named)))
         (λ r rs got elsewhere later. rw elsewhere later)
         (λ before r rs h got cut u later us named rest.
@@ -333,7 +328,7 @@ module _ (reads : UnitsAreTaken) (first_law : FirstLaw) (find_law : FindLaw) (is
         let unit : DwarfObject × UnitRead = (t.0, record { from = kind_at place; unit = h }) in
         let found : us ≡ unit ∷ s2.0 = sym (same-ok _ us s2.2)
         ∙ ap (λ l. l ∷ s2.0) (sym (same-ok unit _ t.2)) in
-        let each = subst (AreTested source) found rest in
+        let each = subst (All (IsTested source)) found rest in
         let is = row-at made.rows before rs r cut (rows-kept made file sound f) encoded in
         let means = row-means-again first_law find_law source file.contents made.strings made.rows
         again before rs r cut (mean r) is.0 place u.offset u.own u.below u.here u.range u.part h

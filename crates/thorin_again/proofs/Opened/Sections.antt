@@ -170,13 +170,11 @@ module _ (kind : SectionKind) (test : SectionMeaning → Bool)
       by-bool _ (same_kind c.0 kind)
       (λ same. or_left (test (plain_section n 1 (name_of c.0) c.1)) _
       (rw (is-same c.0 kind same) (meets n c.1)))
-      (λ other. or_right (test (plain_section n 1 (name_of c.0) c.1)) _ (is-among (n + 1) names cs
-      (rw other at h)))
+      (λ other. or_right _ _ (is-among (n + 1) names cs (rw other at h)))
 
   in-file : (file : File) → 0 < length (content_of kind file.contents)
       → list_any test (written_elf file).sections ≡ true
-  in-file file h = or_right (test (plain_section 0 0 [] [])) _
-      (is-among 1 (name_table file.contents) file.contents h)
+  in-file file h = or_right _ _ (is-among 1 (name_table file.contents) file.contents h)
 
 -- it is present
 pub present-written : (kind : SectionKind) (file : File)
