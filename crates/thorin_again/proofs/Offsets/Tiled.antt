@@ -296,25 +296,6 @@ module _ (names : NamesTheSameLaw) (source : Source) (before now : InProgress)
   abbrev part : MadeBy names source plain before.strings (a.parts, a.after)
   part = part-made names source plain before.strings a.parts a.after table a.parts_are
 
-  -- where a range is put, the ranges give the strings after it
-  more-strings : ((final : List (List ℕ)) → IsTable final → take (length a.after) final ≡ a.after
-      → (written : List ℕ) × (remapped source.object.order source.encoding (data_of final) joined
-      (length joined) before.strings ≡ Ok (written, a.after)))
-      → GiveStrings now_order source.encoding (old ++ joined) (tiled.ranges ++ range ∷ []) a.after
-  more-strings gives final final_table front =
-      let one = gives final final_table front in
-      grown now_order source.encoding (data_of final) old joined 0 0 (length old) tiled.ranges
-      (range ∷ []) [] before.strings a.after refl tiled.tile (omega arith)
-      (tiled.strings final final_table
-      (front-front before.strings a.after final part.kept front))
-      (turn now_order source.encoding (data_of final) (old ++ joined) (length old) range []
-      before.strings a.after a.after (one.0, rw (own-bytes old joined) (subst (λ o. remapped o
-      source.encoding (data_of final) joined (length joined) before.strings ≡ Ok (one.0, a.after))
-      same one.1))
-      (no-turn now_order source.encoding (data_of final) (old ++ joined)
-          (length old + length joined)
-      a.after))
-
   -- what these ranges more are of the section and the strings before them, and of the rows
   made-so : (ranges : List Contribution)
       → Tile now_order source.encoding 0 (tiled.ranges ++ ranges) (length old + length joined)
@@ -372,5 +353,14 @@ module _ (names : NamesTheSameLaw) (source : Source) (before now : InProgress)
             (inl (has p.file.contents)))
             (rows-share source before now a plain StrOffsets refl (λ part. part ≡ Some range) put)))
             (λ k. absurd k) h)
-            (more-strings whole.1)
+            (λ final final_table front. let one = whole.1 final final_table front in
+            grown now_order source.encoding (data_of final) old joined 0 0 (length old) tiled.ranges
+            (range ∷ []) [] before.strings a.after refl tiled.tile (omega arith)
+            (tiled.strings final final_table
+            (front-front before.strings a.after final part.kept front))
+            (turn now_order source.encoding (data_of final) (old ++ joined) (length old) range []
+            before.strings a.after a.after (one.0, rw (own-bytes old joined) (subst (λ o. remapped o
+            source.encoding (data_of final) joined (length joined) before.strings
+            ≡ Ok (one.0, a.after)) same one.1)) (no-turn now_order source.encoding (data_of final)
+            (old ++ joined) (length old + length joined) a.after)))
       ]
