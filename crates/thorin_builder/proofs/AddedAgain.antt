@@ -54,11 +54,6 @@ later-trans a b c h k = record {
   held = k.held ∙ ap (λ l. l ++ k.more) h.held ∙ append_assoc (held_units a) h.more k.more;
 }
 
--- a package is as late as itself
-pub later-same : (begun : Option InProgress) → IsLaterBegun begun begun
-later-same None = tt
-later-same (Some made) = later-refl made
-
 -- a package with what is remembered more
 abbrev pub with_again : Repeated → InProgress → InProgress
 with_again again = with_more (map part again.parts.items) (map (λ s. s.0) again.differing.items)

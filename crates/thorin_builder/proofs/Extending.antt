@@ -1,9 +1,10 @@
 -- A package that loses nothing of what it had.
-use Rattle.std.proofs.Common.{◌≡◌, ℕ, true, false, List, [], ◌∷◌, ◌++◌, length, take, map}
+use Rattle.std.proofs.Common.{◌≡◌, ◌∙◌, ℕ, true, false, List, [], ◌∷◌, ◌++◌, length, take, map}
 use Rattle.std.proofs.Common.{refl, sym, Ok, Err, Result, true≢false}
 use Rattle.std.specs.Result.{OnOk, OnErr, is_err}
 use Rattle.std.proofs.lemmas.List.{append-nil, map-append}
 use Rattle.std.proofs.Math.Seq.{take-append_seam, take-length}
+use Rattle.dwp_base.proofs.Steps.{bind-ok}
 use Rattle.dwp_elf.specs.FileText.{Object as File}
 use Rattle.dwp_table.specs.declared.object.DebugTypeSignature.{DebugTypeSignature}
 use Rattle.thorin_input.specs.Growing.{Contents, Begins, IsGrown}
@@ -12,7 +13,6 @@ use Rattle.thorin_input.specs.NewUnits.{New, new_units}
 use Rattle.thorin_input.specs.Parts.{parts_of}
 use Rattle.thorin_join.specs.State.{InProgress, Extends, with_source, with_all}
 use Rattle.thorin_join.specs.State.{abbreviations_test, adding}
-use Rattle.thorin_input.specs.Used.{InputFile}
 
 -- the signatures of type units, once more are added
 abbrev signatures_of : List DebugTypeSignature → List ℕ
@@ -60,20 +60,16 @@ pub strings-extend : {p : InProgress} {strings : List (List ℕ)}
     → take (length p.strings) strings ≡ p.strings → Extends p (record p { strings = strings })
 strings-extend {p = p} kept = grown-extends (λ before h. h) kept (take-length p.differing)
 
-abbreviations-there : (object : InputFile) → object.has_abbreviations ≡ true
-    → abbreviations_test object ≡ Ok tt
-unfolding abbreviations_test
-abbreviations-there object h = rw h refl
-
 -- the steps of an input
 pub with_source-is : (source : Source) (p : InProgress) (parts : Contents
     × List (List ℕ)) (new : New)
     → parts_of source p.strings ≡ Ok parts → source.object.has_abbreviations ≡ true
     → new_units (adding source p parts.0) ≡ Ok new
     → with_source source p ≡ Ok (with_all p parts new)
-unfolding with_source
+unfolding with_source abbreviations_test
 with_source-is source p parts new hp ha hn =
-    rw (hp, abbreviations-there source.object ha, hn) refl
+    bind-ok (parts_of source p.strings) parts _ hp
+    ∙ bind-ok (abbreviations_test source.object) tt _ (rw ha refl) ∙ rw hn refl
 
 -- what holds of no error
 pub no_err : {T E : Type 0} (P : Type 0) (r : Result T E) → is_err r ≡ false → OnErr r P

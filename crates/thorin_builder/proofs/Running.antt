@@ -35,12 +35,8 @@ module _ (offer : Offer) (missing : MissingReferencedObjectBehaviour) (all : Lis
 
   -- none was taken yet
   pub none-taken : TakenUpTo all old
-  none-taken = record {
-    done = [];
-    before = [];
-    are = refl;
-    goes_on = λ rest error outcome new here took. took;
-  }
+  none-taken =
+      record { done = []; before = []; are = refl; goes_on = λ rest error outcome new here h. h }
 
   module _ (left : Listed) (middle : State) (so_far : TakenUpTo left middle) where
     whole : (rest : Listed) → left ≡ rest → (so_far.done ++ rest.0, rest.1) ≡ all

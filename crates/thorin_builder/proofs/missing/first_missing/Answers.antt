@@ -20,11 +20,10 @@ first-left p xs i x b at is =
 pub returns-then-not-contains : goal.returns-then-not-contains
 returns-then-not-contains c =
     let names = c.args.contained.now.keys in
-    let missing = missing-is c.in-Some.target.now names _ c.contains.ensures
-    ∙ ap not c.if-not-contains.true in
     sym c.loop-place.invariant ∙ first-left (is_missing names) c.args.targets.now.keys
     c.loop-place.place c.in-Some.target.now true
-    (search (rules, c.in-Some.ensures.key, c.get_index.ensures.key)) missing
+    (search (rules, c.in-Some.ensures.key, c.get_index.ensures.key))
+    (missing-is c.in-Some.target.now names _ c.contains.ensures ∙ ap not c.if-not-contains.true)
 
 pub loop-place-preserved : goal.loop-place-preserved
 loop-place-preserved c =

@@ -61,8 +61,7 @@ returns-clause-meaning c =
     (search (rules, c.in_ok-extend_from_slice.ensures.items, c.deref.ensures)) in
     let file = c.in_ok-put_parts.ensures.contents in
     let all : with_all p parts new ≡ in_progress_of c.add_units.new.self =
-    let strings = c.parts_of.new.strings in
     sym (c.in_ok-add_units.ensures.meaning ∙ (λ i. with_new_units
-    (record p { file = file i; strings = strings; differing = more i }) new.units)) in
+    (record p { file = file i; strings = parts.1; differing = more i }) new.units)) in
     with_source-is source p parts new c.in_ok-parts.ensures.meaning (search (rules))
     (search (rules, c.in_ok-new.ensures, c.in_ok-whole.ensures.row)) ∙ ap Ok all

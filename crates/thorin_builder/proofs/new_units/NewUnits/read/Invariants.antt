@@ -1,7 +1,7 @@
-use Rattle.std.proofs.Common.{◌≡◌, ◌&&◌, map, drop, [], false}
+use Rattle.std.proofs.Common.{◌≡◌, ◌&&◌, map, drop, []}
 use Rattle.std.specs.List.{list_all}
 use Rattle.thorin_input.specs.Encodings.{section_has, are_alike}
-use Rattle.thorin_input.specs.NewUnits.{with_each_section}
+use Rattle.thorin_input.specs.NewUnits.{none_met, with_each_section}
 use Rattle.thorin_builder.specs.UnitView.{new_of, met_of, adding_of}
 use Rattle.thorin_input.specs.View.{used, source, tables_in}
 use Rattle.thorin_builder.proofs.new_units.NewUnits.read.Given as goal
@@ -12,10 +12,8 @@ abbrev pub invariant-loop-section : goal.invariant-loop-section
 invariant-loop-section l =
     (with_each_section (adding_of l.adding) (met_of l.met, new_of l.new)
     (map used (drop l.section-index l.adding.source.now.object.sections.items))
-    ≡ with_each_section (adding_of l.adding) (
-      record { info = false; types = false },
-      record { units = []; differing = [] },
-    ) (map used l.adding.source.now.object.sections.items))
+    ≡ with_each_section (adding_of l.adding) (none_met, record { units = []; differing = [] })
+    (map used l.adding.source.now.object.sections.items))
     × (l.met.tables ≡ tables_in (source l.adding.source.now).object)
     × ((l.new.alike && list_all (section_has l.adding.source.now.encoding
     l.adding.source.now.object.order)

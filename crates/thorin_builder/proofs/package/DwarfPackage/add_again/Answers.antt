@@ -2,8 +2,7 @@ use Rattle.std.proofs.Common.{◌≡◌, ap, rules, Some, None}
 use Rattle.thorin_join.specs.Builder.{State}
 use Rattle.thorin_builder.specs.BuilderView.{building}
 use Rattle.thorin_builder.specs.StateView.{in_progress_of, begun_of}
-use Rattle.thorin_builder.proofs.AddedAgain.{input-known, taken-known, later-known, later-same}
-use Rattle.thorin_builder.proofs.AddedAgain.{with_again}
+use Rattle.thorin_builder.proofs.AddedAgain.{input-known, taken-known, later-known, with_again}
 use Rattle.thorin_builder.proofs.package.DwarfPackage.add_again.Goals.{in-Some+in_ok-add_again}
 use Rattle.thorin_builder.proofs.package.DwarfPackage.add_again.Goals.{in_default}
 use Rattle.thorin_builder.proofs.package.DwarfPackage.add_again.Goals as goal
@@ -41,7 +40,6 @@ returns-clause-later g c =
           let is : c.match-self.self.state.begun ≡ Some now = search (rules, w.self-is) in
           rw is (later-known bytes again old made now begun c.requires.known.1 added)
       | in_default w ↦
-          let is : c.match-self.self.state.begun ≡ old.begun =
-          search (rules, w.self-is, c.self.view_is) in
-          rw is (later-same old.begun)
+          let none : old.begun ≡ None = search (rules, c.self.view_is, w.in_default) in
+          rw none tt
     ]

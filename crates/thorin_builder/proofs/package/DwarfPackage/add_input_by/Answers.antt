@@ -4,17 +4,12 @@ use Rattle.thorin_builder.specs.Taking.{accepted_of}
 use Rattle.thorin_builder.proofs.package.DwarfPackage.add_input_by.Goals as goal
 
 pub returns-in-Ok-clause-taken : goal.returns-in-Ok-clause-taken
-returns-in-Ok-clause-taken g c =
-    let given = c.add_object_bytes.ensures in
-    record {
-      read = Ok c.in-Ok.bytes.now;
-      within = c.in-Ok.ensures.offered;
-      accepted = accepted_of c.add_object_bytes.result c.in-Ok.bytes.now;
-      taken = (
-        record { meaning = given.meaning; joins = given.joins; unchanged = given.err },
-        refl,
-      );
-    }
+returns-in-Ok-clause-taken g c = record {
+  read = Ok c.in-Ok.bytes.now;
+  within = c.in-Ok.ensures.offered;
+  accepted = accepted_of c.add_object_bytes.result c.in-Ok.bytes.now;
+  taken = (search (rules, c.add_object_bytes.ensures), refl);
+}
 
 pub returns-in-Err-Io-clause-taken : goal.returns-in-Err-Io-clause-taken
 returns-in-Err-Io-clause-taken g c = record {

@@ -1,4 +1,4 @@
-use Rattle.std.proofs.Common.{◌≡◌, refl, rules, Ok, Err, []}
+use Rattle.std.proofs.Common.{refl, rules, Ok, Err, []}
 use Rattle.std.specs.Path.{path_bytes}
 use Rattle.thorin_errors.specs.declared.error.InputError.TheVariants.{Io, Memory}
 use Rattle.thorin_builder.specs.Taking.{Outcome, PassesOver, TakesReferredFile, accepted_of}
@@ -9,23 +9,20 @@ use Rattle.thorin_builder.proofs.package.DwarfPackage.add_referred.Goals.{In-Err
 use Rattle.thorin_builder.proofs.package.DwarfPackage.add_referred.Goals as goal
 
 pub returns-in-Ok-clause-taken : goal.returns-in-Ok-clause-taken
-returns-in-Ok-clause-taken g c =
-    let path : path_bytes c.new.result ≡ c.args.named.path.now = search (rules, c.new.ensures) in
-    record {
-      read = Ok c.in-Ok.bytes.now;
-      within = rw path at c.in-Ok.ensures.offered;
-      accepted = accepted_of c.add_read.result c.in-Ok.bytes.now;
-      taken = (c.add_read.ensures.takes, refl);
-    }
+returns-in-Ok-clause-taken g c = record {
+  read = Ok c.in-Ok.bytes.now;
+  within = rw c.new.ensures at c.in-Ok.ensures.offered;
+  accepted = accepted_of c.add_read.result c.in-Ok.bytes.now;
+  taken = (c.add_read.ensures.takes, refl);
+}
 
 pub returns-in-Ok-clause-known : goal.returns-in-Ok-clause-known
 returns-in-Ok-clause-known g c =
     let offer = g.R.InputReader.offer c.args.reader.now in
-    let path : path_bytes c.new.result ≡ c.args.named.path.now = search (rules, c.new.ensures) in
     on_ok-both c.add_read.result _ _ _ c.add_read.ensures.later c.add_read.ensures.remembers
     (λ later remembered. taken-remembered offer c.args.known.now.taken.entries
     c.add_read.new.taken.entries c.add_read.new.self.state.begun c.args.named.path.now
-    c.in-Ok.bytes.now (rw path at c.in-Ok.ensures.offered) (are-taken-later offer
+    c.in-Ok.bytes.now (rw c.new.ensures at c.in-Ok.ensures.offered) (are-taken-later offer
     c.args.known.now.taken.entries c.args.self.now.state.begun c.add_read.new.self.state.begun
     later c.requires.known) remembered)
 
@@ -35,13 +32,12 @@ failed : (g : Over) (c : goal.In-Err-Io g) (outcome : Outcome)
     → TakesReferredFile (g.R.InputReader.offer c.args.reader.now c.args.named.path.now)
     c.args.missing c.args.self.now.state outcome c.args.self.now.state
 failed g c outcome passes =
-    let path : path_bytes c.new.result ≡ c.args.named.path.now = search (rules, c.new.ensures) in
     let fails : g.R.InputReader.offer c.args.reader.now (path_bytes c.new.result)
     (Err c.in-Err-Io.e) =
     search (rules, c.in-Err-Io.ensures.offered, c.in-Err-Io.e-is, c.in-Err-Io.field-0-is) in
     record {
       read = Err (Io c.in-Err-Io.e);
-      within = rw path at fails;
+      within = rw c.new.ensures at fails;
       accepted = [];
       taken = (passes, refl, refl);
     }

@@ -10,14 +10,9 @@ use Rattle.thorin_builder.proofs.package.DwarfPackage.add_skeleton.Goals.{In_ok-
 use Rattle.thorin_builder.proofs.package.DwarfPackage.add_skeleton.Goals as goal
 
 pub returns-in_err-add_target-clause-taken : goal.returns-in_err-add_target-clause-taken
-returns-in_err-add_target-clause-taken g c = (
-  [],
-  inr (inr (
-    search (rules, c.from_residual.ensures, c.in_err-add_target.ensures.refused),
-    search (rules, c.in_err-add_target.ensures.refused),
-    refl,
-  )),
-)
+returns-in_err-add_target-clause-taken g c =
+    let refused = c.in_err-add_target.ensures.refused in
+    ([], inr (inr (search (rules, c.from_residual.ensures, refused), refused.1, refl)))
 
 -- what comes of the object, once the unit is among the targets
 took : (g : Over) (c : goal.In_ok-add_target g) (outcome : Outcome) (new : State)
