@@ -1,18 +1,17 @@
 use Rattle.std.proofs.Common.{Ok, arith}
 use Rattle.std.proofs.lemmas.List.FromFn.{map-range_with_len_more}
 use Rattle.thorin_queries.specs.Faults.{TellsNumbered, string_of}
-use Rattle.thorin_queries.proofs.Faulted.{first_strings, text_told, text_stopped}
+use Rattle.thorin_queries.proofs.Faulted.{text_told, text_stopped}
 use Rattle.thorin_queries.proofs.Told.{told_more}
 use Rattle.thorin_queries.proofs.strings.check_each_string.Goals as goal
 
 pub loop-i-preserved : goal.loop-i-preserved
 loop-i-preserved g c =
     let i = c.loop-i.i in
-    let unit = c.args.unit.now in
-    told_more (TellsNumbered c.args.object) (first_strings unit i) _ (i, string_of unit i)
-    (map-range_with_len_more (λ k. (k, string_of unit k)) 0 i i (omega arith))
-    c.loop-i.invariant (text_told _ _ c.string_text-text.result _ _ (Ok tt)
-    (c.string_text-text.ensures c.args.object) c.in-Ok.ensures)
+    told_more (TellsNumbered c.args.object) _ _ (i, string_of c.args.unit.now i)
+    (map-range_with_len_more (λ k. (k, string_of c.args.unit.now k)) 0 i i (omega arith))
+    c.loop-i.invariant
+    (text_told _ _ _ _ _ (Ok tt) (c.string_text-text.ensures c.args.object) c.in-Ok.ensures)
 
 pub returns-in-Err : goal.returns-in-Err
 returns-in-Err g c = text_stopped _ _ _ _ c.loop-i.invariant c.in-Err.ensures
