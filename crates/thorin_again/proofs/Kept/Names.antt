@@ -370,7 +370,7 @@ module _ (name : DwarfObject) where
       (λ other. omega (
         arith,
         has (rw (names-added p u, list_any-append {X = DwarfObject}, other, or-false) at there),
-        front-long _ _ (grows-with_bytes (kind_at u.1.place) u.1.bytes c kinds.Info),
+        front-long (grows-with_bytes (kind_at u.1.place) u.1.bytes c kinds.Info),
       ))
 
   -- ---- the name is there in the end
@@ -433,7 +433,7 @@ info-there taken alone source before now is h info =
       arith,
       info ((elim before.rows as (λ rows. IsThere n.0 (map (λ (r : IndexEntry). r.id) rows)
           → 0 < length rows) [ [] ↦ λ e. absurd cc | r ∷ rs ↦ λ e. omega arith ]) there),
-      front-long _ _ (grows-with_parts a.parts before.file.contents kinds.Info),
+      front-long (grows-with_parts a.parts before.file.contents kinds.Info),
     ) in
     rw a.is (units-put n.0 (parted source before now a) a.new.units put has
     (rw (← keys-held before, added-keys add a.new.units (joining held j.all) j.are)

@@ -102,7 +102,7 @@ record Split (source : Source) (cs : Contents) (all : Reads) : Type 0 where
   are : IsPermutation (of places.Info ++ of places.Types) all
 
 -- what there is at either place
-abbrev each-place : (P : UnitSection → Type 0) → P places.Info → P places.Types
+abbrev pub each-place : (P : UnitSection → Type 0) → P places.Info → P places.Types
     → (place : UnitSection) → P place
 each-place P info types places.Info = info
 each-place P info types places.Types = types

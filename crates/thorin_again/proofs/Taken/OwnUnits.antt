@@ -65,7 +65,7 @@ use Rattle.std.proofs.lemmas.Bool.{eqb-false}
 use Rattle.dwp_base.proofs.Bools.{by-bool}
 use Rattle.dwp_base.proofs.EveryKind.{same-self}
 use Rattle.thorin_join.proofs.Units.HeadersRead.{kind-place}
-use Rattle.thorin_again.proofs.Meant.UnitsBySection.{each-place}
+use Rattle.thorin_again.proofs.Meant.Package.{each-place}
 use Rattle.thorin_again.proofs.Opened.Parts.{behind, front}
 use Rattle.thorin_again.proofs.Opened.Sections.{rest-differ, section_of}
 use Rattle.thorin_join.specs.Builder.{State}
