@@ -19,7 +19,7 @@ use Rattle.thorin_input.specs.InputStrings.{rewritten}
 use Rattle.thorin_input.specs.Parts.{Parts, has_part, stands_once, with_offsets, with_part}
 use Rattle.thorin_input.specs.Parts.{with_each_part, parts_of}
 use Rattle.thorin_input.specs.Used.{Used}
-use Rattle.dwp_base.proofs.Steps.{bind-was, chosen, same-ok}
+use Rattle.dwp_base.proofs.Steps.{bind-was, same-ok}
 use Rattle.thorin_join.proofs.Steps.{past}
 
 pub either : (b : Bool) → (b ≡ true) ⊎ (b ≡ false)

@@ -22,7 +22,7 @@ use Rattle.thorin_strings.specs.StringOffsets.{remapped, header_of, remapped_ent
 use Rattle.thorin_join.specs.Meaning.{whole_entries}
 use Rattle.thorin_join.proofs.Parts.OffsetLaws.{NamesTheSameLaw}
 use Rattle.thorin_packaged.proofs.OffsetsJoined.{number_front, no_header}
-use Rattle.dwp_base.proofs.Steps.{bind-was, same-ok, chosen}
+use Rattle.dwp_base.proofs.Steps.{bind-was, same-ok}
 use Rattle.thorin_join.proofs.Steps.{past}
 use Rattle.dwp_base.proofs.Bools.{by-bool}
 
