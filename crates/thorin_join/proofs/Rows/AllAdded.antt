@@ -71,8 +71,7 @@ pub units-added : (base : Contents) (p : InProgress) (us : List (DwarfObject × 
     → RowsLie p.file.order p.rows p.file.contents → Added p (with_new_units p us) us (ms ++ added)
 unfolding with_new_units with_new_unit
 units-added base p [] ms [] grows new can rows lie =
-    let none : ms ++ [] ≡ ms = append-nil ms in
-    rw none (assumption (sym (append-nil (names_of p))))
+    rw (append-nil ms) (assumption (sym (append-nil (names_of p))))
 units-added base p (u ∷ us) ms (m ∷ added) grows new can rows lie =
     let order = p.file.order in
     let c = p.file.contents in
