@@ -71,8 +71,7 @@ pub units-added : (base : Contents) (p : InProgress) (us : List (DwarfObject × 
     → RowsLie p.file.order p.rows p.file.contents → Added p (with_new_units p us) us (ms ++ added)
 unfolding with_new_units with_new_unit
 units-added base p [] ms [] grows new can rows lie =
-    let none : ms ++ [] ≡ ms = append-nil ms in
-    rw none (assumption (sym (append-nil (names_of p))))
+    rw (append-nil ms) (assumption (sym (append-nil (names_of p))))
 units-added base p (u ∷ us) ms (m ∷ added) grows new can rows lie =
     let order = p.file.order in
     let c = p.file.contents in
@@ -89,14 +88,9 @@ units-added base p (u ∷ us) ms (m ∷ added) grows new can rows lie =
     let a = units-added base q us (ms ++ m ∷ []) added (grows-trans base c q.file.contents grows
     more) (rw names new.1) can.1 (rows-next order q.file.contents p.strings p.rows ms _ m before
     row) (unit-lies order c p.rows u can.0.can lie) in
-    rw new.0 (record {
-      strings = a.strings;
-      order = a.order;
-      rows = rw append_assoc at a.rows;
-      other = λ kind h. a.other kind h
-          ∙ content-with_bytes kind (kind_at u.1.place) u.1.bytes c ∙ rw (h u.1.place);
-      names = a.names ∙ ap (λ n. n ++ keys us) names
-          ∙ append_assoc (names_of p) (u.0 ∷ []) (keys us);
-      lie = a.lie;
-    })
+    let other : (kind : SectionKind) → ((place : UnitSection) → same_kind (kind_at place) kind ≡
+    false) → content_of kind (with_new_units q us).file.contents ≡ content_of kind c = λ kind h.
+    a.other kind h ∙ content-with_bytes kind (kind_at u.1.place) u.1.bytes c ∙ rw (h u.1.place) in
+    rw new.0 (assumption (other, rw append_assoc at a.rows, a.names ∙ ap (λ n. n ++ keys us) names
+    ∙ append_assoc (names_of p) (u.0 ∷ []) (keys us)))
 units-added base p _ ms _ grows new can rows lie = absurd can
