@@ -47,16 +47,6 @@ own-of : (bytes : List ℕ) (e : Encoding) → IsPlainOf e bytes → own_encodin
 unfolding own_encoding file_encoding
 own-of bytes e p = rw (p.opens, p.info, p.used, p.first, p.plain, p.all) refl
 
--- an input that was taken has begun a package
-begun-some : (bytes : List ℕ) (old new : State) → taken bytes old ≡ Ok new
-    → (made : InProgress) × (new.begun ≡ Some made)
-begun-some bytes old new h =
-    let t = takes bytes old.begun new.begun (begun-now bytes old new h) in
-    elim t.does [
-      | inl w ↦ (w.1.made, sym w.1.is)
-      | inr none ↦ (package_or_new t.file old.begun, sym none.1)
-    ]
-
 -- ---- joins are one
 
 -- the units with all that belongs to each
@@ -116,7 +106,11 @@ exactly sound joins e (bytes ∷ rest) old new fine are =
     are.3 in (
       λ h.
           let later = others.0 h in
-          let begun = begun-some bytes from next took in
+          let t = takes bytes old.begun next.begun now in
+          let begun : (made : InProgress) × (next.begun ≡ Some made) = elim t.does [
+            | inl w ↦ (w.1.made, sym w.1.is)
+            | inr none ↦ (package_or_new t.file old.begun, sym none.1)
+          ] in
           let a = (own-adds bytes from next e took).0 (later.before begun.0 begun.1) in
           record {
             plain = All-cons (IsPlainOf e) bytes rest (plain-of bytes from next e took a.found)
