@@ -28,7 +28,7 @@ use Rattle.thorin_join.proofs.Rows.Stay.{part-inside}
 use Rattle.thorin_again.proofs.Meant.RowPlaces.{IsBelow, Below, range_at}
 
 -- the part in the middle
-part-middle : (pre own rest whole : List ℕ) (offset : ℕ) → whole ≡ pre ++ (own ++ rest)
+pub part-middle : (pre own rest whole : List ℕ) (offset : ℕ) → whole ≡ pre ++ (own ++ rest)
     → length pre ≡ offset → part_of whole (Some (range_at offset own)) ≡ own
 part-middle pre own rest whole offset is at =
     let size : offset + length own - offset ≡ length own = omega arith in
