@@ -4,3 +4,4 @@ pub mod OneRow
 pub mod RowByRow
 pub mod OneSection
 pub mod Package
+pub mod UnitsBySection

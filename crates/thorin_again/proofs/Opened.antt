@@ -3,3 +3,4 @@ pub mod Sections
 pub mod Parts
 pub mod Indexes
 pub mod FirstEncoding
+pub mod Unless

@@ -63,7 +63,8 @@ use Rattle.thorin_again.proofs.Meant.RowPlaces.{FirstLaw, FindLaw}
 use Rattle.thorin_join.proofs.Files.Finished.{finished-own, finished-strings, finished-order}
 use Rattle.thorin_again.proofs.Opened.FirstEncoding.{EncodesItself, first-of, input-encoding}
 use Rattle.thorin_again.proofs.Meant.Package.{lie-kept}
-use Rattle.thorin_again.proofs.Opened.Parts.{own-parts-tried, Unless, and-then, answered}
+use Rattle.thorin_again.proofs.Opened.Parts.{own-parts-tried}
+use Rattle.thorin_again.proofs.Opened.Unless.{Unless, and-then, answered}
 use Rattle.thorin_again.proofs.Offsets.Tiled.{weaker}
 use Rattle.thorin_again.proofs.Lists.Held.{InputsSound}
 use Rattle.thorin_again.proofs.Lists.HeadersEncoded.{AreEncoded}

@@ -59,6 +59,7 @@ use Rattle.thorin_input.specs.Used.{InputFile, opened, has_info, first}
 use Rattle.thorin_join.proofs.Files.Indexes.{IndexIsRead, IndexHasEntries}
 use Rattle.thorin_join.proofs.Rows.Stay.{keep-rows}
 use Rattle.thorin_again.proofs.Meant.RowPlaces.{FirstLaw, FindLaw, IsAgain}
+use Rattle.thorin_again.proofs.Meant.UnitsBySection.{each-place}
 use Rattle.thorin_again.proofs.Meant.OneSection.{with_names}
 use Rattle.thorin_again.proofs.Meant.OneRow.{row-means-again}
 use Rattle.thorin_again.proofs.Meant.RowByRow.{of-section}
@@ -100,12 +101,6 @@ record Split (source : Source) (cs : Contents) (all : Reads) : Type 0 where
   read : (place : UnitSection) → named_each source (kind_at place) (units place
       (section source.object.order (content_of (kind_at place) cs))) ≡ Ok (of place)
   are : IsPermutation (of places.Info ++ of places.Types) all
-
--- what there is at either place
-abbrev pub each-place : (P : UnitSection → Type 0) → P places.Info → P places.Types
-    → (place : UnitSection) → P place
-each-place P info types places.Info = info
-each-place P info types places.Types = types
 
 -- behind a section no other of its place has units
 no-units : (source : Source) (c : SectionKind × List ℕ) (cs : Contents) (all : Reads)

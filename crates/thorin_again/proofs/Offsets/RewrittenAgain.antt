@@ -31,7 +31,7 @@ use Rattle.thorin_join.proofs.Parts.OffsetRanges.{count-again}
 use Rattle.thorin_again.specs.OwnRefusals.{IsStringOffset}
 use Rattle.thorin_again.specs.Plain.{IsWholeRange, Tile, IsAmong}
 use Rattle.thorin_again.proofs.Offsets.RangesFill.{tile-end}
-use Rattle.thorin_again.proofs.Opened.Parts.{Unless, and-then}
+use Rattle.thorin_again.proofs.Opened.Unless.{Unless, and-then}
 use Rattle.std.proofs.Math.Nat.{add-zero}
 use Rattle.std.proofs.Math.Seq.{drop-append-add}
 use Rattle.std.proofs.lemmas.Bool.Decides.{nat_tests}

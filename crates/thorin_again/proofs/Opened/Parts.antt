@@ -19,22 +19,10 @@ use Rattle.thorin_input.specs.Format.{is_in_format, is_copied}
 use Rattle.thorin_input.specs.InputStrings.{rewritten}
 use Rattle.thorin_input.specs.Parts.{Parts, has_part, with_offsets, with_part, with_each_part}
 use Rattle.thorin_input.specs.Parts.{parts_of}
+use Rattle.thorin_again.proofs.Opened.Unless.{Unless, answered}
 use Rattle.thorin_again.proofs.Opened.Sections.{Fresh, fresh-differ, fresh-rest, fresh-more}
 use Rattle.thorin_again.proofs.Opened.Sections.{not-seen, none-behind}
 use Rattle.std.proofs.lemmas.Bool.{cond-false}
-
--- ---- an answer, or an error of some sort
-
-abbrev pub Unless : (ErrorValue → Type 0) → {X : Type 0} → Result X ErrorValue → Type 0
-Unless E (Ok x) = Unit {0}
-Unless E (Err e) = E e
-
--- a step, and then another
-pub and-then : (E : ErrorValue → Type 0) {X Y : Type 0} (r : Result X ErrorValue)
-    (f : X → Result Y ErrorValue) → Unless E r → ((x : X) → r ≡ Ok x → Unless E (f x))
-    → Unless E (r >>= f)
-and-then E (Ok x) f h k = k x refl
-and-then E (Err e) f h k = h
 
 -- a step in a step, and then another
 then-on : (E : ErrorValue → Type 0) {X Y Z : Type 0} (r : Result X ErrorValue)
@@ -42,11 +30,6 @@ then-on : (E : ErrorValue → Type 0) {X Y Z : Type 0} (r : Result X ErrorValue)
     → ((x : X) → Unless E (f x >>= g)) → Unless E ((r >>= f) >>= g)
 then-on E (Ok x) f g h k = k x
 then-on E (Err e) f g h k = h
-
--- where no error is of that sort, there is an answer
-pub answered : {X : Type 0} (r : Result X ErrorValue) → Unless (λ e. ⊥) r → (x : X) × (r ≡ Ok x)
-answered (Ok x) h = (x, refl)
-answered (Err e) h = absurd h
 
 -- ---- the contents behind the first
 

@@ -65,13 +65,13 @@ use Rattle.std.proofs.lemmas.Bool.{eqb-false}
 use Rattle.dwp_base.proofs.Bools.{by-bool}
 use Rattle.dwp_base.proofs.EveryKind.{same-self}
 use Rattle.thorin_join.proofs.Units.HeadersRead.{kind-place}
-use Rattle.thorin_again.proofs.Meant.Package.{each-place}
+use Rattle.thorin_again.proofs.Meant.UnitsBySection.{each-place}
 use Rattle.thorin_again.proofs.Opened.Parts.{behind, front}
 use Rattle.thorin_again.proofs.Opened.Sections.{rest-differ, section_of}
 use Rattle.thorin_join.specs.Builder.{State}
 use Rattle.thorin_join.proofs.Files.Indexes.{IndexIsRead, IndexHasEntries}
 use Rattle.thorin_again.specs.OwnRefusals.{IsForeseen, UnlessForeseen}
-use Rattle.thorin_again.proofs.Opened.Parts.{Unless, answered}
+use Rattle.thorin_again.proofs.Opened.Unless.{Unless, answered}
 
 -- an answer of which something holds, or a refusal of some sort
 abbrev Fares : {X : Type 0} → (ErrorValue → Type 0) → (X → Type 0) → Result X ErrorValue

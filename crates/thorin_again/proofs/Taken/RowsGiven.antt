@@ -33,7 +33,7 @@ use Rattle.thorin_join.proofs.Files.UnitsFound.{part-there}
 use Rattle.thorin_join.proofs.Rows.Ranges.{range-none}
 use Rattle.thorin_join.proofs.Rows.OneAdded.{place-put}
 use Rattle.thorin_again.proofs.Offsets.RangesFill.{each-chosen, at-row, any-chosen, by-passing}
-use Rattle.thorin_again.proofs.Opened.Parts.{Unless, and-then, answered}
+use Rattle.thorin_again.proofs.Opened.Unless.{Unless, and-then, answered}
 
 -- ---- a section that some row names has a column in the index of that row
 
