@@ -30,12 +30,11 @@ loop-place-preserved c =
     let names = c.args.contained.now.keys in
     elim c.match-get_index.branch [
       | in-Some+else-not-contains w ↦
-          let there = missing-is w.in-Some.target.now names _ w.contains.ensures
-          ∙ ap not w.if-not-contains.false in
           sym (first-left (is_missing names) c.args.targets.now.keys c.loop-place.place
           w.in-Some.target.now false
-          (search (rules, w.in-Some.ensures.key, c.get_index.ensures.key)) there)
-          ∙ c.loop-place.invariant
+          (search (rules, w.in-Some.ensures.key, c.get_index.ensures.key))
+          (missing-is w.in-Some.target.now names _ w.contains.ensures
+          ∙ ap not w.if-not-contains.false)) ∙ c.loop-place.invariant
       | in_default w ↦ absurd (slice_get_none c.args.targets.now.keys c.loop-place.place
           (omega arith) (search (rules, w.in_default, c.get_index.ensures.key)))
     ]

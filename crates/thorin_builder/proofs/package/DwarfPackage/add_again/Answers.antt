@@ -37,8 +37,7 @@ returns-clause-later g c =
           let now = in_progress_of w.add_again.new.self in
           let begun : old.begun ≡ Some made = search (rules, c.self.view_is, w.in-Some.is) in
           let added : now ≡ with_again again made = w.in_ok-add_again.ensures.added in
-          let is : c.match-self.self.state.begun ≡ Some now = search (rules, w.self-is) in
-          rw is (later-known bytes again old made now begun c.requires.known.1 added)
+          rw w.self-is (later-known bytes again old made now begun c.requires.known.1 added)
       | in_default w ↦
           let none : old.begun ≡ None = search (rules, c.self.view_is, w.in_default) in
           rw none tt

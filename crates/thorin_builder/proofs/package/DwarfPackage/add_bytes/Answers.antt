@@ -32,8 +32,6 @@ invariant_of-self-2 g c =
     let now = begun_of c.add_input.new.in_progress in
     let found = c.in_ok-encoding.encoding in
     let made = c.in_ok-encoding.ensures.meaning in
-    let units = c.unit_count-units.result in
-    let count = c.unit_count.result in
     let own : own_after old now found ≡ c.if-unit_count-units.self =
     rw (
       with-own c.self.inside.in_progress c.is_none-is_first.result old.own found
@@ -41,11 +39,11 @@ invariant_of-self-2 g c =
       ← c.unit_count-units.ensures,
       ← c.unit_count.ensures,
     ) (elim c.if-unit_count-units.branch [
-      | then-unit_count-units w ↦ rw (le-ltb units count w.if-unit_count-units.true) (sym w.self-is)
+      | then-unit_count-units w ↦ rw (le-ltb _ _ w.if-unit_count-units.true) (sym w.self-is)
       | else-unit_count-units+then-is_first w ↦
-          rw (lt-ltb units count w.if-unit_count-units.false, w.if-is_first.true) (sym w.self-is)
+          rw (lt-ltb _ _ w.if-unit_count-units.false, w.if-is_first.true) (sym w.self-is)
       | else-unit_count-units+else-is_first w ↦
-          rw (lt-ltb units count w.if-unit_count-units.false, w.if-is_first.false)
+          rw (lt-ltb _ _ w.if-unit_count-units.false, w.if-is_first.false)
           (sym w.common.ensures ∙ sym w.self-is)
     ]) in
     let new : State = record old { begun = now; own = c.if-unit_count-units.self } in

@@ -4,11 +4,8 @@ use Rattle.thorin_builder.specs.StateView.{in_progress_of}
 use Rattle.thorin_builder.proofs.Running.{names-begun}
 use Rattle.thorin_builder.proofs.package.DwarfPackage.contained_units.Goals as goal
 
-pub returns-in-Some : goal.returns-in-Some
-returns-in-Some g c =
+pub returns-in-Some-clause-names : goal.returns-in-Some-clause-names
+returns-in-Some-clause-names g c =
     let begun : c.args.self.now.state.begun ≡ Some (in_progress_of c.in-Some.package) =
     search (rules, c.self.view_is, c.in-Some.is) in
-    record {
-      names = c.names.ensures ∙ ap names_in (sym begun) ∙ sym (names-begun c.args.self.now.state);
-      sound = search (rules, c.self.view_is, c.self.invariant);
-    }
+    c.names.ensures ∙ ap names_in (sym begun) ∙ sym (names-begun c.args.self.now.state)
