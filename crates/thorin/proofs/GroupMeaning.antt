@@ -77,9 +77,8 @@ join-of [] before now h = record {
   meant = refl;
   defined = refl;
   added = [];
-  joined =
-      refl;
-  is = h ∙ sym (append-nil before);
+  joined = refl;
+  is = rw append-nil h;
 }
 join-of (bytes ∷ rest) before now (middle, j, others) =
     let later = join-of rest middle now others in
@@ -203,13 +202,8 @@ module _ (keeps : KeepsSound) (again : MeansAgain) where
       → HaveTheirEncodings groups packages each → taken_each packages old ≡ Ok new
       → AllMean packages all → AreGrouped groups all
   unfolding taken_each
-  grouped [] [] old new all packed has took mean = record {
-    lists = [];
-    results = [];
-    meant = refl;
-    are = tt;
-    whole = mean;
-  }
+  grouped [] [] old new all packed has took mean =
+      record { lists = []; results = []; meant = refl; are = tt; whole = mean }
   grouped [] (p ∷ ps) old new all packed has took mean = absurd packed
   grouped (g ∷ gs) [] old new all packed has took mean = absurd packed
   grouped (g ∷ gs) (p ∷ ps) old new all packed has took (here, later, meaning, others, whole) =

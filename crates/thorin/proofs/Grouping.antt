@@ -43,13 +43,8 @@ pub packs-alone : {V : Type 0} (view : V → List ℕ) (inputs : List (List ℕ)
     → JoinAll inputs [] (units_in state)
     → Writes view state result → IfOk result (λ file. IsPackageOf (units_in state) (view file))
     → PacksAlone view inputs result
-packs-alone view inputs state (Ok file) took joined writes packaged = record {
-  state = state;
-  taken = took;
-  joined = joined;
-  written = writes;
-  package_of = packaged;
-}
+packs-alone view inputs state (Ok file) took joined writes packaged =
+    record { state = state; taken = took; joined = joined; written = writes; package_of = packaged }
 packs-alone view inputs state (Err e) took joined writes packaged = λ aside.
     inr (record { state = state; taken = took; refused = writes aside })
 

@@ -15,7 +15,7 @@ use Rattle.thorin_input.specs.Encodings.{encoding_of}
 use Rattle.thorin_input.specs.Used.{InputFile, opened, input_file_of}
 use Rattle.thorin_join.specs.Builder.{State, start, taken, order_of, finish_test, IsFinishedState}
 use Rattle.thorin_again.specs.Again.{HaveEncodingOf, input_encoding}
-use Rattle.thorin_again.specs.OneEncoding.{IsOfOneEncoding, IsOfEncoding, HaveEncodingOnceWritten}
+use Rattle.thorin_again.specs.OneEncoding.{IsOfEncoding, HaveEncodingOnceWritten}
 use Rattle.thorin_again.specs.OwnAccepted.{IsAcceptedOnceWritten}
 use Rattle.thorin_again.specs.OwnRefusals.{UnlessForeseen}
 use Rattle.thorin_again.specs.PlainInputs.{AreTaken, IsPlainOf}
@@ -93,18 +93,15 @@ module _ (encoding : Encoding) (bytes : List ℕ) (p : IsPlainOf encoding bytes)
       let o = same-ok object p.object (sym k ∙ ap input_file_of f ∙ p.used) in
       (o, same-ok e encoding (sym l ∙ ap encoding_of o ∙ p.first))
 
-  of-one : IsOfOneEncoding bytes
-  of-one file object e h k l = let one = one-reading file object e h k l in rw (one.0, one.1) p.all
-
-  of-this : (e : Encoding) → input_encoding bytes ≡ Ok e → e ≡ encoding
-  unfolding input_encoding
-  of-this e h =
-      let s1 = bind-was (opened bytes) _ e h in
-      let s2 = bind-was (input_file_of s1.0) _ e s1.2 in
-      (one-reading s1.0 s2.0 e s1.1 s2.1 s2.2).1
-
   pub plain-encoding : IsOfEncoding encoding bytes
-  plain-encoding = (of-one, of-this)
+  unfolding input_encoding
+  plain-encoding = (
+    λ file object e h k l. let one = one-reading file object e h k l in rw (one.0, one.1) p.all,
+    λ e h.
+        let s1 = bind-was (opened bytes) _ e h in
+        let s2 = bind-was (input_file_of s1.0) _ e s1.2 in
+        (one-reading s1.0 s2.0 e s1.1 s2.1 s2.2).1,
+  )
 
 abbrev pub EncodingLaw : Type 0
 EncodingLaw = (encoding : Encoding) (accepted : List (List ℕ)) (state : State)
