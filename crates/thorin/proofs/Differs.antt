@@ -1,7 +1,6 @@
 -- The type units that an input's steps pass over and find to differ are those of its list of units.
-use Rattle.std.proofs.Common.{◌≡◌, ◌∙◌, ℕ, ◌==◌, List, [], ◌∷◌, ◌++◌, map, refl}
-use Rattle.std.proofs.Common.{sym, ap, inl, inr, Ok, Option, Some, None, append_assoc}
-use Rattle.std.proofs.Common.{append-nil, bytes_eq}
+use Rattle.std.proofs.Common.{◌≡◌, ◌∙◌, ℕ, ◌==◌, List, [], ◌∷◌, ◌++◌, map, refl, sym, ap, inl, inr}
+use Rattle.std.proofs.Common.{Ok, Option, Some, None, append_assoc, append-nil, bytes_eq}
 use Rattle.std.specs.List.{list_any}
 use Rattle.std.specs.Map.{lookup}
 use Rattle.std.proofs.lemmas.List.{map-append}

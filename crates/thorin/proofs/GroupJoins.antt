@@ -1,8 +1,8 @@
 -- Joining in groups: joining what groups joined is joining all of them.
-use Rattle.std.proofs.Common.{◌≡◌, ◌∙◌, ℕ, zero, suc, ◌+◌, Bool, true, false, cond, ◌&&◌}
-use Rattle.std.proofs.Common.{List, [], ◌∷◌, ◌++◌, length, filter, flat_map, remove, Option, Some}
-use Rattle.std.proofs.Common.{None, ap, ap₂, sym, refl, append_assoc, append-nil, arith}
-use Rattle.std.proofs.Common.{IsPermutation, length-append}
+use Rattle.std.proofs.Common.{◌≡◌, ◌∙◌, ℕ, zero, suc, ◌+◌, Bool, true, false, cond, ◌&&◌, List, []}
+use Rattle.std.proofs.Common.{◌∷◌, ◌++◌, length, filter, flat_map, remove, Option, Some, None, ap}
+use Rattle.std.proofs.Common.{ap₂, sym, refl, append_assoc, append-nil, arith, IsPermutation}
+use Rattle.std.proofs.Common.{length-append}
 use Rattle.std.specs.Cmp.{IsEquivalence, nat_eq_equiv}
 use Rattle.std.specs.List.{IsDistinct, list_any}
 use Rattle.std.specs.Map.{lookup}

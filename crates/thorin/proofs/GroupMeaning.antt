@@ -12,14 +12,14 @@ use Rattle.std.proofs.lemmas.List.Sorted.{IsPermutation-keeps}
 use Rattle.std.proofs.lemmas.Map.Made.{keys_of-map_values}
 use Rattle.dwp_elf.specs.FileText.{Object as File}
 use Rattle.thorin_join.specs.Builder.{State, start, taken, with_input, finish_test, IsFinishedState}
-use Rattle.thorin_join.specs.Join.{IsPackageOf, Joins, JoinAll}
+use Rattle.thorin_join.specs.Join.{IsPackageOf, JoinAll}
 use Rattle.thorin_join.specs.Meaning.{keys, joining, can_join, Meaning, Members, input_meaning}
 use Rattle.thorin_input.specs.Names.{same_name}
 use Rattle.thorin_join.specs.Represents.{IsSoundBegun, units_in}
 use Rattle.thorin_join.specs.State.{InProgress}
 use Rattle.thorin_again.specs.Again.{HaveEncodingOf, all_meant, MeansWhereTaken, MeansOnceWritten}
-use Rattle.thorin.specs.Groups.{taken_each, ArePackedAlone, IsPackedInGroups}
-use Rattle.thorin.specs.Groups.{AreJoined, HaveTheirEncodings, inputs_of, IsPackageOfAll}
+use Rattle.thorin.specs.Groups.{taken_each, ArePackedAlone, IsPackedInGroups, AreJoined}
+use Rattle.thorin.specs.Groups.{HaveTheirEncodings, inputs_of, IsPackageOfAll}
 use Rattle.thorin.proofs.GroupJoins.{groups-defined, groups-joined, joined-apart, found-again}
 use Rattle.thorin.proofs.GroupJoins.{joined-append}
 use Rattle.thorin_again.specs.PlainInputs.{AreTaken}
@@ -125,17 +125,16 @@ joins-all (bytes ∷ rest) all before added (here, later, meaning, others, whole
     let first = take (length front) added in
     let second = drop (length front) added in
     let named : keys (before ++ first) ≡ keys before ++ keys front =
-    names-then before first here parts.0 in
-    let step : Joins bytes before (before ++ first) = record {
-      units = here;
-      meaning = meaning;
-      defined = can.0;
-      added = first;
-      joined = parts.0;
-      is = refl;
-    } in (
+    names-then before first here parts.0 in (
       before ++ first,
-      step,
+      record {
+        units = here;
+        meaning = meaning;
+        defined = can.0;
+        added = first;
+        joined = parts.0;
+        is = refl;
+      },
       subst (λ l. JoinAll rest (before ++ first) l) (append_assoc before first second
           ∙ ap (λ l. before ++ l) (take-append-drop (length front) added))
           (joins-all rest later (before ++ first) second others (rw named can.1)

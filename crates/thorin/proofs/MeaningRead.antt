@@ -1,8 +1,8 @@
 -- What a package means as an input is what a reader of packages finds in it.
 use Rattle.std.proofs.Common.{◌≡◌, ◌∙◌, ℕ, Bool, true, false, cond, ◌||◌, nat_eq, List, [], map}
-use Rattle.std.proofs.Common.{length, refl, sym, ap, Option, Some, None, Result, Ok, Err}
-use Rattle.std.proofs.Common.{is_none, is_some, find, ◌⊎◌, inl, inr, option_and_then, ◌&&◌}
-use Rattle.std.proofs.Common.{◌∷◌, ◌++◌, bytes_eq}
+use Rattle.std.proofs.Common.{length, refl, sym, ap, Option, Some, None, Result, Ok, Err, is_none}
+use Rattle.std.proofs.Common.{is_some, find, ◌⊎◌, inl, inr, option_and_then, ◌&&◌, ◌∷◌, ◌++◌}
+use Rattle.std.proofs.Common.{bytes_eq}
 use Rattle.dwp_base.specs.Reading.{◌>>=◌}
 use Rattle.dwp_base.specs.Sections.{name_of, compressed_name_of, all_kinds, kind_named, same_kind}
 use Rattle.dwp_base.specs.declared.endian.Endianness.{Endianness}
@@ -16,8 +16,7 @@ use Rattle.dwp_elf_read.specs.Elf.{Elf, SectionMeaning, elf_of}
 use Rattle.dwp_elf_read.specs.Identification as identification
 use Rattle.dwp_elf_read.specs.declared.kind.FileKind.{FileKind}
 use Rattle.dwp_elf_read.specs.declared.kind.FileKind.TheVariants.{Archive, Elf32, Elf64}
-use Rattle.dwp_index.specs.Contents.{content, content_among, contents_of, has_name}
-use Rattle.dwp_index.specs.Contents.{is_of_kind}
+use Rattle.dwp_index.specs.Contents.{content, content_among, contents_of, has_name, is_of_kind}
 use Rattle.dwp_index.specs.Index.{Index, Ranges, range_in}
 use Rattle.dwp_index.specs.IndexBytes.{index_of}
 use Rattle.dwp_index.specs.Package as reader

@@ -16,7 +16,7 @@ use Rattle.thorin_join.specs.Join.{JoinAll}
 use Rattle.thorin_join.specs.Meaning.{Members}
 use Rattle.thorin_join.specs.Represents.{units_in}
 use Rattle.thorin_builder.specs.Taking.{Outcome, Takes, accepted_of, TakesRead, with_target}
-use Rattle.thorin_builder.specs.Taking.{TakesReferred, TakesSkeleton, Step, GoesOn, TakesSkeletons}
+use Rattle.thorin_builder.specs.Taking.{TakesReferred, TakesSkeleton, TakesSkeletons}
 use Rattle.thorin_builder.specs.Taking.{TakesExecutableRead}
 use Rattle.thorin_executable.specs.Skeletons.{Listed, skeletons_of, named_skeletons_of}
 use Rattle.thorin.specs.Run.{TakesInput, Ran, IsWritten}
@@ -104,25 +104,16 @@ module _ (R : List (List ℕ) → State → State → Type 0) (by : GoesByInputs
       skeleton-goes named old new outcome accepted (inr (inr none)) =
           none-goes accepted old new none.1 none.2
 
-      -- what came of the first of a list, and then of the others
-      first-goes : (s : Step) (old new : State) (first outcome : Outcome)
-          (accepted : List (List ℕ)) (rest : Type 0) → R s.here old s.middle
-          → (rest → R s.later s.middle new) → GoesOn first s outcome new accepted rest
-          → R accepted old new
-      first-goes s old new (Ok x) outcome accepted rest here later goes =
-          rw goes.1 (by.more s.here s.later old s.middle new here (later goes.0))
-      first-goes s old new (Err e) outcome accepted rest here later goes =
-          rw (goes.2, goes.1) here
-
       skeletons-go : (list : List (DwarfObject × List ℕ)) (error : Option ErrorValue)
           → Goes (TakesSkeletons offer missing list error)
       skeletons-go [] error old new outcome accepted takes =
           none-goes accepted old new takes.1 takes.2
-      skeletons-go (n ∷ ns) error old new outcome accepted (s, first, takes, goes) =
-          first-goes s old new first outcome accepted
-          (TakesSkeletons offer missing ns error s.middle outcome new s.later)
-          (skeleton-goes n old s.middle first s.here takes)
-          (λ rest. skeletons-go ns error s.middle new outcome s.later rest) goes
+      skeletons-go (n ∷ ns) error old new outcome accepted (s, Ok x, takes, goes) =
+          rw goes.1 (by.more s.here s.later old s.middle new
+          (skeleton-goes n old s.middle (Ok x) s.here takes)
+          (skeletons-go ns error s.middle new outcome s.later goes.0))
+      skeletons-go (n ∷ ns) error old new outcome accepted (s, Err e, takes, goes) =
+          rw (goes.2, goes.1) (skeleton-goes n old s.middle (Err e) s.here takes)
 
       executable-goes : (names : List ℕ → Listed) (read : Result (List ℕ) InputError)
           → Goes (TakesExecutableRead names offer missing read)
