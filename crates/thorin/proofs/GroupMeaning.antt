@@ -1,29 +1,145 @@
 -- What packing in groups means: the join of all inputs at once.
-use Rattle.std.proofs.Common.{◌≡◌, ◌∙◌, ℕ, ◌<◌, true, List, [], ◌∷◌, ◌++◌, length, Option, Ok}
-use Rattle.std.proofs.Common.{refl, sym, ap, subst, arith}
-use Rattle.std.specs.List.{swap, flat_map, IsDistinct}
-use Rattle.std.specs.List.Sorted.{IsPermutation}
-use Rattle.std.proofs.lemmas.List.{length-map}
+use Rattle.std.proofs.Common.{◌≡◌, ◌∙◌, ℕ, true, List, [], ◌∷◌, ◌++◌, length, map, get_or, Ok}
+use Rattle.std.proofs.Common.{Option, Some, refl, sym, ap, subst, arith, set, swap, flat_map}
+use Rattle.std.proofs.Common.{IsPermutation, take, drop, append_assoc, append-nil, drop_at}
+use Rattle.std.proofs.Common.{take-append-drop}
+use Rattle.std.proofs.Math.ListN.{get_or-map}
+use Rattle.std.specs.List.{IsDistinct, take-map, drop-map}
+use Rattle.std.proofs.lemmas.List.{length-map, map-set, map-append}
 use Rattle.std.proofs.lemmas.List.Sorted.{IsPermutation-refl, IsPermutation-sym}
 use Rattle.std.proofs.lemmas.List.Sorted.{IsPermutation-trans, IsPermutation-swap}
 use Rattle.std.proofs.lemmas.List.Sorted.{IsPermutation-keeps}
+use Rattle.std.proofs.lemmas.Map.Made.{keys_of-map_values}
 use Rattle.dwp_elf.specs.FileText.{Object as File}
 use Rattle.thorin_join.specs.Builder.{State, start, taken, with_input, finish_test, IsFinishedState}
-use Rattle.thorin_join.specs.Join.{IsPackageOf}
-use Rattle.thorin_join.specs.Meaning.{Members, keys, joining, can_join}
+use Rattle.thorin_join.specs.Join.{IsPackageOf, JoinAll}
+use Rattle.thorin_join.specs.Meaning.{keys, joining, can_join, Meaning, Members, input_meaning}
 use Rattle.thorin_input.specs.Names.{same_name}
 use Rattle.thorin_join.specs.Represents.{IsSoundBegun, units_in}
 use Rattle.thorin_join.specs.State.{InProgress}
 use Rattle.thorin_again.specs.Again.{HaveEncodingOf, all_meant, MeansWhereTaken, MeansOnceWritten}
-use Rattle.thorin.specs.Groups.{taken_each, IsPackedAlone, ArePackedAlone, IsPackedInGroups}
-use Rattle.thorin.specs.Groups.{AreJoined, HaveTheirEncodings, inputs_of, IsPackageOfAll}
-use Rattle.thorin.proofs.GroupJoins.{groups-defined, groups-joined, joined-distinct, none-distinct}
-use Rattle.thorin.proofs.GroupLookups.{units-found, swap-map}
-use Rattle.thorin.proofs.GroupUnits.{Units, AllMean, meant_one, keys-meant, mean-append, join-of}
-use Rattle.thorin.proofs.GroupUnits.{joins-all}
+use Rattle.thorin.specs.Groups.{taken_each, ArePackedAlone, IsPackedInGroups, AreJoined}
+use Rattle.thorin.specs.Groups.{HaveTheirEncodings, inputs_of, IsPackageOfAll}
+use Rattle.thorin.proofs.GroupJoins.{groups-defined, groups-joined, joined-apart, found-again}
+use Rattle.thorin.proofs.GroupJoins.{joined-append}
 use Rattle.thorin_again.specs.PlainInputs.{AreTaken}
-use Rattle.thorin.proofs.RunTaken.{begun-then, each-taken}
-use Rattle.dwp_base.proofs.Steps.{bind-was as bound}
+use Rattle.thorin.proofs.Running.{begun-then, each-taken, as-written}
+use Rattle.dwp_base.proofs.Steps.{bind-was}
+use Rattle.std.proofs.Math.Seq.{take-append_seam}
+use Rattle.dwp_table.specs.declared.object.DwarfObject.{DwarfObject}
+use Rattle.dwp_base.proofs.Bools.{both as both-true}
+
+-- ---- inputs, and the list of all their units
+
+abbrev pub Units : Type 0
+Units = List (DwarfObject × Option Meaning)
+
+-- a unit with all that belongs to it
+abbrev pub meant_one : DwarfObject × Meaning → DwarfObject × Option Meaning
+meant_one unit = (unit.0, Some unit.1)
+
+-- what inputs mean, one after the other: the units of the first, and those of the others
+abbrev pub AllMean : List (List ℕ) → Units → Type 0
+AllMean [] all = all ≡ []
+AllMean (bytes ∷ rest) all = (here : Units) × (later : Units) × (input_meaning bytes ≡ Ok here)
+    × AllMean rest later × (all ≡ here ++ later)
+
+pub mean-append : (cs bs : List (List ℕ)) (us vs : Units) → AllMean cs us → AllMean bs vs
+    → AllMean (cs ++ bs) (us ++ vs)
+mean-append [] bs us vs h k = rw h k
+mean-append (c ∷ cs) bs us vs (here, later, meaning, others, whole) k = (
+  here,
+  later ++ vs,
+  meaning,
+  mean-append cs bs later vs others k,
+  ap (λ l. l ++ vs) whole ∙ append_assoc here later vs,
+)
+
+-- the names that are there once some units were joined
+names-then : (before added : Members) (us : Units) → joining (keys before) us ≡ all_meant added
+    → keys (before ++ added) ≡ keys before ++ keys (joining (keys before) us)
+names-then before added us h = map-append (λ u. u.0) before added ∙ ap (λ l. keys before ++ l)
+    (sym (ap keys h ∙ keys_of-map_values Some added))
+
+-- the join of inputs is that of the list of all their units
+pub record IsJoinOf (inputs : List (List ℕ)) (before now : Members) : Type 0 where
+  pub all : Units
+  pub meant : AllMean inputs all
+  pub defined : can_join (keys before) all ≡ true
+  pub added : Members
+  pub joined : joining (keys before) all ≡ all_meant added
+  pub is : now ≡ before ++ added
+
+pub join-of : (inputs : List (List ℕ)) (before now : Members) → JoinAll inputs before now
+    → IsJoinOf inputs before now
+join-of [] before now h = record {
+  all = [];
+  meant = refl;
+  defined = refl;
+  added = [];
+  joined = refl;
+  is = rw append-nil h;
+}
+join-of (bytes ∷ rest) before now (middle, j, others) =
+    let later = join-of rest middle now others in
+    let names : keys middle ≡ keys before ++ keys (joining (keys before) j.units) =
+    ap keys j.is ∙ names-then before j.added j.units j.joined in
+    let a = joined-append (keys before) j.units later.all in
+    record {
+      all = j.units ++ later.all;
+      meant = (j.units, later.all, j.meaning, later.meant, refl);
+      defined = rw (a.1, j.defined, ← names) later.defined;
+      added = j.added ++ later.added;
+      joined = rw (a.0, ← names, j.joined, later.joined)
+          (sym (map-append meant_one j.added later.added));
+      is = later.is ∙ ap (λ l. l ++ later.added) j.is ∙ append_assoc before j.added later.added;
+    }
+
+-- a list of units with all that belongs to them, in two
+parted : (front back : Units) (units : Members) → front ++ back ≡ all_meant units
+    → (front ≡ all_meant (take (length front) units))
+    × (back ≡ all_meant (drop (length front) units))
+parted front back units h =
+    let n = length front in (
+      sym (take-append_seam front back) ∙ ap (take n) h ∙ take-map meant_one n units,
+      sym (drop_at front back n refl) ∙ ap (drop n) h ∙ drop-map meant_one n units,
+    )
+
+none-meant : (units : Members) → [] ≡ all_meant units → units ≡ []
+none-meant [] h = refl
+none-meant (u ∷ us) h = absurd cc
+
+-- and the join of that list is the join of the inputs
+pub joins-all : (inputs : List (List ℕ)) (all : Units) (before added : Members) → AllMean inputs all
+    → can_join (keys before) all ≡ true → joining (keys before) all ≡ all_meant added
+    → JoinAll inputs before (before ++ added)
+joins-all [] all before added meant defined joined =
+    rw (none-meant added (rw meant at joined)) (append-nil before)
+joins-all (bytes ∷ rest) all before added (here, later, meaning, others, whole) defined joined =
+    let front = joining (keys before) here in
+    let a = joined-append (keys before) here later in
+    let can = both-true (can_join (keys before) here)
+    (can_join (keys before ++ keys front) later) (rw (whole, a.1) at defined) in
+    let parts = parted front (joining (keys before ++ keys front) later) added
+    (rw (whole, a.0) at joined) in
+    let first = take (length front) added in
+    let second = drop (length front) added in
+    let named : keys (before ++ first) ≡ keys before ++ keys front =
+    names-then before first here parts.0 in (
+      before ++ first,
+      record {
+        units = here;
+        meaning = meaning;
+        defined = can.0;
+        added = first;
+        joined = parts.0;
+        is = refl;
+      },
+      subst (λ l. JoinAll rest (before ++ first) l) (append_assoc before first second
+          ∙ ap (λ l. before ++ l) (take-append-drop (length front) added))
+          (joins-all rest later (before ++ first) second others (rw named can.1)
+          (rw named parts.1)),
+    )
 
 -- what the laws of the builder say
 abbrev pub KeepsSound : Type 0
@@ -34,8 +150,6 @@ abbrev pub MeansAgain : Type 0
 MeansAgain = (state : State) (file : File) → IsSoundBegun state.begun → finish_test state ≡ Ok tt
     → IsFinishedState state file → MeansOnceWritten (units_in state) file
 
--- ---- inputs that were taken
-
 pub sound-taken : KeepsSound → (list : List (List ℕ)) (old new : State) → IsSoundBegun old.begun
     → AreTaken list old new → IsSoundBegun new.begun
 sound-taken keeps [] old new sound are = rw are.1 sound
@@ -43,23 +157,33 @@ sound-taken keeps (bytes ∷ rest) old new sound are =
     sound-taken keeps rest are.1 new (keeps bytes old.begun are.1.begun sound
     (begun-then bytes (record old { targets = are.0 }) are.1 are.2)) are.3
 
-taken-parts : (bytes : List ℕ) (rest : List (List ℕ)) (old new : State) → taken_each (bytes ∷ rest)
-    old ≡ Ok new → (next : State) × (taken bytes old ≡ Ok next) × (taken_each rest next ≡ Ok new)
-unfolding taken_each
-taken-parts bytes rest old new h = bound (taken bytes old) (λ next. taken_each rest next) new h
+-- ---- units in another order
 
--- ---- a package that was written
+swap-map : {A B : Type 0} (f : A → B) (xs : List A) (i j : ℕ)
+    → swap (map f xs) i j ≡ map f (swap xs i j)
+swap-map f [] i j = refl
+swap-map f (x ∷ xs) i j =
+    let at = get_or (x ∷ xs) i x in
+    let to = get_or (x ∷ xs) j x in
+    rw (
+      get_or-map f (x ∷ xs) j x,
+      get_or-map f (x ∷ xs) i x,
+      map-set f (set (x ∷ xs) i to) j at,
+      map-set f (x ∷ xs) i to,
+    ) refl
 
--- a package means its units, where it is taken
-means-units : KeepsSound → MeansAgain → (inputs : List (List ℕ)) (file : List ℕ)
-    (alone : IsPackedAlone inputs file) → HaveEncodingOf file (units_in alone.state)
-    → MeansWhereTaken (units_in alone.state) file
-means-units keeps again inputs file alone have =
-    let written = alone.written in
-    let sound = sound-taken keeps inputs start alone.state tt
-    (each-taken inputs start alone.state alone.taken) in
-    rw written.text (again alone.state written.file sound written.tested written.finished
-    written.kinds (rw written.text at written.read_back) (rw written.text at have))
+-- another order of what is made of a list is made of the list in another order
+lifted : {A B : Type 0} (f : A → B) (xs : List A) (ys : List B) → IsPermutation (map f xs) ys
+    → (zs : List A) × (ys ≡ map f zs) × IsPermutation xs zs
+lifted {A} f xs ys h = IsPermutation-keeps (map f xs)
+    (λ l. (zs : List A) × (l ≡ map f zs) × IsPermutation xs zs)
+    (xs, refl, IsPermutation-refl xs) (λ l i j hi hj was.
+    let long : length l ≡ length was.0 = ap length was.1 ∙ length-map was.0 f in (
+      swap was.0 i j,
+      ap (λ m. swap m i j) was.1 ∙ swap-map f was.0 i j,
+      IsPermutation-trans xs was.0 (swap was.0 i j) was.2
+          (IsPermutation-swap was.0 (swap was.0 i j) i j (omega arith) (omega arith) refl),
+    )) ys h
 
 -- ---- groups
 
@@ -71,91 +195,68 @@ record AreGrouped (groups : List (List (List ℕ))) (all : Units) : Type 0 where
   are : AreJoined lists results
   whole : all ≡ flat_map (λ units. units) results
 
-grouped : KeepsSound → MeansAgain → (groups : List (List (List ℕ))) (packages : List (List ℕ))
-    (old new : State) (all : Units)
-    → (each : ArePackedAlone groups packages) → HaveTheirEncodings groups packages each
-    → taken_each packages old ≡ Ok new → AllMean packages all → AreGrouped groups all
-grouped keeps again [] [] old new all packed has took mean = record {
-  lists = [];
-  results = [];
-  meant = refl;
-  are = tt;
-  whole = mean;
-}
-grouped keeps again [] (p ∷ ps) old new all packed has took mean = absurd packed
-grouped keeps again (g ∷ gs) [] old new all packed has took mean = absurd packed
-grouped keeps again (g ∷ gs) (p ∷ ps) old new all packed has took mean =
-    let alone = packed.0 in
-    let join = join-of g [] (units_in alone.state) alone.joined in
-    let parts = taken-parts p ps old new took in
-    let rest = grouped keeps again gs ps parts.0 new mean.0.later packed.1 has.1 parts.2 mean.2 in
-    let same : IsPermutation (all_meant (units_in alone.state)) mean.0.here =
-    means-units keeps again g p alone has.0 old parts.0 parts.1 mean.0.here mean.1 in
-    let joined : joining [] join.all ≡ all_meant (units_in alone.state) = join.joined ∙ ap all_meant
-    (sym join.is) in
-    record {
-      lists = join.all ∷ rest.lists;
-      results = mean.0.here ∷ rest.results;
-      meant = mean-append g (inputs_of gs) join.all (flat_map (λ units. units) rest.lists)
-          join.meant rest.meant;
-      are = (join.defined, rw joined same, rest.are);
-      whole = mean.3 ∙ ap (λ l. mean.0.here ++ l) rest.whole;
-    }
+module _ (keeps : KeepsSound) (again : MeansAgain) where
+  grouped : (groups : List (List (List ℕ))) (packages : List (List ℕ)) (old new : State)
+      (all : Units) (each : ArePackedAlone groups packages)
+      → HaveTheirEncodings groups packages each → taken_each packages old ≡ Ok new
+      → AllMean packages all → AreGrouped groups all
+  unfolding taken_each
+  grouped [] [] old new all packed has took mean =
+      record { lists = []; results = []; meant = refl; are = tt; whole = mean }
+  grouped [] (p ∷ ps) old new all packed has took mean = absurd packed
+  grouped (g ∷ gs) [] old new all packed has took mean = absurd packed
+  grouped (g ∷ gs) (p ∷ ps) old new all packed has took (here, later, meaning, others, whole) =
+      let alone = packed.0 in
+      let w = alone.written in
+      let units = units_in alone.state in
+      let join = join-of g [] units alone.joined in
+      let next = bind-was (taken p old) _ new took in
+      let rest = grouped gs ps next.0 new later packed.1 has.1 next.2 others in
+      let joined : joining [] join.all ≡ all_meant units =
+      join.joined ∙ ap all_meant (sym join.is) in
+      record {
+        lists = join.all ∷ rest.lists;
+        results = here ∷ rest.results;
+        meant = mean-append g (inputs_of gs) join.all (flat_map (λ units. units) rest.lists)
+            join.meant rest.meant;
+        are = (
+          join.defined,
+          rw joined (as-written alone.state p w
+              (λ b. HaveEncodingOf b units → MeansWhereTaken units b)
+              (again alone.state w.file (sound-taken keeps g start alone.state tt
+              (each-taken g start alone.state alone.taken)) w.tested w.finished) has.0 old next.0
+              next.1 here meaning),
+          rest.are,
+        );
+        whole = whole ∙ ap (λ l. here ++ l) rest.whole;
+      }
 
--- ---- units in another order
-
-record Reordered (units : Members) (list : Units) : Type 0 where
-  members : Members
-  is : list ≡ all_meant members
-  same : IsPermutation units members
-
-reordered-step : (units : Members) (list : Units) (i j : ℕ) → i < length list → j < length list
-    → Reordered units list → Reordered units (swap list i j)
-reordered-step units list i j hi hj h =
-    let long : length list ≡ length h.members =
-    ap length h.is ∙ length-map h.members meant_one in
-    let first : i < length h.members = omega arith in
-    let second : j < length h.members = omega arith in
-    record {
-      members = swap h.members i j;
-      is = ap (λ l. swap l i j) h.is ∙ swap-map meant_one h.members i j first second;
-      same = IsPermutation-trans units h.members (swap h.members i j) h.same
-          (IsPermutation-swap h.members (swap h.members i j) i j first second refl);
-    }
-
-reordered : (units : Members) (list : Units) → IsPermutation (all_meant units) list
-    → Reordered units list
-reordered units list h = IsPermutation-keeps (all_meant units) (Reordered units)
-    (record { members = units; is = refl; same = IsPermutation-refl units })
-    (reordered-step units) list h
-
--- what is packed in groups is a package of all inputs
-pub means-all : KeepsSound → MeansAgain → (groups : List (List (List ℕ))) (file : List ℕ)
-    (packed : IsPackedInGroups groups file) → HaveTheirEncodings groups packed.packages packed.each
-    → IsPackageOfAll (inputs_of groups) file
-means-all keeps again groups file packed has =
-    let together = packed.together in
-    let join = join-of packed.packages [] (units_in together.state) together.joined in
-    let parts = grouped keeps again groups packed.packages start together.state join.all packed.each
-    has together.taken join.meant in
-    let lists = flat_map (λ (units : Units). units) parts.lists in
-    let defined : can_join [] lists ≡ true = groups-defined parts.lists parts.results parts.are ∙ ap
-    (can_join []) (sym parts.whole) ∙ join.defined in
-    let joined : joining [] (flat_map (λ units. units) parts.results) ≡ all_meant join.added =
-    ap (joining []) (sym parts.whole) ∙ join.joined in
-    let same : IsPermutation (all_meant join.added) (joining [] lists) =
-    IsPermutation-sym (joining [] lists) (all_meant join.added)
-    (subst (IsPermutation (joining [] lists)) joined (groups-joined parts.lists
-    parts.results parts.are)) in
-    let order = reordered join.added (joining [] lists) same in
-    let turned = IsPermutation-sym join.added order.members order.same in
-    record {
-      units = order.members;
-      joined = joins-all (inputs_of groups) lists [] order.members parts.meant defined order.is;
-      packed = join.added;
-      same = turned;
-      found = units-found join.added order.members (subst (IsDistinct same_name)
-          (ap keys join.joined ∙ keys-meant join.added) (joined-distinct [] join.all none-distinct))
-          order.same;
-      package_of = subst (λ units. IsPackageOf units file) join.is together.package_of;
-    }
+  -- what is packed in groups is a package of all inputs
+  pub means-all : (groups : List (List (List ℕ))) (file : List ℕ)
+      (packed : IsPackedInGroups groups file)
+      → HaveTheirEncodings groups packed.packages packed.each
+      → IsPackageOfAll (inputs_of groups) file
+  means-all groups file packed has =
+      let together = packed.together in
+      let join = join-of packed.packages [] (units_in together.state) together.joined in
+      let parts = grouped groups packed.packages start together.state join.all packed.each has
+      together.taken join.meant in
+      let lists = flat_map (λ (units : Units). units) parts.lists in
+      let joined : joining [] (flat_map (λ units. units) parts.results) ≡ all_meant join.added =
+      ap (joining []) (sym parts.whole) ∙ join.joined in
+      let order = lifted meant_one join.added (joining [] lists)
+      (IsPermutation-sym (joining [] lists) (all_meant join.added)
+      (subst (IsPermutation (joining [] lists)) joined
+      (groups-joined parts.lists parts.results parts.are))) in
+      record {
+        units = order.0;
+        joined = joins-all (inputs_of groups) lists [] order.0 parts.meant
+            (groups-defined parts.lists parts.results parts.are
+            ∙ ap (can_join []) (sym parts.whole) ∙ join.defined) order.1;
+        packed = join.added;
+        same = IsPermutation-sym join.added order.0 order.2;
+        found = found-again join.added order.0 (subst (IsDistinct same_name)
+            (ap keys join.joined ∙ keys_of-map_values Some join.added) (joined-apart join.all))
+            order.2;
+        package_of = subst (λ units. IsPackageOf units file) join.is together.package_of;
+      }

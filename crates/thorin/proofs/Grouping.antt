@@ -1,56 +1,25 @@
 -- Inputs that are all taken, and groups that are all packed, one after the other.
 use Rattle.std.proofs.Common.{◌≡◌, ◌∙◌, ℕ, ◌<◌, ◌+◌, List, [], ◌∷◌, ◌++◌, length, take, drop}
-use Rattle.std.proofs.Common.{get_or, map, refl, sym, ap, Result, Ok, Err, inr}
-use Rattle.std.specs.Prelude.{IfOk}
-use Rattle.std.proofs.lemmas.List.{map-append, take-append-drop, drop_more}
-use Rattle.dwp_base.specs.Reading.{◌>>=◌}
-use Rattle.thorin_errors.specs.Errors.{ErrorValue}
+use Rattle.std.proofs.Common.{get_or, map, refl, sym, ap, Result, Ok, Err, inr, IfOk}
+use Rattle.std.proofs.Common.{take-append-drop}
+use Rattle.std.proofs.lemmas.List.{map-append, drop_more}
 use Rattle.thorin_errors.specs.declared.error.Error.{Error}
 use Rattle.thorin_join.specs.Builder.{State, start, taken}
 use Rattle.thorin_join.specs.Join.{JoinAll, IsPackageOf}
 use Rattle.thorin_join.specs.Represents.{units_in}
 use Rattle.thorin.specs.Groups.{taken_each, IsPackedAlone, ArePackedAlone, PacksAlone}
-use Rattle.thorin.specs.Groups.{PacksInGroups, IsPackedInGroups, HaveTheirEncodings, IsPackageOfAll}
-use Rattle.thorin.specs.Groups.{inputs_of}
+use Rattle.thorin.specs.Groups.{PacksInGroups}
 use Rattle.thorin.specs.Run.{Writes}
+use Rattle.dwp_base.proofs.Steps.{bind-was, bind-ok, same-ok}
 
-pub taken-append : (done rest : List (List ℕ)) (old : State) → taken_each (done ++ rest) old ≡
-    (taken_each done old >>= taken_each rest)
+-- once some inputs were taken, the others are
+pub taken-then : (done rest : List (List ℕ)) (old middle : State) → taken_each done old ≡ Ok middle
+    → taken_each (done ++ rest) old ≡ taken_each rest middle
 unfolding taken_each
-taken-append [] rest old = refl
-taken-append (bytes ∷ done) rest old = elim (taken bytes old) as (λ r.
-    (r >>= (λ next. taken_each (done ++ rest) next))
-    ≡ ((r >>= (λ next. taken_each done next)) >>= taken_each rest)) [
-      | Ok next ↦ taken-append done rest next
-      | Err e ↦ refl
-    ]
-
-pub taken-start : taken_each [] start ≡ Ok start
-unfolding taken_each
-taken-start = refl
-
-taken-none : (r : Result State ErrorValue) → (r >>= taken_each []) ≡ r
-unfolding taken_each
-taken-none (Ok state) = refl
-taken-none (Err e) = refl
-
--- one more input is taken, or refused
-pub taken-more : (done : List (List ℕ)) (bytes : List ℕ) (old middle : State)
-    (answer : Result State ErrorValue) → taken_each done old ≡ Ok middle
-    → taken bytes middle ≡ answer
-    → taken_each (done ++ bytes ∷ []) old ≡ answer
-unfolding taken_each
-taken-more done bytes old middle answer before here =
-    taken-append done (bytes ∷ []) old ∙ rw (before, here) (taken-none answer)
-
--- a refusal is that of the whole list
-pub taken-refused : (done : List (List ℕ)) (bytes : List ℕ) (rest : List (List ℕ))
-    (old middle : State) (error : ErrorValue) → taken_each done old ≡ Ok middle
-    → taken bytes middle ≡
-    Err error → taken_each (done ++ bytes ∷ rest) old ≡ Err error
-unfolding taken_each
-taken-refused done bytes rest old middle error before here =
-    taken-append done (bytes ∷ rest) old ∙ rw (before, here) refl
+taken-then [] rest old middle h = ap (taken_each rest) (same-ok old middle h)
+taken-then (bytes ∷ done) rest old middle h =
+    let next = bind-was (taken bytes old) _ middle h in
+    bind-ok (taken bytes old) next.0 _ next.1 ∙ taken-then done rest next.0 middle next.2
 
 -- a list up to one element, that one, and what follows
 pub mapped-around : {A B : Type 0} (f : A → B) (xs : List A) (i : ℕ) (d : A) → i < length xs
@@ -74,13 +43,8 @@ pub packs-alone : {V : Type 0} (view : V → List ℕ) (inputs : List (List ℕ)
     → JoinAll inputs [] (units_in state)
     → Writes view state result → IfOk result (λ file. IsPackageOf (units_in state) (view file))
     → PacksAlone view inputs result
-packs-alone view inputs state (Ok file) took joined writes packaged = record {
-  state = state;
-  taken = took;
-  joined = joined;
-  written = writes;
-  package_of = packaged;
-}
+packs-alone view inputs state (Ok file) took joined writes packaged =
+    record { state = state; taken = took; joined = joined; written = writes; package_of = packaged }
 packs-alone view inputs state (Err e) took joined writes packaged = λ aside.
     inr (record { state = state; taken = took; refused = writes aside })
 
@@ -88,21 +52,13 @@ packs-alone view inputs state (Err e) took joined writes packaged = λ aside.
 pub packs-together : {V : Type 0} (view : V → List ℕ) (groups : List (List (List ℕ)))
     (packages : List (List ℕ)) (result : Result V Error) → ArePackedAlone groups packages
     → PacksAlone view packages result → PacksInGroups view groups result
-packs-together view groups packages (Ok file) each packs = record {
-  packages = packages;
-  each =
-      each;
-  together = packs;
-}
+packs-together view groups packages (Ok file) each packs =
+    record { packages = packages; each = each; together = packs }
 packs-together view groups packages (Err e) each packs = λ aside.
     inr (record { packages = packages; each = each; refused = packs aside })
 
--- what is so of every file of these groups is so of an answer that is Ok
-pub if-joined : {V E : Type 0} (view : V → List ℕ) (groups : List (List (List ℕ)))
-    (result : Result V E)
-    → ((file : List ℕ) (packed : IsPackedInGroups groups file) → HaveTheirEncodings groups
-    packed.packages packed.each → IsPackageOfAll (inputs_of groups) file)
-    → IfOk result (λ v. (packed : IsPackedInGroups groups (view v)) → HaveTheirEncodings groups
-    packed.packages packed.each → IsPackageOfAll (inputs_of groups) (view v))
-if-joined view groups (Ok v) law = law (view v)
-if-joined view groups (Err e) law = tt
+-- what is so of every value is so of an answer that is Ok
+pub if-ok : {V E : Type 0} (P : V → Type 0) (result : Result V E) → ((value : V) → P value)
+    → IfOk result P
+if-ok P (Ok value) law = law value
+if-ok P (Err e) law = tt

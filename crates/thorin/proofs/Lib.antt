@@ -1,14 +1,8 @@
 pub mod Running
 pub mod Grouping
-pub mod Shuffled
 pub mod GroupJoins
-pub mod GroupLookups
-pub mod GroupUnits
 pub mod GroupMeaning
-pub mod RunTaken
 pub mod TakenAgain
-pub mod MeantAsRead
-pub mod SectionsRead
 pub mod MeaningRead
 pub mod Differs
 pub mod Limits

@@ -1,12 +1,8 @@
 -- Numbers past their limits are refused.
 use Rattle.std.proofs.Common.{◌≡◌, ℕ, ◌*◌, ◌^◌, ◌<◌, ◌≤◌, true, false, ltb, List, [], ◌∷◌, length}
-use Rattle.std.proofs.Common.{codes, arith, Ok, Err, refl}
-use Rattle.std.specs.Prelude.{Option}
-use Rattle.std.proofs.lemmas.Bool.{lt-ltb, le-ltb}
-use Rattle.dwp_base.specs.declared.class.Class.{Class}
-use Rattle.dwp_base.specs.declared.class.Class.TheVariants.{Elf32, Elf64}
+use Rattle.std.proofs.Common.{codes, arith, Ok, Err, refl, Option, lt-ltb, le-ltb}
+use Rattle.dwp_base.specs.declared.class.Class.TheVariants.{Elf32}
 use Rattle.dwp_base.specs.declared.endian.Endianness.{Endianness}
-use Rattle.dwp_base.specs.declared.section.SectionKind.{SectionKind}
 use Rattle.dwp_bytes.specs.declared.encoding.Encoding.{Encoding}
 use Rattle.dwp_elf_read.specs.declared.error.WriteError.TheVariants as written
 use Rattle.dwp_elf_read.specs.declared.error.WriteError.{WriteError}
@@ -20,18 +16,15 @@ use Rattle.thorin_strings.specs.StringOffsets.{named_at, offset_limit, fitting_o
 use Rattle.thorin_strings.specs.StringOffsets.{remapped_entry}
 use Rattle.thorin_strings.specs.Strings.{offset_of}
 
-past_32 : (class : Class) (machine : ℕ) (order : Endianness) (cs : List (SectionKind × List ℕ))
-    → class ≡ Elf32 → 2 ^ 32 ≤ headers_place class cs
-    → ¬ Fits (record { class = class; machine = machine; order = order; contents = cs })
-unfolding Fits
-past_32 Elf32 machine order cs is past fits = let first = fits 0 0 (omega arith) in
-    absurd (omega (arith, first))
-past_32 Elf64 machine order cs is past fits = absurd cc
-
 -- no ELF 32 file has its section headers at 2 ^ 32 or later
 pub large_file : (o : Object) → o.class ≡ Elf32 → 2 ^ 32 ≤ headers_place o.class o.contents
     → ¬ Fits o
-large_file o is past = past_32 o.class o.machine o.order o.contents is past
+unfolding Fits
+large_file o is past fits =
+    let limits = rw is at fits in
+    let first = limits 0 0 (omega arith) in
+    let far = rw is at past in
+    absurd (omega (arith, first, far))
 
 pub large_refusal : (o : Object) (e : WriteError) → o.class ≡ Elf32
     → 2 ^ 32 ≤ headers_place o.class o.contents → RefusesFile o e → e ≡ written.NumberTooLarge

@@ -1,10 +1,10 @@
 -- What a package means as an input is what a reader of packages finds in it.
 use Rattle.std.proofs.Common.{◌≡◌, ◌∙◌, ℕ, Bool, true, false, cond, ◌||◌, nat_eq, List, [], map}
-use Rattle.std.proofs.Common.{length, refl, sym, ap, subst, Option, Some, None, Result, Ok, Err}
-use Rattle.std.proofs.Common.{is_none, is_some, find, ◌⊎◌, inl, inr}
-use Rattle.std.specs.Option.{option_and_then}
+use Rattle.std.proofs.Common.{length, refl, sym, ap, Option, Some, None, Result, Ok, Err, is_none}
+use Rattle.std.proofs.Common.{is_some, find, ◌⊎◌, inl, inr, option_and_then, ◌&&◌, ◌∷◌, ◌++◌}
+use Rattle.std.proofs.Common.{bytes_eq}
 use Rattle.dwp_base.specs.Reading.{◌>>=◌}
-use Rattle.dwp_base.specs.Sections.{name_of}
+use Rattle.dwp_base.specs.Sections.{name_of, compressed_name_of, all_kinds, kind_named, same_kind}
 use Rattle.dwp_base.specs.declared.endian.Endianness.{Endianness}
 use Rattle.dwp_base.specs.declared.section.SectionKind.{SectionKind}
 use Rattle.dwp_base.specs.declared.section.SectionKind.TheVariants.{StrOffsets, Str, CuIndex}
@@ -16,7 +16,7 @@ use Rattle.dwp_elf_read.specs.Elf.{Elf, SectionMeaning, elf_of}
 use Rattle.dwp_elf_read.specs.Identification as identification
 use Rattle.dwp_elf_read.specs.declared.kind.FileKind.{FileKind}
 use Rattle.dwp_elf_read.specs.declared.kind.FileKind.TheVariants.{Archive, Elf32, Elf64}
-use Rattle.dwp_index.specs.Contents.{Sections, content, content_among, contents_of}
+use Rattle.dwp_index.specs.Contents.{content, content_among, contents_of, has_name, is_of_kind}
 use Rattle.dwp_index.specs.Index.{Index, Ranges, range_in}
 use Rattle.dwp_index.specs.IndexBytes.{index_of}
 use Rattle.dwp_index.specs.Package as reader
@@ -25,74 +25,132 @@ use Rattle.dwp_index.specs.Package.{is_outside}
 use Rattle.dwp_index.specs.declared.error.PackageError.TheVariants as errors
 use Rattle.dwp_table.specs.declared.object.DwarfObject.{DwarfObject}
 use Rattle.dwp_table.specs.declared.object.DwarfObject.TheVariants.{Compilation, TypeUnit}
-use Rattle.thorin_errors.specs.Errors.{ErrorValue, ParseFileKind, ParseIndex}
+use Rattle.thorin_errors.specs.Errors.{ParseFileKind, ParseIndex}
 use Rattle.thorin_errors.specs.Answers.{as_error}
 use Rattle.thorin_input.specs.Encodings.{encoding_of}
 use Rattle.thorin_input.specs.Indexes.{Indexes, Source, is_package, index_for, index_in}
 use Rattle.thorin_input.specs.Indexes.{version_test, indexes_of}
 use Rattle.thorin_input.specs.Rows.{own_range}
 use Rattle.thorin_input.specs.Used.{InputFile, opened, elf_in, has_info, input_file_of, used_from}
-use Rattle.thorin_input.specs.Used.{first}
+use Rattle.thorin_input.specs.Used.{first, Used, used_kind, counts_once, unusable, used_bytes}
+use Rattle.thorin_input.specs.Used.{has_kind, with_used, bytes_of}
 use Rattle.thorin_join.specs.Meaning.{Meaning, UnitRead, pieces_by, shared_kinds, placed_row}
-use Rattle.thorin_join.specs.Meaning.{source_units, meaning_with, meaning_by, unit_meaning, meant}
+use Rattle.thorin_join.specs.Meaning.{source_units, meaning_with, meaning_by, unit_meaning}
 use Rattle.thorin_join.specs.Meaning.{source_meaning, object_meaning, input_meaning}
 use Rattle.thorin_join.specs.Strings.{strings_of}
 use Rattle.thorin.specs.MeaningRead.{has_index, lies_in, unit_with, unit_of_row, unit_of_package}
 use Rattle.thorin.specs.MeaningRead.{MeansByReader}
-use Rattle.thorin.proofs.SectionsRead.{first-is}
-use Rattle.dwp_base.proofs.Steps.{same-ok as was, bind-was}
+use Rattle.dwp_base.proofs.Steps.{same-ok, bind-was, by-choice}
+use Rattle.std.proofs.Math.Bool.{and-false}
+use Rattle.std.proofs.lemmas.Option.{same_Some}
+use Rattle.std.proofs.lemmas.Slice.Eq.{bytes_eq-Decides}
+use Rattle.std.proofs.lemmas.List.Folds.{find-append}
+use Rattle.dwp_base.proofs.Bools.{both, by-bool, is-false}
+use Rattle.dwp_base.proofs.EveryKind.{is-same, same-self, same-each, kind-named}
+use Rattle.thorin_input.proofs.Walking.{kind-full}
+
+-- ---- the kind of a section
+
+named-of : (k : SectionKind) (name : Option (List ℕ)) → has_name k name ≡ true
+    → option_and_then kind_named name ≡ Some k
+named-of k None h = absurd cc
+named-of k (Some name) h =
+    by-bool _ (bytes_eq name (name_of k))
+    (λ e. ap kind_named ((bytes_eq-Decides name (name_of k)).0 e) ∙ kind-named k)
+    (λ e. ap kind_named ((bytes_eq-Decides name (compressed_name_of k)).0 (rw e at h))
+    ∙ same-each (λ j. kind_named (compressed_name_of j)) Some refl k)
+
+used-of : (s : SectionMeaning) (k : SectionKind) → is_of_kind k s ≡ true → used_kind s ≡ Some k
+unfolding is_of_kind
+used-of s k h = let is = both _ (has_name k s.name) h in
+    kind-full s (is-false _ is.0) ∙ named-of k s.name is.1
+
+found-passes : {X : Type 0} (p : X → Bool) (xs : List X) (x : X) → find p xs ≡ Some x → p x ≡ true
+found-passes p [] x h = absurd cc
+found-passes p (y ∷ ys) x h =
+    by-bool _ (p y)
+    (λ e. rw (← same_Some y x (rw e at h)) e)
+    (λ e. found-passes p ys x (rw e at h))
+
+-- a section of another kind
+apart : (s : SectionMeaning) (j k : SectionKind) → used_kind s ≡ Some j → is_of_kind k s ≡ false
+    → same_kind j k ≡ false
+unfolding used_kind
+apart s j k h other =
+    let this = found-passes (λ kind. is_of_kind kind s) all_kinds j h in
+    by-bool _ (same_kind j k) (λ e. absurd (let same = rw (is-same j k e) at this in cc)) (λ e. e)
+
+-- ---- the used sections
+
+-- a section is used, or passed over
+with-more : (s : SectionMeaning) (before next : List Used) (o : Option SectionKind)
+    → with_used before s o ≡ Ok next
+    → (next ≡ before) ⊎ ((u : Used) × (o ≡ Some u.kind) × (next ≡ before ++ u ∷ []))
+with-more s before next None h = inl (sym (same-ok before next h))
+with-more s before next (Some j) h =
+    by-choice _ (counts_once j && is_some (find (has_kind j) before)) _ _ (Ok next) h
+    (λ e. inl (sym (same-ok before next e)))
+    (λ e. let t = bind-was (used_bytes j s) _ next e in inr (
+      record { kind = j; bytes = t.0; address = s.address },
+      refl,
+      sym (same-ok _ next t.2),
+    ))
+
+module _ (k : SectionKind) (bytes : List ℕ) where
+  -- the first that was used has these bytes; else the first of those behind has
+  abbrev pub Expects : List SectionMeaning → Option Used → Type 0
+  Expects ss None = content_among ss k ≡ Ok bytes
+  Expects ss (Some used) = used.bytes ≡ bytes
+
+  one-more : (s : SectionMeaning) (ss : List SectionMeaning) (before next : List Used)
+      (o : Option Used) → find (has_kind k) before ≡ o → with_used before s (used_kind s) ≡ Ok next
+      → Expects (s ∷ ss) o → Expects ss (find (has_kind k) next)
+  unfolding content_among used_bytes
+  one-more s ss before next (Some used) f w c = elim (with-more s before next (used_kind s) w) [
+    | inl same ↦ rw (same, f) c
+    | inr more ↦ rw (more.2, find-append, f) c
+  ]
+  one-more s ss before next None f w c =
+      by-bool _ (is_of_kind k s)
+      (λ is. let t = bind-was (used_bytes k s) _ next (rw (used-of s k is, f, and-false) at w) in
+      rw (← same-ok _ next t.2, find-append, f, same-self k)
+      (same-ok t.0 bytes (sym t.1 ∙ ap (as_error unusable) (rw is at c))))
+      (λ other. elim (with-more s before next (used_kind s) w) [
+        | inl same ↦ rw (same, f) (rw other at c)
+        | inr more ↦ rw (more.2, find-append, f, apart s more.0.kind k more.1 other)
+            (rw other at c)
+      ])
+
+  none-left : (o : Option Used) → Expects [] o → bytes_of o ≡ bytes
+  unfolding content_among
+  none-left None c = same-ok [] bytes c
+  none-left (Some used) c = c
+
+  pub all-used : (ss : List SectionMeaning) (before after : List Used)
+      → used_from before ss ≡ Ok after → Expects ss (find (has_kind k) before)
+      → first k after ≡ bytes
+  unfolding used_from
+  all-used [] before after h c =
+      rw (← same-ok before after h) (none-left (find (has_kind k) before) c)
+  all-used (s ∷ ss) before after h c =
+      let t = bind-was (with_used before s (used_kind s)) _ after h in
+      all-used ss t.0 after t.2
+      (one-more s ss before t.0 (find (has_kind k) before) refl t.1 c)
 
 -- ---- the package
 
 error-was : {X E F : Type 0} (f : E → F) (r : Result X E) (x : X) → reader.as_error f r ≡ Ok x
     → r ≡ Ok x
-error-was f (Ok y) x h = ap Ok (was y x h)
+error-was f (Ok y) x h = ap Ok (same-ok y x h)
 error-was f (Err e) x h = absurd cc
-
-contents-are : (ss : List SectionMeaning) (cs : Sections) → contents_of ss ≡ Ok cs
-    → (kind : SectionKind) → content_among ss kind ≡ Ok (content cs kind)
-unfolding contents_of
-contents-are ss cs read = read-kind (content_among ss) cs [] read
-
-record Parsed (bytes : List ℕ) (pack : Package) : Type 0 where
-  file : Elf
-  is : elf_of bytes ≡ Ok file
-  order : pack.order ≡ file.order
-  each : (kind : SectionKind) → content_among file.sections kind ≡ Ok (content pack.contents kind)
-  compilations : index_in_section file.order (content pack.contents CuIndex) ≡ Ok pack.compilations
-  types : index_in_section file.order (content pack.contents TuIndex) ≡ Ok pack.types
-
-parsed : (bytes : List ℕ) (pack : Package) → package_of bytes ≡ Ok pack → Parsed bytes pack
-unfolding package_of
-parsed bytes pack h =
-    let s1 = bind-was (reader.as_error errors.Elf (elf_of bytes)) _ pack h in
-    let s2 = bind-was (reader.as_error errors.Elf (contents_of s1.0.sections)) _ pack s1.2 in
-    let s3 = bind-was (index_in_section s1.0.order (content s2.0 CuIndex)) _ pack s2.2 in
-    let s4 = bind-was (index_in_section s1.0.order (content s2.0 TuIndex)) _ pack s3.2 in
-    subst (Parsed bytes) (was _ pack s4.2) (record {
-      file = s1.0;
-      is = error-was errors.Elf (elf_of bytes) s1.0 s1.1;
-      order = refl;
-      each = contents-are s1.0.sections s2.0
-          (error-was errors.Elf (contents_of s1.0.sections) s2.0 s2.1);
-      compilations = s3.1;
-      types = s4.1;
-    })
 
 -- ---- the input
 
 elf-by : (bytes : List ℕ) (kind : FileKind) (file w : Elf) → elf_in bytes kind ≡ Ok file
     → elf_of bytes ≡ Ok w → file ≡ w
 elf-by bytes Archive file w h k = absurd cc
-elf-by bytes Elf32 file w h k = sym (was w file (rw k at h))
-elf-by bytes Elf64 file w h k = sym (was w file (rw k at h))
-
-opened-is : (bytes : List ℕ) (file w : Elf) → opened bytes ≡ Ok file → elf_of bytes ≡ Ok w
-    → file ≡ w
-unfolding opened
-opened-is bytes file w h k =
-    let s = bind-was (as_error ParseFileKind (identification.kind_of bytes)) _ file h in
-    elf-by bytes s.0 file w s.2 k
+elf-by bytes Elf32 file w h k = sym (same-ok w file (rw k at h))
+elf-by bytes Elf64 file w h k = sym (same-ok w file (rw k at h))
 
 index-same : (order : Endianness) (kind : SectionKind) (bytes : List ℕ) (a b : Option Index)
     → index_in order kind bytes ≡ Ok a → index_in_section order bytes ≡ Ok b → a ≡ b
@@ -115,38 +173,37 @@ record IsReadAs (object : InputFile) (indexes : Indexes) (pack : Package) : Type
   compilations : indexes.compilations ≡ pack.compilations
   types : indexes.types ≡ pack.types
 
-read-as : (bytes : List ℕ) (pack : Package) (p : Parsed bytes pack) (file : Elf)
-    (object : InputFile) (encoding : Encoding) (indexes : Indexes) → file ≡ p.file
+read-as : (bytes : List ℕ) (pack : Package) (file : Elf) (object : InputFile) (encoding : Encoding)
+    (indexes : Indexes) → package_of bytes ≡ Ok pack → opened bytes ≡ Ok file
     → input_file_of file ≡ Ok object → indexes_of object encoding ≡ Ok indexes
     → IsReadAs object indexes pack
-unfolding input_file_of indexes_of
-read-as bytes pack p file object encoding indexes same h k =
-    let t = bind-was (used_from [] file.sections) _ object h in
-    let is = was _ object t.2 in
-    let order : object.order ≡ p.file.order =
-    sym (ap (λ (o : InputFile). o.order) is) ∙ ap (λ (f : Elf). f.order) same in
-    let each : (kind : SectionKind) → first kind object.sections ≡ content pack.contents kind =
-    λ kind. ap (λ (o : InputFile). first kind o.sections) (sym is)
-    ∙ first-is kind file.sections [] t.0 (content pack.contents kind) refl t.1
-    (subst (λ f. content_among f.sections kind ≡ Ok (content pack.contents kind)) (sym same)
-    (p.each kind)) in
-    let s1 = bind-was (index_in object.order CuIndex (first CuIndex object.sections)) _ indexes
-    k in
-    let s2 = bind-was (index_in object.order TuIndex (first TuIndex object.sections)) _ indexes
-    s1.2 in
+unfolding package_of contents_of opened input_file_of indexes_of
+read-as bytes pack file object encoding indexes h o k l =
+    let p1 = bind-was (reader.as_error errors.Elf (elf_of bytes)) _ pack h in
+    let order = p1.0.order in
+    let p2 = bind-was (reader.as_error errors.Elf (contents_of p1.0.sections)) _ pack p1.2 in
+    let p3 = bind-was (index_in_section order (content p2.0 CuIndex)) _ pack p2.2 in
+    let p4 = bind-was (index_in_section order (content p2.0 TuIndex)) _ pack p3.2 in
+    let s = bind-was (as_error ParseFileKind (identification.kind_of bytes)) _ file o in
+    let same = elf-by bytes s.0 file p1.0 s.2 (error-was errors.Elf (elf_of bytes) p1.0 p1.1) in
+    let t = bind-was (used_from [] p1.0.sections) _ object (rw same at k) in
+    let is = same-ok _ object t.2 in
+    let each : (kind : SectionKind) → first kind t.0 ≡ content p2.0 kind = λ kind.
+    all-used kind (content p2.0 kind) p1.0.sections [] t.0 t.1 (read-kind
+    (content_among p1.0.sections) p2.0 []
+    (error-was errors.Elf (contents_of p1.0.sections) p2.0 p2.1) kind) in
+    let s1 = bind-was (index_in order CuIndex (first CuIndex t.0)) _ indexes (rw (← is) at l) in
+    let s2 = bind-was (index_in order TuIndex (first TuIndex t.0)) _ indexes s1.2 in
     let s3 = bind-was (version_test encoding CuIndex s1.0) _ indexes s2.2 in
     let s4 = bind-was (version_test encoding TuIndex s2.0) _ indexes s3.2 in
-    let are = was _ indexes s4.2 in
-    record {
-      order = order ∙ sym p.order;
+    rw (← same-ok _ pack p4.2, ← is, ← same-ok _ indexes s4.2) (record {
+      order = refl;
       each = each;
-      compilations = sym (ap (λ (x : Indexes). x.compilations) are)
-          ∙ index-same object.order CuIndex (first CuIndex object.sections) s1.0 pack.compilations
-          s1.1 ((λ i. index_in_section (order i) (each CuIndex i)) ∙ p.compilations);
-      types = sym (ap (λ (x : Indexes). x.types) are)
-          ∙ index-same object.order TuIndex (first TuIndex object.sections) s2.0 pack.types
-          s2.1 ((λ i. index_in_section (order i) (each TuIndex i)) ∙ p.types);
-    }
+      compilations = index-same order CuIndex (first CuIndex t.0) s1.0 p3.0 s1.1
+          (ap (index_in_section order) (each CuIndex) ∙ p3.1);
+      types = index-same order TuIndex (first TuIndex t.0) s2.0 p4.0 s2.1
+          (ap (index_in_section order) (each TuIndex) ∙ p4.1);
+    })
 
 -- ---- the units
 
@@ -182,35 +239,23 @@ module _ (source : Source) (pack : Package) (alike : IsReadAs source.object sour
   unit-alike : (read : DwarfObject × UnitRead)
       → unit_meaning source read ≡ unit_of_package pack source.encoding read
   unfolding unit_meaning
-  unit-alike read =
-      let bytes = read.1.unit.whole.bytes in
-      let place = own_range read.1.unit in
-      ap (λ b. cond b (option_and_then (λ row. meaning_by source bytes (Some row))
-      (placed_row (index_for source.indexes read.0) read.1.from place))
-      (meaning_by source bytes None)) packed
-      ∙ (λ i. option_and_then (λ row. row-alike bytes row i)
-      (placed_row (index-alike read.0 i) read.1.from place))
+  unit-alike read = rw packed (λ i. option_and_then (λ row.
+      row-alike read.1.unit.whole.bytes row i)
+      (placed_row (index-alike read.0 i) read.1.from (own_range read.1.unit)))
 
-  units-alike : (units : List (DwarfObject × UnitRead))
-      → map {B = DwarfObject × Option Meaning} (meant source) units
-      ≡ map {B = DwarfObject × Option Meaning}
-      (λ u. (u.0, unit_of_package pack source.encoding u)) units
-  units-alike units =
-      λ i. map {B = DwarfObject × Option Meaning} (λ u. (u.0, unit-alike u i)) units
-
-object-read : (bytes : List ℕ) (pack : Package) (p : Parsed bytes pack)
-    (meanings : List (DwarfObject × Option Meaning)) (file : Elf) → has_index pack ≡ true
-    → opened bytes ≡ Ok file → (input_file_of file >>= object_meaning) ≡ Ok meanings
+object-read : (bytes : List ℕ) (pack : Package)
+    (meanings : List (DwarfObject × Option Meaning)) (file : Elf) → package_of bytes ≡ Ok pack
+    → has_index pack ≡ true → opened bytes ≡ Ok file
+    → (input_file_of file >>= object_meaning) ≡ Ok meanings
     → MeansByReader bytes pack meanings
 unfolding object_meaning source_meaning
-object-read bytes pack p meanings file some opens h =
+object-read bytes pack meanings file p some opens h =
     let s1 = bind-was (input_file_of file) _ meanings h in
     let s2 = bind-was (encoding_of s1.0) _ meanings s1.2 in
     let s3 = bind-was (indexes_of s1.0 s2.0) _ meanings s2.2 in
     let source : Source = record { object = s1.0; encoding = s2.0; indexes = s3.0 } in
     let s4 = bind-was (source_units source) _ meanings s3.2 in
-    let alike = read-as bytes pack p file s1.0 s2.0 s3.0 (opened-is bytes file p.file opens p.is)
-    s1.1 s3.1 in
+    let alike = read-as bytes pack file s1.0 s2.0 s3.0 p opens s1.1 s3.1 in
     let packed : is_package s3.0 ≡ true =
     (λ i. is_some (alike.compilations i) || is_some (alike.types i)) ∙ some in
     record {
@@ -223,7 +268,8 @@ object-read bytes pack p meanings file some opens h =
       types = alike.types;
       units = s4.0;
       stand = s4.1;
-      are = sym (was _ meanings s4.2) ∙ units-alike source pack alike packed s4.0;
+      are = sym (same-ok _ meanings s4.2) ∙ (λ i. map {B = DwarfObject × Option Meaning} (λ u.
+          (u.0, unit-alike source pack alike packed u i)) s4.0);
     }
 
 pub read-meaning : (bytes : List ℕ) (pack : Package)
@@ -232,13 +278,7 @@ pub read-meaning : (bytes : List ℕ) (pack : Package)
     → (meanings ≡ []) ⊎ MeansByReader bytes pack meanings
 unfolding input_meaning
 read-meaning bytes pack meanings h some k =
-    let p = parsed bytes pack h in
     let s = bind-was (opened bytes) _ meanings k in
-    by p s.0 s.1 (has_info s.0) s.2
-  where
-    by : (p : Parsed bytes pack) (file : Elf) → opened bytes ≡ Ok file → (b : Bool)
-        → cond {A = Result (List (DwarfObject × Option Meaning)) ErrorValue} b
-        (input_file_of file >>= object_meaning) (Ok []) ≡ Ok meanings
-        → (meanings ≡ []) ⊎ MeansByReader bytes pack meanings
-    by p file opens true e = inr (object-read bytes pack p meanings file some opens e)
-    by p file opens false e = inl (sym (was [] meanings e))
+    by-choice _ (has_info s.0) _ _ (Ok meanings) s.2
+    (λ e. inr (object-read bytes pack meanings s.0 h some s.1 e))
+    (λ e. inl (sym (same-ok [] meanings e)))

@@ -1,71 +1,30 @@
 -- Packages that are packed again, and inputs of one encoding, as packing has them.
-use Rattle.std.proofs.Common.{◌≡◌, ◌∙◌, ℕ, true, List, [], ◌∷◌, refl, sym, ap, Result, Ok}
-use Rattle.std.proofs.Common.{Err, inl, inr, ⊎_elim}
-use Rattle.std.specs.Prelude.{All, IfOk}
+use Rattle.std.proofs.Common.{◌≡◌, ◌∙◌, ℕ, List, [], ◌∷◌, refl, sym, ap, Result, Ok, Err, inl, inr}
+use Rattle.std.proofs.Common.{⊎_elim, All, IfOk}
 use Rattle.std.proofs.lemmas.List.Elements.{All-head, All-tail}
 use Rattle.dwp_base.specs.Reading.{◌>>=◌}
+use Rattle.dwp_base.proofs.Steps.{bind-was, same-ok}
 use Rattle.dwp_base.specs.declared.endian.Endianness.{Endianness}
 use Rattle.dwp_bytes.specs.declared.encoding.Encoding.{Encoding}
-use Rattle.dwp_elf.specs.FileText.{Object as File, file_text}
+use Rattle.dwp_elf.specs.FileText.{Object as File}
 use Rattle.dwp_elf.specs.Written.{written_elf}
 use Rattle.dwp_elf_read.specs.Elf.{Elf, elf_of}
 use Rattle.thorin_errors.specs.Errors.{ErrorValue}
 use Rattle.thorin_errors.specs.declared.error.Error.{Error}
+use Rattle.thorin_input.specs.Encodings.{encoding_of}
+use Rattle.thorin_input.specs.Used.{InputFile, opened, input_file_of}
 use Rattle.thorin_join.specs.Builder.{State, start, taken, order_of, finish_test, IsFinishedState}
-use Rattle.thorin_again.specs.OneEncoding.{IsOfOneEncoding, IsOfEncoding, AnswersAs}
-use Rattle.thorin_again.specs.OneEncoding.{AnswersOnceWritten, HaveEncodingOnceWritten}
-use Rattle.thorin_again.specs.Own.{packs_again}
-use Rattle.thorin_again.specs.OwnAccepted.{IsAcceptedOnceWritten, IsAcceptedByNewOnceWritten}
+use Rattle.thorin_again.specs.Again.{HaveEncodingOf, input_encoding}
+use Rattle.thorin_again.specs.OneEncoding.{IsOfEncoding, HaveEncodingOnceWritten}
+use Rattle.thorin_again.specs.OwnAccepted.{IsAcceptedOnceWritten}
 use Rattle.thorin_again.specs.OwnRefusals.{UnlessForeseen}
-use Rattle.thorin_again.specs.PlainInputs.{AreTaken}
+use Rattle.thorin_again.specs.PlainInputs.{AreTaken, IsPlainOf}
 use Rattle.thorin_join.specs.Represents.{IsSoundBegun, units_in}
-use Rattle.thorin.specs.Again.{IsTakenAgain, CanBePackedAgain, IsLeft, HasCommonEncoding}
-use Rattle.thorin.specs.Groups.{taken_each, IsPackedAlone, ArePackedAlone, RefusesPackages}
-use Rattle.thorin.specs.Groups.{HaveTheirEncodings}
+use Rattle.thorin.specs.Again.{CanBePackedAgain, IsLeft, HasCommonEncoding}
+use Rattle.thorin.specs.Groups.{taken_each, ArePackedAlone, RefusesPackages, HaveTheirEncodings}
 use Rattle.thorin.specs.Run.{IsWritten, Writes}
 use Rattle.thorin.proofs.GroupMeaning.{KeepsSound}
-use Rattle.thorin.proofs.RunTaken.{each-taken}
-use Rattle.thorin.proofs.RunTaken.{begun-then}
-
--- ---- what was written
-
-abbrev pub AcceptedLaw : Type 0
-AcceptedLaw = (accepted : List (List ℕ)) (state : State) (file : File)
-    → AreTaken accepted start state → finish_test state ≡ Ok tt → IsFinishedState state file
-    → IsAcceptedOnceWritten state file
-
-abbrev pub ByNewLaw : Type 0
-ByNewLaw = (accepted : List (List ℕ)) (state : State) (file : File)
-    → AreTaken accepted start state → finish_test state ≡ Ok tt → IsFinishedState state file
-    → IsAcceptedByNewOnceWritten state file
-
-abbrev pub StringsLaw : Type 0
-StringsLaw = (accepted : List (List ℕ)) (state : State) → AreTaken accepted start state
-    → All IsOfOneEncoding accepted → (file : File) → finish_test state ≡ Ok tt
-    → IsFinishedState state file → AnswersOnceWritten (units_in state) file
-
-pub read-text : (state : State) (bytes : List ℕ) → (w : IsWritten state bytes)
-    → elf_of (file_text w.file) ≡ Ok (written_elf w.file)
-read-text state bytes w = ap elf_of (sym w.text) ∙ w.read_back
-
-pub again-written : AcceptedLaw → ByNewLaw → (accepted : List (List ℕ)) (state : State)
-    (bytes : List ℕ) → AreTaken accepted start state → packs_again state ≡ true
-    → IsWritten state bytes → IsTakenAgain (units_in state) bytes
-again-written any new accepted state bytes are packs w =
-    let back = read-text state bytes w in
-    record {
-      file = w.file;
-      text = w.text;
-      accepted = any accepted state w.file are w.tested w.finished packs w.kinds back;
-      accepted_by_new = new accepted state w.file are w.tested w.finished packs w.kinds back;
-    }
-
-pub answers-written : StringsLaw → (accepted : List (List ℕ)) (state : State) (bytes : List ℕ)
-    → AreTaken accepted start state → All IsOfOneEncoding accepted → IsWritten state bytes
-    → AnswersAs (units_in state) bytes
-answers-written strings accepted state bytes are one w =
-    rw w.text (strings accepted state are one w.file w.tested w.finished w.kinds
-    (read-text state bytes w))
+use Rattle.thorin.proofs.Running.{begun-then, each-taken, read-text, as-written}
 
 -- of a file that may have been written
 pub if-written : {V : Type 0} (view : V → List ℕ) (state : State) (P : List ℕ → Type 0)
@@ -76,16 +35,10 @@ if-written view state P (Err e) w f = tt
 
 -- ---- packages of groups
 
-abbrev pub WrittenLaw : Type 0
-WrittenLaw = (accepted : List (List ℕ)) (state : State) (bytes : List ℕ)
-    → AreTaken accepted start state → packs_again state ≡ true → IsWritten state bytes
-    → IsTakenAgain (units_in state) bytes
-
-pub alone-again : WrittenLaw → (inputs : List (List ℕ)) (bytes : List ℕ)
-    → (is : IsPackedAlone inputs bytes) → packs_again is.state ≡ true
-    → IsTakenAgain (units_in is.state) bytes
-alone-again law inputs bytes is packs = law inputs is.state bytes
-    (each-taken inputs start is.state is.taken) packs is.written
+abbrev pub AcceptedLaw : Type 0
+AcceptedLaw = (accepted : List (List ℕ)) (state : State) (file : File)
+    → AreTaken accepted start state → finish_test state ≡ Ok tt → IsFinishedState state file
+    → IsAcceptedOnceWritten state file
 
 abbrev pub OrderLaw : Type 0
 OrderLaw = (bytes : List ℕ) (file : Elf) (old new : State) (order : Endianness)
@@ -111,12 +64,10 @@ module _ (keeps : KeepsSound) (any : AcceptedLaw) (orders : OrderLaw) (order : E
   each-foreseen (group ∷ groups) (bytes ∷ files) each can old sound same =
       let state = each.0.state in
       let w = each.0.written in
-      let back = read-text state bytes w in
       let accepted = any group state w.file (each-taken group start state each.0.taken) w.tested
-      w.finished can.0 w.kinds back in
-      let here : UnlessForeseen (taken bytes old) =
-      rw w.text (accepted old sound (rw can.1 same)) in
-      then-foreseen (taken bytes old) (taken_each files) here (λ next took.
+      w.finished can.0 w.kinds (read-text state bytes w) in
+      then-foreseen (taken bytes old) (taken_each files)
+      (rw w.text (accepted old sound (rw can.1 same))) (λ next took.
       each-foreseen groups files each.1 can.2 next
       (keeps bytes old.begun next.begun sound (begun-then bytes old next took))
       (orders bytes (written_elf w.file) old next order w.read_back took ∙ rw can.1 same))
@@ -130,7 +81,27 @@ module _ (keeps : KeepsSound) (any : AcceptedLaw) (orders : OrderLaw) (order : E
       start tt refl)))
       (λ u. inr u) refused.refused
 
--- ---- groups of one encoding
+-- ---- inputs of one encoding
+
+-- plain ones of an encoding are inputs of this encoding
+module _ (encoding : Encoding) (bytes : List ℕ) (p : IsPlainOf encoding bytes) where
+  one-reading : (file : Elf) (object : InputFile) (e : Encoding) → opened bytes ≡ Ok file
+      → input_file_of file ≡ Ok object → encoding_of object ≡ Ok e
+      → (object ≡ p.object) × (e ≡ encoding)
+  one-reading file object e h k l =
+      let f = same-ok file p.file (sym h ∙ p.opens) in
+      let o = same-ok object p.object (sym k ∙ ap input_file_of f ∙ p.used) in
+      (o, same-ok e encoding (sym l ∙ ap encoding_of o ∙ p.first))
+
+  pub plain-encoding : IsOfEncoding encoding bytes
+  unfolding input_encoding
+  plain-encoding = (
+    λ file object e h k l. let one = one-reading file object e h k l in rw (one.0, one.1) p.all,
+    λ e h.
+        let s1 = bind-was (opened bytes) _ e h in
+        let s2 = bind-was (input_file_of s1.0) _ e s1.2 in
+        (one-reading s1.0 s2.0 e s1.1 s2.1 s2.2).1,
+  )
 
 abbrev pub EncodingLaw : Type 0
 EncodingLaw = (encoding : Encoding) (accepted : List (List ℕ)) (state : State)
@@ -147,7 +118,7 @@ theirs law (group ∷ groups) (bytes ∷ files) each all =
     let state = each.0.state in
     let w = each.0.written in
     let here = All-head HasCommonEncoding group groups all in (
-      rw w.text (law here.0 group state (each-taken group start state each.0.taken) here.1 w.file
-          w.finished w.kinds (read-text state bytes w)),
+      as-written state bytes w (λ b. HaveEncodingOf b (units_in state)) (law here.0 group state
+          (each-taken group start state each.0.taken) here.1 w.file w.finished),
       theirs law groups files each.1 (All-tail HasCommonEncoding group groups all),
     )

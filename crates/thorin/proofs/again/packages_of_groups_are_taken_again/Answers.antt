@@ -1,8 +1,12 @@
-use Rattle.thorin.proofs.TakenAgain.{alone-again, groups-left}
+use Rattle.thorin_join.specs.Builder.{start}
+use Rattle.thorin.proofs.Running.{each-taken}
+use Rattle.thorin.proofs.TakenAgain.{groups-left}
 use Rattle.thorin.proofs.again.packages_of_groups_are_taken_again.Goals as goal
 
 pub returns-clause-alone : goal.returns-clause-alone
-returns-clause-alone c = alone-again c.written_packages_are_taken_again.ensures.again
+returns-clause-alone c inputs bytes is packs =
+    c.written_packages_are_taken_again.ensures.again inputs is.state bytes
+    (each-taken inputs start is.state is.taken) packs is.written
 
 pub returns-clause-left : goal.returns-clause-left
 returns-clause-left c order = groups-left c.inputs_are_joined.ensures.sound

@@ -1,22 +1,36 @@
-use Rattle.thorin.proofs.MeantAsRead.{once-taken, own-means}
+use Rattle.std.proofs.Common.{sym, subst, ◌≡◌, Ok}
+use Rattle.thorin_again.specs.Again.{HaveEncodingOf, MeansWhereTaken}
+use Rattle.thorin_join.specs.Builder.{start, taken}
+use Rattle.thorin_join.specs.Join.{IsPackageOf}
+use Rattle.thorin_join.specs.Represents.{units_in}
+use Rattle.thorin.proofs.GroupMeaning.{sound-taken}
+use Rattle.thorin.proofs.Running.{begun-then, read-text, as-written}
+use Rattle.thorin.proofs.TakenAgain.{plain-encoding}
 use Rattle.thorin.proofs.again.refused_packages_mean_what_is_read.Goals as goal
 
-pub returns-clause-own : goal.returns-clause-own
-returns-clause-own c accepted state bytes are packs written = own-means
-    c.inputs_are_joined.ensures.sound
-    c.inputs_are_joined.ensures.joins
-    c.written_packages_mean_their_units.ensures
-    c.finished_packages_are_read.ensures
-    accepted state bytes are written
-    c.plain_objects_pack_again.ensures
-    c.packages_have_the_encoding_of_their_inputs.ensures
-    c.packages_that_pack_again_are_accepted.ensures.accepted_by_new
-    packs
-
 pub returns-clause-taken : goal.returns-clause-taken
-returns-clause-taken c accepted state bytes before after are written have sound took = once-taken
-    c.inputs_are_joined.ensures.sound
-    c.inputs_are_joined.ensures.joins
-    c.written_packages_mean_their_units.ensures
-    c.finished_packages_are_read.ensures
-    accepted state bytes are written before after have sound took
+returns-clause-taken c accepted state bytes before after are w have other took =
+    let units = units_in state in
+    let sound = sound-taken c.inputs_are_joined.ensures.sound accepted start state tt are in
+    let j = c.inputs_are_joined.ensures.joins bytes before.begun after.begun other
+    (begun-then bytes before after took) in
+    record {
+      meant = j.units;
+      meaning = j.meaning;
+      same = as-written state bytes w (λ b. HaveEncodingOf b units → MeansWhereTaken units b)
+          (c.written_packages_mean_their_units.ensures state w.file sound w.tested w.finished)
+          have before after took j.units j.meaning;
+      package_of = as-written state bytes w (IsPackageOf units)
+          (c.finished_packages_are_read.ensures state w.file sound w.tested w.finished);
+    }
+
+pub returns-clause-own : goal.returns-clause-own
+returns-clause-own c accepted state bytes are packs w =
+    let plain = (c.plain_objects_pack_again.ensures accepted state are).0 packs in
+    let have = as-written state bytes w (λ b. HaveEncodingOf b (units_in state))
+    (c.packages_have_the_encoding_of_their_inputs.ensures plain.encoding accepted state are
+    (λ k d within. plain-encoding plain.encoding _ (plain.plain k d within)) w.file w.finished) in
+    let again = c.packages_that_pack_again_are_accepted.ensures.accepted_by_new accepted state
+    w.file are w.tested w.finished packs w.kinds (read-text state bytes w) in
+    returns-clause-taken c accepted state bytes start again.after are w have tt
+    (subst (λ b. taken b start ≡ Ok again.after) (sym w.text) again.is)

@@ -1,13 +1,13 @@
 use Rattle.std.proofs.Common.{◌≡◌, ◌∙◌, ℕ, ◌+◌, List, [], ◌∷◌, ◌++◌, take, drop, get_or, Ok, Bor}
-use Rattle.std.proofs.Common.{inl, subst, sym, ap, refl}
-use Rattle.std.proofs.lemmas.List.{map_more, take_all}
+use Rattle.std.proofs.Common.{inl, subst, sym, ap, refl, take_all}
+use Rattle.std.proofs.lemmas.List.{map_more}
 use Rattle.std.proofs.lemmas.Result.{err_from_is_err_and}
+use Rattle.dwp_base.proofs.Steps.{bind-ok, bind-err}
 use Rattle.thorin_join.specs.Builder.{start, taken}
-use Rattle.thorin_join.specs.Join.{JoinAll, Joins}
+use Rattle.thorin_join.specs.Join.{JoinAll}
 use Rattle.thorin_join.specs.Represents.{units_in}
 use Rattle.thorin.specs.Groups.{taken_each, bytes_in}
-use Rattle.thorin.proofs.Grouping.{taken-more, taken-refused, mapped-around}
-use Rattle.thorin.proofs.Grouping.{packs-alone, taken-start}
+use Rattle.thorin.proofs.Grouping.{taken-then, mapped-around, packs-alone}
 use Rattle.thorin.proofs.Running.{join-append}
 use Rattle.thorin.proofs.groups.pack_alone.Goals as goal
 
@@ -15,13 +15,12 @@ abbrev none : Bor (List ℕ)
 none = record { ref_ptr = (0, 0); now = [] }
 
 pub loop-input-init : goal.loop-input-init
-loop-input-init g c = (
-  taken-start ∙ ap Ok (sym c.new-builder.ensures.state),
-  ap units_in
-      c.new-builder.ensures.state,
-)
+unfolding taken_each
+loop-input-init g c =
+    (ap Ok (sym c.new-builder.ensures.state), ap units_in c.new-builder.ensures.state)
 
 pub loop-input-preserved : goal.loop-input-preserved
+unfolding taken_each
 loop-input-preserved g c =
     let inputs = c.args.inputs.now in
     let i = c.loop-input.input-index in
@@ -30,28 +29,28 @@ loop-input-preserved g c =
     let before = c.loop-input.builder.state in
     let after = c.add_object_bytes.new.self.state in
     let next : bytes_in (take (i + 1) inputs) ≡ done ++ item.now ∷ [] =
-    map_more (λ (input : Bor (List ℕ)). input.now) inputs i none c.loop-input-test.true in
-    let took : taken item.now before ≡ Ok after = c.in_ok-add_object_bytes.ensures.meaning in
-    let joins : Joins item.now (units_in before) (units_in after) =
-    c.in_ok-add_object_bytes.ensures.joins in (
-      rw next (taken-more done item.now start before (Ok after) c.loop-input.invariant.0 took),
+    map_more (λ (input : Bor (List ℕ)). input.now) inputs i none c.loop-input-test.true in (
+      rw next (taken-then done (item.now ∷ []) start before c.loop-input.invariant.0
+          ∙ bind-ok (taken item.now before) after _ c.in_ok-add_object_bytes.ensures.meaning),
       rw next (join-append done (item.now ∷ []) [] (units_in before) (units_in after)
-          c.loop-input.invariant.1 (units_in after, joins, refl)),
+          c.loop-input.invariant.1
+          (units_in after, c.in_ok-add_object_bytes.ensures.joins, refl)),
     )
 
 pub returns-in_err-add_object_bytes : goal.returns-in_err-add_object_bytes
+unfolding taken_each
 returns-in_err-add_object_bytes g c =
     let inputs = c.args.inputs.now in
     let i = c.loop-input.input-index in
     let item = get_or inputs i none in
-    let whole = mapped-around (λ (input : Bor (List ℕ)). input.now) inputs i none
-    c.loop-input-test.true in
+    let before = c.loop-input.builder.state in
     let p = err_from_is_err_and c.from_residual.result c.from_residual.ensures.1 in
     rw (p.1, p.2) (λ aside. inl (
-    ap (λ l. taken_each l start) whole
-    ∙ taken-refused (bytes_in (take i inputs)) item.now (bytes_in (drop (i + 1) inputs)) start
-    c.loop-input.builder.state _ c.loop-input.invariant.0
-    (c.in_err-add_object_bytes.ensures.meaning aside)
+    ap (λ l. taken_each l start) (mapped-around (λ (input : Bor (List ℕ)). input.now) inputs i none
+    c.loop-input-test.true)
+    ∙ taken-then (bytes_in (take i inputs)) (item.now ∷ bytes_in (drop (i + 1) inputs)) start
+    before c.loop-input.invariant.0
+    ∙ bind-err (taken item.now before) _ _ (c.in_err-add_object_bytes.ensures.meaning aside)
     ))
 
 pub returns : goal.returns

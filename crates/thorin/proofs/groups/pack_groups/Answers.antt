@@ -1,10 +1,9 @@
-use Rattle.std.proofs.Common.{◌≡◌, ◌∙◌, ℕ, ◌+◌, List, [], ◌∷◌, ◌++◌, take, drop, get_or, Bor, inl}
-use Rattle.std.proofs.Common.{subst, subst₂, sym, ap, rules}
-use Rattle.std.proofs.lemmas.List.{take_all, map-append, map_more}
+use Rattle.std.proofs.Common.{◌≡◌, ℕ, ◌+◌, List, [], ◌∷◌, ◌++◌, take, drop, get_or, Bor, inl}
+use Rattle.std.proofs.Common.{subst₂, sym, rules, take_all}
+use Rattle.std.proofs.lemmas.List.{map-append, map_more}
 use Rattle.std.proofs.lemmas.Result.{err_from_is_err_and}
-use Rattle.thorin.specs.Groups.{bytes_in, groups_in, ArePackedAlone, IsPackedAlone}
-use Rattle.thorin.proofs.Grouping.{mapped-around, packed-more, packs-together}
-use Rattle.thorin.proofs.Grouping.{if-joined}
+use Rattle.thorin.specs.Groups.{bytes_in, groups_in, ArePackedAlone}
+use Rattle.thorin.proofs.Grouping.{mapped-around, packed-more, packs-together, if-ok}
 use Rattle.thorin.proofs.groups.pack_groups.Goals as goal
 
 abbrev none : Bor (List (Bor (List ℕ)))
@@ -16,7 +15,6 @@ loop-group-preserved g c =
     let i = c.loop-group.group-index in
     let item = get_or groups i none in
     let done = groups_in (take i groups) in
-    let packages = bytes_in c.loop-group.packages.items in
     let file = c.in_ok-package.package.items in
     let next : groups_in (take (i + 1) groups) ≡ done ++ bytes_in item.now ∷ [] =
     map_more (λ (group : Bor (List (Bor (List ℕ)))). bytes_in group.now) groups i none
@@ -24,20 +22,14 @@ loop-group-preserved g c =
     let placed : c.in_ok-alloc_data.field-0.now ≡ file = c.in_ok-alloc_data.ensures in
     let pushed : c.push.new.self.items ≡ c.loop-group.packages.items ++ c.in_ok-alloc_data.field-0 ∷
     [] = search (rules, c.in_ok-push.ensures.items) in
-    let listed : bytes_in c.push.new.self.items ≡ packages ++ file ∷ [] =
-    ap bytes_in pushed ∙ map-append (λ (b : Bor (List ℕ)). b.now) c.loop-group.packages.items
-    (c.in_ok-alloc_data.field-0 ∷ []) ∙ ap (λ b. packages ++ b ∷ []) placed in
-    let alone : IsPackedAlone (bytes_in item.now) file = c.in_ok-package.ensures in
-    subst₂ ArePackedAlone (sym next) (sym listed) (packed-more done packages (bytes_in item.now)
-    file c.loop-group.invariant alone)
+    rw (next, pushed, map-append, placed) (packed-more done (bytes_in c.loop-group.packages.items)
+    (bytes_in item.now) file c.loop-group.invariant c.in_ok-package.ensures)
 
 pub returns-in_err-package : goal.returns-in_err-package
 returns-in_err-package g c =
     let groups = c.args.groups.now in
     let i = c.loop-group.group-index in
     let item = get_or groups i none in
-    let whole = mapped-around (λ (group : Bor (List (Bor (List ℕ)))). bytes_in group.now) groups i
-    none c.loop-group-test.true in
     let p = err_from_is_err_and c.from_residual-in_err-package.result
     c.from_residual-in_err-package.ensures.1 in
     record {
@@ -45,30 +37,25 @@ returns-in_err-package g c =
         before = groups_in (take i groups);
         group = bytes_in item.now;
         after = groups_in (drop (i + 1) groups);
-        are = whole;
+        are = mapped-around (λ (group : Bor (List (Bor (List ℕ)))). bytes_in group.now) groups i
+            none c.loop-group-test.true;
         packages = bytes_in c.loop-group.packages.items;
         each = c.loop-group.invariant;
         refused = c.in_err-package.ensures aside;
       }));
-      joined = if-joined (λ file. file.items) (groups_in groups)
-          c.from_residual-in_err-package.result (c.groups_are_packed_alike.ensures.joined
-          (groups_in groups));
+      joined = if-ok _ c.from_residual-in_err-package.result (λ file.
+          c.groups_are_packed_alike.ensures.joined (groups_in groups) file.items);
     }
 
 pub returns : goal.returns
 returns g c =
     let groups = c.args.groups.now in
     let all = take_all c.loop-group.group-index groups c.loop-group-test.false in
-    let each : ArePackedAlone (groups_in groups) (bytes_in c.loop-group.packages.items) =
-    subst (λ l. ArePackedAlone (groups_in l) (bytes_in c.loop-group.packages.items)) all
-    c.loop-group.invariant in
-    let lent : ArePackedAlone (groups_in groups) (bytes_in c.deref.result.now) =
-    subst (λ l. ArePackedAlone (groups_in groups) (bytes_in l))
-    (sym c.deref.ensures.value) each in
     record {
       packed = packs-together (λ file. file.items) (groups_in groups)
-          (bytes_in c.deref.result.now) c.pack_alone-2.result lent c.pack_alone-2.ensures;
-      joined =
-          if-joined (λ file. file.items) (groups_in groups) c.pack_alone-2.result
-          (c.groups_are_packed_alike.ensures.joined (groups_in groups));
+          (bytes_in c.deref.result.now) c.pack_alone-2.result
+          (subst₂ (λ l packages. ArePackedAlone (groups_in l) (bytes_in packages)) all
+          (sym c.deref.ensures.value) c.loop-group.invariant) c.pack_alone-2.ensures;
+      joined = if-ok _ c.pack_alone-2.result (λ file.
+          c.groups_are_packed_alike.ensures.joined (groups_in groups) file.items);
     }

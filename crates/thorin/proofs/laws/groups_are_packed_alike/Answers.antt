@@ -3,6 +3,5 @@ use Rattle.thorin.proofs.laws.groups_are_packed_alike.Goals as goal
 
 pub returns : goal.returns
 returns c = record {
-  joined = λ groups file packed have. means-all c.inputs_are_joined.ensures.sound
-      c.written_packages_mean_their_units.ensures groups file packed have;
+  joined = means-all c.inputs_are_joined.ensures.sound c.written_packages_mean_their_units.ensures;
 }

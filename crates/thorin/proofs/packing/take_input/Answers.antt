@@ -12,16 +12,10 @@ returns-in-Object-clause-taken g c =
 pub returns-in-Bytes-clause-taken : goal.returns-in-Bytes-clause-taken
 returns-in-Bytes-clause-taken g c =
     let is : c.args.input ≡ inputs.Bytes c.in-Bytes.bytes = search (rules, c.in-Bytes.is) in
+    let e = c.add_object_bytes.ensures in
     rw is (record {
       accepted = accepted_of c.add_object_bytes.result c.in-Bytes.bytes.now;
-      takes = (
-        record {
-          meaning = c.add_object_bytes.ensures.meaning;
-          joins = c.add_object_bytes.ensures.joins;
-          unchanged = c.add_object_bytes.ensures.err;
-        },
-        refl,
-      );
+      takes = (record { meaning = e.meaning; joins = e.joins; unchanged = e.err }, refl);
     })
 
 pub returns-in-Executable-clause-taken : goal.returns-in-Executable-clause-taken
