@@ -23,7 +23,7 @@ use Rattle.thorin_join.specs.State.{InProgress, kind_at, unit_bytes, held_units}
 use Rattle.thorin_join.specs.State.{with_source}
 use Rattle.thorin_join.specs.State.{with_all, with_new_units}
 use Rattle.thorin_join.proofs.Parts.Appended.{content-with_parts, parts-none}
-use Rattle.thorin_join.proofs.Rows.OneAdded.{not-copied, not-offsets}
+use Rattle.thorin_join.proofs.Rows.OneAdded.{not-shared}
 use Rattle.thorin_builder.specs.Repeated.{IsLater, AddsNoUnit, with_more}
 use Rattle.thorin_builder.specs.StateView.{in_progress_of}
 use Rattle.thorin_builder.specs.declared.repeated.Repeated.{Repeated}
@@ -71,8 +71,8 @@ held-apart source strings parts h made =
     let stays : (row : IndexEntry) → unit_bytes (with_parts parts c) row ≡ unit_bytes c row =
     λ row.
     let place = place_of row.id row.debug_types in
-    let none = parts-none source strings parts strings h (kind_at place) (not-copied place)
-    (not-offsets place).1 in
+    let none = parts-none source strings parts strings h (kind_at place)
+    (not-shared place).0 (not-shared place).2 in
     ap (λ l. part_of l (contribution_to (kind_at place) row))
     (content-with_parts (kind_at place) parts c
     ∙ rw none (append-nil (content_of (kind_at place) c))) in
