@@ -12,14 +12,11 @@ returns-in_err-unit-clause-taken g c =
     let p = err_from_is_err_and c.from_residual.result c.from_residual.ensures.1 in
     rw (p.1, p.2) (list-error _ _ _ _ _ _ c.loop-known.invariant.0 _ c.in_err-unit.ensures.next)
 
-pub add_skeleton-requires : goal.add_skeleton-requires
-add_skeleton-requires g c =
+pub add_skeleton-requires-clause-unread : goal.add_skeleton-requires-clause-unread
+add_skeleton-requires-clause-unread g c =
     let after = rw c.in-Some.is at c.in_ok-unit.ensures.path in
-    record {
-      unread = λ t. rw (c.path.ensures ∙ after (c.is_still.ensures t).1)
-          (c.loop-known.invariant.2 (c.is_still.ensures t).0);
-      known = c.loop-known.invariant.3;
-    }
+    λ t. rw (c.path.ensures ∙ after (c.is_still.ensures t).1)
+    (c.loop-known.invariant.2 (c.is_still.ensures t).0)
 
 pub returns-in_err-add_skeleton-clause-taken : goal.returns-in_err-add_skeleton-clause-taken
 returns-in_err-add_skeleton-clause-taken g c =
