@@ -58,8 +58,8 @@ mean-append (c ∷ cs) bs us vs (here, later, meaning, others, whole) k = (
 -- the names that are there once some units were joined
 names-then : (before added : Members) (us : Units) → joining (keys before) us ≡ all_meant added
     → keys (before ++ added) ≡ keys before ++ keys (joining (keys before) us)
-names-then before added us h = map-append (λ u. u.0) before added ∙ ap (λ l. keys before ++ l)
-    (sym (ap keys h ∙ keys_of-map_values Some added))
+names-then before added us h =
+    rw (h, keys_of-map_values Some added) (map-append (λ u. u.0) before added)
 
 -- the join of inputs is that of the list of all their units
 pub record IsJoinOf (inputs : List (List ℕ)) (before now : Members) : Type 0 where

@@ -1,15 +1,10 @@
 -- Inputs that are all taken, and groups that are all packed, one after the other.
 use Rattle.std.proofs.Common.{◌≡◌, ◌∙◌, ℕ, ◌<◌, ◌+◌, List, [], ◌∷◌, ◌++◌, length, take, drop}
-use Rattle.std.proofs.Common.{get_or, map, refl, sym, ap, Result, Ok, Err, inr, IfOk}
+use Rattle.std.proofs.Common.{get_or, map, refl, sym, ap, Result, Ok, Err, IfOk}
 use Rattle.std.proofs.Common.{take-append-drop}
 use Rattle.std.proofs.lemmas.List.{map-append, drop_more}
-use Rattle.thorin_errors.specs.declared.error.Error.{Error}
-use Rattle.thorin_join.specs.Builder.{State, start, taken}
-use Rattle.thorin_join.specs.Join.{JoinAll, IsPackageOf}
-use Rattle.thorin_join.specs.Represents.{units_in}
-use Rattle.thorin.specs.Groups.{taken_each, IsPackedAlone, ArePackedAlone, PacksAlone}
-use Rattle.thorin.specs.Groups.{PacksInGroups}
-use Rattle.thorin.specs.Run.{Writes}
+use Rattle.thorin_join.specs.Builder.{State, taken}
+use Rattle.thorin.specs.Groups.{taken_each, IsPackedAlone, ArePackedAlone}
 use Rattle.dwp_base.proofs.Steps.{bind-was, bind-ok, same-ok}
 
 -- once some inputs were taken, the others are
@@ -36,26 +31,6 @@ packed-more [] [] group file all one = (one, tt)
 packed-more [] (p ∷ ps) group file all one = absurd all
 packed-more (g ∷ gs) [] group file all one = absurd all
 packed-more (g ∷ gs) (p ∷ ps) group file all one = (all.0, packed-more gs ps group file all.1 one)
-
--- inputs that were all taken are packed, or what they make isn't written
-pub packs-alone : {V : Type 0} (view : V → List ℕ) (inputs : List (List ℕ)) (state : State)
-    (result : Result V Error) → taken_each inputs start ≡ Ok state
-    → JoinAll inputs [] (units_in state)
-    → Writes view state result → IfOk result (λ file. IsPackageOf (units_in state) (view file))
-    → PacksAlone view inputs result
-packs-alone view inputs state (Ok file) took joined writes packaged =
-    record { state = state; taken = took; joined = joined; written = writes; package_of = packaged }
-packs-alone view inputs state (Err e) took joined writes packaged = λ aside.
-    inr (record { state = state; taken = took; refused = writes aside })
-
--- the packages of all groups are packed, or refused
-pub packs-together : {V : Type 0} (view : V → List ℕ) (groups : List (List (List ℕ)))
-    (packages : List (List ℕ)) (result : Result V Error) → ArePackedAlone groups packages
-    → PacksAlone view packages result → PacksInGroups view groups result
-packs-together view groups packages (Ok file) each packs =
-    record { packages = packages; each = each; together = packs }
-packs-together view groups packages (Err e) each packs = λ aside.
-    inr (record { packages = packages; each = each; refused = packs aside })
 
 -- what is so of every value is so of an answer that is Ok
 pub if-ok : {V E : Type 0} (P : V → Type 0) (result : Result V E) → ((value : V) → P value)

@@ -6,6 +6,5 @@ returns-clause-encodings c = theirs c.packages_have_the_encoding_of_their_inputs
 
 pub returns-clause-joined : goal.returns-clause-joined
 returns-clause-joined c groups file packed all =
-    c.groups_are_packed_alike.ensures.joined groups file
-    packed (theirs c.packages_have_the_encoding_of_their_inputs.ensures groups packed.packages
-    packed.each all)
+    c.groups_are_packed_alike.ensures.joined groups file packed
+    (returns-clause-encodings c groups packed.packages packed.each all)

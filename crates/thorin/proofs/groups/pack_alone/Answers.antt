@@ -1,13 +1,14 @@
 use Rattle.std.proofs.Common.{◌≡◌, ◌∙◌, ℕ, ◌+◌, List, [], ◌∷◌, ◌++◌, take, drop, get_or, Ok, Bor}
-use Rattle.std.proofs.Common.{inl, subst, sym, ap, refl, take_all}
+use Rattle.std.proofs.Common.{Err, IfOk, inl, inr, subst, sym, ap, refl, take_all}
 use Rattle.std.proofs.lemmas.List.{map_more}
 use Rattle.std.proofs.lemmas.Result.{err_from_is_err_and}
 use Rattle.dwp_base.proofs.Steps.{bind-ok, bind-err}
 use Rattle.thorin_join.specs.Builder.{start, taken}
-use Rattle.thorin_join.specs.Join.{JoinAll}
+use Rattle.thorin_join.specs.Join.{JoinAll, IsPackageOf}
 use Rattle.thorin_join.specs.Represents.{units_in}
-use Rattle.thorin.specs.Groups.{taken_each, bytes_in}
-use Rattle.thorin.proofs.Grouping.{taken-then, mapped-around, packs-alone}
+use Rattle.thorin.specs.Groups.{taken_each, bytes_in, PacksAlone}
+use Rattle.thorin.specs.Run.{Writes}
+use Rattle.thorin.proofs.Grouping.{taken-then, mapped-around}
 use Rattle.thorin.proofs.Running.{join-append}
 use Rattle.thorin.proofs.groups.pack_alone.Goals as goal
 
@@ -57,8 +58,15 @@ pub returns : goal.returns
 returns g c =
     let inputs = c.args.inputs.now in
     let state = c.loop-input.builder.state in
-    let all = take_all c.loop-input.input-index inputs c.loop-input-test.false in
-    packs-alone (λ file. file.items) (bytes_in inputs) state c.written-file.result.0
-    (ap (λ l. taken_each (bytes_in l) start) (sym all) ∙ c.loop-input.invariant.0)
-    (subst (λ l. JoinAll (bytes_in l) [] (units_in state)) all c.loop-input.invariant.1)
-    c.written-file.ensures.writes c.written-file.ensures.packaged
+    let are : (taken_each (bytes_in inputs) start ≡ Ok state)
+        × JoinAll (bytes_in inputs) [] (units_in state) =
+    subst (λ l. (taken_each (bytes_in l) start ≡ Ok state) × JoinAll (bytes_in l) []
+    (units_in state)) (take_all c.loop-input.input-index inputs c.loop-input-test.false)
+    c.loop-input.invariant in
+    elim c.written-file.result.0 as (λ r. Writes (λ file. file.items) state r
+    → IfOk r (λ file. IsPackageOf (units_in state) file.items)
+    → PacksAlone (λ file. file.items) (bytes_in inputs) r) [
+      | Ok file ↦ λ w p.
+          record { state = state; taken = are.0; joined = are.1; written = w; package_of = p }
+      | Err e ↦ λ w p aside. inr (record { state = state; taken = are.0; refused = w aside })
+    ] c.written-file.ensures.writes c.written-file.ensures.packaged

@@ -1,9 +1,9 @@
 use Rattle.std.proofs.Common.{◌≡◌, ℕ, ◌+◌, List, [], ◌∷◌, ◌++◌, take, drop, get_or, Bor, inl}
-use Rattle.std.proofs.Common.{subst₂, sym, rules, take_all}
+use Rattle.std.proofs.Common.{Ok, Err, inr, subst₂, sym, rules, take_all}
 use Rattle.std.proofs.lemmas.List.{map-append, map_more}
 use Rattle.std.proofs.lemmas.Result.{err_from_is_err_and}
-use Rattle.thorin.specs.Groups.{bytes_in, groups_in, ArePackedAlone}
-use Rattle.thorin.proofs.Grouping.{mapped-around, packed-more, packs-together, if-ok}
+use Rattle.thorin.specs.Groups.{PacksAlone, PacksInGroups, bytes_in, groups_in, ArePackedAlone}
+use Rattle.thorin.proofs.Grouping.{mapped-around, packed-more, if-ok}
 use Rattle.thorin.proofs.groups.pack_groups.Goals as goal
 
 abbrev none : Bor (List (Bor (List ℕ)))
@@ -50,12 +50,18 @@ returns-in_err-package g c =
 pub returns : goal.returns
 returns g c =
     let groups = c.args.groups.now in
-    let all = take_all c.loop-group.group-index groups c.loop-group-test.false in
+    let packages = bytes_in c.deref.result.now in
+    let each : ArePackedAlone (groups_in groups) packages =
+    subst₂ (λ l lent. ArePackedAlone (groups_in l) (bytes_in lent))
+    (take_all c.loop-group.group-index groups c.loop-group-test.false)
+    (sym c.deref.ensures.value) c.loop-group.invariant in
     record {
-      packed = packs-together (λ file. file.items) (groups_in groups)
-          (bytes_in c.deref.result.now) c.pack_alone-2.result
-          (subst₂ (λ l packages. ArePackedAlone (groups_in l) (bytes_in packages)) all
-          (sym c.deref.ensures.value) c.loop-group.invariant) c.pack_alone-2.ensures;
+      packed = elim c.pack_alone-2.result as (λ r. PacksAlone (λ file. file.items) packages r
+          → PacksInGroups (λ file. file.items) (groups_in groups) r) [
+            | Ok file ↦ λ p. record { packages = packages; each = each; together = p }
+            | Err e ↦ λ p aside.
+                inr (record { packages = packages; each = each; refused = p aside })
+          ] c.pack_alone-2.ensures;
       joined = if-ok _ c.pack_alone-2.result (λ file.
           c.groups_are_packed_alike.ensures.joined (groups_in groups) file.items);
     }

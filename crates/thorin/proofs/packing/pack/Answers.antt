@@ -28,9 +28,8 @@ pub returns-clause-packed : goal.returns-clause-packed
 returns-clause-packed g c =
     let offer = g.Sess.Session.offer c.args.session.now in
     let accepted = c.loop-input.invariant.0 in
-    let ran : Ran offer c.args.inputs.now start c.loop-input.outcomes.items
-    c.loop-input.builder.state accepted =
-    subst (λ list. Ran offer list start c.loop-input.outcomes.items c.loop-input.builder.state
+    let ran = subst (λ list. Ran offer list start c.loop-input.outcomes.items
+        c.loop-input.builder.state
     accepted) (take_all c.loop-input.input-index c.args.inputs.now c.loop-input-test.false)
     c.loop-input.invariant.1 in
     record {
