@@ -93,8 +93,13 @@ module _ {X : Type 0} where
       (λ e. rw e refl)))
       (λ new. rw new (by-bool _ (same_name name u.0)
       (λ e. rw (e, same_name-true name u.0 e, new) refl)
-      (λ e. rw (e, found-joined name (names ++ u.0 ∷ []) us,
-      list_any-append (same_name name) names (u.0 ∷ []), e, or-false) refl)))
+      (λ e. rw (
+        e,
+        found-joined name (names ++ u.0 ∷ []) us,
+        list_any-append (same_name name) names (u.0 ∷ []),
+        e,
+        or-false,
+      ) refl)))
 
   lookup-append : (test : DwarfObject → Bool) (us vs : Named X)
       → lookup test (us ++ vs) ≡ option_or (lookup test us) (lookup test vs)

@@ -128,8 +128,7 @@ module _ (later : Strings) (source : Source) where
       done-agree (λ front.
       let used = there_once_used before string in
       let there = there_later (with_string before string) later string front used.0 in
-      let stays : with_string later string ≡ later = cond-true _ _ _ there.0 in
-      (
+      let stays : with_string later string ≡ later = cond-true _ _ _ there.0 in (
         front-front before (with_string before string) later (goes-on before string) front,
         rw (there.1 ∙ used.1, fits, stays) refl,
       )))

@@ -182,6 +182,8 @@ pub some_strings : {R : Type 0} (pack : Package) (strings : List (R × DwarfObje
     (a b : Progress) (result : Outcome)
     → Tells (ForEach (λ s. TellsStringsOf s.1 (found pack s.1)) strings) a b result
     → Tells (TellsSomeStrings pack) a b result
-some_strings pack strings a b (Ok done) t = told_as t (λ lines l. (map (λ s. s.1) strings,
-    for_each_of (λ o. TellsStringsOf o (found pack o)) (λ s. s.1) strings lines l))
+some_strings pack strings a b (Ok done) t = told_as t (λ lines l. (
+  map (λ s. s.1) strings,
+  for_each_of (λ o. TellsStringsOf o (found pack o)) (λ s. s.1) strings lines l,
+))
 some_strings pack strings a b (Err failure) t = t

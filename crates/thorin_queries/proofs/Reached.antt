@@ -140,18 +140,18 @@ module _ (order other : Endianness) (encoding code : Encoding) (strings range by
 -- ---- all strings of a unit
 
 module _ (ends : Ends) (order : Endianness) (strings : List ℕ) (h : HasEnds ends order strings)
-    where
-  inside_read : (found : Option ℕ) → is_inside ends found ≡ true
-      → fault_of (string_for strings found) ≡ None
-  inside_read None e = refl
-  inside_read (Some offset) e = fault_of-bound (string_at strings offset)
-      ∙ sym (ended_at ends order strings offset h (ltb-true offset ends.reach e))
+  where
+    inside_read : (found : Option ℕ) → is_inside ends found ≡ true
+        → fault_of (string_for strings found) ≡ None
+    inside_read None e = refl
+    inside_read (Some offset) e = fault_of-bound (string_at strings offset)
+        ∙ sym (ended_at ends order strings offset h (ltb-true offset ends.reach e))
 
-  pub all_read : (encoding : Encoding) (range : List ℕ) (end : ℕ)
-      → entry_count encoding (length range) ≤ end
-      → ((k : ℕ) → k < end → is_inside ends (entry_in ends.order encoding range k) ≡ true)
-      → (i : ℕ) → fault_of (string_in order encoding strings range i) ≡ None
-  unfolding string_in entry_in
-  all_read encoding range end le below i = rw (← h.order_is) (inside_read _ (⊎_elim (below i)
-      (λ past. rw (le-ltb i (entry_count encoding (length range)) (omega (arith, le, past))) refl)
-      (cases_lt i end)))
+    pub all_read : (encoding : Encoding) (range : List ℕ) (end : ℕ)
+        → entry_count encoding (length range) ≤ end
+        → ((k : ℕ) → k < end → is_inside ends (entry_in ends.order encoding range k) ≡ true)
+        → (i : ℕ) → fault_of (string_in order encoding strings range i) ≡ None
+    unfolding string_in entry_in
+    all_read encoding range end le below i = rw (← h.order_is) (inside_read _ (⊎_elim (below i)
+        (λ past. rw (le-ltb i (entry_count encoding (length range)) (omega (arith, le, past))) refl)
+        (cases_lt i end)))

@@ -97,7 +97,7 @@ joining-apart names (u ∷ us) h =
     (IsPermutation-middle names u.0 (keys us)) h in
     let new = list_any_none (same_name u.0) (names ++ keys us) (All-from_recursion _ _ apart.0) in
     rw (neither (list_any (same_name u.0) names) _
-        (rw (list_any-append (same_name u.0) names (keys us)) at new)).0
+    (rw (list_any-append (same_name u.0) names (keys us)) at new)).0
     (ap (λ l. u ∷ l) (joining-apart (names ++ u.0 ∷ []) us
     (rw (append_assoc names (u.0 ∷ []) (keys us)) h)))
 
@@ -269,8 +269,13 @@ module _ (names : NamesTheSameLaw) (law : PackagedLaw) (reads : UnitsAreTaken)
         offsets = λ some. (strings-there some, given.0);
       }) in
       let opens = opened-elf (file_text file) (written_elf file) back in
-      rw (t.is, opens, info-written file info, object-written file differ,
-          own.first) (and-then E _ _
+      rw (
+        t.is,
+        opens,
+        info-written file info,
+        object-written file differ,
+        own.first,
+      ) (and-then E _ _
       (and-then E _ _ (and-then E _ _ parts (λ p e. rw abbreviations-tested
       (and-then E _ _ (given.1 p e) (λ new h. tt)))) (λ m h. tt)) (λ now h. tt))
 
@@ -310,8 +315,12 @@ module _ (names : NamesTheSameLaw) (law : PackagedLaw) (reads : UnitsAreTaken)
       input-encoding file differ back ∙ own.first ∙ ap Ok (sym (own.all k d within)) in
       let distinct = subst (λ b. IsDistinct same_name (keys (units_begun b))) (sym f.begun)
       (rw (keys-units made) (IsDistinct-from_apart same_name (names_of made) has.sound.apart)) in
-      let no : Meaning = record { bytes = []; pieces = λ k c. []; strings = [];
-          encoding = encoding } in
+      let no : Meaning = record {
+        bytes = [];
+        pieces = λ k c. [];
+        strings = [];
+        encoding = encoding;
+      } in
       let perm = alone-units bytes no (units_in state) (units_in after) distinct
       (joins bytes None after.begun tt input) (means state file sound tested f differ back encoded
       start after new-accepted.1) in

@@ -131,8 +131,11 @@ module _ (rest : List ℕ) where
   found-within wanted (suc n) (suc m) i le =
       by-bool _ (eqb (length i.bytes) 0)
       (λ none. rw none tt)
-      (λ some. rw (some, ne_eqb (length (i.bytes ++ rest)) 0 (λ none.
-      eqb-false (length i.bytes) 0 some (omega (arith, none, longer i))))
+      (λ some. rw (
+        some,
+        ne_eqb (length (i.bytes ++ rest)) 0 (λ none.
+            eqb-false (length i.bytes) 0 some (omega (arith, none, longer i))),
+      )
       (then-by Found _ _ _ _ (λ e z. tt) (stays-uleb i) (λ code j.
       choice Found (eqb code 0) _ _ _ _ tt (then-by Found _ _ _ _ (λ e z. tt)
       (stays-declaration j) (λ first k. choice Found (eqb code wanted) _ _ _ _ refl

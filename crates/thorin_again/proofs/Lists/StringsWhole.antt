@@ -139,9 +139,11 @@ found-header pack name found count h =
         let read = encoding_in pack.order place (row_bytes pack.contents row (kind_of place)) in
         let s = bind-was (index.as_error errors.Unit read) _ u.0 inside.2 in
         subst (HasHeader pack) (same-ok {E = PackageError} _ u.0 s.2
-        ∙ same_Some u.0 found (ap unit (same-ok {E = PackageError} _ _ u.2)))
-        (place, (elim read as (λ r. index.as_error errors.Unit r ≡ Ok s.0 → r ≡ Ok s.0)
-        [ Ok y ↦ λ k. cc | Err e ↦ λ k. absurd cc ]) s.1)
+        ∙ same_Some u.0 found (ap unit (same-ok {E = PackageError} _ _ u.2))) (
+          place,
+          (elim read as (λ r. index.as_error errors.Unit r ≡ Ok s.0 → r ≡ Ok s.0)
+              [ Ok y ↦ λ k. cc | Err e ↦ λ k. absurd cc ]) s.1,
+        )
 
 -- what look-ups of these units give
 abbrev pub Finds : Package → Members → Type 0

@@ -275,7 +275,7 @@ module _ (first_law : FirstLaw) (find_law : FindLaw) (source : Source) (contents
         let is_name : name ≡ row.id = same-name source.indexes row.id name
         (sym (identity-sort id.0 h name id.1) ∙ agrees) (λ c alike. same-id name (same-number _
         (number + 1) (kept _ _ _ _ (rw (again.packed, alike, own-range, by-place) at
-            (tested c))).0))
+        (tested c))).0))
         in (
           is_name,
           rw (again.packed, is_name, own-range, there.1, row-first, parts.there, whole)
@@ -285,8 +285,14 @@ module _ (first_law : FirstLaw) (find_law : FindLaw) (source : Source) (contents
     -- it passes the test of its row
     pub row-tested : row_test source.indexes kind row.id h ≡ Ok tt
     unfolding row_test
-    row-tested = rw (again.packed, own-range, by-place, looked, eq-eqb (number + 1)
-        (number + 1) refl)
+    row-tested = rw (
+      again.packed,
+      own-range,
+      by-place,
+      looked,
+      eq-eqb (number + 1)
+          (number + 1) refl,
+    )
         refl
 
     abbrev abbreviations : List ℕ
@@ -302,6 +308,11 @@ module _ (first_law : FirstLaw) (find_law : FindLaw) (source : Source) (contents
         (λ compiled. let same = compile-sort source.indexes h.unit_type row.id compiled agrees in
         rw (again.packed, compiled, same, there.1, own-range, row-first, parts.there)
         (rw (outside kinds.Abbrev, bytes-are kinds.Abbrev, named) refl))
-        (λ other. rw (again.packed, other, identity-by
-        (section source.object.order (first kinds.Abbrev source.object.sections))
-        (section source.object.order abbreviations) h h.unit_type other, named) refl)
+        (λ other. rw (
+          again.packed,
+          other,
+          identity-by
+              (section source.object.order (first kinds.Abbrev source.object.sections))
+              (section source.object.order abbreviations) h h.unit_type other,
+          named,
+        ) refl)

@@ -85,7 +85,7 @@ joined-tested adding names (u ∷ us) ns can are =
     (λ there.
     let passed = both (not (is_compilation u.0)) _ (rw there at can) in
     All-cons (IsTested adding.source) u us (λ is.
-        absurd (true≢false (sym is ∙ is-false _ passed.0)))
+    absurd (true≢false (sym is ∙ is-false _ passed.0)))
     (joined-tested adding names us ns passed.1 (rw there at are)))
     (λ new. (elim ns as (λ l. AreAdded adding l (u ∷ joining (names ++ u.0 ∷ []) us)
     → All (IsTested adding.source) (u ∷ us)) [
@@ -313,7 +313,7 @@ module _ (reads : UnitsAreTaken) (first_law : FirstLaw) (find_law : FindLaw) (is
     units-are place = of-section reads file.order file.contents place made.rows
         (λ todo got. (us : Reads) → named_each source (kind_at place) got ≡ Ok us
         → All (IsTested source) us → units_meant us ≡ all_meant
-            (with_names mean (rows_at place todo)))
+        (with_names mean (rows_at place todo)))
         (λ us named rest. ap units_meant (sym (same-ok [] us named)))
         (λ r rs got elsewhere later. rw elsewhere later)
         (λ before r rs h got cut u later us named rest.

@@ -98,7 +98,7 @@ module _ (taken : UnitsAreTaken) (order : Endianness) (contents : Contents) (pla
       plain order end head.rest =
       rw head.is.whole (ap (plain order end) (drop-append_seam own head.rest)) in
       let read : unit_at place (plain order offset bytes) ≡ Ok
-          (moved.unit, plain order end head.rest)
+      (moved.unit, plain order end head.rest)
       = ap (λ l. unit_at place (plain order offset l)) head.are ∙ moved.read
       ∙ ap (λ i. Ok (moved.unit, i)) left in
       let long = ap length head.are ∙ length-append own head.rest in
@@ -130,16 +130,16 @@ module _ (taken : UnitsAreTaken) (order : Endianness) (contents : Contents) (pla
       }) (from (before ++ r ∷ []) rs (pre ++ own) head.rest end (n - 1) next once.1
       (All-push (IsBelow kind end) before r
       (All-weaker (IsBelow kind offset) (IsBelow kind end) (λ x h c e. let low =
-          h c e in omega arith)
+      h c e in omega arith)
       before below)
       (λ c e. let same = ap (λ (x : Contribution). x.offset.0)
-          (same_Some _ _ (sym head.range ∙ e)) in
+      (same_Some _ _ (sym head.range ∙ e)) in
       omega (arith, head.is.some)))
       l.1 (content_is ∙ sym (append_assoc pre own head.rest))
       (length-append pre own ∙ ap (λ k. k + length own) at) (omega (arith, head.is.some)))))
       (λ other. passed r rs _ other (from (before ++ r ∷ []) rs pre bytes offset n next once.1
       (All-push (IsBelow kind offset) before r below (λ c e.
-          absurd (none-some c (sym (once.0 place other) ∙ e))))
+      absurd (none-some c (sym (once.0 place other) ∙ e))))
       (rw other at lie) content at fuel))
 
   pub of-section : HaveOneRange rows

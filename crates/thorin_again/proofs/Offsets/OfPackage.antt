@@ -157,5 +157,5 @@ module _ (is_read : IndexIsRead) (has_entries : IndexHasEntries) (state : State)
       (own_source file encoding indexes) (content_of kinds.StrOffsets file.contents) [] ≡ Ok w)
   own-offsets-alone =
       let given = tiled.strings made.strings read-of.own.sound.units.table
-          (take-length made.strings) in
+      (take-length made.strings) in
       ((given.0, made.strings), offsets-are [] ∙ given.1)

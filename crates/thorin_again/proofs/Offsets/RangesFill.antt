@@ -93,7 +93,7 @@ ranges-there : (compilations types : Option Index) (rows : List IndexEntry) (r :
 ranges-there compilations types rows r c t some h =
     ⊎_elim
     (λ u. by-passing _ (has-range r) compilations (rows_of true rows) c u
-        (λ index n row is at has parts.
+    (λ index n row is at has parts.
     rw is (compilation_there index (n + 1) parts.row r parts.there
     (own-range r row index (n + 1) some has parts) types)))
     (λ u. by-passing _ (has-range r) types (rows_of false rows) t u (λ index n row is at has parts.
@@ -160,7 +160,7 @@ module _ (order : Endianness) (encoding : Encoding) where
   put-part at end (y ∷ ys) (x ∷ xs) r tile (inl p) (inr h) =
       let less : x.offset.0 < r.offset.0 = rw p.0 (tile-apart at end y ys r tile h) in
       rw (← nat_cmp_is r.offset.0 x.offset.0 Greater less)
-          (inl (p.0, put-part (at + y.size) end ys xs r tile.2 p.1 h))
+      (inl (p.0, put-part (at + y.size) end ys xs r tile.2 p.1 h))
   put-part at end (y ∷ ys) (x ∷ xs) r tile (inr p) (inl e) =
       let less : r.offset.0 < x.offset.0 = rw e (tile-apart at end y ys x tile
       (part-among (x ∷ xs) ys x p (inl refl))) in

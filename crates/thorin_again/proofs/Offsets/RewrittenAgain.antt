@@ -128,7 +128,7 @@ module _ (order : Endianness) (encoding : Encoding) where
   -- such ranges are rewritten in turn, unless the offset of a string doesn't fit
   pub all-rewritten : (section bytes : List ℕ) (at : ℕ) (ranges : List Contribution)
       (strings : List (List ℕ)) → ((r : Contribution) → IsAmong r ranges
-          → CanRewrite section bytes r)
+      → CanRewrite section bytes r)
       → Unless IsStringOffset (rewritten_from order encoding section bytes at ranges strings)
   unfolding rewritten_from
   all-rewritten section bytes at [] strings can = tt

@@ -94,8 +94,12 @@ module _ (names : NamesTheSameLaw) (source : Source) (plain : is_package source.
             let count = ap (entry_count encoding) none.0 ∙ no-entries encoding in
             rw (← none.1) (inl (refl, count), ([], rw count refl))
         | inr r ↦ (
-          inr ((names order encoding section bytes (length bytes) strings written.0 written.1
-              table h).long (eqb-false (length bytes) 0 r.some), r.header, r.header_is),
+          inr (
+            (names order encoding section bytes (length bytes) strings written.0 written.1
+                table h).long (eqb-false (length bytes) 0 r.some),
+            r.header,
+            r.header_is,
+          ),
           (
             r.entries.0,
             r.entries_are ∙ ap (λ (w : List ℕ × List (List ℕ)). Ok (r.entries.0, w.1)) r.is,
@@ -137,8 +141,14 @@ module _ (names : NamesTheSameLaw) (source : Source) (plain : is_package source.
       let more = older-long old (length own) m one.0 in (
         so_far.count + m,
         inr (
-          omega (arith, long, more, no_header encoding old, add-mul so_far.count m width,
-              length-append new own),
+          omega (
+            arith,
+            long,
+            more,
+            no_header encoding old,
+            add-mul so_far.count m width,
+            length-append new own,
+          ),
           [],
           rw (lt-ltb encoding.version 5 old) refl,
         ),
@@ -205,8 +215,11 @@ module _ (names : NamesTheSameLaw) (source : Source) (plain : is_package source.
       (length new) (header_size encoding) made.count f.0) ∙ ap (entry_count encoding) empty
       ∙ no-entries encoding) made.fills in
       let lead = rw no at (made.again after made.table (take-length after)) in
-      inl (empty, ap (λ (w : List ℕ × List (List ℕ)). w.1)
-      (sym (same-ok {E = ErrorValue} ([], start) (lead.0, after) lead.1))))
+      inl (
+        empty,
+        ap (λ (w : List ℕ × List (List ℕ)). w.1)
+            (sym (same-ok {E = ErrorValue} ([], start) (lead.0, after) lead.1)),
+      ))
       (λ some.
       let there = eqb-false (length new) 0 some in
       elim made.fills [
@@ -219,11 +232,14 @@ module _ (names : NamesTheSameLaw) (source : Source) (plain : is_package source.
               header = f.1;
               written = f.2;
             } in
-            inr (whole, λ final table kept. let lead = made.again final table kept in (
-              whole.header ++ entry_bytes order encoding.format lead.0,
-              whole-remapped order encoding (data_of final) new (length new) start whole
-                  ∙ rw lead.1 refl,
-            ))
+            inr (
+              whole,
+              λ final table kept. let lead = made.again final table kept in (
+                whole.header ++ entry_bytes order encoding.format lead.0,
+                whole-remapped order encoding (data_of final) new (length new) start whole
+                    ∙ rw lead.1 refl,
+              ),
+            )
       ])
 
 -- ---- rows that are added
@@ -359,8 +375,11 @@ module _ (names : NamesTheSameLaw) (source : Source) (before now : InProgress)
             (tiled.strings final final_table
             (front-front before.strings a.after final part.kept front))
             (turn now_order source.encoding (data_of final) (old ++ joined) (length old) range []
-            before.strings a.after a.after (one.0, rw (own-bytes old joined) (subst (λ o. remapped o
-            source.encoding (data_of final) joined (length joined) before.strings
-            ≡ Ok (one.0, a.after)) same one.1)) (no-turn now_order source.encoding (data_of final)
+            before.strings a.after a.after (
+              one.0,
+              rw (own-bytes old joined) (subst (λ o. remapped o
+                  source.encoding (data_of final) joined (length joined) before.strings
+                  ≡ Ok (one.0, a.after)) same one.1),
+            ) (no-turn now_order source.encoding (data_of final)
             (old ++ joined) (length old + length joined) a.after)))
       ]

@@ -109,7 +109,7 @@ version-chosen b version rows have =
 -- where there is a row, one of the indexes has rows
 one-is-there : (rows : List IndexEntry) → (rows ≡ [] → ⊥)
     → (is_some (slice_get (rows_of true rows) 0) || is_some (slice_get (rows_of false rows) 0)) ≡
-        true
+    true
 one-is-there [] some = absurd (some refl)
 one-is-there (row ∷ rows) some =
     by-bool _ (is_compilation row.id) (λ e. rw e refl) (λ e. rw e (or_right _ _ refl))
@@ -125,7 +125,7 @@ module _ (is_read : IndexIsRead) (made : InProgress) (file : File) (sound : IsSo
       let same = finished-compilations made file f sound.units.no_compilations in
       rw (finished-order made file f, first-written CuIndex file.contents differ, same)
       (index-taken is_read made.file.order (rows_of true made.rows)
-          f.compilation_index f.compilations
+      f.compilation_index f.compilations
       tests.compilation_rows (chosen-fit true made.rows fits))
 
   pub types-taken : IndexTaken file.order (rows_of false made.rows)

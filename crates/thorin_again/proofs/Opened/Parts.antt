@@ -99,7 +99,7 @@ module _ (E : ErrorValue → Type 0) (source : Source) where
       (λ w. parts-tried cs (before.0 ++ (StrOffsets, w.0) ∷ [], w.1)
       (more w.0 StrOffsets (is-same kind StrOffsets same))
       (can-rest c cs before.1 w.1 differ (λ s. let no =
-          ap length (none-behind StrOffsets c cs differ
+      ap length (none-behind StrOffsets c cs differ
       same) in absurd (omega arith)) can))))
       (λ other. by-bool _ (is_copied kind)
       (λ copied. rw (copied, other) (parts-tried cs (before.0 ++ c ∷ [], before.1)

@@ -46,10 +46,13 @@ rows-differ rows apart i j a b at there differ =
         → get_or (map (λ (r : IndexEntry). r.id) rows) k d ≡ row.id
     name-at k row d e = get_or_from_slice_get (map (λ (r : IndexEntry). r.id) rows) k row.id d
         (slice_get-map (λ (r : IndexEntry). r.id) rows k ∙ ap
-            (option_map (λ (r : IndexEntry). r.id)) e)
+        (option_map (λ (r : IndexEntry). r.id)) e)
 
     in-order : (i j : ℕ) (a b : IndexEntry) → slice_get rows i ≡ Some a
         → slice_get rows j ≡ Some b → i < j → same_name a.id b.id ≡ false
     in-order i j a b at there less = rw (← name-at i a a.id at, ← name-at j b a.id there)
-        (apart i j a.id less (omega (arith, slice_get_within rows j b there,
-        length-map rows (λ (r : IndexEntry). r.id))))
+        (apart i j a.id less (omega (
+          arith,
+          slice_get_within rows j b there,
+          length-map rows (λ (r : IndexEntry). r.id),
+        )))

@@ -157,8 +157,10 @@ module _ (E : ErrorValue → Type 0) (add : Adding) (contents : Contents) (P : M
   unfolding new_units
   new-taken are differ start = then-fares E Done (λ new. Unit {0})
       (with_each_section add (none_met, record { units = []; differing = [] })
-      add.source.object.sections) _ (subst (λ l. Fares E Done (with_each_section add (none_met,
-      record { units = []; differing = [] }) l)) (sym are)
+      add.source.object.sections) _ (subst (λ l. Fares E Done (with_each_section add (
+        none_met,
+        record { units = []; differing = [] },
+      ) l)) (sym are)
       (each-taken contents differ (λ kind some. refl) none_met _ (λ place some.
       each-place (λ p. is_met p none_met ≡ false) refl refl place) start))
       (λ all h. tt)
@@ -274,7 +276,7 @@ module _ (names : NamesTheSameLaw) (law : PackagedLaw) (taken : UnitsAreTaken)
         let order = is.made.file.order in
         let old = is.made.file.contents in
         let lie = at-row (LieInside old) rows (length front) r
-            (sound-inside is.made is.own.sound) at in
+        (sound-inside is.made is.own.sound) at in
         let itself = subst (λ o. NamesItself o encoding contents r)
         (sym (finished-order is.made file is.finished)) (keep-names order encoding old contents r
         (finished-grows is.made file is.finished) lie
@@ -327,7 +329,7 @@ module _ (names : NamesTheSameLaw) (law : PackagedLaw) (taken : UnitsAreTaken)
         → Fares E After (with_each_read add from new (units place (section file.order from.bytes)))
     section-taken new opened = subst (λ l. Fares E After (with_each_read add from new
         (units place (section file.order l)))) (sym bytes)
-            (of-section taken file.order file.contents
+        (of-section taken file.order file.contents
         place rows TakesRows end-taken elsewhere-taken one-taken is.own.sound.laid.once
         (lie-kept is.made file is.own.sound.laid is.finished place) new
         (rows-kept is.made file is.own.sound is.finished)

@@ -57,9 +57,12 @@ held_from kind number names [] h = inr (
 )
 held_from kind number names ((k, []) ∷ cs) h =
     let rest = held_from kind (number + 1) names cs (fewer-one _ (count_of kind cs) h) in
-    inr (empty (plain_section number 1 (name_of k) []) kind refl, by-bool _ (same_kind k kind)
-    (λ same. let one = rw same at h in rw same (rw (nothing kind cs (omega (arith, one))) at rest))
-    (λ apart. rw apart rest))
+    inr (
+      empty (plain_section number 1 (name_of k) []) kind refl,
+      by-bool _ (same_kind k kind)
+          (λ same. let one = rw same at h in rw same (rw (nothing kind cs (omega (arith, one))) at rest))
+          (λ apart. rw apart rest),
+    )
 held_from kind number names ((k, b ∷ bs) ∷ cs) h =
     by-bool _ (same_kind k kind)
     (λ same. rw same (inl (record {
@@ -70,8 +73,11 @@ held_from kind number names ((k, b ∷ bs) ∷ cs) h =
       has_bytes = λ e. absurd (omega (arith, e));
       stored = refl;
     })))
-    (λ apart. rw apart (inr (another_kind _ kind k refl apart, held_from kind (number + 1) names cs
-    (fewer-one _ (count_of kind cs) h))))
+    (λ apart. rw apart (inr (
+      another_kind _ kind k refl apart,
+      held_from kind (number + 1) names cs
+          (fewer-one _ (count_of kind cs) h),
+    )))
 
 -- ---- the package
 

@@ -67,8 +67,12 @@ module _ (made : InProgress) (file : File) (f : IsFinished made file) where
   finished-content : (kind : SectionKind) → content_of kind file.contents
       ≡ put kind kinds.TuIndex f.type_index (put kind kinds.CuIndex f.compilation_index
       (put kind kinds.Str (data_of made.strings) (content_of kind made.file.contents)))
-  finished-content kind = rw (ap (λ (o : File). o.contents) f.contents, content-with_bytes,
-      content-with_bytes, content-with_bytes)
+  finished-content kind = rw (
+    ap (λ (o : File). o.contents) f.contents,
+    content-with_bytes,
+    content-with_bytes,
+    content-with_bytes,
+  )
 
   pub finished-strings : content_of kinds.Str made.file.contents ≡ [] → content_of kinds.Str
       file.contents ≡ data_of made.strings
@@ -117,10 +121,12 @@ package-is made file sound tested fits f differ back =
       parsed = package_held (file_text file) file differ back c.index t.index
           (rw (order, finished-compilations made file f units.no_compilations) c.read)
           (rw (order, finished-types made file f units.no_types) t.read);
-      named = rw (← ids-chosen of is_compilation made.rows,
-          ← ids-chosen of (λ name. not (is_compilation name)) made.rows)
+      named = rw (
+        ← ids-chosen of is_compilation made.rows,
+        ← ids-chosen of (λ name. not (is_compilation name)) made.rows,
+      )
           (entries_once c.index t.index _ _ (index-ids c.index _ c.has)
-              (index-ids t.index _ t.has));
+          (index-ids t.index _ t.has));
       finds = λ name. package-finds file.order file.contents c.index t.index made.strings
           (finished-strings made file f units.no_strings) units.table made.rows name of rows
           c.has t.has;

@@ -182,7 +182,7 @@ source-joins parts_law rows_law alone taken source before now ms rep named apart
     let a = units-added q.file.contents q us ms r.members
     (λ kind. record { rest = []; is = sym (append-nil (content_of kind q.file.contents)) }) fresh
     (subst (λ o. AllCanBeAdded o q.file.contents m.after us r.members) same r.can) rows
-        (laid-lies before parts empty laid) in
+    (laid-lies before parts empty laid) in
     let none : (kind : SectionKind) → same_kind kinds.Info kind ≡ false
     → same_kind kinds.Types kind ≡ false → joined_parts kind parts ≡ [] → content_of kind old ≡ []
     → content_of kind (with_new_units q us).file.contents ≡ [] = λ kind info types new none.

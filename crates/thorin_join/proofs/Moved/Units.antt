@@ -185,7 +185,7 @@ unit-moves taken order place own rest d u r h =
     (plain order d (own ++ rest)) =
     rw (t.goes.is, size, drop-append-le k own rest t.goes.enough, sum) refl in
     let plainly = ap (λ (i : Input). i.relocated)
-        (t.inside.is ∙ ap (after t.inside.taken) t.whole) in
+    (t.inside.is ∙ ap (after t.inside.taken) t.whole) in
     record {
       unit = unit_there d u;
       read = (rw add-zero at read) ∙ ap (λ j. Ok (unit_there d u, j)) left;

@@ -194,8 +194,11 @@ module _ (source : Source) where
         × (joined_parts kind next.0 ≡ joined_parts kind before.0)
     adds-other before s next other (inl (o, w)) =
         let apart : same_kind StrOffsets kind ≡ false = rw (is-same s.kind StrOffsets o) at other in
-        rw w.is (has-other kind before.0 StrOffsets _ apart, joined_parts-other kind before.0
-        StrOffsets _ apart)
+        rw w.is (
+          has-other kind before.0 StrOffsets _ apart,
+          joined_parts-other kind before.0
+              StrOffsets _ apart,
+        )
     adds-other before s next other (inr (inl (o, c, is))) = rw is (
       has-other kind before.0 s.kind s.bytes other,
       joined_parts-other kind before.0 s.kind s.bytes other,
@@ -212,8 +215,12 @@ parts-copied source strings parts after h kind copied =
     joined_parts kind next.0 ≡ joined_parts kind before.0 ++ joined_content kind ss)
     (λ parts. sym (append-nil (joined_parts kind parts.0)))
     (λ before s next ss last made rest later. later ∙ by-bool _ (same_kind s.kind kind)
-    (λ same. rw (same, adds-copied source kind before s next copied same made.adds,
-    joined_parts-more kind before.0 kind s.bytes, same-self kind)
+    (λ same. rw (
+      same,
+      adds-copied source kind before s next copied same made.adds,
+      joined_parts-more kind before.0 kind s.bytes,
+      same-self kind,
+    )
     (append_assoc (joined_parts kind before.0) s.bytes (joined_content kind ss)))
     (λ other. rw (other, (adds-other source kind before s next other made.adds).1)))
     source.object.sections ([], strings) (parts, after) h

@@ -69,8 +69,12 @@ used-most strings (s ∷ ss) =
     let all = sum_by-cons ended_long s ss in
     by-bool _ (list_any (λ t. bytes_eq t s) strings)
     (λ there. rw there (omega (arith, all, used-most strings ss)))
-    (λ new. rw new (omega (arith, all, used-most (strings ++ s ∷ []) ss,
-    sum_by_push ended_long strings s)))
+    (λ new. rw new (omega (
+      arith,
+      all,
+      used-most (strings ++ s ∷ []) ss,
+      sum_by_push ended_long strings s,
+    )))
 
 -- a table of strings, with the one before in front
 pub record Follows (before after : List (List ℕ)) : Type 0 where
@@ -137,8 +141,15 @@ string-brings section string at strings h =
           let free = subst IsZeroFree (string_was section string at h) (read_free section at) in
           let new = used strings string table free in
           record { table = new.table; kept = new.kept };
-      most = omega (arith, is, taken, within, length-drop at section, sum_by-cons
-          ended_long string []);
+      most = omega (
+        arith,
+        is,
+        taken,
+        within,
+        length-drop at section,
+        sum_by-cons
+            ended_long string [],
+      );
     }
 
 -- ---- the strings that so many first entries name
@@ -287,11 +298,24 @@ module _ (source : Source) where
       × (bytes_of_contents next.0 ≤ bytes_of_contents before.0 + part_bytes s)
   step-brings before s next (inl (o, w)) =
       let b = section-brings s.bytes before.1 w.written w.rewrites in
-      rw (w.is, o) (b.0, omega (arith, b.1, sum_by_push (λ c. length c.1) before.0
-          (StrOffsets, w.written.0)))
+      rw (w.is, o) (
+        b.0,
+        omega (
+          arith,
+          b.1,
+          sum_by_push (λ c. length c.1) before.0
+              (StrOffsets, w.written.0),
+        ),
+      )
   step-brings before s next (inr (inl (o, c, is))) =
-      rw (is, c, o) (none-brings, omega (arith, sum_by_push (λ c. length c.1) before.0
-          (s.kind, s.bytes)))
+      rw (is, c, o) (
+        none-brings,
+        omega (
+          arith,
+          sum_by_push (λ c. length c.1) before.0
+              (s.kind, s.bytes),
+        ),
+      )
   step-brings before s next (inr (inr (o, c, is))) = rw (is, o) (none-brings, omega arith)
 
   pub each-brings : (sections : List Used) (before after : Parts)

@@ -88,7 +88,7 @@ module _ (order : Endianness) (encoding : Encoding) where
       let same : number order width (drop at front) ≡ number order width (drop at bytes) =
       sym (number_front order encoding.format (drop at front) (drop end bytes) left)
       ∙ ap (number order width) (sym (drop-append-le at front (drop end bytes)
-          (omega (arith, long)))
+      (omega (arith, long)))
       ∙ ap (drop at) parted) in
       rw (less, same))
       (λ behind. rw behind)))
@@ -152,6 +152,9 @@ rewritten-long names order encoding section bytes strings written old table h =
     table h in
     by-bool _ (eqb (length bytes) 0)
     (λ empty. let none = eqb-true (length bytes) 0 empty in
-    rw (law.none none, count-none encoding.format (length bytes) (header_size encoding)
-    (omega arith)) (sym (zero-mul (offset_size encoding.format))))
+    rw (
+      law.none none,
+      count-none encoding.format (length bytes) (header_size encoding)
+          (omega arith),
+    ) (sym (zero-mul (offset_size encoding.format))))
     (λ some. omega (arith, law.long (eqb-false (length bytes) 0 some), no_header encoding old))

@@ -112,8 +112,7 @@ module _ (names : NamesTheSameLaw) (alike : ReadsAlikeLaw) (in_turn : ReadInTurn
             let header = no_header encoding gnu in
             let long = whole-long encoding bytes (omega (arith, header)) in
             let many = rewritten-long names object.order encoding section bytes before.1 w.written
-            gnu so_far.table rewrites in
-            (
+            gnu so_far.table rewrites in (
               whole.0 + entry_count encoding (length bytes),
               omega (arith, header, long, whole.1, length-append old own),
               omega (arith, many, whole.2, length-append new w.written.0),

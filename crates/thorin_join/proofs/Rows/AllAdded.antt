@@ -91,6 +91,10 @@ units-added base p (u ∷ us) ms (m ∷ added) grows new can rows lie =
     let other : (kind : SectionKind) → ((place : UnitSection) → same_kind (kind_at place) kind ≡
     false) → content_of kind (with_new_units q us).file.contents ≡ content_of kind c = λ kind h.
     a.other kind h ∙ content-with_bytes kind (kind_at u.1.place) u.1.bytes c ∙ rw (h u.1.place) in
-    rw new.0 (assumption (other, rw append_assoc at a.rows, a.names ∙ ap (λ n. n ++ keys us) names
-    ∙ append_assoc (names_of p) (u.0 ∷ []) (keys us)))
+    rw new.0 (assumption (
+      other,
+      rw append_assoc at a.rows,
+      a.names ∙ ap (λ n. n ++ keys us) names
+          ∙ append_assoc (names_of p) (u.0 ∷ []) (keys us),
+    ))
 units-added base p _ ms _ grows new can rows lie = absurd can

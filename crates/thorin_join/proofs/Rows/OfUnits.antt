@@ -135,7 +135,7 @@ module _ (indexes : Indexes) (name : DwarfObject) where
         (part_by_row adjust name whole) result
         (rw (some-index indexes.compilations indexes.types packed) at h) in
         let found = ap (λ own. row_of own (identifier_of name))
-            (sym (own-index indexes kind name)) in
+        (sym (own-index indexes kind name)) in
         (parts.0, found ∙ parts.1, parts.2)
 
 pub is-unit_row : (indexes : Indexes) (whole : IndexEntry) (name : DwarfObject) (row : IndexEntry)

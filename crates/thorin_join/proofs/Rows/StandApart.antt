@@ -112,7 +112,7 @@ stand-apart bytes begun now sound fine h =
           subst from (m.is ∙ same_Some _ _ u.1.is)
           (units-behind c _ m.new.units (grows-with_parts m.parts c) (added-behind u.1.source before
           m.parts m.new.units _ (units-joined (adding u.1.source before m.parts) m.new
-              m.new_are).are))
+          m.new_are).are))
       | inr n ↦ subst from (same_Some _ _ n.1)
           (record { added = []; is = sym (append-nil before.rows); behind = tt })
     ]) in

@@ -61,9 +61,11 @@ there-joined : (adding : Adding) (kept : List ℕ) (from : Used) (name : DwarfOb
 unfolding with_unit
 there-joined adding kept from (Compilation id) unit before after h = absurd cc
 there-joined adding kept from (TypeUnit signature) unit before after h =
-    let units = λ (n : New) (is : n ≡ after). ap (λ (n : New). n.units) (sym is) in
-    (by-choice _ (bytes_eq kept unit.whole.bytes) _ _ _ (same-ok _ after h) (units _)
-        (units _), refl)
+    let units = λ (n : New) (is : n ≡ after). ap (λ (n : New). n.units) (sym is) in (
+      by-choice _ (bytes_eq kept unit.whole.bytes) _ _ _ (same-ok _ after h) (units _)
+          (units _),
+      refl,
+    )
 
 -- the names that were there before some units
 abbrev before_names : Adding → New → List DwarfObject
@@ -117,7 +119,7 @@ steps-joined adding before after (u ∷ us) h =
         let units : h.0.units ≡ before.units ++ unit ∷ [] =
         ap (λ (n : New). n.units) (sym (same-ok _ h.0 s2.2)) in
         let tested = ap (λ k. row_test adding.source.indexes k u.0 u.1.unit)
-            (sym h.1.kind) ∙ s1.1 in
+        (sym h.1.kind) ∙ s1.1 in
         let names : before_names adding h.0 ≡ before_names adding before ++ u.0 ∷ [] =
         ap (λ n. keys adding.held ++ keys n) units
         ∙ ap (λ n. keys adding.held ++ n) (map-append (λ e. e.0) before.units (unit ∷ []))

@@ -39,7 +39,7 @@ sort-by : (section : Input) (unit : Header) (t : UnitType) (name : DwarfObject)
 unfolding root_identity entry_identity
 sort-by section unit unit_types.Compilation name h =
     let s1 = bind-was (as_error ParseUnitAbbreviations (from_at unit.abbrev_offset section)) _ _
-        h in
+    h in
     let s2 = bind-was (as_error GimliRead (root_code_at unit.entries)) _ _ s1.2 in
     let s3 = bind-was (ok_or s2.0 NoDie) _ _ s2.2 in
     let s4 = bind-was (as_error ParseUnitAbbreviations (declaration s3.0.0 s1.0)) _ _ s3.2 in

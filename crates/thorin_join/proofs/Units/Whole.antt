@@ -158,8 +158,12 @@ module _ (taken : UnitsAreTaken) (alone : ReadAlone) where
             type = rw same at moved.type;
             encoding = same-ok _ _ s.2;
             behind = at.d;
-            shifted = assumption (sym (rw same at moved.type), sym (rw same at moved.encoding),
-                rw same at moved.offset, rw same at moved.entries);
+            shifted = assumption (
+              sym (rw same at moved.type),
+              sym (rw same at moved.encoding),
+              rw same at moved.offset,
+              rw same at moved.entries,
+            );
           },
           λ is. (unit-five i).gives (unit, at.rest) (ap (λ p. unit_at p i) (sym is) ∙ at.read),
         )

@@ -59,7 +59,7 @@ returns g c =
     let inputs = c.args.inputs.now in
     let state = c.loop-input.builder.state in
     let are : (taken_each (bytes_in inputs) start ≡ Ok state)
-        × JoinAll (bytes_in inputs) [] (units_in state) =
+    × JoinAll (bytes_in inputs) [] (units_in state) =
     subst (λ l. (taken_each (bytes_in l) start ≡ Ok state) × JoinAll (bytes_in l) []
     (units_in state)) (take_all c.loop-input.input-index inputs c.loop-input-test.false)
     c.loop-input.invariant in

@@ -29,7 +29,7 @@ returns-clause-packed g c =
     let offer = g.Sess.Session.offer c.args.session.now in
     let accepted = c.loop-input.invariant.0 in
     let ran = subst (λ list. Ran offer list start c.loop-input.outcomes.items
-        c.loop-input.builder.state
+    c.loop-input.builder.state
     accepted) (take_all c.loop-input.input-index c.args.inputs.now c.loop-input-test.false)
     c.loop-input.invariant.1 in
     record {

@@ -22,12 +22,14 @@ took : (g : Over) (c : goal.In_ok-add_target g) (outcome : Outcome) (new : State
     c.args.missing (c.args.named.target, c.args.named.path.now) c.args.self.now.state outcome new
     accepted
 took g c outcome new file =
-    let moved = rw c.in_ok-add_target.ensures.target at file in
-    (moved.accepted, inr (inl (record {
-      absent = search (rules, c.is_there.ensures, c.if-is_there);
-      file = moved;
-      accepted_is = refl;
-    })))
+    let moved = rw c.in_ok-add_target.ensures.target at file in (
+      moved.accepted,
+      inr (inl (record {
+        absent = search (rules, c.is_there.ensures, c.if-is_there);
+        file = moved;
+        accepted_is = refl;
+      })),
+    )
 
 pub returns-then-known-clause-taken : goal.returns-then-known-clause-taken
 returns-then-known-clause-taken g c =
