@@ -60,7 +60,9 @@ held_from kind number names ((k, []) ∷ cs) h =
     inr (
       empty (plain_section number 1 (name_of k) []) kind refl,
       by-bool _ (same_kind k kind)
-          (λ same. let one = rw same at h in rw same (rw (nothing kind cs (omega (arith, one))) at rest))
+          (λ same.
+          let one = rw same at h in
+          rw same (rw (nothing kind cs (omega (arith, one))) at rest))
           (λ apart. rw apart rest),
     )
 held_from kind number names ((k, b ∷ bs) ∷ cs) h =

@@ -99,7 +99,8 @@ module _ (d : ℕ) where
   unfolding value_at past_value
   value-shifts encoding form i =
       laid past_value i (layout_of encoding form) (elim (fixed_size form) as
-      (λ s. Lays past_value i (sized_or s (sized_or (unit_size encoding form) (open_layout form)))) [
+      (λ s. Lays past_value i
+      (sized_or s (sized_or (unit_size encoding form) (open_layout form)))) [
         | Some size ↦ then _ (shifts-skip d same size i) (λ x. answered)
         | None ↦ elim (unit_size encoding form) as
             (λ s. Lays past_value i (sized_or s (open_layout form))) [
