@@ -1,11 +1,12 @@
 -- Digits taken one after the other.
-use Rattle.std.proofs.Common.{◌≡◌, ℕ, suc, ◌+◌, ◌-◌, ◌*◌, ◌^◌, ◌<◌, ◌≤◌, ◌==◌, Bool, true, false}
+use Rattle.std.proofs.Common.{◌≡◌, ℕ, ◌+◌, ◌-◌, ◌*◌, ◌^◌, ◌<◌, ◌≤◌, ◌==◌, Bool, true, false}
 use Rattle.std.proofs.Common.{cond, List, ◌∷◌, length, drop, get_or, Some, None, Option, sym, ap}
-use Rattle.std.proofs.Common.{◌∙◌, arith, drop-cons, add-one, pow-suc}
+use Rattle.std.proofs.Common.{refl, ◌∙◌, arith, drop-cons, add-one}
 use Rattle.std.proofs.Math.Nat.{pow-le-pow_right}
 use Rattle.std.specs.List.{list_all}
 use Rattle.std.proofs.lemmas.Bool.Decides.{nat_tests}
 use Rattle.std.proofs.lemmas.List.{drop_all}
+use Rattle.std.proofs.lemmas.Nat.{pow-add}
 use Rattle.dwp_archive.specs.Headers.{is_digit, decimal_from}
 
 abbrev Number : Type 0
@@ -13,31 +14,20 @@ Number = Option ℕ
 
 from_here : (field : List ℕ) (i : ℕ) → i < length field
     → drop i field ≡ get_or field i 0 ∷ drop (i + 1) field
-from_here field i h =
-    drop-cons field i 0 h ∙ ap (λ (k : ℕ). get_or field i 0 ∷ drop k field) (sym (add-one i))
+from_here field i h = rw (add-one i) (drop-cons field i 0 h)
 
 module _ (field : List ℕ) (n i : ℕ) where
   pub decimal_step : i < length field → is_digit (get_or field i 0) ≡ true
       → decimal_from n (drop i field)
       ≡ decimal_from (10 * n + (get_or field i 0 - 48)) (drop (i + 1) field)
   unfolding decimal_from
-  decimal_step h d =
-      ap (decimal_from n) (from_here field i h)
-      ∙ ap (λ (t : Bool). cond {A = Number} t
-      (decimal_from (10 * n + (get_or field i 0 - 48)) (drop (i + 1) field))
-      (cond (list_all (λ b. b == 32) (get_or field i 0 ∷ drop (i + 1) field)) (Some n) None)) d
+  decimal_step h d = rw (from_here field i h, d) refl
 
-  pub decimal_stop : i < length field → is_digit (get_or field i 0) ≡ false
+  decimal_stop : i < length field → is_digit (get_or field i 0) ≡ false
       → decimal_from n (drop i field)
       ≡ cond (list_all (λ b. b == 32) (drop i field)) (Some n) None
   unfolding decimal_from
-  decimal_stop h d =
-      ap (decimal_from n) (from_here field i h)
-      ∙ ap (λ (t : Bool). cond {A = Number} t
-      (decimal_from (10 * n + (get_or field i 0 - 48)) (drop (i + 1) field))
-      (cond (list_all (λ b. b == 32) (get_or field i 0 ∷ drop (i + 1) field)) (Some n) None)) d
-      ∙ ap (λ (bytes : List ℕ). cond {A = Number} (list_all (λ b. b == 32) bytes) (Some n) None)
-      (sym (from_here field i h))
+  decimal_stop h d = rw (from_here field i h, d) refl
 
   pub decimal_end : length field ≤ i → decimal_from n (drop i field) ≡ Some n
   unfolding decimal_from
@@ -47,8 +37,7 @@ module _ (field : List ℕ) (n i : ℕ) where
 pub stops : (field : List ℕ) (n i : ℕ) (all : Number) (blank : Bool) → i < length field
     → is_digit (get_or field i 0) ≡ false → blank ≡ list_all (λ b. b == 32) (drop i field)
     → decimal_from n (drop i field) ≡ all → cond {A = Number} blank (Some n) None ≡ all
-stops field n i all blank h d e v =
-    ap (λ (t : Bool). cond {A = Number} t (Some n) None) e ∙ sym (decimal_stop field n i h d) ∙ v
+stops field n i all blank h d e v = rw e (sym (decimal_stop field n i h d) ∙ v)
 
 pub digit_small : (b : ℕ) → is_digit b ≡ true → b - 48 < 10
 digit_small b h = grind (arith, nat_tests)
@@ -61,8 +50,4 @@ digits_fit n i d small few below =
     omega (arith, most)
 
 pub digits_grow : (n i d : ℕ) → n < 10 ^ i → d < 10 → 10 * n + d < 10 ^ (i + 1)
-digits_grow n i d small below =
-    let one : i + 1 ≡ suc i = omega arith in
-    let more : 10 ^ (i + 1) ≡ 10 * 10 ^ i = ap (λ (k : ℕ). 10 ^ k) one ∙ omega
-    (arith, pow-suc 10 i) in
-    omega (arith, more)
+digits_grow n i d small below = omega (arith, pow-add 10 i 1)

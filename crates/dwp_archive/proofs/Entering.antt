@@ -18,6 +18,11 @@ whole members = Ok members
 abbrev pub behind : List Member → Members → Members
 behind front rest = rest >>= λ members. Ok (front ++ members)
 
+-- the members of an entry, and at most n behind it
+abbrev with_more : ℕ → Result Entry ArchiveError → Members
+with_more n entry = entry >>= λ entry. members_from n entry.names entry.rest >>= λ members.
+    Ok (entry.members ++ members)
+
 some_more : (front more : List Member) (rest : Members)
     → behind front (rest >>= λ members. Ok (more ++ members)) ≡ behind (front ++ more) rest
 some_more front more (Ok members) = ap whole (sym (append_assoc front more members))
@@ -32,21 +37,15 @@ none_left n h = grind (arith, nat_tests)
 module _ (n i : ℕ) (names bytes : List ℕ) (front : List Member) where
   -- one entry of those that are left
   taken : (entry : Result Entry ArchiveError) → i < n → 0 < length bytes
-      → entry_at names bytes ≡ entry → members_from (n - i) names bytes
-      ≡ (entry >>= λ entry. members_from (n - (i + 1)) entry.names entry.rest >>= λ members.
-      Ok (entry.members ++ members))
+      → entry_at names bytes ≡ entry
+      → members_from (n - i) names bytes ≡ with_more (n - (i + 1)) entry
   unfolding members_from
   taken entry h some is = at_count bytes (n - i) (n - (i + 1)) (omega arith) some is
     where
       at_count : (bytes : List ℕ) (m k : ℕ) → m ≡ suc k → 0 < length bytes
-          → entry_at names bytes ≡ entry → members_from m names bytes
-          ≡ (entry >>= λ entry. members_from k entry.names entry.rest >>= λ members.
-          Ok (entry.members ++ members))
+          → entry_at names bytes ≡ entry → members_from m names bytes ≡ with_more k entry
       at_count [] m k e some is = absurd (omega arith)
-      at_count (b ∷ bytes) m k e some is =
-          ap (λ (m : ℕ). members_from m names (b ∷ bytes)) e
-          ∙ ap (λ (r : Result Entry ArchiveError). r >>= λ entry.
-          members_from k entry.names entry.rest >>= λ members. Ok (entry.members ++ members)) is
+      at_count (b ∷ bytes) m k e some is = rw (e, is) refl
 
   pub entry_taken : (entry : Entry) → i < n → 0 < length bytes
       → entry_at names bytes ≡ Ok entry
@@ -71,8 +70,4 @@ module _ (n i : ℕ) (names bytes : List ℕ) (front : List Member) where
 
   pub entries_done : n ≤ i → behind front (members_from (n - i) names bytes) ≡ Ok front
   unfolding members_from
-  entries_done h = ap (behind front) (none (n - i) (omega arith)) ∙ ap whole (append-nil front)
-    where
-      none : (m : ℕ) → m ≡ 0 → members_from m names bytes ≡ Ok []
-      none zero h = refl
-      none (suc m) h = absurd (omega arith)
+  entries_done h = let none : n - i ≡ 0 = omega arith in rw none (ap whole (append-nil front))

@@ -1,3 +1,2 @@
 mod Decimals
 mod Entering
-mod Firsts

@@ -1,6 +1,6 @@
 -- No two contents are of one kind, whatever is appended or cut, so there are at most 13.
-use Rattle.std.proofs.Common.{◌≡◌, ℕ, ◌+◌, ◌≤◌, Bool, true, false, cond, List, [], ◌∷◌, length}
-use Rattle.std.proofs.Common.{refl, ◌∙◌, eqb, arith, ◌⊎◌, inl, inr}
+use Rattle.std.proofs.Common.{◌≡◌, ℕ, ◌+◌, ◌≤◌, true, false, cond, List, [], ◌∷◌, length}
+use Rattle.std.proofs.Common.{refl, eqb, arith, ◌⊎◌, inl, inr}
 use Rattle.std.specs.Prelude.{Result, Ok, Err, is_ok, OnOk}
 use Rattle.std.proofs.lemmas.Bool.{eqb-true}
 use Rattle.dwp_base.specs.declared.section.SectionKind.{SectionKind}
@@ -10,10 +10,6 @@ use Rattle.dwp_base.proofs.EveryKind.{every, is-same}
 use Rattle.dwp_elf.specs.Contents.{count_of, KindsDiffer, appended, truncated, contents_of}
 use Rattle.dwp_elf.proofs.Changes.{length-contents_of}
 use Rattle.std.specs.Global.{Vec}
-
--- 1 for true
-abbrev one_if : Bool → ℕ
-one_if b = cond b 1 0
 
 -- an append changes no count, or its kind is new and stands once
 count_of-appended : (kind k : SectionKind) (bytes : List ℕ) (cs : List (SectionKind × List ℕ))
@@ -53,34 +49,17 @@ abbrev total : (SectionKind → ℕ) → List SectionKind → ℕ
 total f [] = 0
 total f (k ∷ ks) = f k + total f ks
 
-total-one : (kind : SectionKind) → total (λ k. one_if (same_kind kind k)) all_kinds ≡ 1
-total-one kind = eqb-true _ 1 (every (λ c. eqb (total (λ k. one_if (same_kind c k)) all_kinds) 1)
+total-one : (kind : SectionKind) → total (λ k. cond (same_kind kind k) 1 0) all_kinds ≡ 1
+total-one kind = eqb-true _ 1 (every (λ c. eqb (total (λ k. cond (same_kind c k) 1 0) all_kinds) 1)
     refl kind)
-
-total-add : (f g : SectionKind → ℕ) (ks : List SectionKind)
-    → total (λ k. f k + g k) ks ≡ total f ks + total g ks
-total-add f g [] = refl
-total-add f g (k ∷ ks) = omega (arith, total-add f g ks)
-
-total-le : (f : SectionKind → ℕ) (ks : List SectionKind) → ((kind : SectionKind) → f kind ≤ 1)
-    → total f ks ≤ length ks
-total-le f [] h = omega arith
-total-le f (k ∷ ks) h = omega (arith, h k, total-le f ks h)
 
 total-count_of : (cs : List (SectionKind × List ℕ)) → total (λ k. count_of k cs) all_kinds
     ≡ length cs
 total-count_of [] = refl
-total-count_of (c ∷ cs) =
-    total-add (λ k. one_if (same_kind c.0 k)) (λ k. count_of k cs) all_kinds
-    ∙ omega (arith, total-one c.0, total-count_of cs)
+total-count_of (c ∷ cs) = omega (arith, total-one c.0, total-count_of cs)
 
 pub length-KindsDiffer : (cs : List (SectionKind × List ℕ)) → KindsDiffer cs → length cs ≤ 13
-length-KindsDiffer cs h = omega (
-  arith,
-  total-count_of cs,
-  total-le (λ k.
-      count_of k cs) all_kinds h,
-)
+length-KindsDiffer cs h = omega (arith, total-count_of cs, h)
 
 pub few_sections : (sections : List (SectionKind × Vec ℕ)) → KindsDiffer (contents_of sections)
     → length sections ≤ 13

@@ -4,7 +4,3 @@ pub mod Limits
 pub mod Parts
 pub mod ReadingBack
 pub mod SoFar
-pub mod Whole
-pub mod WrittenFields
-pub mod WrittenSections
-pub mod ReadingSteps

@@ -1,12 +1,12 @@
 -- The greatest of a file's numbers decides whether all of them fit its class.
-use Rattle.std.proofs.Common.{◌≡◌, ℕ, zero, suc, ◌+◌, ◌*◌, ◌^◌, ◌<◌, ◌≤◌, List, [], ◌∷◌}
-use Rattle.std.proofs.Common.{length, refl, ap, arith, length-append}
+use Rattle.std.proofs.Common.{◌≡◌, ℕ, ◌+◌, ◌*◌, ◌^◌, ◌<◌, List, [], ◌∷◌}
+use Rattle.std.proofs.Common.{length, refl, arith, length-append}
 use Rattle.std.specs.Prelude.{Option, None, Some, MatchOption, OnOk, IfErr}
 use Rattle.std.specs.Option.{ok_or}
 use Rattle.std.specs.List.{All}
 use Rattle.std.proofs.lemmas.List.{length-replicate}
 use Rattle.std.proofs.lemmas.List.Elements.{All-cons, All-nil}
-use Rattle.std.specs.Int.{bytes_high_first, bytes_low_first}
+use Rattle.byteorder.specs.Numbers.{length-bytes_high_first, length-bytes_low_first}
 use Rattle.dwp_base.specs.declared.class.Class.{Class}
 use Rattle.dwp_base.specs.declared.class.Class.TheVariants.{Elf32, Elf64}
 use Rattle.dwp_base.specs.declared.endian.Endianness.{Endianness}
@@ -22,14 +22,6 @@ use Rattle.dwp_elf.specs.Numbers.{places_from, offsets_and_sizes, limited_by, Fi
 use Rattle.dwp_elf_read.specs.declared.error.WriteError.{WriteError}
 use Rattle.dwp_elf.specs.declared.places.Places.{Places}
 use Rattle.dwp_elf.specs.Places.{file_length, PassesLimit, ArePlaces}
-
-length-bytes_high_first : (n x : ℕ) → length (bytes_high_first n x) ≡ n
-length-bytes_high_first zero x = refl
-length-bytes_high_first (suc n) x = ap suc (length-bytes_high_first n x)
-
-length-bytes_low_first : (i n x : ℕ) → length (bytes_low_first i n x) ≡ n
-length-bytes_low_first i zero x = refl
-length-bytes_low_first i (suc n) x = ap suc (length-bytes_low_first (suc i) n x)
 
 pub length-number_bytes : (order : Endianness) (n x : ℕ) → length (number_bytes order n x) ≡ n
 length-number_bytes Little n x = length-bytes_low_first 0 n x
@@ -54,12 +46,9 @@ unfolding headers_from
 length-headers_from class order size name place [] =
     omega (arith, length-section_header class order name 3 place size)
 length-headers_from class order size name place (c ∷ cs) =
-    simp (
-      length-append,
-      length-section_header,
-      length-headers_from class order size
-          (name + length (name_of c.0) + 1) (place + length c.1) cs,
-    ) (omega arith)
+    let rest = length-headers_from class order size (name + length (name_of c.0) + 1)
+    (place + length c.1) cs in
+    simp (length-append, length-section_header, rest) (omega arith)
 
 pub length-null_header : (class : Class) → length (null_header class) ≡ entry_size class
 length-null_header Elf32 = refl
@@ -69,57 +58,44 @@ pub length-file_text : (o : Object) → length (file_text o) ≡ file_length o.c
 unfolding file_text
 length-file_text o =
     let headers = headers_place o.class o.contents in
-    omega (
-      arith,
-      length-append {A = ℕ},
-      length-file_header o.class o.order o.machine headers (section_count o.contents),
-      length-null_header o.class,
-      length-headers_from o.class o.order (length (name_table o.contents)) 1 (header_size o.class)
-          o.contents,
-      length-replicate {A = ℕ} (zeros_after (names_end o.class o.contents)) 0,
-    )
+    let header = length-file_header o.class o.order o.machine headers (section_count o.contents) in
+    let table = length-headers_from o.class o.order (length (name_table o.contents)) 1
+    (header_size o.class) o.contents in
+    let zeros = length-replicate {A = ℕ} (zeros_after (names_end o.class o.contents)) 0 in
+    omega (arith, length-append {A = ℕ}, header, length-null_header o.class, table, zeros)
 
--- each offset and size is at most where the section headers begin
-places_from-le : (size place limit : ℕ) (cs : List (SectionKind × List ℕ))
-    → place + length (content_bytes cs) ≤ limit → size ≤ limit
-    → All (λ n. n ≤ limit) (places_from size place cs)
+-- each offset and size is below a limit that where the section headers begin is below
+places_from-lt : (size place limit : ℕ) (cs : List (SectionKind × List ℕ))
+    → place + length (content_bytes cs) < limit → size < limit
+    → All (λ n. n < limit) (places_from size place cs)
 unfolding content_bytes
-places_from-le size place limit [] h k =
-    All-cons (λ n. n ≤ limit) place (size ∷ []) (omega arith) (All-cons (λ n. n ≤ limit) size [] k
-    (All-nil (λ n. n ≤ limit)))
-places_from-le size place limit (c ∷ cs) h k =
+places_from-lt size place limit [] h k =
+    let below = λ (n : ℕ). n < limit in
+    All-cons below place (size ∷ []) (omega arith) (All-cons below size [] k (All-nil below))
+places_from-lt size place limit (c ∷ cs) h k =
+    let below = λ (n : ℕ). n < limit in
     let split = length-append c.1 (content_bytes cs) in
-    All-cons (λ n. n ≤ limit) place (length c.1 ∷ places_from size (place + length c.1) cs)
-    (omega (arith, split))
-    (All-cons (λ n. n ≤ limit) (length c.1) (places_from size (place + length c.1) cs)
-    (omega (arith, split))
-    (places_from-le size (place + length c.1) limit cs (omega (arith, split)) k))
+    let rest = places_from size (place + length c.1) cs in
+    All-cons below place (length c.1 ∷ rest) (omega arith) (All-cons below (length c.1) rest
+    (omega arith) (places_from-lt size (place + length c.1) limit cs (omega arith) k))
 
 offsets_and_sizes-lt : (o : Object) (limit : ℕ) → headers_place o.class o.contents < limit
     → All (λ n. n < limit) (offsets_and_sizes o)
-offsets_and_sizes-lt o limit h =
-    let place = headers_place o.class o.contents in
-    let names = length (name_table o.contents) in
-    let small = places_from-le names (header_size o.class) place o.contents (omega arith)
-    (omega arith) in
-    let within : All (λ n. n < limit) (places_from names (header_size o.class) o.contents) =
-    λ k d l. let here = small k d l in omega (arith, here) in
-    All-cons (λ n. n < limit) place (places_from names (header_size o.class) o.contents) h within
-
-limited-lt : (class : Class) (o : Object)
-    → headers_place o.class o.contents < 2 ^ (8 * word_size class)
-    → file_length o.class o.contents < 2 ^ 64
-    → All (λ n. n < 2 ^ (8 * word_size class)) (limited_by class o)
-limited-lt Elf32 o h k = offsets_and_sizes-lt o (2 ^ 32) h
-limited-lt Elf64 o h k =
-    All-cons (λ n. n < 2 ^ 64) (length (file_text o)) (offsets_and_sizes o)
-    (omega (arith, length-file_text o)) (offsets_and_sizes-lt o (2 ^ 64) h)
+offsets_and_sizes-lt o limit h = All-cons (λ n. n < limit) _ _ h (places_from-lt
+    (length (name_table o.contents)) (header_size o.class) limit o.contents (omega arith)
+    (omega arith))
 
 -- all of them fit where the greatest do
-Fits-from : (o : Object) → headers_place o.class o.contents < 2 ^ (8 * word_size o.class)
+pub Fits-from : (o : Object) → headers_place o.class o.contents < 2 ^ (8 * word_size o.class)
     → file_length o.class o.contents < 2 ^ 64 → Fits o
 unfolding Fits
-Fits-from o = limited-lt o.class o
+Fits-from o h k = limited-lt o.class h
+  where
+    limited-lt : (class : Class) → headers_place o.class o.contents < 2 ^ (8 * word_size class)
+        → All (λ n. n < 2 ^ (8 * word_size class)) (limited_by class o)
+    limited-lt Elf32 h = offsets_and_sizes-lt o (2 ^ 32) h
+    limited-lt Elf64 h = All-cons (λ n. n < 2 ^ 64) (length (file_text o)) (offsets_and_sizes o)
+        (omega (arith, length-file_text o)) (offsets_and_sizes-lt o (2 ^ 64) h)
 
 refused_of : (class : Class) (machine : ℕ) (order : Endianness) (cs : List (SectionKind × List ℕ))
     → PassesLimit class cs
@@ -131,19 +107,18 @@ refused_of Elf64 machine order cs h fits =
     let o : Object = record { class = Elf64; machine = machine; order = order; contents = cs } in
     let first = fits 0 0 (omega arith) in absurd (omega (arith, first, length-file_text o))
 
--- and not where one of those doesn't
-pub refused-from : (o : Object) → PassesLimit o.class o.contents → ¬ Fits o
-refused-from o h = refused_of o.class o.machine o.order o.contents h
-
--- what the places of a file, or that there are none, mean for its object
-pub places-fits : (o : Object) (r : Option Places) (e : WriteError)
+-- what follows from the places of a file, where it has some
+pub of-places : (o : Object) (r : Option Places) (e : WriteError) (P : Type 0)
+    → (headers_place o.class o.contents < 2 ^ (8 * word_size o.class)
+    → file_length o.class o.contents < 2 ^ 64 → P)
     → MatchOption r (PassesLimit o.class o.contents) (ArePlaces o.class o.contents)
-    → OnOk (ok_or r e) (Fits o)
-places-fits o None e h = tt
-places-fits o (Some p) e h = Fits-from o h.place_fits h.length_fits
+    → OnOk (ok_or r e) P
+of-places o None e P f h = tt
+of-places o (Some p) e P f h = f h.place_fits h.length_fits
 
+-- a file that has none doesn't fit
 pub places-refused : (o : Object) (r : Option Places) (e : WriteError)
     → MatchOption r (PassesLimit o.class o.contents) (ArePlaces o.class o.contents)
     → IfErr (ok_or r e) (λ x. (x ≡ e) × ¬ Fits o)
-places-refused o None e h = (refl, refused-from o h)
+places-refused o None e h = (refl, refused_of o.class o.machine o.order o.contents h)
 places-refused o (Some p) e h = tt

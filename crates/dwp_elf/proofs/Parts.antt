@@ -1,7 +1,7 @@
--- Lemmas on the parts of a file, section by section.
-use Rattle.std.proofs.Common.{◌≡◌, ℕ, ◌+◌, ◌*◌, ◌^◌, ◌<◌, ◌≤◌, List, [], ◌∷◌, ◌++◌}
-use Rattle.std.proofs.Common.{length, drop, get_or, refl, ◌∙◌, arith, add-one}
-use Rattle.std.proofs.Common.{length-append, append_assoc, nat_le}
+-- Lemmas on the parts of a file, section by section, and one after the other.
+use Rattle.std.proofs.Common.{◌≡◌, ℕ, ◌+◌, ◌*◌, ◌^◌, ◌<◌, ◌≤◌, List, [], ◌∷◌, ◌++◌, replicate}
+use Rattle.std.proofs.Common.{length, drop, get_or, refl, sym, ◌∙◌, arith, add-one, length-append}
+use Rattle.std.proofs.Common.{append_assoc, nat_le, subst}
 use Rattle.std.specs.Global.{Vec}
 use Rattle.std.proofs.Math.Seq.{drop-cons}
 use Rattle.std.proofs.lemmas.List.{at_drop_all}
@@ -12,80 +12,107 @@ use Rattle.dwp_base.specs.declared.class.Class.TheVariants.{Elf32, Elf64}
 use Rattle.dwp_base.specs.declared.endian.Endianness.{Endianness}
 use Rattle.dwp_base.specs.Sections.{name_of}
 use Rattle.dwp_base.proofs.EveryKind.{every}
+use Rattle.dwp_elf_read.specs.Layout.{word_size, header_size, entry_size}
+use Rattle.dwp_elf.specs.declared.places.Places.{Places}
+use Rattle.dwp_elf.specs.declared.object.WritableObject.TheInside.{Inside}
 use Rattle.dwp_elf.specs.Contents.{contents_of}
-use Rattle.dwp_elf_read.specs.Layout.{word_size}
-use Rattle.dwp_elf.specs.FileText.{content_bytes, names_of, headers_from, section_header}
+use Rattle.dwp_elf.specs.FileText.{Object, file_header, content_bytes, names_of, name_table}
+use Rattle.dwp_elf.specs.FileText.{names_end, zeros_after, headers_place, section_count}
+use Rattle.dwp_elf.specs.FileText.{section_headers, headers_from, section_header, file_text}
+use Rattle.dwp_elf.specs.Object.{object_of}
+use Rattle.dwp_elf.specs.Places.{ArePlaces}
+use Rattle.dwp_elf.proofs.Changes.{Sections, length-contents_of}
 
--- the section at a place, and those after it
-drop-item : (xs : List (SectionKind × Vec ℕ)) (i : ℕ) (x : SectionKind × Vec ℕ) → i < length xs
-    → x ≡ get_or xs i x → drop i xs ≡ x ∷ drop (i + 1) xs
-drop-item xs i x h e = drop-cons xs i x h ∙ rw (← e, add-one i) refl
+-- what stands from a section on is its part and what stands from the next on
+module _ (xs : Sections) (i : ℕ) (x : SectionKind × Vec ℕ) (h : i < length xs)
+    (e : x ≡ get_or xs i x) where
+  drop-item : drop i xs ≡ x ∷ drop (i + 1) xs
+  drop-item = drop-cons xs i x h ∙ rw (← e, add-one i) refl
 
-pub content_bytes-drop : (xs : List (SectionKind × Vec ℕ)) (i : ℕ) (x : SectionKind × Vec ℕ)
-    → i < length xs → x ≡ get_or xs i x
-    → content_bytes (contents_of (drop i xs)) ≡ x.1.items ++ content_bytes
-    (contents_of (drop (i + 1) xs))
-unfolding content_bytes
-content_bytes-drop xs i x h e = rw (drop-item xs i x h e) refl
+  pub content_bytes-drop : content_bytes (contents_of (drop i xs))
+      ≡ x.1.items ++ content_bytes (contents_of (drop (i + 1) xs))
+  unfolding content_bytes
+  content_bytes-drop = rw drop-item refl
 
-pub names_of-drop : (xs : List (SectionKind × Vec ℕ)) (i : ℕ) (x : SectionKind × Vec ℕ)
-    (name : List ℕ) → i < length xs → x ≡ get_or xs i x → name ≡ name_of x.0
-    → names_of (contents_of (drop i xs)) ≡ name ++ (0 ∷ names_of (contents_of (drop (i + 1) xs)))
-unfolding names_of
-names_of-drop xs i x name h e named = rw (drop-item xs i x h e, named, append_assoc) refl
+  pub names_of-drop : (name : List ℕ) → name ≡ name_of x.0
+      → names_of (contents_of (drop i xs)) ≡ name ++ (0 ∷ names_of (contents_of (drop (i + 1) xs)))
+  unfolding names_of
+  names_of-drop name named = rw (drop-item, named, append_assoc) refl
+
+  -- the same for lengths
+  pub length-content_bytes-drop : length (content_bytes (contents_of (drop i xs)))
+      ≡ length x.1.items + length (content_bytes (contents_of (drop (i + 1) xs)))
+  length-content_bytes-drop = rw content_bytes-drop (length-append _ _)
+
+  pub length-names_of-drop : length (names_of (contents_of (drop i xs)))
+      ≡ length (name_of x.0) + 1 + length (names_of (contents_of (drop (i + 1) xs)))
+  length-names_of-drop =
+      rw (names_of-drop (name_of x.0) refl) (omega (arith, length-append {A = ℕ}))
+
+  -- a section's header, and what its name and its content leave to those after it
+  pub headers_from-drop : (class : Class) (order : Endianness) (size name place n : ℕ)
+      (bytes header : List ℕ) → n ≡ length x.1.items
+      → header ≡ section_header class order name 1 place n → bytes ≡ name_of x.0
+      → headers_from class order size name place (contents_of (drop i xs))
+      ≡ header ++ headers_from class order size (name + (length bytes + 1)) (place + n)
+      (contents_of (drop (i + 1) xs))
+  unfolding headers_from
+  headers_from-drop class order size name place n bytes header l made named =
+      let next : name + (length (name_of x.0) + 1) ≡ name + length (name_of x.0) + 1 =
+      omega arith in
+      rw (drop-item, made, named, next, l) refl
 
 -- past the last section
-pub content_bytes-end : (xs : List (SectionKind × Vec ℕ)) (i : ℕ) → length xs ≤ i
+pub content_bytes-end : (xs : Sections) (i : ℕ) → length xs ≤ i
     → content_bytes (contents_of (drop i xs)) ≡ []
 unfolding content_bytes
 content_bytes-end = at_drop_all (λ xs. content_bytes (contents_of xs))
 
-pub names_of-end : (xs : List (SectionKind × Vec ℕ)) (i : ℕ) → length xs ≤ i
+pub names_of-end : (xs : Sections) (i : ℕ) → length xs ≤ i
     → names_of (contents_of (drop i xs)) ≡ []
 unfolding names_of
 names_of-end = at_drop_all (λ xs. names_of (contents_of xs))
+
+pub headers_from-end : (class : Class) (order : Endianness) (size name place : ℕ) (xs : Sections)
+    (i : ℕ) → length xs ≤ i → headers_from class order size name place (contents_of (drop i xs))
+    ≡ section_header class order name 3 place size
+unfolding headers_from
+headers_from-end class order size name place =
+    at_drop_all (λ xs. headers_from class order size name place (contents_of xs))
 
 -- no name has more than 24 bytes
 pub length-name_of : (kind : SectionKind) → length (name_of kind) ≤ 24
 length-name_of kind = leb-true _ 24 (every (λ k. nat_le (length (name_of k)) 24) refl kind)
 
--- the same for lengths
-pub length-content_bytes-drop : (xs : List (SectionKind × Vec ℕ)) (i : ℕ) (x : SectionKind × Vec ℕ)
-    → i < length xs → x ≡ get_or xs i x
-    → length (content_bytes (contents_of (drop i xs))) ≡ length x.1.items + length
-    (content_bytes (contents_of (drop (i + 1) xs)))
-length-content_bytes-drop xs i x h e = rw (content_bytes-drop xs i x h e) (length-append _ _)
-
-pub length-names_of-drop : (xs : List (SectionKind × Vec ℕ)) (i : ℕ) (x : SectionKind × Vec ℕ)
-    → i < length xs → x ≡ get_or xs i x
-    → length (names_of (contents_of (drop i xs))) ≡ length (name_of x.0) + 1 + length
-    (names_of (contents_of (drop (i + 1) xs)))
-length-names_of-drop xs i x h e =
-    rw (names_of-drop xs i x (name_of x.0) h e refl) (omega (arith, length-append {A = ℕ}))
-
--- the header of the section at a place, and what its name and its content leave to those after it
-pub headers_from-drop : (class : Class) (order : Endianness)
-    (size name place length_here name' place' : ℕ) (header : List ℕ)
-    (xs : List (SectionKind × Vec ℕ)) (i : ℕ) (x : SectionKind × Vec ℕ)
-    → i < length xs → x ≡ get_or xs i x → length_here ≡ length x.1.items
-    → header ≡ section_header class order name 1 place length_here
-    → name' ≡ name + length (name_of x.0) + 1 → place' ≡ place + length_here
-    → headers_from class order size name place (contents_of (drop i xs))
-    ≡ header ++ headers_from class order size name' place' (contents_of (drop (i + 1) xs))
-unfolding headers_from
-headers_from-drop class order size name place length_here name' place' header xs i x
-    h e l made n p =
-    rw (drop-item xs i x h e, made, n, p, l) refl
-
-pub headers_from-end : (class : Class) (order : Endianness) (size name place : ℕ)
-    (xs : List (SectionKind × Vec ℕ)) (i : ℕ) → length xs ≤ i
-    → headers_from class order size name place (contents_of (drop i xs)) ≡ section_header class
-    order name 3 place size
-unfolding headers_from
-headers_from-end class order size name place =
-    at_drop_all (λ xs. headers_from class order size name place (contents_of xs))
-
 -- what the class limits is within 64 bits
 pub limit-le : (class : Class) → 2 ^ (8 * word_size class) ≤ 2 ^ 64
 limit-le Elf32 = omega arith
 limit-le Elf64 = omega arith
+
+-- what stands from the zeros, the names and the contents on
+abbrev pub from_zeros : Object → List ℕ
+from_zeros o = replicate (zeros_after (names_end o.class o.contents)) 0 ++ section_headers o
+
+abbrev pub from_names : Object → List ℕ
+from_names o = name_table o.contents ++ from_zeros o
+
+abbrev pub from_contents : Object → List ℕ
+from_contents o = content_bytes o.contents ++ from_names o
+
+pub file_text-split : (o : Object) → file_text o ≡ file_header o.class o.order o.machine
+    (headers_place o.class o.contents) (section_count o.contents) ++ from_contents o
+unfolding file_text
+file_text-split o = simp append_assoc
+
+-- the same, where the header was made from the places, and for each number what wrote it out
+pub text_parts : (w : Inside) (o : Object) (p : Places) (header : List ℕ) (count entry : ℕ)
+    → object_of w ≡ o → ArePlaces o.class o.contents p → count ≡ w.sections.len
+    → header ≡ file_header w.class w.endianness w.machine p.headers (count + 2)
+    → entry ≡ entry_size w.class → file_text o ≡ header ++ (content_bytes
+    (contents_of w.sections.items) ++ (name_table (contents_of w.sections.items) ++ (replicate
+    p.zeros 0 ++ (replicate entry 0 ++ headers_from w.class w.endianness p.names_size 1
+    (header_size w.class) (contents_of w.sections.items)))))
+text_parts w o p header count entry is placed counted made sized =
+    let are = subst (λ (x : Object). ArePlaces x.class x.contents p) (sym is) placed in
+    let count = counted ∙ w.sections.ok.0 ∙ sym (length-contents_of w.sections.items) in
+    rw (← is, file_text-split, made, sized, are.headers, are.zeros, are.names_size, count) refl

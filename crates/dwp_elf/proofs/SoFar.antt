@@ -1,9 +1,9 @@
 -- Lemmas on bytes that are written piece by piece.
-use Rattle.std.proofs.Common.{◌≡◌, ℕ, suc, ◌+◌, ◌<◌, List, [], ◌∷◌, ◌++◌, length, take, Some, None}
-use Rattle.std.proofs.Common.{refl, sym, ap, ◌∙◌, subst, arith, append_assoc, append-nil}
-use Rattle.std.proofs.Common.{length-append}
+use Rattle.std.proofs.Common.{◌≡◌, ℕ, ◌+◌, ◌<◌, List, [], ◌++◌, length, take, Some, None, refl, sym}
+use Rattle.std.proofs.Common.{ap, ◌∙◌, arith, append_assoc, append-nil, length-append}
 use Rattle.std.specs.Prelude.{Option, Result, Ok, Err, IsErrAnd}
-use Rattle.std.proofs.lemmas.List.{take-append-le, take_at}
+use Rattle.std.proofs.Math.Seq.{take-append-add}
+use Rattle.std.proofs.lemmas.List.{take-append-le}
 use Rattle.std.specs.Io.KnownBytes.{Appends, Keeps}
 use Rattle.std.proofs.KnownBytes.{Appends-nil, Appends-trans, Appends-kept}
 use Rattle.dwp_elf.specs.Writing.{AppendsPart, Writes}
@@ -27,16 +27,6 @@ so_far_more {a = a} {b = b} c rest piece rest' s e p =
       appended = Appends-trans a b c s.done piece s.appended p;
     }
 
-pub so_far_all : {a b : Option (List ℕ)} {all rest : List ℕ} → SoFar a b all rest → rest ≡ []
-    → Appends a b all
-so_far_all {a = a} {b = b} s e =
-    subst (Appends a b) (sym (s.split ∙ ap (λ l. s.done ++ l) e ∙ append-nil s.done)) s.appended
-
-take-append-add : (xs ys : List ℕ) (n : ℕ) → take (length xs + n) (xs ++ ys) ≡ xs ++ take n ys
-take-append-add [] ys n = ap (λ k. take k ys) (omega arith)
-take-append-add (x ∷ xs) ys n = let e : length (x ∷ xs) + n ≡ suc (length xs + n) = omega arith in
-    rw e (ap (λ l. x ∷ l) (take-append-add xs ys n))
-
 -- a part of what comes after something that was appended whole
 pub part_after : {a b c : Option (List ℕ)} (x : List ℕ) {y : List ℕ} → Appends a b x
     → AppendsPart b c y → AppendsPart a c (x ++ y)
@@ -44,38 +34,17 @@ part_after {a = a} {b = b} {c = c} x {y = y} p q =
     record {
       count = length x + q.count;
       part = omega (arith, length-append x y, q.part);
-      appended = subst (Appends a c) (sym (take-append-add x y q.count))
-          (Appends-trans a b c x (take q.count y) p q.appended);
+      appended = rw take-append-add (Appends-trans a b c x (take q.count y) p q.appended);
     }
 
 -- a part of a beginning is a part of the whole
 pub part_before : {a b : Option (List ℕ)} {x : List ℕ} (y : List ℕ) → AppendsPart a b x
     → AppendsPart a b (x ++ y)
-part_before {a = a} {b = b} {x = x} y q =
-    let here = q.part in
+part_before {x = x} y q =
     record {
       count = q.count;
-      part = omega (arith, length-append x y, here);
-      appended = subst (Appends a b) (sym (take-append-le q.count x y (omega (arith, here))))
-          q.appended;
-    }
-
-pub so_far_part : {a b : Option (List ℕ)} {all : List ℕ} (c : Option (List ℕ))
-    (rest piece rest' : List ℕ) → SoFar a b all rest → rest ≡ piece ++ rest'
-    → AppendsPart b c piece → AppendsPart a c all
-so_far_part {a = a} c rest piece rest' s e q =
-    subst (AppendsPart a c) (sym (s.split ∙ ap (λ l. s.done ++ l) e)) (part_after s.done s.appended
-    (part_before rest' q))
-
--- where nothing more was appended, and something is left
-pub so_far_stop : {a b : Option (List ℕ)} {all rest : List ℕ} (c : Option (List ℕ))
-    → SoFar a b all rest → 0 < length rest → Keeps b c → AppendsPart a c all
-so_far_stop {a = a} {b = b} {all = all} {rest = rest} c s some k =
-    record {
-      count = length s.done;
-      part = omega (arith, ap length s.split, length-append s.done rest);
-      appended = subst (Appends a c) (sym (ap (take (length s.done)) s.split ∙ take_at s.done rest
-          (length s.done) refl)) (Appends-kept a b c s.done s.appended k);
+      part = omega (arith, length-append x y);
+      appended = rw (take-append-le q.count x y (omega arith)) q.appended;
     }
 
 -- no bytes were appended
@@ -91,10 +60,26 @@ pub Writes-after : {E : Type 0} (r : Result (Unit {0}) E) (a b c : Option (List 
 Writes-after (Ok u) a b c x y p q = Appends-trans a b c x y p q
 Writes-after (Err e) a b c x y p q = part_after x p q
 
-pub Writes-so_far : {E : Type 0} (r : Result (Unit {0}) E) (a b c : Option (List ℕ))
-    (all rest : List ℕ) → SoFar a b all rest → Writes r b c rest → Writes r a c all
-Writes-so_far r a b c all rest s q = subst (Writes r a c) (sym s.split) (Writes-after r a b c s.done
-    rest s.appended q)
+module _ {a b : Option (List ℕ)} {all rest : List ℕ} (s : SoFar a b all rest) where
+  pub so_far_all : rest ≡ [] → Appends a b all
+  so_far_all e = rw (s.split, e, append-nil s.done) s.appended
+
+  pub so_far_part : (c : Option (List ℕ)) (piece rest' : List ℕ) → rest ≡ piece ++ rest'
+      → AppendsPart b c piece → AppendsPart a c all
+  so_far_part c piece rest' e q =
+      rw (s.split, e) (part_after s.done s.appended (part_before rest' q))
+
+  -- where nothing more was appended, and something is left
+  pub so_far_stop : (c : Option (List ℕ)) → 0 < length rest → Keeps b c → AppendsPart a c all
+  so_far_stop c some k = rw s.split (part_after s.done s.appended (record {
+    count = 0;
+    part = some;
+    appended = Appends-kept b b c [] (Appends-nil b) k;
+  }))
+
+  pub Writes-so_far : {E : Type 0} (r : Result (Unit {0}) E) (c : Option (List ℕ))
+      → Writes r b c rest → Writes r a c all
+  Writes-so_far r c q = rw s.split (Writes-after r a b c s.done rest s.appended q)
 
 -- what a step that failed has written, as the function returns its error
 pub failed : {E : Type 0} (F : E → Type 0) {a b : Option (List ℕ)} {bs : List ℕ}

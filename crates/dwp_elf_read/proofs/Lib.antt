@@ -1,4 +1,3 @@
-pub mod Ranges
 pub mod Names
 pub mod Places
 pub mod ShortNames

@@ -1,7 +1,6 @@
 -- Texts in a string table: what `memchr` and `from_utf8` say, as the definitions put it.
-use Rattle.std.proofs.Common.{refl, Result, Ok, Err, MatchResult, option_map, ◌≡◌, ℕ, ◌==◌, Bool}
-use Rattle.std.proofs.Common.{cond, List, Option, Some, None, length}
-use Rattle.std.proofs.Common.{take, drop, get_or, position, ap, ◌∙◌, sym, arith}
+use Rattle.std.proofs.Common.{refl, Result, Ok, Err, MatchResult, option_map, ◌≡◌, ℕ, ◌==◌, List}
+use Rattle.std.proofs.Common.{Option, Some, None, length, take, drop, get_or, position, arith}
 use Rattle.std.specs.Option.{option_and_then}
 use Rattle.std.specs.Result.{result_ok}
 use Rattle.std.specs.Str.{IsUtf8, is_utf8}
@@ -11,21 +10,14 @@ use Rattle.std.proofs.lemmas.Str.{IsUtf8-from_is_utf8, is_utf8-from_IsUtf8}
 use Rattle.memchr.specs.Find.{IsFirstByte, is_byte}
 use Rattle.dwp_elf_read.specs.Elf.{text_of, text_at}
 
-pub text_of_some : (bytes : List ℕ) → IsUtf8 bytes → text_of bytes ≡ Some bytes
-unfolding text_of
-text_of_some bytes h = ap (λ (b : Bool). cond b (Some bytes) None) (is_utf8-from_IsUtf8 bytes h)
-
-pub text_of_none : (bytes : List ℕ) → ¬ IsUtf8 bytes → text_of bytes ≡ None
-unfolding text_of
-text_of_none bytes h = ap (λ (b : Bool). cond b (Some bytes) None)
-    (false_from_ne_true (is_utf8 bytes) (λ e. h (IsUtf8-from_is_utf8 bytes e)))
-
 -- what `from_utf8` answers, its error left out
 pub text_of_result : {T E : Type 0} (view : T → List ℕ) (F : E → Type 0) (bytes : List ℕ)
     (r : Result T E) → MatchResult r (λ s. (view s ≡ bytes) × IsUtf8 bytes) (λ e. (¬ IsUtf8 bytes)
     × F e) → option_map view (result_ok r) ≡ text_of bytes
-text_of_result view F bytes (Ok s) h = ap Some h.0 ∙ sym (text_of_some bytes h.1)
-text_of_result view F bytes (Err e) h = sym (text_of_none bytes h.0)
+unfolding text_of
+text_of_result view F bytes (Ok s) h = rw (h.0, is_utf8-from_IsUtf8 bytes h.1) refl
+text_of_result view F bytes (Err e) h =
+    rw (false_from_ne_true (is_utf8 bytes) (λ e. h.0 (IsUtf8-from_is_utf8 bytes e))) refl
 
 -- the first zero byte, as `memchr` says it and as `position` does
 position_first : (bytes : List ℕ) (r : Option ℕ) → IsFirstByte (is_byte 0) bytes r

@@ -1,22 +1,41 @@
 -- The sections of a file by number, and the entries of a table.
-use Rattle.std.proofs.Common.{◌≡◌, ℕ, ◌+◌, ◌-◌, ◌*◌, ◌<◌, ◌≤◌, Bool, true, false, cond, List, []}
-use Rattle.std.proofs.Common.{◌∷◌, ◌++◌, Some, None, Result, Ok, length, map, slice_get, find, ap}
-use Rattle.std.proofs.Common.{◌∙◌, sym, arith}
+use Rattle.std.proofs.Common.{◌≡◌, ℕ, zero, suc, ◌+◌, ◌-◌, ◌*◌, ◌<◌, ◌≤◌, Bool, true, false, List}
+use Rattle.std.proofs.Common.{[], ◌∷◌, Some, None, Result, Ok, length, map, slice_get, find, ap}
+use Rattle.std.proofs.Common.{refl, ◌∙◌, arith}
+use Rattle.std.specs.List.{range_with_len}
 use Rattle.std.proofs.lemmas.List.{length-map}
 use Rattle.std.proofs.lemmas.List.FromFn.{length-map-range_with_len}
 use Rattle.std.proofs.lemmas.Option.{slice_get_past}
-use Rattle.dwp_elf_read.proofs.Ranges.{range-more, range-done, slice_get-range}
 use Rattle.dwp_elf_read.specs.declared.error.ReadError.{ReadError}
 use Rattle.dwp_elf_read.specs.declared.file.ElfFile.{ElfFile}
 use Rattle.dwp_elf_read.specs.declared.relocation.RawRelocation.{RawRelocation}
 use Rattle.dwp_elf_read.specs.declared.relocations.Relocations.{Relocations}
 use Rattle.dwp_elf_read.specs.declared.section.Section.{Section}
 use Rattle.dwp_elf_read.specs.declared.table.Table.{Table}
-use Rattle.dwp_elf_read.specs.Elf.{Elf, SectionMeaning, sections_from}
+use Rattle.dwp_elf_read.specs.Elf.{SectionMeaning, sections_from}
 use Rattle.dwp_elf_read.specs.Relocation.{relocation_at, relocation_size, entries_from}
 use Rattle.dwp_elf_read.specs.Relocation.{entries_then, relocates, table_of, relocations_in}
 use Rattle.dwp_elf_read.specs.View.{elf, file, section, placed, placed_sections, sections_after}
 use Rattle.dwp_elf_read.specs.View.{sections_left, nth, entries_left, relocations_left}
+
+-- ---- a list made from the numbers of a range: its first item, its end, an item by its number
+
+range-more : (i n : ℕ) → i < n → range_with_len i (n - i) ≡ i ∷ range_with_len (i + 1) (n - (i + 1))
+range-more i n h = let e : n - i ≡ suc (n - (i + 1)) = omega arith in ap (range_with_len i) e
+
+range-done : (i n : ℕ) → n ≤ i → range_with_len i (n - i) ≡ []
+range-done i n h = let e : n - i ≡ 0 = omega arith in ap (range_with_len i) e
+
+slice_get-range : {X : Type 0} (f : ℕ → X) → (a n i : ℕ) → i < n
+    → slice_get (map f (range_with_len a n)) i ≡ Some (f (a + i))
+slice_get-range f a zero i h = absurd (omega arith)
+slice_get-range f a (suc n) zero h =
+    let e : a ≡ a + 0 = omega arith in ap (λ (k : ℕ). Some (f k)) e
+slice_get-range f a (suc n) (suc i) h =
+    let e : (a + 1) + i ≡ a + suc i = omega arith in
+    slice_get-range f (a + 1) n i (omega arith) ∙ ap (λ (k : ℕ). Some (f k)) e
+
+-- ---- the sections by number
 
 pub length_sections : (f : ElfFile) → length (elf f).sections ≡ f.count
 unfolding elf sections_after sections_from
@@ -46,13 +65,11 @@ slice_get_sections_past f i h = slice_get_past (elf f).sections i (omega (arith,
 -- the first section from i on that passes is the one at i, or it is further on
 pub find_hit : (p : SectionMeaning → Bool) (f : ElfFile) (i : ℕ) → i < f.count → p (nth f i) ≡ true
     → find p (sections_after f i) ≡ Some (nth f i)
-find_hit p f i h e = ap (find p) (sections_more f i h) ∙ ap (λ (b : Bool). cond b (Some (nth f i))
-    (find p (sections_after f (i + 1)))) e
+find_hit p f i h e = rw (sections_more f i h, e) refl
 
 pub find_miss : (p : SectionMeaning → Bool) (f : ElfFile) (i : ℕ) → i < f.count
     → p (nth f i) ≡ false → find p (sections_after f i) ≡ find p (sections_after f (i + 1))
-find_miss p f i h e = ap (find p) (sections_more f i h) ∙ ap (λ (b : Bool). cond b (Some (nth f i))
-    (find p (sections_after f (i + 1)))) e
+find_miss p f i h e = rw (sections_more f i h, e) refl
 
 pub find_end : (p : SectionMeaning → Bool) (f : ElfFile) (i : ℕ) → f.count ≤ i
     → find p (sections_after f i) ≡ None
@@ -63,20 +80,12 @@ pub sections_left_more : (f : ElfFile) (i : ℕ) (s : Section) → i < f.count �
     → file s ≡ elf f → sections_left (record { file = f; next = i }) ≡ placed s ∷ sections_left
     (record { file = f; next = i + 1 })
 unfolding sections_left
-sections_left_more f i s h here in_file =
-    ap (placed_sections (elf f)) (sections_more f i h)
-    ∙ ap (λ (e : Elf). record { file = e; section = nth f i } ∷ placed_sections (elf f)
-    (sections_after f (i + 1))) (sym in_file)
-    ∙ ap (λ (m : SectionMeaning). record { file = file s; section = m } ∷ placed_sections (elf f)
-    (sections_after f (i + 1))) (sym here)
+sections_left_more f i s h here in_file = rw (sections_more f i h, in_file, here) refl
 
 pub sections_left_done : (f : ElfFile) (i : ℕ) → f.count ≤ i
     → sections_left (record { file = f; next = i }) ≡ []
 unfolding sections_left
 sections_left_done f i h = ap (placed_sections (elf f)) (sections_done f i h)
-
-abbrev entry_ok : RawRelocation → Result RawRelocation ReadError
-entry_ok r = Ok r
 
 pub length_sections_left : (f : ElfFile)
     → length (sections_left (record { file = f; next = 0 })) ≡ f.count
@@ -89,53 +98,35 @@ pub entries_more : (t : Table) → t.next < t.count → entries_left t ≡ Ok
     (t.next * relocation_size t.entries.class t.explicit)) ∷ entries_left
     (record t { next = t.next + 1 })
 unfolding entries_left entries_from
-entries_more t h =
-    ap (map (λ (k : ℕ). entry_ok (relocation_at t.entries.class t.entries.order t.explicit t.link
-    t.entries.bytes.now (k * relocation_size t.entries.class t.explicit))))
-    (range-more t.next t.count h)
+entries_more t h = rw (range-more t.next t.count h) refl
 
 pub entries_done : (t : Table) → t.count ≤ t.next → entries_left t ≡ []
 unfolding entries_left entries_from
-entries_done t h =
-    ap (map (λ (k : ℕ). entry_ok (relocation_at t.entries.class t.entries.order t.explicit t.link
-    t.entries.bytes.now (k * relocation_size t.entries.class t.explicit))))
-    (range-done t.next t.count h)
+entries_done t h = rw (range-done t.next t.count h) refl
 
 -- what is left once the entries of the table are given
 abbrev pub others : Relocations → ℕ → List (Result RawRelocation ReadError)
 others it i = relocations_in it.file.image.class it.file.image.order it.target
     (sections_after it.file i)
 
-left_others : (it : Relocations) → entries_left it.table ≡ [] → relocations_left it ≡
-    others it it.section
-unfolding relocations_left
-left_others it none = ap (λ (front : List (Result RawRelocation ReadError)).
-    front ++ others it it.section) none
-
 pub left_done : (it : Relocations) → entries_left it.table ≡ [] → it.file.count ≤ it.section
     → relocations_left it ≡ []
-unfolding relocations_in
-left_done it none h = left_others it none ∙ ap (relocations_in it.file.image.class
-    it.file.image.order it.target) (sections_done it.file it.section h)
+unfolding relocations_left relocations_in
+left_done it none h = rw (none, sections_done it.file it.section h) refl
 
 left_more : (it : Relocations) (s : SectionMeaning) → entries_left it.table ≡ []
     → it.section < it.file.count → s ≡ nth it.file it.section → relocations_left it ≡ relocations_in
     it.file.image.class it.file.image.order it.target (s ∷ sections_after it.file (it.section + 1))
+unfolding relocations_left
 left_more it s none h here =
-    left_others it none ∙ ap (relocations_in it.file.image.class it.file.image.order it.target)
-    (sections_more it.file it.section h ∙ ap (λ (m : SectionMeaning). m ∷ sections_after it.file
-    (it.section + 1)) (sym here))
+    rw (none, sections_more it.file it.section h, ← here) refl
 
 -- a section that has no relocations of the target is passed over
 pub left_passed : (it : Relocations) (s : SectionMeaning) → entries_left it.table ≡ []
     → it.section < it.file.count → s ≡ nth it.file it.section → relocates it.target s ≡ false
     → relocations_left it ≡ others it (it.section + 1)
 unfolding relocations_in
-left_passed it s none h here passes =
-    left_more it s none h here
-    ∙ ap (λ (b : Bool). cond b (entries_then it.file.image.class it.file.image.order s
-    (table_of it.file.image.class s) (others it (it.section + 1))) (others it (it.section + 1)))
-    passes
+left_passed it s none h here passes = rw (left_more it s none h here, passes) refl
 
 -- one that has some gives them first
 pub left_entered : (it : Relocations) (s : SectionMeaning) → entries_left it.table ≡ []
@@ -143,15 +134,10 @@ pub left_entered : (it : Relocations) (s : SectionMeaning) → entries_left it.t
     → relocations_left it ≡ entries_then it.file.image.class it.file.image.order s
     (table_of it.file.image.class s) (others it (it.section + 1))
 unfolding relocations_in
-left_entered it s none h here enters =
-    left_more it s none h here
-    ∙ ap (λ (b : Bool). cond b (entries_then it.file.image.class it.file.image.order s
-    (table_of it.file.image.class s) (others it (it.section + 1))) (others it (it.section + 1)))
-    enters
+left_entered it s none h here enters = rw (left_more it s none h here, enters) refl
 
 -- one table that is at its end is as good as another
 pub left_same : (it : Relocations) (t : Table) → entries_left it.table ≡ [] → entries_left t ≡ []
     → relocations_left it ≡ relocations_left (record it { table = t })
 unfolding relocations_left
-left_same it t old new = ap (λ (front : List (Result RawRelocation ReadError)).
-    front ++ others it it.section) (old ∙ sym new)
+left_same it t old new = rw (old, new) refl

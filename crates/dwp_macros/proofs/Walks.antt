@@ -1,6 +1,6 @@
 -- Sections taken one after the other, from the last.
 use Rattle.std.proofs.Common.{◌≡◌, ℕ, zero, suc, ◌+◌, ◌≤◌, Bool, false, ◌||◌, ◌&&◌, List, [], ◌∷◌}
-use Rattle.std.proofs.Common.{length, drop, Some, sym, ap, ◌∙◌, arith}
+use Rattle.std.proofs.Common.{length, drop, Some, refl, ap, arith}
 use Rattle.std.specs.Prelude.{slice_get, if◌then◌else◌}
 use Rattle.std.specs.List.{list_any}
 use Rattle.std.proofs.lemmas.List.{drop_all}
@@ -16,16 +16,13 @@ at_suc (y ∷ ys) (suc i) x e = at_suc ys i x e
 -- the items from the i-th on are it and those from the j-th on
 pub drop_step : {X : Type 0} (xs : List X) (i j : ℕ) (x : X) → j ≡ i + 1 → slice_get xs i ≡ Some x
     → drop i xs ≡ x ∷ drop j xs
-drop_step xs i j x n e =
-    let one : suc i ≡ j = omega arith in at_suc xs i x e ∙ ap (λ k. x ∷ drop k xs) one
+drop_step xs i j x n e = let one : j ≡ suc i = omega arith in rw one (at_suc xs i x e)
 
 -- an item from the i-th on passes
 pub any_step : {X : Type 0} (p : X → Bool) (xs : List X) (i j : ℕ) (x : X) (here behind : Bool)
     → j ≡ i + 1 → slice_get xs i ≡ Some x → here ≡ p x → behind ≡ list_any p (drop j xs)
     → (here || behind) ≡ list_any p (drop i xs)
-any_step p xs i j x here behind n e h b =
-    ap (λ (a : Bool). a || behind) h ∙ ap (λ (a : Bool). p x || a) b
-    ∙ sym (ap (λ (l : List _). list_any p l) (drop_step xs i j x n e))
+any_step p xs i j x here behind n e h b = rw (h, b, drop_step xs i j x n e) refl
 
 module _ (xs : List SectionMeaning) (i j : ℕ) (x : SectionMeaning) (behind : Bool)
     (next : j ≡ i + 1) (at : slice_get xs i ≡ Some x)
@@ -33,34 +30,26 @@ module _ (xs : List SectionMeaning) (i j : ℕ) (x : SectionMeaning) (behind : B
   pub several_step : (several here : Bool) → several ≡ has_several (drop j xs)
       → here ≡ has_macros x → (several || (here && behind)) ≡ has_several (drop i xs)
   unfolding has_several
-  several_step several here s h =
-      ap (λ (a : Bool). a || (here && behind)) s
-      ∙ ap (λ (a : Bool). has_several (drop j xs) || (a && behind)) h
-      ∙ ap (λ (a : Bool). has_several (drop j xs) || (has_macros x && a)) more
-      ∙ sym (ap (λ (l : List SectionMeaning). has_several l) (drop_step xs i j x next at))
+  several_step several here s h = rw (s, h, more, drop_step xs i j x next at) refl
 
   pub kept_step : (ys : List SectionMeaning) (y : SectionMeaning) → slice_get ys i ≡ Some y
       → y ≡ (if has_macros x && behind then emptied x else x)
       → drop j ys ≡ kept_sections (drop j xs) → drop i ys ≡ kept_sections (drop i xs)
   unfolding kept_sections kept_section
   kept_step ys y is e rest =
-      drop_step ys i j y next is ∙ ap (λ (z : SectionMeaning). z ∷ drop j ys) e
-      ∙ ap (λ (a : Bool). (if has_macros x && a then emptied x else x) ∷ drop j ys) more
-      ∙ ap (λ (l : List SectionMeaning). kept_section x (drop j xs) ∷ l) rest
-      ∙ sym (ap (λ (l : List SectionMeaning). kept_sections l) (drop_step xs i j x next at))
+      rw (drop_step ys i j y next is, drop_step xs i j x next at, e, more, rest) refl
 
 -- behind the last item there is none
 pub any_end : {X : Type 0} (p : X → Bool) (xs : List X) (i : ℕ) → length xs ≤ i
     → false ≡ list_any p (drop i xs)
-any_end p xs i h = sym (ap (list_any p) (drop_all i xs h))
+any_end p xs i h = rw (drop_all i xs h) refl
 
 pub several_end : (xs : List SectionMeaning) (i : ℕ) → length xs ≤ i
     → false ≡ has_several (drop i xs)
 unfolding has_several
-several_end xs i h = sym (ap (λ (l : List SectionMeaning). has_several l) (drop_all i xs h))
+several_end xs i h = rw (drop_all i xs h) refl
 
 pub kept_end : (xs ys : List SectionMeaning) (i : ℕ) → length xs ≤ i → length ys ≤ i
     → drop i ys ≡ kept_sections (drop i xs)
 unfolding kept_sections
-kept_end xs ys i h k = drop_all i ys k
-    ∙ sym (ap (λ (l : List SectionMeaning). kept_sections l) (drop_all i xs h))
+kept_end xs ys i h k = rw (drop_all i ys k, drop_all i xs h) refl

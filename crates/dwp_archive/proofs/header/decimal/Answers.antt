@@ -1,44 +1,35 @@
-use Rattle.std.proofs.Common.{◌∙◌, ◌+◌, ◌-◌, ◌*◌, ◌==◌, ℕ, sym, ap, arith, true, false, get_or}
-use Rattle.std.proofs.Common.{drop}
+use Rattle.std.proofs.Common.{◌∙◌, ◌+◌, ◌-◌, ◌*◌, ◌==◌, ℕ, sym, ap, arith, get_or, drop}
 use Rattle.std.specs.List.{list_all}
-use Rattle.dwp_archive.specs.Headers.{decimal, decimal_from}
+use Rattle.dwp_archive.specs.Headers.{decimal_from}
 use Rattle.dwp_archive.proofs.Decimals.{decimal_step, decimal_end, stops, digit_small, digits_fit}
 use Rattle.dwp_archive.proofs.Decimals.{digits_grow}
 use Rattle.dwp_archive.proofs.header.decimal.Goals as goal
 
 pub returns-then-is_blank : goal.returns-then-is_blank
 returns-then-is_blank c =
-    stops c.args.field.now c.loop-i.n c.loop-i.i (decimal c.args.field.now) true c.loop-i-test.true
+    stops _ _ _ _ _ c.loop-i-test.true
     (sym c.is_digit-in-loop-i.ensures ∙ c.if-not-is_digit-2.true)
     (sym c.if-is_blank.true ∙ c.is_blank.ensures
-    ∙ ap (list_all (λ (b : ℕ). b == 32)) c.split_at.ensures.back)
-    c.loop-i.invariant.value
+    ∙ ap (list_all (λ (b : ℕ). b == 32)) c.split_at.ensures.back) c.loop-i.invariant.value
 
 pub returns-else-is_blank : goal.returns-else-is_blank
 returns-else-is_blank c =
-    stops c.args.field.now c.loop-i.n c.loop-i.i (decimal c.args.field.now) false c.loop-i-test.true
+    stops _ _ _ _ _ c.loop-i-test.true
     (sym c.is_digit-in-loop-i.ensures ∙ c.if-not-is_digit-2.true)
     (sym c.if-is_blank.false ∙ c.is_blank.ensures
-    ∙ ap (list_all (λ (b : ℕ). b == 32)) c.split_at.ensures.back)
-    c.loop-i.invariant.value
+    ∙ ap (list_all (λ (b : ℕ). b == 32)) c.split_at.ensures.back) c.loop-i.invariant.value
 
 pub overflow_mul-n : goal.overflow_mul-n
 overflow_mul-n c =
-    omega (
-      arith,
-      digits_fit c.loop-i.n c.loop-i.i 0 c.loop-i.invariant.small (omega arith)
-          (omega arith),
-    )
+    let fit = digits_fit c.loop-i.n c.loop-i.i 0 c.loop-i.invariant.small (omega arith)
+    (omega arith) in omega arith
 
 pub overflow_add-n : goal.overflow_add-n
 overflow_add-n c =
     let byte = get_or c.args.field.now c.loop-i.i 0 in
     let small = digit_small byte (sym c.is_digit-in-loop-i.ensures ∙ c.if-not-is_digit-2.false) in
-    omega (
-      arith,
-      digits_fit c.loop-i.n c.loop-i.i (byte - 48) c.loop-i.invariant.small (omega arith)
-          small,
-    )
+    let fit = digits_fit c.loop-i.n c.loop-i.i (byte - 48) c.loop-i.invariant.small (omega arith)
+    small in omega arith
 
 pub loop-i-preserved : goal.loop-i-preserved
 loop-i-preserved c =

@@ -1,7 +1,6 @@
 use Rattle.std.proofs.Common.{ap, refl, sym, length, arith}
 use Rattle.std.proofs.lemmas.Result.{err_from_is_err_and}
-use Rattle.dwp_elf.proofs.Changes.{appended-first, appended-absent}
-use Rattle.dwp_elf.proofs.Changes.{content_of-first, content_of-absent, contents_of-set_same}
+use Rattle.dwp_elf.proofs.Changes.{at_first, absent, contents_of-set_same}
 use Rattle.dwp_elf.proofs.contents.append_to.Goals as goal
 
 pub returns-in_err-extend_from_slice-in-Some-clause-unchanged :
@@ -14,24 +13,23 @@ returns-in_err-extend_from_slice-in-Some-clause-unchanged c =
 pub returns-in_ok-extend_from_slice-in-Some-clause-contents :
     goal.returns-in_ok-extend_from_slice-in-Some-clause-contents
 returns-in_ok-extend_from_slice-in-Some-clause-contents c =
-    appended-first _ _ _ _ _ _ (rw c.deref.ensures.value at c.in-Some.ensures)
+    (at_first _ _ _ (rw c.deref.ensures.value at c.in-Some.ensures)).added _ _ _
     c.index_mut-section.ensures.value refl
     c.in_ok-extend_from_slice-in-Some.ensures.items
 
 pub returns-in_ok-extend_from_slice-in-Some-clause-place :
     goal.returns-in_ok-extend_from_slice-in-Some-clause-place
 returns-in_ok-extend_from_slice-in-Some-clause-place c =
-    let content = ap length (content_of-first _ _ _ _ (rw c.deref.ensures.value at
-    c.in-Some.ensures) c.index_mut-section.ensures.value) in
+    let first = at_first _ _ _ (rw c.deref.ensures.value at c.in-Some.ensures) in
+    let content = ap length (first.content _ c.index_mut-section.ensures.value) in
     omega (arith, content, c.index_mut-section.result.now.1.ok.0, c.len-place.ensures)
 
 pub returns-in_ok-push-in-None-clause-contents : goal.returns-in_ok-push-in-None-clause-contents
 returns-in_ok-push-in-None-clause-contents c =
-    rw c.in_ok-push-in-None.ensures.items (appended-absent _ _ _ _ (rw c.deref.ensures.value at
-    c.in-None.ensures) refl
-    c.in_ok-content-in-None.ensures.items)
+    rw c.in_ok-push-in-None.ensures.items ((absent _ _ (rw c.deref.ensures.value at
+    c.in-None.ensures)).added _ _ refl c.in_ok-content-in-None.ensures.items)
 
 pub returns-in_ok-push-in-None-clause-place : goal.returns-in_ok-push-in-None-clause-place
 returns-in_ok-push-in-None-clause-place c =
-    ap length (sym (content_of-absent c.args.kind c.args.sections.now.items
-    (rw c.deref.ensures.value at c.in-None.ensures)))
+    ap length (sym (absent c.args.kind c.args.sections.now.items (rw c.deref.ensures.value at
+    c.in-None.ensures)).content)

@@ -4,7 +4,7 @@ use Rattle.dwp_elf.proofs.output.write_contents.Goals as goal
 
 pub returns-in_err-write_whole-clause-text : goal.returns-in_err-write_whole-clause-text
 returns-in_err-write_whole-clause-text g c =
-    failed _ _ c.from_residual.ensures.1 (so_far_part _ _ _ _ c.loop-section.invariant.text
+    failed _ _ c.from_residual.ensures.1 (so_far_part c.loop-section.invariant.text _ _ _
     (content_bytes-drop _ _ _
     c.loop-section-test.true c.section-item.is)
     (rw c.deref.ensures.value at c.in_err-write_whole.ensures.text))

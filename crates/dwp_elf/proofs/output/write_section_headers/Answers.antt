@@ -1,76 +1,49 @@
-use Rattle.std.proofs.Common.{◌≡◌, ◌+◌, length, refl, ap, ◌∙◌, arith}
+use Rattle.std.proofs.Common.{length, refl, ap, ◌∙◌, arith}
 use Rattle.dwp_elf.proofs.Parts.{length-content_bytes-drop, headers_from-drop, headers_from-end}
 use Rattle.dwp_elf.proofs.Parts.{length-name_of, limit-le}
 use Rattle.dwp_elf.proofs.SoFar.{so_far_more, so_far_part, Writes-so_far, failed}
 use Rattle.dwp_elf.proofs.output.write_section_headers.Goals as goal
 
-pub section_header-header-requires-clause-place_fits :
-    goal.section_header-header-requires-clause-place_fits
-section_header-header-requires-clause-place_fits g c =
-    omega (arith, c.loop-section.invariant.place_left, c.requires.places_fit)
-
 pub section_header-header-requires-clause-size_fits :
     goal.section_header-header-requires-clause-size_fits
 section_header-header-requires-clause-size_fits g c =
-    let x = c.section-item.result in
     let step = length-content_bytes-drop _ _ _ c.loop-section-test.true c.section-item.is in
-    omega (
-      arith,
-      step,
-      x.1.ok.0,
-      c.len-size.ensures,
-      c.loop-section.invariant.place_left,
-      c.requires.places_fit,
-    )
+    omega (arith, step, c.section-item.result.1.ok.0)
 
 pub returns-in_err-write_whole-clause-text : goal.returns-in_err-write_whole-clause-text
 returns-in_err-write_whole-clause-text g c =
-    let x = c.section-item.result in
-    let split = headers_from-drop c.args.class c.args.endianness c.args.names_size
-    c.loop-section.name c.loop-section.place c.len-size.result _ _ c.as_slice.result.now _ _ _
-    c.loop-section-test.true c.section-item.is (omega (arith, x.1.ok.0, c.len-size.ensures))
-    (c.as_slice.ensures ∙ c.section_header-header.ensures) refl refl in
-    failed _ _ c.from_residual.ensures.1 (so_far_part _ _ _ _ c.loop-section.invariant.written split
+    let split = headers_from-drop _ _ _ c.loop-section-test.true c.section-item.is _ _
+    c.args.names_size _ _ _ _ _ (c.len-size.ensures ∙ c.section-item.result.1.ok.0)
+    (c.as_slice.ensures ∙ c.section_header-header.ensures) refl in
+    failed _ _ c.from_residual.ensures.1 (so_far_part c.loop-section.invariant.written _ _ _ split
     c.in_err-write_whole.ensures.text)
 
 pub overflow_add-place : goal.overflow_add-place
 overflow_add-place g c =
-    let x = c.section-item.result in
     let step = length-content_bytes-drop _ _ _ c.loop-section-test.true c.section-item.is in
-    omega (
-      arith,
-      step,
-      x.1.ok.0,
-      c.len-size.ensures,
-      c.loop-section.invariant.place_left,
-      c.requires.places_fit,
-      limit-le c.args.class,
-    )
+    omega (arith, step, c.section-item.result.1.ok.0, limit-le c.args.class)
 
 pub loop-section-preserved : goal.loop-section-preserved
 loop-section-preserved g c =
     let x = c.section-item.result in
-    let size : c.len-size.result ≡ length x.1.items = omega (arith, x.1.ok.0, c.len-size.ensures) in
     let name = ap length c.name.ensures in
-    let split = headers_from-drop c.args.class c.args.endianness c.args.names_size
-    c.loop-section.name c.loop-section.place c.len-size.result
-    (c.loop-section.name + (length c.name.result.now + 1)) _ c.as_slice.result.now _ _ _
-    c.loop-section-test.true c.section-item.is size
-    (c.as_slice.ensures ∙ c.section_header-header.ensures) (omega (arith, name)) refl in
+    let split = headers_from-drop _ _ _ c.loop-section-test.true c.section-item.is _ _
+    c.args.names_size _ _ _ _ _ (c.len-size.ensures ∙ x.1.ok.0)
+    (c.as_slice.ensures ∙ c.section_header-header.ensures) c.name.ensures in
     let step = length-content_bytes-drop _ _ _ c.loop-section-test.true c.section-item.is in
     record {
       written = so_far_more _ _ _ _ c.loop-section.invariant.written split
           c.in_ok-write_whole.ensures.text;
       error = λ kind f. c.loop-section.invariant.error kind
           (c.in_ok-write_whole.ensures.error kind f);
-      place_left = omega (arith, step, size, c.loop-section.invariant.place_left);
-      name_small = omega (arith, name, length-name_of x.0, c.loop-section.invariant.name_small);
+      place_left = omega (arith, step, x.1.ok.0);
+      name_small = omega (arith, name, length-name_of x.0);
     }
 
 pub returns-clause-text : goal.returns-clause-text
 returns-clause-text g c =
     let end = headers_from-end c.args.class c.args.endianness c.args.names_size c.loop-section.name
     c.loop-section.place _ _ c.loop-section-test.false in
-    Writes-so_far _ _ _ _ _ _ c.loop-section.invariant.written
+    Writes-so_far c.loop-section.invariant.written _ _
     (rw (end, ← (c.as_slice-2.ensures ∙ c.section_header-header-2.ensures))
     c.write_whole-2.ensures.text)

@@ -10,13 +10,13 @@ loop-rest-init g c = record { text = so_far_none _ _; error = λ kind f. f }
 pub returns-in_err-taken-clause-text : goal.returns-in_err-taken-clause-text
 returns-in_err-taken-clause-text g c =
     let some : 0 < length c.loop-rest.rest.now = grind (arith, nat_tests) in
-    failed _ _ c.from_residual.ensures.1 (so_far_stop _ c.loop-rest.invariant.text some
+    failed _ _ c.from_residual.ensures.1 (so_far_stop c.loop-rest.invariant.text _ some
     c.in_err-taken.ensures.bytes)
 
 pub returns-then-taken-eq0-clause-text : goal.returns-then-taken-eq0-clause-text
 returns-then-taken-eq0-clause-text g c =
     let some : 0 < length c.loop-rest.rest.now = grind (arith, nat_tests) in
-    so_far_stop _ c.loop-rest.invariant.text some
+    so_far_stop c.loop-rest.invariant.text _ some
     (Keeps-from_none _ _ _ _ c.if-taken-eq0.true c.in_ok-taken.ensures.bytes)
 
 pub loop-rest-preserved : goal.loop-rest-preserved

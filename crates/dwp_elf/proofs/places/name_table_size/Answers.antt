@@ -4,20 +4,10 @@ use Rattle.dwp_elf.proofs.places.name_table_size.Goals as goal
 
 pub loop-section-preserved : goal.loop-section-preserved
 loop-section-preserved c =
-    let x = c.section-item.result in
     let step = length-names_of-drop _ _ _ c.loop-section-test.true c.section-item.is in
-    let name = ap length c.name.ensures in (
-      omega (arith, step, name, c.loop-section.invariant.0),
-      omega (
-        arith,
-        name,
-        length-name_of x.0,
-        c.loop-section.invariant.1,
-      ),
-    )
+    let name = ap length c.name.ensures in
+    (omega (arith, step, name), omega (arith, name, length-name_of c.section-item.result.0))
 
 pub returns-clause-size : goal.returns-clause-size
 returns-clause-size c =
-    let end = ap length (names_of-end c.args.sections.now c.loop-section.section-index
-    c.loop-section-test.false) in
-    omega (arith, end, c.loop-section.invariant.0)
+    let end = ap length (names_of-end _ _ c.loop-section-test.false) in omega (arith, end)

@@ -8,14 +8,13 @@ use Rattle.dwp_base.proofs.Finds.{slice_get_none}
 
 pub loop-left-init : goal.loop-left-init
 loop-left-init c =
-    let count = c.section_count-left.result in
     let xs = (elf c.args.file.now).sections in
-    let h : length xs ≤ count = omega arith in
+    let h : length xs ≤ c.section_count-left.result = omega arith in
     record {
       inside = omega arith;
-      more = any_end has_macros xs count h;
-      several = several_end xs count h;
-      indexed = any_end is_index xs count h;
+      more = any_end has_macros xs _ h;
+      several = several_end xs _ h;
+      indexed = any_end is_index xs _ h;
     }
 
 pub returns-in_default : goal.returns-in_default
@@ -36,11 +35,9 @@ loop-left-preserved c =
     let more = c.loop-left.invariant.more in
     record {
       inside = omega arith;
-      more = any_step has_macros xs i j x
-          c.has_macros-has_more.result c.loop-left.has_more next at
-          c.has_macros-has_more.ensures more;
-      several = several_step xs i j x c.loop-left.has_more next at more c.loop-left.several
-          c.has_macros.result c.loop-left.invariant.several c.has_macros.ensures;
-      indexed = any_step is_index xs i j x c.is_index-indexed.result
-          c.loop-left.indexed next at c.is_index-indexed.ensures c.loop-left.invariant.indexed;
+      more = any_step has_macros xs i j x _ _ next at c.has_macros-has_more.ensures more;
+      several = several_step xs i j x _ next at more _ _ c.loop-left.invariant.several
+          c.has_macros.ensures;
+      indexed = any_step is_index xs i j x _ _ next at c.is_index-indexed.ensures
+          c.loop-left.invariant.indexed;
     }

@@ -1,19 +1,17 @@
-use Rattle.std.proofs.Common.{refl, ◌∙◌, arith}
+use Rattle.std.proofs.Common.{refl, ◌∙◌}
 use Rattle.dwp_elf.proofs.SoFar.{part_after, part_before, Writes-after, failed}
-use Rattle.dwp_elf.proofs.Whole.{text_parts}
+use Rattle.dwp_elf.proofs.Parts.{text_parts}
 use Rattle.dwp_elf.proofs.object.WritableObject.write_parts.Goals as goal
 
 pub returns-in_err-write_whole-clause-text : goal.returns-in_err-write_whole-clause-text
 returns-in_err-write_whole-clause-text g c =
-    rw (text_parts c.self.inside c.args.self.now c.args.places.now _ c.len.result _ c.self.view_is
-    c.requires (omega (arith, c.len.ensures, c.self.inside.sections.ok.0))
+    rw (text_parts c.self.inside _ _ _ _ _ c.self.view_is c.requires c.len.ensures
     (c.as_slice.ensures ∙ c.file_header-header.ensures) refl)
     (failed _ _ c.from_residual.ensures.1 (part_before _ c.in_err-write_whole.ensures.text))
 
 pub returns-in_err-write_contents-clause-text : goal.returns-in_err-write_contents-clause-text
 returns-in_err-write_contents-clause-text g c =
-    rw (text_parts c.self.inside c.args.self.now c.args.places.now _ c.len.result _ c.self.view_is
-    c.requires (omega (arith, c.len.ensures, c.self.inside.sections.ok.0))
+    rw (text_parts c.self.inside _ _ _ _ _ c.self.view_is c.requires c.len.ensures
     (c.as_slice.ensures ∙ c.file_header-header.ensures) refl)
     (failed _ _ c.from_residual-in_err-write_contents.ensures.1
     (part_after _ c.in_ok-write_whole.ensures.text (part_before _
@@ -21,8 +19,7 @@ returns-in_err-write_contents-clause-text g c =
 
 pub returns-in_err-write_name_table-clause-text : goal.returns-in_err-write_name_table-clause-text
 returns-in_err-write_name_table-clause-text g c =
-    rw (text_parts c.self.inside c.args.self.now c.args.places.now _ c.len.result _ c.self.view_is
-    c.requires (omega (arith, c.len.ensures, c.self.inside.sections.ok.0))
+    rw (text_parts c.self.inside _ _ _ _ _ c.self.view_is c.requires c.len.ensures
     (c.as_slice.ensures ∙ c.file_header-header.ensures) refl)
     (failed _ _ c.from_residual-in_err-write_name_table.ensures.1
     (part_after _ c.in_ok-write_whole.ensures.text (part_after _
@@ -31,8 +28,7 @@ returns-in_err-write_name_table-clause-text g c =
 
 pub returns-in_err-write_zeros-clause-text : goal.returns-in_err-write_zeros-clause-text
 returns-in_err-write_zeros-clause-text g c =
-    rw (text_parts c.self.inside c.args.self.now c.args.places.now _ c.len.result _ c.self.view_is
-    c.requires (omega (arith, c.len.ensures, c.self.inside.sections.ok.0))
+    rw (text_parts c.self.inside _ _ _ _ _ c.self.view_is c.requires c.len.ensures
     (c.as_slice.ensures ∙ c.file_header-header.ensures) refl)
     (failed _ _ c.from_residual-in_err-write_zeros.ensures.1
     (part_after _ c.in_ok-write_whole.ensures.text (part_after _
@@ -42,8 +38,7 @@ returns-in_err-write_zeros-clause-text g c =
 
 pub returns-in_err-write_zeros-2-clause-text : goal.returns-in_err-write_zeros-2-clause-text
 returns-in_err-write_zeros-2-clause-text g c =
-    rw (text_parts c.self.inside c.args.self.now c.args.places.now _ c.len.result _ c.self.view_is
-    c.requires (omega (arith, c.len.ensures, c.self.inside.sections.ok.0))
+    rw (text_parts c.self.inside _ _ _ _ _ c.self.view_is c.requires c.len.ensures
     (c.as_slice.ensures ∙ c.file_header-header.ensures) (c.from.ensures ∙ c.entry_size.ensures))
     (failed _ _ c.from_residual-in_err-write_zeros-2.ensures.1
     (part_after _ c.in_ok-write_whole.ensures.text (part_after _
@@ -54,8 +49,7 @@ returns-in_err-write_zeros-2-clause-text g c =
 
 pub returns-clause-text : goal.returns-clause-text
 returns-clause-text g c =
-    rw (text_parts c.self.inside c.args.self.now c.args.places.now _ c.len.result _ c.self.view_is
-    c.requires (omega (arith, c.len.ensures, c.self.inside.sections.ok.0))
+    rw (text_parts c.self.inside _ _ _ _ _ c.self.view_is c.requires c.len.ensures
     (c.as_slice.ensures ∙ c.file_header-header.ensures) (c.from.ensures ∙ c.entry_size.ensures))
     (Writes-after _ _ _ _ _ _ c.in_ok-write_whole.ensures.text (Writes-after _ _ _ _ _ _
     (rw c.deref.ensures.value at c.in_ok-write_contents.ensures.text) (Writes-after _ _ _ _ _ _
