@@ -1,11 +1,7 @@
 -- What holds of each kind of section, and of the kinds that units share.
 use Rattle.std.proofs.Common.{◌≡◌, true, ◌||◌, sym, subst}
-use Rattle.dwp_base.specs.Sections.{same_kind}
-use Rattle.dwp_base.specs.declared.section.SectionKind.{SectionKind}
-use Rattle.dwp_base.specs.declared.section.SectionKind.TheVariants.{StrOffsets}
-use Rattle.dwp_base.proofs.EveryKind.{is-same}
-use Rattle.dwp_base.proofs.Bools.{by-bool}
-use Rattle.thorin_input.specs.Format.{is_copied}
+use Rattle.thorin_join.proofs.Names.{by-bool, is-same, is_copied, same_kind, SectionKind}
+use Rattle.thorin_join.proofs.Names.{StrOffsets}
 
 -- what holds of the kinds that are copied, and of string offsets
 pub copied-or-offsets : (P : SectionKind → Type 0) → ((kind : SectionKind) → is_copied kind ≡ true

@@ -1,3 +1,4 @@
+pub mod Names
 pub mod Steps
 pub mod EachKind
 pub mod Moved

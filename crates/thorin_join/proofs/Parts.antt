@@ -7,4 +7,3 @@ pub mod FirstUses
 pub mod Strings
 pub mod PlainOffsets
 pub mod OfPackages
-pub mod OfInputs

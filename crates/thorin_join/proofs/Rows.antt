@@ -4,6 +4,5 @@ pub mod OneAdded
 pub mod AllAdded
 pub mod Ranges
 pub mod OfUnits
-pub mod Meaning
 pub mod StandApart
 pub mod LieInTurn

@@ -1,9 +1,6 @@
 -- Steps that are made one after the other, as `>>=` says it.
 use Rattle.std.proofs.Common.{◌≡◌, Bool, true, false, cond, not, Result, Ok, Err, refl}
 
-pub err-ok : {X E : Type 0} (e : E) (x : X) → Err e ≡ Ok x → ⊥
-err-ok e x h = absurd cc
-
 -- a test that would give an error, in front of what answered
 pub past : {X E : Type 0} (b : Bool) (e : E) (r : Result X E) (x : X) → cond b (Err e) r ≡ Ok x
     → (b ≡ false) × (r ≡ Ok x)

@@ -1,25 +1,21 @@
 -- A written file is read as the package of its contents.
-use Rattle.std.proofs.Common.{◌≡◌, ℕ, ◌+◌, ◌^◌, ◌<◌, ◌≤◌, Bool, true, false, cond, inl, inr, List}
-use Rattle.std.proofs.Common.{[], ◌∷◌, refl, ap, arith}
-use Rattle.std.specs.Prelude.{Option, Some, Ok, codes}
-use Rattle.dwp_base.specs.Sections.{name_of, same_kind}
+use Rattle.std.proofs.Common.{◌≡◌, ℕ, ◌+◌, ◌^◌, ◌<◌, ◌≤◌, inl, inr, List, [], ◌∷◌, refl, ap, arith}
+use Rattle.std.proofs.Common.{Option, Some, Ok, codes}
+use Rattle.dwp_base.specs.Sections.{name_of}
+use Rattle.thorin_join.proofs.Names.{by-bool, content_of, Endianness, file_text, Index, is-same}
+use Rattle.thorin_join.proofs.Names.{same_kind, SectionKind}
 use Rattle.dwp_base.specs.declared.class.Class.{Class}
 use Rattle.dwp_base.specs.declared.class.Class.TheVariants.{Elf32, Elf64}
-use Rattle.dwp_base.specs.declared.endian.Endianness.{Endianness}
-use Rattle.dwp_base.specs.declared.section.SectionKind.{SectionKind}
 use Rattle.dwp_base.specs.declared.section.SectionKind.TheVariants.{CuIndex, TuIndex}
-use Rattle.dwp_base.proofs.EveryKind.{is-same}
 use Rattle.dwp_elf_read.specs.Layout.{word_size}
 use Rattle.dwp_elf_read.specs.Elf.{elf_of}
-use Rattle.dwp_elf.specs.FileText.{Object, headers_place, name_table, file_text}
-use Rattle.dwp_elf.specs.Contents.{count_of, KindsDiffer, content_of}
+use Rattle.dwp_elf.specs.FileText.{Object, headers_place, name_table}
+use Rattle.dwp_elf.specs.Contents.{count_of, KindsDiffer}
 use Rattle.dwp_elf.specs.Numbers.{Fits}
 use Rattle.dwp_elf.specs.Written.{plain_section, written_sections, written_elf}
 use Rattle.dwp_index.specs.Holding.{HasContent, sections_of}
-use Rattle.dwp_index.specs.Index.{Index}
 use Rattle.dwp_index.specs.Package.{package_of, index_in_section}
 use Rattle.dwp_index.proofs.HeldContents.{package_is, another_kind, foreign, empty}
-use Rattle.dwp_base.proofs.Bools.{by-bool}
 use Rattle.dwp_elf.proofs.KindCounts.{length-KindsDiffer}
 use Rattle.dwp_elf.proofs.ReadingBack.{elf_of-file_text}
 
@@ -43,28 +39,20 @@ nothing kind (c ∷ cs) h =
     (λ same. let one = rw same at h in absurd (omega (arith, one)))
     (λ other. let none = rw other at h in rw other (nothing kind cs (omega (arith, none))))
 
-pub fewer-one : (b : Bool) (n : ℕ) → cond b 1 0 + n ≤ 1 → n ≤ 1
-fewer-one true n h = omega (arith, h)
-fewer-one false n h = omega (arith, h)
-
 -- each content of a kind is in its section, or has no bytes and nothing follows
 held_from : (kind : SectionKind) (number : ℕ) (names : List ℕ) (cs : List (SectionKind × List ℕ))
     → count_of kind cs ≤ 1
     → HasContent (written_sections number names cs) kind (content_of kind cs)
-held_from kind number names [] h = inr (
-  foreign (plain_section number 3 (codes ".shstrtab") names) kind (codes ".shstrtab") refl refl,
-  refl,
-)
+held_from kind number names [] h =
+    let table = plain_section number 3 (codes ".shstrtab") names in
+    inr (foreign table kind (codes ".shstrtab") refl refl, refl)
 held_from kind number names ((k, []) ∷ cs) h =
-    let rest = held_from kind (number + 1) names cs (fewer-one _ (count_of kind cs) h) in
-    inr (
-      empty (plain_section number 1 (name_of k) []) kind refl,
-      by-bool _ (same_kind k kind)
-          (λ same.
-          let one = rw same at h in
-          rw same (rw (nothing kind cs (omega (arith, one))) at rest))
-          (λ apart. rw apart rest),
-    )
+    let rest = held_from kind (number + 1) names cs (omega (arith, h)) in
+    let none = empty (plain_section number 1 (name_of k) []) kind refl in
+    by-bool _ (same_kind k kind)
+    (λ same. let one = rw same at h in
+    rw same (inr (none, rw (nothing kind cs (omega (arith, one))) at rest)))
+    (λ apart. rw apart (inr (none, rest)))
 held_from kind number names ((k, b ∷ bs) ∷ cs) h =
     by-bool _ (same_kind k kind)
     (λ same. rw same (inl (record {
@@ -75,11 +63,8 @@ held_from kind number names ((k, b ∷ bs) ∷ cs) h =
       has_bytes = λ e. absurd (omega (arith, e));
       stored = refl;
     })))
-    (λ apart. rw apart (inr (
-      another_kind _ kind k refl apart,
-      held_from kind (number + 1) names cs
-          (fewer-one _ (count_of kind cs) h),
-    )))
+    (λ apart. let rest = held_from kind (number + 1) names cs (omega (arith, h)) in
+    rw apart (inr (another_kind _ kind k refl apart, rest)))
 
 -- ---- the package
 
@@ -99,11 +84,10 @@ IsReadAs bytes o = (compilations types : Option Index)
 pub package_held : (bytes : List ℕ) (o : Object) → KindsDiffer o.contents
     → elf_of bytes ≡ Ok (written_elf o) → IsReadAs bytes o
 package_held bytes o h back compilations types c t =
+    let held = λ (kind : SectionKind). held_from kind 1 (name_table o.contents) o.contents
+    (h kind) in
     package_is bytes (written_elf o) (λ kind. content_of kind o.contents) compilations types back
-    (λ kind. inr (
-      empty (plain_section 0 0 [] []) kind refl,
-      held_from kind 1 (name_table o.contents) o.contents (h kind),
-    )) c t
+    (λ kind. inr (empty (plain_section 0 0 [] []) kind refl, held kind)) c t
 
 pub package_read : (o : Object) → KindsDiffer o.contents → o.machine < 256 ^ 2 → Fits o
     → IsReadAs (file_text o) o

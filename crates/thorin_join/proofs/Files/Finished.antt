@@ -1,27 +1,21 @@
 -- The file of a finished package means the units that stand in the ranges of its rows.
-use Rattle.std.proofs.Common.{◌≡◌, ◌∙◌, ℕ, true, false, List, [], ◌++◌, ap, refl, Ok}
-use Rattle.std.proofs.Common.{Option, Some, None, Bool, cond, not}
-use Rattle.std.proofs.Math.Seq.{take-length}
+use Rattle.std.proofs.Common.{◌≡◌, ◌∙◌, ℕ, true, false, List, [], ◌++◌, ap, refl, Ok, Option, Some}
+use Rattle.std.proofs.Common.{None, Bool, cond, not}
+use Rattle.thorin_join.proofs.Names.{AreRowsOf, bind-was, content_of, data_of, entry_ids, file_text}
+use Rattle.thorin_join.proofs.Names.{Index, IndexEntry, InProgress, is_compilation, IsIndexOf}
+use Rattle.thorin_join.proofs.Names.{IsSound, IsSoundBegun, kind_at, rows_of, same_kind}
+use Rattle.thorin_join.proofs.Names.{SectionKind, take-length, units_of, UnitSection, with_bytes}
 use Rattle.dwp_base.specs.declared.section.SectionKind.TheVariants as kinds
-use Rattle.dwp_dwarf.specs.declared.unit.UnitSection.{UnitSection}
 use Rattle.dwp_dwarf.specs.declared.unit.UnitSection.TheVariants as places
-use Rattle.dwp_elf.specs.Contents.{content_of}
-use Rattle.dwp_elf.specs.FileText.{Object as File, file_text}
-use Rattle.dwp_index.specs.Index.{Index}
+use Rattle.dwp_elf.specs.FileText.{Object as File}
 use Rattle.dwp_index.specs.Naming.{IsIndexOfIds}
 use Rattle.dwp_index.proofs.UsedOnce.{entries_once}
-use Rattle.thorin_strings.specs.Strings.{data_of}
-use Rattle.thorin_index.specs.declared.entry.IndexEntry.{IndexEntry}
 use Rattle.thorin_index.specs.EntryTests.{index_tests}
-use Rattle.thorin_index.specs.IndexText.{entry_ids, IsIndexOf}
 use Rattle.thorin_join.specs.Builder.{State, IdentifiersFit, IsFinished, IsFinishedState}
-use Rattle.thorin_join.specs.Builder.{finish_test, targets_test, indexes_test, rows_of}
-use Rattle.thorin_join.specs.Builder.{compilations}
-use Rattle.thorin_input.specs.Growing.{with_bytes}
+use Rattle.thorin_join.specs.Builder.{finish_test, targets_test, indexes_test, compilations}
 use Rattle.thorin_join.specs.Join.{IsPackageOnceWritten}
-use Rattle.thorin_join.specs.Represents.{AreRowsOf, IsSound, IsSoundBegun, meaning_at, units_of}
-use Rattle.thorin_join.specs.Represents.{units_in}
-use Rattle.thorin_join.specs.State.{InProgress, kind_at, names_of}
+use Rattle.thorin_join.specs.Represents.{meaning_at, units_in}
+use Rattle.thorin_join.specs.State.{names_of}
 use Rattle.thorin_join.proofs.Files.Indexes.{HasRows, index-read, chosen-fit}
 use Rattle.thorin_join.proofs.Units.NamesApart.{distinct_chosen}
 use Rattle.thorin_join.proofs.Rows.Stay.{Grows, grows-trans, grows-with_bytes, keep-rows}
@@ -29,10 +23,6 @@ use Rattle.thorin_join.proofs.Files.UnitsFound.{package-finds}
 use Rattle.thorin_join.proofs.Parts.Appended.{content-with_bytes}
 use Rattle.thorin_join.proofs.Files.Contents.{package_held}
 use Rattle.thorin_join.proofs.Files.RowsFound.{ids-chosen, members}
-use Rattle.dwp_base.proofs.Steps.{bind-was}
-use Rattle.dwp_base.specs.declared.section.SectionKind.{SectionKind}
-use Rattle.dwp_base.specs.Sections.{same_kind}
-use Rattle.thorin_input.specs.Names.{is_compilation}
 
 -- the tests of finishing
 pub record Tested (made : InProgress) : Type 0 where
@@ -67,12 +57,8 @@ module _ (made : InProgress) (file : File) (f : IsFinished made file) where
   finished-content : (kind : SectionKind) → content_of kind file.contents
       ≡ put kind kinds.TuIndex f.type_index (put kind kinds.CuIndex f.compilation_index
       (put kind kinds.Str (data_of made.strings) (content_of kind made.file.contents)))
-  finished-content kind = rw (
-    ap (λ (o : File). o.contents) f.contents,
-    content-with_bytes,
-    content-with_bytes,
-    content-with_bytes,
-  )
+  finished-content kind = let is = ap (λ (o : File). o.contents) f.contents in
+      rw (is, content-with_bytes, content-with_bytes, content-with_bytes)
 
   pub finished-strings : content_of kinds.Str made.file.contents ≡ [] → content_of kinds.Str
       file.contents ≡ data_of made.strings
@@ -113,6 +99,10 @@ package-is made file sound tested fits f differ back =
     let c = indexed true f.compilation_index f.compilations tested.compilation_rows in
     let t = indexed false f.type_index f.types tested.type_rows in
     let order = finished-order made file f in
+    let once = entries_once c.index t.index _ _ (index-ids c.index _ c.has)
+    (index-ids t.index _ t.has) in
+    let ids = ids-chosen of is_compilation made.rows in
+    let others = ids-chosen of (λ name. not (is_compilation name)) made.rows in
     let rows : AreRowsOf file.order file.contents made.strings made.rows (members of made.rows) =
     rw order (keep-rows made.file.order made.file.contents file.contents made.strings made.strings
     made.rows (units_of made) (finished-grows made file f) (take-length made.strings) units.rows) in
@@ -121,12 +111,7 @@ package-is made file sound tested fits f differ back =
       parsed = package_held (file_text file) file differ back c.index t.index
           (rw (order, finished-compilations made file f units.no_compilations) c.read)
           (rw (order, finished-types made file f units.no_types) t.read);
-      named = rw (
-        ← ids-chosen of is_compilation made.rows,
-        ← ids-chosen of (λ name. not (is_compilation name)) made.rows,
-      )
-          (entries_once c.index t.index _ _ (index-ids c.index _ c.has)
-          (index-ids t.index _ t.has));
+      named = rw (← ids, ← others) once;
       finds = λ name. package-finds file.order file.contents c.index t.index made.strings
           (finished-strings made file f units.no_strings) units.table made.rows name of rows
           c.has t.has;

@@ -1,26 +1,20 @@
 -- The indexes of a finished package, as they are read.
-use Rattle.std.proofs.Common.{◌≡◌, ◌∙◌, ℕ, zero, suc, ◌<◌, ◌^◌, Bool, List, [], ◌∷◌, length, sym}
-use Rattle.std.proofs.Common.{refl, Ok, Err, Option, Some, None, arith}
-use Rattle.std.specs.Prelude.{slice_index}
-use Rattle.dwp_base.specs.declared.endian.Endianness.{Endianness}
+use Rattle.std.proofs.Common.{◌≡◌, ℕ, zero, suc, ◌<◌, ◌^◌, Bool, List, [], ◌∷◌, length, refl, Ok}
+use Rattle.std.proofs.Common.{Err, Option, Some, None, arith, slice_index}
+use Rattle.thorin_join.proofs.Names.{by-bool, Encoding, Endianness, entry_ids, Index, IndexEntry}
+use Rattle.thorin_join.proofs.Names.{is_chosen, IsIndexOf, rows_of, UnexpectedEof}
 use Rattle.dwp_bytes.specs.Encoding.{index_version_of}
-use Rattle.dwp_bytes.specs.declared.encoding.Encoding.{Encoding}
-use Rattle.dwp_bytes.specs.declared.error.ReadError.TheVariants.{UnexpectedEof}
 use Rattle.dwp_table.specs.Table.{AreDistinct}
-use Rattle.dwp_index.specs.Index.{Index}
 use Rattle.dwp_index.specs.IndexBytes.{index_of, version_of}
 use Rattle.dwp_index.specs.Package.{index_in_section}
-use Rattle.thorin_index.specs.declared.entry.IndexEntry.{IndexEntry}
 use Rattle.thorin_index.specs.EntryTests.{tests_under, index_tests}
-use Rattle.thorin_index.specs.IndexText.{IsIndexText, IsIndexOf, entry_ids, used_sections}
+use Rattle.thorin_index.specs.IndexText.{IsIndexText, used_sections}
 use Rattle.thorin_index.specs.ReadBack.{index_with}
 use Rattle.thorin_index.proofs.ReadAgain.{index_is_read}
 use Rattle.thorin_index.proofs.RowsAgain.{written_rows}
 use Rattle.dwp_index.proofs.HeldContents.{index_there, index_missing}
 use Rattle.thorin_index.specs.ReadRows.{HasEntries}
-use Rattle.thorin_join.specs.Builder.{IdentifiersFit, rows_of, is_chosen}
-use Rattle.thorin_join.proofs.Steps.{err-ok}
-use Rattle.dwp_base.proofs.Bools.{by-bool}
+use Rattle.thorin_join.specs.Builder.{IdentifiersFit}
 
 -- the laws of written indexes
 abbrev pub IndexIsRead : Type 0
@@ -59,7 +53,7 @@ no-bytes order = refl
 
 some-bytes : (order : Endianness) (bytes : List ℕ) (index : Index) → index_of order bytes ≡ Ok index
     → 0 < length bytes
-some-bytes order [] index h = absurd (err-ok UnexpectedEof index (sym (no-bytes order) ∙ h))
+some-bytes order [] index h = let none = no-bytes order in absurd cc
 some-bytes order (b ∷ bs) index h = omega arith
 
 pub index-read : (order : Endianness) (rows : List IndexEntry) (bytes : List ℕ)
@@ -70,14 +64,12 @@ index-read order [] bytes text tested distinct fit =
     record { index = None; read = index_missing order bytes text; has = refl }
 index-read order (row ∷ rows) bytes text tested distinct fit =
     let read = index_is_read order row.encoding (row ∷ rows) bytes tested fit text in
+    let entries = written_rows order row.encoding (row ∷ rows) bytes tested distinct fit text _
+    read in
     record {
       index = Some _;
       read = index_there order bytes _ (some-bytes order bytes _ read) read;
-      has = (
-        index_version_of row.encoding.version,
-        written_rows order row.encoding (row ∷ rows) bytes tested distinct fit text _ read,
-        omega arith,
-      );
+      has = (index_version_of row.encoding.version, entries, omega arith);
     }
 
 -- the identifiers of chosen rows have 64 bits

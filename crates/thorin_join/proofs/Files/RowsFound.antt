@@ -1,25 +1,13 @@
 -- The row of a name, and the names without one.
 use Rattle.std.proofs.Common.{◌≡◌, ◌∙◌, ℕ, zero, suc, ◌<◌, Bool, true, not, List, [], ◌∷◌, length}
 use Rattle.std.proofs.Common.{map, filter, ap, sym, refl, Option, Some, None, arith, true≢false}
-use Rattle.std.proofs.Common.{false}
-use Rattle.std.specs.Prelude.{slice_index, slice_get, MatchOption}
-use Rattle.std.specs.Map.{lookup}
-use Rattle.std.proofs.lemmas.List.{length-map}
-use Rattle.std.proofs.lemmas.Option.{none-some, same_Some}
-use Rattle.dwp_base.specs.declared.endian.Endianness.{Endianness}
-use Rattle.dwp_base.proofs.Bools.{by-bool}
-use Rattle.dwp_table.specs.Objects.{identifier_of}
-use Rattle.dwp_table.specs.declared.object.DwarfObject.{DwarfObject}
-use Rattle.dwp_table.specs.declared.object.DwarfObject.TheVariants.{Compilation, TypeUnit}
+use Rattle.std.proofs.Common.{false, slice_index, slice_get, MatchOption}
+use Rattle.thorin_join.proofs.Names.{AreRowsOf, by-bool, Compilation, Contents, DwarfObject}
+use Rattle.thorin_join.proofs.Names.{Endianness, entry_ids, identifier_of, IndexEntry, is_chosen}
+use Rattle.thorin_join.proofs.Names.{is_compilation, IsRowOf, length-map, lookup, Meaning, Members}
+use Rattle.thorin_join.proofs.Names.{none-some, rows_of, same_name, same_Some, TypeUnit}
 use Rattle.dwp_index.specs.Finding.{IsNotNamed}
-use Rattle.thorin_index.specs.declared.entry.IndexEntry.{IndexEntry}
-use Rattle.thorin_index.specs.IndexText.{entry_ids}
-use Rattle.thorin_input.specs.Growing.{Contents}
-use Rattle.thorin_input.specs.Names.{same_name, is_compilation}
-use Rattle.thorin_join.specs.Builder.{is_chosen, rows_of}
 use Rattle.thorin_join.specs.Join.{same_sort}
-use Rattle.thorin_join.specs.Meaning.{Meaning, Members}
-use Rattle.thorin_join.specs.Represents.{IsRowOf, AreRowsOf}
 use Rattle.thorin_join.proofs.Units.NamesApart.{same_name-true, same-sort, chosen-sort}
 
 -- a row is among those of its sort
@@ -55,9 +43,7 @@ pub ids-chosen : (of : IndexEntry → Meaning) (passes : DwarfObject → Bool) (
     ≡ map (λ u. identifier_of u.0) (filter (λ u. passes u.0) (members of rows))
 ids-chosen of passes [] = refl
 ids-chosen of passes (r ∷ rs) =
-    by-bool _ (passes r.id)
-    (λ chosen. rw chosen (ap (λ l. identifier_of r.id ∷ l) (ids-chosen of passes rs)))
-    (λ other. rw other (ids-chosen of passes rs))
+    grind (arith, ids-chosen of passes rs)
 
 -- there are as many rows of a name's sort as units
 pub rows-counted : (of : IndexEntry → Meaning) (rows : List IndexEntry) (name : DwarfObject)

@@ -1,41 +1,25 @@
 -- A written package means the units that it represents.
 use Rattle.std.proofs.Common.{◌≡◌, ◌∙◌, ℕ, zero, suc, ◌+◌, ◌<◌, ◌≤◌, true, false, List, length, ap}
-use Rattle.std.proofs.Common.{sym, refl, Option, Some, None, arith, ne_eqb, filter}
-use Rattle.std.specs.Prelude.{slice_get, MatchOption}
-use Rattle.std.specs.Map.{lookup}
-use Rattle.std.proofs.Math.Seq.{take-length}
-use Rattle.std.proofs.lemmas.List.{length-map}
-use Rattle.std.proofs.lemmas.Option.{none-some}
-use Rattle.dwp_base.specs.declared.section.SectionKind.{SectionKind}
+use Rattle.std.proofs.Common.{sym, refl, Option, Some, None, arith, ne_eqb, filter, slice_get}
+use Rattle.std.proofs.Common.{MatchOption}
+use Rattle.thorin_join.proofs.Names.{AreRowsOf, Compilation, content_of, Contents, Contribution}
+use Rattle.thorin_join.proofs.Names.{contribution_to, data_of, DwarfObject, Endianness, entry_ids}
+use Rattle.thorin_join.proofs.Names.{identifier_of, Index, IndexEntry, is_compilation, IsTable}
+use Rattle.thorin_join.proofs.Names.{kind_at, length-map, lookup, Meaning, none-some, part_of}
+use Rattle.thorin_join.proofs.Names.{rows_of, same_name, SectionKind, take-length, TypeUnit}
+use Rattle.thorin_join.proofs.Names.{UnitSection}
 use Rattle.dwp_base.specs.declared.section.SectionKind.TheVariants as kinds
-use Rattle.dwp_base.specs.declared.section.Contribution.{Contribution}
-use Rattle.dwp_base.specs.declared.endian.Endianness.{Endianness}
-use Rattle.dwp_elf.specs.Contents.{content_of}
-use Rattle.dwp_dwarf.specs.declared.unit.UnitSection.{UnitSection}
 use Rattle.dwp_dwarf.specs.declared.unit.UnitSection.TheVariants as places
-use Rattle.dwp_table.specs.Objects.{identifier_of}
-use Rattle.dwp_table.specs.declared.object.DwarfObject.{DwarfObject}
-use Rattle.dwp_table.specs.declared.object.DwarfObject.TheVariants.{Compilation, TypeUnit}
 use Rattle.dwp_table.proofs.Tables.{finds_exactly}
 use Rattle.dwp_index.specs.Contents.{content}
 use Rattle.dwp_index.specs.Finding.{own_place, own_bytes, unit_of, IsUnitOf}
 use Rattle.dwp_index.specs.Holding.{sections_of}
-use Rattle.dwp_index.specs.Index.{Index, range_in}
-use Rattle.dwp_index.specs.Package.{Package, part_of, kind_of, row_bytes, index_for}
+use Rattle.dwp_index.specs.Index.{range_in}
+use Rattle.dwp_index.specs.Package.{Package, kind_of, row_bytes, index_for}
 use Rattle.dwp_index.proofs.HeldContents.{held_content}
-use Rattle.dwp_index.proofs.PackageLookUp.{FindsLaw, present_unit, absent_unit, no_index}
-use Rattle.thorin_strings.specs.Strings.{IsTable, data_of}
-use Rattle.thorin_index.specs.Entries.{contribution_to}
-use Rattle.thorin_index.specs.declared.entry.IndexEntry.{IndexEntry}
-use Rattle.thorin_index.specs.IndexText.{entry_ids}
+use Rattle.dwp_index.proofs.PackageLookUp.{present_unit, absent_unit, no_index}
 use Rattle.thorin_index.specs.ReadRows.{HasEntries, HasParts, non_empty}
-use Rattle.thorin_input.specs.Growing.{Contents}
-use Rattle.thorin_input.specs.Names.{same_name, is_compilation}
-use Rattle.thorin_join.specs.Builder.{rows_of}
 use Rattle.thorin_join.specs.Join.{IsUnit, GivesUnit, GivesNone, limit_of, same_sort}
-use Rattle.thorin_join.specs.Meaning.{Meaning}
-use Rattle.thorin_join.specs.Represents.{AreRowsOf}
-use Rattle.thorin_join.specs.State.{kind_at}
 use Rattle.thorin_join.proofs.Files.Indexes.{HasRows}
 use Rattle.thorin_join.proofs.Files.RowsFound.{RowFound, Looked, looked, id-at, members}
 use Rattle.thorin_join.proofs.Files.RowsFound.{rows-counted}
@@ -50,9 +34,6 @@ part-there None some = refl
 part-there (Some part) some =
     let several = some part refl in
     rw (ne_eqb part.size 0 (λ none. omega arith))
-
-finds : FindsLaw
-finds ids signatures rows x index = finds_exactly ids signatures rows x index
 
 -- a package that was read of contents, whose index of each sort has the rows of the sort
 module _ (order : Endianness) (contents : Contents) (compilations types : Option Index)
@@ -137,7 +118,7 @@ module _ (order : Endianness) (contents : Contents) (compilations types : Option
     gives None there has (Some unit) f =
         absurd (none-some f.row (ap (λ l. slice_get l f.place) (sym has) ∙ f.at))
     gives (Some i) there has None absent =
-        let g = absent_unit finds pack name (entry_ids own) i
+        let g = absent_unit finds_exactly pack name (entry_ids own) i
         (record { index_is = there; slots = has.1.slots }) absent in
         let counted = rows-counted of rows name in
         let many = length-map own (λ (row : IndexEntry). identifier_of row.id) in
@@ -149,7 +130,7 @@ module _ (order : Endianness) (contents : Contents) (compilations types : Option
         }
     gives (Some i) there has (Some unit) f =
         let found = found-unit unit f i has.0 has.1 in
-        let g = present_unit finds pack name (entry_ids own) i f.place _ f.is.owns.encoding
+        let g = present_unit finds_exactly pack name (entry_ids own) i f.place _ f.is.owns.encoding
         (record { index_is = there; slots = has.1.slots }) found in
         let within : f.place < units = omega (arith, rows-counted of rows name, found.within) in
         record {

@@ -1,62 +1,50 @@
 -- A package with the units of an input has them beside its own.
-use Rattle.std.proofs.Common.{subst, [], ◌≡◌, ◌∙◌, ℕ, true, cond, not, ◌&&◌, List, ◌∷◌, ◌++◌, map}
-use Rattle.std.proofs.Common.{ap, ap₂, sym, refl, Option, Some, Ok, false}
-use Rattle.std.specs.List.{list_any}
-use Rattle.std.proofs.lemmas.List.{append-nil}
-use Rattle.dwp_base.specs.declared.section.SectionKind.{SectionKind}
+use Rattle.std.proofs.Common.{[], ◌≡◌, ◌∙◌, ℕ, List, ◌∷◌, ◌++◌, map, sym, refl, Option, Some, Ok}
+use Rattle.std.proofs.Common.{false, append-nil, subst, arith}
+use Rattle.thorin_join.proofs.Names.{adding, bind-ok, bind-was, content_of, Contents, DwarfObject}
+use Rattle.thorin_join.proofs.Names.{ErrorValue, InProgress, is_copied, IsSound, IsSoundBegun}
+use Rattle.thorin_join.proofs.Names.{IsTable, joined_parts, joining, keys, kind_at, Meaning}
+use Rattle.thorin_join.proofs.Names.{Members, New, parts_of, same-ok, same_kind, SectionKind}
+use Rattle.thorin_join.proofs.Names.{Source, source_units, units_of}
 use Rattle.dwp_base.specs.declared.section.SectionKind.TheVariants as kinds
-use Rattle.dwp_elf.specs.Contents.{content_of}
-use Rattle.dwp_dwarf.specs.Units.{UnitsAreTaken}
-use Rattle.dwp_dwarf.specs.declared.unit.UnitSection.{UnitSection}
-use Rattle.dwp_table.specs.declared.object.DwarfObject.{DwarfObject}
-use Rattle.thorin_strings.specs.Strings.{IsTable}
-use Rattle.thorin_input.specs.Growing.{Contents, with_parts, joined_parts}
-use Rattle.thorin_input.specs.Indexes.{Source}
-use Rattle.thorin_join.specs.Laid.{IsLaid}
-use Rattle.thorin_join.specs.Meaning.{Meaning, Members, UnitRead, keys, meant, source_units}
-use Rattle.thorin_join.specs.Meaning.{source_meaning, joining, can_join}
-use Rattle.thorin_input.specs.Names.{same_name, is_compilation}
-use Rattle.thorin_input.specs.NewUnits.{New, NewUnit, new_units}
-use Rattle.thorin_input.specs.Parts.{parts_of}
-use Rattle.thorin_join.specs.Represents.{Represents, AreApart}
-use Rattle.thorin_join.specs.State.{InProgress, names_of, held_units, unit_bytes, adding}
-use Rattle.thorin_join.specs.State.{abbreviations_test, with_all, with_source, with_new_units}
-use Rattle.thorin_join.specs.State.{kind_at}
+use Rattle.dwp_dwarf.proofs.UnitLists.{unit_taken}
+use Rattle.thorin_input.specs.Growing.{with_parts}
+use Rattle.thorin_join.specs.Meaning.{input_meaning, meant, source_meaning, can_join}
+use Rattle.thorin_input.specs.NewUnits.{new_units}
+use Rattle.thorin_join.specs.Represents.{Represents, units_begun}
+use Rattle.thorin_join.specs.Join.{Joins}
+use Rattle.thorin_join.specs.State.{names_of, held_units, unit_bytes, abbreviations_test, with_all}
+use Rattle.thorin_join.specs.State.{with_source, with_new_units}
 use Rattle.thorin_join.proofs.Units.NamesApart.{joined_distinct}
 use Rattle.thorin_join.proofs.Units.JoinedByName.{AreAdded, units-joined, added-keys}
 use Rattle.thorin_join.proofs.Rows.Stay.{Grows, keep-rows}
 use Rattle.thorin_join.proofs.Rows.LieInTurn.{can-lie, laid-lies}
 use Rattle.thorin_join.proofs.Parts.Appended.{content-with_parts, parts-none}
-use Rattle.thorin_join.proofs.Parts.Strings.{PartsLaw}
-use Rattle.thorin_join.proofs.Rows.Meaning.{RowsLaw}
+use Rattle.thorin_join.proofs.Parts.FirstUses.{parts-follow}
+use Rattle.thorin_join.proofs.Rows.OfUnits.{row-shares, is-unit_row}
 use Rattle.thorin_join.proofs.Rows.AllAdded.{AllNew, joined-new, units-added, AllCanBeAdded}
 use Rattle.thorin_join.proofs.Units.Whole.{AllGo, go-joining, units-go}
-use Rattle.dwp_base.proofs.Steps.{bind-was, bind-ok, same-ok}
-use Rattle.thorin_join.proofs.Units.HeadersRead.{ReadAlone}
-use Rattle.dwp_base.proofs.Bools.{by-bool}
-use Rattle.thorin_join.proofs.Units.InRows.{rows-keys}
-use Rattle.thorin_errors.specs.Errors.{ErrorValue}
-use Rattle.dwp_base.specs.Sections.{same_kind}
+use Rattle.thorin_join.proofs.Units.HeadersRead.{read-alone, News, Reads}
+use Rattle.thorin_join.proofs.Units.InRows.{rows-keys, keys-units, units-are}
 use Rattle.thorin_join.proofs.Rows.OneAdded.{not-shared}
 use Rattle.dwp_dwarf.specs.declared.unit.UnitSection.TheVariants as places
 
 -- ---- joining keeps what belongs to units
 
-joining-meant : (source : Source) (names : List DwarfObject) (us : List (DwarfObject × UnitRead))
-    → joining names (map {B = DwarfObject × Option Meaning} (meant source) us) ≡ map {B =
-    DwarfObject × Option Meaning} (meant source) (joining names us)
+abbrev all_meant : Source → Reads → List (DwarfObject × Option Meaning)
+all_meant source us = map {B = DwarfObject × Option Meaning} (meant source) us
+
+joining-meant : (source : Source) (names : List DwarfObject) (us : Reads)
+    → joining names (all_meant source us) ≡ all_meant source (joining names us)
 joining-meant source names [] = refl
 joining-meant source names (u ∷ us) =
-    by-bool _ (list_any (same_name u.0) names)
-    (λ there. rw there (joining-meant source names us))
-    (λ new. rw new (ap (λ l. meant source u ∷ l) (joining-meant source (names ++ u.0 ∷ []) us)))
+    grind (arith, joining-meant source names us, joining-meant source (names ++ u.0 ∷ []) us)
 
-can_join-meant : (source : Source) (names : List DwarfObject) (us : List (DwarfObject × UnitRead))
-    → can_join names (map {B = DwarfObject × Option Meaning} (meant source) us) ≡ can_join names us
+can_join-meant : (source : Source) (names : List DwarfObject) (us : Reads)
+    → can_join names (all_meant source us) ≡ can_join names us
 can_join-meant source names [] = refl
 can_join-meant source names (u ∷ us) =
-    ap₂ (λ a b. cond (list_any (same_name u.0) names) (not (is_compilation u.0) && a) b)
-    (can_join-meant source names us) (can_join-meant source (names ++ u.0 ∷ []) us)
+    grind (arith, can_join-meant source names us, can_join-meant source (names ++ u.0 ∷ []) us)
 
 -- ---- the units that are added, with all that belongs to them
 
@@ -64,22 +52,23 @@ can_join-meant source names (u ∷ us) =
 abbrev pub all_there : Members → List (DwarfObject × Option Meaning)
 all_there ms = map {B = DwarfObject × Option Meaning} (λ u. (u.0, Some u.1)) ms
 
-record Ready (source : Source) (c : Contents) (after : List (List ℕ))
-    (ns : List (DwarfObject × NewUnit)) (rs : List (DwarfObject × UnitRead)) : Type 0 where
+record Ready (source : Source) (c : Contents) (after : List (List ℕ)) (ns : News)
+    (rs : Reads) : Type 0 where
   members : Members
-  are : map {B = DwarfObject × Option Meaning} (meant source) rs ≡ all_there members
+  are : all_meant source rs ≡ all_there members
   can : AllCanBeAdded source.object.order c after ns members
 
-module _ (rows_law : RowsLaw) (source : Source) (before : InProgress) (parts : Contents)
-    (after : List (List ℕ)) (table : IsTable before.strings)
+module _ (source : Source) (before : InProgress) (parts : Contents) (after : List (List ℕ))
+    (table : IsTable before.strings)
     (h : parts_of source before.strings ≡ Ok (parts, after)) where
-  ready : (ns : List (DwarfObject × NewUnit)) (rs : List (DwarfObject × UnitRead))
-      → AreAdded (adding source before parts) ns rs → AllGo source.object.order rs
+  ready : (ns : News) (rs : Reads) → AreAdded (adding source before parts) ns rs
+      → AllGo source.object.order rs
       → Ready source (with_parts parts before.file.contents) after ns rs
   ready [] [] are go = record { members = []; are = refl; can = tt }
   ready (n ∷ ns) (r ∷ rs) are go =
-      let s = rows_law source before.file.contents before.strings parts after r n.1.row table h
-      are.0.tested are.0.row in
+      let made = is-unit_row source.indexes _ r.0 n.1.row are.0.row in
+      let s = row-shares source before.file.contents parts r n.1.row made before.strings after table
+      h are.0.tested in
       let can = can-lie source before parts n r are.0 go.0 in
       let rest = ready ns rs are.1 go.1 in
       record {
@@ -100,12 +89,6 @@ with_all_parts p parts after differing = record p {
   strings = after;
   differing = differing;
 }
-
-pub all-is : (p : InProgress) (parts : Contents) (after : List (List ℕ)) (new : New)
-    → with_all p (parts, after) new ≡ with_new_units (with_all_parts p parts after
-    (p.differing ++ new.differing)) new.units
-unfolding with_all
-all-is p parts after new = refl
 
 -- the steps by which the units of an input are added
 pub record Made (source : Source) (before now : InProgress) : Type 0 where
@@ -133,31 +116,21 @@ source-made source before now h =
       is = same-ok {E = ErrorValue} _ now s3.2;
     }
 
--- an input joins its units to those of a package
-pub record SourceJoins (source : Source) (now : InProgress) (ms : Members) : Type 0 where
-  pub units : List (DwarfObject × Option Meaning)
-  pub meaning : source_meaning source ≡ Ok units
-  pub defined : can_join (keys ms) units ≡ true
-  pub added : Members
-  pub joined : joining (keys ms) units ≡ all_there added
-  pub has : Represents now (ms ++ added)
-  pub apart : AreApart (names_of now)
-  pub laid : IsLaid now
+-- what an input makes of a package
+pub record InputKeeps (bytes : List ℕ) (begun now : Option InProgress) : Type 0 where
+  pub sound : IsSoundBegun now
+  pub joins : Joins bytes (units_begun begun) (units_begun now)
 
 pub grows-with_parts : (parts c : Contents) → Grows c (with_parts parts c)
-grows-with_parts parts c kind = record {
-  rest = joined_parts kind parts;
-  is =
-      content-with_parts kind parts c;
-}
+grows-with_parts parts c kind =
+    record { rest = joined_parts kind parts; is = content-with_parts kind parts c }
 
-pub source-joins : PartsLaw → RowsLaw → ReadAlone → UnitsAreTaken
-    → (source : Source) (before now : InProgress) (ms : Members)
-    → Represents before ms → names_of before ≡ keys ms → AreApart (names_of before) → IsLaid before
-    → source.object.order ≡ before.file.order → with_source source before ≡ Ok now
-    → SourceJoins source now ms
+-- its units are joined to those of the package
+pub source-joins : (bytes : List ℕ) (source : Source) (before now : InProgress) → IsSound before
+    → source.object.order ≡ before.file.order → input_meaning bytes ≡ source_meaning source
+    → with_source source before ≡ Ok now → InputKeeps bytes (Some before) (Some now)
 unfolding source_meaning
-source-joins parts_law rows_law alone taken source before now ms rep named apart laid same h =
+source-joins bytes source before now sound same meaning h =
     let m = source-made source before now h in
     let order = before.file.order in
     let old = before.file.contents in
@@ -165,47 +138,56 @@ source-joins parts_law rows_law alone taken source before now ms rep named apart
     let us = m.new.units in
     let j = units-joined (adding source before parts) m.new m.new_are in
     let held = keys (held_units before) in
-    let names : held ≡ keys ms = keys-held before ∙ named in
-    let kept = parts_law source before.strings parts m.after rep.table m.parts_are in
-    let go = go-joining source.object.order held j.all (units-go taken alone source j.all j.is) in
-    let r = ready rows_law source before parts m.after rep.table m.parts_are us
-    (joining held j.all) j.are go in
+    let ms = units_of before in
+    let rep = sound.units in
+    let names : held ≡ keys ms = keys-held before ∙ sym (keys-units before) in
+    let kept = parts-follow source before.strings parts m.after rep.table m.parts_are in
+    let none = parts-none source before.strings parts m.after m.parts_are in
+    let all = units-go unit_taken read-alone source j.all j.is in
+    let r = ready source before parts m.after rep.table m.parts_are us (joining held j.all) j.are
+    (go-joining source.object.order held j.all all) in
     let q = with_all_parts before parts m.after (before.differing ++ m.new.differing) in
     let added = added-keys (adding source before parts) us (joining held j.all) j.are in
     let fresh : AllNew (names_of before) (keys us) =
     rw (added, ← keys-held before) (joined-new held j.all) in
     let rows = keep-rows order old q.file.contents before.strings m.after before.rows ms
-    (grows-with_parts parts old) kept.longer rep.rows in
-    let empty : (place : UnitSection) → joined_parts (kind_at place) parts ≡ [] = λ place.
-    parts-none source before.strings parts m.after m.parts_are (kind_at place) (not-shared place).0
-    (not-shared place).2 in
+    (grows-with_parts parts old) kept.kept rep.rows in
     let a = units-added q.file.contents q us ms r.members
     (λ kind. record { rest = []; is = sym (append-nil (content_of kind q.file.contents)) }) fresh
     (subst (λ o. AllCanBeAdded o q.file.contents m.after us r.members) same r.can) rows
-    (laid-lies before parts empty laid) in
-    let none : (kind : SectionKind) → same_kind kinds.Info kind ≡ false
-    → same_kind kinds.Types kind ≡ false → joined_parts kind parts ≡ [] → content_of kind old ≡ []
-    → content_of kind (with_new_units q us).file.contents ≡ [] = λ kind info types new none.
+    (laid-lies before parts (λ place. none (kind_at place) (not-shared place).0
+    (not-shared place).2) sound.laid) in
+    let still : (kind : SectionKind) → same_kind kinds.Info kind ≡ false
+    → same_kind kinds.Types kind ≡ false → is_copied kind ≡ false
+    → same_kind kinds.StrOffsets kind ≡ false → content_of kind old ≡ []
+    → content_of kind (with_new_units q us).file.contents ≡ [] = λ kind info types copied apart was.
     a.other kind (elim [ places.Info ↦ info | places.Types ↦ types ])
-    ∙ content-with_parts kind parts old ∙ rw (none, new) refl in
+    ∙ content-with_parts kind parts old ∙ rw (was, none kind copied apart) refl in
+    let has : Represents (with_new_units q us) (ms ++ r.members) = record {
+      table = rw a.strings kept.table;
+      no_strings = still kinds.Str refl refl refl refl rep.no_strings;
+      no_compilations = still kinds.CuIndex refl refl refl refl rep.no_compilations;
+      no_types = still kinds.TuIndex refl refl refl refl rep.no_types;
+      rows = rw (a.order, a.strings) a.rows;
+    } in
+    let are = units-are (with_new_units q us) (ms ++ r.members) has in
     rw (← m.is) (record {
-      units = map {B = DwarfObject × Option Meaning} (meant source) j.all;
-      meaning = bind-ok (source_units source) j.all _ j.is;
-      defined = rw (← names) (can_join-meant source held j.all ∙ j.defined);
-      added = r.members;
-      joined = rw (← names) (joining-meant source held j.all ∙ r.are);
-      has = record {
-        table = rw a.strings kept.table;
-        no_strings = none kinds.Str refl refl kept.no_strings rep.no_strings;
-        no_compilations =
-            none kinds.CuIndex refl refl kept.no_compilations rep.no_compilations;
-        no_types = none kinds.TuIndex refl refl kept.no_types rep.no_types;
-        rows = rw (a.order, a.strings) a.rows;
+      joins = record {
+        units = all_meant source j.all;
+        meaning = meaning ∙ bind-ok (source_units source) j.all _ j.is;
+        defined = rw (← names) (can_join-meant source held j.all ∙ j.defined);
+        added = r.members;
+        joined = rw (← names) (joining-meant source held j.all ∙ r.are);
+        is = sym are;
       };
-      apart = rw (a.names, added, keys-held before) (joined_distinct (names_of before) j.all apart);
-      laid = record {
-        info = rw a.order (a.lie.lies places.Info);
-        types = rw a.order (a.lie.lies places.Types);
-        once = a.lie.once;
+      sound = record {
+        units = rw are at has;
+        apart = rw (a.names, added, keys-held before)
+            (joined_distinct (names_of before) j.all sound.apart);
+        laid = record {
+          info = rw a.order (a.lie.lies places.Info);
+          types = rw a.order (a.lie.lies places.Types);
+          once = a.lie.once;
+        };
       };
     })

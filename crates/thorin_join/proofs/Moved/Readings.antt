@@ -2,22 +2,14 @@
 use Rattle.std.proofs.Common.{◌≡◌, ℕ, zero, suc, ◌+◌, ◌-◌, ◌^◌, Bool, true, false, cond, ltb, List}
 use Rattle.std.proofs.Common.{length, Result, Ok, Err, refl, ap, ◌∙◌, arith, add_assoc}
 use Rattle.std.specs.Prelude.{ℤ}
-use Rattle.dwp_base.specs.Reading.{◌>>=◌}
-use Rattle.dwp_base.specs.declared.endian.Endianness.{Endianness}
-use Rattle.dwp_bytes.specs.Input.{Input, after, byte_at, number_at, skip_at, split_at}
+use Rattle.thorin_join.proofs.Names.{Answer, Endianness, Input, ReadError, UnexpectedEof, ◌>>=◌}
+use Rattle.dwp_bytes.specs.Input.{after, byte_at, number_at, skip_at, split_at}
 use Rattle.dwp_bytes.specs.Leb.{leb_at, uleb_at, signed_leb_at, sleb_at, is_i64}
-use Rattle.dwp_bytes.specs.declared.error.ReadError.{ReadError}
-use Rattle.dwp_bytes.specs.declared.error.ReadError.TheVariants.{UnexpectedEof}
-use Rattle.dwp_dwarf.proofs.Readings.{Answer}
 
 -- bytes that nothing relocates, from a place on
 abbrev pub plain : Endianness → ℕ → List ℕ → Input
-plain order place bytes = record {
-  order = order;
-  relocated = λ at stored. stored;
-  place = place;
-  bytes = bytes;
-}
+plain order place bytes =
+    record { order = order; relocated = λ at stored. stored; place = place; bytes = bytes }
 
 -- the same bytes at a place behind others
 abbrev pub shifted : ℕ → Input → Input

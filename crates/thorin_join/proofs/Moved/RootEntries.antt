@@ -1,12 +1,9 @@
 -- A unit's root entry is read alike wherever its bytes stand.
 use Rattle.std.proofs.Common.{[], ◌≡◌, ◌∙◌, ℕ, zero, suc, ◌+◌, ◌-◌, Bool, true, false, cond, eqb}
 use Rattle.std.proofs.Common.{List, ◌∷◌, length, Result, Ok, Err, Option, Some, None, refl, ap, ap₂}
-use Rattle.std.specs.Option.{ok_or}
-use Rattle.dwp_base.specs.Reading.{◌>>=◌}
-use Rattle.dwp_bytes.specs.Input.{Input, found_at, byte_at, number_at, skip_at, split_at}
-use Rattle.dwp_bytes.specs.Leb.{uleb_at}
-use Rattle.dwp_bytes.specs.declared.encoding.Encoding.{Encoding}
-use Rattle.dwp_bytes.specs.declared.error.ReadError.{ReadError}
+use Rattle.thorin_join.proofs.Names.{Answer, as_error, DwarfObject, Encoding, ErrorValue, Input}
+use Rattle.thorin_join.proofs.Names.{ok_or, ReadError, ◌>>=◌}
+use Rattle.dwp_bytes.specs.Input.{found_at, skip_at, split_at}
 use Rattle.dwp_bytes.specs.declared.error.ReadError.TheVariants.{UnknownForm, UnknownCode}
 use Rattle.dwp_dwarf.specs.Abbreviations.{Specification, code_at, declaration}
 use Rattle.dwp_dwarf.specs.Entries.{DebugAttribute, attribute_at, attributes, entry, root_code_at}
@@ -17,11 +14,8 @@ use Rattle.dwp_dwarf.specs.Forms.{named_within, named_form_at}
 use Rattle.dwp_dwarf.specs.Offsets.{from_at}
 use Rattle.dwp_dwarf.specs.Units.{Unit as Header, listed}
 use Rattle.dwp_dwarf.specs.declared.unit.UnitType.TheVariants as unit_types
-use Rattle.dwp_dwarf.proofs.Readings.{Answer, bind_alike}
-use Rattle.dwp_table.specs.declared.object.DwarfObject.{DwarfObject}
-use Rattle.thorin_errors.specs.Errors.{ErrorValue, NoDie, TopLevelDieNotUnit}
-use Rattle.thorin_errors.specs.Errors.{ParseUnitAbbreviations, GimliRead}
-use Rattle.thorin_errors.specs.Answers.{as_error}
+use Rattle.dwp_dwarf.proofs.Readings.{bind_alike}
+use Rattle.thorin_errors.specs.Errors.{NoDie, TopLevelDieNotUnit, ParseUnitAbbreviations, GimliRead}
 use Rattle.thorin_identity.specs.Identity.{DW_AT_GNU_dwo_id, is_unit_tag, found_or}
 use Rattle.thorin_identity.specs.Identity.{first_identifier, entry_identity, root_identity}
 use Rattle.thorin_identity.specs.Identity.{identity_by, identity}
@@ -125,19 +119,13 @@ module _ (d : ℕ) where
   attribute-shifts encoding s i = then _ (shifts-named (length i.bytes) s.form i) (λ form. then _
       (value-shifts encoding form.0 form.1) (λ value. answered))
 
-  number-by : (read : Input → Answer ℕ) → Shifts d same ℕ read → (i : Input)
-      → number_read (read (shifted d i)) ≡ number_read (read i)
-  number-by read shifts i = told number_read (shifts i) (λ x. refl)
-
   number-same : (a : DebugAttribute) → number_of (shifted_attribute a) ≡ number_of a
   unfolding number_of
-  number-same a = rw (
-    number-by byte_at (shifts-byte d same) a.value,
-    number-by (number_at 2) (shifts-number d same 2) a.value,
-    number-by (number_at 4) (shifts-number d same 4) a.value,
-    number-by (number_at 8) (shifts-number d same 8) a.value,
-    number-by uleb_at (shifts-uleb d same) a.value,
-  ) refl
+  number-same a =
+      let byte = told number_read (shifts-byte d same a.value) (λ x. refl) in
+      let number = λ (n : ℕ). told number_read (shifts-number d same n a.value) (λ x. refl) in
+      let leb = told number_read (shifts-uleb d same a.value) (λ x. refl) in
+      rw (byte, number 2, number 4, number 8, leb) refl
 
   first-same : (encoding : Encoding) (specs : List Specification) (i : Input)
       → first_identifier (attributes encoding specs (shifted d i)) ≡ first_identifier

@@ -1,27 +1,21 @@
 -- A unit is read alike wherever its bytes stand, and whatever follows them.
 use Rattle.std.proofs.Common.{◌≡◌, ◌∙◌, ℕ, ◌+◌, ◌-◌, ◌≤◌, cond, ltb, leb, eqb, ◌&&◌, List, ◌++◌}
 use Rattle.std.proofs.Common.{length, take, Result, Ok, Err, ap, sym, refl, arith, length-append}
-use Rattle.std.proofs.Common.{add-zero, ◌⊎◌, inl, inr}
-use Rattle.std.proofs.lemmas.Bool.{eqb-false, le-ltb, ltb-false}
-use Rattle.std.proofs.lemmas.List.{take-append-le, drop-append-le, length-take-le}
-use Rattle.dwp_base.specs.Reading.{◌>>=◌}
-use Rattle.dwp_base.specs.declared.endian.Endianness.{Endianness}
-use Rattle.dwp_base.proofs.Bools.{by-bool}
-use Rattle.dwp_base.proofs.Steps.{bind-was, same-ok, bind-ok}
-use Rattle.dwp_bytes.specs.Encoding.{offset_size}
-use Rattle.dwp_bytes.specs.Input.{Input, after, split_at, number_at, relocated_at, offset_at}
+use Rattle.std.proofs.Common.{add-zero, ◌⊎◌, inl, inr, le-ltb, ltb-false, length-take-le}
+use Rattle.thorin_join.proofs.Names.{Answer, bind-ok, bind-was, by-bool, drop-append-le, Endianness}
+use Rattle.thorin_join.proofs.Names.{eqb-false, Input, offset_size, ReadError, same-ok}
+use Rattle.thorin_join.proofs.Names.{UnexpectedEof, UnitSection, ◌>>=◌}
+use Rattle.std.proofs.lemmas.List.{take-append-le}
+use Rattle.dwp_bytes.specs.Input.{after, split_at, number_at, relocated_at, offset_at}
 use Rattle.dwp_bytes.specs.Input.{is_address_size}
 use Rattle.dwp_bytes.specs.declared.encoding.Format.{Format}
 use Rattle.dwp_bytes.specs.declared.encoding.Format.TheVariants.{Dwarf32, Dwarf64}
-use Rattle.dwp_bytes.specs.declared.error.ReadError.{ReadError}
-use Rattle.dwp_bytes.specs.declared.error.ReadError.TheVariants.{UnexpectedEof}
 use Rattle.dwp_dwarf.specs.Units.{Unit as Header, UnitsAreTaken, initial_length_at, address_size_at}
 use Rattle.dwp_dwarf.specs.Units.{type_at, older_type_at, unit_code_at, unit_type_at, older_at}
 use Rattle.dwp_dwarf.specs.Units.{newer_at, header_at, unit_at}
-use Rattle.dwp_dwarf.specs.declared.unit.UnitSection.{UnitSection}
 use Rattle.dwp_dwarf.specs.declared.unit.UnitSection.TheVariants.{Info, Types}
 use Rattle.dwp_dwarf.specs.declared.unit.UnitType.{UnitType}
-use Rattle.dwp_dwarf.proofs.Readings.{Answer, Gives, then_gives, value_gives, was, more, test_gives}
+use Rattle.dwp_dwarf.proofs.Readings.{Gives, then_gives, value_gives, was, more, test_gives}
 use Rattle.dwp_dwarf.proofs.Readings.{more_gives, error_gives}
 use Rattle.dwp_dwarf.specs.declared.unit.UnitType.TheVariants as unit_types
 use Rattle.dwp_dwarf.proofs.Units.{unit_takes}

@@ -1,30 +1,20 @@
 -- What the parts of an input are for the contents that they are added to.
-use Rattle.std.proofs.Common.{◌≡◌, ◌∙◌, ℕ, Bool, true, false, cond, eqb, List, [], ◌∷◌, ◌++◌}
-use Rattle.std.proofs.Common.{length, not, ◌&&◌, Ok, refl, sym, ap, if◌then◌else◌, ◌⊎◌, inl, inr}
-use Rattle.std.proofs.Common.{true≢false, arith, subst}
-use Rattle.std.proofs.lemmas.List.{append_assoc, append-nil}
-use Rattle.std.proofs.lemmas.Bool.{eqb-true, false_from_ne_true}
-use Rattle.dwp_base.specs.declared.section.SectionKind.{SectionKind}
-use Rattle.dwp_base.specs.declared.section.SectionKind.TheVariants.{StrOffsets}
-use Rattle.dwp_base.specs.Sections.{same_kind}
-use Rattle.dwp_base.proofs.EveryKind.{is-same, same-self}
-use Rattle.dwp_base.proofs.Bools.{by-bool, or-right}
-use Rattle.dwp_elf.specs.Contents.{content_of, appended}
-use Rattle.thorin_errors.specs.Errors.{ErrorValue}
-use Rattle.thorin_input.specs.Growing.{Contents, with_bytes, with_parts, joined_parts}
-use Rattle.thorin_input.specs.Indexes.{Source}
+use Rattle.std.proofs.Common.{◌≡◌, ◌∙◌, ℕ, true, false, cond, eqb, List, [], ◌∷◌, ◌++◌, length, not}
+use Rattle.std.proofs.Common.{◌&&◌, Ok, refl, sym, ap, if◌then◌else◌, ◌⊎◌, inl, inr, true≢false}
+use Rattle.std.proofs.Common.{arith, subst, append_assoc, append-nil, eqb-true}
+use Rattle.std.proofs.lemmas.Bool.{false_from_ne_true}
+use Rattle.thorin_join.proofs.Names.{bind-was, by-bool, content_of, Contents, ErrorValue, has_part}
+use Rattle.thorin_join.proofs.Names.{is-same, is_copied, joined_parts, Parts, parts_of, same-ok}
+use Rattle.thorin_join.proofs.Names.{same-self, same_kind, SectionKind, Source, StrOffsets, Used}
+use Rattle.thorin_join.proofs.Names.{with_bytes}
+use Rattle.dwp_base.proofs.Bools.{or-right}
+use Rattle.dwp_elf.specs.Contents.{appended}
+use Rattle.thorin_input.specs.Growing.{with_parts}
 use Rattle.thorin_join.specs.Meaning.{joined_content}
-use Rattle.thorin_input.specs.Format.{is_in_format, is_copied}
+use Rattle.thorin_input.specs.Format.{is_in_format}
 use Rattle.thorin_input.specs.InputStrings.{rewritten}
-use Rattle.thorin_input.specs.Parts.{Parts, has_part, stands_once, with_offsets, with_part}
-use Rattle.thorin_input.specs.Parts.{with_each_part, parts_of}
-use Rattle.thorin_input.specs.Used.{Used}
-use Rattle.dwp_base.proofs.Steps.{bind-was, same-ok}
+use Rattle.thorin_input.specs.Parts.{stands_once, with_offsets, with_part, with_each_part}
 use Rattle.thorin_join.proofs.Steps.{past}
-
-pub either : (b : Bool) → (b ≡ true) ⊎ (b ≡ false)
-either true = inl refl
-either false = inr refl
 
 pub differ : (a b : SectionKind) → (a ≡ b → ⊥) → same_kind a b ≡ false
 differ a b apart = false_from_ne_true _ (λ same. apart (is-same a b same))
@@ -66,28 +56,19 @@ pub content-with_parts : (kind : SectionKind) (parts c : Contents)
 unfolding with_parts
 content-with_parts kind [] c = sym (append-nil (content_of kind c))
 content-with_parts kind (p ∷ ps) c =
-    content-with_parts kind ps (with_bytes p.0 p.1 c)
-    ∙ ap (λ v. v ++ joined_parts kind ps) (content-with_bytes kind p.0 p.1 c)
-    ∙ by-bool _ (same_kind p.0 kind)
-    (λ same. rw same (append_assoc (content_of kind c) p.1 (joined_parts kind ps)))
-    (λ other. rw other refl)
+    let later = content-with_parts kind ps (with_bytes p.0 p.1 c) in
+    let put = content-with_bytes kind p.0 p.1 c in
+    grind (arith, later, put, append_assoc (content_of kind c) p.1 (joined_parts kind ps))
 
 -- ---- what a section adds to the parts
-pub copied-differ : (a b : SectionKind) → is_copied a ≡ true → is_copied b ≡ false
-    → same_kind b a ≡ false
-copied-differ a b copied not_copied =
-    differ b a (λ e. true≢false (sym copied ∙ ap is_copied (sym e) ∙ not_copied))
-
 -- joined parts with one more
 pub joined_parts-more : (kind : SectionKind) (a : Contents) (k : SectionKind) (bytes : List ℕ)
     → joined_parts kind (a ++ (k, bytes) ∷ []) ≡ joined_parts kind a ++ cond
     (same_kind k kind) bytes []
 joined_parts-more kind [] k bytes = ap (λ v. cond (same_kind k kind) v []) (append-nil bytes)
 joined_parts-more kind (p ∷ ps) k bytes =
-    ap (λ v. cond (same_kind p.0 kind) (p.1 ++ v) v) (joined_parts-more kind ps k bytes)
-    ∙ by-bool _ (same_kind p.0 kind)
-    (λ same. rw same (sym (append_assoc p.1 (joined_parts kind ps) _)))
-    (λ other. rw other refl)
+    rw (joined_parts-more kind ps k bytes) (by-bool _ (same_kind p.0 kind)
+    (λ same. rw same (sym (append_assoc p.1 (joined_parts kind ps) _))) (λ other. rw other refl))
 
 pub joined_parts-other : (kind : SectionKind) (a : Contents) (k : SectionKind) (bytes : List ℕ)
     → same_kind k kind ≡ false
@@ -167,10 +148,8 @@ module _ (source : Source) where
   pub adds-offsets : (before : Parts) (s : Used) (next : Parts) → same_kind s.kind StrOffsets ≡ true
       → Adds before s next → Rewritten before s.bytes next
   adds-offsets before s next offsets (inl (o, w)) = w
-  adds-offsets before s next offsets (inr (inl (o, c, is))) =
-      absurd (true≢false (sym offsets ∙ o))
-  adds-offsets before s next offsets (inr (inr (o, c, is))) =
-      absurd (true≢false (sym offsets ∙ o))
+  adds-offsets before s next offsets (inr (inl p)) = absurd (true≢false (sym offsets ∙ p.0))
+  adds-offsets before s next offsets (inr (inr p)) = absurd (true≢false (sym offsets ∙ p.0))
 
   -- one that is copied adds itself, any other but string offsets adds nothing
   pub adds-plain : (before : Parts) (s : Used) (next : Parts) → same_kind s.kind StrOffsets ≡ false
@@ -194,49 +173,39 @@ module _ (source : Source) where
         × (joined_parts kind next.0 ≡ joined_parts kind before.0)
     adds-other before s next other (inl (o, w)) =
         let apart : same_kind StrOffsets kind ≡ false = rw (is-same s.kind StrOffsets o) at other in
-        rw w.is (
-          has-other kind before.0 StrOffsets _ apart,
-          joined_parts-other kind before.0
-              StrOffsets _ apart,
-        )
-    adds-other before s next other (inr (inl (o, c, is))) = rw is (
-      has-other kind before.0 s.kind s.bytes other,
-      joined_parts-other kind before.0 s.kind s.bytes other,
-    )
+        let joined = joined_parts-other kind before.0 StrOffsets w.written.0 apart in
+        rw w.is (has-other kind before.0 StrOffsets w.written.0 apart, joined)
+    adds-other before s next other (inr (inl (o, c, is))) =
+        let joined = joined_parts-other kind before.0 s.kind s.bytes other in
+        rw is (has-other kind before.0 s.kind s.bytes other, joined)
     adds-other before s next other (inr (inr (o, c, is))) = rw is (refl, refl)
 
--- sections that are copied, joined
-pub parts-copied : (source : Source) (strings : List (List ℕ)) (parts : Contents)
-    (after : List (List ℕ)) → parts_of source strings ≡ Ok (parts, after)
-    → (kind : SectionKind) → is_copied kind ≡ true → joined_parts kind parts ≡ joined_content kind
-    source.object.sections
-parts-copied source strings parts after h kind copied =
-    each-part source (λ before ss next.
-    joined_parts kind next.0 ≡ joined_parts kind before.0 ++ joined_content kind ss)
-    (λ parts. sym (append-nil (joined_parts kind parts.0)))
-    (λ before s next ss last made rest later. later ∙ by-bool _ (same_kind s.kind kind)
-    (λ same. rw (
-      same,
-      adds-copied source kind before s next copied same made.adds,
-      joined_parts-more kind before.0 kind s.bytes,
-      same-self kind,
-    )
-    (append_assoc (joined_parts kind before.0) s.bytes (joined_content kind ss)))
-    (λ other. rw (other, (adds-other source kind before s next other made.adds).1)))
-    source.object.sections ([], strings) (parts, after) h
+module _ (source : Source) (strings : List (List ℕ)) (parts : Contents) (after : List (List ℕ))
+    (h : parts_of source strings ≡ Ok (parts, after)) (kind : SectionKind) where
+  -- sections that are copied, joined
+  pub parts-copied : is_copied kind ≡ true
+      → joined_parts kind parts ≡ joined_content kind source.object.sections
+  parts-copied copied =
+      each-part source (λ before ss next.
+      joined_parts kind next.0 ≡ joined_parts kind before.0 ++ joined_content kind ss)
+      (λ parts. sym (append-nil (joined_parts kind parts.0)))
+      (λ before s next ss last made rest later. later ∙ by-bool _ (same_kind s.kind kind)
+      (λ same. let adds = adds-copied source kind before s next copied same made.adds in
+      rw (same, adds, joined_parts-more kind before.0 kind s.bytes, same-self kind)
+      (append_assoc (joined_parts kind before.0) s.bytes (joined_content kind ss)))
+      (λ other. rw (other, (adds-other source kind before s next other made.adds).1)))
+      source.object.sections ([], strings) (parts, after) h
 
--- of units, strings and indexes there is no part
-pub parts-none : (source : Source) (strings : List (List ℕ)) (parts : Contents)
-    (after : List (List ℕ)) → parts_of source strings ≡ Ok (parts, after)
-    → (kind : SectionKind) → is_copied kind ≡ false → same_kind StrOffsets kind ≡ false
-    → joined_parts kind parts ≡ []
-parts-none source strings parts after h kind none apart =
-    each-part source (λ before ss next. joined_parts kind next.0 ≡ joined_parts kind before.0)
-    (λ parts. refl)
-    (λ before s next ss last made rest later. later ∙ by-bool _ (same_kind s.kind kind)
-    (λ same. let is = is-same s.kind kind same in
-    let plain = kind-unlike StrOffsets kind StrOffsets apart refl in
-    ap (λ (p : Parts). joined_parts kind p.0)
-    (rw (is, none) at (adds-plain source before s next (rw is plain) made.adds)))
-    (λ other. (adds-other source kind before s next other made.adds).1))
-    source.object.sections ([], strings) (parts, after) h
+  -- of units, strings and indexes there is no part
+  pub parts-none : is_copied kind ≡ false → same_kind StrOffsets kind ≡ false
+      → joined_parts kind parts ≡ []
+  parts-none none apart =
+      each-part source (λ before ss next. joined_parts kind next.0 ≡ joined_parts kind before.0)
+      (λ parts. refl)
+      (λ before s next ss last made rest later. later ∙ by-bool _ (same_kind s.kind kind)
+      (λ same. let is = is-same s.kind kind same in
+      let plain = kind-unlike StrOffsets kind StrOffsets apart refl in
+      ap (λ (p : Parts). joined_parts kind p.0)
+      (rw (is, none) at (adds-plain source before s next (rw is plain) made.adds)))
+      (λ other. (adds-other source kind before s next other made.adds).1))
+      source.object.sections ([], strings) (parts, after) h

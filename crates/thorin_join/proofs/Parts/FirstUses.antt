@@ -1,55 +1,42 @@
 -- What the sections of an input bring: the strings that their string offsets name, in order of
 -- first use, how many bytes these have, and the parts.
 use Rattle.std.proofs.Common.{◌≡◌, ◌∙◌, ℕ, zero, suc, ◌+◌, ◌*◌, ◌-◌, ◌≤◌, ◌<◌, cond, true, ltb, eqb}
-use Rattle.std.proofs.Common.{if◌then◌else◌, List, [], ◌∷◌, ◌++◌, length, take, drop, refl, sym, ap}
-use Rattle.std.proofs.Common.{subst, Result, Ok, inl, inr, arith}
-use Rattle.std.specs.Prelude.{slice_range}
-use Rattle.std.specs.List.{list_any, sum_by, position_or_len}
+use Rattle.std.proofs.Common.{if◌then◌else◌, List, [], ◌∷◌, ◌++◌, length, take, drop, refl, ap}
+use Rattle.std.proofs.Common.{subst, Result, Ok, inl, inr, arith, slice_range, length-append}
+use Rattle.std.proofs.Common.{length-take, length-drop}
+use Rattle.thorin_join.proofs.Names.{as_error, as_error_ok, bind-ok, bind-was, by-bool, Contents}
+use Rattle.thorin_join.proofs.Names.{Contribution, DwarfObject, Encoding, Endianness, entry_count}
+use Rattle.thorin_join.proofs.Names.{ErrorValue, first, InProgress, is_copied, is_package, IsTable}
+use Rattle.thorin_join.proofs.Names.{list_any, named_in, NewUnit, offset_size, offsets_used, Parts}
+use Rattle.thorin_join.proofs.Names.{parts_of, ReadError, same-ok, same_kind, same_name, Source}
+use Rattle.thorin_join.proofs.Names.{Str, strings_of, StrOffsets, sum_by, take-length, Used}
+use Rattle.thorin_join.proofs.Names.{with_unit_added}
+use Rattle.std.specs.List.{position_or_len}
 use Rattle.std.specs.Result.{result_unwrap_or}
-use Rattle.std.specs.Str.{bytes_eq}
 use Rattle.std.proofs.Math.Nat.{mul-le-mul_right}
-use Rattle.std.proofs.Math.Seq.{take-length}
-use Rattle.std.proofs.lemmas.List.{length-append, length-take, length-drop}
 use Rattle.std.proofs.lemmas.List.Sums.{sum_by-cons, sum_by-append, sum_by_push}
-use Rattle.dwp_base.specs.Sections.{same_kind}
-use Rattle.dwp_base.specs.declared.endian.Endianness.{Endianness}
-use Rattle.dwp_base.specs.declared.section.Contribution.{Contribution}
-use Rattle.dwp_base.specs.declared.section.SectionKind.TheVariants.{Str, StrOffsets}
-use Rattle.dwp_base.proofs.Bools.{by-bool}
-use Rattle.dwp_base.proofs.Steps.{bind-was, bind-ok, same-ok}
-use Rattle.dwp_bytes.specs.Encoding.{offset_size}
-use Rattle.dwp_bytes.specs.StringOffsets.{header_size, entry_count, string_at}
-use Rattle.dwp_bytes.specs.declared.encoding.Encoding.{Encoding}
-use Rattle.dwp_bytes.specs.declared.error.ReadError.{ReadError}
-use Rattle.dwp_table.specs.declared.object.DwarfObject.{DwarfObject}
-use Rattle.thorin_errors.specs.Errors.{ErrorValue, StrAtOffset}
-use Rattle.thorin_errors.specs.Answers.{as_error}
+use Rattle.dwp_bytes.specs.StringOffsets.{header_size, string_at}
+use Rattle.thorin_errors.specs.Errors.{StrAtOffset}
 use Rattle.thorin_strings.specs.StringOffsets.{offset_at, named_at, fitting_offset, remapped_entry}
-use Rattle.thorin_strings.specs.StringOffsets.{remapped_entries, remapped, entry_at}
-use Rattle.thorin_strings.specs.Strings.{with_string, offset_of, IsZeroFree, IsTable}
+use Rattle.thorin_strings.specs.StringOffsets.{remapped_entries, remapped, entry_at, entry_bytes}
+use Rattle.thorin_strings.specs.Strings.{with_string, offset_of, IsZeroFree}
 use Rattle.thorin_strings.proofs.Named.{read_free, string_was, used}
-use Rattle.thorin_strings.proofs.NamedEntries.{as_error_ok}
 use Rattle.thorin_strings.proofs.RemapLemmas.{kept_more}
 use Rattle.thorin_strings.proofs.NamedBytes.{entries_long, header_long}
 use Rattle.thorin_packaged.specs.PackagedOffsets.{offset_ranges, ranges_test, rewritten_from}
 use Rattle.thorin_packaged.specs.PackagedOffsets.{packaged_offsets}
 use Rattle.thorin_packaged.specs.PackagedReading.{range_bytes}
 use Rattle.thorin_packaged.proofs.RewriteSteps.{next_passed}
-use Rattle.thorin_input.specs.Format.{is_copied}
-use Rattle.thorin_input.specs.Indexes.{Source, is_package}
 use Rattle.thorin_input.specs.InputStrings.{rewritten}
-use Rattle.thorin_input.specs.Names.{same_name}
-use Rattle.thorin_input.specs.NewUnits.{NewUnit}
-use Rattle.thorin_input.specs.Parts.{Parts, with_each_part}
-use Rattle.thorin_input.specs.Used.{Used, first}
-use Rattle.thorin_join.specs.FirstUse.{with_strings, named_by_ranges, named_by_section, named_in}
-use Rattle.thorin_join.specs.Sizes.{bytes_of_strings, offsets_used, bytes_of_contents}
-use Rattle.thorin_join.specs.State.{InProgress, names_of, with_unit_added, with_new_unit}
-use Rattle.thorin_join.specs.State.{with_new_units}
-use Rattle.thorin_join.specs.Strings.{each_from, offset_of_entry, strings_at, strings_of}
+use Rattle.thorin_input.specs.Parts.{with_each_part}
+use Rattle.thorin_join.specs.FirstUse.{with_strings, named_by_ranges, named_by_section}
+use Rattle.thorin_join.specs.Sizes.{bytes_of_strings, bytes_of_contents}
+use Rattle.thorin_join.specs.State.{names_of, with_new_unit, with_new_units}
+use Rattle.thorin_join.specs.Strings.{each_from, offset_of_entry, strings_at}
 use Rattle.thorin_join.proofs.Steps.{past, kept}
 use Rattle.thorin_join.proofs.Parts.Appended.{Adds, each-part}
 use Rattle.thorin_join.proofs.Parts.OffsetRanges.{range-of, count-fits, count-none}
+use Rattle.thorin_join.proofs.Units.HeadersRead.{News}
 
 -- ---- strings that are used
 with-append : (strings a b : List (List ℕ)) → with_strings strings (a ++ b) ≡ with_strings
@@ -67,14 +54,8 @@ pub used-most : (strings used : List (List ℕ))
 used-most strings [] = omega arith
 used-most strings (s ∷ ss) =
     let all = sum_by-cons ended_long s ss in
-    by-bool _ (list_any (λ t. bytes_eq t s) strings)
-    (λ there. rw there (omega (arith, all, used-most strings ss)))
-    (λ new. rw new (omega (
-      arith,
-      all,
-      used-most (strings ++ s ∷ []) ss,
-      sum_by_push ended_long strings s,
-    )))
+    let pushed = sum_by_push ended_long strings s in
+    grind (arith, all, pushed, used-most strings ss, used-most (strings ++ s ∷ []) ss)
 
 -- a table of strings, with the one before in front
 pub record Follows (before after : List (List ℕ)) : Type 0 where
@@ -100,29 +81,23 @@ none-brings {section} {strings} = record {
 both-bring : {section : List ℕ} {a named b others c : List (List ℕ)} {m n size : ℕ}
     → Brings section a named m b → Brings section b others n c → m + n ≤ size
     → Brings section a (named ++ others) size c
-both-bring {section} {a} {named} {b} {others} {c} first second fits = record {
-  are = second.are ∙ ap (λ l. with_strings l others) first.are ∙ sym (with-append a named others);
-  most = omega (
-    arith,
-    first.most,
-    second.most,
-    mul-le-mul_right (length section) fits,
-    sum_by-append ended_long named others,
-  );
-  follows = λ table.
-      let one = first.follows table in
-      let two = second.follows one.table in
-      record { table = two.table; kept = kept_more a b c one.kept two.kept };
-}
+both-bring {section} {a} {named} {b} {others} {c} first second fits =
+    let product = mul-le-mul_right (length section) fits in
+    let all = sum_by-append ended_long named others in
+    record {
+      are = rw (with-append a named others, ← first.are) second.are;
+      most = omega (arith, first.most, second.most, product, all);
+      follows = λ table.
+          let one = first.follows table in
+          let two = second.follows one.table in
+          record { table = two.table; kept = kept_more a b c one.kept two.kept };
+    }
 
 -- a string lies inside its section, with the zero byte that ends it
 zero-within : (xs : List ℕ) → list_any (λ b. eqb b 0) xs ≡ true
     → position_or_len (λ b. eqb b 0) xs < length xs
 zero-within [] h = absurd cc
-zero-within (x ∷ xs) h =
-    by-bool _ (eqb x 0)
-    (λ here. rw here (omega arith))
-    (λ later. rw later (omega (arith, zero-within xs (rw later at h))))
+zero-within (x ∷ xs) h = grind (arith, zero-within xs)
 
 string-brings : (section string : List ℕ) (at : ℕ) (strings : List (List ℕ))
     → string_at section at ≡ Ok string
@@ -134,22 +109,14 @@ string-brings section string at strings h =
     let ended = kept (list_any (λ b. eqb b 0) left) _ _ string inside.1 in
     let is = ap length (same-ok _ string ended.1) in
     let taken = length-take (position_or_len (λ b. eqb b 0) left) left in
-    let within = zero-within left ended.0 in
+    let one = sum_by-cons ended_long string [] in
     record {
       are = refl;
       follows = λ table.
           let free = subst IsZeroFree (string_was section string at h) (read_free section at) in
           let new = used strings string table free in
           record { table = new.table; kept = new.kept };
-      most = omega (
-        arith,
-        is,
-        taken,
-        within,
-        length-drop at section,
-        sum_by-cons
-            ended_long string [],
-      );
+      most = omega (arith, is, taken, zero-within left ended.0, length-drop at section, one);
     }
 
 -- ---- the strings that so many first entries name
@@ -195,12 +162,12 @@ module _ (order : Endianness) (encoding : Encoding) (section bytes : List ℕ) w
       ap (string_at section) (same-ok {E = ReadError} _ s5.0
       (past _ _ _ s5.0 (as_error_ok _ _ s5.0 s5.1)).1)
       ∙ as_error_ok (λ e. StrAtOffset e s5.0) (string_at section s5.0) s3.0 s5.2 in
-      rw (← same-ok {E = ErrorValue} _ out s2.2, ← same-ok {E = ErrorValue} _ s2.0 s4.2) (
-        before.0 ++ s3.0 ∷ [],
-        omega (arith, before.1, length-append s1.0.0 (s4.0 ∷ [])),
-        both-bring before.2 (string-brings section s3.0 (f n) s1.0.1 here) (omega arith),
-        string-more section f 0 n n before.0 s3.0 (omega arith) before.3 here,
-      )
+      let long = length-append s1.0.0 (s4.0 ∷ []) in
+      let fits : n * 4 + 4 ≤ suc n * 4 = omega arith in
+      let both = both-bring before.2 (string-brings section s3.0 (f n) s1.0.1 here) fits in
+      let all = string-more section f 0 n n before.0 s3.0 (omega arith) before.3 here in
+      rw (← same-ok {E = ErrorValue} _ out s2.2, ← same-ok {E = ErrorValue} _ s2.0 s4.2)
+      (before.0 ++ s3.0 ∷ [], omega (arith, before.1, long), both, all)
 
   -- a range is rewritten to no more bytes
   range-brings : (size : ℕ) (strings : List (List ℕ)) (out : List ℕ × List (List ℕ))
@@ -218,15 +185,11 @@ module _ (order : Endianness) (encoding : Encoding) (section bytes : List ℕ) w
             let header = header_long order encoding _ r.header r.header_is in
             let entries = entries_long order encoding.format r.entries.0 in
             let many = ap (λ m. m * offset_size encoding.format) names.1 in
-            let most = names.2.most in
-            rw (names.3, ← r.is) (
-              record {
-                are = names.2.are;
-                follows = names.2.follows;
-                most = omega (arith, most, mul-le-mul_right (length section) fits.1);
-              },
-              omega (arith, header, entries, many, fits.0, length-append {A = ℕ}),
-            )
+            let most : 4 * bytes_of_strings names.0 ≤ size * length section =
+            omega (arith, names.2.most, mul-le-mul_right (length section) fits.1) in
+            let long : length (r.header ++ entry_bytes order encoding.format r.entries.0) ≤ size =
+            omega (arith, header, entries, many, fits.0, length-append {A = ℕ}) in
+            rw (names.3, ← r.is) (assumption (names.2, most), long)
       ])
 
 -- ---- the strings that ranges name, one after the other
@@ -265,10 +228,10 @@ module _ (source : Source) where
       let later = ranges-bring bytes (r.offset.0 + r.size) (length bytes - (r.offset.0 + r.size)) rs
       s1.0.1 s2.0 (omega arith) next.others s2.1 in
       let gap = length-take (r.offset.0 - at) (drop at bytes) in
-      rw (← same-ok {E = ErrorValue} _ out s2.2) (
-        both-bring here.0 later.0 (omega arith),
-        omega (arith, here.1, later.1, gap, length-append {A = ℕ}),
-      )
+      let fits : r.size + (length bytes - (r.offset.0 + r.size)) ≤ left = omega arith in
+      let both = both-bring here.0 later.0 fits in
+      rw (← same-ok {E = ErrorValue} _ out s2.2)
+      (both, omega (arith, here.1, later.1, gap, length-append {A = ℕ}))
 
   -- ---- a section, and all of them
   section-brings : (bytes : List ℕ) (strings : List (List ℕ)) (out : List ℕ × List (List ℕ))
@@ -298,41 +261,46 @@ module _ (source : Source) where
       × (bytes_of_contents next.0 ≤ bytes_of_contents before.0 + part_bytes s)
   step-brings before s next (inl (o, w)) =
       let b = section-brings s.bytes before.1 w.written w.rewrites in
-      rw (w.is, o) (
-        b.0,
-        omega (
-          arith,
-          b.1,
-          sum_by_push (λ c. length c.1) before.0
-              (StrOffsets, w.written.0),
-        ),
-      )
+      let all = sum_by_push (λ c. length c.1) before.0 (StrOffsets, w.written.0) in
+      rw (w.is, o) (b.0, omega (arith, b.1, all))
   step-brings before s next (inr (inl (o, c, is))) =
-      rw (is, c, o) (
-        none-brings,
-        omega (
-          arith,
-          sum_by_push (λ c. length c.1) before.0
-              (s.kind, s.bytes),
-        ),
-      )
+      let all = sum_by_push (λ c. length c.1) before.0 (s.kind, s.bytes) in
+      rw (is, c, o) (none-brings, omega (arith, all))
   step-brings before s next (inr (inr (o, c, is))) = rw (is, o) (none-brings, omega arith)
 
   pub each-brings : (sections : List Used) (before after : Parts)
       → with_each_part source before sections ≡ Ok after → Bring before sections after
   each-brings = each-part source Bring (λ parts. (none-brings, omega arith))
       (λ before s next ss after made rest later.
-      let here = step-brings before s next made.adds in (
-        both-bring here.0 later.0 (omega (arith, sum_by-cons offsets_used s ss)),
-        omega (arith, here.1, later.1, sum_by-cons part_bytes s ss),
-      ))
+      let here = step-brings before s next made.adds in
+      let fits : offsets_used s + sum_by offsets_used ss ≤ sum_by offsets_used (s ∷ ss) =
+      omega (arith, sum_by-cons offsets_used s ss) in
+      let both = both-bring here.0 later.0 fits in
+      (both, omega (arith, here.1, later.1, sum_by-cons part_bytes s ss)))
+
+  -- the table of strings goes on from the one before
+  pub parts-follow : (strings : List (List ℕ)) (parts : Contents) (after : List (List ℕ))
+      → IsTable strings → parts_of source strings ≡ Ok (parts, after) → Follows strings after
+  parts-follow strings parts after table h =
+      (each-brings source.object.sections ([], strings) (parts, after) h).0.follows table
+
+-- what holds of no units, and with one more that is added or passed over, holds of those of an
+-- input
+pub each-unit : (P : InProgress → News → InProgress → Type 0) → ((p : InProgress) → P p [] p)
+    → ((p : InProgress) (u : DwarfObject × NewUnit) (us : News) (now : InProgress) → P p us now
+    → P p (u ∷ us) now)
+    → ((p : InProgress) (u : DwarfObject × NewUnit) (us : News) (now : InProgress)
+    → P (with_unit_added p u) us now → P p (u ∷ us) now)
+    → (p : InProgress) (us : News) → P p us (with_new_units p us)
+unfolding with_new_units with_new_unit
+each-unit P none passed added p [] = none p
+each-unit P none passed added p (u ∷ us) =
+    by-bool _ (list_any (same_name u.0) (names_of p))
+    (λ there. rw (there, with_new_units) (passed p u us _ (each-unit P none passed added p us)))
+    (λ new. rw (new, with_new_units)
+    (added p u us _ (each-unit P none passed added (with_unit_added p u) us)))
 
 -- units bring no strings
-pub units-strings : (p : InProgress) (us : List (DwarfObject × NewUnit))
-    → (with_new_units p us).strings ≡ p.strings
-unfolding with_new_units with_new_unit
-units-strings p [] = refl
-units-strings p (u ∷ us) =
-    by-bool _ (list_any (same_name u.0) (names_of p))
-    (λ there. rw (there, with_new_units) (units-strings p us))
-    (λ new. rw (new, with_new_units) (units-strings (with_unit_added p u) us))
+pub units-strings : (p : InProgress) (us : News) → (with_new_units p us).strings ≡ p.strings
+units-strings = each-unit (λ p us now. now.strings ≡ p.strings) (λ p. refl)
+    (λ p u us now same. same) (λ p u us now same. same)

@@ -2,21 +2,14 @@
 -- row read alike.
 use Rattle.std.proofs.Common.{◌≡◌, ◌∙◌, ℕ, ◌+◌, ◌<◌, ◌≤◌, true, List, [], length, take, Ok, Some}
 use Rattle.std.proofs.Common.{refl, sym, ap, ◌⊎◌, ⊎_elim, true≢false, arith}
-use Rattle.dwp_base.specs.declared.section.SectionKind.{SectionKind}
-use Rattle.dwp_base.specs.declared.section.SectionKind.TheVariants.{StrOffsets, Str}
-use Rattle.dwp_base.specs.declared.section.Contribution.{Contribution}
-use Rattle.dwp_base.specs.Sections.{same_kind}
-use Rattle.dwp_base.proofs.EveryKind.{is-same, same-self}
-use Rattle.dwp_base.proofs.Bools.{by-bool}
-use Rattle.dwp_index.specs.Index.{Index, Ranges, row_in, range_in}
+use Rattle.thorin_join.proofs.Names.{by-bool, Contents, Contribution, data_of, first, has_part}
+use Rattle.thorin_join.proofs.Names.{Index, is-same, is_copied, is_package, IsTable, joined_parts}
+use Rattle.thorin_join.proofs.Names.{Parts, parts_of, Ranges, ReadsAlike, same-self, same_kind}
+use Rattle.thorin_join.proofs.Names.{SectionKind, Source, Str, StrOffsets, Used}
+use Rattle.dwp_index.specs.Index.{row_in, range_in}
 use Rattle.thorin_packaged.specs.PackagedReading.{RowsReadAlike, range_bytes}
-use Rattle.thorin_packaged.specs.ReadStrings.{ReadsAlike}
-use Rattle.thorin_strings.specs.Strings.{IsTable, data_of}
-use Rattle.thorin_input.specs.Growing.{Contents, joined_parts}
-use Rattle.thorin_input.specs.Indexes.{Indexes, Source, is_package}
-use Rattle.thorin_input.specs.Format.{is_copied}
-use Rattle.thorin_input.specs.Parts.{Parts, has_part, with_each_part, parts_of}
-use Rattle.thorin_input.specs.Used.{Used, first}
+use Rattle.thorin_input.specs.Indexes.{Indexes}
+use Rattle.thorin_input.specs.Parts.{with_each_part}
 use Rattle.thorin_join.proofs.Parts.Appended.{each-part, adds-offsets, adds-copied, adds-other}
 use Rattle.thorin_join.proofs.Parts.Appended.{has-last, joined_parts-more}
 use Rattle.thorin_join.proofs.Parts.OffsetLaws.{NamesTheSameLaw, PackagedLaw}

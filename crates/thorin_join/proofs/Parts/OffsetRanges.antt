@@ -1,30 +1,23 @@
 -- What is read of ranges of string offsets: of their whole entries alone, of none, and of joined
 -- ones.
 use Rattle.std.proofs.Common.{◌⊎◌, inl, inr, ◌≡◌, ◌∙◌, ℕ, ◌+◌, ◌-◌, ◌<◌, ◌≤◌, false, eqb, ltb, List}
-use Rattle.std.proofs.Common.{[], ◌++◌, length, take, drop, ◌*◌, ◌/◌, zero-mul, Ok}
-use Rattle.std.proofs.Common.{refl, sym, ap, ⊎_elim, arith}
-use Rattle.std.proofs.lemmas.List.{length-take, length-drop, take_all, take-append-drop}
-use Rattle.std.proofs.lemmas.List.{drop-append-le}
-use Rattle.std.proofs.lemmas.Bool.{cases_lt, le-ltb, eqb-true, eqb-false, ltb-false, ltb-true}
+use Rattle.std.proofs.Common.{[], ◌++◌, length, take, drop, ◌*◌, ◌/◌, zero-mul, Ok, refl, sym, ap}
+use Rattle.std.proofs.Common.{⊎_elim, arith, length-take, length-drop, take_all, take-append-drop}
+use Rattle.std.proofs.Common.{le-ltb, eqb-true, ltb-false, ltb-true}
+use Rattle.thorin_join.proofs.Names.{bind-was, by-bool, drop-append-le, Encoding, Endianness}
+use Rattle.thorin_join.proofs.Names.{entry_count, ErrorValue, offset_size, ReadsAlike, same-ok}
+use Rattle.std.proofs.lemmas.Bool.{cases_lt}
 use Rattle.std.proofs.lemmas.Nat.{row_fits}
-use Rattle.dwp_base.specs.declared.endian.Endianness.{Endianness}
 use Rattle.dwp_base.specs.Numbers.{number}
-use Rattle.dwp_bytes.specs.declared.encoding.Encoding.{Encoding}
 use Rattle.dwp_bytes.specs.declared.encoding.Format.{Format}
 use Rattle.dwp_bytes.specs.declared.encoding.Format.TheVariants.{Dwarf32, Dwarf64}
-use Rattle.dwp_bytes.specs.Encoding.{offset_size}
-use Rattle.dwp_bytes.specs.StringOffsets.{header_size, entry_count}
+use Rattle.dwp_bytes.specs.StringOffsets.{header_size}
 use Rattle.dwp_index.specs.Strings.{string_in, entry_in}
-use Rattle.thorin_errors.specs.Errors.{ErrorValue}
-use Rattle.thorin_packaged.specs.ReadStrings.{ReadsAlike}
-use Rattle.thorin_strings.specs.Strings.{IsTable}
+use Rattle.thorin_strings.specs.Rewritten.{NamesTheSame}
 use Rattle.thorin_strings.specs.StringOffsets.{remapped, header_of, remapped_entries, entry_bytes}
 use Rattle.thorin_join.specs.Meaning.{whole_entries}
-use Rattle.thorin_join.proofs.Parts.OffsetLaws.{NamesTheSameLaw}
 use Rattle.thorin_packaged.proofs.OffsetsJoined.{number_front, no_header}
-use Rattle.dwp_base.proofs.Steps.{bind-was, same-ok}
 use Rattle.thorin_join.proofs.Steps.{past}
-use Rattle.dwp_base.proofs.Bools.{by-bool}
 
 -- ---- what reads as what reads alike does so too
 pub alike-by : {order : Endianness} {encoding : Encoding}
@@ -142,19 +135,12 @@ range-of order encoding section bytes size strings range h =
     }))
 
 -- before DWARF 5 a rewritten range has the whole entries and nothing else
-pub rewritten-long : NamesTheSameLaw → (order : Endianness) (encoding : Encoding)
-    (section bytes : List ℕ) (strings : List (List ℕ)) (written : List ℕ × List (List ℕ))
-    → encoding.version < 5 → IsTable strings
-    → remapped order encoding section bytes (length bytes) strings ≡ Ok written → length written.0 ≡
-    entry_count encoding (length bytes) * offset_size encoding.format
-rewritten-long names order encoding section bytes strings written old table h =
-    let law = names order encoding section bytes (length bytes) strings written.0 written.1
-    table h in
-    by-bool _ (eqb (length bytes) 0)
-    (λ empty. let none = eqb-true (length bytes) 0 empty in
-    rw (
-      law.none none,
-      count-none encoding.format (length bytes) (header_size encoding)
-          (omega arith),
-    ) (sym (zero-mul (offset_size encoding.format))))
-    (λ some. omega (arith, law.long (eqb-false (length bytes) 0 some), no_header encoding old))
+pub rewritten-long : {order : Endianness} {encoding : Encoding} {section bytes written : List ℕ}
+    {before after : List (List ℕ)} → encoding.version < 5
+    → NamesTheSame order encoding section bytes (length bytes) before written after
+    → length written ≡ entry_count encoding (length bytes) * offset_size encoding.format
+rewritten-long {encoding = encoding} {bytes = bytes} old named =
+    let few = count-none encoding.format (length bytes) (header_size encoding) in
+    let none = zero-mul (offset_size encoding.format) in
+    let header = no_header encoding old in
+    grind (arith, few, none, header, named.none, named.long)

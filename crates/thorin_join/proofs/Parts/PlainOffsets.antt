@@ -1,34 +1,23 @@
 -- The string offsets of the parts of a plain input read alike.
-use Rattle.std.proofs.Common.{◌≡◌, ◌∙◌, ℕ, ◌+◌, ◌-◌, ◌<◌, Bool, true, false, leb, List, []}
-use Rattle.std.proofs.Common.{◌*◌, ◌∷◌, ◌++◌, length, take, ◌&&◌, ◌||◌, nat_lt, Ok}
-use Rattle.std.proofs.Common.{refl, sym, true≢false, arith, length-append}
-use Rattle.std.proofs.lemmas.List.{append_assoc, append-nil}
-use Rattle.std.proofs.lemmas.Bool.{leb-false}
-use Rattle.dwp_base.specs.declared.section.SectionKind.{SectionKind}
-use Rattle.dwp_base.specs.declared.section.SectionKind.TheVariants.{StrOffsets, Str}
-use Rattle.dwp_base.specs.Sections.{same_kind}
-use Rattle.dwp_base.proofs.EveryKind.{is-same}
-use Rattle.dwp_bytes.specs.declared.encoding.Encoding.{Encoding}
-use Rattle.dwp_bytes.specs.Encoding.{offset_size}
-use Rattle.dwp_bytes.specs.StringOffsets.{entry_count}
-use Rattle.thorin_packaged.specs.ReadStrings.{ReadsAlike}
-use Rattle.thorin_strings.specs.Strings.{IsTable, data_of}
+use Rattle.std.proofs.Common.{◌≡◌, ◌∙◌, ℕ, ◌+◌, ◌-◌, ◌<◌, Bool, true, false, leb, List, [], ◌*◌}
+use Rattle.std.proofs.Common.{◌∷◌, ◌++◌, length, take, ◌&&◌, ◌||◌, ltb, Ok, refl, sym, true≢false}
+use Rattle.std.proofs.Common.{arith, length-append, append_assoc, append-nil, leb-false}
+use Rattle.thorin_join.proofs.Names.{by-bool, Contents, data_of, Encoding, entry_count, first}
+use Rattle.thorin_join.proofs.Names.{has_part, is-same, is_copied, is_package, IsTable}
+use Rattle.thorin_join.proofs.Names.{joined_parts, offset_size, Parts, parts_of, ReadsAlike}
+use Rattle.thorin_join.proofs.Names.{same_kind, SectionKind, Source, Str, StrOffsets}
 use Rattle.thorin_strings.specs.StringOffsets.{remapped}
-use Rattle.thorin_input.specs.Growing.{Contents, joined_parts}
-use Rattle.thorin_input.specs.Indexes.{Source, is_package}
 use Rattle.thorin_join.specs.Meaning.{whole_entries, joined_offsets}
-use Rattle.thorin_input.specs.Parts.{Parts, has_part, stands_once, parts_of}
-use Rattle.thorin_input.specs.Used.{InputFile, first}
+use Rattle.thorin_input.specs.Parts.{stands_once}
+use Rattle.thorin_input.specs.Used.{InputFile}
 use Rattle.thorin_join.proofs.Parts.OffsetRanges.{alike-by, whole-long, whole-read, empty-alike}
 use Rattle.thorin_join.proofs.Parts.OffsetRanges.{rewritten-long}
 use Rattle.thorin_join.proofs.Parts.Appended.{each-part, joined_parts-more, Rewritten, has-last}
 use Rattle.thorin_join.proofs.Parts.Appended.{has-other as part-other, adds-offsets, adds-plain}
 use Rattle.thorin_join.proofs.Parts.Appended.{adds-other}
-use Rattle.thorin_join.proofs.Parts.OffsetLaws.{NamesTheSameLaw, ReadsAlikeLaw, ReadInTurnLaw}
+use Rattle.thorin_join.proofs.Parts.OffsetLaws.{names-same, reads-alike}
 use Rattle.thorin_join.proofs.Parts.Strings.{front-front, rewritten-plain}
-use Rattle.thorin_packaged.proofs.OffsetsJoined.{no_header}
-use Rattle.thorin_input.specs.Format.{is_copied}
-use Rattle.dwp_base.proofs.Bools.{by-bool}
+use Rattle.thorin_packaged.proofs.OffsetsJoined.{joined_read, no_header}
 
 pub has-more : (a : Contents) (bytes : List ℕ) → has_part StrOffsets
     (a ++ (StrOffsets, bytes) ∷ []) ≡ true
@@ -45,8 +34,7 @@ not-there true standard has h once = once
 not-there false true has h once = once
 not-there false false has h once = absurd (true≢false (sym h))
 
-module _ (names : NamesTheSameLaw) (alike : ReadsAlikeLaw) (in_turn : ReadInTurnLaw)
-    (source : Source) (plain : is_package source.indexes ≡ false) where
+module _ (source : Source) (plain : is_package source.indexes ≡ false) where
   abbrev object : InputFile
   object = source.object
 
@@ -77,20 +65,17 @@ module _ (names : NamesTheSameLaw) (alike : ReadsAlikeLaw) (in_turn : ReadInTurn
   reads-rewritten before bytes next old so_far once w =
       let rewrites : remapped object.order encoding section bytes (length bytes) before.1 ≡ Ok
       w.written = sym (rewritten-plain source bytes before.1 plain) ∙ w.rewrites in
-      let law = names object.order encoding section bytes (length bytes) before.1 w.written.0
+      let law = names-same object.order encoding section bytes (length bytes) before.1 w.written.0
       w.written.1 so_far.table rewrites in
       let new = joined_parts StrOffsets before.0 in
       let own = whole_entries encoding bytes in
-      rw (
-        w.is,
-        joined_parts-more StrOffsets before.0 StrOffsets w.written.0,
-        has-more before.0 w.written.0,
-      ) (record {
+      let more = joined_parts-more StrOffsets before.0 StrOffsets w.written.0 in
+      rw (w.is, more, has-more before.0 w.written.0) (record {
         table = law.table;
         read = λ final table begins.
             let last : (i : ℕ) → ReadsAlike object.order encoding section own (data_of final)
             w.written.0 i = λ i. alike-by (whole-read object.order encoding section bytes i) refl
-            (alike object.order encoding section bytes before.1 w.written.0 w.written.1 final
+            (reads-alike object.order encoding section bytes before.1 w.written.0 w.written.1 final
             so_far.table rewrites table begins i) in
             by-bool _ (leb 5 encoding.version)
             (λ standard. let none = so_far.fresh standard (once standard) in
@@ -100,19 +85,18 @@ module _ (names : NamesTheSameLaw) (alike : ReadsAlikeLaw) (in_turn : ReadInTurn
             let one = so_far.read final table
             (front-front before.1 w.written.1 final law.kept begins) i in
             let two = last (i - whole.0) in
-            let olds = in_turn object.order encoding section old own whole.0 i old_version
-            whole.1 in
-            let news = in_turn object.order encoding (data_of final) new w.written.0 whole.0 i
-            old_version whole.2 in
-            by-bool _ (nat_lt i whole.0)
+            let olds = joined_read object.order encoding old own whole.0 old_version whole.1
+            section i in
+            let news = joined_read object.order encoding new w.written.0 whole.0 old_version whole.2
+            (data_of final) i in
+            by-bool _ (ltb i whole.0)
             (λ less. alike-by (rw less at olds) (rw less at news) one)
             (λ more. alike-by (rw more at olds) (rw more at news) two));
         whole = λ gnu.
             let whole = so_far.whole gnu in
             let header = no_header encoding gnu in
             let long = whole-long encoding bytes (omega (arith, header)) in
-            let many = rewritten-long names object.order encoding section bytes before.1 w.written
-            gnu so_far.table rewrites in (
+            let many = rewritten-long gnu law in (
               whole.0 + entry_count encoding (length bytes),
               omega (arith, header, long, whole.1, length-append old own),
               omega (arith, many, whole.2, length-append new w.written.0),

@@ -1,27 +1,18 @@
 -- The units of an input that are added stand in their rows.
-use Rattle.std.proofs.Common.{[], ◌≡◌, ◌∙◌, ℕ, false, List, ◌∷◌, ◌++◌, ap, sym}
-use Rattle.std.specs.List.{list_any}
-use Rattle.std.proofs.lemmas.List.{append_assoc, append-nil, map-append}
-use Rattle.std.proofs.Math.Seq.{take-length}
-use Rattle.dwp_base.specs.declared.section.SectionKind.{SectionKind}
-use Rattle.dwp_base.specs.declared.endian.Endianness.{Endianness}
-use Rattle.dwp_base.specs.Sections.{same_kind}
-use Rattle.dwp_base.proofs.Bools.{by-bool}
-use Rattle.dwp_elf.specs.Contents.{content_of}
-use Rattle.dwp_dwarf.specs.declared.unit.UnitSection.{UnitSection}
-use Rattle.dwp_table.specs.declared.object.DwarfObject.{DwarfObject}
-use Rattle.thorin_input.specs.Growing.{Contents}
-use Rattle.thorin_input.specs.Names.{same_name}
-use Rattle.thorin_input.specs.NewUnits.{NewUnit}
-use Rattle.thorin_join.specs.Meaning.{Members, keys, joining}
-use Rattle.thorin_join.specs.Represents.{AreRowsOf}
-use Rattle.thorin_join.specs.State.{InProgress, kind_at, names_of, row_at, with_unit_added}
-use Rattle.thorin_join.specs.State.{with_new_unit, with_new_units}
+use Rattle.std.proofs.Common.{[], ◌≡◌, ◌∙◌, ℕ, false, List, ◌∷◌, ◌++◌, ap, sym, append_assoc}
+use Rattle.std.proofs.Common.{append-nil}
+use Rattle.thorin_join.proofs.Names.{AreRowsOf, by-bool, content_of, Contents, DwarfObject}
+use Rattle.thorin_join.proofs.Names.{Endianness, InProgress, joining, keys, kind_at, list_any}
+use Rattle.thorin_join.proofs.Names.{Members, NewUnit, row_at, same_kind, same_name, SectionKind}
+use Rattle.thorin_join.proofs.Names.{take-length, UnitSection, with_unit_added}
+use Rattle.std.proofs.lemmas.List.{map-append}
+use Rattle.thorin_join.specs.State.{names_of, with_new_unit, with_new_units}
 use Rattle.thorin_join.proofs.Rows.Stay.{Grows, grows-trans, grows-with_bytes, keep-lie}
 use Rattle.thorin_join.proofs.Rows.Stay.{keep-shares, keep-rows, rows-next}
 use Rattle.thorin_join.proofs.Rows.OneAdded.{CanBeAdded, unit-added, row-name}
 use Rattle.thorin_join.proofs.Rows.LieInTurn.{RowsLie, unit-lies}
 use Rattle.thorin_join.proofs.Parts.Appended.{content-with_bytes}
+use Rattle.thorin_join.proofs.Units.HeadersRead.{News}
 
 -- ---- units whose names are new
 
@@ -46,16 +37,14 @@ names-added p u =
 
 -- ---- units that can be added
 
-abbrev pub AllCanBeAdded : Endianness → Contents → List (List ℕ) → List (DwarfObject × NewUnit)
-    → Members → Type 0
+abbrev pub AllCanBeAdded : Endianness → Contents → List (List ℕ) → News → Members → Type 0
 AllCanBeAdded order c strings [] [] = Unit {0}
 AllCanBeAdded order c strings (u ∷ us) (m ∷ ms) = CanBeAdded order c strings u m
     × AllCanBeAdded order c strings us ms
 AllCanBeAdded order c strings _ _ = ⊥
 
 -- what is known of a package once these units are added
-pub record Added (p now : InProgress) (us : List (DwarfObject × NewUnit))
-    (ms : Members) : Type 0 where
+pub record Added (p now : InProgress) (us : News) (ms : Members) : Type 0 where
   pub strings : now.strings ≡ p.strings
   pub order : now.file.order ≡ p.file.order
   pub rows : AreRowsOf p.file.order now.file.contents p.strings now.rows ms
@@ -64,8 +53,8 @@ pub record Added (p now : InProgress) (us : List (DwarfObject × NewUnit))
   pub names : names_of now ≡ names_of p ++ keys us
   pub lie : RowsLie p.file.order now.rows now.file.contents
 
-pub units-added : (base : Contents) (p : InProgress) (us : List (DwarfObject × NewUnit))
-    (ms added : Members) → Grows base p.file.contents → AllNew (names_of p) (keys us)
+pub units-added : (base : Contents) (p : InProgress) (us : News) (ms added : Members)
+    → Grows base p.file.contents → AllNew (names_of p) (keys us)
     → AllCanBeAdded p.file.order base p.strings us added
     → AreRowsOf p.file.order p.file.contents p.strings p.rows ms
     → RowsLie p.file.order p.rows p.file.contents → Added p (with_new_units p us) us (ms ++ added)

@@ -2,23 +2,14 @@
 use Rattle.std.proofs.Common.{[], ◌≡◌, ◌∙◌, ℕ, ◌+◌, true, false, cond, List, ◌∷◌, ◌++◌, length, ap}
 use Rattle.std.proofs.Common.{sym, refl, Some, None, arith, length-append, append_assoc, append-nil}
 use Rattle.std.proofs.lemmas.List.Elements.{filter-append}
-use Rattle.dwp_base.specs.declared.endian.Endianness.{Endianness}
-use Rattle.dwp_base.specs.declared.section.SectionKind.{SectionKind}
-use Rattle.dwp_base.specs.Sections.{same_kind}
-use Rattle.dwp_base.proofs.Bools.{by-bool}
-use Rattle.dwp_dwarf.specs.declared.unit.UnitSection.{UnitSection}
+use Rattle.thorin_join.proofs.Names.{adding, by-bool, Compilation, content_of, Contents}
+use Rattle.thorin_join.proofs.Names.{contribution_to, DwarfObject, Endianness, IndexEntry}
+use Rattle.thorin_join.proofs.Names.{InProgress, IsWhole, joined_parts, kind_at, NewUnit, place_for}
+use Rattle.thorin_join.proofs.Names.{row_at, same_kind, SectionKind, Source, TypeUnit, UnitRead}
+use Rattle.thorin_join.proofs.Names.{UnitSection, with_bytes}
 use Rattle.dwp_dwarf.specs.declared.unit.UnitSection.TheVariants as places
-use Rattle.dwp_elf.specs.Contents.{content_of}
-use Rattle.dwp_table.specs.declared.object.DwarfObject.{DwarfObject}
-use Rattle.dwp_table.specs.declared.object.DwarfObject.TheVariants.{Compilation, TypeUnit}
-use Rattle.thorin_index.specs.Entries.{contribution_to}
-use Rattle.thorin_index.specs.declared.entry.IndexEntry.{IndexEntry}
-use Rattle.thorin_input.specs.Growing.{Contents, with_bytes, with_parts, joined_parts}
-use Rattle.thorin_input.specs.Indexes.{Source}
-use Rattle.thorin_input.specs.NewUnits.{NewUnit, place_for}
-use Rattle.thorin_join.specs.Laid.{IsWhole, same_place, is_at, rows_at, Lie, HaveOneRange, IsLaid}
-use Rattle.thorin_join.specs.Meaning.{UnitRead}
-use Rattle.thorin_join.specs.State.{InProgress, kind_at, row_at, adding}
+use Rattle.thorin_input.specs.Growing.{with_parts}
+use Rattle.thorin_join.specs.Laid.{same_place, is_at, rows_at, Heads, Lie, HaveOneRange, IsLaid}
 use Rattle.thorin_join.proofs.Units.JoinedByName.{IsAdded}
 use Rattle.thorin_join.proofs.Units.Whole.{Goes}
 use Rattle.thorin_join.proofs.Rows.OfUnits.{is-unit_row, whole-else}
@@ -42,16 +33,15 @@ module _ (order : Endianness) (place : UnitSection) (row : IndexEntry) (own : Li
   lie-append offset (r ∷ rs) bytes e h =
       let head = h.0 in
       let next : at ≡ offset + length head.own + length head.rest =
-      omega (arith, ap length head.are, length-append head.own head.rest) in (
-        record {
-          own = head.own;
-          rest = head.rest ++ own;
-          are = ap (λ l. l ++ own) head.are ∙ append_assoc head.own head.rest own;
-          range = head.range;
-          is = head.is;
-        },
-        lie-append (offset + length head.own) rs head.rest next h.1,
-      )
+      omega (arith, ap length head.are, length-append head.own head.rest) in
+      let first : Heads order place offset r (bytes ++ own) = record {
+        own = head.own;
+        rest = head.rest ++ own;
+        are = ap (λ l. l ++ own) head.are ∙ append_assoc head.own head.rest own;
+        range = head.range;
+        is = head.is;
+      } in
+      (first, lie-append (offset + length head.own) rs head.rest next h.1)
 
 once-append : (rows : List IndexEntry) (row : IndexEntry) → HaveOneRange rows
     → ((place : UnitSection) → is_at place row ≡ false → contribution_to (kind_at place) row ≡ None)
@@ -93,10 +83,6 @@ module _ (order : Endianness) (c : Contents) (rows : List IndexEntry) (u : Dwarf
   rows-at other = filter-append (is_at other) rows (row ∷ []) ∙ ap (λ b. rows_at other rows
       ++ cond b (row ∷ []) []) (at-is other)
 
-  none-shared : (other : UnitSection) → contribution_to (kind_at other) u.1.row ≡ None
-  none-shared places.Info = can.no_info
-  none-shared places.Types = can.fits.no_types
-
   pub unit-lies : RowsLie order rows c
       → RowsLie order (rows ++ row ∷ []) (with_bytes (kind_at place) u.1.bytes c)
   unit-lies lie = record {
@@ -111,7 +97,8 @@ module _ (order : Endianness) (c : Contents) (rows : List IndexEntry) (u : Dwarf
         (rw (kinds-same other place, apart) (lie.lies other))));
     once = once-append rows row lie.once (λ other apart. row-other u.1.row c u.0 u.1.bytes place
         (kind_at other) (kinds-same other place ∙ sym (at-is other) ∙ apart)
-        ∙ none-shared other);
+        ∙ elim other as (λ p. contribution_to (kind_at p) u.1.row ≡ None)
+        [ places.Info ↦ can.no_info | places.Types ↦ can.fits.no_types ]);
   }
 
 -- ---- those of an input
@@ -132,7 +119,7 @@ can-lie source made parts n r is goes =
     rw (is.name, is.place, is.bytes) goes in
     let types : n.1.place ≡ places.Types → (signature : ℕ)
     × (n.0 ≡ TypeUnit (record { 0 = signature })) = λ h.
-    let t = types-only r.0 r.1.from (sym is.place ∙ h) in (t.0, is.name ∙ t.1) in
+    rw is.name (types-only r.0 r.1.from (sym is.place ∙ h)) in
     assumption (row.types ∙ none.2, row.info ∙ none.1, types, whole)
 
 -- those of a package that is laid so, with parts, which have no units

@@ -1,35 +1,49 @@
--- A unit's own row in its input's indexes, and the row that it gets.
+-- A unit's own row in its input's indexes, the row that it gets, and what this row means, where
+-- each of its ranges was put behind the contents before: a unit that passed the tests stands in its
+-- row.
 use Rattle.std.proofs.Common.{◌≡◌, ◌∙◌, ℕ, true, false, cond, is_some, is_none, ◌&&◌, ◌||◌, Ok}
-use Rattle.std.proofs.Common.{Option, Some, None, refl, sym, ap, inl, inr}
-use Rattle.std.specs.Option.{option_and_then}
-use Rattle.std.proofs.lemmas.Bool.{eqb-true}
+use Rattle.std.proofs.Common.{Option, Some, None, refl, sym, ap, inl, inr, eqb-true, [], List}
+use Rattle.std.proofs.Common.{length, take, ◌+◌, ◌≤◌, arith, Bool, ◌∷◌}
 use Rattle.dwp_base.specs.ByKind.{value_of}
 use Rattle.dwp_base.specs.Reading.{read_each}
 use Rattle.dwp_base.specs.Sections.{all_kinds}
 use Rattle.dwp_base.proofs.KindsRead.{read-kind}
-use Rattle.dwp_base.proofs.Steps.{bind-was, same-ok}
-use Rattle.dwp_base.specs.declared.section.SectionKind.{SectionKind}
-use Rattle.dwp_base.specs.declared.section.SectionKind.TheVariants.{Info, Types}
-use Rattle.dwp_base.specs.declared.section.Contribution.{Contribution}
-use Rattle.dwp_bytes.specs.declared.encoding.Encoding.{Encoding}
-use Rattle.dwp_index.specs.Index.{Index, Ranges, row_in}
-use Rattle.dwp_table.specs.Objects.{identifier_of}
+use Rattle.thorin_join.proofs.Names.{as_error_ok, bind-was, by-bool, Compilation, content_of}
+use Rattle.thorin_join.proofs.Names.{Contents, Contribution, contribution_to, data_of, DwarfObject}
+use Rattle.thorin_join.proofs.Names.{Encoding, ErrorValue, first, identifier_of, Index, IndexEntry}
+use Rattle.thorin_join.proofs.Names.{is_copied, is_package, IsTable, joined_parts, LieInside}
+use Rattle.thorin_join.proofs.Names.{Meaning, none-some, part_of, parts_of, Ranges, ReadsAlike}
+use Rattle.thorin_join.proofs.Names.{same-each, same-ok, SectionKind, Shares, Source, Str}
+use Rattle.thorin_join.proofs.Names.{StrOffsets, take-length, TypeUnit, UnitRead}
+use Rattle.dwp_base.specs.declared.section.SectionKind.TheVariants.{Info, Types, Abbrev}
+use Rattle.dwp_index.specs.Index.{row_in, range_in}
 use Rattle.dwp_table.specs.Probing.{found_row}
-use Rattle.dwp_table.specs.declared.object.DwarfObject.{DwarfObject}
-use Rattle.dwp_table.specs.declared.object.DwarfObject.TheVariants.{Compilation, TypeUnit}
-use Rattle.thorin_errors.specs.Errors.{ErrorValue}
 use Rattle.thorin_packaged.specs.RowPlaces.{row_by_place}
 use Rattle.thorin_input.specs.Adjusting.{Adjustor, own_index, row_of, part_by_row, adjusted}
-use Rattle.thorin_index.specs.Entries.{contribution_to, entry_by}
-use Rattle.thorin_index.specs.declared.entry.IndexEntry.{IndexEntry}
-use Rattle.thorin_input.specs.Growing.{Contents, joined_parts, range_put}
-use Rattle.thorin_input.specs.Indexes.{Indexes, is_package, index_for, looked_up}
-use Rattle.thorin_join.specs.Meaning.{read_of, placed_row}
+use Rattle.thorin_input.specs.Adjusting.{other_index, has_column_for}
+use Rattle.thorin_index.specs.Entries.{entry_by}
+use Rattle.thorin_input.specs.Growing.{range_put, with_parts}
+use Rattle.thorin_input.specs.Indexes.{Indexes, index_for, looked_up}
+use Rattle.thorin_join.specs.Meaning.{placed_row, pieces_by, part_by, offsets_by, lie_inside}
+use Rattle.thorin_join.specs.Meaning.{meaning_by, unit_meaning, shared_kinds}
 use Rattle.thorin_input.specs.Format.{is_shared}
 use Rattle.thorin_input.specs.Rows.{whole_row, adjusted_part, unit_part, unit_row, is_same_row}
-use Rattle.thorin_join.proofs.Parts.OfPackages.{IsOneOf}
-use Rattle.dwp_base.proofs.EveryKind.{same-each}
-use Rattle.thorin_strings.proofs.NamedEntries.{as_error_ok}
+use Rattle.thorin_input.specs.Rows.{own_range, row_test}
+use Rattle.thorin_join.proofs.Parts.OfPackages.{IsOneOf, RowsRead, parts-first, rows-read}
+use Rattle.thorin_join.proofs.Rows.Ranges.{whole_behind, placed-by, range-none, Lies, Placed}
+use Rattle.thorin_join.proofs.Rows.Ranges.{lies-whole, not-outside, range-some}
+use Rattle.thorin_join.proofs.Parts.StringLists.{strings-there}
+use Rattle.dwp_base.proofs.Bools.{both}
+use Rattle.thorin_join.proofs.Parts.Appended.{content-with_parts, parts-copied}
+use Rattle.std.specs.List.{list_all, find}
+use Rattle.thorin_join.proofs.Parts.OffsetRanges.{empty-alike}
+use Rattle.thorin_join.proofs.Parts.OffsetLaws.{names-same, packaged-alike}
+use Rattle.thorin_join.proofs.Parts.PlainOffsets.{parts-read}
+use Rattle.thorin_join.proofs.Parts.FirstUses.{parts-follow}
+use Rattle.thorin_join.proofs.EachKind.{copied-or-offsets}
+use Rattle.thorin_join.proofs.Steps.{kept}
+use Rattle.thorin_join.proofs.Rows.Stay.{part-inside}
+use Rattle.thorin_join.specs.StandApart.{LieBehind}
 
 -- an entry by parts has each of those that it can have
 entry-part : (encoding : Encoding) (id : DwarfObject) (part : SectionKind → Option Contribution)
@@ -65,16 +79,14 @@ own-by None kind range id row h found = absurd cc
 own-by (Some index) kind range id row h found =
     let same = same-row (row_by_place (Some index) kind range) (found_row index.signatures
     index.rows id) h in
-    let there : row_in index same.0 ≡ Ok row =
-    as_error_ok _ (row_in index same.0) row (rw same.2 at found) in
+    let there = as_error_ok _ (row_in index same.0) row (rw same.2 at found) in
     record {
       index = index;
       is = refl;
       number = same.0;
       row = row;
       there = there;
-      placed = ap (option_and_then (λ number. read_of (row_in index number))) same.1 ∙
-          ap read_of there;
+      placed = rw (same.1, there) refl;
       found = found;
     }
 
@@ -85,11 +97,8 @@ one-of indexes (TypeUnit signature) index h = inr h
 
 -- ---- parts that are adjusted
 abbrev pub adjustor : Indexes → SectionKind → Adjustor
-adjustor indexes kind = record {
-  compilation = indexes.compilations;
-  types = indexes.types;
-  section = kind;
-}
+adjustor indexes kind =
+    record { compilation = indexes.compilations; types = indexes.types; section = kind }
 
 pub own-index : (indexes : Indexes) (kind : SectionKind) (name : DwarfObject)
     → own_index (adjustor indexes kind) name ≡ index_for indexes name
@@ -122,21 +131,19 @@ module _ (indexes : Indexes) (name : DwarfObject) where
   unfolding adjusted
   adjusted-plain kind whole plain = rw (no-index indexes.compilations indexes.types plain)
 
-  module _ (packed : is_package indexes ≡ true) where
-    -- of a package it is by the unit's row
-    pub adjusted-packed : (kind : SectionKind) (whole result : Option Contribution)
-        → adjusted_part indexes name kind whole ≡ Ok result
-        → (row : Ranges) × (row_of (index_for indexes name) (identifier_of name) ≡ Ok row)
-        × (part_by_row (adjustor indexes kind) name whole row ≡ Ok result)
-    unfolding adjusted
-    adjusted-packed kind whole result h =
-        let adjust = adjustor indexes kind in
-        let parts = bind-was (row_of (own_index adjust name) (identifier_of name))
-        (part_by_row adjust name whole) result
-        (rw (some-index indexes.compilations indexes.types packed) at h) in
-        let found = ap (λ own. row_of own (identifier_of name))
-        (sym (own-index indexes kind name)) in
-        (parts.0, found ∙ parts.1, parts.2)
+  -- of a package it is by the unit's row
+  pub adjusted-packed : is_package indexes ≡ true → (kind : SectionKind)
+      (whole result : Option Contribution) → adjusted_part indexes name kind whole ≡ Ok result
+      → (row : Ranges) × (row_of (index_for indexes name) (identifier_of name) ≡ Ok row)
+      × (part_by_row (adjustor indexes kind) name whole row ≡ Ok result)
+  unfolding adjusted
+  adjusted-packed packed kind whole result h =
+      let adjust = adjustor indexes kind in
+      let parts = bind-was (row_of (own_index adjust name) (identifier_of name))
+      (part_by_row adjust name whole) result
+      (rw (some-index indexes.compilations indexes.types packed) at h) in
+      let found = ap (λ own. row_of own (identifier_of name)) (sym (own-index indexes kind name)) in
+      (parts.0, found ∙ parts.1, parts.2)
 
 pub is-unit_row : (indexes : Indexes) (whole : IndexEntry) (name : DwarfObject) (row : IndexEntry)
     → unit_row indexes whole name ≡ Ok row → IsUnitRow indexes whole name row
@@ -169,3 +176,196 @@ pub whole-else : (encoding : Encoding) (before parts : Contents)
     × ((whole_row encoding before parts).debug_types ≡ None)
 unfolding whole_row
 whole-else encoding before parts = (refl, refl, refl)
+
+-- ---- what stands in a row
+
+-- the ranges of the kinds that units share lie behind the contents before, inside the parts that
+-- were put there, and these bytes stand there
+abbrev pub SharedLie : (before parts : Contents) → IndexEntry → (SectionKind → List ℕ) → Type 0
+SharedLie before parts row part = (kind : SectionKind) → is_shared kind ≡ true → Lies
+    (content_of kind before) (joined_parts kind parts) (contribution_to kind row) (part kind)
+
+-- string offsets read as those of the unit's ranges, with the strings of any table that begins with
+-- these
+abbrev pub OffsetsRead : Source → Option Ranges → List (List ℕ) → List ℕ → Type 0
+OffsetsRead source ranges after new = (final : List (List ℕ)) → IsTable final → take (length after)
+    final ≡ after → (i : ℕ)
+    → ReadsAlike source.object.order source.encoding (first Str source.object.sections)
+    (offsets_by source ranges) (data_of final) new i
+
+-- what belongs to a unit stands in its row
+pub record RowShares (source : Source) (before parts : Contents) (after : List (List ℕ))
+    (read : DwarfObject × UnitRead) (row : IndexEntry) : Type 0 where
+  pub unit : Meaning
+  pub meaning_is : unit_meaning source read ≡ Some unit
+  pub bytes_are : unit.bytes ≡ read.1.unit.whole.bytes
+  pub encoding : row.encoding ≡ unit.encoding
+  pub lie : LieInside (with_parts parts before) row
+  pub shares : Shares source.object.order (with_parts parts before) after row unit
+
+-- a test that no kind that units share passes
+none-found : (test : SectionKind → Bool) → ((kind : SectionKind) → is_shared kind ≡ true
+    → test kind ≡ false) → (kinds : List SectionKind) → list_all is_shared kinds ≡ true
+    → is_none (find test kinds) ≡ true
+none-found test fails [] shared = refl
+none-found test fails (kind ∷ kinds) shared =
+    let each = both (is_shared kind) (list_all is_shared kinds) shared in
+    rw (fails kind each.0) (none-found test fails kinds each.1)
+
+module _ (source : Source) (before parts : Contents) (read : DwarfObject × UnitRead)
+    (row : IndexEntry) (made : IsUnitRow source.indexes (whole_row source.encoding before parts)
+    read.0 row) where
+  abbrev name : DwarfObject
+  name = read.0
+
+  -- what became of the whole of a kind
+  abbrev whole : IndexEntry
+  whole = whole_row source.encoding before parts
+
+  -- a kind of which it has a range is shared
+  has-shared : (kind : SectionKind) (range : Contribution) → contribution_to kind row ≡ Some range
+      → is_shared kind ≡ true
+  has-shared kind range h =
+      let none = whole-else source.encoding before parts in
+      let each = same-each (λ k. cond (is_shared k) None (contribution_to k row)) (λ k. None)
+      (rw (made.info ∙ none.1, made.types ∙ none.2) refl) kind in
+      by-bool _ (is_shared kind) (λ shared. shared)
+      (λ other. absurd (none-some range (sym (rw other at each) ∙ h)))
+
+  -- the unit by these ranges, which has these parts
+  shares-by : (after : List (List ℕ)) (ranges : Option Ranges) (part : SectionKind → List ℕ)
+      → IsTable after
+      → unit_meaning source read ≡ meaning_by source read.1.unit.whole.bytes ranges
+      → SharedLie before parts row part → ((kind : SectionKind)
+      → is_copied kind ≡ true → part kind ≡ part_by source ranges kind)
+      → lie_inside source ranges ≡ true → OffsetsRead source ranges after (part StrOffsets)
+      → RowShares source before parts after read row
+  unfolding meaning_by
+  shares-by after ranges part table is lies copied inside reads =
+      let old = first Str source.object.sections in
+      let offsets = offsets_by source ranges in
+      let strings = strings-there source.object.order source.encoding old offsets (λ i.
+      (reads after table (take-length after) i).readable) in
+      record {
+        unit = record {
+          bytes = read.1.unit.whole.bytes;
+          pieces = pieces_by (part_by source ranges);
+          strings = strings.0;
+          encoding = source.encoding;
+        };
+        meaning_is = is ∙ rw (inside, strings.1) refl;
+        bytes_are = refl;
+        encoding = made.encoding ∙ (whole-else source.encoding before parts).0;
+        lie = record {
+          inside = λ kind range h. rw (content-with_parts kind parts before)
+              ((lies kind (has-shared kind range h)).inside range h);
+          some = λ kind range h. (lies kind (has-shared kind range h)).some range h;
+        };
+        shares = record {
+          content = λ kind copies. rw (content-with_parts kind parts before)
+              ((lies kind (rw copies refl)).part_is ∙ copied kind copies);
+          string = λ final final_table kept i.
+              rw (content-with_parts StrOffsets parts before, (lies StrOffsets refl).part_is)
+              ((reads final final_table kept i).same ∙ strings.2 i);
+        };
+      }
+
+  -- ---- a plain input
+  plain-lies : is_package source.indexes ≡ false
+      → SharedLie before parts row (λ kind. joined_parts kind parts)
+  plain-lies plain kind shared =
+      let is : contribution_to kind whole ≡ contribution_to kind row = same-ok {E = ErrorValue} _ _
+      (sym (adjusted-plain source.indexes name kind (contribution_to kind whole) plain) ∙
+      made.parts kind shared) in
+      rw (← is, whole-part source.encoding before parts kind shared)
+      (lies-whole (content_of kind before) (joined_parts kind parts))
+
+  -- ---- a package
+  module _ (test : row_test source.indexes read.1.from name read.1.unit ≡ Ok tt)
+      (packed : is_package source.indexes ≡ true) where
+    -- it has a row of its own
+    own : OwnRow (index_for source.indexes name) read.1.from (own_range read.1.unit)
+        (identifier_of name)
+    unfolding row_test
+    own =
+        let found = adjusted-packed source.indexes name packed Abbrev (contribution_to Abbrev whole)
+        (contribution_to Abbrev row) (made.parts Abbrev refl) in
+        own-by _ read.1.from (own_range read.1.unit) (identifier_of name) found.0
+        (kept _ _ _ tt (rw packed at test)).0 found.1
+
+    each-placed : (kind : SectionKind) → is_shared kind ≡ true → Placed (content_of kind before)
+        (joined_parts kind parts) (range_in own.row kind) (contribution_to kind row)
+    each-placed kind shared =
+        let front = content_of kind before in
+        let bytes = joined_parts kind parts in
+        let adjust = adjustor source.indexes kind in
+        let by = adjusted-packed source.indexes name packed kind (whole_behind front bytes)
+        (contribution_to kind row)
+        (rw (← whole-part source.encoding before parts kind shared) (made.parts kind shared)) in
+        let same = same-ok {E = ErrorValue} by.0 own.row (sym by.1 ∙ own.found) in
+        placed-by front bytes kind (identifier_of name) (range_in own.row kind)
+        (contribution_to kind row) (has_column_for kind (own_index adjust name))
+        (has_column_for kind (other_index adjust name)) (range-some own.row kind)
+        (λ none. range-none own.index own.number own.row kind own.there (ap (has_column_for kind)
+        (sym (own-index source.indexes kind name ∙ own.is)) ∙ none))
+        (ap (part_by_row adjust name (whole_behind front bytes)) (sym same) ∙ by.2)
+
+    -- its string offsets read alike
+    packed-reads : (after : List (List ℕ))
+        → RowsRead source (first StrOffsets source.object.sections)
+        (joined_parts StrOffsets parts) after
+        → OffsetsRead source (Some own.row) after (part_of (joined_parts StrOffsets parts)
+        (range_in own.row StrOffsets))
+    packed-reads after reads final table kept i = by-range (range_in own.row StrOffsets) refl
+      where
+        by-range : (range : Option Contribution) → range_in own.row StrOffsets ≡ range
+            → ReadsAlike source.object.order source.encoding (first Str source.object.sections)
+            (part_of (first StrOffsets source.object.sections) range) (data_of final)
+            (part_of (joined_parts StrOffsets parts) range) i
+        by-range None is = empty-alike source.object.order source.encoding
+            (first Str source.object.sections) (data_of final) i
+        by-range (Some range) is =
+            let size = reads.size in
+            let there = (each-placed StrOffsets refl).within range is in
+            let inside : range.offset.0 + range.size
+            ≤ length (first StrOffsets source.object.sections) = omega arith in
+            rw (part-inside _ range inside, part-inside _ range there)
+            (reads.rows own.index (one-of source.indexes name own.index own.is) own.number own.row
+            range own.there is inside (range-some own.row StrOffsets range is) final table kept i)
+
+  -- the ranges of a unit that passed the tests lie behind the contents before
+  pub row-behind : row_test source.indexes read.1.from name read.1.unit ≡ Ok tt
+      → LieBehind before row
+  row-behind test kind range is =
+      let shared = has-shared kind range is in
+      by-bool _ (is_package source.indexes)
+      (λ packed. (each-placed test packed kind shared).lies.behind range is)
+      (λ plain. (plain-lies plain kind shared).behind range is)
+
+  -- a unit that passed the tests stands in its row, with all that belongs to it
+  pub row-shares : (strings after : List (List ℕ)) → IsTable strings
+      → parts_of source strings ≡ Ok (parts, after)
+      → row_test source.indexes read.1.from name read.1.unit ≡ Ok tt
+      → RowShares source before parts after read row
+  unfolding unit_meaning
+  row-shares strings after table h test =
+      let by = λ (ranges : Option Ranges) (part : SectionKind → List ℕ). shares-by after ranges part
+      (parts-follow source strings parts after table h).table in
+      by-bool _ (is_package source.indexes)
+      (λ packed. let has = own test packed in
+      let placed = each-placed test packed in
+      let firsts = parts-first source packed strings parts after h in
+      let reads = rows-read names-same packaged-alike source packed strings parts after table h in
+      let longs = copied-or-offsets (λ kind. length (first kind source.object.sections) ≡ length
+      (joined_parts kind parts)) (λ kind copied. ap length (sym (firsts kind copied)))
+      (sym reads.size) in
+      by (Some has.row) (λ kind. part_of (joined_parts kind parts) (range_in has.row kind))
+      (rw (packed, has.placed) refl) (λ kind shared. (placed kind shared).lies)
+      (λ kind copied. ap (λ v. part_of v (range_in has.row kind)) (firsts kind copied))
+      (none-found _ (λ kind shared. not-outside (first kind source.object.sections)
+      (joined_parts kind parts) (range_in has.row kind) (longs kind shared)
+      (placed kind shared).within) shared_kinds refl)
+      (packed-reads test packed after reads))
+      (λ plain. by None (λ kind. joined_parts kind parts) (rw plain refl) (plain-lies plain)
+      (parts-copied source strings parts after h) refl
+      (parts-read source plain strings parts after table h))

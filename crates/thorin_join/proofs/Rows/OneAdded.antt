@@ -1,38 +1,23 @@
 -- A unit that is added stands in its row.
-use Rattle.std.proofs.Common.{◌≡◌, ◌∙◌, ℕ, ◌+◌, ◌-◌, ◌≤◌, ◌<◌, false, cond, List, ◌++◌, length, sym}
-use Rattle.std.proofs.Common.{refl, arith, Some, None, Option, ◌⊎◌, inl, inr}
-use Rattle.std.specs.Prelude.{slice_range}
-use Rattle.std.proofs.Math.Seq.{drop-append_seam, take-length}
-use Rattle.std.proofs.lemmas.Bool.{ne_eqb}
-use Rattle.dwp_base.specs.declared.section.SectionKind.{SectionKind}
+use Rattle.std.proofs.Common.{◌≡◌, ◌∙◌, ℕ, ◌+◌, ◌-◌, ◌<◌, false, cond, List, ◌++◌, length, sym}
+use Rattle.std.proofs.Common.{refl, arith, ap, true≢false, Some, None, ◌⊎◌, inl, inr, slice_range}
+use Rattle.std.proofs.Common.{ne_eqb}
+use Rattle.std.proofs.Math.Seq.{drop-append_seam}
+use Rattle.thorin_join.proofs.Names.{bind-ok, by-bool, Compilation, content_of, Contents}
+use Rattle.thorin_join.proofs.Names.{Contribution, contribution_to, DwarfObject, Endianness}
+use Rattle.thorin_join.proofs.Names.{IndexEntry, is-same, is_copied, IsRowOf, IsWhole, kind_at}
+use Rattle.thorin_join.proofs.Names.{LieInside, Meaning, NewUnit, row_at, same-each, same-self}
+use Rattle.thorin_join.proofs.Names.{same_kind, section, SectionKind, Shares, take-length, TypeUnit}
+use Rattle.thorin_join.proofs.Names.{UnitSection, with_bytes}
 use Rattle.dwp_base.specs.declared.section.SectionKind.TheVariants as kinds
-use Rattle.dwp_base.specs.declared.section.Contribution.{Contribution}
-use Rattle.dwp_base.specs.declared.endian.Endianness.{Endianness}
-use Rattle.dwp_base.specs.Sections.{same_kind}
-use Rattle.dwp_base.proofs.EveryKind.{same-self, is-same, same-each}
-use Rattle.dwp_base.proofs.Bools.{by-bool}
-use Rattle.dwp_base.proofs.Steps.{bind-ok}
-use Rattle.dwp_bytes.specs.Input.{section}
-use Rattle.dwp_elf.specs.Contents.{content_of}
 use Rattle.dwp_dwarf.specs.Units.{unit_at}
-use Rattle.dwp_dwarf.specs.declared.unit.UnitSection.{UnitSection}
 use Rattle.dwp_dwarf.specs.declared.unit.UnitSection.TheVariants as places
-use Rattle.dwp_index.specs.Package.{part_of, encoding_in}
+use Rattle.dwp_index.specs.Package.{encoding_in}
 use Rattle.dwp_index.specs.Package as index
-use Rattle.dwp_table.specs.declared.object.DwarfObject.{DwarfObject}
-use Rattle.dwp_table.specs.declared.object.DwarfObject.TheVariants.{Compilation, TypeUnit}
-use Rattle.thorin_index.specs.Entries.{contribution_to}
-use Rattle.thorin_index.specs.declared.entry.IndexEntry.{IndexEntry}
-use Rattle.thorin_input.specs.Growing.{Contents, with_bytes, range_put}
-use Rattle.thorin_input.specs.Format.{is_copied}
-use Rattle.thorin_input.specs.NewUnits.{NewUnit}
-use Rattle.thorin_join.specs.Laid.{IsWhole}
-use Rattle.thorin_join.specs.Meaning.{Meaning}
-use Rattle.thorin_join.specs.Represents.{LieInside, Shares, IsRowOf}
-use Rattle.thorin_join.specs.State.{kind_at, row_at}
+use Rattle.thorin_input.specs.Growing.{range_put}
 use Rattle.thorin_join.proofs.Rows.Stay.{grows-with_bytes, keep-lie, keep-shares}
 use Rattle.thorin_join.proofs.Rows.Ranges.{lies-whole}
-use Rattle.thorin_join.proofs.Parts.Appended.{content-with_bytes, copied-differ}
+use Rattle.thorin_join.proofs.Parts.Appended.{content-with_bytes, differ}
 
 -- the content of the kind that bytes are added to
 pub content-put : (k : SectionKind) (x : List ℕ) (c : Contents) → content_of k (with_bytes k x c) ≡
@@ -51,10 +36,6 @@ pub own-bytes : (a x : List ℕ) → slice_range (a ++ x) (length a) (length a +
 own-bytes a x = let e : length a + length x - length a ≡ length x = omega arith in
     rw (e, drop-append_seam a x) (take-length x)
 
-pub part-put : (k : SectionKind) (x : List ℕ) (c : Contents) → 0 < length x
-    → part_of (content_of k (with_bytes k x c)) (range_put k x c) ≡ x
-part-put k x c h = rw (content-put k x c) (lies-whole (content_of k c) x).part_is
-
 -- the kind of a place is none of those that units share
 pub not-shared : (place : UnitSection) → (is_copied (kind_at place) ≡ false)
     × (same_kind (kind_at place) kinds.StrOffsets ≡ false)
@@ -69,19 +50,6 @@ pub record Fits (shared : IndexEntry) (name : DwarfObject) (x : List ℕ)
   pub some : 0 < length x
   pub types_only : place ≡ places.Types → (signature : ℕ)
       × (name ≡ TypeUnit (record { 0 = signature }))
-
-pub lie-by : (shared : IndexEntry) (c : Contents) (k : SectionKind) (x : List ℕ)
-    (kind : SectionKind) (part : Option Contribution) (range : Contribution)
-    → 0 < length x → LieInside c shared → part ≡ Some range
-    → (part ≡ contribution_to kind shared) ⊎ ((kind ≡ k) × (part ≡ range_put k x c))
-    → (range.offset.0 + range.size ≤ length (content_of kind (with_bytes k x c))) × (0 < range.size)
-lie-by shared c k x kind part range some lie is (inl h) =
-    let there = keep-lie c (with_bytes k x c) shared (grows-with_bytes k x c) lie in
-    (there.inside kind range (sym h ∙ is), there.some kind range (sym h ∙ is))
-lie-by shared c k x kind part range some lie is (inr h) =
-    let own = lies-whole (content_of k c) x in
-    let there = sym h.1 ∙ is in
-    (rw (h.0, content-put k x c) (own.inside range there), own.some range there)
 
 -- a unit that can be put behind the others
 pub record CanLie (order : Endianness) (u : DwarfObject × NewUnit) : Type 0 where
@@ -136,6 +104,22 @@ module _ (shared : IndexEntry) (c : Contents) (name : DwarfObject) (x : List ℕ
         (λ same. let is = is-same (kind_at place) kind same in inr (sym is, rw (← is) row-own))
         (λ other. inl (row-other kind other))
 
+    row-lies : LieInside c shared → LieInside (with_bytes (kind_at place) x c) row
+    row-lies lie =
+        let k = kind_at place in
+        let there = keep-lie c (with_bytes k x c) shared (grows-with_bytes k x c) lie in
+        let own = lies-whole (content_of k c) x in
+        record {
+          inside = λ kind range is. elim (row-part kind) [
+            | inl h ↦ there.inside kind range (sym h ∙ is)
+            | inr h ↦ rw (h.0, content-put k x c) (own.inside range (sym h.1 ∙ is))
+          ];
+          some = λ kind range is. elim (row-part kind) [
+            | inl h ↦ there.some kind range (sym h ∙ is)
+            | inr h ↦ own.some range (sym h.1 ∙ is)
+          ];
+        }
+
     -- a unit whose row shares what belongs to it is the one of its row, once its bytes are added
     pub unit-added : (order : Endianness) (s : List (List ℕ)) (m : DwarfObject × Meaning)
         → CanBeAdded order c s (name, record { place = place; bytes = x; row = shared }) m
@@ -145,20 +129,14 @@ module _ (shared : IndexEntry) (c : Contents) (name : DwarfObject) (x : List ℕ
         let can = added.can in
         let kept = keep-shares order c (with_bytes (kind_at place) x c) s s shared m.1
         (grows-with_bytes (kind_at place) x c) (take-length s) added.lie added.shares in
-        let lies = λ (kind : SectionKind) (range : Contribution)
-        (is : contribution_to kind row ≡ Some range). lie-by shared c (kind_at place) x kind
-        (contribution_to kind row) range can.fits.some added.lie is (row-part kind) in
         record {
           name = row-name place ∙ added.name;
           encoding = elim place as (λ p. (row_at shared c name x p).encoding ≡ m.1.encoding)
               [ places.Info ↦ added.encoded | places.Types ↦ added.encoded ];
-          lie = record {
-            inside = λ kind range is. (lies kind range is).0;
-            some = λ kind range is. (lies kind range is).1;
-          };
+          lie = row-lies added.lie;
           shares = record {
-            content = λ kind copied. rw
-                (row-other kind (copied-differ kind (kind_at place) copied (not-shared place).0))
+            content = λ kind copied. rw (row-other kind (differ (kind_at place) kind (λ e.
+                true≢false (sym copied ∙ ap is_copied (sym e) ∙ (not-shared place).0))))
                 (kept.content kind copied);
             string = λ final table begins i. rw (row-other kinds.StrOffsets (not-shared place).1)
                 (kept.string final table begins i);
@@ -166,7 +144,8 @@ module _ (shared : IndexEntry) (c : Contents) (name : DwarfObject) (x : List ℕ
           owns = record {
             place = place;
             place_is = rw (← added.name) (own-place place can.fits);
-            bytes = rw row-own (part-put (kind_at place) x c can.fits.some ∙ added.bytes);
+            bytes = rw (row-own, content-put (kind_at place) x c)
+                ((lies-whole (content_of (kind_at place) c) x).part_is ∙ added.bytes);
             encoding = can.whole.unit.encoding;
             header = rw (← added.bytes) (bind-ok (unit_at place (section order x))
                 (can.whole.unit, can.whole.rest) _ can.whole.read);

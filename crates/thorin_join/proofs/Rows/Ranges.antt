@@ -1,25 +1,21 @@
 -- The ranges that a unit's row gets: where they lie, and what stands there.
 use Rattle.std.proofs.Common.{[], ◌≡◌, ◌∙◌, ℕ, ◌+◌, ◌-◌, ◌<◌, ◌≤◌, Bool, true, false, cond, eqb}
 use Rattle.std.proofs.Common.{leb, List, ◌++◌, length, slice_range, is_some, Ok, Option, Some, None}
-use Rattle.std.proofs.Common.{refl, sym, if◌then◌else◌, arith}
+use Rattle.std.proofs.Common.{refl, sym, if◌then◌else◌, arith, slice_index, length-append, leb-true}
+use Rattle.std.proofs.Common.{le-leb, eqb-true}
 use Rattle.std.specs.Option.{option_and_then}
-use Rattle.std.specs.Prelude.{slice_index}
-use Rattle.std.proofs.lemmas.List.{length-append}
-use Rattle.std.proofs.Math.Seq.{take-length, drop-append-add}
-use Rattle.std.proofs.lemmas.Option.{none-some, same_Some, option_and_then_some}
-use Rattle.std.proofs.lemmas.Bool.{leb-true, le-leb, eqb-true, eqb-false}
-use Rattle.dwp_base.specs.declared.section.SectionKind.{SectionKind}
-use Rattle.dwp_base.specs.declared.section.Contribution.{Contribution}
-use Rattle.dwp_index.specs.Index.{Index, Ranges, row_in, column_place, range_in}
-use Rattle.dwp_index.specs.Package.{part_of, is_outside}
-use Rattle.dwp_bytes.specs.declared.error.ReadError.{ReadError}
-use Rattle.thorin_errors.specs.Errors.{ErrorValue}
+use Rattle.thorin_join.proofs.Names.{by-bool, Contribution, eqb-false, ErrorValue, Index, none-some}
+use Rattle.thorin_join.proofs.Names.{part_of, Ranges, ReadError, same-ok, same_Some, SectionKind}
+use Rattle.thorin_join.proofs.Names.{take-length}
+use Rattle.std.proofs.Math.Seq.{drop-append-add}
+use Rattle.std.proofs.lemmas.Option.{option_and_then_some}
+use Rattle.dwp_index.specs.Index.{row_in, column_place, range_in}
+use Rattle.dwp_index.specs.Package.{is_outside}
 use Rattle.thorin_input.specs.Adjusting.{moved, moved_range, without_column}
 use Rattle.thorin_join.proofs.Parts.Appended.{no-bytes}
-use Rattle.dwp_base.proofs.Steps.{same-ok, by-choice}
+use Rattle.dwp_base.proofs.Steps.{by-choice}
 use Rattle.thorin_join.proofs.Steps.{kept}
 use Rattle.thorin_join.proofs.Rows.Stay.{part-inside}
-use Rattle.dwp_base.proofs.Bools.{by-bool}
 
 -- a range, where there is one, lies inside bytes that were put behind others, and has some, and
 -- these bytes stand there

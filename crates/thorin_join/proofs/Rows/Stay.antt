@@ -1,29 +1,18 @@
 -- What stands in a package stays when more is added.
 use Rattle.std.proofs.Common.{[], ◌≡◌, ◌∙◌, ℕ, ◌+◌, ◌-◌, ◌≤◌, List, ◌∷◌, ◌++◌, length, take, drop}
-use Rattle.std.proofs.Common.{ap, sym, refl, arith, Some, None, Option}
-use Rattle.std.specs.Prelude.{slice_range}
-use Rattle.std.proofs.lemmas.Bool.{le-leb}
-use Rattle.std.proofs.lemmas.List.{append_assoc, append-nil, drop-append-le, take-append-le}
-use Rattle.std.proofs.lemmas.List.{length-append, length-drop}
-use Rattle.dwp_base.specs.declared.section.SectionKind.{SectionKind}
-use Rattle.dwp_base.specs.declared.section.SectionKind.TheVariants.{StrOffsets}
-use Rattle.dwp_base.specs.declared.section.Contribution.{Contribution}
-use Rattle.dwp_base.specs.declared.endian.Endianness.{Endianness}
-use Rattle.dwp_base.specs.Sections.{same_kind}
-use Rattle.dwp_elf.specs.Contents.{content_of}
-use Rattle.dwp_index.specs.Package.{part_of}
+use Rattle.std.proofs.Common.{ap, sym, refl, arith, Some, None, Option, slice_range, le-leb}
+use Rattle.std.proofs.Common.{append_assoc, append-nil, length-append, length-drop}
+use Rattle.thorin_join.proofs.Names.{AreRowsOf, by-bool, content_of, Contents, Contribution}
+use Rattle.thorin_join.proofs.Names.{contribution_to, data_of, drop-append-le, DwarfObject}
+use Rattle.thorin_join.proofs.Names.{Endianness, IndexEntry, IsRowOf, kind_at, LieInside, Meaning}
+use Rattle.thorin_join.proofs.Names.{part_of, same_kind, SectionKind, Shares, StrOffsets}
+use Rattle.thorin_join.proofs.Names.{with_bytes}
+use Rattle.std.proofs.lemmas.List.{take-append-le}
 use Rattle.dwp_index.specs.Strings.{string_in}
-use Rattle.thorin_strings.specs.Strings.{data_of}
-use Rattle.thorin_join.specs.State.{kind_at}
-use Rattle.dwp_table.specs.declared.object.DwarfObject.{DwarfObject}
-use Rattle.thorin_index.specs.Entries.{contribution_to}
-use Rattle.thorin_index.specs.declared.entry.IndexEntry.{IndexEntry}
-use Rattle.thorin_input.specs.Growing.{Contents, HasFront, with_bytes}
-use Rattle.thorin_join.specs.Meaning.{Meaning}
-use Rattle.thorin_join.specs.Represents.{LieInside, Shares, Owns, IsRowOf, AreRowsOf}
+use Rattle.thorin_input.specs.Growing.{HasFront}
+use Rattle.thorin_join.specs.Represents.{Owns}
 use Rattle.thorin_join.proofs.Parts.Appended.{content-with_bytes}
 use Rattle.thorin_join.proofs.Parts.Strings.{front-front}
-use Rattle.dwp_base.proofs.Bools.{by-bool}
 
 -- each content has at its front what it was
 abbrev pub Grows : Contents → Contents → Type 0
@@ -35,8 +24,7 @@ front-long {a} h = omega (arith, ap length h.is, length-append a h.rest)
 pub grows-trans : (c d e : Contents) → Grows c d → Grows d e → Grows c e
 grows-trans c d e h k kind = record {
   rest = (h kind).rest ++ (k kind).rest;
-  is = (k kind).is ∙ ap (λ l. l ++ (k kind).rest) (h kind).is
-      ∙ append_assoc (content_of kind c) (h kind).rest (k kind).rest;
+  is = rw ((k kind).is, (h kind).is, append_assoc);
 }
 
 -- bytes that are added

@@ -1,31 +1,20 @@
 -- The names and the headers of units that are read.
-use Rattle.std.proofs.Common.{◌≡◌, ◌∙◌, ℕ, Bool, true, List, Result, Ok, Err, Option, Some, None}
-use Rattle.std.proofs.Common.{ap, sym, refl}
-use Rattle.std.specs.Prelude.{slice_get}
-use Rattle.std.specs.Option.{ok_or}
-use Rattle.dwp_base.specs.declared.endian.Endianness.{Endianness}
-use Rattle.dwp_base.specs.declared.section.SectionKind.{SectionKind}
-use Rattle.dwp_base.proofs.EveryKind.{every, is-same}
-use Rattle.dwp_base.specs.Sections.{same_kind}
-use Rattle.dwp_base.proofs.Steps.{same-ok, bind-was}
-use Rattle.dwp_bytes.specs.Input.{Input, section}
-use Rattle.dwp_bytes.specs.declared.error.ReadError.{ReadError}
-use Rattle.dwp_bytes.specs.declared.error.ReadError.TheVariants.{UnknownVersion}
+use Rattle.std.proofs.Common.{◌≡◌, ◌∙◌, ℕ, List, Result, Ok, Err, Some, None, ap, refl, slice_get}
+use Rattle.std.proofs.Common.{[], ◌∷◌, subst}
+use Rattle.thorin_join.proofs.Names.{bind-was, DwarfObject, Endianness, ErrorValue, Input, kind_at}
+use Rattle.thorin_join.proofs.Names.{NewUnit, ok_or, ReadError, same-ok, section, SectionKind}
+use Rattle.thorin_join.proofs.Names.{Source, unit_section, UnitRead, UnitSection}
+use Rattle.dwp_base.specs.declared.section.SectionKind.TheVariants as kinds
+use Rattle.dwp_dwarf.specs.declared.unit.UnitSection.TheVariants as places
 use Rattle.dwp_dwarf.specs.Units.{Unit as Header, units, unit_bytes}
-use Rattle.dwp_dwarf.specs.declared.unit.UnitSection.{UnitSection}
+use Rattle.dwp_dwarf.proofs.UnitLists.{unit_taken}
 use Rattle.dwp_index.specs.Package.{encoding_in}
-use Rattle.dwp_table.specs.declared.object.DwarfObject.{DwarfObject}
-use Rattle.thorin_errors.specs.Errors.{ErrorValue, NotSplitUnit}
+use Rattle.dwp_index.proofs.UnitAlone.{units_alone}
+use Rattle.thorin_errors.specs.Errors.{NotSplitUnit}
 use Rattle.thorin_identity.specs.Identity.{identity}
-use Rattle.thorin_input.specs.Indexes.{Source}
-use Rattle.thorin_join.specs.Meaning.{UnitRead}
-use Rattle.thorin_input.specs.NewUnits.{name_for, unit_section}
+use Rattle.thorin_join.specs.Meaning.{named_unit, named_each}
+use Rattle.thorin_input.specs.NewUnits.{name_for}
 use Rattle.thorin_input.specs.Rows.{abbreviations_for}
-use Rattle.thorin_join.specs.State.{kind_at}
-
-pub no_header : (P : Type 0) (u : Header) → ◌≡◌ {A = Result Header ReadError}
-    (Err UnknownVersion) (Ok u) → P
-no_header P u h = absurd cc
 
 abbrev pub Listed : Type 0
 Listed = List (Result Header ReadError)
@@ -33,28 +22,44 @@ Listed = List (Result Header ReadError)
 abbrev pub Reads : Type 0
 Reads = List (DwarfObject × UnitRead)
 
+abbrev pub News : Type 0
+News = List (DwarfObject × NewUnit)
+
 -- ---- the units of an object
 
--- the law that is called upon: a unit is read from its own bytes alone
+-- a unit is read from its own bytes alone
 abbrev pub ReadAlone : Type 0
 ReadAlone = (order : Endianness) (place : UnitSection) (bytes : List ℕ) (k : ℕ) (unit : Header)
     → slice_get (units place (section order bytes)) k ≡ Some (Ok unit)
     → encoding_in order place (unit_bytes unit) ≡ Ok unit.encoding
 
--- the place of a kind of section
-abbrev is_at : SectionKind → Option UnitSection → Bool
-is_at kind None = true
-is_at kind (Some place) = same_kind kind (kind_at place)
+pub read-alone : ReadAlone
+read-alone order place bytes k unit = units_alone unit_taken order place unit bytes k
+
+-- what holds of none, and with one more that was read and named before others, holds of those of a
+-- section
+pub each-named : (source : Source) (kind : SectionKind) (P : Listed → Reads → Type 0) → P [] []
+    → ((unit : Header) (name : DwarfObject) (reads : Listed) (us : Reads)
+    → name_for source kind unit ≡ Ok name → P reads us
+    → P (Ok unit ∷ reads) ((name, record { from = kind; unit = unit }) ∷ us))
+    → (reads : Listed) (us : Reads) → named_each source kind reads ≡ Ok us → P reads us
+unfolding named_each named_unit
+each-named source kind P none more [] us h =
+    subst (P []) (same-ok {E = ErrorValue} [] us h) none
+each-named source kind P none more (Err e ∷ rest) us h = absurd cc
+each-named source kind P none more (Ok unit ∷ rest) us h =
+    let a = bind-was (named_unit source kind (Ok unit)) _ us h in
+    let b = bind-was (named_each source kind rest) _ us a.2 in
+    let name = bind-was (name_for source kind unit) _ a.0 a.1 in
+    let is = ap (λ u. u ∷ b.0) (same-ok {E = ErrorValue} _ a.0 name.2) in
+    subst (P (Ok unit ∷ rest)) (is ∙ same-ok {E = ErrorValue} _ us b.2)
+    (more unit name.0 rest b.0 name.1 (each-named source kind P none more rest b.0 b.1))
 
 pub kind-place : (kind : SectionKind) (place : UnitSection) → unit_section kind ≡ Some place
     → kind ≡ kind_at place
-kind-place kind place at = is-same kind (kind_at place) (ap (is_at kind) (sym at) ∙ every (λ k.
-    is_at k (unit_section k)) refl kind)
-
-ok_or-some : (o : Option DwarfObject) (f : ErrorValue) (name : DwarfObject)
-    → ok_or o f ≡ Ok name → o ≡ Some name
-ok_or-some None f name h = absurd cc
-ok_or-some (Some n) f name h = ap Some (same-ok n name h)
+kind-place kinds.Info places.Info at = refl
+kind-place kinds.Types places.Types at = refl
+kind-place _ _ at = absurd cc
 
 -- a name is the identity that a unit has with some abbreviations
 pub name-identity : (source : Source) (kind : SectionKind) (unit : Header) (name : DwarfObject)
@@ -64,4 +69,6 @@ unfolding name_for
 name-identity source kind unit name h =
     let a = bind-was (abbreviations_for source kind unit) _ name h in
     let b = bind-was (identity (section source.object.order a.0) unit) _ name a.2 in
-    (section source.object.order a.0, b.1 ∙ ap Ok (ok_or-some b.0 NotSplitUnit name b.2))
+    let is = (elim b.0 as (λ o. ok_or o NotSplitUnit ≡ Ok name → o ≡ Some name)
+    [ None ↦ λ h. absurd cc | Some n ↦ λ h. ap Some (same-ok n name h) ]) b.2 in
+    (section source.object.order a.0, b.1 ∙ ap Ok is)

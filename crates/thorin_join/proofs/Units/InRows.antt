@@ -1,23 +1,14 @@
 -- The units that a package represents are those that stand in the ranges of its rows.
-use Rattle.std.proofs.Common.{[], ◌≡◌, ◌∙◌, ℕ, List, ◌∷◌, map, ap, sym, refl, true}
-use Rattle.std.specs.Prelude.{Ok}
+use Rattle.std.proofs.Common.{[], ◌≡◌, ℕ, List, ◌∷◌, map, ap, sym, refl, true, Ok}
 use Rattle.std.specs.Result.{result_unwrap_or}
-use Rattle.std.proofs.Math.Seq.{take-length}
-use Rattle.dwp_base.specs.declared.endian.Endianness.{Endianness}
-use Rattle.dwp_base.specs.declared.section.SectionKind.{SectionKind}
-use Rattle.dwp_base.specs.declared.section.SectionKind.TheVariants.{StrOffsets}
-use Rattle.dwp_elf.specs.Contents.{content_of}
-use Rattle.dwp_index.specs.Package.{part_of, place_of}
-use Rattle.dwp_table.specs.declared.object.DwarfObject.{DwarfObject}
-use Rattle.thorin_strings.specs.Strings.{IsTable, data_of}
-use Rattle.thorin_index.specs.Entries.{contribution_to}
-use Rattle.thorin_index.specs.declared.entry.IndexEntry.{IndexEntry}
-use Rattle.thorin_input.specs.Growing.{Contents}
-use Rattle.thorin_input.specs.Format.{is_copied}
-use Rattle.thorin_join.specs.Meaning.{Meaning, Members, pieces_by, keys, Pieces}
-use Rattle.thorin_join.specs.Represents.{IsRowOf, AreRowsOf, Represents, meaning_at, units_of}
-use Rattle.thorin_join.specs.State.{InProgress, kind_at, names_of, unit_bytes}
-use Rattle.thorin_join.specs.Strings.{strings_of}
+use Rattle.thorin_join.proofs.Names.{AreRowsOf, content_of, Contents, contribution_to, data_of}
+use Rattle.thorin_join.proofs.Names.{DwarfObject, Endianness, IndexEntry, InProgress, is_copied}
+use Rattle.thorin_join.proofs.Names.{IsRowOf, IsTable, keys, Meaning, Members, part_of, SectionKind}
+use Rattle.thorin_join.proofs.Names.{strings_of, StrOffsets, take-length, units_of}
+use Rattle.dwp_index.specs.Package.{place_of}
+use Rattle.thorin_join.specs.Meaning.{pieces_by, Pieces}
+use Rattle.thorin_join.specs.Represents.{Represents, meaning_at}
+use Rattle.thorin_join.specs.State.{names_of, unit_bytes}
 use Rattle.thorin_join.proofs.Parts.StringLists.{strings-are}
 
 -- the pieces of a unit, where each kind's bytes are its piece
@@ -30,11 +21,9 @@ module _ (order : Endianness) (contents : Contents) (strings : List (List ℕ))
   module _ (row : IndexEntry) (member : DwarfObject × Meaning) (is : IsRowOf order contents strings
       row member) where
     bytes-are : member.1.bytes ≡ unit_bytes contents row
-    bytes-are =
-        sym is.owns.bytes
-        ∙ ap (λ place. part_of (content_of (kind_at place) contents)
-        (contribution_to (kind_at place) row)) (is.owns.place_is ∙ ap (λ name.
-        place_of name row.debug_types) (sym is.name))
+    bytes-are = let place : place_of row.id row.debug_types ≡ is.owns.place =
+        rw is.name (sym is.owns.place_is) in
+        rw place (sym is.owns.bytes)
 
     strings-found : strings_of order row.encoding (data_of strings)
         (part_of (content_of StrOffsets contents) (contribution_to StrOffsets row)) ≡ Ok

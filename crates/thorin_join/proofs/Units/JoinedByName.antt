@@ -2,24 +2,21 @@
 use Rattle.std.proofs.Common.{[], ◌≡◌, ◌∙◌, ℕ, true, not, ◌||◌, ◌==◌, List, ◌∷◌, ◌++◌, Option, Some}
 use Rattle.std.proofs.Common.{None, is_some, Ok, ap, ap₂, sym, subst, refl, append_assoc}
 use Rattle.std.proofs.Common.{append-nil}
-use Rattle.std.specs.List.{list_any}
-use Rattle.std.specs.Map.{lookup}
+use Rattle.thorin_join.proofs.Names.{Adding, bind-was, Compilation, DwarfObject, is_compilation}
+use Rattle.thorin_join.proofs.Names.{joining, keys, list_any, lookup, New, NewUnit, place_for}
+use Rattle.thorin_join.proofs.Names.{same-ok, same_name, source_units, TypeUnit, UnitRead, Used}
 use Rattle.std.specs.Str.{bytes_eq}
 use Rattle.std.proofs.lemmas.List.Folds.{list_any-append}
 use Rattle.std.proofs.lemmas.List.{map-append}
 use Rattle.std.proofs.lemmas.Map.Made.{is_some-lookup}
 use Rattle.dwp_dwarf.specs.Units.{Unit as Header}
-use Rattle.dwp_table.specs.declared.object.DwarfObject.{DwarfObject}
-use Rattle.dwp_table.specs.declared.object.DwarfObject.TheVariants.{Compilation, TypeUnit}
-use Rattle.thorin_join.specs.Meaning.{UnitRead, keys, joining, can_join, source_units}
-use Rattle.thorin_input.specs.Names.{same_name, is_compilation}
-use Rattle.thorin_input.specs.NewUnits.{NewUnit, New, Adding, or_held, kept_bytes, place_for}
-use Rattle.thorin_input.specs.NewUnits.{with_first, with_unit, new_units}
+use Rattle.thorin_join.specs.Meaning.{can_join}
+use Rattle.thorin_input.specs.NewUnits.{or_held, kept_bytes, with_first, with_unit, new_units}
 use Rattle.thorin_input.specs.Rows.{unit_row, row_test}
-use Rattle.thorin_input.specs.Used.{Used}
-use Rattle.dwp_base.proofs.Steps.{bind-was, same-ok, by-choice}
+use Rattle.dwp_base.proofs.Steps.{by-choice}
 use Rattle.thorin_join.proofs.Steps.{kept}
 use Rattle.thorin_join.proofs.Units.ReadInTurn.{Steps, units-read}
+use Rattle.thorin_join.proofs.Units.HeadersRead.{News, Reads}
 
 -- ---- what is kept
 
@@ -40,13 +37,13 @@ pub record IsAdded (adding : Adding) (new : DwarfObject × NewUnit) (read : Dwar
   pub tested : row_test adding.source.indexes read.1.from read.0 read.1.unit ≡ Ok tt
   pub row : unit_row adding.source.indexes adding.whole read.0 ≡ Ok new.1.row
 
-abbrev pub AreAdded : Adding → List (DwarfObject × NewUnit) → List (DwarfObject × UnitRead) → Type 0
+abbrev pub AreAdded : Adding → News → Reads → Type 0
 AreAdded adding [] [] = Unit {0}
 AreAdded adding (n ∷ ns) (r ∷ rs) = IsAdded adding n r × AreAdded adding ns rs
 AreAdded adding _ _ = ⊥
 
-pub added-keys : (adding : Adding) (ns : List (DwarfObject × NewUnit))
-    (rs : List (DwarfObject × UnitRead)) → AreAdded adding ns rs → keys ns ≡ keys rs
+pub added-keys : (adding : Adding) (ns : News) (rs : Reads) → AreAdded adding ns rs
+    → keys ns ≡ keys rs
 added-keys adding [] [] h = refl
 added-keys adding (n ∷ ns) (r ∷ rs) h = λ i. h.0.name i ∷ added-keys adding ns rs h.1 i
 added-keys adding _ _ h = absurd h
@@ -61,25 +58,23 @@ there-joined : (adding : Adding) (kept : List ℕ) (from : Used) (name : DwarfOb
 unfolding with_unit
 there-joined adding kept from (Compilation id) unit before after h = absurd cc
 there-joined adding kept from (TypeUnit signature) unit before after h =
-    let units = λ (n : New) (is : n ≡ after). ap (λ (n : New). n.units) (sym is) in (
-      by-choice _ (bytes_eq kept unit.whole.bytes) _ _ _ (same-ok _ after h) (units _)
-          (units _),
-      refl,
-    )
+    let units = λ (n : New) (is : n ≡ after). ap (λ (n : New). n.units) (sym is) in
+    let same = by-choice _ (bytes_eq kept unit.whole.bytes) _ _ _ (same-ok _ after h) (units _)
+    (units _) in
+    (same, refl)
 
 -- the names that were there before some units
 abbrev before_names : Adding → New → List DwarfObject
 before_names adding new = keys adding.held ++ keys new.units
 
 -- units that were read are joined to those before
-record AreJoined (adding : Adding) (before after : New)
-    (all : List (DwarfObject × UnitRead)) : Type 0 where
-  added : List (DwarfObject × NewUnit)
+record AreJoined (adding : Adding) (before after : New) (all : Reads) : Type 0 where
+  added : News
   units : after.units ≡ before.units ++ added
   are : AreAdded adding added (joining (before_names adding before) all)
   defined : can_join (before_names adding before) all ≡ true
 
-steps-joined : (adding : Adding) (before after : New) (us : List (DwarfObject × UnitRead))
+steps-joined : (adding : Adding) (before after : New) (us : Reads)
     → Steps adding before us after → AreJoined adding before after us
 unfolding with_unit with_first
 steps-joined adding before after [] same = record {
@@ -134,7 +129,7 @@ steps-joined adding before after (u ∷ us) h =
 
 -- the units that an input adds are its units, joined to the names that are held
 pub record UnitsJoined (adding : Adding) (new : New) : Type 0 where
-  pub all : List (DwarfObject × UnitRead)
+  pub all : Reads
   pub is : source_units adding.source ≡ Ok all
   pub are : AreAdded adding new.units (joining (keys adding.held) all)
   pub defined : can_join (keys adding.held) all ≡ true

@@ -2,25 +2,19 @@
 use Rattle.std.proofs.Common.{[], ◌≡◌, ◌∙◌, ℕ, ◌<◌, Bool, true, false, List, ◌∷◌, ◌++◌, length, map}
 use Rattle.std.proofs.Common.{true≢false, inl, inr, get_or, All, AllPairs, ap, sym, refl, arith}
 use Rattle.std.proofs.Common.{eq-eqb, eqb-true, append_assoc, append-nil}
-use Rattle.std.specs.List.{list_any}
-use Rattle.std.proofs.lemmas.Bool.{cases_order}
+use Rattle.thorin_join.proofs.Names.{by-bool, Compilation, DwarfObject, entry_ids, identifier_of}
+use Rattle.thorin_join.proofs.Names.{IndexEntry, is_chosen, is_compilation, joining, length-map}
+use Rattle.thorin_join.proofs.Names.{list_any, rows_of, same_name, TypeUnit}
+use Rattle.std.proofs.lemmas.Bool.{cases_order, false_from_ne_true}
 use Rattle.std.proofs.lemmas.List.Elements.{filter_passes}
 use Rattle.std.proofs.lemmas.List.Folds.{list_any_at}
 use Rattle.std.proofs.lemmas.List.Kept.{AllPairs-filter}
 use Rattle.std.proofs.lemmas.List.Quantifiers.{all_pairs_push}
-use Rattle.std.proofs.lemmas.List.{length-map, get_or-map as get_or-at}
+use Rattle.std.proofs.lemmas.List.{get_or-map as get_or-at}
 use Rattle.std.proofs.Math.ListN.{get_or-map}
-use Rattle.dwp_table.specs.Objects.{identifier_of}
 use Rattle.dwp_table.specs.Table.{AreDistinct}
-use Rattle.dwp_table.specs.declared.object.DwarfObject.{DwarfObject}
-use Rattle.dwp_table.specs.declared.object.DwarfObject.TheVariants.{Compilation, TypeUnit}
-use Rattle.thorin_index.specs.declared.entry.IndexEntry.{IndexEntry}
-use Rattle.thorin_index.specs.IndexText.{entry_ids}
-use Rattle.thorin_join.specs.Builder.{is_chosen, rows_of}
-use Rattle.thorin_join.specs.Meaning.{joining}
-use Rattle.thorin_input.specs.Names.{same_name, is_compilation}
 use Rattle.thorin_join.specs.Represents.{AreApart}
-use Rattle.dwp_base.proofs.Bools.{by-bool, is-false}
+use Rattle.dwp_base.proofs.Bools.{is-false}
 
 -- one name is the other
 
@@ -35,19 +29,14 @@ pub same_name-self : (a : DwarfObject) → same_name a a ≡ true
 same_name-self (Compilation a) = eq-eqb a.0 a.0 refl
 same_name-self (TypeUnit a) = eq-eqb a.0 a.0 refl
 
-pub same_name-equal : (a b : DwarfObject) → a ≡ b → same_name a b ≡ true
-same_name-equal a b h = rw (← h) (same_name-self a)
-
 pub same_name-sym : (a b : DwarfObject) → same_name a b ≡ true → same_name b a ≡ true
-same_name-sym a b h = same_name-equal b a (sym (same_name-true a b h))
+same_name-sym a b h = rw (same_name-true a b h) (same_name-self b)
 
 pub apart-more : (names : List DwarfObject) (name : DwarfObject) → AreApart names
     → list_any (same_name name) names ≡ false → AreApart (names ++ name ∷ [])
 apart-more names name h e = all_pairs_push (λ a b. same_name a b ≡ false) names name h
-    (λ k d within. by-bool _ (same_name (get_or names k d) name)
-    (λ same. absurd (true≢false (sym (list_any_at (same_name name) names k d within
-    (same_name-sym (get_or names k d) name same)) ∙ e)))
-    (λ other. other))
+    (λ k d within. false_from_ne_true _ (λ same. true≢false (sym (list_any_at (same_name name) names
+    k d within (same_name-sym (get_or names k d) name same)) ∙ e)))
 
 pub apart-none : AreApart []
 apart-none i j d before within = absurd (omega arith)

@@ -1,20 +1,15 @@
 -- The units of an input are read one after another, and each is added to what those before it gave.
 use Rattle.std.proofs.Common.{[], ◌≡◌, ◌∙◌, List, ◌∷◌, ◌++◌, refl, Result, Ok, Option, Some, None}
-use Rattle.dwp_base.proofs.Steps.{bind-was, bind-ok, same-ok}
-use Rattle.dwp_bytes.specs.Input.{section}
-use Rattle.dwp_bytes.specs.declared.error.ReadError.{ReadError}
-use Rattle.dwp_dwarf.specs.Units.{Unit as Header, units}
-use Rattle.dwp_dwarf.specs.declared.unit.UnitSection.{UnitSection}
-use Rattle.dwp_table.specs.declared.object.DwarfObject.{DwarfObject}
-use Rattle.thorin_errors.specs.Answers.{as_error}
-use Rattle.thorin_errors.specs.Errors.{ErrorValue, ParseUnitHeader}
-use Rattle.thorin_input.specs.NewUnits.{New, Adding, Met, kept_bytes, with_unit, name_for}
-use Rattle.thorin_input.specs.NewUnits.{with_read, with_each_read, unit_section, none_met}
-use Rattle.thorin_input.specs.NewUnits.{once_test, with_section_at, with_section_in, with_section}
-use Rattle.thorin_input.specs.NewUnits.{with_each_section, new_units}
-use Rattle.thorin_input.specs.Used.{Used}
-use Rattle.thorin_join.specs.Meaning.{UnitRead, named_unit, named_each, named_at, named_sections}
-use Rattle.thorin_join.specs.Meaning.{source_units}
+use Rattle.thorin_join.proofs.Names.{Adding, as_error, bind-ok, bind-was, DwarfObject, ErrorValue}
+use Rattle.thorin_join.proofs.Names.{New, same-ok, section, source_units, unit_section, UnitRead}
+use Rattle.thorin_join.proofs.Names.{UnitSection, Used}
+use Rattle.dwp_dwarf.specs.Units.{units}
+use Rattle.thorin_errors.specs.Errors.{ParseUnitHeader}
+use Rattle.thorin_input.specs.NewUnits.{Met, kept_bytes, with_unit, name_for, with_read}
+use Rattle.thorin_input.specs.NewUnits.{with_each_read, none_met, once_test, with_section_at}
+use Rattle.thorin_input.specs.NewUnits.{with_section_in, with_section, with_each_section, new_units}
+use Rattle.thorin_join.specs.Meaning.{named_unit, named_each, named_at, named_sections}
+use Rattle.thorin_join.proofs.Units.HeadersRead.{Listed, Reads}
 
 module _ (adding : Adding) where
   -- a unit that was read is added to what was there, or passed over
@@ -24,24 +19,23 @@ module _ (adding : Adding) where
     pub is : with_unit (kept_bytes adding.held before.units read.0) adding from read.0 read.1.unit
         before ≡ Ok after
 
-  abbrev pub Steps : New → List (DwarfObject × UnitRead) → New → Type 0
+  abbrev pub Steps : New → Reads → New → Type 0
   Steps before [] after = before ≡ after
   Steps before (read ∷ rest) after = (next : New) × IsStep before read next × Steps next rest after
 
-  steps-append : (before mid after : New) (us vs : List (DwarfObject × UnitRead))
+  steps-append : (before mid after : New) (us vs : Reads)
       → Steps before us mid → Steps mid vs after → Steps before (us ++ vs) after
   steps-append before mid after [] vs h k = rw h k
   steps-append before mid after (u ∷ us) vs h k =
       (h.0, h.1, steps-append h.0 mid after us vs h.2 k)
 
   -- the units of a meaning are read and added
-  pub record AreRead (before after : New)
-      (meaning : Result (List (DwarfObject × UnitRead)) ErrorValue) : Type 0 where
-    pub all : List (DwarfObject × UnitRead)
+  pub record AreRead (before after : New) (meaning : Result Reads ErrorValue) : Type 0 where
+    pub all : Reads
     pub is : meaning ≡ Ok all
     pub steps : Steps before all after
 
-  each-read : (from : Used) (before after : New) (reads : List (Result Header ReadError))
+  each-read : (from : Used) (before after : New) (reads : Listed)
       → with_each_read adding from before reads ≡ Ok after
       → AreRead before after (named_each adding.source from.kind reads)
   unfolding with_each_read named_each with_read named_unit

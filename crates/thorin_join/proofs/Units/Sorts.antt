@@ -1,8 +1,7 @@
 -- The name of a unit has the sort, and of a type unit the signature, that its header says.
 use Rattle.std.proofs.Common.{[], ◌≡◌, List, ◌∷◌, ap, sym, Result, Ok, Err, Option, Some, None}
-use Rattle.std.specs.Option.{ok_or}
-use Rattle.dwp_bytes.specs.Input.{Input}
-use Rattle.dwp_bytes.specs.declared.error.ReadError.{ReadError}
+use Rattle.thorin_join.proofs.Names.{as_error, bind-was, DwarfObject, ErrorValue, Input, ok_or}
+use Rattle.thorin_join.proofs.Names.{ReadError}
 use Rattle.dwp_bytes.specs.declared.error.ReadError.TheVariants.{UnknownCode}
 use Rattle.dwp_dwarf.specs.Abbreviations.{declaration}
 use Rattle.dwp_dwarf.specs.Entries.{DebugAttribute, entry, root_code_at}
@@ -10,10 +9,7 @@ use Rattle.dwp_dwarf.specs.Offsets.{from_at}
 use Rattle.dwp_dwarf.specs.Units.{Unit as Header}
 use Rattle.dwp_dwarf.specs.declared.unit.UnitType.{UnitType}
 use Rattle.dwp_dwarf.specs.declared.unit.UnitType.TheVariants as unit_types
-use Rattle.dwp_table.specs.declared.object.DwarfObject.{DwarfObject}
-use Rattle.thorin_errors.specs.Errors.{ErrorValue, NoDie, ParseUnitAbbreviations, GimliRead}
-use Rattle.thorin_errors.specs.Answers.{as_error}
-use Rattle.dwp_base.proofs.Steps.{bind-was}
+use Rattle.thorin_errors.specs.Errors.{NoDie, ParseUnitAbbreviations, GimliRead}
 use Rattle.thorin_identity.specs.Identity.{compilation, identifier_in, found_or, first_identifier}
 use Rattle.thorin_identity.specs.Identity.{entry_identity, root_identity, identity_by, identity}
 use Rattle.thorin_join.specs.Laid.{type_signature, name_signature}

@@ -1,41 +1,24 @@
 -- The units of an input are whole units of their names, wherever their bytes come to stand.
 use Rattle.std.proofs.Common.{[], ◌≡◌, ◌∙◌, inl, inr, ℕ, zero, suc, ◌+◌, nat_eq, List, ◌∷◌, ◌++◌}
 use Rattle.std.proofs.Common.{length, drop, ap, sym, refl, Result, Ok, Err, Option, Some, None}
-use Rattle.std.proofs.Common.{arith}
-use Rattle.std.specs.Prelude.{slice_get}
-use Rattle.std.specs.List.{list_any}
-use Rattle.std.proofs.lemmas.List.{take-append-drop}
-use Rattle.std.proofs.lemmas.Option.{none-some}
-use Rattle.dwp_base.specs.declared.endian.Endianness.{Endianness}
-use Rattle.dwp_base.specs.declared.section.SectionKind.{SectionKind}
-use Rattle.dwp_bytes.specs.Input.{Input, section}
-use Rattle.dwp_bytes.specs.declared.encoding.Encoding.{Encoding}
-use Rattle.dwp_bytes.specs.declared.error.ReadError.{ReadError}
+use Rattle.std.proofs.Common.{arith, slice_get, take-append-drop}
+use Rattle.thorin_join.proofs.Names.{as_error, as_error_ok, bind-was, by-bool, Compilation}
+use Rattle.thorin_join.proofs.Names.{DwarfObject, Encoding, Endianness, ErrorValue, Input, IsWhole}
+use Rattle.thorin_join.proofs.Names.{joining, kind_at, list_any, none-some, place_for, ReadError}
+use Rattle.thorin_join.proofs.Names.{same-ok, same_name, section, SectionKind, Source, source_units}
+use Rattle.thorin_join.proofs.Names.{unit_section, UnitRead, UnitSection, Used}
 use Rattle.dwp_dwarf.specs.Units.{Unit as Header, UnitsAreTaken, unit_at, listed, units_within}
 use Rattle.dwp_dwarf.specs.Units.{units}
-use Rattle.dwp_dwarf.specs.declared.unit.UnitSection.{UnitSection}
 use Rattle.dwp_dwarf.specs.declared.unit.UnitSection.TheVariants as places
 use Rattle.dwp_index.specs.Package.{encoding_in}
-use Rattle.dwp_table.specs.declared.object.DwarfObject.{DwarfObject}
-use Rattle.dwp_table.specs.declared.object.DwarfObject.TheVariants.{Compilation}
-use Rattle.thorin_errors.specs.Errors.{ErrorValue, ParseUnitHeader}
-use Rattle.thorin_errors.specs.Answers.{as_error}
-use Rattle.thorin_input.specs.Indexes.{Source}
-use Rattle.thorin_join.specs.Laid.{type_signature, name_signature, IsWhole}
-use Rattle.thorin_join.specs.Meaning.{UnitRead, named_unit, named_each, named_at, named_sections}
-use Rattle.thorin_join.specs.Meaning.{source_units, joining}
-use Rattle.thorin_input.specs.Names.{same_name}
-use Rattle.thorin_input.specs.NewUnits.{name_for, place_for, unit_section}
-use Rattle.thorin_join.specs.State.{kind_at}
-use Rattle.thorin_input.specs.Used.{Used}
+use Rattle.thorin_join.specs.Laid.{type_signature, name_signature}
+use Rattle.thorin_join.specs.Meaning.{named_each, named_at, named_sections}
 use Rattle.thorin_join.proofs.Units.HeadersRead.{ReadAlone, name-identity, kind-place, Listed}
+use Rattle.thorin_join.proofs.Units.HeadersRead.{each-named, Reads}
 use Rattle.thorin_join.proofs.Units.Sorts.{identity-sort}
 use Rattle.thorin_join.proofs.Moved.RootEntries.{IsShifted}
 use Rattle.thorin_join.proofs.Moved.Readings.{plain}
 use Rattle.thorin_join.proofs.Moved.Units.{unit-moves, unit-anywhere, FiveOrType, unit-five}
-use Rattle.dwp_base.proofs.Steps.{bind-was, same-ok}
-use Rattle.thorin_strings.proofs.NamedEntries.{as_error_ok}
-use Rattle.dwp_base.proofs.Bools.{by-bool}
 
 -- a unit as it is read of its own bytes alone
 pub record ReadsAlone (order : Endianness) (place : UnitSection) (unit : Header) : Type 0 where
@@ -87,21 +70,21 @@ pub five-named : (unit : Header) (sort : type_signature unit.unit_type ≡ None)
 five-named unit sort (inl five) = five
 five-named unit sort (inr t) = absurd (none-some t.0 (sym sort ∙ ap type_signature t.2))
 
-abbrev pub AllGo : Endianness → List (DwarfObject × UnitRead) → Type 0
+abbrev pub AllGo : Endianness → Reads → Type 0
 AllGo order [] = Unit {0}
 AllGo order (u ∷ us) = Goes order u × AllGo order us
 
 -- those that are joined too
-pub go-joining : (order : Endianness) (names : List DwarfObject)
-    (us : List (DwarfObject × UnitRead)) → AllGo order us → AllGo order (joining names us)
+pub go-joining : (order : Endianness) (names : List DwarfObject) (us : Reads) → AllGo order us
+    → AllGo order (joining names us)
 go-joining order names [] h = tt
 go-joining order names (u ∷ us) h =
     by-bool _ (list_any (same_name u.0) names)
     (λ there. rw there (go-joining order names us h.1))
     (λ new. rw new (h.0, go-joining order (names ++ u.0 ∷ []) us h.1))
 
-go-append : (order : Endianness) (us vs : List (DwarfObject × UnitRead)) → AllGo order us
-    → AllGo order vs → AllGo order (us ++ vs)
+go-append : (order : Endianness) (us vs : Reads) → AllGo order us → AllGo order vs
+    → AllGo order (us ++ vs)
 go-append order [] vs h k = k
 go-append order (u ∷ us) vs h k = (h.0, go-append order us vs h.1 k)
 
@@ -149,24 +132,25 @@ module _ (taken : UnitsAreTaken) (alone : ReadAlone) where
         (alone order place bytes k unit h) in
         let moved = unit-moves taken order place own more at.d s.0.0 s.0.1 s.1 in
         let same : moved.unit ≡ unit = ap (λ (x : Header × Input). x.0) (same-ok _ _
-        (sym moved.read ∙ ap (λ l. unit_at place (plain order at.d l)) whole_is ∙ at.read)) in (
-          record {
-            alone = s.0.0;
-            rest = s.0.1;
-            read = s.1;
-            whole = sym (ap (λ (i : Input). i.bytes) (rw same at moved.whole));
-            type = rw same at moved.type;
-            encoding = same-ok _ _ s.2;
-            behind = at.d;
-            shifted = assumption (
-              sym (rw same at moved.type),
-              sym (rw same at moved.encoding),
-              rw same at moved.offset,
-              rw same at moved.entries,
-            );
-          },
-          λ is. (unit-five i).gives (unit, at.rest) (ap (λ p. unit_at p i) (sym is) ∙ at.read),
-        )
+        (sym moved.read ∙ ap (λ l. unit_at place (plain order at.d l)) whole_is ∙ at.read)) in
+        let known : ReadsAlone order place unit = record {
+          alone = s.0.0;
+          rest = s.0.1;
+          read = s.1;
+          whole = sym (ap (λ (i : Input). i.bytes) (rw same at moved.whole));
+          type = rw same at moved.type;
+          encoding = same-ok _ _ s.2;
+          behind = at.d;
+          shifted = record {
+            type = sym (rw same at moved.type);
+            encoding = sym (rw same at moved.encoding);
+            offset = rw same at moved.offset;
+            entries = rw same at moved.entries;
+          };
+        } in
+        let five = λ (is : place ≡ places.Types).
+        (unit-five i).gives (unit, at.rest) (ap (λ p. unit_at p i) (sym is) ∙ at.read) in
+        (known, five)
 
   goes-alone : (order : Endianness) (place : UnitSection) (name : DwarfObject) (unit : Header)
       → IsKnown order place unit → type_signature unit.unit_type ≡ name_signature name
@@ -196,32 +180,24 @@ module _ (taken : UnitsAreTaken) (alone : ReadAlone) where
     abbrev order : Endianness
     order = source.object.order
 
-    each-goes : (kind : SectionKind) (place : UnitSection) (reads : Listed)
-        (us : List (DwarfObject × UnitRead)) → unit_section kind ≡ Some place
-        → AreKnown order place reads → named_each source kind reads ≡ Ok us → AllGo order us
-    unfolding named_each named_unit
-    each-goes kind place [] us at known h = rw (← same-ok {E = ErrorValue} [] us h) tt
-    each-goes kind place (read ∷ rest) us at known h =
-        let a = bind-was (named_unit source kind read) _ us h in
-        let b = bind-was (named_each source kind rest) _ us a.2 in
-        let unit = bind-was (as_error ParseUnitHeader read) _ a.0 a.1 in
-        let name = bind-was (name_for source kind unit.0) _ a.0 unit.2 in
-        let id = name-identity source kind unit.0 name.0 name.1 in
-        let goes = unit-goes order place kind name.0 unit.0 (kind-place kind place at)
-        (known 0 unit.0 (ap Some (error-ok ParseUnitHeader read unit.0 unit.1)))
-        (identity-sort id.0 unit.0 name.0 id.1) in
-        rw (← same-ok {E = ErrorValue} (a.0 ∷ b.0) us b.2) (
-          rw (← same-ok {E = ErrorValue} _ a.0 name.2) goes,
-          each-goes kind place rest b.0 at (λ k. known (suc k)) b.1,
-        )
+    each-goes : (kind : SectionKind) (place : UnitSection) (reads : Listed) (us : Reads)
+        → unit_section kind ≡ Some place → AreKnown order place reads
+        → named_each source kind reads ≡ Ok us → AllGo order us
+    each-goes kind place reads us at known h =
+        each-named source kind (λ reads us. AreKnown order place reads → AllGo order us) (λ _. tt)
+        (λ unit name reads us named others known.
+        let id = name-identity source kind unit name named in
+        let goes = unit-goes order place kind name unit (kind-place kind place at)
+        (known 0 unit refl) (identity-sort id.0 unit name id.1) in
+        (goes, others (λ k. known (suc k)))) reads us h known
 
-    at-goes : (from : Used) (place : Option UnitSection) (us : List (DwarfObject × UnitRead))
+    at-goes : (from : Used) (place : Option UnitSection) (us : Reads)
         → unit_section from.kind ≡ place → named_at source from place ≡ Ok us → AllGo order us
     at-goes from None us at h = rw (← same-ok {E = ErrorValue} [] us h) tt
     at-goes from (Some place) us at h = each-goes from.kind place
         (units place (section order from.bytes)) us at (known-in order place from.bytes) h
 
-    sections-go : (sections : List Used) (us : List (DwarfObject × UnitRead))
+    sections-go : (sections : List Used) (us : Reads)
         → named_sections source sections ≡ Ok us → AllGo order us
     unfolding named_sections
     sections-go [] us h = rw (← same-ok {E = ErrorValue} [] us h) tt
@@ -232,6 +208,6 @@ module _ (taken : UnitsAreTaken) (alone : ReadAlone) where
         (at-goes from (unit_section from.kind) a.0 refl a.1) (sections-go rest b.0 b.1))
 
     -- all units of an input do so
-    pub units-go : (all : List (DwarfObject × UnitRead)) → source_units source ≡ Ok all
+    pub units-go : (all : Reads) → source_units source ≡ Ok all
         → AllGo order all
     units-go all h = sections-go source.object.sections all h

@@ -1,4 +1,4 @@
-use Rattle.thorin_join.proofs.Sizes.Input.{strings-grow, input-most, inputs-most}
+use Rattle.thorin_join.proofs.Sizes.{strings-grow, input-most, inputs-most}
 use Rattle.thorin_join.proofs.laws.strings_grow_by_offsets.Goals as goal
 
 pub returns-clause-input : goal.returns-clause-input
