@@ -46,19 +46,27 @@ found_from kind (z ∷ zs) base = step (same_kind z.0 kind) refl _ (found_from k
   where
     step : (b : Bool) → same_kind z.0 kind ≡ b → (r : Option ℕ) → Found kind zs (base + 1) r
         → Found kind (z ∷ zs) base (cond b (Some base) r)
-    step true same r later = (zero, omega arith, record {
-      content = λ x e. rw same (ap (λ p. p.1.items) (sym e));
-      added = λ bytes x y e k v. rw same (ap (λ p. p ∷ contents_of zs)
-          (pair_of _ _ _ _ (k ∙ ap (λ p. p.0) e) (v ∙ ap (λ p. p.1.items ++ bytes) e)));
-    })
+    step true same r later = (
+      zero,
+      omega arith,
+      record {
+        content = λ x e. rw same (ap (λ p. p.1.items) (sym e));
+        added = λ bytes x y e k v. rw same (ap (λ p. p ∷ contents_of zs)
+            (pair_of _ _ _ _ (k ∙ ap (λ p. p.0) e) (v ∙ ap (λ p. p.1.items ++ bytes) e)));
+      },
+    )
     step false same None later = record {
       content = rw same later.content;
       added = λ bytes y k v. rw (same, later.added bytes y k v) refl;
     }
-    step false same (Some j) later = (suc later.0, omega (arith, later.1), record {
-      content = λ x e. rw same (later.2.content x e);
-      added = λ bytes x y e k v. rw (same, later.2.added bytes x y e k v) refl;
-    })
+    step false same (Some j) later = (
+      suc later.0,
+      omega (arith, later.1),
+      record {
+        content = λ x e. rw same (later.2.content x e);
+        added = λ bytes x y e k v. rw (same, later.2.added bytes x y e k v) refl;
+      },
+    )
 
 found : (kind : SectionKind) (xs : Sections) (r : Option ℕ)
     → r ≡ position (λ s. same_kind s.0 kind) xs → Found kind xs 0 r
