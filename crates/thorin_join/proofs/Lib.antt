@@ -1,4 +1,4 @@
-pub mod Names
+pub mod Terms
 pub mod Steps
 pub mod EachKind
 pub mod Moved

@@ -3,13 +3,13 @@
 use Rattle.std.proofs.Common.{◌≡◌, ◌∙◌, ℕ, suc, ◌+◌, ◌*◌, ◌≤◌, cond, eqb, List, [], ◌∷◌, ◌++◌}
 use Rattle.std.proofs.Common.{length, map, arith, sym, refl, ap, Ok, Option, Some, None, inl, inr}
 use Rattle.std.proofs.Common.{All, length-append, nat_le, leb-true}
-use Rattle.thorin_join.proofs.Names.{Adding, adding, bind-was, by-bool, Contents, Contribution}
-use Rattle.thorin_join.proofs.Names.{data_of, DwarfObject, Elf, Endianness, entry_ids, ErrorValue}
-use Rattle.thorin_join.proofs.Names.{file_text, first, IndexEntry, InProgress, is_copied, IsIndexOf}
-use Rattle.thorin_join.proofs.Names.{joining, keys, kind_at, length-map, named_in, New, NewUnit}
-use Rattle.thorin_join.proofs.Names.{offsets_used, same-ok, same_kind, section, SectionKind, Source}
-use Rattle.thorin_join.proofs.Names.{Str, StrOffsets, sum_by, unit_section, UnitRead, UnitSection}
-use Rattle.thorin_join.proofs.Names.{Used, with_bytes}
+use Rattle.thorin_join.proofs.Terms.{Adding, adding, bind-was, by-bool, Contents, Contribution}
+use Rattle.thorin_join.proofs.Terms.{data_of, DwarfObject, Elf, Endianness, entry_ids, ErrorValue}
+use Rattle.thorin_join.proofs.Terms.{file_text, first, IndexEntry, InProgress, is_copied, IsIndexOf}
+use Rattle.thorin_join.proofs.Terms.{joining, keys, kind_at, length-map, named_in, New, NewUnit}
+use Rattle.thorin_join.proofs.Terms.{offsets_used, same-ok, same_kind, section, SectionKind, Source}
+use Rattle.thorin_join.proofs.Terms.{Str, StrOffsets, sum_by, unit_section, UnitRead, UnitSection}
+use Rattle.thorin_join.proofs.Terms.{Used, with_bytes}
 use Rattle.std.specs.List.{flat_map}
 use Rattle.std.proofs.lemmas.Bool.Decides.{nat_tests}
 use Rattle.std.proofs.lemmas.List.Concat.{length-flat_map}

@@ -19,11 +19,6 @@ ghost use Rattle.thorin_join.specs.Sizes.{bytes_of_strings, offsets_size, string
 ghost use Rattle.thorin_join.specs.Sizes.{with_inputs, IsSizeFinished, container_most};
 ghost use Rattle.thorin_join.specs.State.{InProgress};
 
-use dwp_dwarf::laws::units_have_all_bytes;
-use dwp_elf::laws::{written_contents_are_read_back, written_files_have_their_size};
-use dwp_index::laws::{contents_are_read, packages_find_exactly, units_are_named_once};
-use thorin_index::laws::{written_index_has_the_entries, written_index_is_read};
-
 /// The law of written packages: a file that is written of contents of distinct kinds, and whose
 /// numbers fit its class, is read as the package of these contents, with the indexes that stand in
 /// them. It does nothing.
@@ -39,11 +34,7 @@ pub fn written_packages_are_read()
           compilations = compilations;
           types = types;
         }) }
-{
-    written_contents_are_read_back();
-    written_files_have_their_size();
-    contents_are_read();
-}
+{}
 
 /// The law of finished packages: where a state's package has its units, none twice, and the tests
 /// of finishing pass, its file is a package of these units, once it is written and read back:
@@ -56,13 +47,7 @@ pub fn finished_packages_are_read()
         → finish_test state ≡ Ok tt
         → IsFinishedState state file
         → IsPackageOnceWritten (units_in state) file }
-{
-    written_index_is_read();
-    written_index_has_the_entries();
-    contents_are_read();
-    packages_find_exactly();
-    units_are_named_once();
-}
+{}
 
 /// The law of sizes: an input adds to the contents of a package at most the bytes of its used
 /// sections, without strings and indexes, which a package has of its own; inputs one after another
@@ -80,9 +65,7 @@ pub fn packages_grow_by_used_sections()
         → All (λ bytes. used_size bytes ≤ length bytes) inputs
         → with_inputs inputs begun ≡ Ok now
         → bytes_begun now ≤ bytes_begun begun + sum_by length inputs }
-{
-    units_have_all_bytes();
-}
+{}
 
 /// The law of strings' sizes: the strings that an input brings, each with its zero byte, have at
 /// most a quarter of the bytes of its string offsets times the bytes of its section of strings, as
@@ -112,6 +95,4 @@ pub fn finished_packages_have_their_sizes()
     ensures file { (file : Object)
         → KindsDiffer file.contents
         → length (file_text file) ≤ bytes_of_contents file.contents + container_most }
-{
-    written_files_have_their_size();
-}
+{}

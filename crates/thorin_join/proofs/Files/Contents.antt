@@ -2,8 +2,8 @@
 use Rattle.std.proofs.Common.{◌≡◌, ℕ, ◌+◌, ◌^◌, ◌<◌, ◌≤◌, inl, inr, List, [], ◌∷◌, refl, ap, arith}
 use Rattle.std.proofs.Common.{Option, Some, Ok, codes}
 use Rattle.dwp_base.specs.Sections.{name_of}
-use Rattle.thorin_join.proofs.Names.{by-bool, content_of, Endianness, file_text, Index, is-same}
-use Rattle.thorin_join.proofs.Names.{same_kind, SectionKind}
+use Rattle.thorin_join.proofs.Terms.{by-bool, content_of, Endianness, file_text, Index, is-same}
+use Rattle.thorin_join.proofs.Terms.{same_kind, SectionKind}
 use Rattle.dwp_base.specs.declared.class.Class.{Class}
 use Rattle.dwp_base.specs.declared.class.Class.TheVariants.{Elf32, Elf64}
 use Rattle.dwp_base.specs.declared.section.SectionKind.TheVariants.{CuIndex, TuIndex}

@@ -1,10 +1,10 @@
 -- The file of a finished package means the units that stand in the ranges of its rows.
 use Rattle.std.proofs.Common.{◌≡◌, ◌∙◌, ℕ, true, false, List, [], ◌++◌, ap, refl, Ok, Option, Some}
 use Rattle.std.proofs.Common.{None, Bool, cond, not}
-use Rattle.thorin_join.proofs.Names.{AreRowsOf, bind-was, content_of, data_of, entry_ids, file_text}
-use Rattle.thorin_join.proofs.Names.{Index, IndexEntry, InProgress, is_compilation, IsIndexOf}
-use Rattle.thorin_join.proofs.Names.{IsSound, IsSoundBegun, kind_at, rows_of, same_kind}
-use Rattle.thorin_join.proofs.Names.{SectionKind, take-length, units_of, UnitSection, with_bytes}
+use Rattle.thorin_join.proofs.Terms.{AreRowsOf, bind-was, content_of, data_of, entry_ids, file_text}
+use Rattle.thorin_join.proofs.Terms.{Index, IndexEntry, InProgress, is_compilation, IsIndexOf}
+use Rattle.thorin_join.proofs.Terms.{IsSound, IsSoundBegun, kind_at, rows_of, same_kind}
+use Rattle.thorin_join.proofs.Terms.{SectionKind, take-length, units_of, UnitSection, with_bytes}
 use Rattle.dwp_base.specs.declared.section.SectionKind.TheVariants as kinds
 use Rattle.dwp_dwarf.specs.declared.unit.UnitSection.TheVariants as places
 use Rattle.dwp_elf.specs.FileText.{Object as File}

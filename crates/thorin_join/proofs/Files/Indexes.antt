@@ -1,8 +1,8 @@
 -- The indexes of a finished package, as they are read.
 use Rattle.std.proofs.Common.{◌≡◌, ℕ, zero, suc, ◌<◌, ◌^◌, Bool, List, [], ◌∷◌, length, refl, Ok}
 use Rattle.std.proofs.Common.{Err, Option, Some, None, arith, slice_index}
-use Rattle.thorin_join.proofs.Names.{by-bool, Encoding, Endianness, entry_ids, Index, IndexEntry}
-use Rattle.thorin_join.proofs.Names.{is_chosen, IsIndexOf, rows_of, UnexpectedEof}
+use Rattle.thorin_join.proofs.Terms.{by-bool, Encoding, Endianness, entry_ids, Index, IndexEntry}
+use Rattle.thorin_join.proofs.Terms.{is_chosen, IsIndexOf, rows_of, UnexpectedEof}
 use Rattle.dwp_bytes.specs.Encoding.{index_version_of}
 use Rattle.dwp_table.specs.Table.{AreDistinct}
 use Rattle.dwp_index.specs.IndexBytes.{index_of, version_of}

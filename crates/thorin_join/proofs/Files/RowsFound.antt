@@ -2,10 +2,10 @@
 use Rattle.std.proofs.Common.{◌≡◌, ◌∙◌, ℕ, zero, suc, ◌<◌, Bool, true, not, List, [], ◌∷◌, length}
 use Rattle.std.proofs.Common.{map, filter, ap, sym, refl, Option, Some, None, arith, true≢false}
 use Rattle.std.proofs.Common.{false, slice_index, slice_get, MatchOption}
-use Rattle.thorin_join.proofs.Names.{AreRowsOf, by-bool, Compilation, Contents, DwarfObject}
-use Rattle.thorin_join.proofs.Names.{Endianness, entry_ids, identifier_of, IndexEntry, is_chosen}
-use Rattle.thorin_join.proofs.Names.{is_compilation, IsRowOf, length-map, lookup, Meaning, Members}
-use Rattle.thorin_join.proofs.Names.{none-some, rows_of, same_name, same_Some, TypeUnit}
+use Rattle.thorin_join.proofs.Terms.{AreRowsOf, by-bool, Compilation, Contents, DwarfObject}
+use Rattle.thorin_join.proofs.Terms.{Endianness, entry_ids, identifier_of, IndexEntry, is_chosen}
+use Rattle.thorin_join.proofs.Terms.{is_compilation, IsRowOf, length-map, lookup, Meaning, Members}
+use Rattle.thorin_join.proofs.Terms.{none-some, rows_of, same_name, same_Some, TypeUnit}
 use Rattle.dwp_index.specs.Finding.{IsNotNamed}
 use Rattle.thorin_join.specs.Join.{same_sort}
 use Rattle.thorin_join.proofs.Units.NamesApart.{same_name-true, same-sort, chosen-sort}

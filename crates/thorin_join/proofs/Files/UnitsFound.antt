@@ -2,12 +2,12 @@
 use Rattle.std.proofs.Common.{◌≡◌, ◌∙◌, ℕ, zero, suc, ◌+◌, ◌<◌, ◌≤◌, true, false, List, length, ap}
 use Rattle.std.proofs.Common.{sym, refl, Option, Some, None, arith, ne_eqb, filter, slice_get}
 use Rattle.std.proofs.Common.{MatchOption}
-use Rattle.thorin_join.proofs.Names.{AreRowsOf, Compilation, content_of, Contents, Contribution}
-use Rattle.thorin_join.proofs.Names.{contribution_to, data_of, DwarfObject, Endianness, entry_ids}
-use Rattle.thorin_join.proofs.Names.{identifier_of, Index, IndexEntry, is_compilation, IsTable}
-use Rattle.thorin_join.proofs.Names.{kind_at, length-map, lookup, Meaning, none-some, part_of}
-use Rattle.thorin_join.proofs.Names.{rows_of, same_name, SectionKind, take-length, TypeUnit}
-use Rattle.thorin_join.proofs.Names.{UnitSection}
+use Rattle.thorin_join.proofs.Terms.{AreRowsOf, Compilation, content_of, Contents, Contribution}
+use Rattle.thorin_join.proofs.Terms.{contribution_to, data_of, DwarfObject, Endianness, entry_ids}
+use Rattle.thorin_join.proofs.Terms.{identifier_of, Index, IndexEntry, is_compilation, IsTable}
+use Rattle.thorin_join.proofs.Terms.{kind_at, length-map, lookup, Meaning, none-some, part_of}
+use Rattle.thorin_join.proofs.Terms.{rows_of, same_name, SectionKind, take-length, TypeUnit}
+use Rattle.thorin_join.proofs.Terms.{UnitSection}
 use Rattle.dwp_base.specs.declared.section.SectionKind.TheVariants as kinds
 use Rattle.dwp_dwarf.specs.declared.unit.UnitSection.TheVariants as places
 use Rattle.dwp_table.proofs.Tables.{finds_exactly}

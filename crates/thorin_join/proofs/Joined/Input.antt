@@ -2,8 +2,8 @@
 -- read.
 use Rattle.std.proofs.Common.{[], ◌≡◌, ◌∙◌, ℕ, true, List, ap, sym, refl, Ok, Option, Some, None}
 use Rattle.std.proofs.Common.{arith, inl, inr, append-nil}
-use Rattle.thorin_join.proofs.Names.{bind-was, Elf, Endianness, InProgress, IsSound, IsSoundBegun}
-use Rattle.thorin_join.proofs.Names.{IsTable, package_or_new, same-ok, units_of}
+use Rattle.thorin_join.proofs.Terms.{bind-was, Elf, Endianness, InProgress, IsSound, IsSoundBegun}
+use Rattle.thorin_join.proofs.Terms.{IsTable, package_or_new, same-ok, units_of}
 use Rattle.dwp_base.specs.declared.endian.Endianness.TheVariants.{Little, Big}
 use Rattle.thorin_errors.specs.Errors.{MixedInputEncodings}
 use Rattle.thorin_join.specs.Builder.{same_order, order_test, with_input}

@@ -1,11 +1,11 @@
 -- A package with the units of an input has them beside its own.
 use Rattle.std.proofs.Common.{[], ◌≡◌, ◌∙◌, ℕ, List, ◌∷◌, ◌++◌, map, sym, refl, Option, Some, Ok}
 use Rattle.std.proofs.Common.{false, append-nil, subst, arith}
-use Rattle.thorin_join.proofs.Names.{adding, bind-ok, bind-was, content_of, Contents, DwarfObject}
-use Rattle.thorin_join.proofs.Names.{ErrorValue, InProgress, is_copied, IsSound, IsSoundBegun}
-use Rattle.thorin_join.proofs.Names.{IsTable, joined_parts, joining, keys, kind_at, Meaning}
-use Rattle.thorin_join.proofs.Names.{Members, New, parts_of, same-ok, same_kind, SectionKind}
-use Rattle.thorin_join.proofs.Names.{Source, source_units, units_of}
+use Rattle.thorin_join.proofs.Terms.{adding, bind-ok, bind-was, content_of, Contents, DwarfObject}
+use Rattle.thorin_join.proofs.Terms.{ErrorValue, InProgress, is_copied, IsSound, IsSoundBegun}
+use Rattle.thorin_join.proofs.Terms.{IsTable, joined_parts, joining, keys, kind_at, Meaning}
+use Rattle.thorin_join.proofs.Terms.{Members, New, parts_of, same-ok, same_kind, SectionKind}
+use Rattle.thorin_join.proofs.Terms.{Source, source_units, units_of}
 use Rattle.dwp_base.specs.declared.section.SectionKind.TheVariants as kinds
 use Rattle.dwp_dwarf.proofs.UnitLists.{unit_taken}
 use Rattle.thorin_input.specs.Growing.{with_parts}

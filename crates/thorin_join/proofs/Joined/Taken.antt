@@ -2,9 +2,9 @@
 -- inputs name in order of first use; without an info section it only begins one.
 use Rattle.std.proofs.Common.{◌≡◌, ◌⊎◌, inl, inr, ℕ, true, false, List, Option, Some, Ok, ◌∙◌, []}
 use Rattle.std.proofs.Common.{refl, sym, ap, None}
-use Rattle.thorin_join.proofs.Names.{bind-was, Elf, ErrorValue, first, InProgress, IsSound}
-use Rattle.thorin_join.proofs.Names.{named_in, offsets_used, package_or_new, same-ok, Source, Str}
-use Rattle.thorin_join.proofs.Names.{sum_by}
+use Rattle.thorin_join.proofs.Terms.{bind-was, Elf, ErrorValue, first, InProgress, IsSound}
+use Rattle.thorin_join.proofs.Terms.{named_in, offsets_used, package_or_new, same-ok, Source, Str}
+use Rattle.thorin_join.proofs.Terms.{sum_by}
 use Rattle.dwp_base.proofs.Steps.{chosen}
 use Rattle.thorin_input.specs.Encodings.{encoding_of}
 use Rattle.thorin_input.specs.Indexes.{indexes_of}

@@ -2,7 +2,7 @@
 use Rattle.std.proofs.Common.{◌≡◌, ℕ, zero, suc, ◌+◌, ◌-◌, ◌^◌, Bool, true, false, cond, ltb, List}
 use Rattle.std.proofs.Common.{length, Result, Ok, Err, refl, ap, ◌∙◌, arith, add_assoc}
 use Rattle.std.specs.Prelude.{ℤ}
-use Rattle.thorin_join.proofs.Names.{Answer, Endianness, Input, ReadError, UnexpectedEof, ◌>>=◌}
+use Rattle.thorin_join.proofs.Terms.{Answer, Endianness, Input, ReadError, UnexpectedEof, ◌>>=◌}
 use Rattle.dwp_bytes.specs.Input.{after, byte_at, number_at, skip_at, split_at}
 use Rattle.dwp_bytes.specs.Leb.{leb_at, uleb_at, signed_leb_at, sleb_at, is_i64}
 

@@ -1,8 +1,8 @@
 -- A unit's root entry is read alike wherever its bytes stand.
 use Rattle.std.proofs.Common.{[], ◌≡◌, ◌∙◌, ℕ, zero, suc, ◌+◌, ◌-◌, Bool, true, false, cond, eqb}
 use Rattle.std.proofs.Common.{List, ◌∷◌, length, Result, Ok, Err, Option, Some, None, refl, ap, ap₂}
-use Rattle.thorin_join.proofs.Names.{Answer, as_error, DwarfObject, Encoding, ErrorValue, Input}
-use Rattle.thorin_join.proofs.Names.{ok_or, ReadError, ◌>>=◌}
+use Rattle.thorin_join.proofs.Terms.{Answer, as_error, DwarfObject, Encoding, ErrorValue, Input}
+use Rattle.thorin_join.proofs.Terms.{ok_or, ReadError, ◌>>=◌}
 use Rattle.dwp_bytes.specs.Input.{found_at, skip_at, split_at}
 use Rattle.dwp_bytes.specs.declared.error.ReadError.TheVariants.{UnknownForm, UnknownCode}
 use Rattle.dwp_dwarf.specs.Abbreviations.{Specification, code_at, declaration}

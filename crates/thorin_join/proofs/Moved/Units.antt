@@ -2,9 +2,9 @@
 use Rattle.std.proofs.Common.{◌≡◌, ◌∙◌, ℕ, ◌+◌, ◌-◌, ◌≤◌, cond, ltb, leb, eqb, ◌&&◌, List, ◌++◌}
 use Rattle.std.proofs.Common.{length, take, Result, Ok, Err, ap, sym, refl, arith, length-append}
 use Rattle.std.proofs.Common.{add-zero, ◌⊎◌, inl, inr, le-ltb, ltb-false, length-take-le}
-use Rattle.thorin_join.proofs.Names.{Answer, bind-ok, bind-was, by-bool, drop-append-le, Endianness}
-use Rattle.thorin_join.proofs.Names.{eqb-false, Input, offset_size, ReadError, same-ok}
-use Rattle.thorin_join.proofs.Names.{UnexpectedEof, UnitSection, ◌>>=◌}
+use Rattle.thorin_join.proofs.Terms.{Answer, bind-ok, bind-was, by-bool, drop-append-le, Endianness}
+use Rattle.thorin_join.proofs.Terms.{eqb-false, Input, offset_size, ReadError, same-ok}
+use Rattle.thorin_join.proofs.Terms.{UnexpectedEof, UnitSection, ◌>>=◌}
 use Rattle.std.proofs.lemmas.List.{take-append-le}
 use Rattle.dwp_bytes.specs.Input.{after, split_at, number_at, relocated_at, offset_at}
 use Rattle.dwp_bytes.specs.Input.{is_address_size}

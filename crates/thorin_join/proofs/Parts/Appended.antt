@@ -3,10 +3,10 @@ use Rattle.std.proofs.Common.{◌≡◌, ◌∙◌, ℕ, true, false, cond, eqb,
 use Rattle.std.proofs.Common.{◌&&◌, Ok, refl, sym, ap, if◌then◌else◌, ◌⊎◌, inl, inr, true≢false}
 use Rattle.std.proofs.Common.{arith, subst, append_assoc, append-nil, eqb-true}
 use Rattle.std.proofs.lemmas.Bool.{false_from_ne_true}
-use Rattle.thorin_join.proofs.Names.{bind-was, by-bool, content_of, Contents, ErrorValue, has_part}
-use Rattle.thorin_join.proofs.Names.{is-same, is_copied, joined_parts, Parts, parts_of, same-ok}
-use Rattle.thorin_join.proofs.Names.{same-self, same_kind, SectionKind, Source, StrOffsets, Used}
-use Rattle.thorin_join.proofs.Names.{with_bytes}
+use Rattle.thorin_join.proofs.Terms.{bind-was, by-bool, content_of, Contents, ErrorValue, has_part}
+use Rattle.thorin_join.proofs.Terms.{is-same, is_copied, joined_parts, Parts, parts_of, same-ok}
+use Rattle.thorin_join.proofs.Terms.{same-self, same_kind, SectionKind, Source, StrOffsets, Used}
+use Rattle.thorin_join.proofs.Terms.{with_bytes}
 use Rattle.dwp_base.proofs.Bools.{or-right}
 use Rattle.dwp_elf.specs.Contents.{appended}
 use Rattle.thorin_input.specs.Growing.{with_parts}

@@ -4,13 +4,13 @@ use Rattle.std.proofs.Common.{◌≡◌, ◌∙◌, ℕ, zero, suc, ◌+◌, ◌
 use Rattle.std.proofs.Common.{if◌then◌else◌, List, [], ◌∷◌, ◌++◌, length, take, drop, refl, ap}
 use Rattle.std.proofs.Common.{subst, Result, Ok, inl, inr, arith, slice_range, length-append}
 use Rattle.std.proofs.Common.{length-take, length-drop}
-use Rattle.thorin_join.proofs.Names.{as_error, as_error_ok, bind-ok, bind-was, by-bool, Contents}
-use Rattle.thorin_join.proofs.Names.{Contribution, DwarfObject, Encoding, Endianness, entry_count}
-use Rattle.thorin_join.proofs.Names.{ErrorValue, first, InProgress, is_copied, is_package, IsTable}
-use Rattle.thorin_join.proofs.Names.{list_any, named_in, NewUnit, offset_size, offsets_used, Parts}
-use Rattle.thorin_join.proofs.Names.{parts_of, ReadError, same-ok, same_kind, same_name, Source}
-use Rattle.thorin_join.proofs.Names.{Str, strings_of, StrOffsets, sum_by, take-length, Used}
-use Rattle.thorin_join.proofs.Names.{with_unit_added}
+use Rattle.thorin_join.proofs.Terms.{as_error, as_error_ok, bind-ok, bind-was, by-bool, Contents}
+use Rattle.thorin_join.proofs.Terms.{Contribution, DwarfObject, Encoding, Endianness, entry_count}
+use Rattle.thorin_join.proofs.Terms.{ErrorValue, first, InProgress, is_copied, is_package, IsTable}
+use Rattle.thorin_join.proofs.Terms.{list_any, named_in, NewUnit, offset_size, offsets_used, Parts}
+use Rattle.thorin_join.proofs.Terms.{parts_of, ReadError, same-ok, same_kind, same_name, Source}
+use Rattle.thorin_join.proofs.Terms.{Str, strings_of, StrOffsets, sum_by, take-length, Used}
+use Rattle.thorin_join.proofs.Terms.{with_unit_added}
 use Rattle.std.specs.List.{position_or_len}
 use Rattle.std.specs.Result.{result_unwrap_or}
 use Rattle.std.proofs.Math.Nat.{mul-le-mul_right}

@@ -2,10 +2,10 @@
 -- row read alike.
 use Rattle.std.proofs.Common.{◌≡◌, ◌∙◌, ℕ, ◌+◌, ◌<◌, ◌≤◌, true, List, [], length, take, Ok, Some}
 use Rattle.std.proofs.Common.{refl, sym, ap, ◌⊎◌, ⊎_elim, true≢false, arith}
-use Rattle.thorin_join.proofs.Names.{by-bool, Contents, Contribution, data_of, first, has_part}
-use Rattle.thorin_join.proofs.Names.{Index, is-same, is_copied, is_package, IsTable, joined_parts}
-use Rattle.thorin_join.proofs.Names.{Parts, parts_of, Ranges, ReadsAlike, same-self, same_kind}
-use Rattle.thorin_join.proofs.Names.{SectionKind, Source, Str, StrOffsets, Used}
+use Rattle.thorin_join.proofs.Terms.{by-bool, Contents, Contribution, data_of, first, has_part}
+use Rattle.thorin_join.proofs.Terms.{Index, is-same, is_copied, is_package, IsTable, joined_parts}
+use Rattle.thorin_join.proofs.Terms.{Parts, parts_of, Ranges, ReadsAlike, same-self, same_kind}
+use Rattle.thorin_join.proofs.Terms.{SectionKind, Source, Str, StrOffsets, Used}
 use Rattle.dwp_index.specs.Index.{row_in, range_in}
 use Rattle.thorin_packaged.specs.PackagedReading.{RowsReadAlike, range_bytes}
 use Rattle.thorin_input.specs.Indexes.{Indexes}

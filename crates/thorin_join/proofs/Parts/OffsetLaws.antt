@@ -1,7 +1,7 @@
 -- What is known of string offsets that are rewritten: a range names the same and is read alike, and
 -- so is the range of each row of a package.
 use Rattle.std.proofs.Common.{◌≡◌, ℕ, List, length, Option, Ok}
-use Rattle.thorin_join.proofs.Names.{Encoding, Endianness, Index, IsTable}
+use Rattle.thorin_join.proofs.Terms.{Encoding, Endianness, Index, IsTable}
 use Rattle.thorin_strings.proofs.NamedBytes.{range_named}
 use Rattle.thorin_packaged.specs.PackagedOffsets.{packaged_offsets}
 use Rattle.thorin_packaged.specs.PackagedReading.{PackageReadsAlike}

@@ -4,8 +4,8 @@ use Rattle.std.proofs.Common.{◌⊎◌, inl, inr, ◌≡◌, ◌∙◌, ℕ, �
 use Rattle.std.proofs.Common.{[], ◌++◌, length, take, drop, ◌*◌, ◌/◌, zero-mul, Ok, refl, sym, ap}
 use Rattle.std.proofs.Common.{⊎_elim, arith, length-take, length-drop, take_all, take-append-drop}
 use Rattle.std.proofs.Common.{le-ltb, eqb-true, ltb-false, ltb-true}
-use Rattle.thorin_join.proofs.Names.{bind-was, by-bool, drop-append-le, Encoding, Endianness}
-use Rattle.thorin_join.proofs.Names.{entry_count, ErrorValue, offset_size, ReadsAlike, same-ok}
+use Rattle.thorin_join.proofs.Terms.{bind-was, by-bool, drop-append-le, Encoding, Endianness}
+use Rattle.thorin_join.proofs.Terms.{entry_count, ErrorValue, offset_size, ReadsAlike, same-ok}
 use Rattle.std.proofs.lemmas.Bool.{cases_lt}
 use Rattle.std.proofs.lemmas.Nat.{row_fits}
 use Rattle.dwp_base.specs.Numbers.{number}

@@ -2,10 +2,10 @@
 use Rattle.std.proofs.Common.{◌≡◌, ◌∙◌, ℕ, ◌+◌, ◌-◌, ◌<◌, Bool, true, false, leb, List, [], ◌*◌}
 use Rattle.std.proofs.Common.{◌∷◌, ◌++◌, length, take, ◌&&◌, ◌||◌, ltb, Ok, refl, sym, true≢false}
 use Rattle.std.proofs.Common.{arith, length-append, append_assoc, append-nil, leb-false}
-use Rattle.thorin_join.proofs.Names.{by-bool, Contents, data_of, Encoding, entry_count, first}
-use Rattle.thorin_join.proofs.Names.{has_part, is-same, is_copied, is_package, IsTable}
-use Rattle.thorin_join.proofs.Names.{joined_parts, offset_size, Parts, parts_of, ReadsAlike}
-use Rattle.thorin_join.proofs.Names.{same_kind, SectionKind, Source, Str, StrOffsets}
+use Rattle.thorin_join.proofs.Terms.{by-bool, Contents, data_of, Encoding, entry_count, first}
+use Rattle.thorin_join.proofs.Terms.{has_part, is-same, is_copied, is_package, IsTable}
+use Rattle.thorin_join.proofs.Terms.{joined_parts, offset_size, Parts, parts_of, ReadsAlike}
+use Rattle.thorin_join.proofs.Terms.{same_kind, SectionKind, Source, Str, StrOffsets}
 use Rattle.thorin_strings.specs.StringOffsets.{remapped}
 use Rattle.thorin_join.specs.Meaning.{whole_entries, joined_offsets}
 use Rattle.thorin_input.specs.Parts.{stands_once}

@@ -2,8 +2,8 @@
 use Rattle.std.proofs.Common.{◌≡◌, ◌∙◌, ℕ, zero, suc, ◌+◌, cond, List, [], ◌∷◌, refl, Result, Ok}
 use Rattle.std.proofs.Common.{Err, Some, None, arith, slice_get, nat_lt, IsOk}
 use Rattle.std.proofs.lemmas.Bool.Decides.{nat_tests}
-use Rattle.thorin_join.proofs.Names.{bind-ok, bind-was, Encoding, Endianness, ReadError, strings_of}
-use Rattle.thorin_join.proofs.Names.{◌>>=◌}
+use Rattle.thorin_join.proofs.Terms.{bind-ok, bind-was, Encoding, Endianness, ReadError, strings_of}
+use Rattle.thorin_join.proofs.Terms.{◌>>=◌}
 use Rattle.dwp_bytes.specs.StringOffsets.{string_at}
 use Rattle.dwp_index.specs.Strings.{entry_in, string_for, string_in}
 use Rattle.thorin_join.specs.Strings.{each_from, offset_of_entry, offsets_in, strings_at}

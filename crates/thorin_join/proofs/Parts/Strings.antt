@@ -1,7 +1,7 @@
 -- How the string offsets of an input are rewritten, and what stands in front.
 use Rattle.std.proofs.Common.{◌≡◌, ◌∙◌, ℕ, ◌≤◌, true, false, List, length, take, refl, sym, ap}
 use Rattle.std.proofs.Common.{arith, length-take, take-take}
-use Rattle.thorin_join.proofs.Names.{first, is_package, Source, Str}
+use Rattle.thorin_join.proofs.Terms.{first, is_package, Source, Str}
 use Rattle.thorin_packaged.specs.PackagedOffsets.{packaged_offsets}
 use Rattle.thorin_strings.specs.StringOffsets.{remapped}
 use Rattle.thorin_input.specs.InputStrings.{rewritten}

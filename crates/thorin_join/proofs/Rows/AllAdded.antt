@@ -1,10 +1,10 @@
 -- The units of an input that are added stand in their rows.
 use Rattle.std.proofs.Common.{[], ◌≡◌, ◌∙◌, ℕ, false, List, ◌∷◌, ◌++◌, ap, sym, append_assoc}
 use Rattle.std.proofs.Common.{append-nil}
-use Rattle.thorin_join.proofs.Names.{AreRowsOf, by-bool, content_of, Contents, DwarfObject}
-use Rattle.thorin_join.proofs.Names.{Endianness, InProgress, joining, keys, kind_at, list_any}
-use Rattle.thorin_join.proofs.Names.{Members, NewUnit, row_at, same_kind, same_name, SectionKind}
-use Rattle.thorin_join.proofs.Names.{take-length, UnitSection, with_unit_added}
+use Rattle.thorin_join.proofs.Terms.{AreRowsOf, by-bool, content_of, Contents, DwarfObject}
+use Rattle.thorin_join.proofs.Terms.{Endianness, InProgress, joining, keys, kind_at, list_any}
+use Rattle.thorin_join.proofs.Terms.{Members, NewUnit, row_at, same_kind, same_name, SectionKind}
+use Rattle.thorin_join.proofs.Terms.{take-length, UnitSection, with_unit_added}
 use Rattle.std.proofs.lemmas.List.{map-append}
 use Rattle.thorin_join.specs.State.{names_of, with_new_unit, with_new_units}
 use Rattle.thorin_join.proofs.Rows.Stay.{Grows, grows-trans, grows-with_bytes, keep-lie}

@@ -2,11 +2,11 @@
 use Rattle.std.proofs.Common.{[], ◌≡◌, ◌∙◌, ℕ, ◌+◌, true, false, cond, List, ◌∷◌, ◌++◌, length, ap}
 use Rattle.std.proofs.Common.{sym, refl, Some, None, arith, length-append, append_assoc, append-nil}
 use Rattle.std.proofs.lemmas.List.Elements.{filter-append}
-use Rattle.thorin_join.proofs.Names.{adding, by-bool, Compilation, content_of, Contents}
-use Rattle.thorin_join.proofs.Names.{contribution_to, DwarfObject, Endianness, IndexEntry}
-use Rattle.thorin_join.proofs.Names.{InProgress, IsWhole, joined_parts, kind_at, NewUnit, place_for}
-use Rattle.thorin_join.proofs.Names.{row_at, same_kind, SectionKind, Source, TypeUnit, UnitRead}
-use Rattle.thorin_join.proofs.Names.{UnitSection, with_bytes}
+use Rattle.thorin_join.proofs.Terms.{adding, by-bool, Compilation, content_of, Contents}
+use Rattle.thorin_join.proofs.Terms.{contribution_to, DwarfObject, Endianness, IndexEntry}
+use Rattle.thorin_join.proofs.Terms.{InProgress, IsWhole, joined_parts, kind_at, NewUnit, place_for}
+use Rattle.thorin_join.proofs.Terms.{row_at, same_kind, SectionKind, Source, TypeUnit, UnitRead}
+use Rattle.thorin_join.proofs.Terms.{UnitSection, with_bytes}
 use Rattle.dwp_dwarf.specs.declared.unit.UnitSection.TheVariants as places
 use Rattle.thorin_input.specs.Growing.{with_parts}
 use Rattle.thorin_join.specs.Laid.{same_place, is_at, rows_at, Heads, Lie, HaveOneRange, IsLaid}

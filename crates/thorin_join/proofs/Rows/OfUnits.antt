@@ -8,13 +8,13 @@ use Rattle.dwp_base.specs.ByKind.{value_of}
 use Rattle.dwp_base.specs.Reading.{read_each}
 use Rattle.dwp_base.specs.Sections.{all_kinds}
 use Rattle.dwp_base.proofs.KindsRead.{read-kind}
-use Rattle.thorin_join.proofs.Names.{as_error_ok, bind-was, by-bool, Compilation, content_of}
-use Rattle.thorin_join.proofs.Names.{Contents, Contribution, contribution_to, data_of, DwarfObject}
-use Rattle.thorin_join.proofs.Names.{Encoding, ErrorValue, first, identifier_of, Index, IndexEntry}
-use Rattle.thorin_join.proofs.Names.{is_copied, is_package, IsTable, joined_parts, LieInside}
-use Rattle.thorin_join.proofs.Names.{Meaning, none-some, part_of, parts_of, Ranges, ReadsAlike}
-use Rattle.thorin_join.proofs.Names.{same-each, same-ok, SectionKind, Shares, Source, Str}
-use Rattle.thorin_join.proofs.Names.{StrOffsets, take-length, TypeUnit, UnitRead}
+use Rattle.thorin_join.proofs.Terms.{as_error_ok, bind-was, by-bool, Compilation, content_of}
+use Rattle.thorin_join.proofs.Terms.{Contents, Contribution, contribution_to, data_of, DwarfObject}
+use Rattle.thorin_join.proofs.Terms.{Encoding, ErrorValue, first, identifier_of, Index, IndexEntry}
+use Rattle.thorin_join.proofs.Terms.{is_copied, is_package, IsTable, joined_parts, LieInside}
+use Rattle.thorin_join.proofs.Terms.{Meaning, none-some, part_of, parts_of, Ranges, ReadsAlike}
+use Rattle.thorin_join.proofs.Terms.{same-each, same-ok, SectionKind, Shares, Source, Str}
+use Rattle.thorin_join.proofs.Terms.{StrOffsets, take-length, TypeUnit, UnitRead}
 use Rattle.dwp_base.specs.declared.section.SectionKind.TheVariants.{Info, Types, Abbrev}
 use Rattle.dwp_index.specs.Index.{row_in, range_in}
 use Rattle.dwp_table.specs.Probing.{found_row}

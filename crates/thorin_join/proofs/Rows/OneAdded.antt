@@ -3,12 +3,12 @@ use Rattle.std.proofs.Common.{◌≡◌, ◌∙◌, ℕ, ◌+◌, ◌-◌, ◌<�
 use Rattle.std.proofs.Common.{refl, arith, ap, true≢false, Some, None, ◌⊎◌, inl, inr, slice_range}
 use Rattle.std.proofs.Common.{ne_eqb}
 use Rattle.std.proofs.Math.Seq.{drop-append_seam}
-use Rattle.thorin_join.proofs.Names.{bind-ok, by-bool, Compilation, content_of, Contents}
-use Rattle.thorin_join.proofs.Names.{Contribution, contribution_to, DwarfObject, Endianness}
-use Rattle.thorin_join.proofs.Names.{IndexEntry, is-same, is_copied, IsRowOf, IsWhole, kind_at}
-use Rattle.thorin_join.proofs.Names.{LieInside, Meaning, NewUnit, row_at, same-each, same-self}
-use Rattle.thorin_join.proofs.Names.{same_kind, section, SectionKind, Shares, take-length, TypeUnit}
-use Rattle.thorin_join.proofs.Names.{UnitSection, with_bytes}
+use Rattle.thorin_join.proofs.Terms.{bind-ok, by-bool, Compilation, content_of, Contents}
+use Rattle.thorin_join.proofs.Terms.{Contribution, contribution_to, DwarfObject, Endianness}
+use Rattle.thorin_join.proofs.Terms.{IndexEntry, is-same, is_copied, IsRowOf, IsWhole, kind_at}
+use Rattle.thorin_join.proofs.Terms.{LieInside, Meaning, NewUnit, row_at, same-each, same-self}
+use Rattle.thorin_join.proofs.Terms.{same_kind, section, SectionKind, Shares, take-length, TypeUnit}
+use Rattle.thorin_join.proofs.Terms.{UnitSection, with_bytes}
 use Rattle.dwp_base.specs.declared.section.SectionKind.TheVariants as kinds
 use Rattle.dwp_dwarf.specs.Units.{unit_at}
 use Rattle.dwp_dwarf.specs.declared.unit.UnitSection.TheVariants as places

@@ -4,9 +4,9 @@ use Rattle.std.proofs.Common.{leb, List, ◌++◌, length, slice_range, is_some,
 use Rattle.std.proofs.Common.{refl, sym, if◌then◌else◌, arith, slice_index, length-append, leb-true}
 use Rattle.std.proofs.Common.{le-leb, eqb-true}
 use Rattle.std.specs.Option.{option_and_then}
-use Rattle.thorin_join.proofs.Names.{by-bool, Contribution, eqb-false, ErrorValue, Index, none-some}
-use Rattle.thorin_join.proofs.Names.{part_of, Ranges, ReadError, same-ok, same_Some, SectionKind}
-use Rattle.thorin_join.proofs.Names.{take-length}
+use Rattle.thorin_join.proofs.Terms.{by-bool, Contribution, eqb-false, ErrorValue, Index, none-some}
+use Rattle.thorin_join.proofs.Terms.{part_of, Ranges, ReadError, same-ok, same_Some, SectionKind}
+use Rattle.thorin_join.proofs.Terms.{take-length}
 use Rattle.std.proofs.Math.Seq.{drop-append-add}
 use Rattle.std.proofs.lemmas.Option.{option_and_then_some}
 use Rattle.dwp_index.specs.Index.{row_in, column_place, range_in}

@@ -1,10 +1,10 @@
 -- The ranges of an input's units lie behind those of the inputs before it.
 use Rattle.std.proofs.Common.{[], ◌≡◌, ◌∙◌, ℕ, ◌≤◌, List, ◌∷◌, ◌++◌, length, map, sym, refl, subst}
 use Rattle.std.proofs.Common.{Ok, Option, Some, inl, inr, arith, append_assoc, append-nil}
-use Rattle.thorin_join.proofs.Names.{adding, AreRowsOf, content_of, Contents, Endianness}
-use Rattle.thorin_join.proofs.Names.{IndexEntry, InProgress, IsSound, IsSoundBegun, kind_at}
-use Rattle.thorin_join.proofs.Names.{LieInside, Members, package_or_new, row_at, same_Some, Source}
-use Rattle.thorin_join.proofs.Names.{with_unit_added}
+use Rattle.thorin_join.proofs.Terms.{adding, AreRowsOf, content_of, Contents, Endianness}
+use Rattle.thorin_join.proofs.Terms.{IndexEntry, InProgress, IsSound, IsSoundBegun, kind_at}
+use Rattle.thorin_join.proofs.Terms.{LieInside, Members, package_or_new, row_at, same_Some, Source}
+use Rattle.thorin_join.proofs.Terms.{with_unit_added}
 use Rattle.thorin_join.specs.Builder.{with_input}
 use Rattle.thorin_join.specs.StandApart.{rows_begun, contents_begun, LieBehind, EachRow, StandApart}
 use Rattle.thorin_join.specs.State.{with_new_units}

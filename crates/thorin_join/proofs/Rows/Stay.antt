@@ -2,11 +2,11 @@
 use Rattle.std.proofs.Common.{[], ◌≡◌, ◌∙◌, ℕ, ◌+◌, ◌-◌, ◌≤◌, List, ◌∷◌, ◌++◌, length, take, drop}
 use Rattle.std.proofs.Common.{ap, sym, refl, arith, Some, None, Option, slice_range, le-leb}
 use Rattle.std.proofs.Common.{append_assoc, append-nil, length-append, length-drop}
-use Rattle.thorin_join.proofs.Names.{AreRowsOf, by-bool, content_of, Contents, Contribution}
-use Rattle.thorin_join.proofs.Names.{contribution_to, data_of, drop-append-le, DwarfObject}
-use Rattle.thorin_join.proofs.Names.{Endianness, IndexEntry, IsRowOf, kind_at, LieInside, Meaning}
-use Rattle.thorin_join.proofs.Names.{part_of, same_kind, SectionKind, Shares, StrOffsets}
-use Rattle.thorin_join.proofs.Names.{with_bytes}
+use Rattle.thorin_join.proofs.Terms.{AreRowsOf, by-bool, content_of, Contents, Contribution}
+use Rattle.thorin_join.proofs.Terms.{contribution_to, data_of, drop-append-le, DwarfObject}
+use Rattle.thorin_join.proofs.Terms.{Endianness, IndexEntry, IsRowOf, kind_at, LieInside, Meaning}
+use Rattle.thorin_join.proofs.Terms.{part_of, same_kind, SectionKind, Shares, StrOffsets}
+use Rattle.thorin_join.proofs.Terms.{with_bytes}
 use Rattle.std.proofs.lemmas.List.{take-append-le}
 use Rattle.dwp_index.specs.Strings.{string_in}
 use Rattle.thorin_input.specs.Growing.{HasFront}

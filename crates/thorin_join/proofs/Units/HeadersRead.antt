@@ -1,9 +1,9 @@
 -- The names and the headers of units that are read.
 use Rattle.std.proofs.Common.{◌≡◌, ◌∙◌, ℕ, List, Result, Ok, Err, Some, None, ap, refl, slice_get}
 use Rattle.std.proofs.Common.{[], ◌∷◌, subst}
-use Rattle.thorin_join.proofs.Names.{bind-was, DwarfObject, Endianness, ErrorValue, Input, kind_at}
-use Rattle.thorin_join.proofs.Names.{NewUnit, ok_or, ReadError, same-ok, section, SectionKind}
-use Rattle.thorin_join.proofs.Names.{Source, unit_section, UnitRead, UnitSection}
+use Rattle.thorin_join.proofs.Terms.{bind-was, DwarfObject, Endianness, ErrorValue, Input, kind_at}
+use Rattle.thorin_join.proofs.Terms.{NewUnit, ok_or, ReadError, same-ok, section, SectionKind}
+use Rattle.thorin_join.proofs.Terms.{Source, unit_section, UnitRead, UnitSection}
 use Rattle.dwp_base.specs.declared.section.SectionKind.TheVariants as kinds
 use Rattle.dwp_dwarf.specs.declared.unit.UnitSection.TheVariants as places
 use Rattle.dwp_dwarf.specs.Units.{Unit as Header, units, unit_bytes}

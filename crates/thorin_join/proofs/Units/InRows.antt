@@ -1,10 +1,10 @@
 -- The units that a package represents are those that stand in the ranges of its rows.
 use Rattle.std.proofs.Common.{[], ◌≡◌, ℕ, List, ◌∷◌, map, ap, sym, refl, true, Ok}
 use Rattle.std.specs.Result.{result_unwrap_or}
-use Rattle.thorin_join.proofs.Names.{AreRowsOf, content_of, Contents, contribution_to, data_of}
-use Rattle.thorin_join.proofs.Names.{DwarfObject, Endianness, IndexEntry, InProgress, is_copied}
-use Rattle.thorin_join.proofs.Names.{IsRowOf, IsTable, keys, Meaning, Members, part_of, SectionKind}
-use Rattle.thorin_join.proofs.Names.{strings_of, StrOffsets, take-length, units_of}
+use Rattle.thorin_join.proofs.Terms.{AreRowsOf, content_of, Contents, contribution_to, data_of}
+use Rattle.thorin_join.proofs.Terms.{DwarfObject, Endianness, IndexEntry, InProgress, is_copied}
+use Rattle.thorin_join.proofs.Terms.{IsRowOf, IsTable, keys, Meaning, Members, part_of, SectionKind}
+use Rattle.thorin_join.proofs.Terms.{strings_of, StrOffsets, take-length, units_of}
 use Rattle.dwp_index.specs.Package.{place_of}
 use Rattle.thorin_join.specs.Meaning.{pieces_by, Pieces}
 use Rattle.thorin_join.specs.Represents.{Represents, meaning_at}

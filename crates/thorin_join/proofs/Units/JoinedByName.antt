@@ -2,9 +2,9 @@
 use Rattle.std.proofs.Common.{[], ◌≡◌, ◌∙◌, ℕ, true, not, ◌||◌, ◌==◌, List, ◌∷◌, ◌++◌, Option, Some}
 use Rattle.std.proofs.Common.{None, is_some, Ok, ap, ap₂, sym, subst, refl, append_assoc}
 use Rattle.std.proofs.Common.{append-nil}
-use Rattle.thorin_join.proofs.Names.{Adding, bind-was, Compilation, DwarfObject, is_compilation}
-use Rattle.thorin_join.proofs.Names.{joining, keys, list_any, lookup, New, NewUnit, place_for}
-use Rattle.thorin_join.proofs.Names.{same-ok, same_name, source_units, TypeUnit, UnitRead, Used}
+use Rattle.thorin_join.proofs.Terms.{Adding, bind-was, Compilation, DwarfObject, is_compilation}
+use Rattle.thorin_join.proofs.Terms.{joining, keys, list_any, lookup, New, NewUnit, place_for}
+use Rattle.thorin_join.proofs.Terms.{same-ok, same_name, source_units, TypeUnit, UnitRead, Used}
 use Rattle.std.specs.Str.{bytes_eq}
 use Rattle.std.proofs.lemmas.List.Folds.{list_any-append}
 use Rattle.std.proofs.lemmas.List.{map-append}

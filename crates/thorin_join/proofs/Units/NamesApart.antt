@@ -2,9 +2,9 @@
 use Rattle.std.proofs.Common.{[], ◌≡◌, ◌∙◌, ℕ, ◌<◌, Bool, true, false, List, ◌∷◌, ◌++◌, length, map}
 use Rattle.std.proofs.Common.{true≢false, inl, inr, get_or, All, AllPairs, ap, sym, refl, arith}
 use Rattle.std.proofs.Common.{eq-eqb, eqb-true, append_assoc, append-nil}
-use Rattle.thorin_join.proofs.Names.{by-bool, Compilation, DwarfObject, entry_ids, identifier_of}
-use Rattle.thorin_join.proofs.Names.{IndexEntry, is_chosen, is_compilation, joining, length-map}
-use Rattle.thorin_join.proofs.Names.{list_any, rows_of, same_name, TypeUnit}
+use Rattle.thorin_join.proofs.Terms.{by-bool, Compilation, DwarfObject, entry_ids, identifier_of}
+use Rattle.thorin_join.proofs.Terms.{IndexEntry, is_chosen, is_compilation, joining, length-map}
+use Rattle.thorin_join.proofs.Terms.{list_any, rows_of, same_name, TypeUnit}
 use Rattle.std.proofs.lemmas.Bool.{cases_order, false_from_ne_true}
 use Rattle.std.proofs.lemmas.List.Elements.{filter_passes}
 use Rattle.std.proofs.lemmas.List.Folds.{list_any_at}

@@ -1,8 +1,8 @@
 -- The units of an input are read one after another, and each is added to what those before it gave.
 use Rattle.std.proofs.Common.{[], ◌≡◌, ◌∙◌, List, ◌∷◌, ◌++◌, refl, Result, Ok, Option, Some, None}
-use Rattle.thorin_join.proofs.Names.{Adding, as_error, bind-ok, bind-was, DwarfObject, ErrorValue}
-use Rattle.thorin_join.proofs.Names.{New, same-ok, section, source_units, unit_section, UnitRead}
-use Rattle.thorin_join.proofs.Names.{UnitSection, Used}
+use Rattle.thorin_join.proofs.Terms.{Adding, as_error, bind-ok, bind-was, DwarfObject, ErrorValue}
+use Rattle.thorin_join.proofs.Terms.{New, same-ok, section, source_units, unit_section, UnitRead}
+use Rattle.thorin_join.proofs.Terms.{UnitSection, Used}
 use Rattle.dwp_dwarf.specs.Units.{units}
 use Rattle.thorin_errors.specs.Errors.{ParseUnitHeader}
 use Rattle.thorin_input.specs.NewUnits.{Met, kept_bytes, with_unit, name_for, with_read}

@@ -1,7 +1,7 @@
 -- The name of a unit has the sort, and of a type unit the signature, that its header says.
 use Rattle.std.proofs.Common.{[], ◌≡◌, List, ◌∷◌, ap, sym, Result, Ok, Err, Option, Some, None}
-use Rattle.thorin_join.proofs.Names.{as_error, bind-was, DwarfObject, ErrorValue, Input, ok_or}
-use Rattle.thorin_join.proofs.Names.{ReadError}
+use Rattle.thorin_join.proofs.Terms.{as_error, bind-was, DwarfObject, ErrorValue, Input, ok_or}
+use Rattle.thorin_join.proofs.Terms.{ReadError}
 use Rattle.dwp_bytes.specs.declared.error.ReadError.TheVariants.{UnknownCode}
 use Rattle.dwp_dwarf.specs.Abbreviations.{declaration}
 use Rattle.dwp_dwarf.specs.Entries.{DebugAttribute, entry, root_code_at}

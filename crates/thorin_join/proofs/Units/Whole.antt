@@ -2,11 +2,11 @@
 use Rattle.std.proofs.Common.{[], ◌≡◌, ◌∙◌, inl, inr, ℕ, zero, suc, ◌+◌, nat_eq, List, ◌∷◌, ◌++◌}
 use Rattle.std.proofs.Common.{length, drop, ap, sym, refl, Result, Ok, Err, Option, Some, None}
 use Rattle.std.proofs.Common.{arith, slice_get, take-append-drop}
-use Rattle.thorin_join.proofs.Names.{as_error, as_error_ok, bind-was, by-bool, Compilation}
-use Rattle.thorin_join.proofs.Names.{DwarfObject, Encoding, Endianness, ErrorValue, Input, IsWhole}
-use Rattle.thorin_join.proofs.Names.{joining, kind_at, list_any, none-some, place_for, ReadError}
-use Rattle.thorin_join.proofs.Names.{same-ok, same_name, section, SectionKind, Source, source_units}
-use Rattle.thorin_join.proofs.Names.{unit_section, UnitRead, UnitSection, Used}
+use Rattle.thorin_join.proofs.Terms.{as_error, as_error_ok, bind-was, by-bool, Compilation}
+use Rattle.thorin_join.proofs.Terms.{DwarfObject, Encoding, Endianness, ErrorValue, Input, IsWhole}
+use Rattle.thorin_join.proofs.Terms.{joining, kind_at, list_any, none-some, place_for, ReadError}
+use Rattle.thorin_join.proofs.Terms.{same-ok, same_name, section, SectionKind, Source, source_units}
+use Rattle.thorin_join.proofs.Terms.{unit_section, UnitRead, UnitSection, Used}
 use Rattle.dwp_dwarf.specs.Units.{Unit as Header, UnitsAreTaken, unit_at, listed, units_within}
 use Rattle.dwp_dwarf.specs.Units.{units}
 use Rattle.dwp_dwarf.specs.declared.unit.UnitSection.TheVariants as places
