@@ -1,83 +1,64 @@
--- What is remembered of strings that were read.
-use Rattle.std.proofs.Common.{◌≡◌, ℕ, ◌+◌, ◌<◌, ◌≤◌, true, List, [], ◌∷◌}
-use Rattle.std.proofs.Common.{length, take, codes, arith, Option, None, Some, Result}
-use Rattle.std.proofs.Common.{Ok, Err, ap, ap₂, sym, refl, ◌∙◌}
-use Rattle.std.proofs.lemmas.List.Elements.{All-weaker}
-use Rattle.std.proofs.lemmas.Bool.{cond-true, cond_both, lt-ltb, le-ltb}
-use Rattle.dwp_base.specs.declared.endian.Endianness.{Endianness}
-use Rattle.dwp_base.specs.Reading.{◌>>=◌}
-use Rattle.dwp_bytes.specs.declared.encoding.Encoding.{Encoding}
-use Rattle.thorin_errors.specs.Errors.{ErrorValue, NumberTooLarge}
+-- What is remembered of strings that were read, and entries that are rewritten one after another.
+use Rattle.std.proofs.Common.{◌≡◌, ℕ, zero, suc, ◌+◌, ◌*◌, ◌<◌, ◌≤◌, List, [], ◌∷◌, ◌++◌, length}
+use Rattle.std.proofs.Common.{take, Ok, Err, ap, sym, subst, refl, ◌∙◌, ⊎_elim, arith, add-one, ◌-◌}
+use Rattle.std.proofs.Common.{◌^◌, ne_eqb, le-ltb, codes, Option, None, Some, Result, lt-ltb}
+use Rattle.std.proofs.lemmas.List.{flat_map_more}
+use Rattle.std.proofs.lemmas.Bool.{cases_eq, cond-true}
 use Rattle.std.specs.Option.{IfSome, IsSomeAnd}
 use Rattle.std.specs.Str.{bytes_eq}
+use Rattle.dwp_base.specs.declared.endian.Endianness.{Endianness}
+use Rattle.dwp_base.specs.declared.endian.Endianness.TheVariants.{Little}
+use Rattle.dwp_base.specs.Numbers.{number_bytes}
+use Rattle.dwp_base.specs.Reading.{◌>>=◌}
+use Rattle.dwp_base.proofs.Steps.{bind-was, same-ok}
+use Rattle.dwp_base.proofs.Bools.{by-bool}
+use Rattle.dwp_bytes.specs.Encoding.{offset_size}
+use Rattle.dwp_bytes.specs.declared.encoding.Format.TheVariants.{Dwarf32}
+use Rattle.dwp_bytes.specs.declared.encoding.Encoding.{Encoding}
+use Rattle.dwp_bytes.specs.StringOffsets.{header_size, entry_count}
+use Rattle.thorin_errors.specs.Errors.{ErrorValue, NumberTooLarge}
+use Rattle.thorin_strings.specs.StringOffsets.{header_of, remapped_entry, remapped_entries}
+use Rattle.thorin_strings.specs.StringOffsets.{entry_bytes, remapped, offset_limit, entry_at}
+use Rattle.thorin_strings.specs.StringOffsets.{string_read, named_at, fitting_offset}
+use Rattle.thorin_strings.specs.Written.{AreWritten}
 use Rattle.thorin_strings.specs.Strings.{data_of, offset_of, with_string}
-use Rattle.thorin_strings.specs.StringOffsets.{offset_limit, entry_at, string_read, named_at}
-use Rattle.thorin_strings.specs.StringOffsets.{fitting_offset, remapped_entry}
 use Rattle.thorin_strings.specs.Known.{offset_read, IsKnown, AreKnown}
-use Rattle.thorin_strings.proofs.Named.{has, there_later, there_once_used, there_if_same}
+use Rattle.thorin_strings.specs.Hashed.{IsPlaced}
+use Rattle.thorin_strings.proofs.Named.{there_later, there_once_used}
 use Rattle.thorin_strings.proofs.OffsetLemmas.{length-data_of-cons}
-use Rattle.dwp_base.proofs.Steps.{bind-was}
 
--- a string that was read and used
-pub record WasRead (section : List ℕ) (at place : ℕ) (old new : List (List ℕ)) : Type 0 where
-  pub string : List ℕ
-  pub read : string_read section at ≡ Ok string
-  pub offset : place ≡ offset_of old string
-  pub strings : new ≡ with_string old string
-
+-- a string was read and used
 pub was_read : (section : List ℕ) (at place : ℕ) (old new : List (List ℕ)) → offset_read section at
-    old ≡ Ok (place, new) → WasRead section at place old new
+    old ≡ Ok (place, new)
+    → (string : List ℕ) × (string_read section at ≡ Ok string) × IsPlaced old new string place
 unfolding offset_read
 was_read section at place old new h =
     let string = bind-was (string_read section at) _ (place, new) h in
-    let whole : (offset_of old string.0, with_string old string.0) ≡ (place, new) = cc in
-    record {
-      string = string.0;
-      read = string.1;
-      offset = ap (λ (p : ℕ × List (List ℕ)). p.0) (sym whole);
-      strings = ap (λ (p : ℕ × List (List ℕ)). p.1) (sym whole);
-    }
-
-pub read_is : (section : List ℕ) (at : ℕ) (old : List (List ℕ)) (string : List ℕ)
-    → string_read section at ≡ Ok string → offset_read section at old ≡ Ok
-    (offset_of old string, with_string old string)
-unfolding offset_read
-read_is section at old string read = rw read refl
+    let whole = same-ok _ _ string.2 in
+    (string.0, string.1, (ap (λ p. p.0) (sym whole), ap (λ p. p.1) (sym whole)))
 
 pub read_used : (section : List ℕ) (at place : ℕ) (old new : List (List ℕ)) (string : List ℕ)
-    → string_read section at ≡ Ok string → (place ≡ offset_of old string)
-    × (new ≡ with_string old string) → offset_read section at old ≡ Ok (place, new)
-read_used section at place old new string read used =
-    read_is section at old string read ∙ ap₂ (λ n l. Ok (n, l)) (sym used.0) (sym used.1)
-
--- a string that is there is known
-there_known : (section : List ℕ) (at place : ℕ) (strings : List (List ℕ)) (string : List ℕ)
-    → string_read section at ≡ Ok string → has strings string ≡ true → offset_of strings string ≡
-    place → IsKnown section strings (at, place)
-there_known section at place strings string read there offset =
-    read_is section at strings string read ∙ ap₂ (λ n l. Ok (n, l)) offset (cond-true _ _ _ there)
+    → string_read section at ≡ Ok string → IsPlaced old new string place
+    → offset_read section at old ≡ Ok (place, new)
+unfolding offset_read
+read_used section at place old new string read used = rw (read, used.0, used.1) refl
 
 -- what was read and used is known
 pub known_used : (section : List ℕ) (at place : ℕ) (old new : List (List ℕ)) (string : List ℕ)
-    → string_read section at ≡ Ok string → (place ≡ offset_of old string)
-    × (new ≡ with_string old string) → IsKnown section new (at, place)
+    → string_read section at ≡ Ok string → IsPlaced old new string place
+    → IsKnown section new (at, place)
 known_used section at place old new string read used =
     let there = there_once_used old string in
-    rw used.1 (there_known section at place (with_string old string) string read there.0
-    (there.1 ∙ sym used.0))
+    rw used.1 (read_used section at place _ _ string read
+    (used.0 ∙ sym there.1, sym (cond-true _ _ _ there.0)))
 
 -- what is known stays so once more strings have come
-pub known_later : (section : List ℕ) (old new : List (List ℕ)) → take (length old) new ≡ old
-    → (pair : ℕ × ℕ) → IsKnown section old pair → IsKnown section new pair
-known_later section old new kept pair known =
-    let r = was_read section pair.0 pair.1 old old known in
-    let there = there_later old new r.string kept (there_if_same old r.string (sym r.strings)) in
-    there_known section pair.0 pair.1 new r.string r.read there.0 (there.1 ∙ sym r.offset)
-
 pub are_known_later : (section : List ℕ) (old new : List (List ℕ)) (pairs : List (ℕ × ℕ))
     → take (length old) new ≡ old → AreKnown section old pairs → AreKnown section new pairs
-are_known_later section old new pairs kept known = All-weaker (IsKnown section old)
-    (IsKnown section new) (known_later section old new kept) pairs known
+are_known_later section old new pairs kept known = λ i d within.
+    let r = was_read section _ _ old old (known i d within) in
+    let there = there_later old new r.0 kept (rw (sym r.2.1) at (there_once_used old r.0).0) in
+    read_used section _ _ new new r.0 r.1 (r.2.0 ∙ sym there.1, sym (cond-true _ _ _ there.0))
 
 unread : {A B E : Type 0} (r : Result A E) (f : A → B) (e : E) → (r >>= (λ x. Ok (f x))) ≡
     Err e → r ≡ Err e
@@ -86,19 +67,25 @@ unread (Err d) f e h = cc
 
 -- what an entry comes to, by the offset that it has
 module _ (order : Endianness) (encoding : Encoding) (section bytes : List ℕ) (index : ℕ) where
-  pub entry_read : (named place : ℕ) (old new : List (List ℕ))
-      → entry_at order encoding bytes index ≡ Ok named
-      → offset_read section named old ≡ Ok (place, new) → place ≤ offset_limit encoding.format
-      → remapped_entry order encoding section bytes index old ≡ Ok (place, new)
-  unfolding named_at remapped_entry fitting_offset
-  entry_read named place old new entry h fits =
-      let r = was_read section named place old new h in
-      rw (
-        entry,
-        r.read,
-        le-ltb (offset_limit encoding.format) (offset_of old r.string)
-            (rw r.offset at fits),
-      ) (ap₂ (λ n l. Ok (n, l)) (sym r.offset) (sym r.strings))
+  module _ (named place : ℕ) (old new : List (List ℕ))
+      (entry : entry_at order encoding bytes index ≡ Ok named)
+      (h : offset_read section named old ≡ Ok (place, new)) where
+    pub entry_read : place ≤ offset_limit encoding.format
+        → remapped_entry order encoding section bytes index old ≡ Ok (place, new)
+    unfolding named_at remapped_entry fitting_offset
+    entry_read fits =
+        let r = was_read section named place old new h in
+        let small = le-ltb (offset_limit encoding.format) (offset_of old r.0) (rw r.2.0 at fits) in
+        rw (entry, r.1, small, ← r.2.0, ← r.2.1) refl
+
+    pub entry_large : offset_limit encoding.format < place
+        → remapped_entry order encoding section bytes index old
+        ≡ Err (NumberTooLarge (codes "string offset") place)
+    unfolding named_at remapped_entry fitting_offset
+    entry_large large =
+        let r = was_read section named place old new h in
+        let past = lt-ltb (offset_limit encoding.format) (offset_of old r.0) (rw r.2.0 at large) in
+        rw (entry, r.1, past, ← r.2.0) refl
 
   pub entry_told : (place : ℕ) (old new : List (List ℕ)) (named : Option ℕ)
       → IfSome named (λ n. entry_at order encoding bytes index ≡ Ok n)
@@ -109,22 +96,6 @@ module _ (order : Endianness) (encoding : Encoding) (section bytes : List ℕ) (
   entry_told place old new (Some named) entry h fits =
       entry_read named place old new entry h fits
 
-  pub entry_large : (named place : ℕ) (old new : List (List ℕ))
-      → entry_at order encoding bytes index ≡ Ok named
-      → offset_read section named old ≡ Ok (place, new) → offset_limit encoding.format < place
-      → remapped_entry order encoding section bytes index old ≡ Err
-      (NumberTooLarge (codes "string offset") place)
-  unfolding named_at remapped_entry fitting_offset
-  entry_large named place old new entry h large =
-      let r = was_read section named place old new h in
-      rw (
-        entry,
-        r.read,
-        lt-ltb (offset_limit encoding.format) (offset_of old r.string)
-            (rw r.offset at large),
-      )
-      (ap (λ n. Err (NumberTooLarge (codes "string offset") n)) (sym r.offset))
-
   pub entry_unread : (named : ℕ) (old : List (List ℕ)) (error : ErrorValue)
       → entry_at order encoding bytes index ≡ Ok named → offset_read section named old ≡ Err error
       → remapped_entry order encoding section bytes index old ≡ Err error
@@ -134,17 +105,70 @@ module _ (order : Endianness) (encoding : Encoding) (section bytes : List ℕ) (
       (λ string. (offset_of old string, with_string old string)) error h in
       rw (entry, none) refl
 
-  pub entry_none : (old : List (List ℕ)) (error : ErrorValue)
-      → entry_at order encoding bytes index ≡ Err error
-      → remapped_entry order encoding section bytes index old ≡ Err error
-  unfolding named_at remapped_entry
-  entry_none old error entry = rw entry refl
-
 -- no string has its offset past the section's end
 pub offset_within : (strings : List (List ℕ)) (string : List ℕ) → offset_of strings string ≤ length
     (data_of strings)
 offset_within [] string = omega arith
-offset_within (t ∷ strings) string = cond_both (bytes_eq t string) 0
-    (length t + 1 + offset_of strings string) (λ n. n ≤ length (data_of (t ∷ strings)))
-    (λ _. omega arith)
-    (λ _. omega (arith, length-data_of-cons t strings, offset_within strings string))
+offset_within (t ∷ strings) string = by-bool _ (bytes_eq t string) (λ e. rw e (omega arith))
+    (λ e. rw e (omega (arith, length-data_of-cons t strings, offset_within strings string)))
+
+-- so many entries are rewritten behind other bytes, from the first strings to those that there are
+abbrev pub AreRewritten : Endianness → Encoding → (section bytes : List ℕ) → ℕ → List ℕ
+    → (old now : List (List ℕ)) → List ℕ → Type 0
+AreRewritten order encoding section bytes n first old now out = (offsets : List ℕ)
+    × (remapped_entries order encoding section bytes n old ≡ Ok (offsets, now))
+    × (out ≡ first ++ entry_bytes order encoding.format offsets)
+
+module _ (order : Endianness) (encoding : Encoding) (section bytes : List ℕ) where
+  -- one more entry
+  pub rewritten_more : (i : ℕ) (first : List ℕ) (old now new : List (List ℕ)) (offset : ℕ)
+      (out more : List ℕ) → AreRewritten order encoding section bytes i first old now out
+      → remapped_entry order encoding section bytes i now ≡ Ok (offset, new)
+      → more ≡ out ++ number_bytes order (offset_size encoding.format) offset
+      → AreRewritten order encoding section bytes (i + 1) first old new more
+  unfolding remapped_entries
+  rewritten_more i first old now new offset out more so_far entry is_more = (
+    so_far.0 ++ offset ∷ [],
+    rw (add-one, so_far.1, entry) refl,
+    rw (is_more, so_far.2) (flat_map_more _ first so_far.0 offset),
+  )
+
+  -- an entry that refuses, in as many entries as there are
+  module _ (i : ℕ) (old now : List (List ℕ)) (before : List ℕ) (error : ErrorValue)
+      (so_far : remapped_entries order encoding section bytes i old ≡ Ok (before, now))
+      (entry : remapped_entry order encoding section bytes i now ≡ Err error) where
+    entries_fail : (n : ℕ) → i < n → remapped_entries order encoding section bytes n old ≡ Err error
+    unfolding remapped_entries
+    entries_fail zero less = absurd (omega arith)
+    entries_fail (suc n) less = ⊎_elim (λ same. rw (← same, so_far, entry) refl)
+        (λ other. rw (entries_fail n (omega arith)) refl) (cases_eq i n)
+
+    -- and in a range
+    pub remapped_refuses : (size count width : ℕ) (header : List ℕ)
+        → count ≡ entry_count encoding size → width ≡ offset_size encoding.format → (size ≡ 0 → ⊥)
+        → header_size encoding ≤ size → header_of order encoding (count * width) ≡ Ok header
+        → i < count → remapped order encoding section bytes size old ≡ Err error
+    unfolding remapped
+    remapped_refuses size count width header is_count is_width some fits has_header less =
+        let header_fits = le-ltb size (header_size encoding) fits in
+        rw (ne_eqb size 0 some, header_fits, ← is_count, ← is_width, has_header,
+        entries_fail count less) refl
+
+module _ (encoding : Encoding) (form : encoding.format ≡ Dwarf32) where
+  -- one more entry of four bytes is rewritten in its place
+  pub one_written : (section bytes : List ℕ) (at index offset : ℕ) (front : List ℕ)
+      (old now new : List (List ℕ)) (out more : List ℕ) → at ≡ header_size encoding + index * 4
+      → remapped_entry Little encoding section bytes index now ≡ Ok (offset, new)
+      → take (at + 4) more ≡ take at out ++ number_bytes Little 4 offset
+      → AreWritten encoding section bytes index front old now out
+      → AreWritten encoding section bytes (index + 1) front old new more
+  one_written section bytes at index offset front old now new out more is_at entry written so_far =
+      let next : header_size encoding + (index + 1) * 4 ≡ at + 4 = omega (arith, is_at) in
+      let one = rewritten_more Little encoding section bytes index front old now new offset
+      (take at out) (take (at + 4) more)
+      (so_far.offsets, so_far.entries, rw (← is_at) at so_far.written) entry (rw form written) in
+      record { offsets = one.0; entries = one.1; written = rw next one.2 }
+
+  -- a number of four bytes fits
+  pub fits_word : (offset : ℕ) → offset ≤ 2 ^ 32 - 1 → offset ≤ offset_limit encoding.format
+  fits_word offset fits = subst (λ f. offset ≤ offset_limit f) (sym form) fits

@@ -21,4 +21,3 @@ pub mod HashedLemmas
 pub mod LaneLemmas
 pub mod EndLemmas
 pub mod HashLemmas
-pub mod WrittenLemmas

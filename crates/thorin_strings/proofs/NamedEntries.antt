@@ -1,100 +1,77 @@
--- The strings that rewritten entries name.
-use Rattle.std.proofs.Common.{◌≡◌, ℕ, zero, suc, ◌+◌, ◌*◌, ◌<◌, ◌≤◌, true, ltb}
-use Rattle.std.proofs.Common.{List, [], ◌∷◌, ◌++◌, length, take, get_or, Result, Ok, Err}
-use Rattle.std.proofs.Common.{sym, refl, ◌∙◌, ⊎_elim, arith, length-append}
-use Rattle.std.proofs.lemmas.List.{take_all, get_or_append_left, get_or_push}
-use Rattle.std.proofs.lemmas.Bool.{cases_eq, ltb-false}
+-- What rewritten entries name, and a range of them.
+use Rattle.std.proofs.Common.{◌≡◌, ℕ, zero, suc, ◌<◌, ◌≤◌, true, ltb, List, [], ◌∷◌, length, take}
+use Rattle.std.proofs.Common.{get_or, Result, Ok, Err, sym, refl, ◌∙◌, ⊎_elim, arith, length-append}
+use Rattle.std.proofs.Common.{take_all, ltb-false, drop-drop, drop_at, eqb-true, eqb, le-ltb, ap}
+use Rattle.std.proofs.Common.{◌+◌, ◌*◌, ◌-◌, ◌/◌, false, ◌++◌, drop}
+use Rattle.std.proofs.lemmas.List.{get_or_append_left, get_or_push}
+use Rattle.std.proofs.lemmas.Bool.{cases_eq, eqb-false}
+use Rattle.std.proofs.lemmas.Nat.{row_fits}
 use Rattle.dwp_base.specs.declared.endian.Endianness.{Endianness}
+use Rattle.dwp_base.proofs.Steps.{bind-was, guard-ok, same-ok, by-choice}
+use Rattle.dwp_base.proofs.Bools.{by-bool}
 use Rattle.dwp_bytes.specs.declared.encoding.Encoding.{Encoding}
+use Rattle.dwp_bytes.specs.StringOffsets.{entry_count, header_size}
+use Rattle.dwp_bytes.specs.declared.encoding.Format.TheVariants.{Dwarf32, Dwarf64}
 use Rattle.dwp_bytes.specs.declared.encoding.Format.{Format}
 use Rattle.dwp_bytes.specs.Encoding.{offset_size}
 use Rattle.thorin_errors.specs.Errors.{ErrorValue}
 use Rattle.thorin_errors.specs.Answers.{as_error}
-use Rattle.dwp_bytes.specs.StringOffsets.{header_size, string_at}
-use Rattle.thorin_strings.specs.Strings.{offset_of, with_string, IsZeroFree, IsTable}
-use Rattle.thorin_strings.specs.StringOffsets.{offset_limit, offset_at, named_at, fitting_offset}
-use Rattle.thorin_strings.specs.StringOffsets.{remapped_entry, remapped_entries}
-use Rattle.thorin_strings.proofs.Named.{has, there_later, string_was, read_free, used}
+use Rattle.thorin_strings.specs.Strings.{offset_of, IsZeroFree, IsTable}
+use Rattle.thorin_strings.specs.StringOffsets.{offset_limit, named_at, fitting_offset}
+use Rattle.thorin_strings.specs.StringOffsets.{remapped_entry, remapped_entries, entry_at, remapped}
+use Rattle.thorin_strings.specs.StringOffsets.{entry_bytes, header_of, offset_at}
+use Rattle.thorin_strings.specs.Rewritten.{NamesTheSame, NamesOneString}
+use Rattle.thorin_strings.proofs.Named.{has, there_later, string_was, read_free, used, read_later}
 use Rattle.thorin_strings.proofs.RemapLemmas.{kept_more}
-use Rattle.dwp_base.proofs.Steps.{bind-was, guard-ok}
+use Rattle.thorin_strings.proofs.OffsetLemmas.{has_Decides}
+use Rattle.thorin_strings.proofs.NamedBytes.{entry_read, entries_long, header_long}
 
 pub as_error_ok : {A E : Type 0} (f : E → ErrorValue) (r : Result A E) (x : A)
     → as_error f r ≡ Ok x → r ≡ Ok x
 as_error_ok f (Ok y) x h = cc
 as_error_ok f (Err e) x h = absurd cc
 
--- a string that is read has no zero
-string_free : (section : List ℕ) (at : ℕ) (string : List ℕ) → string_at section at ≡ Ok string
-    → IsZeroFree string
-string_free section at string h = rw (string_was section string at h) at (read_free section at)
+-- entries of so many bytes
+count_none : (format : Format) (h : ℕ) → (0 - h) / offset_size format ≡ 0
+count_none Dwarf32 h = omega arith
+count_none Dwarf64 h = omega arith
 
-named_free : (order : Endianness) (encoding : Encoding) (section bytes : List ℕ) (index : ℕ)
-    (string : List ℕ) → named_at order encoding section bytes index ≡ Ok string → IsZeroFree string
-unfolding named_at
-named_free order encoding section bytes index string h =
-    let offset = bind-was (as_error _ (offset_at order encoding.format bytes (header_size encoding +
-    index * offset_size encoding.format))) _ string h in
-    string_free section offset.0 string (as_error_ok _ (string_at section offset.0) string offset.2)
-
-fitting_is : (format : Format) (n m : ℕ) → fitting_offset format n ≡ Ok m → (n ≡ m)
-    × (n ≤ offset_limit format)
-unfolding fitting_offset
-fitting_is format n m h =
-    let fits = guard-ok (ltb (offset_limit format) n) _ n m h in
-    (fits.1, ltb-false _ n fits.0)
+count_again : (format : Format) (h n l : ℕ) → l ≡ h + n * offset_size format
+    → (l - h) / offset_size format ≡ n
+count_again Dwarf32 h n l e = omega arith
+count_again Dwarf64 h n l e = omega arith
 
 module _ (order : Endianness) (encoding : Encoding) (section bytes : List ℕ) where
+  -- a string that an entry names has no zero
+  pub named_free : (index : ℕ) (string : List ℕ)
+      → named_at order encoding section bytes index ≡ Ok string → IsZeroFree string
+  unfolding named_at
+  named_free index string h =
+      let offset = bind-was (entry_at order encoding bytes index) _ string h in
+      rw (string_was section string offset.0 (as_error_ok _ _ string offset.2))
+      at (read_free section offset.0)
+
   -- an entry names a string of these, whose offset it is to have
   pub record EntryNames (index : ℕ) (strings : List (List ℕ)) (offset : ℕ) : Type 0 where
     pub string : List ℕ
-    pub free : IsZeroFree string
     pub old : named_at order encoding section bytes index ≡ Ok string
-    pub there : has strings string ≡ true
-    pub place : offset ≡ offset_of strings string
+    pub there : (has strings string ≡ true) × (offset_of strings string ≡ offset)
     pub fits : offset ≤ offset_limit encoding.format
 
-  -- the same once more strings have come
-  later : (index : ℕ) (strings new : List (List ℕ)) (offset : ℕ) → take (length strings) new ≡
-      strings → EntryNames index strings offset → EntryNames index new offset
-  later index strings new offset kept entry =
-      let there = there_later strings new entry.string kept entry.there in
-      record {
-        string = entry.string;
-        free = entry.free;
-        old = entry.old;
-        there = there.0;
-        place = entry.place ∙ sym there.1;
-        fits = entry.fits;
-      }
-
-  pub record EntryKeeps (index : ℕ) (strings new : List (List ℕ)) (offset : ℕ) : Type 0 where
-    pub table : IsTable new
-    pub kept : take (length strings) new ≡ strings
-    pub names : EntryNames index new offset
-
-  entry_keeps : (index : ℕ) (strings : List (List ℕ)) (entry : ℕ × List (List ℕ)) → IsTable strings
-      → remapped_entry order encoding section bytes index strings ≡ Ok entry
-      → EntryKeeps index strings entry.1 entry.0
-  unfolding remapped_entry
-  entry_keeps index strings entry table h =
+  entry_names : (index : ℕ) (strings : List (List ℕ)) (entry : ℕ × List (List ℕ)) → IsTable strings
+      → remapped_entry order encoding section bytes index strings ≡ Ok entry → IsTable entry.1
+      × (take (length strings) entry.1 ≡ strings) × EntryNames index entry.1 entry.0
+  unfolding remapped_entry fitting_offset
+  entry_names index strings entry table h =
       let named = bind-was (named_at order encoding section bytes index) _ entry h in
-      let fit = bind-was (fitting_offset encoding.format (offset_of strings named.0)) _
-      entry named.2 in
-      let is = fitting_is encoding.format (offset_of strings named.0) fit.0 fit.1 in
-      let whole : (fit.0, with_string strings named.0) ≡ entry = cc in
-      let free = named_free order encoding section bytes index named.0 named.1 in
-      let new = used strings named.0 table free in
-      rw (← whole) (record {
-        table = new.table;
-        kept = new.kept;
-        names = record {
-          string = named.0;
-          free = free;
-          old = named.1;
-          there = new.there;
-          place = sym is.0 ∙ sym new.offset;
-          fits = rw is.0 at is.1;
-        };
+      let fit = bind-was (fitting_offset encoding.format (offset_of strings named.0)) _ _ named.2 in
+      let fits = guard-ok (ltb (offset_limit encoding.format) _) _ _ fit.0 fit.1 in
+      let next = used strings named.0 table (named_free index named.0 named.1) in
+      rw (← same-ok _ _ fit.2) (next.table, next.kept, record {
+        string = named.0;
+        old = named.1;
+        there = (next.there, next.offset ∙ fits.1);
+        fits = omega (arith, ltb-false _ _ fits.0, fits.1);
       })
 
   -- so many first entries
@@ -109,30 +86,100 @@ module _ (order : Endianness) (encoding : Encoding) (section bytes : List ℕ) w
       → IsTable before → remapped_entries order encoding section bytes n before ≡ Ok entries
       → EntriesKeep n before entries.0 entries.1
   unfolding remapped_entries
-  entries_keep zero before entries table h =
-      let none : ([], before) ≡ entries = cc in
-      rw (← none) (record {
-        table = table;
-        kept = take_all (length before) before (omega arith);
-        long = refl;
-        each = λ i less. absurd (omega arith);
-      })
+  entries_keep zero before entries table h = rw (← same-ok _ _ h) (record {
+    table = table;
+    kept = take_all (length before) before (omega arith);
+    long = refl;
+    each = λ i less. absurd (omega arith);
+  })
   entries_keep (suc n) before entries table h =
       let first = bind-was (remapped_entries order encoding section bytes n before) _ entries h in
       let entry = bind-was (remapped_entry order encoding section bytes n first.0.1) _
       entries first.2 in
-      let whole : (first.0.0 ++ entry.0.0 ∷ [], entry.0.1) ≡ entries = cc in
       let all = entries_keep n before first.0 table first.1 in
-      let one = entry_keeps n first.0.1 entry.0 all.table entry.1 in
-      rw (← whole) (record {
-        table = one.table;
-        kept = kept_more before first.0.1 entry.0.1 all.kept one.kept;
+      let one = entry_names n first.0.1 entry.0 all.table entry.1 in
+      rw (← same-ok _ _ entry.2) (record {
+        table = one.0;
+        kept = kept_more before first.0.1 entry.0.1 all.kept one.1;
         long = omega (arith, length-append first.0.0 (entry.0.0 ∷ []), all.long);
         each = λ i less. ⊎_elim
-            (λ last. let at = get_or_push first.0.0 entry.0.0 0 i (all.long ∙ sym last) in
-            rw (at, last) one.names)
-            (λ other. rw (get_or_append_left first.0.0 (entry.0.0 ∷ []) 0 i
-            (omega (arith, all.long))) (later i first.0.1 entry.0.1 (get_or first.0.0 i 0) one.kept
-            (all.each i (omega arith))))
+            (λ last. rw (get_or_push first.0.0 entry.0.0 0 i (all.long ∙ sym last), last) one.2)
+            (λ other. let old = all.each i (omega arith) in
+            let there = there_later first.0.1 entry.0.1 old.string one.1 old.there.0 in
+            let same = get_or_append_left first.0.0 (entry.0.0 ∷ []) 0 i
+            (omega (arith, all.long)) in
+            rw same (record {
+              string = old.string;
+              old = old.old;
+              there = (there.0, there.1 ∙ old.there.1);
+              fits = old.fits;
+            }))
             (cases_eq i n);
       })
+
+  -- a header and so many entries
+  module _ (header offsets : List ℕ) (n : ℕ) (front : length header ≡ header_size encoding)
+      (many : length offsets ≡ n) where
+    range_long : length (header ++ entry_bytes order encoding.format offsets)
+        ≡ header_size encoding + n * offset_size encoding.format
+    range_long =
+        let long = rw many at (entries_long order encoding.format offsets) in
+        omega (arith, length-append header (entry_bytes order encoding.format offsets), long)
+
+    one_named : (strings : List (List ℕ)) (i : ℕ) → i < n
+        → EntryNames i strings (get_or offsets i 0)
+        → NamesOneString order encoding section bytes
+        (header ++ entry_bytes order encoding.format offsets) strings i
+    unfolding named_at offset_at
+    one_named strings i less entry =
+        let width = offset_size encoding.format in
+        let tail = entry_bytes order encoding.format offsets in
+        let at = header_size encoding + i * width in
+        let inside : ltb (length (header ++ tail)) (at + width) ≡ false = le-ltb _ _
+        (omega (arith, range_long, row_fits i width n width less (omega arith))) in
+        let past : drop at (header ++ tail) ≡ drop (i * width) tail =
+        rw (← drop-drop (i * width) (header_size encoding) (header ++ tail))
+        (ap (drop (i * width)) (drop_at header tail (header_size encoding) front)) in
+        let read = entry_read order encoding.format offsets i (omega (arith, many)) entry.fits in
+        record {
+          string = entry.string;
+          there = (has_Decides strings entry.string).0 entry.there.0;
+          old = entry.old;
+          new = λ final table kept.
+              (let free = named_free i entry.string entry.old in
+              let found = read_later strings final entry.string kept free entry.there.0 in
+              rw (inside, past, read, ← entry.there.1, found) refl);
+        }
+
+  pub range_named : (size : ℕ) (before : List (List ℕ)) (range : List ℕ × List (List ℕ))
+      → IsTable before → remapped order encoding section bytes size before ≡ Ok range
+      → NamesTheSame order encoding section bytes size before range.0 range.1
+  unfolding remapped
+  range_named size before range table h = by-bool _ (eqb size 0)
+      (λ empty. let is_zero = eqb-true size 0 empty in
+      rw (is_zero, ← same-ok _ _ (rw empty at h)) (record {
+        table = table;
+        kept = take_all (length before) before (omega arith);
+        count = refl;
+        none = λ _. refl;
+        long = λ some. absurd (some refl);
+        named = λ i less. absurd (omega (arith, count_none encoding.format (header_size encoding)));
+      }))
+      (λ some. by-choice _ (ltb size (header_size encoding)) _ _ _ (rw some at h) (λ e. absurd cc)
+      (λ whole. let n = entry_count encoding size in
+      let header = bind-was (header_of order encoding (n * offset_size encoding.format)) _ range
+      whole in
+      let entries = bind-was (remapped_entries order encoding section bytes n before) _ range
+      header.2 in
+      let keep = entries_keep n before entries.0 table entries.1 in
+      let front = header_long order encoding (n * offset_size encoding.format) header.0 header.1 in
+      let long = range_long header.0 entries.0.0 n front keep.long in
+      rw (← same-ok _ _ entries.2) (record {
+        table = keep.table;
+        kept = keep.kept;
+        count = count_again encoding.format (header_size encoding) n _ long;
+        none = λ is_zero. absurd (eqb-false size 0 some is_zero);
+        long = λ _. long;
+        named = λ i less. one_named header.0 entries.0.0 n front keep.long entries.0.1 i less
+            (keep.each i less);
+      })))

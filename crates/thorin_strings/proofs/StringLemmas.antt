@@ -1,14 +1,15 @@
 -- The strings of a section in which each is ended by a zero byte.
-use Rattle.std.proofs.Common.{◌≡◌, ◌≢◌, ℕ, true, false, eqb, List, [], ◌∷◌, ◌++◌}
-use Rattle.std.proofs.Common.{length, take, Option, Some, None, All, ap, sym, refl, ◌∙◌}
-use Rattle.std.proofs.Common.{arith, append_assoc, length-append}
+use Rattle.std.proofs.Common.{◌≡◌, ◌≢◌, ℕ, true, false, eqb, List, [], ◌∷◌, ◌++◌, length, take}
+use Rattle.std.proofs.Common.{Option, Some, None, All, ap, sym, refl, ◌∙◌, arith, append_assoc}
+use Rattle.std.proofs.Common.{length-append, take_at, drop_at, ne_eqb, eq-eqb, eqb-true}
 use Rattle.std.specs.Option.{is_some}
 use Rattle.std.specs.List.{before_first, onto_first}
-use Rattle.std.proofs.lemmas.List.{take_at, drop_at, get_or_at, get_or_append_left}
+use Rattle.std.proofs.lemmas.List.{get_or_at, get_or_append_left}
 use Rattle.std.proofs.lemmas.List.Sums.{position_or_len_is}
 use Rattle.std.proofs.lemmas.List.Elements.{All-nil, All-cons, All-head, All-tail}
-use Rattle.std.proofs.lemmas.Bool.{ne_eqb, eq-eqb, eqb-false, eqb-true, cond_both}
+use Rattle.std.proofs.lemmas.Bool.{eqb-false}
 use Rattle.memchr.specs.Find.{IsFirstByte, is_byte}
+use Rattle.dwp_base.proofs.Bools.{by-bool}
 use Rattle.dwp_bytes.specs.StringOffsets.{string_from}
 use Rattle.thorin_strings.specs.Strings.{data_of, IsZeroFree, strings_in}
 
@@ -59,9 +60,8 @@ zero_free-strings_in [] = All-nil _
 zero_free-strings_in (b ∷ bytes) =
     let ss = strings_in bytes in
     let rest = zero_free-strings_in bytes in
-    cond_both (eqb b 0) ([] ∷ ss) (onto_first b ss) (All IsZeroFree)
-    (λ _. All-cons IsZeroFree [] ss (All-nil _) rest)
-    (λ other. onto_first-zero_free b ss (eqb-false b 0 other) rest)
+    by-bool _ (eqb b 0) (λ e. rw e (All-cons IsZeroFree [] ss (All-nil _) rest))
+    (λ e. rw e (onto_first-zero_free b ss (eqb-false b 0 e) rest))
 
 -- bytes in which one was found aren't a table's string
 pub zero_within : (xs : List ℕ) (r : Option ℕ) → IsFirstByte (is_byte 0) xs r → is_some r ≡ true

@@ -1,14 +1,13 @@
 -- A string of a section that is used.
-use Rattle.std.proofs.Common.{◌≡◌, ℕ, false, List, [], ◌∷◌, ◌++◌, length, Ok, Err}
-use Rattle.std.proofs.Common.{Contains, ap, sym, ◌∙◌, append_assoc}
-use Rattle.std.proofs.Common.{Result, Some}
+use Rattle.std.proofs.Common.{◌≡◌, ℕ, false, List, [], ◌∷◌, ◌++◌, length, Ok, Err, Contains, ap}
+use Rattle.std.proofs.Common.{sym, ◌∙◌, append_assoc, Result, Some}
 use Rattle.std.specs.Result.{result_ok}
 use Rattle.std.specs.List.{list_any}
 use Rattle.std.specs.Str.{bytes_eq}
 use Rattle.std.proofs.lemmas.Bool.{false_from_ne_true, cond-true, cond-false}
 use Rattle.dwp_bytes.specs.StringOffsets.{string_from}
-use Rattle.thorin_strings.specs.Strings.{terminated, data_of, offset_of, strings_in}
-use Rattle.thorin_strings.specs.Strings.{IsZeroFree, BeginsAt, IsIndexed}
+use Rattle.thorin_strings.specs.Strings.{terminated, data_of, offset_of, strings_in, IsZeroFree}
+use Rattle.thorin_strings.specs.Strings.{BeginsAt, IsIndexed}
 use Rattle.thorin_strings.specs.Hashed.{IsPlaced}
 use Rattle.thorin_strings.proofs.OffsetLemmas.{offset_of-absent, has_Decides}
 use Rattle.thorin_strings.proofs.TableLemmas.{strings_push}
@@ -41,8 +40,7 @@ used_new bytes new s n ended free is_new is_long absent =
 -- the bytes of a string and of its end, one after the other
 pub two_pushes : (bytes kept longer new s : List ℕ) → kept ≡ bytes → longer ≡ kept ++ s
     → new ≡ longer ++ 0 ∷ [] → new ≡ bytes ++ terminated s
-two_pushes bytes kept longer new s e1 e2 e3 = e3 ∙ ap (λ l. l ++ 0 ∷ []) (e2 ∙ ap (λ l. l ++ s) e1)
-    ∙ append_assoc bytes s (0 ∷ [])
+two_pushes bytes kept longer new s e1 e2 e3 = rw (e3, e2, e1) (append_assoc bytes s (0 ∷ []))
 
 -- a result whose value was taken
 pub ok_from_some : {A E : Type 0} (r : Result A E) (x : A) → result_ok r ≡ Some x → r ≡ Ok x

@@ -1,5 +1,4 @@
-use Rattle.std.proofs.Common.{◌≤◌, ◌-◌, ◌++◌, ◌∙◌, take, drop, length, ap, sym, arith, append_assoc}
-use Rattle.std.proofs.Math.Seq.{take-add}
+use Rattle.std.proofs.Common.{◌≤◌, ◌-◌, length, arith, append_assoc, take-add, refl, ◌+◌, ◌≡◌}
 use Rattle.thorin_strings.proofs.words.append_by_pieces.Goals as goal
 use Rattle.thorin_strings.proofs.words.append_by_pieces.Goals.{then-bytes-at-lt-PIECE}
 use Rattle.thorin_strings.proofs.words.append_by_pieces.Goals.{else-bytes-at-lt-PIECE}
@@ -13,11 +12,9 @@ loop-at-preserved c =
       | then-bytes-at-lt-PIECE w ↦ (omega (arith, w.next-is), omega (arith, w.next-is))
       | else-bytes-at-lt-PIECE w ↦ (omega (arith, w.next-is), omega (arith, w.next-is))
     ] in
+    let end : at + (next - at) ≡ next = omega (arith, bounds.0) in
     record {
       within = bounds.1;
-      so_far = c.in_ok-extend_from_slice.ensures.items
-          ∙ ap (λ l. l ++ take (next - at) (drop at bytes)) c.loop-at.invariant.so_far
-          ∙ append_assoc c.reserve.new.self.items (take at bytes) (take (next - at) (drop at bytes))
-          ∙ ap (λ l. c.reserve.new.self.items ++ l) (sym (take-add at (next - at) bytes)
-          ∙ ap (λ n. take n bytes) (omega (arith, bounds.0)));
+      so_far = rw (c.in_ok-extend_from_slice.ensures.items, c.loop-at.invariant.so_far,
+          append_assoc, ← take-add at (next - at) bytes, end) refl;
     }

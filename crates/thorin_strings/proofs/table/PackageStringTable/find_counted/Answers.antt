@@ -7,8 +7,8 @@ use Rattle.thorin_strings.specs.Places.{place_of, IsOrdered}
 use Rattle.thorin_strings.specs.Hashed.{held}
 use Rattle.thorin_strings.proofs.StringLemmas.{zero_within, zero_free-strings_in}
 use Rattle.thorin_strings.proofs.PlaceLemmas.{known_place_in}
-use Rattle.thorin_strings.proofs.TableLemmas.{count_within}
 use Rattle.thorin_strings.proofs.HashedLemmas.{misplaced, unplaced, unordered, absent_there}
+use Rattle.thorin_strings.proofs.TableLemmas.{positions_few}
 use Rattle.thorin_strings.proofs.table.PackageStringTable.find_counted.Goals as goal
 use Rattle.thorin_strings.proofs.table.PackageStringTable.find_counted.Goals.{in-Ok, in-Err}
 
@@ -16,10 +16,8 @@ is_absent : {P : Type 0} → (P → ⊥) → (false ≡ true) ↔ P
 is_absent absent = (λ e. absurd (false≢true e), λ there. absurd (absent there))
 
 pub returns-then-is_some-clause-found : goal.returns-then-is_some-clause-found
-returns-then-is_some-clause-found c = rw (← c.self.view_is) (is_absent (λ there.
-    zero_within c.args.string.now c.memchr.result c.memchr.ensures
-    (sym c.is_some.ensures ∙ c.if-is_some.true) (All-contains IsZeroFree
-    (held c.self.inside.entries) c.args.string.now
+returns-then-is_some-clause-found c = rw (← c.self.view_is) (is_absent (λ there. zero_within _ _
+    c.memchr.ensures (sym c.is_some.ensures ∙ c.if-is_some.true) (All-contains IsZeroFree _ _
     (zero_free-strings_in c.self.inside.entries.bytes.items) there)))
 
 pub returns-in-Err-2-clause-found : goal.returns-in-Err-2-clause-found
@@ -27,12 +25,12 @@ returns-in-Err-2-clause-found c = rw (← c.self.view_is) (is_absent (unplaced _
     c.args.string.now c.hash.result c.hash.ensures c.if-self.false c.in-Err-2.ensures.none))
 
 pub returns-in-Ok-place-clause-count : goal.returns-in-Ok-place-clause-count
-returns-in-Ok-place-clause-count c = rw (← c.self.view_is) (count_within _ _ _
-    c.self.invariant.findable.indexed c.search-found.ensures.count)
+returns-in-Ok-place-clause-count c = rw (← c.self.view_is) (λ k few. c.search-found.ensures.count
+    k (omega (arith, positions_few _ _ c.self.invariant.findable.indexed)))
 
 pub returns-in-Err-place-clause-count : goal.returns-in-Err-place-clause-count
-returns-in-Err-place-clause-count c = rw (← c.self.view_is) (count_within _ _ _
-    c.self.invariant.findable.indexed c.search-found.ensures.count)
+returns-in-Err-place-clause-count c = rw (← c.self.view_is) (λ k few. c.search-found.ensures.count
+    k (omega (arith, positions_few _ _ c.self.invariant.findable.indexed)))
 
 pub returns-in-Err-place-clause-found : goal.returns-in-Err-place-clause-found
 returns-in-Err-place-clause-found c =

@@ -1,9 +1,6 @@
-use Rattle.std.proofs.Common.{rules, arith}
+use Rattle.std.proofs.Common.{arith}
 use Rattle.thorin_strings.proofs.KnownLemmas.{read_used, known_used, are_known_later, offset_within}
 use Rattle.thorin_strings.proofs.table.PackageStringTable.offset_told.Goals as goal
-
-pub returns-then-known-limit-clause-meaning : goal.returns-then-known-limit-clause-meaning
-returns-then-known-limit-clause-meaning c = search (rules, c.in-Some.ensures)
 
 pub returns-clause-meaning : goal.returns-clause-meaning
 returns-clause-meaning c =

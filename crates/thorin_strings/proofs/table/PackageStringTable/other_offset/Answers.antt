@@ -4,6 +4,3 @@ use Rattle.thorin_strings.proofs.table.PackageStringTable.other_offset.Goals as 
 
 pub returns-in-Some-short_offset-clause-known : goal.returns-in-Some-short_offset-clause-known
 returns-in-Some-short_offset-clause-known c = search (rules, are_known_later)
-
-pub returns-then-known-limit-clause-meaning : goal.returns-then-known-limit-clause-meaning
-returns-then-known-limit-clause-meaning c = search (rules, c.in-Some.ensures)

@@ -1,14 +1,12 @@
-use Rattle.std.proofs.Common.{◌≡◌, ℕ, List, ◌++◌, length, take, Ok}
-use Rattle.thorin_strings.specs.StringOffsets.{remapped_entries, entry_bytes}
+use Rattle.std.proofs.Common.{◌≡◌, length, take}
 use Rattle.thorin_strings.specs.Known.{AreKnown}
+use Rattle.thorin_strings.proofs.KnownLemmas.{AreRewritten}
 use Rattle.thorin_strings.proofs.table.PackageStringTable.remapped.Given as goal
 
 abbrev pub invariant-loop-index : goal.invariant-loop-index
 invariant-loop-index l = record {
   kept : take (length l.initial.self) l.self ≡ l.initial.self;
-  so_far : (offsets : List ℕ)
-      × (remapped_entries l.order l.encoding l.strings l.offsets l.index l.initial.self
-      ≡ Ok (offsets, l.self))
-      × (l.out.items ≡ l.initial.out.items ++ entry_bytes l.order l.encoding.format offsets);
+  so_far : AreRewritten l.order l.encoding l.strings l.offsets l.index l.initial.out.items
+      l.initial.self l.self l.out.items;
   known : AreKnown l.strings l.self l.repeats;
 }
