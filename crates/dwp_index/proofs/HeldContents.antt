@@ -1,19 +1,19 @@
 -- Reading the contents of a file whose sections hold them as they stand.
-use Rattle.std.proofs.Common.{◌≡◌, ℕ, zero, suc, ◌<◌, Bool, true, false, cond, not, ◌||◌, ◌&&◌}
-use Rattle.std.proofs.Common.{inl, inr, List, [], ◌∷◌, length, refl, sym, ap, subst, ◌∙◌, arith}
+use Rattle.std.proofs.Common.{◌≡◌, ℕ, zero, suc, ◌<◌, Bool, false, not, ◌||◌, inl, inr, List, []}
+use Rattle.std.proofs.Common.{◌∷◌, length, refl, sym, ap, subst, ◌∙◌, arith}
 use Rattle.std.specs.Prelude.{Option, Some, None, Ok, slice_get}
 use Rattle.std.specs.List.{find}
-use Rattle.std.proofs.lemmas.Bool.{ne_eqb}
+use Rattle.std.proofs.lemmas.Bool.{ne_eqb, and_right}
 use Rattle.dwp_base.specs.Sections.{name_of, is_named, kind_named, all_kinds, same_kind, rank_of}
 use Rattle.dwp_base.specs.declared.section.SectionKind.{SectionKind}
 use Rattle.dwp_base.specs.declared.section.SectionKind.TheVariants.{CuIndex, TuIndex}
-use Rattle.dwp_base.proofs.Bools.{is-false}
+use Rattle.dwp_base.proofs.Bools.{is-false, by-bool}
 use Rattle.dwp_base.proofs.EveryKind.{every-two, at-rank, is-same, named-itself, not-older}
 use Rattle.dwp_base.proofs.EveryKind.{value-of}
 use Rattle.dwp_base.proofs.Steps.{each-read}
 use Rattle.dwp_elf_read.specs.Elf.{Elf, SectionMeaning, SHT_NOBITS, elf_of}
-use Rattle.dwp_index.specs.Contents.{content, has_name, is_of_kind, used_bytes}
-use Rattle.dwp_index.specs.Contents.{content_among, contents_of}
+use Rattle.dwp_index.specs.Contents.{content, has_name, is_of_kind, used_bytes, content_among}
+use Rattle.dwp_index.specs.Contents.{contents_of}
 use Rattle.dwp_base.specs.declared.endian.Endianness.{Endianness}
 use Rattle.dwp_index.specs.Index.{Index}
 use Rattle.dwp_index.specs.IndexBytes.{index_of}
@@ -26,18 +26,13 @@ abbrev apart : SectionKind → SectionKind → Bool
 apart a b = same_kind a b || not (is_named (name_of a) b)
 
 other_name : (a b : SectionKind) → same_kind a b ≡ false → is_named (name_of a) b ≡ false
-other_name a b e = is-false (is_named (name_of a) b)
-    (subst (λ c. (c || not (is_named (name_of a) b)) ≡ true) e (every-two apart refl a b))
+other_name a b e = is-false (is_named (name_of a) b) (rw e at (every-two apart refl a b))
 
 -- ---- which sections are of a kind
-pub not_both : (a : Bool) → (a && false) ≡ false
-not_both true = refl
-not_both false = refl
-
 nameless : (kind : SectionKind) (section : SectionMeaning) → has_name kind section.name ≡ false
     → is_of_kind kind section ≡ false
 unfolding is_of_kind
-nameless kind section e = rw e (not_both _)
+nameless kind section e = and_right _ _ e
 
 pub another_kind : (section : SectionMeaning) (kind other : SectionKind) → section.name ≡ Some
     (name_of other) → same_kind other kind ≡ false → is_of_kind kind section ≡ false
@@ -47,14 +42,12 @@ another_kind section kind other e ne = nameless kind section (ap (has_name kind)
 pub found-none : {X : Type 0} (p : X → Bool) (xs : List X) (i : ℕ) (x : X) → find p xs ≡ None
     → slice_get xs i ≡ Some x → p x ≡ false
 found-none p [] i x none at = absurd cc
-found-none p (y ∷ ys) i x none at = step (λ k. found-none p ys k x) (p y) refl none i at
-  where
-    step : ((k : ℕ) → find p ys ≡ None → slice_get ys k ≡ Some x → p x ≡ false) → (b : Bool)
-        → p y ≡ b → cond b (Some y) (find p ys) ≡ None → (k : ℕ)
-        → slice_get (y ∷ ys) k ≡ Some x → p x ≡ false
-    step later true e none k at = absurd cc
-    step later false e none zero at = let same : y ≡ x = cc in ap p (sym same) ∙ e
-    step later false e none (suc k) at = later k none at
+found-none p (y ∷ ys) zero x none at = by-bool (p x ≡ false) (p y)
+    (λ yes. absurd (let some = rw yes at none in cc))
+    (λ no. let same : y ≡ x = cc in ap p (sym same) ∙ no)
+found-none p (y ∷ ys) (suc i) x none at = by-bool (p x ≡ false) (p y)
+    (λ yes. absurd (let some = rw yes at none in cc))
+    (λ no. found-none p ys i x (rw no at none) at)
 
 pub foreign : (section : SectionMeaning) (kind : SectionKind) (name : List ℕ) → section.name ≡ Some
     name → kind_named name ≡ None → is_of_kind kind section ≡ false
@@ -66,38 +59,21 @@ pub empty : (section : SectionMeaning) (kind : SectionKind) → section.size ≡
 unfolding is_of_kind
 empty section kind e = rw e refl
 
-holds-kind : (section : SectionMeaning) (kind : SectionKind) (bytes : List ℕ) → Holds section kind
-    bytes → is_of_kind kind section ≡ true
-unfolding is_of_kind
-holds-kind section kind bytes h =
-    rw (
-      ne_eqb section.size 0 (λ e. omega (arith, h.size_is, h.some)),
-      ne_eqb section.kind SHT_NOBITS h.has_bytes,
-      h.name_is,
-    ) (named-itself kind)
-
 -- ---- the contents
-holds-used : (section : SectionMeaning) (kind : SectionKind) (bytes : List ℕ) → Holds section kind
-    bytes → used_bytes kind section ≡ Ok bytes
-unfolding used_bytes
-holds-used section kind bytes h =
-    rw (h.stored, h.name_is, not-older kind, h.content_is) refl
-
 pub content_is : (sections : List SectionMeaning) (kind : SectionKind) (bytes : List ℕ)
     → HasContent sections kind bytes → content_among sections kind ≡ Ok bytes
-unfolding content_among
+unfolding content_among is_of_kind used_bytes
 content_is [] kind bytes h = ap (λ l. Ok l) (sym h)
-content_is (s ∷ ss) kind bytes (inl h) = rw (holds-kind s kind bytes h) (holds-used s kind bytes h)
+content_is (s ∷ ss) kind bytes (inl h) = rw (
+  ne_eqb s.size 0 (λ e. omega (arith, h.size_is, h.some)),
+  ne_eqb s.kind SHT_NOBITS h.has_bytes,
+  h.name_is,
+  named-itself kind,
+  h.stored,
+  not-older kind,
+  h.content_is,
+) refl
 content_is (s ∷ ss) kind bytes (inr h) = rw h.0 (content_is ss kind bytes h.1)
-
-held-by : (section : SectionMeaning) (sections : List SectionMeaning) (kind : SectionKind)
-    (content : SectionKind × List ℕ) (rest : List ℕ) (b : Bool) → same_kind content.0 kind ≡ b
-    → Holds section content.0 content.1 → HasContent sections kind rest
-    → HasContent (section ∷ sections) kind (cond b content.1 rest)
-held-by section sections kind content rest true e h others =
-    inl (subst (λ k. Holds section k content.1) (is-same content.0 kind e) h)
-held-by section sections kind content rest false e h others =
-    inr (another_kind section kind content.0 h.name_is e, others)
 
 pub held_in_order : (sections : List SectionMeaning) (contents : List (SectionKind × List ℕ))
     → HoldsInOrder sections contents → (kind : SectionKind) → HasContent sections kind
@@ -105,16 +81,9 @@ pub held_in_order : (sections : List SectionMeaning) (contents : List (SectionKi
 held_in_order [] contents h kind = ap (held_of kind) h
 held_in_order (s ∷ ss) [] h kind = inr (h.0 kind, held_in_order ss [] h.1 kind)
 held_in_order (s ∷ ss) (c ∷ cs) (inl h) kind = inr (h.0 kind, held_in_order ss (c ∷ cs) h.1 kind)
-held_in_order (s ∷ ss) (c ∷ cs) (inr h) kind = held-by s ss kind c (held_of kind cs)
-    (same_kind c.0 kind) refl h.0 (held_in_order ss cs h.1 kind)
-
-contents_are : (sections : List SectionMeaning) (bytes : SectionKind → List ℕ)
-    → ((kind : SectionKind) → HasContent sections kind (bytes kind)) → contents_of sections ≡ Ok
-    (sections_of bytes)
-unfolding contents_of
-contents_are sections bytes h =
-    each-read (content_among sections) bytes
-    (λ kind. content_is sections kind (bytes kind) (h kind)) all_kinds
+held_in_order (s ∷ ss) (c ∷ cs) (inr h) kind = by-bool _ (same_kind c.0 kind)
+    (λ e. rw e (inl (subst (λ k. Holds s k c.1) (is-same c.0 kind e) h.0)))
+    (λ e. rw e (inr (another_kind s kind c.0 h.0.name_is e, held_in_order ss cs h.1 kind)))
 
 pub package_is : (bytes : List ℕ) (file : Elf) (held : SectionKind → List ℕ)
     (compilations types : Option Index) → elf_of bytes ≡ Ok file
@@ -127,9 +96,10 @@ pub package_is : (bytes : List ℕ) (file : Elf) (held : SectionKind → List �
       compilations = compilations;
       types = types;
     })
-unfolding package_of
+unfolding package_of contents_of
 package_is bytes file held compilations types e h c t =
-    let contents = contents_are file.sections held h in
+    let contents = each-read (content_among file.sections) held
+    (λ kind. content_is file.sections kind (held kind) (h kind)) all_kinds in
     rw (e, contents, c, t) refl
 
 pub index_there : (order : Endianness) (bytes : List ℕ) (index : Index) → 0 < length bytes

@@ -1,11 +1,10 @@
 -- Numbers one after the other.
-use Rattle.std.proofs.Common.{◌≡◌, ℕ, zero, suc, ◌+◌, ◌-◌, ◌*◌, ◌<◌, Bool, true, false, cond, eqb}
-use Rattle.std.proofs.Common.{◌||◌, List, [], ◌∷◌, ◌++◌, length, get_or, drop, refl, ap, ◌∙◌}
-use Rattle.std.proofs.Common.{eq-eqb, arith, add-one}
+use Rattle.std.proofs.Common.{◌≡◌, ℕ, zero, suc, ◌+◌, ◌-◌, ◌*◌, ◌<◌, Bool, cond, eqb, List, [], ◌∷◌}
+use Rattle.std.proofs.Common.{◌++◌, length, get_or, drop, refl, ap, arith, add-one}
 use Rattle.std.specs.Prelude.{Some, is_some}
 use Rattle.std.specs.List.{position_from, list_any}
-use Rattle.std.proofs.lemmas.Bool.{ne_eqb}
 use Rattle.std.proofs.lemmas.List.{drop-drop}
+use Rattle.dwp_base.proofs.Bools.{by-bool}
 use Rattle.dwp_base.specs.declared.endian.Endianness.{Endianness}
 use Rattle.dwp_base.specs.Numbers.{number}
 use Rattle.dwp_index.specs.IndexBytes.{numbers, number_rows}
@@ -58,7 +57,7 @@ numbers_more order width n bytes = rw (add-one n) (last n bytes)
         (last n (drop width bytes)))
 
 -- ---- the first place of a number, looked for from a place on
-position-step : (order : Endianness) (count : ℕ) (bytes : List ℕ) (wanted i : ℕ) → i < count
+pub position-step : (order : Endianness) (count : ℕ) (bytes : List ℕ) (wanted i : ℕ) → i < count
     → position_from (λ n. eqb n wanted) i (numbers order 4 (count - i) (drop (4 * i) bytes)) ≡ cond
     (eqb (number order 4 (drop (4 * i) bytes)) wanted) (Some i)
     (position_from (λ n. eqb n wanted) (i + 1) (numbers order 4 (count - (i + 1))
@@ -68,29 +67,9 @@ position-step order count bytes wanted i h =
     let next : 4 * (i + 1) ≡ 4 * i + 4 = omega arith in
     rw (more, next, ← drop-drop 4 (4 * i) bytes) refl
 
-pub position_here : (order : Endianness) (count : ℕ) (bytes : List ℕ) (wanted i : ℕ) → i < count
-    → number order 4 (drop (4 * i) bytes) ≡ wanted
-    → position_from (λ n. eqb n wanted) i (numbers order 4 (count - i) (drop (4 * i) bytes)) ≡ Some
-    i
-position_here order count bytes wanted i h e =
-    position-step order count bytes wanted i h ∙ rw (eq-eqb _ wanted e) refl
-
-pub position_on : (order : Endianness) (count : ℕ) (bytes : List ℕ) (wanted i : ℕ) → i < count
-    → (number order 4 (drop (4 * i) bytes) ≡ wanted → ⊥)
-    → position_from (λ n. eqb n wanted) i (numbers order 4 (count - i) (drop (4 * i) bytes)) ≡
-    position_from (λ n. eqb n wanted) (i + 1) (numbers order 4 (count - (i + 1))
-    (drop (4 * (i + 1)) bytes))
-position_on order count bytes wanted i h ne =
-    position-step order count bytes wanted i h ∙ rw (ne_eqb _ wanted ne) refl
-
 -- a number has a place just where it is among them
-some_by : (test : ℕ → Bool) (i : ℕ) (xs : List ℕ) (b : Bool)
-    → is_some (position_from test (i + 1) xs) ≡ list_any test xs
-    → is_some (cond b (Some i) (position_from test (i + 1) xs)) ≡ (b || list_any test xs)
-some_by test i xs true e = refl
-some_by test i xs false e = e
-
 pub is_some-position : (test : ℕ → Bool) (i : ℕ) (xs : List ℕ) → is_some (position_from test i xs) ≡
     list_any test xs
 is_some-position test i [] = refl
-is_some-position test i (x ∷ xs) = some_by test i xs (test x) (is_some-position test (i + 1) xs)
+is_some-position test i (x ∷ xs) = by-bool _ (test x) (λ here. rw here refl)
+    (λ other. rw other (is_some-position test (i + 1) xs))

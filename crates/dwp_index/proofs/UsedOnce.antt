@@ -1,179 +1,143 @@
 -- The used slots of an index of distinct identifiers.
-use Rattle.std.proofs.Common.{◌≡◌, ℕ, zero, suc, ◌+◌, ◌<◌, ◌≤◌, Bool, true, cond, not, eqb, List}
-use Rattle.std.proofs.Common.{[], ◌∷◌, ◌++◌, length, map, get_or, take, drop, set, refl, sym, ap}
-use Rattle.std.proofs.Common.{◌∙◌, ◌⊎◌, inl, inr, arith, append_assoc, length-append}
-use Rattle.std.proofs.Common.{drop-cons}
+use Rattle.std.proofs.Common.{◌≡◌, ℕ, zero, suc, ◌+◌, ◌-◌, ◌<◌, ◌≤◌, Bool, true, false, cond, not}
+use Rattle.std.proofs.Common.{eqb, List, [], ◌∷◌, ◌++◌, length, map, get_or, take, drop, set, refl}
+use Rattle.std.proofs.Common.{sym, ap, subst, ◌∙◌, ◌⊎◌, inl, inr, arith, append_assoc, add-one}
+use Rattle.std.proofs.Common.{length-append}
 use Rattle.std.specs.Prelude.{Option, Some, None, filter}
 use Rattle.std.specs.List.{range_with_len}
 use Rattle.std.specs.List.Sorted.{IsPermutation}
-use Rattle.std.proofs.Math.Decide.{dec_lt}
-use Rattle.std.proofs.Math.ListN.{get_or-eq_default}
 use Rattle.std.proofs.Math.Seq.{get_or-append_seam}
-use Rattle.std.proofs.lemmas.Bool.{ne_eqb}
-use Rattle.std.proofs.lemmas.List.{take-append-drop, take-set, drop-set-lt, get_or-set_same}
-use Rattle.std.proofs.lemmas.List.{get_or-set_other, length-set, drop_all}
+use Rattle.std.proofs.lemmas.Bool.{ne_eqb, cases_eq, cases_lt}
+use Rattle.std.proofs.lemmas.List.{set_split, set-get_or, get_or-set_same, get_or-set_other}
+use Rattle.std.proofs.lemmas.List.{length-set, length-map, get_or-map, get_or_past, map-id}
 use Rattle.std.proofs.lemmas.List.Elements.{filter-append}
+use Rattle.std.proofs.lemmas.List.FromFn.{map-range_with_len_more, fill_by_all}
 use Rattle.std.proofs.lemmas.List.Sorted.{IsPermutation-refl, IsPermutation-sym}
-use Rattle.std.proofs.lemmas.List.Sorted.{IsPermutation-push_more}
-use Rattle.std.proofs.lemmas.List.Sorted.{IsPermutation-middle, IsPermutation-map}
-use Rattle.std.proofs.lemmas.List.Sorted.{IsPermutation-append}
+use Rattle.std.proofs.lemmas.List.Sorted.{IsPermutation-push_more, IsPermutation-middle}
+use Rattle.std.proofs.lemmas.List.Sorted.{IsPermutation-map, IsPermutation-append}
 use Rattle.dwp_table.specs.Table.{IsHashTable, IsIndex, signature_of}
 use Rattle.dwp_table.specs.Probing.{place}
 use Rattle.dwp_index.specs.Index.{Index}
 use Rattle.dwp_index.specs.Used.{slot_at, used_in, used_from}
 use Rattle.dwp_index.specs.Entries.{compilation_entry, type_entry, entries_from}
 use Rattle.dwp_index.specs.Naming.{numbered, entries_of, IsIndexOfIds}
-use Rattle.dwp_index.proofs.UsedSlots.{used_here, used_after, used_none}
-
-same_or_not : (a b : ℕ) → (a ≡ b) ⊎ (a ≡ b → ⊥)
-same_or_not a b = elim (dec_lt a b) [
-  | yes p ↦ inr (λ e. omega arith)
-  | no p ↦ elim (dec_lt b a) [ yes q ↦ inr (λ e. omega arith) | no q ↦ inl (omega arith) ]
-]
 
 abbrev used : ℕ → Bool
 used r = not (eqb r 0)
 
-is_used : (r : ℕ) → (r ≡ 0 → ⊥) → used r ≡ true
-is_used r ne = ap not (ne_eqb r 0 ne)
-
--- ---- one of the numbers taken out
-split : (xs : List ℕ) (k : ℕ) → k < length xs → take k xs ++ get_or xs k 0 ∷ drop (suc k) xs ≡ xs
-split xs k h = ap (λ l. take k xs ++ l) (sym (drop-cons xs k 0 h)) ∙ take-append-drop k xs
-
-filtered : (xs : List ℕ) (k r : ℕ) → k < length xs → get_or xs k 0 ≡ r → filter used xs ≡ filter
-    used (take k xs) ++ cond (used r) (r ∷ filter used (drop (suc k) xs))
-    (filter used (drop (suc k) xs))
-filtered xs k r h e =
-    ap (filter used) (sym (split xs k h)) ∙ filter-append used (take k xs)
-    (get_or xs k 0 ∷ drop (suc k) xs)
-    ∙ ap (λ n. filter used (take k xs) ++ cond (used n) (n ∷ filter used (drop (suc k) xs))
-    (filter used (drop (suc k) xs))) e
-
-without : (xs : List ℕ) (k : ℕ) → k < length xs → filter used (set xs k 0) ≡ filter used (take k xs)
-    ++ filter used (drop (suc k) xs)
-without xs k h =
-    filtered (set xs k 0) k 0 (omega (arith, length-set xs k 0)) (get_or-set_same xs k 0 0 h)
-    ∙ rw (take-set xs k 0, drop-set-lt (suc k) xs k 0 (omega arith)) refl
-
-one_out : (xs : List ℕ) (k r : ℕ) → k < length xs → get_or xs k 0 ≡ suc r
-    → IsPermutation (suc r ∷ filter used (set xs k 0)) (filter used xs)
-one_out xs k r h e =
-    rw (without xs k h, filtered xs k (suc r) h e, is_used (suc r) (λ z. omega arith))
-    (IsPermutation-sym _ _ (IsPermutation-middle (filter used (take k xs)) (suc r)
-    (filter used (drop (suc k) xs))))
-
 -- ---- the numbers up to n, each once
-pub record HasEach (n : ℕ) (xs : List ℕ) : Type 0 where
-  pub each : (r : ℕ) → r < n → (k : ℕ) × (k < length xs) × (get_or xs k 0 ≡ suc r)
-  pub most : (k : ℕ) → get_or xs k 0 ≤ n
-  pub once : (k l : ℕ) → k < length xs → l < length xs → 0 < get_or xs k 0
-      → get_or xs k 0 ≡ get_or xs l 0 → k ≡ l
+record HasEach (n : ℕ) (xs : List ℕ) : Type 0 where
+  each : (r : ℕ) → r < n → (k : ℕ) × (k < length xs) × (get_or xs k 0 ≡ suc r)
+  most : (k : ℕ) → get_or xs k 0 ≤ n
+  once : (k l : ℕ) → 0 < get_or xs k 0 → get_or xs k 0 ≡ get_or xs l 0 → k ≡ l
 
 none_used : (xs : List ℕ) → ((k : ℕ) → get_or xs k 0 ≤ 0) → filter used xs ≡ []
 none_used [] h = refl
 none_used (x ∷ xs) h =
-    let first : x ≡ 0 = omega (arith, h 0) in
-    ap (λ n. cond (used n) (n ∷ filter used xs) (filter used xs)) first ∙ none_used xs
-    (λ k. h (suc k))
+    let first : x ≡ 0 = omega (arith, h 0) in rw (first, none_used xs (λ k. h (suc k))) refl
+
+-- one of them taken out
+one_out : (xs : List ℕ) (k r : ℕ) → k < length xs → get_or xs k 0 ≡ suc r
+    → IsPermutation (suc r ∷ filter used (set xs k 0)) (filter used xs)
+one_out xs k r h e =
+    let whole : take k xs ++ suc r ∷ drop (suc k) xs ≡ xs =
+    sym (set_split xs k (suc r) h) ∙ ap (set xs k) (sym e) ∙ set-get_or xs k 0 in
+    let some = ne_eqb (suc r) 0 (λ z. omega arith) in
+    subst (λ l. IsPermutation (suc r ∷ filter used (set xs k 0)) (filter used l)) whole
+    (rw (set_split xs k 0 h) (simp (filter-append, some)
+    (IsPermutation-sym _ _ (IsPermutation-middle (filter used (take k xs)) (suc r) _))))
 
 one_fewer : (n : ℕ) (xs : List ℕ) (has : HasEach (suc n) xs)
     → HasEach n (set xs (has.each n (omega arith)).0 0)
 one_fewer n xs has =
     let last = has.each n (omega arith) in
     let at = last.0 in
-    let len = length-set xs at 0 in
-    let other = λ (k : ℕ) (ne : k ≡ at → ⊥). get_or-set_other xs at k 0 0 ne in
-    let here = get_or-set_same xs at 0 0 last.1 in
+    let xs' = set xs at 0 in
+    let read : (k : ℕ) → ((k ≡ at) × (get_or xs' k 0 ≡ 0))
+    ⊎ ((k ≡ at → ⊥) × (get_or xs' k 0 ≡ get_or xs k 0)) = λ k. elim (cases_eq k at) [
+      | inl e ↦ inl (e, rw e (get_or-set_same xs at 0 0 last.1))
+      | inr ne ↦ inr (ne, get_or-set_other xs at k 0 0 ne)
+    ] in
     record {
       each = λ r h.
           let k = has.each r (omega arith) in (
             k.0,
-            omega (arith, len, k.1),
-            other k.0 (λ e. let same = ap (λ m. get_or xs m 0) e in
-                omega (arith, k.2, last.2, same)) ∙ k.2,
+            omega (arith, length-set xs at 0, k.1),
+            elim (read k.0) [
+              | inl e ↦ absurd (omega (arith, k.2, last.2, ap (λ m. get_or xs m 0) e.0))
+              | inr other ↦ other.1 ∙ k.2
+            ],
           );
-      most = λ k. elim (same_or_not k at) [
-        | inl e ↦ let same = ap (λ m. get_or (set xs at 0) m 0) e in omega (arith, same, here)
-        | inr ne ↦
-            elim (dec_lt k (length xs)) [
-              | yes p ↦
-                  let apart : get_or xs k 0 ≡ suc n → ⊥ = λ e.
-                  ne (has.once k at p last.1 (omega (arith, e)) (e ∙ sym last.2)) in
-                  omega (arith, other k ne, has.most k, apart)
-              | no p ↦ omega (arith, get_or-eq_default (set xs at 0) 0 {n = k} (omega (arith, len)))
-            ]
+      most = λ k. elim (read k) [
+        | inl e ↦ omega (arith, e.1)
+        | inr other ↦
+            let apart : get_or xs k 0 ≡ suc n → ⊥ =
+            λ e. other.0 (has.once k at (omega (arith, e)) (e ∙ sym last.2)) in
+            omega (arith, other.1, has.most k, apart)
       ];
-      once = λ k l p q some same.
-          let k_apart : k ≡ at → ⊥ = λ e. let zero' = ap (λ m. get_or (set xs at 0) m 0) e in
-          omega (arith, zero', here, some) in
-          let l_apart : l ≡ at → ⊥ = λ e. let zero' = ap (λ m. get_or (set xs at 0) m 0) e in
-          omega (arith, zero', here, some, same) in
-          has.once k l (omega (arith, len)) (omega (arith, len))
-          (omega (arith, other k k_apart, some)) (sym (other k k_apart) ∙ same ∙
-          other l l_apart);
+      once = λ k l some same. elim (read k) [
+        | inl e ↦ absurd (omega (arith, e.1, some))
+        | inr one ↦ elim (read l) [
+            | inl e ↦ absurd (omega (arith, e.1, some, same))
+            | inr two ↦ has.once k l (omega (arith, one.1, some)) (sym one.1 ∙ same ∙ two.1)
+          ]
+      ];
     }
 
-range_more : (n a m : ℕ) → a + n ≡ m → range_with_len a (suc n) ≡ range_with_len a n ++ m ∷ []
-range_more zero a m e = let same : a ≡ m = omega (arith, e) in ap (λ k. k ∷ []) same
-range_more (suc n) a m e = ap (λ l. a ∷ l) (range_more n (a + 1) m (omega (arith, e)))
-
-pub each_once : (n : ℕ) (xs : List ℕ) → HasEach n xs → IsPermutation (range_with_len 1 n)
-    (filter used xs)
+each_once : (n : ℕ) (xs : List ℕ) → HasEach n xs
+    → IsPermutation (range_with_len 1 n) (filter used xs)
 each_once zero xs has = rw (none_used xs has.most) (IsPermutation-refl [])
 each_once (suc n) xs has =
     let last = has.each n (omega arith) in
-    let before = range_with_len 1 n in
     let fewer = set xs last.0 0 in
-    rw (range_more n 1 (suc n) (omega arith))
-    (IsPermutation-push_more before (filter used fewer) (filter used xs) (suc n)
-    (each_once n fewer (one_fewer n xs has)) (one_out xs last.0 n last.1 last.2))
+    let more : range_with_len 1 (suc n) ≡ range_with_len 1 n ++ suc n ∷ [] =
+    rw add-one at (simp map-id at (map-range_with_len_more (λ k. k) 1 n (suc n) (omega arith))) in
+    rw more (IsPermutation-push_more (range_with_len 1 n) (filter used fewer) (filter used xs)
+    (suc n) (each_once n fewer (one_fewer n xs has)) (one_out xs last.0 n last.1 last.2))
 
 -- ---- the slots
 abbrev named : List ℕ → ℕ → ℕ × ℕ
 named ids r = (signature_of ids r, r)
 
 -- a slot with a row is one of the slots
-slot-within : (rows : List ℕ) (k r : ℕ) → get_or rows k 0 ≡ suc r → k < length rows
-slot-within rows k r e = elim (dec_lt k (length rows)) [
-  | yes p ↦ p
-  | no p ↦ absurd
-      (omega (arith, e, get_or-eq_default rows 0 {n = k} (omega arith)))
+slot-within : (rows : List ℕ) (k : ℕ) → 0 < get_or rows k 0 → k < length rows
+slot-within rows k some = elim (cases_lt k (length rows)) [
+  | inl lt ↦ lt
+  | inr le ↦ absurd (omega (arith, some, get_or_past rows k 0 le))
 ]
 
-pub rows_have_each : (ids rows : List ℕ) → IsHashTable ids rows → HasEach (length ids) rows
+rows_have_each : (ids rows : List ℕ) → IsHashTable ids rows → HasEach (length ids) rows
 rows_have_each ids rows table = record {
   each = λ r h.
       let at = table.placed r h in
       let slot = place (length rows) (get_or ids r 0) at.0 in
       let row : get_or rows slot 0 ≡ suc r = omega (arith, at.1.here) in
-      (slot, slot-within rows slot r row, row);
+      (slot, slot-within rows slot (omega (arith, row)), row);
   most = table.only;
-  once = table.once;
+  once = λ k l some same. table.once k l (slot-within rows k some)
+      (slot-within rows l (omega (arith, some, same))) some same;
 }
 
-slot-named : (ids : List ℕ) (index : Index) (k : ℕ) → IsIndex ids index.signatures index.rows
-    → k < length index.rows → slot_at index k ≡ named ids (get_or index.rows k 0)
-slot-named ids index k is h = ap (λ s. (s, get_or index.rows k 0)) (is.beside k h)
-
-used-from : (ids : List ℕ) (index : Index) → IsIndex ids index.signatures index.rows → (n k : ℕ)
-    → k + n ≡ length index.rows → used_in index k ≡ map (named ids)
-    (filter used (drop k index.rows))
-used-from ids index is zero k e =
-    let none : drop k index.rows ≡ [] = drop_all k index.rows (omega arith) in
-    used_none index k (omega arith) ∙ sym (rw none refl)
-used-from ids index is (suc n) k e =
-    let row = get_or index.rows k 0 in
-    let one : k + 1 ≡ suc k = omega arith in
-    let within : k < length index.rows = omega arith in
-    let rest = used-from ids index is n (k + 1) (omega arith) in
-    let after : drop k index.rows ≡ row ∷ drop (k + 1) index.rows =
-    rw one (drop-cons index.rows k 0 within) in
-    elim (same_or_not row 0) [
-      | inl zero' ↦ used_after index k within zero' ∙ rest ∙ sym (rw (after, zero') refl)
-      | inr some ↦ used_here index k within some ∙ rw (rest, slot-named ids index k is within)
-          (sym (rw (after, is_used row some) refl))
+used-map : (ids rows : List ℕ)
+    → filter (λ s. used s.1) (map (named ids) rows) ≡ map (named ids) (filter used rows)
+used-map ids [] = refl
+used-map ids (r ∷ rows) = elim (used r) as (λ b. cond b (named ids r ∷ filter (λ s. used s.1)
+    (map (named ids) rows)) (filter (λ s. used s.1) (map (named ids) rows))
+    ≡ map (named ids) (cond b (r ∷ filter used rows) (filter used rows))) [
+      | true ↦ ap (λ l. named ids r ∷ l) (used-map ids rows)
+      | false ↦ used-map ids rows
     ]
+
+-- the used slots are the used rows with their names
+used-named : (ids : List ℕ) (index : Index) → IsIndex ids index.signatures index.rows
+    → used_in index 0 ≡ map (named ids) (filter used index.rows)
+unfolding used_in
+used-named ids index is =
+    let all : length index.rows - 0 ≡ length index.rows = omega arith in
+    let slots = fill_by_all (slot_at index) (map (named ids) index.rows) (length index.rows) (0, 0)
+    (length-map index.rows (named ids)) (λ k h. get_or-map (named ids) index.rows k 0 (0, 0) h
+    ∙ ap (λ (s : ℕ). (s, get_or index.rows k 0)) (sym (is.beside k h))) in
+    rw (all, ← slots) (used-map ids index.rows)
 
 -- ---- the identifiers
 named-at : (before ids : List ℕ) (x r : ℕ) → r ≡ suc (length before)
@@ -192,17 +156,13 @@ numbered-from before (x ∷ ids) r e =
     rw (
       numbered-from (before ++ x ∷ []) ids (r + 1) longer,
       append_assoc,
-      ← named-at before ids x
-          r e,
+      ← named-at before ids x r e,
     ) refl
 
 pub slots_once : (ids : List ℕ) (index : Index) → IsIndex ids index.signatures index.rows
     → IsPermutation (numbered 1 ids) (used_in index 0)
 slots_once ids index is =
-    rw (
-      numbered-from [] ids 1 (omega arith),
-      used-from ids index is (length index.rows) 0 (omega arith),
-    )
+    rw (numbered-from [] ids 1 (omega arith), used-named ids index is)
     (IsPermutation-map (named ids) (range_with_len 1 (length ids)) (filter used index.rows)
     (each_once (length ids) index.rows (rows_have_each ids index.rows is.table)))
 

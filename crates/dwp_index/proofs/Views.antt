@@ -1,16 +1,18 @@
--- What the fields of an index and of a row hold.
-use Rattle.std.proofs.Common.{◌≡◌, ℕ, ◌-◌, ◌*◌, ◌<◌, ◌≤◌, List}
-use Rattle.std.proofs.Common.{[], length, get_or, drop, refl, arith}
-use Rattle.std.specs.Prelude.{Some, None, Ok, Err}
-use Rattle.std.proofs.lemmas.Bool.{lt-ltb, le-ltb}
+-- What the fields of an index and of a row hold, and where a look-up ends.
+use Rattle.std.proofs.Common.{◌≡◌, ℕ, ◌-◌, ◌<◌, ◌≤◌, List, length, get_or, refl, arith, zero, suc}
+use Rattle.std.proofs.Common.{◌+◌, Bool, true, false, cond, ◌∙◌, ◌⊎◌, inl, inr, eq-eqb}
+use Rattle.std.specs.Prelude.{Option, Some, None}
+use Rattle.std.specs.Option.{option_and_then}
+use Rattle.std.proofs.lemmas.Bool.{ne_eqb, or_right}
 use Rattle.dwp_base.specs.declared.section.SectionKind.{SectionKind}
-use Rattle.dwp_bytes.specs.declared.error.ReadError.TheVariants.{RowOutOfRange}
 use Rattle.dwp_index.specs.declared.unit_index.UnitIndex.TheInside.{Inside}
-use Rattle.dwp_index.specs.Index.{Index, Ranges, row_in, column_place, contribution, range_in}
-use Rattle.dwp_index.specs.IndexBytes.{numbers}
+use Rattle.dwp_index.specs.Index.{Index, Ranges, column_place, contribution, range_in}
 use Rattle.dwp_index.specs.Fields.{index_in}
-use Rattle.dwp_index.proofs.NumberLists.{length-numbers, length-number_rows, get_or-number_rows}
+use Rattle.dwp_index.proofs.NumberLists.{length-numbers, length-number_rows}
+use Rattle.std.specs.List.{find, range_with_len}
+use Rattle.dwp_table.specs.Probing.{place, is_end, first_end, found_row, look_count, row_of}
 
+-- as many slots and rows as the fields say
 pub slots-length : (u : Inside) (v : Index) → index_in u ≡ v → length v.rows ≡ u.slot_count
 slots-length u v e = rw (← e) (length-numbers u.order 4 u.slot_count u.rows.now)
 
@@ -18,55 +20,58 @@ pub units-length : (u : Inside) (v : Index) → index_in u ≡ v → length v.of
 units-length u v e =
     rw (← e) (length-number_rows u.order u.column_count u.unit_count u.offsets.now)
 
-abbrev Found : Index → ℕ → Ranges
-Found v r = record {
-  version = v.version;
-  columns = v.columns;
-  offsets = get_or v.offsets (r - 1)
-      [];
-  sizes = get_or v.sizes (r - 1) [];
-}
-
-pub row-zero : (v : Index) (r : ℕ) → r ≡ 0 → row_in v r ≡ Err RowOutOfRange
-unfolding row_in
-row-zero v r e = rw e refl
-
-pub row-past : (v : Index) (r : ℕ) → length v.offsets < r → row_in v r ≡ Err RowOutOfRange
-unfolding row_in
-row-past v r h = rw (lt-ltb 0 r (omega arith), le-ltb (r - 1) (length v.offsets) (omega arith)) refl
-
-row-within : (v : Index) (r : ℕ) → 0 < r → r ≤ length v.offsets → row_in v r ≡ Ok (Found v r)
-unfolding row_in
-row-within v r h k = rw (lt-ltb 0 r h, lt-ltb (r - 1) (length v.offsets) (omega arith)) refl
-
-pub row_view : (u : Inside) (v : Index) (r : ℕ) (offsets sizes : List ℕ) → index_in u ≡ v → 0 < r
-    → r ≤ u.unit_count
-    → offsets ≡ drop (4 * u.column_count * (r - 1)) u.offsets.now
-    → sizes ≡ drop (4 * u.column_count * (r - 1)) u.sizes.now
-    → Ok (record {
-      version = u.version;
-      columns = numbers u.order 4 u.column_count u.columns.now;
-      offsets = numbers u.order 4 u.column_count offsets;
-      sizes = numbers u.order 4 u.column_count
-          sizes;
-    }) ≡ row_in v r
-row_view u v r offsets sizes e h k o s =
-    let rows = get_or-number_rows u.order u.column_count u.unit_count in
-    rw (
-      o,
-      s,
-      ← e,
-      row-within (index_in u) r h (omega (arith, units-length u _ refl)),
-      rows u.offsets.now (r - 1) [] (omega arith),
-      rows u.sizes.now (r - 1) [] (omega arith),
-    ) refl
-
-pub range-none : (row : Ranges) (kind : SectionKind) → column_place row.version row.columns kind ≡
-    None → range_in row kind ≡ None
+-- a row's range, by the place of the section's column
+pub range-by : (row : Ranges) (kind : SectionKind) (place : Option ℕ)
+    → column_place row.version row.columns kind ≡ place → range_in row kind
+    ≡ option_and_then (λ i. contribution (get_or row.offsets i 0) (get_or row.sizes i 0)) place
 unfolding range_in
-range-none row kind e = rw e refl
+range-by row kind place e = rw e refl
 
-pub range-some : (row : Ranges) (kind : SectionKind) (i : ℕ) → column_place row.version row.columns
-    kind ≡ Some i → range_in row kind ≡ contribution (get_or row.offsets i 0) (get_or row.sizes i 0)
-unfolding range_in
-range-some row kind i e = rw e refl
+-- ---- where a look-up ends
+
+module _ (signatures rows : List ℕ) (x : ℕ) where
+  -- from the i-th place on it ends at the first that ends it
+  abbrev pub end_from : ℕ → Option ℕ
+  end_from i = find (λ j. is_end signatures rows x (place (length rows) x j))
+      (range_with_len i (length rows - i))
+
+  pub end-start : first_end signatures rows x ≡ end_from 0
+  unfolding first_end
+  end-start = let all : length rows - 0 ≡ length rows = omega arith in rw all refl
+
+  -- the row found and the count, where the look-up ends nowhere
+  pub unended : (i : ℕ) → length rows ≤ i → first_end signatures rows x ≡ end_from i
+      → (found_row signatures rows x ≡ None) × (look_count signatures rows x ≡ length rows)
+  unfolding found_row look_count
+  unended i past rest =
+      let none : length rows - i ≡ 0 = omega arith in
+      let end : first_end signatures rows x ≡ None = rest ∙ rw none refl in
+      (rw end refl, rw end refl)
+
+  -- at the i-th place
+  module _ (i at : ℕ) (within : i < length rows) (rest : first_end signatures rows x ≡ end_from i)
+      (same : at ≡ place (length rows) x i) where
+    end-by : (b : Bool) → is_end signatures rows x at ≡ b
+        → first_end signatures rows x ≡ cond b (Some i) (end_from (i + 1))
+    end-by b e =
+        let more : length rows - i ≡ suc (length rows - (i + 1)) = omega arith in
+        rest ∙ rw (more, ← same, e) refl
+
+    -- a slot with a row ends the look-up of its signature alone, one without it each
+    pub end-on : (get_or rows at 0 ≡ 0 → ⊥) → (get_or signatures at 0 ≡ x → ⊥)
+        → first_end signatures rows x ≡ end_from (i + 1)
+    end-on used other = end-by false
+        (rw (ne_eqb (get_or rows at 0) 0 used, ne_eqb (get_or signatures at 0) x other) refl)
+
+    pub ended : (get_or rows at 0 ≡ 0) ⊎ (get_or signatures at 0 ≡ x)
+        → (found_row signatures rows x ≡ row_of (get_or rows at 0))
+        × (look_count signatures rows x ≡ i + 1)
+    unfolding found_row look_count
+    ended ends =
+        let end = end-by true
+        (elim ends [ inl e ↦ rw e refl | inr e ↦ or_right _ _ (eq-eqb _ _ e) ]) in
+        (rw (end, ← same) refl, rw end (omega arith))
+
+pub row_of-used : (r : ℕ) → (r ≡ 0 → ⊥) → row_of r ≡ Some r
+row_of-used zero ne = absurd (ne refl)
+row_of-used (suc r) ne = refl

@@ -1,18 +1,26 @@
--- What was written is read again: a number, and items that are written alike, one after the other.
+-- What was written is read again: numbers, items that are written alike, one after the other, and
+-- the columns of an index.
 use Rattle.std.proofs.Common.{◌≡◌, ℕ, suc, ◌*◌, ◌^◌, ◌<◌, List, [], ◌∷◌, ◌++◌, length, drop, map}
-use Rattle.std.proofs.Common.{refl, ◌∙◌, append_assoc, arith, get_or}
-use Rattle.std.specs.Prelude.{All, Ok}
-use Rattle.std.specs.List.{flat_map}
-use Rattle.std.proofs.lemmas.Bool.{le-ltb}
-use Rattle.std.proofs.lemmas.List.{length-append, drop_at}
-use Rattle.std.proofs.lemmas.List.Folds.{flat_map-map}
+use Rattle.std.proofs.Common.{refl, ◌∙◌, append_assoc, arith, get_or, ◌+◌, ◌≤◌, Bool, true, false}
+use Rattle.std.proofs.Common.{cond, eqb, ltb, Option, Some, filter, Ok, sym, ap}
+use Rattle.std.specs.Prelude.{All, Ok, is_some, unwrap_or}
+use Rattle.std.specs.List.{flat_map, list_any, range_with_len}
+use Rattle.std.proofs.lemmas.Bool.{le-ltb, cond-true, eqb-true, false_from_ne_true, ltb-true}
+use Rattle.std.proofs.lemmas.List.{length-append, drop_at, append-nil}
+use Rattle.std.proofs.lemmas.List.Folds.{flat_map-map, list_any-append}
 use Rattle.std.proofs.Math.Nat.{mul-suc}
 use Rattle.std.proofs.lemmas.Nat.{from_le_bytes-to_le_bytes_4, from_le_bytes-to_le_bytes_8}
 use Rattle.std.proofs.lemmas.Nat.{from_be_bytes-to_be_bytes_4, from_be_bytes-to_be_bytes_8}
 use Rattle.dwp_base.specs.declared.endian.Endianness.{Endianness}
 use Rattle.dwp_base.specs.declared.endian.Endianness.TheVariants.{Little, Big}
 use Rattle.dwp_base.specs.Numbers.{number, number_bytes}
-use Rattle.dwp_index.specs.IndexBytes.{after, numbers}
+use Rattle.dwp_index.specs.IndexBytes.{after, numbers, new_column, columns_at}
+use Rattle.dwp_base.specs.declared.section.SectionKind.{SectionKind}
+use Rattle.dwp_base.specs.Sections.{rank_of}
+use Rattle.dwp_base.proofs.Bools.{by-bool}
+use Rattle.dwp_base.proofs.EveryKind.{every, same-each}
+use Rattle.dwp_table.specs.Columns.{standard_column, gnu_column, column_of, kind_with}
+use Rattle.dwp_table.specs.Columns.{kind_of_column}
 
 -- items are put in so many bytes each, in which those that fit are read again as what they are
 pub record IsPut {X Y : Type 0} (put : X → List ℕ) (read : List ℕ → Y) (is : X → Y)
@@ -94,3 +102,104 @@ put_row order columns f = record {
   again = λ x rest fits. rw flat_map-map (put_again (put_4 order (f x)) (numbers order 4)
       (λ bytes. refl) (λ n bytes. refl) columns rest (λ k d less. fits (get_or columns k d)));
 }
+
+-- ---- columns
+
+abbrev pub number_of : ℕ → SectionKind → ℕ
+number_of version kind = unwrap_or (column_of version kind) 0
+
+abbrev pub has_number : ℕ → SectionKind → Bool
+has_number version kind = is_some (column_of version kind)
+
+-- the numbers of columns fit their four bytes
+number_small : (version : ℕ) (kind : SectionKind) → number_of version kind < 2 ^ 32
+number_small version kind = by-bool _ (eqb version 5)
+    (λ five. rw five
+    (ltb-true _ _ (every (λ k. ltb (unwrap_or (standard_column k) 0) (2 ^ 32)) refl kind)))
+    (λ two. rw two
+    (ltb-true _ _ (every (λ k. ltb (unwrap_or (gnu_column k) 0) (2 ^ 32)) refl kind)))
+
+abbrev again : (SectionKind → Option ℕ) → SectionKind → Option SectionKind
+again column kind =
+    cond (is_some (column kind)) (kind_with column (unwrap_or (column kind) 0)) (Some kind)
+
+-- a section that has a column is the one that its number names
+kind_again : (version : ℕ) (kind : SectionKind) → has_number version kind ≡ true
+    → kind_of_column version (number_of version kind) ≡ Some kind
+kind_again version kind has = by-bool _ (eqb version 5)
+    (λ five. rw five (sym (cond-true _ _ (Some kind) (rw five at has))
+    ∙ same-each (again standard_column) Some refl kind))
+    (λ two. rw two (sym (cond-true _ _ (Some kind) (rw two at has))
+    ∙ same-each (again gnu_column) Some refl kind))
+
+pub one_kind : (version : ℕ) (kind other : SectionKind) → has_number version kind ≡ true
+    → has_number version other ≡ true → number_of version other ≡ number_of version kind
+    → other ≡ kind
+one_kind version kind other mine its same =
+    let e : Some other ≡ Some kind = sym (kind_again version other its)
+    ∙ ap (kind_of_column version) same ∙ kind_again version kind mine in
+    cc
+
+-- ---- columns of sections in the order of their ranks
+module _ (order : Endianness) (version : ℕ) (p : SectionKind → Bool)
+    (known : (kind : SectionKind) → p kind ≡ true → has_number version kind ≡ true) where
+  -- the columns of sections of this rank and behind aren't there
+  abbrev AreNew : ℕ → List ℕ → Type 0
+  AreNew rank before = (kind : SectionKind) → has_number version kind ≡ true → rank ≤ rank_of kind
+      → list_any (λ c. eqb c (number_of version kind)) before ≡ false
+
+  new_after : (rank : ℕ) (before : List ℕ) (kind : SectionKind) → has_number version kind ≡ true
+      → rank_of kind ≡ rank → AreNew rank before
+      → AreNew (rank + 1) (before ++ number_of version kind ∷ [])
+  new_after rank before kind has at new other its behind =
+      let differs : eqb (number_of version kind) (number_of version other) ≡ false =
+      false_from_ne_true _ (λ same. let one = one_kind version other kind its has
+      (eqb-true _ _ same) in omega (arith, ap rank_of one)) in
+      list_any-append _ before (number_of version kind ∷ [])
+      ∙ rw (new other its (omega arith), differs) refl
+
+  abbrev AreRead : List ℕ → List SectionKind → List ℕ → Type 0
+  AreRead before kinds rest = columns_at order version before (length kinds)
+      (flat_map (number_bytes order 4) (map (number_of version) kinds) ++ rest)
+      ≡ Ok (before ++ map (number_of version) kinds, rest)
+
+  one_read : (rank : ℕ) (before : List ℕ) (kind : SectionKind) (kinds : List SectionKind)
+      (rest : List ℕ) → has_number version kind ≡ true → rank_of kind ≡ rank → AreNew rank before
+      → AreRead (before ++ number_of version kind ∷ []) kinds rest
+      → AreRead before (kind ∷ kinds) rest
+  unfolding columns_at new_column
+  one_read rank before kind kinds rest has at new later =
+      let n = number_of version kind in
+      let tail : List ℕ = flat_map (number_bytes order 4) (map (number_of version) kinds) ++ rest in
+      let one = put_4 order (number_of version) in
+      rw (
+        append_assoc,
+        after_front 4 (number_bytes order 4 n) tail (one.len kind),
+        one.again kind tail (number_small version kind),
+        kind_again version kind has,
+        new kind has (omega arith),
+      )
+      (later ∙ ap (λ (l : List ℕ). Ok (l, rest)) (append_assoc before (n ∷ []) _))
+
+  pub columns_read : (kinds : List SectionKind) (rank : ℕ)
+      → map rank_of kinds ≡ range_with_len rank (length kinds) → (before rest : List ℕ)
+      → AreNew rank before → AreRead before (filter p kinds) rest
+  unfolding columns_at
+  columns_read [] rank ranks before rest new = ap (λ (l : List ℕ). Ok (l, rest))
+      (sym (append-nil before))
+  columns_read (k ∷ kinds) rank ranks before rest new =
+      by (p k) refl (columns_read kinds (rank + 1) others)
+    where
+      at : rank_of k ≡ rank
+      at = cc
+
+      others : map rank_of kinds ≡ range_with_len (rank + 1) (length kinds)
+      others = cc
+
+      by : (b : Bool) → p k ≡ b
+          → ((before rest : List ℕ) → AreNew (rank + 1) before
+          → AreRead before (filter p kinds) rest)
+          → AreRead before (cond b (k ∷ filter p kinds) (filter p kinds)) rest
+      by true passes later = one_read rank before k (filter p kinds) rest (known k passes) at new
+          (later _ rest (new_after rank before k (known k passes) at new))
+      by false passes later = later before rest (λ kind has behind. new kind has (omega arith))

@@ -1,12 +1,11 @@
 -- What tests that all passed say.
 use Rattle.std.proofs.Common.{◌≡◌, ◌∙◌, ℕ, zero, suc, ◌+◌, ◌*◌, ◌^◌, ◌<◌, Bool, true, false, cond}
-use Rattle.std.proofs.Common.{List, [], ◌∷◌, ◌++◌, length, get_or, drop, Option, None, Some}
-use Rattle.std.proofs.Common.{Result, Ok, Err, ap, refl, sym, arith}
+use Rattle.std.proofs.Common.{List, [], ◌∷◌, ◌++◌, length, get_or, drop, Option, None, Some, Result}
+use Rattle.std.proofs.Common.{Ok, Err, ap, refl, sym, arith}
 use Rattle.std.proofs.lemmas.List.{at_drop_more}
 use Rattle.std.proofs.lemmas.List.Folds.{Any-from_list_any}
 use Rattle.std.proofs.lemmas.Bool.{ltb-true}
-use Rattle.std.specs.Prelude.{All, OnOk, codes, is_some}
-use Rattle.dwp_base.proofs.EveryKind as kinds
+use Rattle.std.specs.Prelude.{All, codes, is_some}
 use Rattle.dwp_base.proofs.EveryKind.{HoldsAll}
 use Rattle.dwp_base.proofs.Steps.{bind-was}
 use Rattle.dwp_base.specs.declared.section.SectionKind.{SectionKind}
@@ -21,7 +20,8 @@ use Rattle.thorin_index.specs.Entries.{contribution_to, offset_or_0, size_or_0}
 use Rattle.thorin_index.specs.EntryTests.{each, number_test, parts_test, format_test, tests_under}
 use Rattle.thorin_index.specs.EntryTests.{count_test, encoding_test, offset_test, size_test}
 use Rattle.thorin_index.specs.IndexText.{FitsRow, is_used}
-use Rattle.thorin_index.proofs.Columns.{has_number}
+use Rattle.thorin_index.proofs.Again.{has_number}
+use Rattle.dwp_base.proofs.EveryKind as kinds
 
 -- what holds of each section that a unit may have a part of, and of the others, holds of every one
 pub by_part : (P : SectionKind → Type 0) → All P contribution_kinds → P Str → P CuIndex → P TuIndex
@@ -44,16 +44,16 @@ each_passed test (x ∷ xs) e (suc k) d h =
 
 -- what is left of some tests, where the next one passes, and where it fails
 pub next_passes : {X : Type 0} (test : X → Result (Unit {0}) ErrorValue) (xs : List X) (i : ℕ)
-    (x : X) → i < length xs → x ≡ get_or xs i x → test x ≡ Ok tt
+    (d : X) → i < length xs → test (get_or xs i d) ≡ Ok tt
     → each test (drop i xs) ≡ each test (drop (i + 1) xs)
-next_passes test xs i x within at passes =
-    at_drop_more (each test) xs i x within ∙ rw (← at, passes) refl
+next_passes test xs i d within passes =
+    at_drop_more (each test) xs i d within ∙ rw passes refl
 
 pub next_fails : {X : Type 0} (test : X → Result (Unit {0}) ErrorValue) (xs : List X) (i : ℕ)
-    (x : X) (error : ErrorValue) → i < length xs → x ≡ get_or xs i x
-    → each test (drop i xs) ≡ each test xs → test x ≡ Err error → each test xs ≡ Err error
-next_fails test xs i x error within at left fails =
-    sym left ∙ at_drop_more (each test) xs i x within ∙ rw (← at, fails) refl
+    (d : X) (error : ErrorValue) → i < length xs → each test (drop i xs) ≡ each test xs
+    → test (get_or xs i d) ≡ Err error → each test xs ≡ Err error
+next_fails test xs i d error within left fails =
+    sym left ∙ at_drop_more (each test) xs i d within ∙ rw fails refl
 
 passed : (b : Bool) (error : ErrorValue) → ◌≡◌ {A = Result (Unit {0}) ErrorValue}
     (cond b (Ok tt) (Err error)) (Ok tt) → b ≡ true
@@ -118,7 +118,3 @@ have_passed encoding entries tests =
       sizes = rows_fit size_or_0 (codes "contribution size") entries refl
           (each_passed (parts_test size_test) entries offsets.2);
     }
-
-pub on_ok : {T E P : Type 0} (r : Result T E) → P → OnOk r P
-on_ok (Ok x) p = p
-on_ok (Err e) p = tt

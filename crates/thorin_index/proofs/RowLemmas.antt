@@ -1,18 +1,23 @@
 -- The rows of an index as they are held: what they stand for where more is shared.
-use Rattle.std.proofs.Common.{◌≡◌, ◌∙◌, suc, ◌<◌, ◌≤◌, List, [], ◌∷◌, ◌++◌, length, map, get_or}
-use Rattle.std.proofs.Common.{take, Some, Result, Ok, Err, ap, sym, refl, arith}
+use Rattle.std.proofs.Common.{◌≡◌, ◌∙◌, ℕ, suc, ◌+◌, ◌<◌, ◌≤◌, List, [], ◌∷◌, ◌++◌, length, map}
+use Rattle.std.proofs.Common.{get_or, take, Some, Result, Ok, Err, ap, sym, refl, arith}
 use Rattle.std.specs.Prelude.{All, OnErr, slice_get}
-use Rattle.std.proofs.lemmas.List.{get_or-take, length-take, map_push}
+use Rattle.std.proofs.lemmas.List.{get_or-take, get_or_default, length-take, map_push}
 use Rattle.std.proofs.lemmas.List.Elements.{All-push}
 use Rattle.std.proofs.lemmas.Option.{get_or_from_slice_get, slice_get_within}
+use Rattle.dwp_base.specs.declared.section.SectionKind.{SectionKind}
+use Rattle.dwp_table.specs.Columns.{contribution_kinds}
 use Rattle.dwp_table.specs.declared.object.DwarfObject.{DwarfObject}
 use Rattle.dwp_table.specs.Objects.{identifier_of}
 use Rattle.thorin_index.specs.declared.entry.IndexEntry.{IndexEntry}
 use Rattle.thorin_index.specs.declared.rows.Own.{Own}
 use Rattle.thorin_index.specs.declared.rows.Own.TheVariants.{Nothing, Info, Types}
 use Rattle.thorin_index.specs.declared.rows.Row.{Row}
+use Rattle.thorin_index.specs.Entries.{contribution_to, entry_by}
 use Rattle.thorin_index.specs.IndexText.{entry_ids}
 use Rattle.thorin_index.specs.Rows.{row_of, with_own, blank}
+use Rattle.thorin_index.proofs.Each.{by_part}
+use borrow.Author.Count.{below_more}
 
 -- a list that begins with another isn't shorter
 pub at_least : {A : Type 0} (front all : List A) → take (length front) all ≡ front
@@ -74,3 +79,26 @@ pub row_ids : (shared : List IndexEntry) (rows : List Row)
 row_ids shared [] = refl
 row_ids shared (row ∷ rows) =
     rw (own_id row.id row.own (get_or shared row.shared blank), row_ids shared rows) refl
+
+-- ---- entries that are the same
+
+abbrev SameAt : IndexEntry → IndexEntry → ℕ → Type 0
+SameAt a b k = (d : SectionKind) → contribution_to (get_or contribution_kinds k d) a
+    ≡ contribution_to (get_or contribution_kinds k d) b
+
+abbrev pub SameUpTo : ℕ → IndexEntry → IndexEntry → Type 0
+SameUpTo n a b = (k : ℕ) → k < n → SameAt a b k
+
+pub same_entries : (a b : IndexEntry) → a.encoding ≡ b.encoding → a.id ≡ b.id
+    → SameUpTo (length contribution_kinds) a b → a ≡ b
+same_entries a b encoding id same = λ i. entry_by (encoding i) (id i) (λ kind. by_part
+    (λ kind. contribution_to kind a ≡ contribution_to kind b) (λ k d less. same k less d)
+    refl refl refl kind i)
+
+-- and one contribution more
+pub one_more : (n : ℕ) (e : SectionKind) (a b : IndexEntry) → n < 10
+    → contribution_to (get_or contribution_kinds n e) a
+    ≡ contribution_to (get_or contribution_kinds n e) b
+    → SameUpTo n a b → SameUpTo (n + 1) a b
+one_more n e a b within last same =
+    below_more (SameAt a b) n same (λ d. rw (get_or_default contribution_kinds n d e within) last)

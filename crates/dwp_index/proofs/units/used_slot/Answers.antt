@@ -1,20 +1,32 @@
-use Rattle.std.proofs.Common.{ℕ, ◌+◌, ◌∷◌, get_or, ap, sym, ◌∙◌, arith}
+use Rattle.std.proofs.Common.{◌≡◌, suc, ◌+◌, ◌-◌, length, get_or, refl, sym, ◌∙◌, arith}
+use Rattle.std.proofs.lemmas.Bool.{ne_eqb}
 use Rattle.dwp_index.specs.Used.{used_in}
-use Rattle.dwp_index.proofs.UsedSlots.{used_here, used_after, used_none}
 use Rattle.dwp_index.proofs.units.used_slot.Goals as goal
 
 pub returns-then-row-ne0 : goal.returns-then-row-ne0
+unfolding used_in
 returns-then-row-ne0 c =
-    let rest = used_in c.args.index.now (c.loop-slot.slot + 1) in
-    sym c.loop-slot.invariant ∙ used_here c.args.index.now c.loop-slot.slot (omega arith) (λ e.
-    c.if-row-ne0.true (c.slot-signature.ensures.row ∙ e))
-    ∙ ap (λ (n : ℕ). (n, get_or c.args.index.now.rows c.loop-slot.slot 0) ∷ rest)
-    (sym c.slot-signature.ensures.signature) ∙ ap (λ (n : ℕ). (c.slot-signature.result.0, n) ∷
-    rest) (sym c.slot-signature.ensures.row)
+    let slot = c.loop-slot.slot in
+    let rows = c.args.index.now.rows in
+    let more : length rows - slot ≡ suc (length rows - (slot + 1)) = omega arith in
+    sym c.loop-slot.invariant ∙ rw (
+      more,
+      ne_eqb (get_or rows slot 0) 0 (λ e. c.if-row-ne0.true (c.slot-signature.ensures.row ∙ e)),
+      c.slot-signature.ensures.signature,
+      c.slot-signature.ensures.row,
+    ) refl
 
 pub loop-slot-preserved : goal.loop-slot-preserved
-loop-slot-preserved c = sym (used_after c.args.index.now c.loop-slot.slot (omega arith)
-    (sym c.slot-signature.ensures.row ∙ c.if-row-ne0.false)) ∙ c.loop-slot.invariant
+unfolding used_in
+loop-slot-preserved c =
+    let slot = c.loop-slot.slot in
+    let rows = c.args.index.now.rows in
+    let more : length rows - slot ≡ suc (length rows - (slot + 1)) = omega arith in
+    let unused : get_or rows slot 0 ≡ 0 = sym c.slot-signature.ensures.row ∙ c.if-row-ne0.false in
+    sym (rw (more, unused) refl) ∙ c.loop-slot.invariant
 
 pub returns : goal.returns
-returns c = sym c.loop-slot.invariant ∙ used_none c.args.index.now c.loop-slot.slot (omega arith)
+unfolding used_in
+returns c =
+    let none : length c.args.index.now.rows - c.loop-slot.slot ≡ 0 = omega arith in
+    sym c.loop-slot.invariant ∙ rw none refl

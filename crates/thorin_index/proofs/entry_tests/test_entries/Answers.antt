@@ -2,13 +2,13 @@ use Rattle.std.specs.Prelude.{codes}
 use Rattle.std.proofs.Common.{refl}
 use Rattle.std.proofs.lemmas.Result.{on_ok_weaker}
 use Rattle.thorin_index.specs.Entries.{offset_or_0, size_or_0}
-use Rattle.thorin_index.proofs.Each.{rows_fit, on_ok}
+use Rattle.thorin_index.proofs.Each.{rows_fit}
 use Rattle.thorin_index.proofs.entry_tests.test_entries.Goals as goal
 
 pub returns-clause-offsets : goal.returns-clause-offsets
-returns-clause-offsets c = on_ok c.test_entries-3.result
-    (rows_fit offset_or_0 (codes "contribution offset") c.args.rows.now refl
-    c.in_ok-test_entries-2.ensures.passed)
+returns-clause-offsets c = on_ok_weaker c.test_entries-3.result
+    (λ _. rows_fit offset_or_0 (codes "contribution offset") c.args.rows.now refl
+    c.in_ok-test_entries-2.ensures.passed) c.test_entries-3.ensures.passed
 
 pub returns-clause-sizes : goal.returns-clause-sizes
 returns-clause-sizes c = on_ok_weaker c.test_entries-3.result

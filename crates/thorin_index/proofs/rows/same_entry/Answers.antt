@@ -1,5 +1,5 @@
 use Rattle.std.proofs.Common.{◌∙◌, refl, sym, arith}
-use Rattle.thorin_index.proofs.SameEntry.{one_more, same_entries}
+use Rattle.thorin_index.proofs.RowLemmas.{one_more, same_entries}
 use Rattle.thorin_index.proofs.rows.same_entry.Goals as goal
 
 pub loop-kind-preserved : goal.loop-kind-preserved

@@ -1,23 +1,40 @@
-use Rattle.std.proofs.Common.{sym, ap, ◌∙◌}
+use Rattle.std.proofs.Common.{◌≡◌, ℕ, ◌+◌, ◌≤◌, List, length, sym, ap, ◌∙◌}
+use Rattle.std.specs.Prelude.{Some}
 use Rattle.std.specs.Option.{option_copied}
-use Rattle.dwp_index.proofs.PackageLookUp.{within_slots, exactly, few}
+use Rattle.dwp_table.specs.Objects.{identifier_of}
+use Rattle.dwp_table.specs.Table.{IsIndex, FindsExactly}
+use Rattle.dwp_index.specs.Finding.{slots_for}
+use Rattle.dwp_index.specs.Index.{Index}
+use Rattle.dwp_index.specs.Package.{index_for}
+use Rattle.dwp_index.proofs.PackageLookUp.{answered, slots_of}
 use Rattle.dwp_index.proofs.package.PackageFile.find_counted.Goals as goal
 
 pub returns-in-Some-found-clause-bound : goal.returns-in-Some-found-clause-bound
 returns-in-Some-found-clause-bound c =
-    within_slots c.args.self.now c.args.object c.in-Some.index.now c.in-Some-found.number
-    c.find_counted-found.result.1 (sym c.index_for.ensures ∙ ap option_copied c.in-Some.is)
-    c.unit_at_row.result c.unit_at_row.ensures c.find_counted-found.ensures.bound
+    answered c.args.self.now c.args.object c.in-Some.index.now c.in-Some-found.number
+    c.find_counted-found.result.1 (λ row n. n ≤ slots_for c.args.self.now c.args.object)
+    c.unit_at_row.result c.unit_at_row.ensures
+    (rw (← c.index_for.ensures, c.in-Some.is) c.find_counted-found.ensures.bound)
 
 pub returns-in-Some-found-clause-exact : goal.returns-in-Some-found-clause-exact
 returns-in-Some-found-clause-exact c =
-    exactly c.args.self.now c.args.object c.in-Some.index.now c.in-Some-found.number
-    c.find_counted-found.result.1 (sym c.index_for.ensures ∙ ap option_copied c.in-Some.is)
-    c.index.result c.find_counted-found.result.0 c.unit_at_row.result c.index.ensures
-    c.in-Some-found.is c.find_counted-found.ensures.exact c.unit_at_row.ensures
+    answered c.args.self.now c.args.object c.in-Some.index.now c.in-Some-found.number
+    c.find_counted-found.result.1 (λ row n. (ids : List ℕ) (index : Index)
+    → index_for c.args.self.now c.args.object ≡ Some index
+    → IsIndex ids index.signatures index.rows
+    → FindsExactly ids (identifier_of c.args.object) row n)
+    c.unit_at_row.result c.unit_at_row.ensures
+    (slots_of c.args.self.now c.args.object _ _
+    (sym c.index_for.ensures ∙ ap option_copied c.in-Some.is)
+    (rw (← c.in-Some-found.is, ← c.index.ensures) c.find_counted-found.ensures.exact))
 
 pub returns-in-Some-found-clause-few : goal.returns-in-Some-found-clause-few
 returns-in-Some-found-clause-few c =
-    few c.args.self.now c.args.object c.in-Some.index.now c.in-Some-found.number
-    c.find_counted-found.result.1 (sym c.index_for.ensures ∙ ap option_copied c.in-Some.is)
-    c.unit_at_row.result c.find_counted-found.ensures.few c.unit_at_row.ensures
+    answered c.args.self.now c.args.object c.in-Some.index.now c.in-Some-found.number
+    c.find_counted-found.result.1 (λ row n. (ids : List ℕ) (index : Index)
+    → index_for c.args.self.now c.args.object ≡ Some index
+    → IsIndex ids index.signatures index.rows → n ≤ length ids + 1)
+    c.unit_at_row.result c.unit_at_row.ensures
+    (slots_of c.args.self.now c.args.object _ _
+    (sym c.index_for.ensures ∙ ap option_copied c.in-Some.is)
+    c.find_counted-found.ensures.few)

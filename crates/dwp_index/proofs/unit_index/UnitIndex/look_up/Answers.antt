@@ -1,9 +1,6 @@
-use Rattle.std.proofs.Common.{◌+◌, sym, ap, ◌∙◌, arith}
-use Rattle.dwp_table.specs.Probing.{place, row_of}
-use Rattle.dwp_index.proofs.LookUp.{unused_ends, found_ends, other_goes_on, end-start, end-on}
-use Rattle.dwp_index.proofs.LookUp.{ended, unended}
-use Rattle.dwp_index.proofs.LookUp.{row_of-used}
-use Rattle.dwp_index.proofs.Views.{slots-length}
+use Rattle.std.proofs.Common.{sym, ap, ◌∙◌, inl, inr, arith}
+use Rattle.dwp_table.specs.Probing.{row_of}
+use Rattle.dwp_index.proofs.Views.{end-start, end-on, ended, unended, row_of-used, slots-length}
 use Rattle.dwp_index.proofs.unit_index.UnitIndex.look_up.Goals as goal
 
 pub returns-then-self-eq0 : goal.returns-then-self-eq0
@@ -16,12 +13,11 @@ returns-then-self-eq0 c =
 
 pub loop-looked-init : goal.loop-looked-init
 loop-looked-init c =
-    let v = c.args.self.now in
-    let slots = slots-length c.self.inside v c.self.view_is in
+    let slots = slots-length c.self.inside c.args.self.now c.self.view_is in
     record {
-      at_place = c.first_place-at.ensures.first ∙ ap (λ n. place n c.args.identifier 0) (sym slots);
+      at_place = rw slots c.first_place-at.ensures.first;
       within = omega (arith, c.first_place-at.ensures.within);
-      rest = end-start v.signatures v.rows c.args.identifier;
+      rest = end-start _ _ _;
     }
 
 pub returns-then-row-eq0 : goal.returns-then-row-eq0
@@ -30,8 +26,7 @@ returns-then-row-eq0 c =
     let slots = slots-length c.self.inside v c.self.view_is in
     let unused = sym c.slot-signature.ensures.row ∙ c.if-row-eq0.true in
     let end = ended v.signatures v.rows c.args.identifier c.loop-looked.looked c.loop-looked.at
-    (omega arith) c.loop-looked.invariant.rest c.loop-looked.invariant.at_place
-    (unused_ends v.signatures v.rows c.args.identifier c.loop-looked.at unused) in
+    (omega arith) c.loop-looked.invariant.rest c.loop-looked.invariant.at_place (inl unused) in
     record { row = sym (end.0 ∙ ap row_of unused); count = sym end.1 }
 
 pub returns-then-signature-identifier : goal.returns-then-signature-identifier
@@ -40,8 +35,7 @@ returns-then-signature-identifier c =
     let slots = slots-length c.self.inside v c.self.view_is in
     let end = ended v.signatures v.rows c.args.identifier c.loop-looked.looked c.loop-looked.at
     (omega arith) c.loop-looked.invariant.rest c.loop-looked.invariant.at_place
-    (found_ends v.signatures v.rows c.args.identifier c.loop-looked.at
-    (sym c.slot-signature.ensures.signature ∙ c.if-signature-identifier.true)) in
+    (inr (sym c.slot-signature.ensures.signature ∙ c.if-signature-identifier.true)) in
     record {
       row = sym (end.0 ∙ ap row_of (sym c.slot-signature.ensures.row)
           ∙ row_of-used c.slot-signature.result.1 c.if-row-eq0.false);
@@ -49,24 +43,23 @@ returns-then-signature-identifier c =
     }
 
 pub place_after-at-requires-clause-within : goal.place_after-at-requires-clause-within
-place_after-at-requires-clause-within c = let slots = slots-length c.self.inside c.args.self.now
-    c.self.view_is in omega (arith, c.loop-looked.invariant.within)
+place_after-at-requires-clause-within c = omega (
+  arith,
+  c.loop-looked.invariant.within,
+  slots-length c.self.inside c.args.self.now c.self.view_is,
+)
 
 pub loop-looked-preserved : goal.loop-looked-preserved
 loop-looked-preserved c =
-    let v = c.args.self.now in
-    let slots = slots-length c.self.inside v c.self.view_is in
-    let other = other_goes_on v.signatures v.rows c.args.identifier c.loop-looked.at (λ e.
-    c.if-row-eq0.false (c.slot-signature.ensures.row ∙ e)) (λ e. c.if-signature-identifier.false
-    (c.slot-signature.ensures.signature ∙ e)) in
+    let slots = slots-length c.self.inside c.args.self.now c.self.view_is in
     record {
-      at_place = c.place_after-at.ensures.next c.loop-looked.looked
-          (c.loop-looked.invariant.at_place ∙ ap (λ n. place n c.args.identifier
-          c.loop-looked.looked) slots) ∙ ap (λ n. place n c.args.identifier (c.loop-looked.looked +
-          1)) (sym slots);
+      at_place = rw slots (c.place_after-at.ensures.next c.loop-looked.looked
+          (rw slots at c.loop-looked.invariant.at_place));
       within = omega (arith, c.place_after-at.ensures.within);
-      rest = end-on v.signatures v.rows c.args.identifier c.loop-looked.looked c.loop-looked.at
-          (omega arith) c.loop-looked.invariant.rest c.loop-looked.invariant.at_place other;
+      rest = end-on _ _ _ c.loop-looked.looked c.loop-looked.at (omega arith)
+          c.loop-looked.invariant.rest c.loop-looked.invariant.at_place
+          (λ e. c.if-row-eq0.false (c.slot-signature.ensures.row ∙ e))
+          (λ e. c.if-signature-identifier.false (c.slot-signature.ensures.signature ∙ e));
     }
 
 pub returns : goal.returns

@@ -1,6 +1,6 @@
 use Rattle.std.proofs.Common.{◌≡◌, ◌<◌, length}
 use Rattle.dwp_table.specs.Probing.{place, first_end}
-use Rattle.dwp_index.proofs.LookUp.{end_from}
+use Rattle.dwp_index.proofs.Views.{end_from}
 use Rattle.dwp_index.proofs.unit_index.UnitIndex.look_up.Given as goal
 
 abbrev pub invariant-loop-looked : goal.invariant-loop-looked

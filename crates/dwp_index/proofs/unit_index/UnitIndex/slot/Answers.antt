@@ -1,5 +1,4 @@
-use Rattle.std.proofs.Common.{get_or, sym, ap, ◌∙◌, arith}
-use Rattle.dwp_index.specs.Index.{Index}
+use Rattle.std.proofs.Common.{sym, ◌∙◌, arith}
 use Rattle.dwp_index.proofs.NumberLists.{get_or-numbers}
 use Rattle.dwp_index.proofs.Views.{slots-length}
 use Rattle.dwp_index.proofs.unit_index.UnitIndex.slot.Goals as goal
@@ -17,11 +16,11 @@ read_u32_at-requires c =
 pub returns-clause-signature : goal.returns-clause-signature
 returns-clause-signature c =
     let slots = slots-length c.self.inside c.args.self.now c.self.view_is in
-    c.read_u64_at.ensures ∙ sym (get_or-numbers _ 8 c.self.inside.slot_count _ c.args.slot 0
-    (omega arith)) ∙ ap (λ (i : Index). get_or i.signatures c.args.slot 0) c.self.view_is
+    c.read_u64_at.ensures ∙ rw (← c.self.view_is) (sym (get_or-numbers c.self.inside.order 8
+    c.self.inside.slot_count c.self.inside.signatures.now c.args.slot 0 (omega arith)))
 
 pub returns-clause-row : goal.returns-clause-row
 returns-clause-row c =
     let slots = slots-length c.self.inside c.args.self.now c.self.view_is in
-    c.read_u32_at.ensures ∙ sym (get_or-numbers _ 4 c.self.inside.slot_count _ c.args.slot 0
-    (omega arith)) ∙ ap (λ (i : Index). get_or i.rows c.args.slot 0) c.self.view_is
+    c.read_u32_at.ensures ∙ rw (← c.self.view_is) (sym (get_or-numbers c.self.inside.order 4
+    c.self.inside.slot_count c.self.inside.rows.now c.args.slot 0 (omega arith)))

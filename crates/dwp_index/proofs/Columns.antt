@@ -1,0 +1,204 @@
+-- Reading one column after the other, and where columns stand, by the numbers that say it.
+use Rattle.std.proofs.Common.{◌≡◌, ℕ, suc, ◌+◌, ◌-◌, ◌*◌, ◌<◌, ◌≤◌, true, false, eqb, ltb, List}
+use Rattle.std.proofs.Common.{length, drop, refl, arith, Bool, cond, [], ◌∷◌, ◌++◌, map, sym, ap}
+use Rattle.std.proofs.Common.{◌∙◌, eq-eqb, add-zero, zero-add}
+use Rattle.std.specs.Prelude.{is_none, Result, Ok, Err, Option, Some, None, is_some, unwrap_or}
+use Rattle.std.specs.List.{list_any, find, position_from}
+use Rattle.std.proofs.lemmas.Bool.{lt-ltb, le-ltb, ne_eqb, eqb-true, false≢true}
+use Rattle.std.proofs.lemmas.List.{drop-drop, length-drop}
+use Rattle.dwp_base.specs.declared.endian.Endianness.{Endianness}
+use Rattle.dwp_base.specs.Numbers.{number}
+use Rattle.dwp_bytes.specs.declared.error.ReadError.{ReadError}
+use Rattle.dwp_bytes.specs.declared.error.ReadError.TheVariants.{UnexpectedEof, UnknownColumn}
+use Rattle.dwp_bytes.specs.declared.error.ReadError.TheVariants.{RepeatedColumn}
+use Rattle.dwp_table.specs.Columns.{kind_of_column, standard_column, gnu_column, column_of}
+use Rattle.dwp_table.specs.Columns.{is_number, kind_with, contribution_kinds}
+use Rattle.dwp_index.specs.IndexBytes.{numbers, new_column, columns_at}
+use Rattle.dwp_index.proofs.NumberLists.{numbers_more, is_some-position}
+use Rattle.std.proofs.lemmas.Option.{same_Some}
+use Rattle.std.specs.Option.{option_and_then, option_or}
+use Rattle.dwp_base.specs.Sections.{all_kinds, same_kind}
+use Rattle.dwp_base.proofs.Bools.{by-bool}
+use Rattle.dwp_base.proofs.EveryKind.{same-each, is-same, same-self}
+use Rattle.dwp_base.specs.declared.section.SectionKind.{SectionKind}
+use Rattle.dwp_index.specs.Index.{column_place}
+use Rattle.dwp_index.specs.Places.{NO_COLUMN, IsPlace, ArePlaces, place_held}
+use Rattle.dwp_base.specs.declared.by_kind.ByKind.{ByKind}
+
+-- what reading the columns gives behind the first i of them
+abbrev pub Behind : Endianness → ℕ → List ℕ → ℕ → ℕ → Result (List ℕ × List ℕ) ReadError
+Behind order version bytes count i =
+    columns_at order version (numbers order 4 i bytes) (count - i) (drop (4 * i) bytes)
+
+module _ (order : Endianness) (version : ℕ) (bytes : List ℕ) (count i : ℕ) where
+  pub done : count ≤ i
+      → Behind order version bytes count i ≡ Ok (numbers order 4 i bytes, drop (4 * i) bytes)
+  unfolding columns_at
+  done h = let none : count - i ≡ 0 = omega arith in rw none refl
+
+  -- at a further column
+  module _ (h : i < count) where
+    more : count - i ≡ suc (count - (i + 1))
+    more = omega arith
+
+    pub ends : length bytes < 4 * i + 4 → Behind order version bytes count i ≡ Err UnexpectedEof
+    unfolding columns_at
+    ends short =
+        rw (more, lt-ltb (length (drop (4 * i) bytes)) 4 (omega (arith, length-drop (4 * i) bytes)))
+        refl
+
+    module _ (enough : 4 * i + 4 ≤ length bytes) where
+      there : ltb (length (drop (4 * i) bytes)) 4 ≡ false
+      there = le-ltb (length (drop (4 * i) bytes)) 4 (omega (arith, length-drop (4 * i) bytes))
+
+      pub unknown : is_none (kind_of_column version (number order 4 (drop (4 * i) bytes))) ≡ true
+          → Behind order version bytes count i ≡ Err UnknownColumn
+      unfolding columns_at new_column
+      unknown e = rw (more, there, e) refl
+
+      -- a column that the version has
+      module _ (known : is_none (kind_of_column version (number order 4 (drop (4 * i) bytes)))
+          ≡ false) where
+        pub repeated : list_any (λ c. eqb c (number order 4 (drop (4 * i) bytes)))
+            (numbers order 4 i bytes) ≡ true
+            → Behind order version bytes count i ≡ Err RepeatedColumn
+        unfolding columns_at new_column
+        repeated e = rw (more, there, known, e) refl
+
+        pub goes_on : list_any (λ c. eqb c (number order 4 (drop (4 * i) bytes)))
+            (numbers order 4 i bytes) ≡ false
+            → Behind order version bytes count i ≡ Behind order version bytes count (i + 1)
+        unfolding columns_at new_column
+        goes_on e =
+            let next : 4 * (i + 1) ≡ 4 * i + 4 = omega arith in
+            rw (more, there, known, e, numbers_more order 4 i bytes, next, drop-drop) refl
+
+-- ---- the numbers of columns: each is that of one section
+abbrev again : (SectionKind → Option ℕ) → SectionKind → Option SectionKind
+again column kind =
+    cond (is_some (column kind)) (kind_with column (unwrap_or (column kind) 0)) (Some kind)
+
+one_of : (column : SectionKind → Option ℕ) → map (again column) all_kinds ≡ map Some all_kinds
+    → (n : ℕ) (a b : SectionKind) → column a ≡ Some n → column b ≡ Some n → a ≡ b
+one_of column all n a b e f = same_Some a b (sym (rw e at (same-each (again column) Some all a))
+    ∙ rw f at (same-each (again column) Some all b))
+
+one_section : (version n : ℕ) (a b : SectionKind) → column_of version a ≡ Some n
+    → column_of version b ≡ Some n → a ≡ b
+one_section version n a b e f = by-bool (a ≡ b) (eqb version 5)
+    (λ five. one_of standard_column refl n a b (rw five at e) (rw five at f))
+    (λ two. one_of gnu_column refl n a b (rw two at e) (rw two at f))
+
+-- the section of a number has that number
+is_number_of : (o : Option ℕ) (n : ℕ) → is_number o n ≡ true → o ≡ Some n
+is_number_of None n e = absurd cc
+is_number_of (Some c) n e = ap Some (eqb-true c n e)
+
+with_number : (column : SectionKind → Option ℕ) (n : ℕ) (kinds : List SectionKind)
+    (kind : SectionKind) → find (λ k. is_number (column k) n) kinds ≡ Some kind
+    → column kind ≡ Some n
+with_number column n [] kind e = absurd cc
+with_number column n (k ∷ ks) kind e = by-bool (column kind ≡ Some n) (is_number (column k) n)
+    (λ here. let same = same_Some k kind (rw here at e) in
+    ap column (sym same) ∙ is_number_of (column k) n here)
+    (λ other. with_number column n ks kind (rw other at e))
+
+number_of_kind : (version n : ℕ) (kind : SectionKind) → kind_of_column version n ≡ Some kind
+    → column_of version kind ≡ Some n
+number_of_kind version n kind e = by-bool (column_of version kind ≡ Some n) (eqb version 5)
+    (λ five. rw five (with_number standard_column n contribution_kinds kind (rw five at e)))
+    (λ two. rw two (with_number gnu_column n contribution_kinds kind (rw two at e)))
+
+-- ---- what the number of a place says
+pub says_none : (count held n : ℕ) (o : Option ℕ) → IsPlace count held o → n ≡ held
+    → n ≡ NO_COLUMN → o ≡ None
+says_none count held n None is e none = refl
+says_none count held n (Some i) is e none = absurd (omega (arith, is.0, is.2))
+
+pub says_some : (count held n : ℕ) (o : Option ℕ) → IsPlace count held o → n ≡ held
+    → (n ≡ NO_COLUMN → ⊥) → (o ≡ Some n) × (n < count)
+says_some count held n None is e other = absurd (other (e ∙ is))
+says_some count held n (Some i) is e other = (ap Some (sym (e ∙ is.0)), omega (arith, is.0, is.1))
+
+-- ---- one more column
+-- the place in a list with one number more
+position_push : (test : ℕ → Bool) (i : ℕ) (xs : List ℕ) (n : ℕ)
+    → position_from test i (xs ++ n ∷ [])
+    ≡ option_or (position_from test i xs) (cond (test n) (Some (i + length xs)) None)
+position_push test i [] n = rw add-zero refl
+position_push test i (x ∷ xs) n =
+    let count : i + 1 + length xs ≡ i + length (x ∷ xs) = omega arith in
+    by-bool _ (test x) (λ here. rw here refl)
+    (λ other. rw (other, position_push test (i + 1) xs n, count) refl)
+
+or_none : (o : Option ℕ) → option_or o None ≡ o
+or_none None = refl
+or_none (Some i) = refl
+
+abbrev place_of : Option ℕ → List ℕ → Option ℕ
+place_of number columns = option_and_then (λ c. position_from (λ n. eqb n c) 0 columns) number
+
+-- the number of a section's column has no place just where the section has none
+number_place : (version n : ℕ) (columns : List ℕ) (kind : SectionKind)
+    → kind_of_column version n ≡ Some kind
+    → column_place version columns kind ≡ position_from (λ x. eqb x n) 0 columns
+unfolding column_place
+number_place version n columns kind e = rw (number_of_kind version n kind e) refl
+
+wider : (count held : ℕ) (o : Option ℕ) → IsPlace count held o → IsPlace (count + 1) held o
+wider count held None is = is
+wider count held (Some i) is = (is.0, omega (arith, is.1), is.2)
+
+same_place : (version n : ℕ) (columns : List ℕ) (kind : SectionKind)
+    → (column_of version kind ≡ Some n → ⊥)
+    → column_place version (columns ++ n ∷ []) kind ≡ column_place version columns kind
+unfolding column_place
+same_place version n columns kind = go (column_of version kind)
+  where
+    go : (o : Option ℕ) → (o ≡ Some n → ⊥)
+        → place_of o (columns ++ n ∷ []) ≡ place_of o columns
+    go None other = refl
+    go (Some c) other = position_push (λ x. eqb x c) 0 columns n
+        ∙ rw (ne_eqb n c (λ e. other (ap Some (sym e)))) (or_none _)
+
+-- where columns stand once there is one more, of a section that had none
+pub one_more : (old new : ByKind ℕ) (version count n : ℕ) (columns more : List ℕ)
+    (kind : SectionKind) → more ≡ columns ++ n ∷ [] → length columns ≡ count → count < NO_COLUMN
+    → ArePlaces old version count columns → kind_of_column version n ≡ Some kind
+    → place_held old kind ≡ NO_COLUMN → ((other : SectionKind) → place_held new other ≡ cond
+    (same_kind other kind) count (place_held old other)) → ArePlaces new version (count + 1) more
+one_more old new version count n columns more kind longer long small are named none put other =
+    let number = number_of_kind version n kind named in
+    let absent : position_from (λ x. eqb x n) 0 columns ≡ None =
+    sym (number_place version n columns kind named) ∙ says_none count (place_held old kind)
+    (place_held old kind) (column_place version columns kind) (are kind) refl none in
+    let found : column_place version (columns ++ n ∷ []) kind ≡ Some count =
+    number_place version n (columns ++ n ∷ []) kind named
+    ∙ position_push (λ x. eqb x n) 0 columns n
+    ∙ rw (absent, eq-eqb n n refl, zero-add, long) refl in
+    rw longer (by-bool (IsPlace (count + 1) (place_held new other)
+    (column_place version (columns ++ n ∷ []) other)) (same_kind other kind)
+    (λ e. let same = is-same other kind e in
+    rw (put other, e, same, found) (refl, omega arith, small))
+    (λ e. let apart : (column_of version other ≡ Some n → ⊥) =
+    λ f. false≢true (sym e ∙ ap (λ k. same_kind k kind)
+    (one_section version n other kind f number) ∙ same-self kind) in
+    rw (put other, e, same_place version n columns other apart)
+    (wider count (place_held old other) (column_place version columns other) (are other))))
+
+no_place : (o : Option ℕ) → place_of o [] ≡ None
+no_place None = refl
+no_place (Some c) = refl
+
+-- there are no columns yet
+pub none_yet : (p : ByKind ℕ) (version : ℕ) → ((kind : SectionKind) → place_held p kind ≡ NO_COLUMN)
+    → ArePlaces p version 0 []
+unfolding column_place
+none_yet p version none kind = rw (no_place (column_of version kind)) (none kind)
+
+-- a number is among the columns just where its section's column has a place
+pub among : (version n : ℕ) (columns : List ℕ) (kind : SectionKind)
+    → kind_of_column version n ≡ Some kind
+    → list_any (λ x. eqb x n) columns ≡ is_some (column_place version columns kind)
+among version n columns kind named = sym (is_some-position (λ x. eqb x n) 0 columns)
+    ∙ ap is_some (sym (number_place version n columns kind named))
