@@ -78,9 +78,9 @@ one_fewer n xs has =
       once = λ k l some same. elim (read k) [
         | inl e ↦ absurd (omega (arith, e.1, some))
         | inr one ↦ elim (read l) [
-            | inl e ↦ absurd (omega (arith, e.1, some, same))
-            | inr two ↦ has.once k l (omega (arith, one.1, some)) (sym one.1 ∙ same ∙ two.1)
-          ]
+          | inl e ↦ absurd (omega (arith, e.1, some, same))
+          | inr two ↦ has.once k l (omega (arith, one.1, some)) (sym one.1 ∙ same ∙ two.1)
+        ]
       ];
     }
 

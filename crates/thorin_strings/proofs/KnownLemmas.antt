@@ -151,8 +151,14 @@ module _ (order : Endianness) (encoding : Encoding) (section bytes : List ℕ) w
     unfolding remapped
     remapped_refuses size count width header is_count is_width some fits has_header less =
         let header_fits = le-ltb size (header_size encoding) fits in
-        rw (ne_eqb size 0 some, header_fits, ← is_count, ← is_width, has_header,
-        entries_fail count less) refl
+        rw (
+          ne_eqb size 0 some,
+          header_fits,
+          ← is_count,
+          ← is_width,
+          has_header,
+          entries_fail count less,
+        ) refl
 
 module _ (encoding : Encoding) (form : encoding.format ≡ Dwarf32) where
   -- one more entry of four bytes is rewritten in its place

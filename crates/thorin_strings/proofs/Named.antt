@@ -113,7 +113,7 @@ read_later ss final s kept free h =
     let there = there_later ss final s kept h in
     let begins = begins_there final s free there.0 in
     let stands = stands_there final s there.0 in
-    let ended : list_any (λ b. eqb b 0) (s ++ 0 ∷ stands.0) ≡ true = 
+    let ended : list_any (λ b. eqb b 0) (s ++ 0 ∷ stands.0) ≡ true =
     list_any-append (λ b. eqb b 0) s (0 ∷ stands.0) ∙ or_right (list_any _ s) true refl in
     rw (
       ← there.1,

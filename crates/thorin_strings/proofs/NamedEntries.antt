@@ -67,12 +67,16 @@ module _ (order : Endianness) (encoding : Encoding) (section bytes : List ℕ) w
       let fit = bind-was (fitting_offset encoding.format (offset_of strings named.0)) _ _ named.2 in
       let fits = guard-ok (ltb (offset_limit encoding.format) _) _ _ fit.0 fit.1 in
       let next = used strings named.0 table (named_free index named.0 named.1) in
-      rw (← same-ok _ _ fit.2) (next.table, next.kept, record {
-        string = named.0;
-        old = named.1;
-        there = (next.there, next.offset ∙ fits.1);
-        fits = omega (arith, ltb-false _ _ fits.0, fits.1);
-      })
+      rw (← same-ok _ _ fit.2) (
+        next.table,
+        next.kept,
+        record {
+          string = named.0;
+          old = named.1;
+          there = (next.there, next.offset ∙ fits.1);
+          fits = omega (arith, ltb-false _ _ fits.0, fits.1);
+        },
+      )
 
   -- so many first entries
   pub record EntriesKeep (n : ℕ) (before : List (List ℕ)) (offsets : List ℕ)

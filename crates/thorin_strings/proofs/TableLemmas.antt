@@ -218,8 +218,13 @@ indexed_take bytes positions n m table long =
     let there = All-filter (λ p. ltb p m) (λ p. Contains (offsets_from 0 ss) p) positions
     table.begun i d within in
     let end = 0 + length (data_of front) in
-    rw strings (⊎_elim (λ here. here) (λ far. absurd (omega (arith, low, long, All-contains
-    (λ p. end ≤ p) (offsets_from end back) _ (offsets_from-above end back) far)))
+    rw strings (⊎_elim (λ here. here) (λ far. absurd (omega (
+      arith,
+      low,
+      long,
+      All-contains
+          (λ p. end ≤ p) (offsets_from end back) _ (offsets_from-above end back) far,
+    )))
     (Contains-append_cases (offsets_from 0 front) _ _ (rw parted at there))) in
     let agree = rw (take-append-drop m bytes)
     at (agree_longer short (drop m bytes) few whole begun) in (

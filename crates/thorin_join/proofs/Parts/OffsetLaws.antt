@@ -2,7 +2,7 @@
 -- so is the range of each row of a package.
 use Rattle.std.proofs.Common.{◌≡◌, ℕ, List, length, Option, Ok}
 use Rattle.thorin_join.proofs.Terms.{Encoding, Endianness, Index, IsTable}
-use Rattle.thorin_strings.proofs.NamedBytes.{range_named}
+use Rattle.thorin_strings.proofs.NamedEntries.{range_named}
 use Rattle.thorin_packaged.specs.PackagedOffsets.{packaged_offsets}
 use Rattle.thorin_packaged.specs.PackagedReading.{PackageReadsAlike}
 use Rattle.thorin_packaged.proofs.ReadAlike.{AlikeLaw, package_reads_alike}

@@ -9,7 +9,7 @@ use Rattle.dwp_dwarf.specs.declared.unit.UnitSection.TheVariants as places
 use Rattle.dwp_dwarf.specs.Units.{Unit as Header, units, unit_bytes}
 use Rattle.dwp_dwarf.proofs.UnitLists.{unit_taken}
 use Rattle.dwp_index.specs.Package.{encoding_in}
-use Rattle.dwp_index.proofs.UnitAlone.{units_alone}
+use Rattle.dwp_index.proofs.TwoPlaces.{units_alone}
 use Rattle.thorin_errors.specs.Errors.{NotSplitUnit}
 use Rattle.thorin_identity.specs.Identity.{identity}
 use Rattle.thorin_join.specs.Meaning.{named_unit, named_each}

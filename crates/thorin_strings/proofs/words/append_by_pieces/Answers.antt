@@ -15,6 +15,11 @@ loop-at-preserved c =
     let end : at + (next - at) ≡ next = omega (arith, bounds.0) in
     record {
       within = bounds.1;
-      so_far = rw (c.in_ok-extend_from_slice.ensures.items, c.loop-at.invariant.so_far,
-          append_assoc, ← take-add at (next - at) bytes, end) refl;
+      so_far = rw (
+        c.in_ok-extend_from_slice.ensures.items,
+        c.loop-at.invariant.so_far,
+        append_assoc,
+        ← take-add at (next - at) bytes,
+        end,
+      ) refl;
     }
