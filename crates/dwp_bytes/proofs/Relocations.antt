@@ -1,9 +1,10 @@
 -- An ascending list of relocations is searched by halves.
 use Rattle.std.proofs.Common.{◌≡◌, ◌≢◌, inl, inr, ℕ, zero, suc, ◌<◌, ◌≤◌, true, false, eqb, List}
-use Rattle.std.proofs.Common.{[], ◌∷◌, length, get_or, Some, None, Ok, Err, refl, arith}
+use Rattle.std.proofs.Common.{[], ◌∷◌, length, get_or, Some, None, Ok, Err, refl, arith, sym, ◌∙◌}
 use Rattle.std.proofs.lemmas.Bool.{ltb-true, cases_lt}
 use Rattle.std.proofs.lemmas.Bool.Decides.{nat_tests}
 use Rattle.std.specs.Ordering.{nat_cmp, ordering_index}
+use Rattle.std.specs.declared.cmp.Ordering.{Ordering}
 use Rattle.std.specs.declared.cmp.Ordering.TheVariants.{Less, Equal, Greater}
 use Rattle.std.specs.List.Sorted.{IsBinarySearchResult, IsNonDecreasingBy}
 use Rattle.dwp_bytes.specs.declared.relocation.RelocationEntry.{RelocationEntry}
@@ -55,22 +56,13 @@ missing (x ∷ xs) offset nowhere =
     let e : eqb x.offset offset ≡ false = grind (arith, nat_tests) in
     rw e (missing xs offset (λ k d lt. nowhere (suc k) d (omega arith)))
 
-index_rises : (a b offset : ℕ) → a ≤ b → ordering_index (nat_cmp a offset) ≤ ordering_index
-    (nat_cmp b offset)
-index_rises a b offset le = grind (arith, nat_tests)
-
-equal_at : (a b : ℕ) → nat_cmp a b ≡ Equal → a ≡ b
-equal_at a b e = grind (arith, nat_tests)
-
-less_at : (a b : ℕ) → nat_cmp a b ≡ Less → a ≢ b
-less_at a b e = grind (arith, nat_tests)
-
-greater_at : (a b : ℕ) → nat_cmp a b ≡ Greater → a ≢ b
-greater_at a b e = grind (arith, nat_tests)
+not_equal : (a b : ℕ) (o : Ordering) → nat_cmp a b ≡ o → (o ≡ Equal → ⊥) → a ≢ b
+not_equal a b o is other same = other (sym is ∙ grind (arith, nat_tests))
 
 searchable : (xs : List RelocationEntry) (offset : ℕ) → ascends xs ≡ true → IsNonDecreasingBy (λ y.
     ordering_index (nat_cmp y.offset offset)) xs
-searchable xs offset ordered = λ i j d le lt. index_rises _ _ offset (rising xs i j d ordered le lt)
+searchable xs offset ordered = λ i j d le lt.
+    (let rises = rising xs i j d ordered le lt in grind (arith, nat_tests))
 
 pub searched_Ok : (xs : List RelocationEntry) (offset stored i : ℕ) (d : RelocationEntry)
     → ascends xs ≡ true → i < length xs → IsBinarySearchResult (λ y.
@@ -78,7 +70,9 @@ pub searched_Ok : (xs : List RelocationEntry) (offset stored i : ℕ) (d : Reloc
     → value_of (get_or xs i d).relocation stored ≡ relocated_by xs offset stored
 unfolding relocated_by
 searched_Ok xs offset stored i d ordered lt h =
-    rw (found xs i offset d ordered lt (equal_at _ _ (h d))) refl
+    let here = h d in
+    let at : (get_or xs i d).offset ≡ offset = grind (arith, nat_tests) in
+    rw (found xs i offset d ordered lt at) refl
 
 pub searched_Err : (xs : List RelocationEntry) (offset stored i : ℕ) → ascends xs ≡ true
     → IsBinarySearchResult (λ y. nat_cmp y.offset offset) xs (Err i) → stored ≡ relocated_by
@@ -86,9 +80,7 @@ pub searched_Err : (xs : List RelocationEntry) (offset stored i : ℕ) → ascen
 unfolding relocated_by
 searched_Err xs offset stored i ordered h =
     let parts = h (searchable xs offset ordered) in
-    let nowhere : (k : ℕ) (d : RelocationEntry) → k < length xs → (get_or xs k d).offset ≢ offset =
-    λ k d lt. elim (cases_lt k i) [
-      | inl low ↦ less_at _ _ (parts.0 k d (omega arith) low)
-      | inr high ↦ greater_at _ _ (parts.1 k d high lt)
-    ] in
-    rw (missing xs offset nowhere) refl
+    rw (missing xs offset (λ k d lt. elim (cases_lt k i) [
+      | inl low ↦ not_equal _ _ Less (parts.0 k d (omega arith) low) (λ e. absurd cc)
+      | inr high ↦ not_equal _ _ Greater (parts.1 k d high lt) (λ e. absurd cc)
+    ])) refl

@@ -1,19 +1,105 @@
 -- Sections that are compared.
-use Rattle.std.proofs.Common.{◌≡◌, ℕ, zero, suc, ◌+◌, ◌<◌, ◌≤◌, Bool, true, false, List, [], ◌∷◌}
-use Rattle.std.proofs.Common.{◌++◌, length, take, drop, map, get_or, Some, None, Option, Ok, Err}
-use Rattle.std.proofs.Common.{sym, ap, ◌∙◌, refl, arith, cond}
+use Rattle.std.proofs.Common.{◌≡◌, ℕ, ◌+◌, ◌<◌, ◌≤◌, true, false, List, ◌++◌, length, take, drop}
+use Rattle.std.proofs.Common.{get_or, Some, None, Option, Ok, Err, sym, ap, ◌∙◌, refl, [], ◌∷◌}
+use Rattle.std.proofs.Common.{Result, append_assoc, append-nil}
 use Rattle.std.specs.Global.{Vec}
 use Rattle.std.specs.Prelude.{slice_get, option_map, codes}
 use Rattle.std.specs.Option.{ok_or}
-use Rattle.std.proofs.lemmas.List.{drop_all, take-append-drop}
-use Rattle.dwp_base.specs.declared.class.Class.{Class}
-use Rattle.dwp_base.specs.declared.endian.Endianness.{Endianness}
+use Rattle.std.proofs.lemmas.List.{drop_all, take-append-drop, drop_more, map-append}
+use Rattle.std.proofs.lemmas.Option.{slice_get-map, slice_get_read, slice_get_within}
+use Rattle.std.proofs.lemmas.Option.{get_or_from_slice_get}
 use Rattle.dwp_elf_read.specs.Elf.{Elf, SectionMeaning}
 use Rattle.dwp_decompress.specs.Agreement.{AgreesAt, with_own}
-use Rattle.dwp_decompress.specs.Names.{plain_name}
-use Rattle.dwp_decompress.specs.Compressed.{is_older}
-use Rattle.dwp_decompress.specs.Result.{result_section, result_sections, plain_contents}
-use Rattle.dwp_decompress.proofs.Walks.{drop_step}
+use Rattle.dwp_decompress.specs.Names.{plain_name, added_name, added_name_of, added_names}
+use Rattle.dwp_decompress.specs.Compressed.{is_older, is_compressed}
+use Rattle.dwp_decompress.specs.Result.{result_sections, plain_contents, contents_of}
+use Rattle.dwp_base.specs.Reading.{◌>>=◌}
+use Rattle.dwp_base.specs.declared.class.Class.{Class}
+use Rattle.dwp_base.specs.declared.endian.Endianness.{Endianness}
+use Rattle.dwp_decompress.specs.declared.error.DecompressError.{DecompressError}
+use Rattle.dwp_decompress.specs.Headers.{content_of}
+
+-- ---- sections taken one after the other
+pub drop_step : {X : Type 0} (xs : List X) (i : ℕ) (x : X) → slice_get xs i ≡ Some x
+    → drop i xs ≡ x ∷ drop (i + 1) xs
+drop_step xs i x e = drop_more xs i x (slice_get_within xs i x e)
+    ∙ ap (λ y. y ∷ drop (i + 1) xs) (get_or_from_slice_get xs i x x e)
+
+abbrev pub Contents : Type 0
+Contents = List (Option (List ℕ))
+
+-- contents behind others
+abbrev pub behind : Contents → Result Contents DecompressError → Result Contents DecompressError
+behind front rest = rest >>= λ contents. Ok (front ++ contents)
+
+pub behind_none : (rest : Result Contents DecompressError) → behind [] rest ≡ rest
+behind_none (Ok contents) = refl
+behind_none (Err e) = refl
+
+one_more : (front : Contents) (content : Option (List ℕ)) (rest : Result Contents DecompressError)
+    → behind front (rest >>= λ contents. Ok (content ∷ contents)) ≡ behind
+    (front ++ content ∷ []) rest
+one_more front content (Ok contents) = rw append_assoc refl
+one_more front content (Err e) = refl
+
+module _ (class : Class) (order : Endianness) (sections : List SectionMeaning) (i : ℕ)
+    (front : Contents) where
+  pub contents_step : (section : SectionMeaning) (content : Option (List ℕ))
+      → slice_get sections i ≡ Some section → content_of class order section ≡ Ok content
+      → behind front (contents_of class order (drop i sections)) ≡ behind (front ++ content ∷ [])
+      (contents_of class order (drop (i + 1) sections))
+  unfolding contents_of
+  contents_step section content at is = rw (drop_step sections i section at, is)
+      (one_more front content (contents_of class order (drop (i + 1) sections)))
+
+  pub contents_fail : (section : SectionMeaning) (e : DecompressError)
+      → slice_get sections i ≡ Some section → content_of class order section ≡ Err e
+      → behind front (contents_of class order (drop i sections)) ≡ Err e
+  unfolding contents_of
+  contents_fail section e at is = rw (drop_step sections i section at, is) refl
+
+  pub contents_end : length sections ≤ i
+      → behind front (contents_of class order (drop i sections)) ≡ Ok front
+  unfolding contents_of
+  contents_end h = rw (drop_all i sections h, append-nil front) refl
+
+-- names that are added
+pub names_step : (sections : List SectionMeaning) (i : ℕ) (front : List ℕ)
+    (section : SectionMeaning) → slice_get sections i ≡ Some section
+    → front ++ added_names (drop i sections) ≡ (front ++ added_name_of section) ++ added_names
+    (drop (i + 1) sections)
+unfolding added_names
+names_step sections i front section at = rw (drop_step sections i section at)
+    (sym (append_assoc front (added_name_of section) (added_names (drop (i + 1) sections))))
+
+pub names_end : (sections : List SectionMeaning) (i : ℕ) (front : List ℕ) → length sections ≤ i
+    → front ++ added_names (drop i sections) ≡ front
+unfolding added_names
+names_end sections i front h = rw (drop_all i sections h, append-nil front) refl
+
+-- one content more
+pub plain_more : (contents old : List (Option (Vec ℕ))) (content : Option (Vec ℕ))
+    → contents ≡ old ++ content ∷ []
+    → plain_contents contents
+    ≡ plain_contents old ++ option_map (λ (plain : Vec ℕ). plain.items) content ∷ []
+plain_more contents old content e =
+    rw e (map-append (option_map (λ (plain : Vec ℕ). plain.items)) old (content ∷ []))
+
+-- the name that a section adds
+pub added_older : (name old a b c : List ℕ) → is_older name ≡ true → a ≡ old ++ codes ".debug_"
+    → b ≡ a ++ drop 8 name → c ≡ b ++ 0 ∷ [] → c ≡ old ++ added_name (Some name)
+unfolding plain_name
+added_older name old a b c h p q r = rw (r, q, p, h) (simp append_assoc)
+
+pub adds_name : (section : SectionMeaning) (name : Option (List ℕ)) → is_compressed section ≡ true
+    → section.name ≡ name → added_name name ≡ added_name_of section
+unfolding added_name_of
+adds_name section name h n = rw (h, n) refl
+
+pub adds_none : (section : SectionMeaning) → is_compressed section ≡ false
+    → [] ≡ added_name_of section
+unfolding added_name_of
+adds_none section h = rw h refl
 
 pub some_of : {X E : Type 0} (o : Option X) (e : E) (x : X) → ok_or o e ≡ Ok x → o ≡ Some x
 some_of None e x h = absurd cc
@@ -25,8 +111,7 @@ none_of (Some y) e f h = absurd cc
 
 -- a list of two parts
 pub joined : (n : ℕ) (xs a b : List ℕ) → take n xs ≡ a → drop n xs ≡ b → xs ≡ a ++ b
-joined n xs a b p q = sym (take-append-drop n xs) ∙ ap (λ (l : List ℕ). l ++ drop n xs) p
-    ∙ ap (λ (l : List ℕ). a ++ l) q
+joined n xs a b p q = rw (← p, ← q) (sym (take-append-drop n xs))
 
 -- a section whose other numbers are those of another
 pub is_own : (new old : SectionMeaning) (name : Option (List ℕ)) (flags size : ℕ)
@@ -34,42 +119,16 @@ pub is_own : (new old : SectionMeaning) (name : Option (List ℕ)) (flags size :
     → new.size ≡ size → new.content ≡ content
     → new ≡ record old { name = name; flags = flags; size = size; content = content }
 unfolding with_own
-is_own new old name flags size content e n f s c =
-    e ∙ ap (λ (x : Option (List ℕ)). record old {
-      name = x;
-      flags = new.flags;
-      size = new.size;
-      content = new.content;
-    }) n ∙ ap (λ (x : ℕ). record old {
-      name = name;
-      flags = x;
-      size = new.size;
-      content = new.content;
-    }) f ∙ ap (λ (x : ℕ). record old {
-      name = name;
-      flags = flags;
-      size = x;
-      content = new.content;
-    }) s ∙ ap (λ (x : Option (List ℕ)). record old {
-      name = name;
-      flags = flags;
-      size = size;
-      content = x;
-    }) c
+is_own new old name flags size content e n f s c = e ∙ rw (n, f, s, c) refl
 
--- an item of a list that is seen by f
-pub get_map : {X Y : Type 0} (f : X → Y) (xs : List X) (i : ℕ) (x : X) → i < length xs
-    → x ≡ get_or xs i x → slice_get (map f xs) i ≡ Some (f x)
-get_map f [] i x h e = absurd (omega arith)
-get_map f (y ∷ ys) zero x h e = ap (λ z. Some (f z)) (sym e)
-get_map f (y ∷ ys) (suc i) x h e = get_map f ys i x (omega arith) e
-
--- the same of plain contents
+-- an item of plain contents
 pub get_content : (contents : List (Option (Vec ℕ))) (i : ℕ) (x : Option (Vec ℕ))
     → i < length contents → x ≡ get_or contents i x
     → slice_get (plain_contents contents) i ≡ Some (option_map (λ (plain : Vec ℕ). plain.items) x)
-get_content contents i x h e = get_map (option_map (λ (plain : Vec ℕ). plain.items))
-    contents i x h e
+get_content contents i x h e = rw (
+  slice_get-map (option_map (λ (plain : Vec ℕ). plain.items)) contents i,
+  slice_get_read contents (length contents) i x refl h e,
+) refl
 
 module _ (names : ℕ) (added : List ℕ) (old new : List SectionMeaning)
     (contents : List (Option (List ℕ))) (i : ℕ) where
@@ -78,41 +137,30 @@ module _ (names : ℕ) (added : List ℕ) (old new : List SectionMeaning)
       → drop (i + 1) new ≡ result_sections names added (drop (i + 1) old) (drop (i + 1) contents)
       → drop i new ≡ result_sections names added (drop i old) (drop i contents)
   unfolding result_sections
-  agree_step a h =
-      drop_step new i _ a.new_is
-      ∙ ap (λ (rest : List SectionMeaning). result_section names added a.section a.content ∷ rest) h
-      ∙ sym (ap (λ (o : List SectionMeaning). result_sections names added o (drop i contents))
-      (drop_step old i _ a.section_is)
-      ∙ ap (λ (c : List (Option (List ℕ))). result_sections names added
-      (a.section ∷ drop (i + 1) old) c)
-      (drop_step contents i _ a.content_is))
+  agree_step a h = rw (
+    drop_step new i _ a.new_is,
+    drop_step old i _ a.section_is,
+    drop_step contents i _ a.content_is,
+    h,
+  ) refl
 
   pub agree_end : length old ≤ i → length new ≤ i
       → drop i new ≡ result_sections names added (drop i old) (drop i contents)
   unfolding result_sections
-  agree_end o n =
-      drop_all i new n ∙ sym (ap (λ (s : List SectionMeaning). result_sections names added s
-      (drop i contents))
-      (drop_all i old o))
+  agree_end o n = rw (drop_all i new n, drop_all i old o) refl
 
 -- a file of the class, byte order and machine of another
 pub same_file : (new old : Elf) (sections : List SectionMeaning) → new.class ≡ old.class
     → new.order ≡ old.order → new.machine ≡ old.machine → new.sections ≡ sections
     → new ≡ record old { sections = sections }
-same_file new old sections c o m s =
-    ap (λ (x : Class). record new { class = x }) c
-    ∙ ap (λ (x : Endianness). record new { class = old.class; order = x }) o
-    ∙ ap (λ (x : ℕ). record new { class = old.class; order = old.order; machine = x }) m
-    ∙ ap (λ (x : List SectionMeaning). record old { sections = x }) s
+same_file new old sections c o m s = rw (← c, ← o, ← m, ← s) refl
 
 -- a name that becomes another
 pub renamed : (old new : List ℕ) → is_older old ≡ true → take 7 new ≡ codes ".debug_"
     → drop 7 new ≡ drop 8 old → new ≡ plain_name old
 unfolding plain_name
-renamed old new h p q =
-    joined 7 new (codes ".debug_") (drop 8 old) p q
-    ∙ sym (ap (λ (b : Bool). cond b (codes ".debug_" ++ drop 8 old) old) h)
+renamed old new h p q = rw h (joined 7 new (codes ".debug_") (drop 8 old) p q)
 
 pub kept : (old new : List ℕ) → is_older old ≡ false → new ≡ old → new ≡ plain_name old
 unfolding plain_name
-kept old new h e = e ∙ sym (ap (λ (b : Bool). cond b (codes ".debug_" ++ drop 8 old) old) h)
+kept old new h e = rw h e

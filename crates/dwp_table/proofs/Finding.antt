@@ -6,27 +6,20 @@ use Rattle.std.specs.List.{find, range_with_len}
 use Rattle.std.proofs.Math.Decide.{dec_lt}
 use Rattle.dwp_base.proofs.Bools.{by-bool}
 
-pub find_first : (p : ℕ → Bool) (a n i : ℕ) → a ≤ i → i < a + n → p i ≡ true
+find_first : (p : ℕ → Bool) (a n i : ℕ) → a ≤ i → i < a + n → p i ≡ true
     → ((j : ℕ) → a ≤ j → j < i → p j ≡ false) → find p (range_with_len a n) ≡ Some i
 find_first p a zero i low high here earlier = absurd (omega arith)
-find_first p a (suc n) i low high here earlier =
-    elim (dec_lt a i) [
-      | yes more ↦
-          let no : p a ≡ false = earlier a (omega arith) more in
-          rw no (find_first p (a + 1) n i (omega arith) (omega arith) here (λ j l h.
-          earlier j (omega arith) h))
-      | no last ↦
-          let same : a ≡ i = omega arith in
-          let yes' : p a ≡ true = ap p same ∙ here in
-          rw yes' (ap Some same)
-    ]
+find_first p a (suc n) i low high here earlier = elim (dec_lt a i) [
+  | yes more ↦ rw (earlier a (omega arith) more) (find_first p (a + 1) n i (omega arith)
+      (omega arith) here (λ j l h. earlier j (omega arith) h))
+  | no last ↦ let same : a ≡ i = omega arith in rw (same, here) refl
+]
 
-pub find_none : (p : ℕ → Bool) (a n : ℕ) → ((j : ℕ) → a ≤ j → j < a + n → p j ≡ false)
+find_none : (p : ℕ → Bool) (a n : ℕ) → ((j : ℕ) → a ≤ j → j < a + n → p j ≡ false)
     → find p (range_with_len a n) ≡ None
 find_none p a zero none = refl
-find_none p a (suc n) none =
-    let no : p a ≡ false = none a (omega arith) (omega arith) in
-    rw no (find_none p (a + 1) n (λ j l h. none j (omega arith) (omega arith)))
+find_none p a (suc n) none = rw (none a (omega arith) (omega arith))
+    (find_none p (a + 1) n (λ j l h. none j (omega arith) (omega arith)))
 
 -- what a number is that was found
 pub record IsFirst (p : ℕ → Bool) (n i : ℕ) : Type 0 where

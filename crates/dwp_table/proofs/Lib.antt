@@ -3,4 +3,3 @@ pub mod Numbers
 pub mod Places
 pub mod Tables
 pub mod Placing
-pub mod SlotCounts

@@ -1,15 +1,17 @@
--- Powers of two, odd steps round them, and the pigeonhole principle.
-use Rattle.std.proofs.Common.{◌≡◌, ℕ, zero, suc, ◌+◌, ◌-◌, ◌*◌, ◌/◌, ◌%◌, ◌^◌, ◌<◌, ◌≤◌, Bool, true}
-use Rattle.std.proofs.Common.{false, cond, eqb, ltb, ◌⊎◌, inl, inr, refl, sym, ap, ◌∙◌}
-use Rattle.std.proofs.Common.{arith}
+-- Powers of two, odd steps round them, and what is one to one.
+use Rattle.std.proofs.Common.{◌≡◌, ℕ, zero, suc, ◌+◌, ◌-◌, ◌*◌, ◌/◌, ◌%◌, ◌^◌, ◌<◌, ◌≤◌, cond, ltb}
+use Rattle.std.proofs.Common.{eqb, ◌≢◌, ⊎_elim, inl, inr, refl, sym, ap, ◌∙◌, arith, ◌⊎◌, eq-eqb}
 use Rattle.std.specs.Prelude.{count_ones, bit_or, IsTrue}
 use Rattle.std.specs.Int.{is_power_of_two}
-use Rattle.std.proofs.lemmas.Bool.{eqb-true, eqb-false, ltb-true, ltb-false}
-use Rattle.std.proofs.lemmas.Nat.{zero_from_ones, ones_le_self, pow_pos, div-add-mod', or_mod}
-use Rattle.std.proofs.Math.Nat.{pow-suc, mul-le-mul_left, mul-le-mul_right, mod-lt}
+use Rattle.std.proofs.lemmas.Bool.{cases_order, eqb-true, eqb-false}
+use Rattle.std.proofs.lemmas.Bool.Decides.{nat_tests}
+use Rattle.std.proofs.lemmas.Nat.{zero_from_ones, ones_le_self, pow_pos, or_mod, ones_cat}
+use Rattle.std.proofs.Math.Nat.{pow-suc, mul-sub, mod-lt, div-add-mod, le_of_dvd, dvd-mul_right}
 use Rattle.std.specs.Int.Count.{ones_step}
 use Rattle.std.proofs.Math.Decide.{dec_lt}
-use Rattle.dwp_table.specs.Table.{VisitsEachOnce}
+use Rattle.dwp_table.specs.Table.{VisitsEachOnce, HasSlots}
+use Rattle.dwp_table.proofs.Finding.{first_or_none}
+use Rattle.std.proofs.Math.Pow.{pow_mono}
 
 -- ---- what has one set bit is a power of two
 exponent_by : (d n : ℕ) → n ≤ d → count_ones n ≡ 1 → (k : ℕ) × (n ≡ 2 ^ k)
@@ -28,74 +30,42 @@ exponent n t = exponent_by n n (omega arith) (eqb-true _ _ t)
 
 -- ---- an odd step
 -- an odd factor takes no 2 away
-odd_factor : (k d t q : ℕ) → d * (2 * t + 1) ≡ 2 ^ k * q → (r : ℕ) × (d ≡ 2 ^ k * r)
-odd_factor zero d t q e = (d, omega arith)
-odd_factor (suc k) d t q e =
-    let p = 2 ^ k * q in
-    let twice : d * (2 * t + 1) ≡ 2 * p = e ∙ omega (
+odd_factor : (k d step q : ℕ) → step % 2 ≡ 1 → d * step ≡ 2 ^ k * q → (r : ℕ) × (d ≡ 2 ^ k * r)
+odd_factor zero d step q odd e = (d, omega arith)
+odd_factor (suc k) d step q odd e =
+    let h = 2 ^ k * q - d * (step / 2) in
+    let more = ap (λ x. x * q) (pow-suc 2 k) in
+    let split : step ≡ 2 * (step / 2) + 1 = omega arith in
+    let even : d ≡ 2 * h = omega (arith, e, more, ap (λ x. d * x) split) in
+    let rest = odd_factor k h step q odd (omega (arith, e, more, ap (λ x. x * step) even)) in
+    (rest.0, omega (arith, even, rest.1, ap (λ x. x * rest.0) (pow-suc 2 k)))
+
+-- less than a round apart, no two places are one
+apart : (size k start step i j : ℕ) → size ≡ 2 ^ k → step % 2 ≡ 1 → i < j → j < size
+    → (start + i * step) % size ≡ (start + j * step) % size → ⊥
+apart size k start step i j power odd less below same =
+    let a = (start + i * step) / size in
+    let b = (start + j * step) / size in
+    let split : j ≡ i + (j - i) = omega arith in
+    let rounds : (j - i) * step ≡ size * (b - a) = omega (
       arith,
-      pow-suc 2 k,
-      ap (λ x. x * q)
-          (pow-suc 2 k),
+      ap (λ x. x * step) split,
+      mul-sub size b a,
+      div-add-mod (start + i * step) size,
+      div-add-mod (start + j * step) size,
     ) in
-    let h = p - d * t in
-    let even : d ≡ 2 * h = omega arith in
-    let halved : h * (2 * t + 1) ≡ 2 ^ k * q = omega (arith, ap (λ x. x * t) even) in
-    let rest = odd_factor k h t q halved in
-    (rest.0, omega (arith, even, rest.1, pow-suc 2 k, ap (λ x. x * rest.0) (pow-suc 2 k)))
-
--- places that are one are a whole number of rounds apart
-rounds : (m a b : ℕ) → 0 < m → a ≤ b → a % m ≡ b % m → (q : ℕ) × (b ≡ a + m * q)
-rounds m a b pos le e =
-    let a' = div-add-mod' a m in
-    let b' = div-add-mod' b m in
-    elim (dec_lt (b / m) (a / m)) [
-      | yes less ↦ absurd (omega (
-        arith,
-        mul-le-mul_right {m = suc (b / m)} {n = a / m}
-            m (omega arith),
-      ))
-      | no more ↦
-          let q = b / m - a / m in
-          let whole : b / m ≡ a / m + q = omega arith in
-          (q, omega (arith, ap (λ x. x * m) whole))
-    ]
-
-not_whole : (m d r : ℕ) → 0 < d → d < m → d ≡ m * r → ⊥
-not_whole m d zero pos below e = omega (arith, e)
-not_whole m d (suc r) pos below e = omega (
-  arith,
-  e,
-  mul-le-mul_left {m = 1} {n = suc r}
-      m (omega arith),
-)
-
-apart : (k start t i j : ℕ) → i < j → j < 2 ^ k → (start + i * (2 * t + 1)) % 2 ^ k ≡
-    (start + j * (2 * t + 1)) % 2 ^ k → ⊥
-apart k start t i j less below same =
-    let d = j - i in
-    let split : j ≡ i + d = omega arith in
-    let product = ap (λ x. x * (2 * t + 1)) split in
-    let q = rounds (2 ^ k) (start + i * (2 * t + 1)) (start + j * (2 * t + 1)) (pow_pos k)
-    (omega arith) same in
-    let r = odd_factor k d t q.0 (omega (arith, q.1)) in
-    not_whole (2 ^ k) d r.0 (omega arith) (omega arith) r.1
+    let r = odd_factor k (j - i) step (b - a) odd (rw (← power) rounds) in
+    omega (arith, power, le_of_dvd {m = 2 ^ k} {n = j - i} (omega arith)
+    (rw r.1 (dvd-mul_right (2 ^ k) r.0)))
 
 pub one_slot : (size start step i j : ℕ) → IsTrue (is_power_of_two size) → step % 2 ≡ 1 → i < size
     → j < size → (start + i * step) % size ≡ (start + j * step) % size → i ≡ j
 one_slot size start step i j power odd in_i in_j same =
     let k = exponent size power in
-    let t = step / 2 in
-    let s : step ≡ 2 * t + 1 = omega arith in
-    let same' : (start + i * (2 * t + 1)) % 2 ^ k.0 ≡ (start + j * (2 * t + 1)) % 2 ^ k.0 =
-    rw (← s, ← k.1) same in
-    elim (dec_lt i j) [
-      | yes p ↦ absurd (apart k.0 start t i j p (omega (arith, k.1)) same')
-      | no p ↦ elim (dec_lt j i) [
-        | yes q ↦ absurd (apart k.0 start t j i q (omega (arith, k.1)) (sym same'))
-        | no q ↦ omega arith
-      ]
-    ]
+    ⊎_elim (λ equal. equal)
+    (⊎_elim (λ less. absurd (apart size k.0 start step i j k.1 odd less in_j same))
+    (λ more. absurd (apart size k.0 start step j i k.1 odd more in_i (sym same))))
+    (cases_order i j)
 
 or_one : (r : ℕ) → r < 2 → bit_or r 1 ≡ 1
 or_one zero h = refl
@@ -116,103 +86,32 @@ OneToOne f n = (i j : ℕ) → i < n → j < n → f i ≡ f j → i ≡ j
 abbrev past : (ℕ → ℕ) → ℕ → ℕ → ℕ → ℕ
 past f m last i = cond (eqb (f i) m) (f last) (f i)
 
-abbrev Past : ℕ → ℕ → ℕ → ℕ → Type 0
-Past x m y r = ((x ≡ m) × (r ≡ y)) ⊎ ((x ≡ m → ⊥) × (r ≡ x))
-
-past_by : (x m y : ℕ) (t : Bool) → eqb x m ≡ t → Past x m y (cond t y x)
-past_by x m y true e = inl (eqb-true x m e, refl)
-past_by x m y false e = inr (eqb-false x m e, refl)
-
-past_is : (x m y : ℕ) → Past x m y (cond (eqb x m) y x)
-past_is x m y = past_by x m y (eqb x m) refl
-
-past_into : (f : ℕ → ℕ) (n m : ℕ) → Into f (suc n) (suc m) → OneToOne f (suc n)
-    → Into (past f m n) n m
-past_into f n m into one i p =
-    let a = into i (omega arith) in
-    let b = into n (omega arith) in
-    let other : f i ≡ f n → ⊥ = λ e. let z = one i n (omega arith) (omega arith) e in omega arith in
-    elim (past_is (f i) m (f n)) [
-      | inl w ↦ omega (arith, w.0, w.1)
-      | inr w ↦ omega
-          (arith, w.0, w.1)
-    ]
-
-past_one : (f : ℕ → ℕ) (n m : ℕ) → OneToOne f (suc n) → OneToOne (past f m n) n
-past_one f n m one i j p q e =
-    elim (past_is (f i) m (f n)) [
-      | inl v ↦ elim (past_is (f j) m (f n)) [
-        | inl w ↦ one i j (omega arith) (omega arith) (v.0 ∙ sym w.0)
-        | inr w ↦ let z = one n j (omega arith) (omega arith) (sym v.1 ∙ e ∙ w.1) in
-            absurd (omega arith)
-      ]
-      | inr v ↦ elim (past_is (f j) m (f n)) [
-        | inl w ↦ let z = one i n (omega arith) (omega arith) (sym v.1 ∙ e ∙ w.1) in
-            absurd (omega arith)
-        | inr w ↦ one i j (omega arith) (omega arith) (sym v.1 ∙ e ∙ w.1)
-      ]
-    ]
-
 -- no more things than holes, where no two are in one
 pub pigeonhole : (n m : ℕ) (f : ℕ → ℕ) → Into f n m → OneToOne f n → n ≤ m
 pigeonhole zero m f into one = omega arith
 pigeonhole (suc n) zero f into one = absurd (omega (arith, into n (omega arith)))
-pigeonhole (suc n) (suc m) f into one =
-    omega (arith, pigeonhole n m (past f m n) (past_into f n m into one) (past_one f n m one))
+pigeonhole (suc n) (suc m) f into one = omega (
+  arith,
+  pigeonhole n m (past f m n)
+      (λ i p. grind (arith, nat_tests, into i, into n, one i n))
+      (λ i j p q e. grind (arith, nat_tests, one i j, one i n, one j n)),
+)
 
--- a value that f gives below n, or that it doesn't
-given : (f : ℕ → ℕ) (n v : ℕ) → ((i : ℕ) × (i < n) × (f i ≡ v)) ⊎ ((i : ℕ) → i < n → f i ≡ v → ⊥)
-given f zero v = inr (λ i h e. omega arith)
-given f (suc n) v = elim (given f n v) [
-  | inl w ↦ inl (w.0, omega arith, w.2)
-  | inr none ↦ given_last f n v none (eqb (f n) v) refl
-]
-  where
-    given_last : (f : ℕ → ℕ) (n v : ℕ) → ((i : ℕ) → i < n → f i ≡ v → ⊥) → (t : Bool)
-        → eqb (f n) v ≡ t → ((i : ℕ) × (i < suc n) × (f i ≡ v))
-        ⊎ ((i : ℕ) → i < suc n → f i ≡ v → ⊥)
-    given_last f n v none true e = inl (n, omega arith, eqb-true _ _ e)
-    given_last f n v none false e =
-        inr (λ i h same. elim (dec_lt i n) [
-          | yes p ↦ none i p same
-          | no p ↦ let last : i ≡ n =
-              omega arith in eqb-false _ _ e (sym (ap f last) ∙ same)
-        ])
-
+-- ---- each hole is filled, where no two of as many things are in one
 -- f, and v at n
 abbrev with_last : (ℕ → ℕ) → ℕ → ℕ → ℕ → ℕ
 with_last f n v i = cond (ltb i n) (f i) v
 
-with_last_by : (f : ℕ → ℕ) (n v i : ℕ) (t : Bool) → ltb i n ≡ t → ((i < n) × (cond t (f i) v ≡ f i))
-    ⊎ ((n ≤ i) × (cond t (f i) v ≡ v))
-with_last_by f n v i true e = inl (ltb-true _ _ e, refl)
-with_last_by f n v i false e = inr (ltb-false _ _ e, refl)
-
--- each hole is filled, where no two of as many things are in one
-pub surjective : (n : ℕ) (f : ℕ → ℕ) (v : ℕ) → v < n → Into f n n → OneToOne f n → (i : ℕ)
+surjective : (n : ℕ) (f : ℕ → ℕ) (v : ℕ) → v < n → Into f n n → OneToOne f n → (i : ℕ)
     × (i < n) × (f i ≡ v)
 surjective n f v below into one =
-    elim (given f n v) [
-      | inl w ↦ w
-      | inr none ↦ absurd (
-          let cases = λ (i : ℕ). with_last_by f n v i (ltb i n) refl in
-          let into' : Into (with_last f n v) (suc n) n = λ i h. elim (cases i) [
-            | inl w ↦ let b =
-                into i w.0 in omega (arith, w.1)
-            | inr w ↦ omega (arith, w.1)
-          ] in
-          let one' : OneToOne (with_last f n v) (suc n) = λ i j p q e.
-          elim (cases i) [
-            | inl a ↦ elim (cases j) [
-              | inl b ↦ one i j a.0 b.0 (sym a.1 ∙ e ∙ b.1)
-              | inr b ↦ absurd (none i a.0 (sym a.1 ∙ e ∙ b.1))
-            ]
-            | inr a ↦ elim (cases j) [
-              | inl b ↦ absurd (none j b.0 (sym b.1 ∙ sym e ∙ a.1))
-              | inr b ↦ omega (arith, a.0, b.0)
-            ]
-          ] in
-          omega (arith, pigeonhole (suc n) n (with_last f n v) into' one'))
+    elim (first_or_none (λ i. eqb (f i) v) n) [
+      | inl w ↦ (w.0, w.1.within, eqb-true _ _ w.1.here)
+      | inr none ↦
+          let other : (i : ℕ) → i < n → f i ≢ v = λ i h. eqb-false _ _ (none i h) in
+          absurd (omega (arith, pigeonhole (suc n) n (with_last f n v)
+          (λ i h. grind (arith, nat_tests, into i))
+          (λ i j p q e. grind (arith, nat_tests, one i j, other i, other j))))
     ]
 
 -- ---- going round by an odd step
@@ -228,3 +127,33 @@ visits_each_once size start step power odd =
           mod-lt _ pos) once;
       once = once;
     }
+
+-- ---- how many slots a table is written with
+pub is_power : (k : ℕ) → IsTrue (is_power_of_two (2 ^ k))
+is_power k =
+    let shifted : 1 * 2 ^ k + 0 ≡ 2 ^ k = omega arith in
+    let cut : count_ones (1 * 2 ^ k + 0) ≡ count_ones 1 + count_ones 0 =
+    ones_cat k 1 0 (pow_pos k) in
+    eq-eqb (count_ones (2 ^ k)) 1 (ap count_ones (sym shifted) ∙ cut ∙ omega
+    (arith, ones_step 1, ones_le_self 0))
+
+-- a power below a power is at most half of it
+half_at_most : (j k : ℕ) → 2 ^ j < 2 ^ suc k → 2 * 2 ^ j ≤ 2 ^ suc k
+half_at_most j k below = elim (dec_lt k j) [
+  | yes p ↦ absurd (omega (arith, pow_mono {i = suc k} {j = j} (omega arith)))
+  | no p ↦ omega (arith, pow-suc 2 k, pow_mono {i = j} {j = k} (omega arith))
+]
+
+pub has_slots : (units size k : ℕ) → size ≡ 2 ^ suc k → (size ≡ 2) ⊎ (size ≤ units * 3)
+    → 3 * units < 2 * size → HasSlots units size
+has_slots units size k power least above = record {
+  few = λ h. elim least [ inl e ↦ e | inr low ↦ omega (arith, power, pow-suc 2 k, pow_pos k) ];
+  power = λ h. rw power (is_power (suc k));
+  above = λ h. above;
+  least = λ h other is more. let j = exponent other is in elim (dec_lt other size) [
+    | yes p ↦
+        let half = half_at_most j.0 k (omega (arith, j.1, power)) in
+        absurd (grind (arith, half, j.1, power, least))
+    | no p ↦ omega arith
+  ];
+}

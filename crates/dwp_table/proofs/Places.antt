@@ -1,5 +1,5 @@
 -- The places of an identifier.
-use Rattle.std.proofs.Common.{◌≡◌, ℕ, ◌+◌, ◌-◌, ◌*◌, ◌/◌, ◌%◌, ◌^◌, ◌<◌, sym, ap, subst, ◌∙◌, arith}
+use Rattle.std.proofs.Common.{◌≡◌, ℕ, ◌+◌, ◌-◌, ◌*◌, ◌/◌, ◌%◌, ◌^◌, ◌<◌, sym, ap, ◌∙◌, arith}
 use Rattle.std.specs.Prelude.{bit_and, bit_or, IsTrue}
 use Rattle.std.specs.Int.{is_power_of_two}
 use Rattle.std.proofs.lemmas.Nat.{and_mask, pow_pos}
@@ -13,7 +13,7 @@ positive size power = let k = exponent size power in omega (arith, k.1, pow_pos 
 pub masked : (size n : ℕ) → IsTrue (is_power_of_two size) → bit_and n (size - 1) ≡ n % size
 masked size n power =
     let k = exponent size power in
-    subst (λ m. bit_and n (m - 1) ≡ n % m) (sym k.1) (and_mask n k.0)
+    rw k.1 (and_mask n k.0)
 
 pub place-lt : (size x i : ℕ) → IsTrue (is_power_of_two size) → place size x i < size
 unfolding place

@@ -1,12 +1,11 @@
 -- What stands in a table, and what looking up in it gives.
-use Rattle.std.proofs.Common.{◌≡◌, ◌≢◌, ℕ, zero, suc, ◌+◌, ◌-◌, ◌<◌, ◌≤◌, Bool, true, false, eqb}
-use Rattle.std.proofs.Common.{◌||◌, inl, inr, List, length, get_or, refl, sym, ap, subst, ◌∙◌}
-use Rattle.std.proofs.Common.{eq-eqb, arith}
-use Rattle.std.specs.Prelude.{Option, Some}
-use Rattle.std.proofs.lemmas.Bool.{eqb-true, eqb-false, ne_eqb}
-use Rattle.dwp_table.specs.Probing.{place, is_end, first_end, found_row, look_count, row_of}
+use Rattle.std.proofs.Common.{◌≡◌, ◌≢◌, ℕ, ◌+◌, ◌-◌, ◌<◌, ◌≤◌, Bool, false, eqb, inl, inr, List}
+use Rattle.std.proofs.Common.{length, get_or, refl, sym, ◌∙◌, eq-eqb, arith, add-one}
+use Rattle.std.specs.Prelude.{Some}
+use Rattle.std.proofs.lemmas.Bool.{eqb-true, eqb-false, ne_eqb, or_from}
+use Rattle.dwp_table.specs.Probing.{place, is_end, first_end, found_row, look_count}
 use Rattle.dwp_table.specs.Table.{IsPlacedAfter, IsHashTable, IsIndex, FindsExactly, signature_of}
-use Rattle.dwp_table.proofs.Finding.{IsFirst, first_or_none, find-first, find-none}
+use Rattle.dwp_table.proofs.Finding.{first_or_none, find-first, find-none}
 use Rattle.dwp_table.proofs.Numbers.{pigeonhole}
 use Rattle.dwp_table.proofs.Places.{place-lt, places_apart}
 use Rattle.dwp_base.proofs.Bools.{or-right}
@@ -39,14 +38,6 @@ pub record IsFree (rows : List ℕ) (x i : ℕ) : Type 0 where
   pub here : row_at rows x i ≡ 0
   pub earlier : (j : ℕ) → j < i → 0 < row_at rows x j
 
-pub free_by : (ids rows : List ℕ) (x i : ℕ) → IsHashTable ids rows
-    → IsFirst (λ j. eqb (row_at rows x j) 0) (length rows) i → IsFree rows x i
-free_by ids rows x i table first = record {
-  within = first.within;
-  here = eqb-true _ _ first.here;
-  earlier = λ j h. let used = eqb-false _ _ (first.earlier j h) in omega (arith, used);
-}
-
 pub free_early : (ids rows : List ℕ) (x i : ℕ) → IsHashTable ids rows → IsFree rows x i
     → i ≤ length ids
 free_early ids rows x i table free = used_few ids rows x i (length ids) table
@@ -54,41 +45,25 @@ free_early ids rows x i table free = used_few ids rows x i (length ids) table
 
 pub has_free : (ids rows : List ℕ) (x : ℕ) → IsHashTable ids rows → (i : ℕ) × IsFree rows x i
 has_free ids rows x table =
+    let used : (j : ℕ) → eqb (row_at rows x j) 0 ≡ false → 0 < row_at rows x j =
+    λ j e. let ne = eqb-false _ _ e in omega (arith, ne) in
     elim (first_or_none (λ j. eqb (row_at rows x j) 0) (length rows)) [
-      | inl w ↦ (w.0, free_by ids rows x w.0 table w.1)
+      | inl w ↦ (w.0, record {
+        within = w.1.within;
+        here = eqb-true _ _ w.1.here;
+        earlier = λ j h. used j (w.1.earlier j h);
+      })
       | inr none ↦ absurd (omega (
         arith,
         table.room,
-        used_few ids rows x (length rows) (length ids)
-            table (omega arith) (λ j h. let used = eqb-false _ _ (none j h) in omega (arith, used))
-            (λ j h. table.only _),
+        used_few ids rows x (length rows) (length ids) table (omega arith)
+            (λ j h. used j (none j h)) (λ j h. table.only _),
       ))
     ]
 
 -- ---- the end of a look-up
-unused_ends : (row signature x : ℕ) → row ≡ 0 → (eqb row 0 || eqb signature x) ≡ true
-unused_ends row signature x e = rw e refl
-
-found_ends : (row signature x : ℕ) → signature ≡ x → (eqb row 0 || eqb signature x) ≡ true
-found_ends row signature x e = or-right (eqb row 0) (eqb signature x) (eq-eqb signature x e)
-
-goes_on : (row signature x : ℕ) → 0 < row → signature ≢ x → (eqb row 0 || eqb signature x) ≡ false
-goes_on row signature x h ne = let used : eqb row 0 ≡ false = ne_eqb row 0 (λ e. omega arith) in
-    rw used (ne_eqb signature x ne)
-
--- an identifier that isn't at row r + 1 isn't beside it
-other_beside : (ids : List ℕ) (x row : ℕ) → 0 < row → row ≤ length ids → ((r : ℕ) → r < length ids
-    → r + 1 ≡ row → get_or ids r 0 ≢ x) → signature_of ids row ≢ x
-other_beside ids x zero h le ne = absurd (omega arith)
-other_beside ids x (suc r) h le ne = ne r (omega arith) (omega arith)
-
 beside_row : (ids : List ℕ) (row r : ℕ) → row ≡ r + 1 → signature_of ids row ≡ get_or ids r 0
-beside_row ids zero r e = absurd (omega arith)
-beside_row ids (suc row) r e = ap (λ k. get_or ids k 0) (omega arith)
-
-row-of : (row r : ℕ) → row ≡ r + 1 → row_of row ≡ Some (r + 1)
-row-of zero r e = absurd (omega arith)
-row-of (suc row) r e = ap Some e
+beside_row ids row r e = rw (e, add-one) refl
 
 module _ (ids signatures rows : List ℕ) (x : ℕ) (index : IsIndex ids signatures rows) where
   abbrev ends : ℕ → Bool
@@ -101,68 +76,52 @@ module _ (ids signatures rows : List ℕ) (x : ℕ) (index : IsIndex ids signatu
   used_goes_on : (j : ℕ) → 0 < row_at rows x j → ((r : ℕ) → r < length ids → r + 1 ≡ row_at rows x j
       → get_or ids r 0 ≢ x) → ends j ≡ false
   used_goes_on j used ne =
-      let other = other_beside ids x (row_at rows x j) used (index.table.only _) ne in
-      goes_on (row_at rows x j) (get_or signatures (place (length rows) x j) 0) x used (λ e.
-      other (sym (beside j) ∙ e))
+      let row = row_at rows x j in
+      let before : row ≡ row - 1 + 1 = omega arith in
+      or_from (eqb row 0) _ (ne_eqb row 0 (λ e. omega (arith, used, e))) (ne_eqb _ x (λ e.
+      ne (row - 1) (omega (arith, used, index.table.only (place (length rows) x j))) (sym before)
+      (sym (beside j ∙ beside_row ids row (row - 1) before) ∙ e)))
 
   -- where an identifier stands, its look-up ends
-  present_end : (r i : ℕ) → r < length ids → get_or ids r 0 ≡ x → IsPlacedAfter rows x (r + 1) i
-      → first_end signatures rows x ≡ Some i
+  present : (r : ℕ) → r < length ids → get_or ids r 0 ≡ x → (i : ℕ)
+      × (first_end signatures rows x ≡ Some i) × IsPlacedAfter rows x (r + 1) i
   unfolding first_end
-  present_end r i within same at = find-first ends (length rows) i (record {
-    within = at.within;
-    here = found_ends (row_at rows x i) _ x (beside i ∙ beside_row ids (row_at rows x i) r
-        at.here ∙ same);
-    earlier = λ j h. used_goes_on j (at.earlier_used j h) (λ r' within' row e.
-        let one = index.distinct r' r within' within (e ∙ sym same) in
-        omega (arith, at.earlier_smaller j h, row));
-  })
+  present r within same =
+      let placed = index.table.placed r within in
+      let i = placed.0 in
+      let at : IsPlacedAfter rows x (r + 1) i = rw same at placed.1 in
+      (i, find-first ends (length rows) i (record {
+        within = at.within;
+        here = or-right (eqb (row_at rows x i) 0) _ (eq-eqb _ x (beside i
+            ∙ beside_row ids (row_at rows x i) r at.here ∙ same));
+        earlier = λ j h. used_goes_on j (at.earlier_used j h) (λ r' within' row e.
+            let one = index.distinct r' r within' within (e ∙ sym same) in
+            omega (arith, at.earlier_smaller j h, row));
+      }), at)
 
   -- where it doesn't, the look-up ends at the first unused place
-  absent_end : (i : ℕ) → ((r : ℕ) → r < length ids → get_or ids r 0 ≢ x) → IsFree rows x i
-      → first_end signatures rows x ≡ Some i
+  absent : ((r : ℕ) → r < length ids → get_or ids r 0 ≢ x) → (i : ℕ)
+      × (first_end signatures rows x ≡ Some i) × IsFree rows x i
   unfolding first_end
-  absent_end i absent free = find-first ends (length rows) i (record {
-    within = free.within;
-    here = unused_ends (row_at rows x i) _ x free.here;
-    earlier = λ j h. used_goes_on j (free.earlier j h) (λ r' within' row. absent r' within');
-  })
-
-  found-end : (i : ℕ) (row : Option ℕ) → first_end signatures rows x ≡ Some i
-      → row_of (row_at rows x i) ≡ row → found_row signatures rows x ≡ row
-  unfolding found_row
-  found-end i row e at = rw e at
-
-  count-end : (i : ℕ) → first_end signatures rows x ≡ Some i → look_count signatures rows x ≡ suc i
-  unfolding look_count
-  count-end i e = rw e refl
-
-  placed_at : (r : ℕ) → r < length ids → get_or ids r 0 ≡ x → (i : ℕ)
-      × IsPlacedAfter rows x (r + 1) i
-  placed_at r within same = let at = index.table.placed r within in
-      (at.0, subst (λ y. IsPlacedAfter rows y (r + 1) at.0) same at.1)
+  absent nowhere =
+      let free = has_free ids rows x index.table in
+      (free.0, find-first ends (length rows) free.0 (record {
+        within = free.1.within;
+        here = rw free.1.here refl;
+        earlier = λ j h. used_goes_on j (free.1.earlier j h) (λ r within row. nowhere r within);
+      }), free.1)
 
   pub finds_exactly : FindsExactly ids x (found_row signatures rows x)
       (look_count signatures rows x)
+  unfolding found_row look_count
   finds_exactly = record {
-    present_row = λ r within same. let at = placed_at r within same in
-        found-end at.0 _ (present_end r at.0 within same at.1) (row-of _ r at.1.here);
-    present_count = λ r within same. let at = placed_at r within same in
-        omega (
-          arith,
-          count-end at.0 (present_end r at.0 within same at.1),
-          placed_early ids rows x
-              r at.0 index.table at.1,
-        );
-    absent_row = λ absent. let free = has_free ids rows x index.table in
-        found-end free.0 _ (absent_end free.0 absent free.1) (ap row_of free.1.here);
-    absent_count = λ absent. let free = has_free ids rows x index.table in
-        omega (
-          arith,
-          count-end free.0 (absent_end free.0 absent free.1),
-          free_early ids rows x
-              free.0 index.table free.1,
-        );
+    present_row = λ r within same. let at = present r within same in
+        rw (at.1, at.2.here, add-one) refl;
+    present_count = λ r within same. let at = present r within same in
+        let few = placed_early ids rows x r at.0 index.table at.2 in rw at.1 (omega arith);
+    absent_row = λ nowhere. let free = absent nowhere in rw (free.1, free.2.here) refl;
+    absent_count = λ nowhere. let free = absent nowhere in
+        let few = free_early ids rows x free.0 index.table free.2 in rw free.1 (omega arith);
   }
 
 -- ---- the number of slots
@@ -181,11 +140,8 @@ pub few_slots : (ids signatures rows : List ℕ) (x : ℕ) → IsIndex ids signa
 few_slots ids signatures rows x index =
     let exact = finds_exactly ids signatures rows x index in
     elim (first_or_none (λ r. eqb (get_or ids r 0) x) (length ids)) [
-      | inl w ↦ omega (
-        arith,
-        w.1.within,
-        exact.present_count w.0 w.1.within
-            (eqb-true _ _ w.1.here),
-      )
+      | inl w ↦
+          let count = exact.present_count w.0 w.1.within (eqb-true _ _ w.1.here) in
+          omega (arith, w.1.within)
       | inr none ↦ exact.absent_count (λ r h. eqb-false _ _ (none r h))
     ]

@@ -1,22 +1,31 @@
 -- The identity by a part of a section: tables of the same bytes give the same, and so does the
 -- section's table where it says the same of the root entry's code.
 use Rattle.std.proofs.Common.{◌≡◌, ℕ, ◌+◌, ◌<◌, ◌≤◌, min, length, take, drop, Option, Some, Result}
-use Rattle.std.proofs.Common.{Ok, Err, refl, ap, sym, ◌∙◌, arith, inl, inr}
+use Rattle.std.proofs.Common.{Ok, Err, refl, ap, sym, ◌∙◌, arith, inl, inr, ◌-◌, List, [], ◌∷◌}
+use Rattle.std.proofs.Common.{None, option_map}
 use Rattle.std.proofs.lemmas.Bool.{cases_lt, le-ltb, lt-ltb}
-use Rattle.std.proofs.lemmas.List.{drop-drop, length-drop, length-take-le, take_min}
+use Rattle.std.proofs.lemmas.List.{drop-drop, length-drop, length-take-le, take_min, drop-take}
+use Rattle.std.proofs.lemmas.List.{take-take}
 use Rattle.std.specs.Option.{ok_or}
 use Rattle.dwp_base.specs.Reading.{◌>>=◌}
 use Rattle.dwp_bytes.specs.declared.error.ReadError.TheVariants.{OffsetOutOfRange, UnknownCode}
-use Rattle.dwp_bytes.specs.Input.{Input, after, front, skip_at}
-use Rattle.dwp_dwarf.specs.Abbreviations.{declaration}
-use Rattle.dwp_dwarf.specs.Entries.{entry, root_code_at}
+use Rattle.dwp_bytes.specs.Input.{Input, after, front, skip_at, section}
+use Rattle.dwp_dwarf.proofs.Readings.{bind_alike}
+use Rattle.dwp_dwarf.specs.Abbreviations.{declaration, Declaration}
+use Rattle.dwp_dwarf.specs.Entries.{entry, root_code_at, DebugAttribute, DebugEntry}
 use Rattle.dwp_dwarf.specs.Offsets.{from_at}
 use Rattle.dwp_dwarf.specs.Units.{Unit}
 use Rattle.dwp_table.specs.declared.object.DwarfObject.{DwarfObject}
 use Rattle.thorin_errors.specs.Errors.{ErrorValue, NoDie, GimliRead, ParseUnitAbbreviations}
 use Rattle.thorin_errors.specs.Answers.{as_error}
 use Rattle.thorin_identity.specs.Identity.{entry_identity, root_identity, part_between, with_offset}
+use Rattle.thorin_identity.specs.Identity.{compilation, DW_AT_GNU_dwo_id, identifier_in, found_or}
+use Rattle.thorin_identity.specs.Identity.{first_identifier, numbered_identity}
 use Rattle.thorin_identity.proofs.Anywhere.{declared_anywhere}
+use Rattle.dwp_base.specs.declared.endian.Endianness.{Endianness}
+use Rattle.dwp_bytes.specs.declared.encoding.Encoding.{Encoding}
+use Rattle.dwp_bytes.specs.declared.error.ReadError.{ReadError}
+use Rattle.dwp_dwarf.specs.Numbers.{first_number, number_or, numbered, numbered_at}
 
 from_inside : (offset : ℕ) (i : Input) → offset ≤ length i.bytes → from_at offset i ≡ Ok
     (after offset i)
@@ -28,61 +37,30 @@ from_outside : (offset : ℕ) (i : Input) → length i.bytes < offset → from_a
 unfolding from_at
 from_outside offset i h = rw (lt-ltb (length i.bytes) offset h) refl
 
-abbrev Identity : Type 0
-Identity = Result (Option DwarfObject) ErrorValue
-
 -- by the code of the root entry
-abbrev by_code : Unit → Input → ℕ × Input → Identity
+abbrev by_code : Unit → Input → ℕ × Input → Result (Option DwarfObject) ErrorValue
 by_code unit table code =
     as_error ParseUnitAbbreviations (declaration code.0 table) >>= λ found.
     ok_or found (GimliRead UnknownCode) >>= λ d. entry_identity (entry unit.encoding d code.1)
 
-abbrev by_table : Unit → Input → Identity
-by_table unit table =
-    as_error GimliRead (root_code_at unit.entries) >>= λ read. ok_or read NoDie
-    >>= by_code unit table
-
-bind_alike : {A B E : Type 0} (r : Result A E) (f g : A → Result B E) → ((x : A) → f x ≡ g x)
-    → (r >>= f) ≡ (r >>= g)
-bind_alike (Ok x) f g e = e x
-bind_alike (Err d) f g e = refl
-
--- tables of the same bytes
-table_alike : (unit : Unit) (i j : Input) → i.bytes ≡ j.bytes → by_table unit i ≡ by_table unit j
-table_alike unit i j e =
-    bind_alike (as_error GimliRead (root_code_at unit.entries)) _ _ (λ read. bind_alike
-    (ok_or read NoDie) (by_code unit i) (by_code unit j) (λ code.
-    rw (declared_anywhere code.0 i j e) refl))
-
-root_table : (section table : Input) (unit : Unit) → from_at unit.abbrev_offset section ≡ Ok table
-    → root_identity section unit ≡ by_table unit table
-unfolding root_identity
-root_table section table unit e = rw e refl
-
-root_outside : (section : Input) (unit : Unit) → length section.bytes < unit.abbrev_offset
-    → root_identity section unit ≡ Err (ParseUnitAbbreviations OffsetOutOfRange)
-unfolding root_identity
-root_outside section unit h = rw (from_outside unit.abbrev_offset section h) refl
-
 -- sections of the same bytes
 pub root_alike : (i j : Input) (unit : Unit) → i.bytes ≡ j.bytes
     → root_identity i unit ≡ root_identity j unit
-root_alike i j unit e = elim (cases_lt (length i.bytes) unit.abbrev_offset) [
-  | inl past ↦ root_outside i unit past
-      ∙ sym (root_outside j unit (omega (arith, past, ap length e)))
-  | inr inside ↦
-      root_table i _ unit (from_inside unit.abbrev_offset i inside)
-      ∙ table_alike unit (after unit.abbrev_offset i) (after unit.abbrev_offset j)
-      (ap (drop unit.abbrev_offset) e)
-      ∙ sym (root_table j _ unit
-      (from_inside unit.abbrev_offset j (omega (arith, inside, ap length e))))
-]
-
--- by the code that the root entry has
-code_alike : (unit : Unit) (i j : Input) (code : ℕ) (values : Input)
-    → root_code_at unit.entries ≡ Ok (Some (code, values))
-    → declaration code i ≡ declaration code j → by_table unit i ≡ by_table unit j
-code_alike unit i j code values root e = rw (root, e) refl
+unfolding root_identity
+root_alike i j unit e =
+    let at = unit.abbrev_offset in
+    let size = ap length e in
+    elim (cases_lt (length i.bytes) at) [
+      | inl past ↦
+          let late : length j.bytes < at = omega arith in
+          rw (from_outside at i past, from_outside at j late) refl
+      | inr inside ↦
+          let within : at ≤ length j.bytes = omega arith in
+          rw (from_inside at i inside, from_inside at j within)
+          (bind_alike (as_error GimliRead (root_code_at unit.entries)) _ _ (λ read is. bind_alike
+          (ok_or read NoDie) (by_code unit (after at i)) (by_code unit (after at j)) (λ code is.
+          rw (declared_anywhere code.0 (after at i) (after at j) (ap (drop at) e)) refl)))
+    ]
 
 -- a part up to a place of the section, whose table says the same as the section's there
 pub root_within : (start end offset code : ℕ) (whole values : Input) (unit : Unit)
@@ -92,24 +70,99 @@ pub root_within : (start end offset code : ℕ) (whole values : Input) (unit : U
     → from_at offset whole ≡ Ok table → declaration code part ≡ declaration code table)
     → root_identity (part_between start end whole) unit
     ≡ root_identity whole (with_offset offset unit)
+unfolding root_identity
 root_within start end offset code whole values unit at early inside root same =
     let size : length (take end whole.bytes) ≡ end = length-take-le end whole.bytes inside in
     let part = part_between start end whole in
     let long : unit.abbrev_offset ≤ length part.bytes =
     omega (arith, at, early, size, length-drop start (take end whole.bytes)) in
     let held : drop unit.abbrev_offset part.bytes ≡ drop offset (take end whole.bytes) =
-    drop-drop unit.abbrev_offset start (take end whole.bytes)
-    ∙ ap (λ (n : ℕ). drop n (take end whole.bytes)) (sym at) in
+    rw at (drop-drop unit.abbrev_offset start (take end whole.bytes)) in
+    let before : offset ≤ length (take end whole.bytes) = omega (arith, early, size) in
     let there : from_at offset whole ≡ Ok (after offset whole) =
     from_inside offset whole (omega (arith, early, inside)) in
-    root_table part _ unit (from_inside unit.abbrev_offset part long)
-    ∙ code_alike unit (after unit.abbrev_offset part) (after offset whole) code values root
-    (declared_anywhere code (after unit.abbrev_offset part) (after offset (front end whole)) held
-    ∙ same (after offset (front end whole)) (after offset whole)
-    (from_inside offset (front end whole) (omega (arith, early, size))) there)
-    ∙ sym (root_table whole _ (with_offset offset unit) there)
+    let alike = declared_anywhere code (after unit.abbrev_offset part)
+    (after offset (front end whole)) held ∙ same (after offset (front end whole))
+    (after offset whole) (from_inside offset (front end whole) before) there in
+    rw (from_inside unit.abbrev_offset part long, there, root, alike) refl
 
 -- an end past the section's end is that
 pub part_min : (start end : ℕ) (whole : Input)
     → part_between start (min end (length whole.bytes)) whole ≡ part_between start end whole
 part_min start end whole = rw (take_min end whole.bytes) refl
+
+-- ---- a range of a section is what is left behind its start of the bytes up to its end
+-- what stands up to a place behind a start is what stands behind that of what is up to the place
+between : (bytes : List ℕ) (begin end : ℕ) → begin ≤ end
+    → take (end - begin) (drop begin bytes) ≡ drop begin (take end bytes)
+between bytes begin end early =
+    let way : begin + (end - begin) ≡ end = omega (arith, early) in
+    rw (← drop-take begin (end - begin) bytes, way) refl
+
+-- a part of a part is a part of the whole
+within : (bytes : List ℕ) (begin start end last : ℕ) → begin ≤ start → start ≤ end → end ≤ last
+    → drop (start - begin) (take (end - begin) (drop begin (take last bytes)))
+    ≡ drop start (take end bytes)
+within bytes begin start end last early order late =
+    let way : begin + (start - begin) ≡ start = omega (arith, early) in
+    let behind : begin ≤ end = omega (arith, early, order) in
+    rw (
+      between (take last bytes) begin end behind,
+      take-take end last bytes late,
+      drop-drop (start - begin) begin (take end bytes),
+      way,
+    ) refl
+
+-- the same of a section that is a part of one
+pub part_within : (order : Endianness) (bytes : List ℕ) (begin start end last : ℕ) (part : Input)
+    → begin ≤ start → start ≤ end → end ≤ last
+    → part ≡ section order (drop begin (take last bytes))
+    → part_between (start - begin) (end - begin) part ≡ section order (drop start (take end bytes))
+part_within order bytes begin start end last part early in_order late held =
+    rw (held, within bytes begin start end last early in_order late) refl
+
+-- ---- the identity in an entry is that of its tag and its first number of a GNU_dwo_id
+-- the identity that a number is
+abbrev by_number : Result (Option ℕ) ReadError → Result (Option DwarfObject) ErrorValue
+by_number number = as_error GimliRead number >>= λ id. Ok (option_map compilation id)
+
+found_alike : (o : Option ℕ) (r : Result (Option ℕ) ReadError)
+    → by_number (number_or o r) ≡ found_or o (by_number r)
+found_alike (Some n) r = refl
+found_alike None r = refl
+
+first_alike : (read : List (Result DebugAttribute ReadError))
+    → by_number (first_number DW_AT_GNU_dwo_id read) ≡ first_identifier read
+first_alike [] = refl
+first_alike (Ok a ∷ others) =
+    found_alike (identifier_in a) (first_number DW_AT_GNU_dwo_id others)
+    ∙ ap (found_or (identifier_in a)) (first_alike others)
+first_alike (Err e ∷ others) = refl
+
+pub numbered_is : (e : DebugEntry)
+    → numbered_identity (numbered DW_AT_GNU_dwo_id e) ≡ entry_identity e
+unfolding entry_identity
+numbered_is e = rw (first_alike e.attributes) refl
+
+-- the identity that a declaration gives, by what was found of its entry
+declared_is : (encoding : Encoding) (values : Input) (said : Result (Option Declaration) ReadError)
+    (found : ℕ × Result (Option ℕ) ReadError)
+    → (said >>= λ o. Ok (option_map (λ (d : Declaration). numbered DW_AT_GNU_dwo_id
+    (entry encoding d values)) o)) ≡ Ok (Some found)
+    → (as_error ParseUnitAbbreviations said >>= λ o. ok_or o (GimliRead UnknownCode) >>= λ d.
+    entry_identity (entry encoding d values)) ≡ numbered_identity found
+declared_is encoding values (Err e) found is = absurd cc
+declared_is encoding values (Ok None) found is = absurd cc
+declared_is encoding values (Ok (Some d)) found is =
+    let same : numbered DW_AT_GNU_dwo_id (entry encoding d values) ≡ found = cc in
+    sym (numbered_is (entry encoding d values)) ∙ ap numbered_identity same
+
+-- the identity in a unit's root entry, by what was found of it
+pub root_is : (section : Input) (unit : Unit) (table values : Input) (code : ℕ)
+    (found : ℕ × Result (Option ℕ) ReadError) → from_at unit.abbrev_offset section ≡ Ok table
+    → root_code_at unit.entries ≡ Ok (Some (code, values))
+    → numbered_at DW_AT_GNU_dwo_id unit.encoding values code table ≡ Ok (Some found)
+    → root_identity section unit ≡ numbered_identity found
+unfolding root_identity
+root_is section unit table values code found at root is = rw (at, root)
+    (declared_is unit.encoding values (declaration code table) found is)

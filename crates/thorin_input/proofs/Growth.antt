@@ -1,5 +1,5 @@
 -- Contents that grow, and what is taken back.
-use Rattle.std.proofs.Common.{◌≡◌, ◌∙◌, ℕ, Bool, true, false, cond, List, [], ◌∷◌, ◌++◌, length}
+use Rattle.std.proofs.Common.{◌≡◌, ◌∙◌, ℕ, true, false, cond, List, [], ◌∷◌, ◌++◌, length}
 use Rattle.std.proofs.Common.{refl, ap, ◌==◌}
 use Rattle.std.proofs.Math.Seq.{take-append_seam}
 use Rattle.std.proofs.lemmas.List.{append_assoc}
@@ -16,24 +16,20 @@ begins-appended kind x [] b h = tt
 begins-appended kind x (c ∷ cs) [] h = absurd h
 begins-appended kind x (c ∷ cs) (d ∷ ds) h = elim (same_kind d.0 kind) as (λ b.
     Begins (c ∷ cs) (cond b ((d.0, d.1 ++ x) ∷ ds) (d ∷ appended kind x ds))) [
-      | true ↦ (
-        h.0,
-        record {
-          rest = h.1.rest ++ x;
-          is = ap (λ v. v ++ x) h.1.is ∙ append_assoc c.1 h.1.rest x;
-        },
-        h.2,
-      )
+      | true ↦ (h.0, record {
+        rest = h.1.rest ++ x;
+        is = ap (λ v. v ++ x) h.1.is ∙ append_assoc c.1 h.1.rest x;
+      }, h.2)
       | false ↦ (h.0, h.1, begins-appended kind x cs ds h.2)
     ]
 
 pub begins-with_bytes : (kind : SectionKind) (x : List ℕ) (a b : Contents) → Begins a b
     → Begins a (with_bytes kind x b)
-begins-with_bytes kind x a b h = by (length x == 0)
-  where
-    by : (e : Bool) → Begins a (cond e b (appended kind x b))
-    by true = h
-    by false = begins-appended kind x a b h
+begins-with_bytes kind x a b h = elim (length x == 0) as (λ e.
+    Begins a (cond e b (appended kind x b))) [
+      | true ↦ h
+      | false ↦ begins-appended kind x a b h
+    ]
 
 -- cut to their lengths, the contents are those from before
 pub truncated-begins : (a b : Contents) → Begins a b → truncated b (lengths a) ≡ a
@@ -51,10 +47,4 @@ truncated-begins (c ∷ cs) (d ∷ ds) h = rw (
 pub is_grown-with_bytes : (before o : Object) (kind : SectionKind) (x : List ℕ) → IsGrown before o
     → IsGrown before (record o { contents = with_bytes kind x o.contents })
 is_grown-with_bytes before o kind x h =
-    record {
-      class = h.class;
-      machine = h.machine;
-      order = h.order;
-      contents =
-          begins-with_bytes kind x before.contents o.contents h.contents;
-    }
+    let contents = begins-with_bytes kind x before.contents o.contents h.contents in assumption

@@ -58,8 +58,7 @@ known : {T : Type 0} (P : SectionKind → T → Type 0) (values : ByKind T) → 
     → (kind : SectionKind) (default : T) → P kind (value_of default (values_of values) kind)
 known P values read kind default =
     let at = read kind in
-    subst (P kind) (sym (get_or_from_slice_get (values_of values) (rank_of kind) at.0 default at.1))
-    at.2
+    rw (get_or_from_slice_get (values_of values) (rank_of kind) at.0 default at.1) at.2
 
 abbrev range_of_whole : Contents → Contents → SectionKind → Option Contribution
 range_of_whole before parts kind =
@@ -92,23 +91,17 @@ unfolding unit_row adjusted
 plain-row indexes whole name compilations types =
     bind-ok _ _ (λ parts. Ok (entry_by whole.encoding name (value_of None parts)))
     (each-read (λ kind. unit_part indexes name kind (contribution_to kind whole))
-    (λ kind. contribution_to kind whole) (λ kind. stays kind (is_shared kind)) all_kinds)
+    (λ kind. contribution_to kind whole)
+    (λ kind. stays kind (contribution_to kind whole) (is_shared kind)) all_kinds)
   where
-    unchanged : (kind : SectionKind) (part : Option Contribution) → adjusted (record {
+    stays : (kind : SectionKind) (part : Option Contribution) (b : Bool)
+        → cond b (adjusted (record {
       compilation = indexes.compilations;
       types = indexes.types;
       section = kind;
-    }) name part ≡ Ok part
-    unchanged kind part = rw (compilations, types) refl
-
-    stays : (kind : SectionKind) (b : Bool) → cond b (adjusted (record {
-      compilation = indexes.compilations;
-      types = indexes.types;
-      section = kind;
-    }) name (contribution_to kind whole)) (Ok (contribution_to kind whole))
-        ≡ Ok (contribution_to kind whole)
-    stays kind true = unchanged kind (contribution_to kind whole)
-    stays kind false = refl
+    }) name part) (Ok part) ≡ Ok part
+    stays kind part true = rw (compilations, types) refl
+    stays kind part false = refl
 
 module _ (indexes : Indexes) (whole : IndexEntry) (name : DwarfObject) where
   abbrev part : SectionKind → Result (Option Contribution) ErrorValue
@@ -135,21 +128,13 @@ module _ (indexes : Indexes) (whole : IndexEntry) (name : DwarfObject) where
   unfolding unit_row ErrorRead
   row-read parts read = bind-ok _ (values_of parts) (λ values.
       Ok (entry_by whole.encoding name (value_of None values)))
-      (answers-each (λ part. part) (λ kind. unit_part indexes name kind
-      (contribution_to kind whole))
-      ErrorRead answers (Ok parts) read ∙ ap Ok (map-id (values_of parts)))
+      (answers-each (λ part. part) part ErrorRead answers (Ok parts) read
+      ∙ ap Ok (map-id (values_of parts)))
 
   pub row-refused : (e : Error) → ReadsEach PartRead (Err e) → unit_row indexes whole name
       ≡ Err (error_of e)
   unfolding unit_row ErrorRead
   row-refused e read = bind-err _ (error_of e) (λ values.
       Ok (entry_by whole.encoding name (value_of None values)))
-      (answers-each (λ part. part) (λ kind. unit_part indexes name kind
-      (contribution_to kind whole))
-      ErrorRead answers (Err (error_of e)) (
-        read.0,
-        read.1,
-        read.2,
-        (e, refl, read.3),
-        read.4,
-      ))
+      (answers-each (λ part. part) part ErrorRead answers (Err (error_of e))
+      (read.0, read.1, read.2, (e, refl, read.3), read.4))

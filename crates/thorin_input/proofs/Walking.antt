@@ -12,7 +12,7 @@ use Rattle.dwp_base.specs.declared.section.SectionKind.TheVariants as kinds
 use Rattle.dwp_base.specs.Sections.{compressed_name_of, kind_named, all_kinds, same_kind}
 use Rattle.dwp_elf_read.specs.declared.error.ReadError.TheVariants.{Compressed, SectionRange}
 use Rattle.dwp_elf_read.specs.Elf.{Elf, SectionMeaning, SHT_NOBITS, name_is, has_compressed_flag}
-use Rattle.dwp_elf_read.specs.View.{Placed}
+use Rattle.dwp_elf_read.specs.View.{Placed, placed_sections}
 use Rattle.dwp_index.specs.Contents as contents
 use Rattle.dwp_index.specs.Contents.{has_name, is_of_kind}
 use Rattle.thorin_errors.specs.Errors.{ErrorValue, error_of, DecompressData, ObjectRead}
@@ -35,32 +35,27 @@ pub kind-empty : (s : SectionMeaning) → (eqb s.size 0 || eqb s.kind SHT_NOBITS
 unfolding used_kind is_of_kind
 kind-empty s h = ap (λ e. find (λ kind. not e && has_name kind s.name) all_kinds) h
 
-full-kind : (name : Option (List ℕ)) → find (λ kind. true && has_name kind name) all_kinds ≡
-    option_and_then kind_named name
-full-kind None = refl
-full-kind (Some own) = refl
-
 pub kind-full : (s : SectionMeaning) → (eqb s.size 0 || eqb s.kind SHT_NOBITS) ≡ false
     → used_kind s ≡ option_and_then kind_named s.name
 unfolding used_kind is_of_kind
-kind-full s h = ap (λ e. find (λ kind. not e && has_name kind s.name) all_kinds) h ∙
-    full-kind s.name
-
-choice : (kind : SectionKind) (s : SectionMeaning) (b : Bool)
-    → (has_compressed_flag s || name_is (compressed_name_of kind) s.name) ≡ b
-    → used_bytes kind s ≡ as_error unusable (cond b (Err Compressed) (ok_or s.content SectionRange))
-unfolding used_bytes contents.used_bytes
-choice kind s b h = rw (← called_is_older kind s.name, h) refl
+kind-full s h = ap (λ e. find (λ kind. not e && has_name kind s.name) all_kinds) h ∙ full s.name
+  where
+    full : (name : Option (List ℕ)) → find (λ kind. true && has_name kind name) all_kinds ≡
+        option_and_then kind_named name
+    full None = refl
+    full (Some own) = refl
 
 pub bytes-compressed : (kind : SectionKind) (s : SectionMeaning)
     → (has_compressed_flag s || name_is (compressed_name_of kind) s.name) ≡ true
     → used_bytes kind s ≡ Err (DecompressData Compressed)
-bytes-compressed kind s h = choice kind s true h
+unfolding used_bytes contents.used_bytes
+bytes-compressed kind s h = rw (← called_is_older kind s.name, h) refl
 
 pub bytes-plain : (kind : SectionKind) (s : SectionMeaning)
     → (has_compressed_flag s || name_is (compressed_name_of kind) s.name) ≡ false
     → used_bytes kind s ≡ as_error ObjectRead (ok_or s.content SectionRange)
-bytes-plain kind s h = choice kind s false h ∙ range-error s.content
+unfolding used_bytes contents.used_bytes
+bytes-plain kind s h = rw (← called_is_older kind s.name, h) (range-error s.content)
   where
     range-error : (content : Option (List ℕ)) → as_error unusable (ok_or content SectionRange)
         ≡ as_error ObjectRead (ok_or content SectionRange)
@@ -112,6 +107,10 @@ plain-is o = o.no_index ∙ ap not (any-index o.sections.items)
 abbrev pub those : List Placed → List SectionMeaning
 those left = map (λ (p : Placed). p.section) left
 
+pub map-placed : (e : Elf) (ss : List SectionMeaning) → those (placed_sections e ss) ≡ ss
+map-placed e [] = refl
+map-placed e (s ∷ ss) = ap (λ xs. s ∷ xs) (map-placed e ss)
+
 -- a test of a section so far, or of one of those that are left
 pub any-step : (test : SectionMeaning → Bool) (b : Bool) (l rest : List Placed)
     (p : Placed) → l ≡ p ∷ rest
@@ -127,8 +126,8 @@ any-end test b l all e h = sym (or-false b) ∙ (rw e at h)
 abbrev pub taken : Taken → List Used
 taken t = map view.used t.sections.items
 
-abbrev pub GoesOn : Result Taken Error → List SectionMeaning → Result (List Used)
-    ErrorValue → Type 0
+abbrev pub GoesOn : Result Taken Error → List SectionMeaning → Result (List Used) ErrorValue
+    → Type 0
 GoesOn (Ok t) rest all = used_from (taken t) rest ≡ all
 GoesOn (Err e) rest all = MemoryAside e (all ≡ Err (error_of e))
 

@@ -1,14 +1,13 @@
 -- The first row that a test finds.
-use Rattle.std.proofs.Common.{◌≡◌, ◌≢◌, ℕ, zero, suc, ◌+◌, ◌-◌, ◌<◌, ◌≤◌, Bool, true, false, eqb}
-use Rattle.std.proofs.Common.{ltb}
-use Rattle.std.proofs.Common.{length, map, Some, None, Ok, Err, ◌&&◌, Option, Result, ap, ap₂}
-use Rattle.std.proofs.Common.{subst, refl}
-use Rattle.std.proofs.Common.{◌∙◌, ◌⊎◌, inl, inr, ⊎_elim, arith}
+use Rattle.std.proofs.Common.{◌≡◌, ◌≢◌, ℕ, zero, suc, ◌+◌, ◌<◌, ◌≤◌, Bool, true, false, eqb}
+use Rattle.std.proofs.Common.{length, map, Some, None, Ok, Err, Option, Result, ap, ap₂}
+use Rattle.std.proofs.Common.{subst, refl, ◌∙◌, ◌⊎◌, inl, inr, ⊎_elim, arith}
 use Rattle.std.specs.List.{position_from, range_with_len}
 use Rattle.std.specs.Option.{option_and_then}
 use Rattle.std.specs.Result.{result_ok}
-use Rattle.std.proofs.lemmas.Bool.{cases_eq, cases_lt, eqb-true, eq-eqb, and_parts, ltb-true}
-use Rattle.std.proofs.lemmas.Bool.{true_from_ne_false}
+use Rattle.std.proofs.lemmas.Bool.{cases_eq, eqb-true, eq-eqb, and_parts}
+use Rattle.std.proofs.lemmas.Bool.Decides.{nat_tests}
+use Rattle.dwp_base.proofs.Bools.{by-bool}
 use Rattle.dwp_base.specs.declared.section.SectionKind.{SectionKind}
 use Rattle.dwp_base.specs.declared.section.Contribution.{Contribution}
 use Rattle.dwp_bytes.specs.declared.error.ReadError.{ReadError}
@@ -39,35 +38,23 @@ module _ {X : Type 0} (t : X → Bool) (f : ℕ → X) where
 
   finds : (a n : ℕ) → IsFound a (a + n) (position_from t a (map f (range_with_len a n)))
   finds a zero = inr (refl, λ j from below. absurd (omega arith))
-  finds a (suc n) = by (t (f a)) refl (finds (a + 1) n)
-    where
-      by : (b : Bool) → t (f a) ≡ b
-          → IsFound (a + 1) (a + 1 + n) (position_from t (a + 1) (map f (range_with_len (a + 1) n)))
-          → IsFound a (a + suc n) (position_from t a (map f (range_with_len a (suc n))))
-      by true passes later = inl (
-        a,
-        rw passes refl,
-        record {
-          low = omega arith;
-          high = omega arith;
-          here = passes;
-          before = λ j from below. absurd (omega arith);
-        },
-      )
-      by false fails (inl w) = inl (
-        w.0,
-        rw fails w.1,
-        record {
+  finds a (suc n) = by-bool _ (t (f a))
+      (λ passes. inl (a, rw passes refl, record {
+        low = omega arith;
+        high = omega arith;
+        here = passes;
+        before = λ j from below. absurd (omega arith);
+      }))
+      (λ fails. elim (finds (a + 1) n) [
+        | inl w ↦ inl (w.0, rw fails w.1, record {
           low = omega (arith, w.2.low);
           high = omega (arith, w.2.high);
           here = w.2.here;
           before = more_fail a w.0 fails w.2.before;
-        },
-      )
-      by false fails (inr none) = inr (
-        rw fails none.0,
-        more_fail a (a + suc n) fails (λ j from below. none.1 j from (omega arith)),
-      )
+        })
+        | inr none ↦ inr (rw fails none.0, more_fail a (a + suc n) fails (λ j from below.
+            none.1 j from (omega arith)))
+      ])
 
 -- ---- a row's range
 pub range_is : (range : Contribution) (found : Option Contribution) → is_range range found ≡ true
@@ -91,13 +78,7 @@ range_of_found index kind number row there = rw there refl
 pub numbered : (index : Index) (number : ℕ) (row : Ranges) → row_in index number ≡ Ok row
     → (1 ≤ number) × (number ≤ length index.offsets)
 unfolding row_in
-numbered index number row there =
-    let within : (ltb 0 number && ltb (number - 1) (length index.offsets)) ≡ true =
-    true_from_ne_false _ (λ past. let refused = rw past at there in cc) in
-    let both = and_parts (ltb 0 number) _ within in
-    let low = ltb-true 0 number both.0 in
-    let high = ltb-true (number - 1) (length index.offsets) both.1 in
-    (omega arith, omega arith)
+numbered index number row there = grind (arith, nat_tests)
 
 -- ---- the first row with a range
 module _ (index : Index) (kind : SectionKind) (range : Contribution) where
@@ -164,12 +145,11 @@ module _ (index : Index) (kind : SectionKind) (range : Contribution) where
   first_found number first =
       let passes = has_range number first.row first.there first.has in
       elim rows [
-        | inl w ↦ w.1 ∙ ap Some (⊎_elim
-            (λ (less : w.0 < number). absurd (let row = row_found w.0 w.2.here in
-            first.first w.0 row.0 less row.1 row.2))
-            (λ le. ⊎_elim (λ (less : number < w.0). absurd (let fails = w.2.before number
-            first.low less in cc)) (λ above. omega arith) (cases_lt number w.0))
-            (cases_lt w.0 number))
-        | inr none ↦ absurd (let fails = none.1 number first.low (omega (arith, first.high))
-            in cc)
+        | inl w ↦
+            let row = row_found w.0 w.2.here in
+            let not_below : w.0 < number → ⊥ = λ less. first.first w.0 row.0 less row.1 row.2 in
+            let not_above : number < w.0 → ⊥ =
+            λ less. (let fails = w.2.before number first.low less in cc) in
+            w.1 ∙ ap Some (omega (arith, not_below, not_above))
+        | inr none ↦ absurd (let fails = none.1 number first.low (omega (arith, first.high)) in cc)
       ]

@@ -1,7 +1,7 @@
 -- String offsets without a header, joined, are read in turn.
-use Rattle.std.proofs.Common.{◌≡◌, ℕ, ◌+◌, ◌-◌, ◌*◌, ◌/◌, ◌<◌, ◌≤◌, false, cond, ltb, leb}
-use Rattle.std.proofs.Common.{List, ◌++◌, length, drop, ap, refl, ⊎_elim}
-use Rattle.std.proofs.Common.{arith, length-append, true, get_or}
+use Rattle.std.proofs.Common.{◌≡◌, ℕ, ◌+◌, ◌-◌, ◌*◌, ◌/◌, ◌<◌, ◌≤◌, cond, ltb, List, ◌++◌, length}
+use Rattle.std.proofs.Common.{drop, ap, refl, ⊎_elim, arith, length-append, true, get_or, take}
+use Rattle.std.proofs.Common.{Some, None, Ok, sym, ◌∙◌}
 use Rattle.std.proofs.lemmas.List.{get_or_append_left, drop_at, drop-drop, length-drop}
 use Rattle.std.proofs.lemmas.List.{drop-append-le}
 use Rattle.std.proofs.lemmas.Bool.{cases_lt, lt-ltb, le-ltb, lt-leb, ltb-true}
@@ -15,8 +15,14 @@ use Rattle.dwp_bytes.specs.declared.encoding.Encoding.{Encoding}
 use Rattle.dwp_bytes.specs.declared.encoding.Format.{Format}
 use Rattle.dwp_bytes.specs.declared.encoding.Format.TheVariants.{Dwarf32, Dwarf64}
 use Rattle.dwp_bytes.specs.Encoding.{offset_size}
-use Rattle.dwp_bytes.specs.StringOffsets.{header_size, entry_count}
+use Rattle.dwp_bytes.specs.StringOffsets.{header_size, entry_count, string_at}
 use Rattle.dwp_index.specs.Strings.{entry_in, string_in}
+use Rattle.thorin_strings.specs.Strings.{data_of, IsTable}
+use Rattle.thorin_strings.specs.StringOffsets.{offset_at, named_at}
+use Rattle.thorin_strings.specs.Rewritten.{NamesTheSame}
+use Rattle.dwp_base.proofs.Steps.{bind-was, guard-ok}
+use Rattle.thorin_packaged.specs.ReadStrings.{ReadsAlike}
+use Rattle.thorin_strings.proofs.NamedEntries.{as_error_ok}
 
 front : (xs ys : List ℕ) (n : ℕ) → n ≤ length xs → (k : ℕ) → ltb k n ≡ true
     → get_or (xs ++ ys) k 0 ≡ get_or xs k 0
@@ -35,17 +41,13 @@ number_front Big Dwarf32 xs ys within =
     rw (at 0 refl, at 1 refl, at 2 refl, at 3 refl) refl
 number_front Little Dwarf64 xs ys within =
     let at = front xs ys 8 within in
-    rw (at 0 refl, at 1 refl, at 2 refl, at 3 refl)
-    (rw (at 4 refl, at 5 refl, at 6 refl, at 7 refl) refl)
+    rw (at 0 refl, at 1 refl, at 2 refl, at 3 refl, at 4 refl, at 5 refl, at 6 refl, at 7 refl) refl
 number_front Big Dwarf64 xs ys within =
     let at = front xs ys 8 within in
-    rw (at 0 refl, at 1 refl, at 2 refl, at 3 refl)
-    (rw (at 4 refl, at 5 refl, at 6 refl, at 7 refl) refl)
+    rw (at 0 refl, at 1 refl, at 2 refl, at 3 refl, at 4 refl, at 5 refl, at 6 refl, at 7 refl) refl
 
 pub no_header : (encoding : Encoding) → encoding.version < 5 → header_size encoding ≡ 0
-no_header encoding old =
-    let gnu : leb 5 encoding.version ≡ false = lt-leb 5 encoding.version old in
-    rw gnu refl
+no_header encoding old = rw (lt-leb 5 encoding.version old) refl
 
 count_joined : (format : Format) (n m l : ℕ) → l ≡ n * offset_size format + m
     → (l - 0) / offset_size format ≡ n + (m - 0) / offset_size format
@@ -117,3 +119,49 @@ module _ (order : Endianness) (encoding : Encoding) (first second : List ℕ) (n
       (λ less. rw (lt-ltb i n less, entry_before i less) refl)
       (λ past. rw (le-ltb i n past, entry_behind i past) refl)
       (cases_lt i n)
+
+-- ---- a rewritten range of string offsets reads as it read before
+offset_is : (order : Endianness) (format : Format) (bytes : List ℕ) (at offset : ℕ)
+    → offset_at order format bytes at ≡ Ok offset → number order (offset_size format)
+    (drop at bytes) ≡ offset
+unfolding offset_at
+offset_is order format bytes at offset h = (guard-ok _ _ _ _ h).1
+
+-- an entry that names a string is read as that string
+named_read : (order : Endianness) (encoding : Encoding) (section bytes : List ℕ) (i : ℕ)
+    (string : List ℕ) → i < entry_count encoding (length bytes) → named_at order encoding section
+    bytes i ≡ Ok string → string_in order encoding section bytes i ≡ Ok (Some string)
+unfolding string_in entry_in named_at
+named_read order encoding section bytes i string less h =
+    let offset = bind-was _ _ string h in
+    rw (
+      lt-ltb i (entry_count encoding (length bytes)) less,
+      offset_is order encoding.format bytes _ offset.0 (as_error_ok _ _ offset.0 offset.1),
+      as_error_ok _ (string_at section offset.0) string offset.2,
+    ) refl
+
+-- past the last there is none
+past_read : (order : Endianness) (encoding : Encoding) (section bytes : List ℕ) (i : ℕ)
+    → entry_count encoding (length bytes) ≤ i → string_in order encoding section bytes i ≡ Ok None
+unfolding string_in entry_in
+past_read order encoding section bytes i past =
+    rw (le-ltb i (entry_count encoding (length bytes)) past) refl
+
+pub strings_again : (order : Endianness) (encoding : Encoding) (section bytes : List ℕ)
+    (before : List (List ℕ)) (rewritten : List ℕ) (after final : List (List ℕ)) → NamesTheSame order
+    encoding section bytes (length bytes) before rewritten after → IsTable final
+    → take (length after) final ≡ after → (i : ℕ) → ReadsAlike order encoding section bytes
+    (data_of final) rewritten i
+strings_again order encoding section bytes before rewritten after final names final_table kept i =
+    ⊎_elim
+    (λ less.
+    let one = names.named i less in
+    let old = named_read order encoding section bytes i one.string less one.old in
+    let new = named_read order encoding (data_of final) rewritten i one.string
+    (omega (arith, names.count)) (one.new final final_table kept) in
+    record { readable = rw old refl; same = new ∙ sym old })
+    (λ past.
+    let old = past_read order encoding section bytes i past in
+    let new = past_read order encoding (data_of final) rewritten i (omega (arith, names.count)) in
+    record { readable = rw old refl; same = new ∙ sym old })
+    (cases_lt i (entry_count encoding (length bytes)))

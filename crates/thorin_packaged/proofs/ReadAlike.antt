@@ -1,8 +1,8 @@
 -- A package's string offsets, rewritten, read as they read before.
-use Rattle.std.proofs.Common.{◌≡◌, ℕ, ◌+◌, ◌-◌, ◌*◌, ◌/◌, ◌%◌, ◌≤◌, List, [], ◌∷◌, ◌++◌, length}
+use Rattle.std.proofs.Common.{◌≡◌, ℕ, ◌+◌, ◌-◌, ◌≤◌, List, [], ◌∷◌, ◌++◌, length}
 use Rattle.std.proofs.Common.{take, drop, slice_range, Option, Ok, ap, sym, subst}
 use Rattle.std.proofs.Common.{refl, ◌∙◌, ⊎_elim, append_assoc, length-append, length-drop, arith}
-use Rattle.std.proofs.Math.Nat.{div-add-mod, mul_comm}
+use Rattle.std.proofs.Math.Nat.{div-add-mod}
 use Rattle.std.proofs.lemmas.Bool.{cases_eq}
 use Rattle.std.proofs.lemmas.List.{drop_at, take_at, take_all, length-take-le}
 use Rattle.dwp_base.specs.declared.endian.Endianness.{Endianness}
@@ -34,9 +34,6 @@ slice_length : (bytes : List ℕ) (a b : ℕ) → a ≤ b → b ≤ length bytes
     → length (slice_range bytes a b) ≡ b - a
 slice_length bytes a b less within = length-take-le (b - a) (drop a bytes)
     (omega (arith, length-drop a bytes))
-
-whole_number : (n width : ℕ) → n % width ≡ 0 → (n / width) * width ≡ n
-whole_number n width whole = omega (arith, div-add-mod n width, whole, mul_comm (n / width) width)
 
 -- ---- what is known of ranges one by one
 abbrev pub NamesLaw : Type 0
@@ -84,13 +81,8 @@ module _ (names : NamesLaw) (order : Endianness) (encoding : Encoding)
   same_size last r rs old new rewritten next named =
       ⊎_elim
       (λ (none : r.size ≡ 0). ap length (named.none none) ∙ sym none)
-      (λ some. omega (
-        arith,
-        named.long some,
-        whole_number (r.size - header_size encoding)
-            (offset_size encoding.format) next.whole,
-        next.header,
-      ))
+      (λ some. omega (arith, named.long some, div-add-mod (r.size - header_size encoding)
+      (offset_size encoding.format)))
       (cases_eq r.size 0)
 
   module _ (at : ℕ) (x : Contribution) (xs : List Contribution) (before between : List (List ℕ))
@@ -126,7 +118,7 @@ module _ (names : NamesLaw) (order : Endianness) (encoding : Encoding)
           let regrouped : front ++ ((gap ++ range) ++ rest) ≡ ((front ++ gap) ++ range) ++ rest =
           simp append_assoc in
           rw regrouped (slice_front (front ++ gap) range rest x.offset.0 (x.offset.0 + x.size)
-          (omega (arith, length-append front gap, gap_length, next.behind, long))
+          (omega (arith, length-append {A = ℕ}, gap_length))
           (omega (arith, range_length)));
     }
 
@@ -138,31 +130,15 @@ module _ (names : NamesLaw) (order : Endianness) (encoding : Encoding)
       there = λ front long.
           let regrouped : front ++ ((gap ++ range) ++ rest) ≡ (front ++ (gap ++ range)) ++ rest =
           sym (append_assoc front (gap ++ range) rest) in
-          rw regrouped (w.there (front ++ (gap ++ range)) (omega (
-            arith,
-            length-append front (gap ++ range),
-            length-append gap range,
-            gap_length,
-            range_length,
-            next.behind,
-            long,
-          )));
+          rw regrouped (w.there (front ++ (gap ++ range))
+          (omega (arith, length-append {A = ℕ}, gap_length, range_length)));
     }
 
     more_written : AreWritten at (x ∷ xs) before (gap ++ range ++ rest) after
     more_written = record {
       table = behind.table;
       kept = kept_more before between after same.kept behind.kept;
-      size = omega (
-        arith,
-        length-append gap range,
-        length-append (gap ++ range) rest,
-        gap_length,
-        range_length,
-        behind.size,
-        next.behind,
-        next.inside,
-      );
+      size = omega (arith, length-append {A = ℕ}, gap_length, range_length);
       each = λ r there. ⊎_elim (λ (is : r ≡ x). rw is here_written)
           (λ later. later_written r (behind.each r later)) there;
     }

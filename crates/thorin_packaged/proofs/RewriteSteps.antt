@@ -1,19 +1,18 @@
 -- Rewriting one range after another.
-use Rattle.std.proofs.Common.{◌≡◌, ℕ, ◌+◌, ◌-◌, ◌%◌, ◌<◌, ◌≤◌, true, false, eqb, ltb}
-use Rattle.std.proofs.Common.{leb, ◌&&◌, List, [], ◌∷◌, ◌++◌, length, get_or, take, drop}
+use Rattle.std.proofs.Common.{◌≡◌, ℕ, ◌+◌, ◌-◌, ◌%◌, ◌<◌, ◌≤◌, eqb, ltb}
+use Rattle.std.proofs.Common.{leb, ◌&&◌, cond, not, List, ◌∷◌, ◌++◌, length, get_or, take, drop}
 use Rattle.std.proofs.Common.{slice_range, Ok, Err, Result, ap, sym, refl, ◌∙◌, append_assoc, arith}
-use Rattle.std.proofs.lemmas.Bool.{and_parts, false_from_ne_true, true_from_ne_false, leb-true}
-use Rattle.std.proofs.lemmas.Bool.{ltb-false, eqb-true}
-use Rattle.std.proofs.lemmas.List.{take_all, at_drop_more, at_drop_all}
+use Rattle.std.proofs.lemmas.Bool.Decides.{nat_tests}
+use Rattle.std.proofs.lemmas.List.{at_drop_more, at_drop_all}
 use Rattle.dwp_base.specs.declared.endian.Endianness.{Endianness}
 use Rattle.dwp_base.specs.declared.section.Contribution.{Contribution}
 use Rattle.dwp_base.specs.Reading.{◌>>=◌}
 use Rattle.dwp_bytes.specs.declared.encoding.Encoding.{Encoding}
 use Rattle.dwp_bytes.specs.Encoding.{offset_size}
 use Rattle.dwp_bytes.specs.StringOffsets.{header_size}
-use Rattle.thorin_errors.specs.Errors.{ErrorValue}
+use Rattle.thorin_errors.specs.Errors.{ErrorValue, BadStringOffsets, OverlappingStringOffsets}
 use Rattle.thorin_strings.specs.StringOffsets.{remapped}
-use Rattle.thorin_packaged.specs.PackagedOffsets.{is_whole_range, ranges_test, rewritten_from}
+use Rattle.thorin_packaged.specs.PackagedOffsets.{ranges_test, rewritten_from}
 use Rattle.thorin_strings.proofs.RemapLemmas.{kept_more}
 
 -- ---- what the tests say of the next range
@@ -25,26 +24,22 @@ pub record IsNext (encoding : Encoding) (size last : ℕ) (r : Contribution)
   pub behind : last ≤ r.offset.0
   pub others : ranges_test encoding size (r.offset.0 + r.size) rs ≡ Ok tt
 
+tests_passed : (a b c d e f g : ℕ) (bad overlapping : ErrorValue) (rest : Result (Unit {0})
+    ErrorValue) → cond (not (leb a b && leb c d && eqb e 0)) (Err bad)
+    (cond (ltb f g) (Err overlapping) rest) ≡ Ok tt
+    → (a ≤ b) × (c ≤ d) × (e ≡ 0) × (g ≤ f) × (rest ≡ Ok tt)
+tests_passed a b c d e f g bad overlapping rest passed =
+    grind (arith, nat_tests)
+
 pub next_passed : (encoding : Encoding) (size last : ℕ) (r : Contribution) (rs : List Contribution)
     → ranges_test encoding size last (r ∷ rs) ≡ Ok tt → IsNext encoding size last r rs
 unfolding ranges_test
 next_passed encoding size last r rs h =
-    let inside = leb (r.offset.0 + r.size) size in
-    let headed = leb (header_size encoding) r.size in
-    let whole = eqb ((r.size - header_size encoding) % offset_size encoding.format) 0 in
-    let fits : is_whole_range encoding size r ≡ true =
-    true_from_ne_false _ (λ no. let refused = rw no at h in cc) in
-    let later : ltb r.offset.0 last ≡ false =
-    false_from_ne_true _ (λ yes. let refused = rw (fits, yes) at h in cc) in
-    let both = and_parts (inside && headed) whole fits in
-    let first = and_parts inside headed both.0 in
-    record {
-      inside = leb-true (r.offset.0 + r.size) size first.0;
-      header = leb-true (header_size encoding) r.size first.1;
-      whole = eqb-true _ 0 both.1;
-      behind = ltb-false r.offset.0 last later;
-      others = rw (fits, later) at h;
-    }
+    let whole = (r.size - header_size encoding) % offset_size encoding.format in
+    let parts = tests_passed (r.offset.0 + r.size) size (header_size encoding) r.size whole
+    r.offset.0 last (BadStringOffsets r.offset.0) (OverlappingStringOffsets r.offset.0)
+    (ranges_test encoding size (r.offset.0 + r.size) rs) h in
+    assumption
 
 -- ---- what was written, in front of what is to come
 abbrev Rewriting : Type 0
@@ -54,10 +49,6 @@ abbrev pub onto : List ℕ → Result (List ℕ × List (List ℕ)) ErrorValue
     → Result (List ℕ × List (List ℕ)) ErrorValue
 onto front (Ok p) = Ok (front ++ p.0, p.1)
 onto front (Err e) = Err e
-
-pub onto_none : (result : Rewriting) → onto [] result ≡ result
-onto_none (Ok p) = refl
-onto_none (Err e) = refl
 
 -- so far the rewriting of all is that of the rest behind what was written
 pub record IsSoFar (order : Endianness) (encoding : Encoding) (section bytes : List ℕ)
@@ -71,15 +62,6 @@ pub record IsSoFar (order : Endianness) (encoding : Encoding) (section bytes : L
 
 module _ {order : Endianness} {encoding : Encoding} {section bytes : List ℕ}
     {ranges : List Contribution} {before : List (List ℕ)} where
-  pub none_yet : ranges_test encoding (length bytes) 0 ranges ≡ Ok tt → IsSoFar order encoding
-      section bytes ranges before [] 0 0 before
-  none_yet passed = record {
-    kept = take_all (length before) before (omega arith);
-    within = omega arith;
-    passed = passed;
-    all = onto_none (rewritten_from order encoding section bytes 0 ranges before);
-  }
-
   module _ {out : List ℕ} {at n : ℕ} {strings : List (List ℕ)} (so_far : IsSoFar order encoding
       section bytes ranges before out at n strings) where
     abbrev whole : Rewriting

@@ -1,20 +1,22 @@
 -- Going over the rows of an index.
-use Rattle.std.proofs.Common.{◌≡◌, ℕ, ◌-◌, ◌+◌, ◌<◌, ◌≤◌, Bool, true, false, cond, eqb, ◌&&◌, []}
-use Rattle.std.proofs.Common.{◌∷◌, length, drop, map, Some, None, refl}
-use Rattle.std.proofs.Common.{◌∙◌, ⊎_elim, arith}
+use Rattle.std.proofs.Common.{◌≡◌, ℕ, ◌-◌, ◌+◌, ◌<◌, ◌≤◌, eqb, ◌&&◌, [], ◌∷◌, length, drop, map}
+use Rattle.std.proofs.Common.{Some, None, refl, ◌∙◌, arith, List, ap}
 use Rattle.std.specs.List.{position_from, range_with_len}
-use Rattle.std.specs.Ordering.{is_eq, nat_cmp, ordering_then}
-use Rattle.std.specs.declared.cmp.Ordering.{Ordering}
-use Rattle.std.specs.declared.cmp.Ordering.TheVariants.{Less, Equal, Greater}
+use Rattle.std.specs.Ordering.{is_eq, nat_cmp, ordering_then, match_ordering}
 use Rattle.std.specs.BTreeMap.{BTreeMap, get, is_at, Updates}
-use Rattle.std.proofs.lemmas.Bool.{cases_lt, lt-ltb, le-ltb, ne_eqb}
+use Rattle.std.proofs.lemmas.Bool.Decides.{nat_tests}
 use Rattle.std.proofs.lemmas.List.{drop_more, drop_all}
 use Rattle.std.proofs.lemmas.List.FromFn.{length-map-range_with_len, get_or-map-range_with_len}
 use Rattle.dwp_base.specs.declared.section.SectionKind.{SectionKind}
 use Rattle.dwp_base.specs.declared.section.Contribution.{Contribution}
 use Rattle.dwp_index.specs.Index.{Index}
-use Rattle.thorin_packaged.specs.RowPlaces.{is_range, range_of_row, ranges_of, row_by_place}
+use Rattle.thorin_packaged.specs.RowPlaces.{is_range, range_of_row, ranges_of}
 use Rattle.thorin_packaged.specs.RowPlaceFields.{pair_cmp}
+use Rattle.std.specs.declared.cmp.Ordering.TheVariants.{Less, Equal, Greater}
+use Rattle.std.specs.BTreeSet.{insert_key}
+use Rattle.dwp_base.specs.declared.section.SectionKind.TheVariants.{StrOffsets}
+use Rattle.thorin_packaged.specs.RangeKeys.{range_at}
+use Rattle.thorin_packaged.specs.PackagedOffsets.{place_cmp, with_ranges}
 
 -- ---- the ranges from a row on
 pub ranges_from : (index : Index) (kind : SectionKind) (n : ℕ) → n < length index.offsets
@@ -37,27 +39,13 @@ ranges_none index kind n past = drop_all n _ (omega (
 ))
 
 -- ---- keys of place and size
-is_eq_cond : (b : Bool) → is_eq (cond b Equal Greater) ≡ b
-is_eq_cond true = refl
-is_eq_cond false = refl
-
-is_eq-nat_cmp : (x y : ℕ) → is_eq (nat_cmp x y) ≡ eqb x y
-is_eq-nat_cmp x y =
-    ⊎_elim
-    (λ less. rw (lt-ltb x y less, ne_eqb x y (λ (same : x ≡ y). omega arith)) refl)
-    (λ le. rw (le-ltb x y le) (is_eq_cond (eqb x y)))
-    (cases_lt x y)
-
-is_eq-then : (a b : Ordering) → is_eq (ordering_then a b) ≡ (is_eq a && is_eq b)
-is_eq-then Less b = refl
-is_eq-then Equal b = refl
-is_eq-then Greater b = refl
+same_key : (a b c d : ℕ) → is_eq (ordering_then (nat_cmp a b) (nat_cmp c d)) ≡
+    (eqb a b && eqb c d)
+same_key a b c d = grind (arith, nat_tests)
 
 pub key_test : (r range : Contribution) → is_at (pair_cmp (r.offset.0, r.size))
     (range.offset.0, range.size) ≡ is_range range (Some r)
-key_test r range =
-    is_eq-then (nat_cmp r.offset.0 range.offset.0) (nat_cmp r.size range.size)
-    ∙ rw (is_eq-nat_cmp r.offset.0 range.offset.0, is_eq-nat_cmp r.size range.size) refl
+key_test r range = same_key r.offset.0 range.offset.0 r.size range.size
 
 -- ---- the map of those from a row on
 pub record HasFrom (rows : BTreeMap (ℕ × ℕ) ℕ) (index : Index) (kind : SectionKind)
@@ -98,15 +86,40 @@ module _ (index : Index) (kind : SectionKind) (number : ℕ) (some : 0 < number)
         refl;
   }
 
--- ---- what was made of an index
-pub of_none : (rows : BTreeMap (ℕ × ℕ) ℕ) (kind : SectionKind) → rows.entries ≡ []
-    → (range : Contribution)
-    → get pair_cmp rows (range.offset.0, range.size) ≡ row_by_place None kind range
-unfolding row_by_place
-of_none rows kind empty range = rw empty refl
+-- ---- ranges as keys
+pub map-insert_key : (keys : List (ℕ × ℕ)) (key : ℕ × ℕ)
+    → map range_at (insert_key pair_cmp keys key) ≡ insert_key place_cmp
+    (map range_at keys) (range_at key)
+map-insert_key [] key = refl
+map-insert_key (x ∷ xs) key = elim (pair_cmp key x) as (λ o. map range_at (match_ordering o
+    (key ∷ x ∷ xs) (x ∷ xs) (x ∷ insert_key pair_cmp xs key)) ≡ match_ordering o
+    (range_at key ∷ range_at x ∷ map range_at xs) (range_at x ∷ map range_at xs)
+    (range_at x ∷ insert_key place_cmp (map range_at xs) (range_at key))) [
+      | Less ↦ refl
+      | Equal ↦ refl
+      | Greater ↦ ap (λ l. range_at x ∷ l) (map-insert_key xs key)
+    ]
 
-pub of_some : (rows : BTreeMap (ℕ × ℕ) ℕ) (index : Index) (kind : SectionKind) (n : ℕ)
-    → HasFrom rows index kind n → n ≡ 0 → (range : Contribution)
-    → get pair_cmp rows (range.offset.0, range.size) ≡ row_by_place (Some index) kind range
-unfolding row_by_place
-of_some rows index kind n has first range = rw first at (has.each range)
+-- ---- one row after another
+module _ (index : Index) (n : ℕ) where
+  pub rows_none : (ranges : List Contribution) → length index.offsets ≤ n
+      → with_ranges (drop n (ranges_of index StrOffsets)) ranges ≡ ranges
+  rows_none ranges past = rw (ranges_none index StrOffsets n past) refl
+
+  abbrev left : ℕ → List (ℕ × ℕ) → List Contribution
+  left k keys = with_ranges (drop k (ranges_of index StrOffsets)) (map range_at keys)
+
+  module _ (less : n < length index.offsets) (keys new : List (ℕ × ℕ)) where
+    pub row_stored : (r : Contribution) → range_of_row index StrOffsets (n + 1) ≡ Some r
+        → new ≡ insert_key pair_cmp keys (r.offset.0, r.size) → left (n + 1) new ≡ left n keys
+    row_stored r there stored =
+        rw (
+          ranges_from index StrOffsets n less,
+          there,
+          stored,
+          map-insert_key keys (r.offset.0, r.size),
+        ) refl
+
+    pub row_absent : range_of_row index StrOffsets (n + 1) ≡ None → new ≡ keys
+        → left (n + 1) new ≡ left n keys
+    row_absent absent same = rw (ranges_from index StrOffsets n less, absent, same) refl

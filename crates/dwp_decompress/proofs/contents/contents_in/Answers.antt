@@ -1,29 +1,26 @@
-use Rattle.std.proofs.Common.{◌∙◌, ◌+◌, List, ℕ, Option, drop, sym, ap, arith}
+use Rattle.std.proofs.Common.{◌∙◌, ℕ, Option, sym, ap, arith}
 use Rattle.std.specs.Global.{Vec}
 use Rattle.std.specs.Prelude.{option_map}
 use Rattle.std.proofs.lemmas.Result.{err_from_is_err_and}
 use Rattle.dwp_elf_read.specs.View.{elf, section}
 use Rattle.dwp_decompress.specs.Result.{contents_of, plain_contents}
-use Rattle.dwp_decompress.proofs.Walks.{Contents, behind, behind_none, contents_step, contents_fail}
-use Rattle.dwp_decompress.proofs.Walks.{contents_end, plain_more}
+use Rattle.dwp_decompress.proofs.Sections.{behind_none, contents_step, contents_fail}
+use Rattle.dwp_decompress.proofs.Sections.{contents_end, plain_more}
 use Rattle.dwp_decompress.proofs.contents.contents_in.Goals as goal
 use Rattle.dwp_decompress.proofs.contents.contents_in.Goals.{in-Some+in_ok-content+in_ok-push}
 use Rattle.dwp_decompress.proofs.contents.contents_in.Goals.{in_default}
 use Rattle.dwp_base.proofs.Finds.{slice_get_none}
 
 pub loop-i-init : goal.loop-i-init
-loop-i-init c =
-    ap (λ (contents : List (Option (Vec ℕ))). behind (plain_contents contents) (contents_of
-    c.args.class c.args.order (elf c.args.file.now).sections)) c.new-contents.ensures.items
-    ∙ behind_none (contents_of c.args.class c.args.order (elf c.args.file.now).sections)
+loop-i-init c = rw c.new-contents.ensures.items (behind_none (contents_of c.args.class c.args.order
+    (elf c.args.file.now).sections))
 
 pub returns-in_err-content : goal.returns-in_err-content
 returns-in_err-content c =
     let at = sym c.section.ensures.found ∙ ap (option_map section) c.in-Some.is in
     let p = err_from_is_err_and c.from_residual.result c.from_residual.ensures.1 in
-    rw (p.1, p.2) (λ h. sym c.loop-i.invariant ∙ contents_fail c.args.class c.args.order
-    (elf c.args.file.now).sections c.loop-i.i (plain_contents c.loop-i.contents.items)
-    (section c.in-Some.section) _ at (c.in_err-content.ensures h))
+    rw (p.1, p.2) (λ h. sym c.loop-i.invariant ∙ contents_fail c.args.class c.args.order _
+    c.loop-i.i (plain_contents c.loop-i.contents.items) _ _ at (c.in_err-content.ensures h))
 
 pub loop-i-preserved : goal.loop-i-preserved
 loop-i-preserved c =
@@ -33,13 +30,10 @@ loop-i-preserved c =
           let at = sym c.section.ensures.found ∙ ap (option_map section) w.in-Some.is in
           let more = ap (λ (v : Vec (Option (Vec ℕ))). v.items) w.contents-is
           ∙ w.in_ok-push.ensures.items in
-          ap (λ (k : Contents). behind k (contents_of c.args.class c.args.order
-          (drop (c.loop-i.i + 1) xs))) (plain_more _ c.loop-i.contents.items w.in_ok-content.content
-          more)
-          ∙ sym (contents_step c.args.class c.args.order xs c.loop-i.i
-          (plain_contents c.loop-i.contents.items) (section w.in-Some.section) _ at
-          w.in_ok-content.ensures)
-          ∙ c.loop-i.invariant
+          rw (plain_more _ c.loop-i.contents.items w.in_ok-content.content more)
+          (sym (contents_step c.args.class c.args.order xs c.loop-i.i
+          (plain_contents c.loop-i.contents.items) _ _ at w.in_ok-content.ensures)
+          ∙ c.loop-i.invariant)
       | in_default w ↦ absurd (slice_get_none xs c.loop-i.i (omega arith)
           (sym c.section.ensures.found ∙ ap (option_map section) w.in_default.is))
     ]

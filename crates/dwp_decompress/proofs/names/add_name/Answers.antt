@@ -1,5 +1,5 @@
 use Rattle.std.proofs.Common.{◌∙◌, ◌++◌, List, ℕ, sym, ap}
-use Rattle.dwp_decompress.proofs.Walks.{added_older}
+use Rattle.dwp_decompress.proofs.Sections.{added_older}
 use Rattle.dwp_decompress.proofs.names.add_name.Goals as goal
 
 pub returns : goal.returns

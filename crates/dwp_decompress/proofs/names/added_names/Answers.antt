@@ -1,9 +1,8 @@
-use Rattle.std.proofs.Common.{◌∙◌, ◌++◌, ◌+◌, List, ℕ, drop, sym, ap, arith}
+use Rattle.std.proofs.Common.{◌∙◌, ℕ, sym, ap, arith}
 use Rattle.std.specs.Global.{Vec}
 use Rattle.std.specs.Prelude.{option_map}
 use Rattle.dwp_elf_read.specs.View.{elf, section}
-use Rattle.dwp_decompress.specs.Names.{added_names}
-use Rattle.dwp_decompress.proofs.Walks.{names_step, names_end}
+use Rattle.dwp_decompress.proofs.Sections.{names_step, names_end}
 use Rattle.dwp_decompress.proofs.names.added_names.Goals as goal
 use Rattle.dwp_decompress.proofs.names.added_names.Goals.{in-Some+in_ok-add_name_of, in_default}
 use Rattle.dwp_base.proofs.Finds.{slice_get_none}
@@ -14,10 +13,8 @@ loop-i-preserved c =
     elim c.match-section.branch [
       | in-Some+in_ok-add_name_of w ↦
           let at = sym c.section.ensures.found ∙ ap (option_map section) w.in-Some.is in
-          ap (λ (l : List ℕ). l ++ added_names (drop (c.loop-i.i + 1) xs))
-          (ap (λ (v : Vec ℕ). v.items) w.added-is ∙ w.in_ok-add_name_of.ensures)
-          ∙ sym (names_step xs c.loop-i.i c.loop-i.added.items (section w.in-Some.section) at)
-          ∙ c.loop-i.invariant
+          let more = ap (λ (v : Vec ℕ). v.items) w.added-is ∙ w.in_ok-add_name_of.ensures in
+          rw more (sym (names_step xs c.loop-i.i c.loop-i.added.items _ at) ∙ c.loop-i.invariant)
       | in_default w ↦ absurd (slice_get_none xs c.loop-i.i (omega arith)
           (sym c.section.ensures.found ∙ ap (option_map section) w.in_default.is))
     ]

@@ -5,7 +5,7 @@ use Rattle.dwp_dwarf.specs.Offsets.{from_at}
 use Rattle.dwp_dwarf.specs.Units.{unit_of}
 use Rattle.thorin_errors.specs.Answers.{Gives}
 use Rattle.thorin_identity.specs.Identity.{DW_AT_GNU_dwo_id, with_offset}
-use Rattle.thorin_identity.proofs.Numbered.{root_is}
+use Rattle.thorin_identity.proofs.Parts.{root_is}
 use Rattle.thorin_identity.proofs.identity.root_identifier_at.Goals as goal
 
 pub returns-clause-meaning : goal.returns-clause-meaning

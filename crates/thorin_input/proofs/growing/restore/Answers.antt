@@ -5,8 +5,7 @@ pub returns : goal.returns
 returns c before grown same = rw (
   c.truncate.ensures,
   same,
-  truncated-begins before.contents
-      c.args.file.now.contents grown.contents,
+  truncated-begins before.contents c.args.file.now.contents grown.contents,
   grown.class,
   grown.machine,
   grown.order,

@@ -1,5 +1,5 @@
 use Rattle.std.proofs.Common.{length}
-use Rattle.thorin_packaged.proofs.StringsAgain.{strings_again}
+use Rattle.thorin_packaged.proofs.OffsetsJoined.{strings_again}
 use Rattle.thorin_packaged.proofs.laws.rewritten_strings_are_read_alike.Goals as goal
 
 pub returns : goal.returns

@@ -2,7 +2,7 @@ use Rattle.std.proofs.Common.{map, sym, ap, arith, ◌<◌, length, ◌∙◌}
 use Rattle.std.specs.Option.{option_copied}
 use Rattle.thorin_packaged.specs.RangeKeys.{range_at}
 use Rattle.thorin_packaged.specs.PackagedOffsets.{with_rows}
-use Rattle.thorin_packaged.proofs.RangeSteps.{row_stored, row_absent, rows_none}
+use Rattle.thorin_packaged.proofs.RowSteps.{row_stored, row_absent, rows_none}
 use Rattle.thorin_packaged.proofs.offset_ranges.add_rows.Goals as goal
 use Rattle.thorin_packaged.proofs.offset_ranges.add_rows.Goals.{in-Some-range_of_row+in_ok-insert}
 use Rattle.thorin_packaged.proofs.offset_ranges.add_rows.Goals.{in_default-range_of_row}
@@ -11,11 +11,7 @@ pub loop-number-preserved : goal.loop-number-preserved
 loop-number-preserved c =
     let index = c.in-Some.index.now in
     let n = c.loop-number.number in
-    let less : n < length index.offsets = omega (
-      arith,
-      c.unit_count-number-end.ensures,
-      c.loop-number-test.true,
-    ) in
+    let less : n < length index.offsets = omega arith in
     elim c.match-range_of_row.branch [
       | in-Some-range_of_row+in_ok-insert w ↦
           row_stored index n less _ _ w.in-Some-range_of_row.range
@@ -29,7 +25,6 @@ loop-number-preserved c =
 pub returns : goal.returns
 returns c =
     let ranges = map range_at c.loop-number.keys.keys in
-    sym (rows_none c.in-Some.index.now c.loop-number.number ranges
-    (omega (arith, c.unit_count-number-end.ensures, c.loop-number-test.false)))
+    sym (rows_none c.in-Some.index.now c.loop-number.number ranges (omega arith))
     ∙ c.loop-number.invariant ∙ sym (ap (λ i. with_rows i (map range_at c.args.keys.now.keys))
     (ap option_copied c.in-Some.is))

@@ -1,7 +1,8 @@
 use Rattle.std.proofs.Common.{◌≡◌}
-use Rattle.dwp_bytes.proofs.SignedLebs.{SignedSoFar}
+use Rattle.dwp_bytes.specs.Leb.{signed_leb_at}
+use Rattle.dwp_bytes.proofs.Lebs.{SoFar, signed}
 use Rattle.dwp_bytes.proofs.reader.Reader.read_sleb128.Given as goal
 
 abbrev pub invariant-loop : goal.invariant-loop
-invariant-loop g l = (l.self ≡ l.fn.self) × SignedSoFar (g.Self.Reader.input l.fn.self)
-    (g.Self.Reader.input l.at) l.counter l.value l.scale
+invariant-loop g l = (l.self ≡ l.fn.self) × SoFar signed_leb_at signed
+    (g.Self.Reader.input l.fn.self) (g.Self.Reader.input l.at) l.counter l.value l.scale

@@ -1,4 +1,4 @@
-use Rattle.std.proofs.Common.{◌≡◌, arith, ap}
+use Rattle.std.proofs.Common.{◌≡◌, ap, arith}
 use Rattle.std.proofs.lemmas.Result.{err_from_is_err_and}
 use Rattle.dwp_bytes.proofs.Lebs.{more, seven_more, uleb_ends, uleb_fails, uleb_big, last_fits}
 use Rattle.dwp_bytes.proofs.reader.Reader.read_uleb128.Goals as goal
@@ -6,59 +6,41 @@ use Rattle.dwp_bytes.proofs.reader.Reader.read_uleb128.Goals as goal
 pub returns-in_err-byte : goal.returns-in_err-byte
 returns-in_err-byte g c =
     let p = err_from_is_err_and c.from_residual.result c.from_residual.ensures.1 in
-    let far = c.loop.invariant.1 in
-    rw (p.1, p.2) (
-      uleb_fails _ _ _ _ _ _ far (omega arith) c.in_err-byte.ensures.0,
-      ap
-          g.Self.Reader.input c.loop.invariant.0,
-    )
+    rw (p.1, p.2) (uleb_fails c.loop.invariant.1 (omega arith) c.in_err-byte.ensures.0,
+    ap g.Self.Reader.input c.loop.invariant.0)
 
 pub returns-then-byte-lt128 : goal.returns-then-byte-lt128
 returns-then-byte-lt128 g c =
     let far = c.loop.invariant.1 in
     let m = seven_more _ _ _ c.in_ok-byte.byte far.scaled c.loop-test.true far.below
     (omega arith) in
-    rw c.from.ensures (uleb_ends _ _ _ _ _ _ _ far (omega arith) c.in_ok-byte.ensures (omega arith)
+    rw c.from.ensures (uleb_ends far (omega arith) c.in_ok-byte.ensures (omega arith)
     (omega (arith, m)))
 
 pub loop-preserved : goal.loop-preserved
-loop-preserved g c = (
-  c.loop.invariant.0,
-  rw c.from-in-loop.ensures
-      (more _ _ _ _ _ _ _ c.loop.invariant.1 c.loop-test.true c.in_ok-byte.ensures
-      (omega arith) (omega arith)),
-)
+loop-preserved g c = (c.loop.invariant.0, rw c.from-in-loop.ensures (more c.loop.invariant.1
+    c.loop-test.true c.in_ok-byte.ensures (omega arith) (omega arith)))
 
 pub returns-in_err-last : goal.returns-in_err-last
 returns-in_err-last g c =
     let p = err_from_is_err_and c.from_residual-in_err-last.result
     c.from_residual-in_err-last.ensures.1 in
-    rw (p.1, p.2) (
-      uleb_fails _ _ _ _ _ _ c.loop.invariant.1 (omega arith) c.in_err-last.ensures.0,
-      ap g.Self.Reader.input c.loop.invariant.0,
-    )
+    rw (p.1, p.2) (uleb_fails c.loop.invariant.1 (omega arith) c.in_err-last.ensures.0,
+    ap g.Self.Reader.input c.loop.invariant.0)
 
 pub returns-then-last-gt1 : goal.returns-then-last-gt1
-returns-then-last-gt1 g c =
-    let nine : c.loop.counter ≡ 9 = omega arith in
-    let far = rw nine at c.loop.invariant.1 in (
-      uleb_big _ _ _ _ _ _ far c.in_ok-last.ensures c.if-last-gt1.true,
-      ap g.Self.Reader.input
-          c.loop.invariant.0,
-    )
+returns-then-last-gt1 g c = (uleb_big c.loop.invariant.1 (omega arith) c.in_ok-last.ensures
+    c.if-last-gt1.true, ap g.Self.Reader.input c.loop.invariant.0)
 
 pub overflow_add-result-2 : goal.overflow_add-result-2
 overflow_add-result-2 g c =
     let nine : c.loop.counter ≡ 9 = omega arith in
     let far = rw nine at c.loop.invariant.1 in
-    let m = last_fits c.loop.value c.loop.scale c.from-2.result far.below far.scaled
-    (omega arith) in omega (arith, m)
+    omega (arith, last_fits _ _ c.from-2.result far.below far.scaled (omega arith))
 
 pub returns : goal.returns
 returns g c =
     let nine : c.loop.counter ≡ 9 = omega arith in
     let far = rw nine at c.loop.invariant.1 in
-    let m = last_fits c.loop.value c.loop.scale c.in_ok-last.last far.below far.scaled
-    (omega arith) in
-    rw c.from-2.ensures (uleb_ends _ _ _ _ _ _ _ far (omega arith) c.in_ok-last.ensures
-    (omega arith) m)
+    rw c.from-2.ensures (uleb_ends far (omega arith) c.in_ok-last.ensures (omega arith)
+    (last_fits _ _ c.in_ok-last.last far.below far.scaled (omega arith)))

@@ -1,7 +1,8 @@
 use Rattle.std.proofs.Common.{◌≡◌}
-use Rattle.dwp_bytes.proofs.Lebs.{SoFar}
+use Rattle.dwp_bytes.specs.Leb.{leb_at}
+use Rattle.dwp_bytes.proofs.Lebs.{SoFar, unsigned}
 use Rattle.dwp_bytes.proofs.reader.Reader.read_uleb128.Given as goal
 
 abbrev pub invariant-loop : goal.invariant-loop
-invariant-loop g l = (l.self ≡ l.fn.self) × SoFar (g.Self.Reader.input l.fn.self)
+invariant-loop g l = (l.self ≡ l.fn.self) × SoFar leb_at unsigned (g.Self.Reader.input l.fn.self)
     (g.Self.Reader.input l.at) l.counter l.value l.scale

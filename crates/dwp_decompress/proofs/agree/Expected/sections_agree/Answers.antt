@@ -1,4 +1,4 @@
-use Rattle.std.proofs.Common.{◌≤◌, length, arith}
+use Rattle.std.proofs.Common.{arith}
 use Rattle.dwp_elf_read.specs.View.{elf}
 use Rattle.dwp_decompress.specs.Result.{plain_contents}
 use Rattle.dwp_decompress.proofs.Sections.{agree_step, agree_end}
@@ -16,8 +16,6 @@ loop-i-preserved c h =
 
 pub returns : goal.returns
 returns c t =
-    let old_end : length (elf c.args.old.now).sections ≤ c.loop-i.i = omega arith in
-    let new_end : length (elf c.args.new.now).sections ≤ c.loop-i.i = omega arith in
     c.loop-i.invariant (agree_end c.args.self.now.names c.args.self.now.added.now
     (elf c.args.old.now).sections (elf c.args.new.now).sections
-    (plain_contents c.args.self.now.contents.now.items) c.loop-i.i old_end new_end)
+    (plain_contents c.args.self.now.contents.now.items) c.loop-i.i (omega arith) (omega arith))

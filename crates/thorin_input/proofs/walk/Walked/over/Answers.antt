@@ -5,9 +5,8 @@ use Rattle.dwp_base.specs.Sections.{name_of}
 use Rattle.dwp_elf_read.specs.Elf.{is_named}
 use Rattle.dwp_elf_read.specs.View.{placed, sections_left, elf}
 use Rattle.thorin_input.specs.Used.{is_of}
-use Rattle.thorin_input.proofs.Sections.{map-placed}
 use Rattle.thorin_input.proofs.Walking.{those, found-any, any-step, any-end, taken-step, taken-end}
-use Rattle.thorin_input.proofs.Walking.{walk-gives}
+use Rattle.thorin_input.proofs.Walking.{walk-gives, map-placed}
 use Rattle.thorin_input.proofs.walk.Walked.over.Goals as goal
 
 pub loop-section-init : goal.loop-section-init

@@ -1,6 +1,7 @@
-use Rattle.std.proofs.Common.{ap, arith, sym, ◌∙◌}
+use Rattle.std.proofs.Common.{◌≡◌, ap, arith, sym, refl, ◌∙◌}
 use Rattle.std.specs.Option.{option_copied}
-use Rattle.thorin_packaged.proofs.RowSteps.{from_end, from_absent, from_range, of_none, of_some}
+use Rattle.thorin_packaged.specs.RowPlaces.{row_by_place}
+use Rattle.thorin_packaged.proofs.RowSteps.{from_end, from_absent, from_range}
 use Rattle.thorin_packaged.proofs.row_places.RowPlaces.new.Goals as goal
 use Rattle.thorin_packaged.proofs.row_places.RowPlaces.new.Goals.{in-Some+else-loop-number-test}
 use Rattle.thorin_packaged.proofs.row_places.RowPlaces.new.Goals.{in_default}
@@ -11,32 +12,24 @@ loop-number-init c = from_end _ _ _ _ c.new-rows.ensures.empty
 
 pub loop-number-preserved-in_ok-insert : goal.loop-number-preserved-in_ok-insert
 loop-number-preserved-in_ok-insert c =
-    from_range _ _ c.loop-number.number (omega arith) (omega (
-      arith,
-      c.unit_count-number.ensures,
-      c.loop-number.auto.number,
-    )) _ c.loop-number.invariant _ _
+    from_range _ _ c.loop-number.number (omega arith) (omega arith) _ c.loop-number.invariant _ _
     (sym c.in-Some-range_of_row.ensures) c.in_ok-insert.ensures.updates
 
 pub loop-number-preserved : goal.loop-number-preserved
 loop-number-preserved c =
-    from_absent _ _ c.loop-number.number (omega arith) (omega (
-      arith,
-      c.unit_count-number.ensures,
-      c.loop-number.auto.number,
-    )) _ c.loop-number.invariant
+    from_absent _ _ c.loop-number.number (omega arith) (omega arith) _ c.loop-number.invariant
     (sym c.range_of_row.ensures ∙ c.in_default-range_of_row.is)
 
 pub invariant_of-result : goal.invariant_of-result
+unfolding row_by_place
 invariant_of-result c = elim c.match-index.branch [
-  | in-Some+else-loop-number-test w ↦ record {
-    each = rw (w.rows-is, ap option_copied w.in-Some.is) (of_some w.loop-number.rows
-        w.in-Some.index.now c.args.section w.loop-number.number
-        w.loop-number.invariant
-        (omega (arith, w.loop-number-test.false)));
-  }
+  | in-Some+else-loop-number-test w ↦
+      let first : w.loop-number.number ≡ 0 = omega (arith, w.loop-number-test.false) in
+      record {
+        each = rw (w.rows-is, ap option_copied w.in-Some.is) (rw first at
+            w.loop-number.invariant.each);
+      }
   | in_default w ↦ record {
-    each = rw (w.rows-is, ap option_copied w.in_default.is)
-        (of_none c.new-rows.result c.args.section c.new-rows.ensures.empty);
+    each = λ range. rw (w.rows-is, ap option_copied w.in_default.is, c.new-rows.ensures.empty) refl;
   }
 ]
