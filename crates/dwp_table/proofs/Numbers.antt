@@ -55,8 +55,12 @@ apart size k start step i j power odd less below same =
       div-add-mod (start + j * step) size,
     ) in
     let r = odd_factor k (j - i) step (b - a) odd (rw (← power) rounds) in
-    omega (arith, power, le_of_dvd {m = 2 ^ k} {n = j - i} (omega arith)
-    (rw r.1 (dvd-mul_right (2 ^ k) r.0)))
+    omega (
+      arith,
+      power,
+      le_of_dvd {m = 2 ^ k} {n = j - i} (omega arith)
+          (rw r.1 (dvd-mul_right (2 ^ k) r.0)),
+    )
 
 pub one_slot : (size start step i j : ℕ) → IsTrue (is_power_of_two size) → step % 2 ≡ 1 → i < size
     → j < size → (start + i * step) % size ≡ (start + j * step) % size → i ≡ j
@@ -109,9 +113,12 @@ surjective n f v below into one =
       | inl w ↦ (w.0, w.1.within, eqb-true _ _ w.1.here)
       | inr none ↦
           let other : (i : ℕ) → i < n → f i ≢ v = λ i h. eqb-false _ _ (none i h) in
-          absurd (omega (arith, pigeonhole (suc n) n (with_last f n v)
-          (λ i h. grind (arith, nat_tests, into i))
-          (λ i j p q e. grind (arith, nat_tests, one i j, other i, other j))))
+          absurd (omega (
+            arith,
+            pigeonhole (suc n) n (with_last f n v)
+                (λ i h. grind (arith, nat_tests, into i))
+                (λ i j p q e. grind (arith, nat_tests, one i j, other i, other j)),
+          ))
     ]
 
 -- ---- going round by an odd step

@@ -68,8 +68,11 @@ module _ (ids rows : List ℕ) (x i : ℕ) (table : IsHashTable ids rows) (free 
 
   after : (k : ℕ) → After k
   after k = ⊎_elim
-      (λ (e : k ≡ last_slot). inl (e, get_or-set_at rows last_slot k (length ids + 1) 0 e
-      (place-lt (length rows) x i table.power)))
+      (λ (e : k ≡ last_slot). inl (
+        e,
+        get_or-set_at rows last_slot k (length ids + 1) 0 e
+            (place-lt (length rows) x i table.power),
+      ))
       (λ ne. inr (ne, get_or-set_other rows last_slot k (length ids + 1) 0 ne))
       (cases_eq k last_slot)
 
@@ -83,9 +86,11 @@ module _ (ids rows : List ℕ) (x i : ℕ) (table : IsHashTable ids rows) (free 
               at.0 (omega arith) at.1),
         )
     | no p ↦
-        let last : length ids ≡ r = omega (arith, length-append ids (x ∷ [])) in
-        (i, rw (← last, get_or-append_seam ids x [] 0) (stands rows x i (length ids + 1) free
-            table.power (λ k. omega (arith, table.only k))))
+        let last : length ids ≡ r = omega (arith, length-append ids (x ∷ [])) in (
+          i,
+          rw (← last, get_or-append_seam ids x [] 0) (stands rows x i (length ids + 1) free
+              table.power (λ k. omega (arith, table.only k))),
+        )
   ]
 
   pub placed_table : IsHashTable (ids ++ x ∷ []) with_last
@@ -97,8 +102,14 @@ module _ (ids rows : List ℕ) (x i : ℕ) (table : IsHashTable ids rows) (free 
         room = omega (arith, more, same);
         small = omega (arith, same, table.small);
         placed = all_placed;
-        once = λ k l p q used e. grind (arith, after k, after l, table.only k, table.only l,
-            table.once k l);
+        once = λ k l p q used e. grind (
+          arith,
+          after k,
+          after l,
+          table.only k,
+          table.only l,
+          table.once k l,
+        );
         only = λ k. grind (arith, more, after k, table.only k);
       }
 

@@ -48,11 +48,14 @@ has_free ids rows x table =
     let used : (j : ℕ) → eqb (row_at rows x j) 0 ≡ false → 0 < row_at rows x j =
     λ j e. let ne = eqb-false _ _ e in omega (arith, ne) in
     elim (first_or_none (λ j. eqb (row_at rows x j) 0) (length rows)) [
-      | inl w ↦ (w.0, record {
-        within = w.1.within;
-        here = eqb-true _ _ w.1.here;
-        earlier = λ j h. used j (w.1.earlier j h);
-      })
+      | inl w ↦ (
+        w.0,
+        record {
+          within = w.1.within;
+          here = eqb-true _ _ w.1.here;
+          earlier = λ j h. used j (w.1.earlier j h);
+        },
+      )
       | inr none ↦ absurd (omega (
         arith,
         table.room,
@@ -89,27 +92,33 @@ module _ (ids signatures rows : List ℕ) (x : ℕ) (index : IsIndex ids signatu
   present r within same =
       let placed = index.table.placed r within in
       let i = placed.0 in
-      let at : IsPlacedAfter rows x (r + 1) i = rw same at placed.1 in
-      (i, find-first ends (length rows) i (record {
-        within = at.within;
-        here = or-right (eqb (row_at rows x i) 0) _ (eq-eqb _ x (beside i
-            ∙ beside_row ids (row_at rows x i) r at.here ∙ same));
-        earlier = λ j h. used_goes_on j (at.earlier_used j h) (λ r' within' row e.
-            let one = index.distinct r' r within' within (e ∙ sym same) in
-            omega (arith, at.earlier_smaller j h, row));
-      }), at)
+      let at : IsPlacedAfter rows x (r + 1) i = rw same at placed.1 in (
+        i,
+        find-first ends (length rows) i (record {
+          within = at.within;
+          here = or-right (eqb (row_at rows x i) 0) _ (eq-eqb _ x (beside i
+              ∙ beside_row ids (row_at rows x i) r at.here ∙ same));
+          earlier = λ j h. used_goes_on j (at.earlier_used j h) (λ r' within' row e.
+              let one = index.distinct r' r within' within (e ∙ sym same) in
+              omega (arith, at.earlier_smaller j h, row));
+        }),
+        at,
+      )
 
   -- where it doesn't, the look-up ends at the first unused place
   absent : ((r : ℕ) → r < length ids → get_or ids r 0 ≢ x) → (i : ℕ)
       × (first_end signatures rows x ≡ Some i) × IsFree rows x i
   unfolding first_end
   absent nowhere =
-      let free = has_free ids rows x index.table in
-      (free.0, find-first ends (length rows) free.0 (record {
-        within = free.1.within;
-        here = rw free.1.here refl;
-        earlier = λ j h. used_goes_on j (free.1.earlier j h) (λ r within row. nowhere r within);
-      }), free.1)
+      let free = has_free ids rows x index.table in (
+        free.0,
+        find-first ends (length rows) free.0 (record {
+          within = free.1.within;
+          here = rw free.1.here refl;
+          earlier = λ j h. used_goes_on j (free.1.earlier j h) (λ r within row. nowhere r within);
+        }),
+        free.1,
+      )
 
   pub finds_exactly : FindsExactly ids x (found_row signatures rows x)
       (look_count signatures rows x)

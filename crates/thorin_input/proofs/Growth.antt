@@ -16,10 +16,14 @@ begins-appended kind x [] b h = tt
 begins-appended kind x (c ∷ cs) [] h = absurd h
 begins-appended kind x (c ∷ cs) (d ∷ ds) h = elim (same_kind d.0 kind) as (λ b.
     Begins (c ∷ cs) (cond b ((d.0, d.1 ++ x) ∷ ds) (d ∷ appended kind x ds))) [
-      | true ↦ (h.0, record {
-        rest = h.1.rest ++ x;
-        is = ap (λ v. v ++ x) h.1.is ∙ append_assoc c.1 h.1.rest x;
-      }, h.2)
+      | true ↦ (
+        h.0,
+        record {
+          rest = h.1.rest ++ x;
+          is = ap (λ v. v ++ x) h.1.is ∙ append_assoc c.1 h.1.rest x;
+        },
+        h.2,
+      )
       | false ↦ (h.0, h.1, begins-appended kind x cs ds h.2)
     ]
 

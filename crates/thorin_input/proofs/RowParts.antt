@@ -96,10 +96,10 @@ plain-row indexes whole name compilations types =
   where
     stays : (kind : SectionKind) (part : Option Contribution) (b : Bool)
         → cond b (adjusted (record {
-      compilation = indexes.compilations;
-      types = indexes.types;
-      section = kind;
-    }) name part) (Ok part) ≡ Ok part
+          compilation = indexes.compilations;
+          types = indexes.types;
+          section = kind;
+        }) name part) (Ok part) ≡ Ok part
     stays kind part true = rw (compilations, types) refl
     stays kind part false = refl
 

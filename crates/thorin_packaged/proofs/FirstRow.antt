@@ -39,21 +39,32 @@ module _ {X : Type 0} (t : X → Bool) (f : ℕ → X) where
   finds : (a n : ℕ) → IsFound a (a + n) (position_from t a (map f (range_with_len a n)))
   finds a zero = inr (refl, λ j from below. absurd (omega arith))
   finds a (suc n) = by-bool _ (t (f a))
-      (λ passes. inl (a, rw passes refl, record {
-        low = omega arith;
-        high = omega arith;
-        here = passes;
-        before = λ j from below. absurd (omega arith);
-      }))
+      (λ passes. inl (
+        a,
+        rw passes refl,
+        record {
+          low = omega arith;
+          high = omega arith;
+          here = passes;
+          before = λ j from below. absurd (omega arith);
+        },
+      ))
       (λ fails. elim (finds (a + 1) n) [
-        | inl w ↦ inl (w.0, rw fails w.1, record {
-          low = omega (arith, w.2.low);
-          high = omega (arith, w.2.high);
-          here = w.2.here;
-          before = more_fail a w.0 fails w.2.before;
-        })
-        | inr none ↦ inr (rw fails none.0, more_fail a (a + suc n) fails (λ j from below.
-            none.1 j from (omega arith)))
+        | inl w ↦ inl (
+          w.0,
+          rw fails w.1,
+          record {
+            low = omega (arith, w.2.low);
+            high = omega (arith, w.2.high);
+            here = w.2.here;
+            before = more_fail a w.0 fails w.2.before;
+          },
+        )
+        | inr none ↦ inr (
+          rw fails none.0,
+          more_fail a (a + suc n) fails (λ j from below.
+              none.1 j from (omega arith)),
+        )
       ])
 
 -- ---- a row's range

@@ -27,8 +27,11 @@ returns-then-slots-at-eq0 c =
       kept = λ y r j some at. rw is (stays old x i row free y r j some at);
       table = λ ids table last room.
           rw (is, last) (placed_table ids old x i table free (omega arith));
-      last = λ ids table last. (omega arith, rw (is, before) (stands old x i row free table.power
-          (λ k. omega (arith, table.only k))));
+      last = λ ids table last. (
+        omega arith,
+        rw (is, before) (stands old x i row free table.power
+            (λ k. omega (arith, table.only k))),
+      );
       count = λ ids table. omega (arith, free_early ids old x i table free);
     }
 

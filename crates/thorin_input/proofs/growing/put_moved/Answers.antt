@@ -7,6 +7,9 @@ pub returns-clause-grown : goal.returns-clause-grown
 returns-clause-grown c before h =
     let put : c.append_moved.new.self ≡ record c.args.file.now {
       contents = with_bytes c.args.kind c.args.bytes.items c.args.file.now.contents;
-    } = search (rules, c.in_ok-append_moved.ensures.contents,
-    c.in_ok-append_moved.ensures.nothing) in
+    } = search (
+      rules,
+      c.in_ok-append_moved.ensures.contents,
+      c.in_ok-append_moved.ensures.nothing,
+    ) in
     rw put (is_grown-with_bytes before c.args.file.now _ _ h)

@@ -8,14 +8,20 @@ use Rattle.dwp_bytes.proofs.reader.Reader.read_sleb128.Goals as goal
 pub returns-in_err-byte : goal.returns-in_err-byte
 returns-in_err-byte g c =
     let p = err_from_is_err_and c.from_residual.result c.from_residual.ensures.1 in
-    rw (p.1, p.2) (sleb_fails c.loop.invariant.1 (omega arith) c.in_err-byte.ensures.0,
-    ap g.Self.Reader.input c.loop.invariant.0)
+    rw (p.1, p.2) (
+      sleb_fails c.loop.invariant.1 (omega arith) c.in_err-byte.ensures.0,
+      ap g.Self.Reader.input c.loop.invariant.0,
+    )
 
 pub overflow_cast-result : goal.overflow_cast-result
 overflow_cast-result g c =
     let far = c.loop.invariant.1 in
-    omega (arith, ints, seven_more _ _ _ c.from.result far.scaled c.loop-test.true far.below
-    (omega arith))
+    omega (
+      arith,
+      ints,
+      seven_more _ _ _ c.from.result far.scaled c.loop-test.true far.below
+          (omega arith),
+    )
 
 pub returns-then-byte-lt64 : goal.returns-then-byte-lt64
 returns-then-byte-lt64 g c =
@@ -33,14 +39,22 @@ overflow_cast-result-then-byte-lt128 g c =
 pub overflow_cast-result-then-byte-lt128-2 : goal.overflow_cast-result-then-byte-lt128-2
 overflow_cast-result-then-byte-lt128-2 g c =
     let far = c.loop.invariant.1 in
-    omega (arith, ints, seven_more _ _ _ c.from-then-byte-lt128.result far.scaled c.loop-test.true
-    far.below (omega arith))
+    omega (
+      arith,
+      ints,
+      seven_more _ _ _ c.from-then-byte-lt128.result far.scaled c.loop-test.true
+          far.below (omega arith),
+    )
 
 pub overflow_sub-result : goal.overflow_sub-result
 overflow_sub-result g c =
     let far = c.loop.invariant.1 in
-    omega (arith, ints, seven_more _ _ _ c.from-then-byte-lt128.result far.scaled c.loop-test.true
-    far.below (omega arith))
+    omega (
+      arith,
+      ints,
+      seven_more _ _ _ c.from-then-byte-lt128.result far.scaled c.loop-test.true
+          far.below (omega arith),
+    )
 
 pub returns-then-byte-lt128 : goal.returns-then-byte-lt128
 returns-then-byte-lt128 g c =
@@ -53,19 +67,27 @@ returns-then-byte-lt128 g c =
     (cast_less c.loop.value ((128 - c.in_ok-byte.byte) * c.loop.scale) fits (omega (arith, m))))
 
 pub loop-preserved : goal.loop-preserved
-loop-preserved g c = (c.loop.invariant.0, rw c.from-in-loop.ensures (signed_more c.loop.invariant.1
-    c.loop-test.true c.in_ok-byte.ensures (omega arith) (omega arith)))
+loop-preserved g c = (
+  c.loop.invariant.0,
+  rw c.from-in-loop.ensures (signed_more c.loop.invariant.1
+      c.loop-test.true c.in_ok-byte.ensures (omega arith) (omega arith)),
+)
 
 pub returns-in_err-read_u8 : goal.returns-in_err-read_u8
 returns-in_err-read_u8 g c =
     let p = err_from_is_err_and c.from_residual-in_err-read_u8.result
     c.from_residual-in_err-read_u8.ensures.1 in
-    rw (p.1, p.2) (sleb_fails c.loop.invariant.1 (omega arith) c.in_err-read_u8.ensures.0,
-    ap g.Self.Reader.input c.loop.invariant.0)
+    rw (p.1, p.2) (
+      sleb_fails c.loop.invariant.1 (omega arith) c.in_err-read_u8.ensures.0,
+      ap g.Self.Reader.input c.loop.invariant.0,
+    )
 
 pub returns-in_default : goal.returns-in_default
-returns-in_default g c = (sleb_big c.loop.invariant.1 (omega arith) c.in_ok-read_u8.ensures
-    (omega arith) (omega arith), ap g.Self.Reader.input c.loop.invariant.0)
+returns-in_default g c = (
+  sleb_big c.loop.invariant.1 (omega arith) c.in_ok-read_u8.ensures
+      (omega arith) (omega arith),
+  ap g.Self.Reader.input c.loop.invariant.0,
+)
 
 pub returns-in-0 : goal.returns-in-0
 returns-in-0 g c =

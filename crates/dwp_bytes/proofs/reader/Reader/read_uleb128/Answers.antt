@@ -6,8 +6,10 @@ use Rattle.dwp_bytes.proofs.reader.Reader.read_uleb128.Goals as goal
 pub returns-in_err-byte : goal.returns-in_err-byte
 returns-in_err-byte g c =
     let p = err_from_is_err_and c.from_residual.result c.from_residual.ensures.1 in
-    rw (p.1, p.2) (uleb_fails c.loop.invariant.1 (omega arith) c.in_err-byte.ensures.0,
-    ap g.Self.Reader.input c.loop.invariant.0)
+    rw (p.1, p.2) (
+      uleb_fails c.loop.invariant.1 (omega arith) c.in_err-byte.ensures.0,
+      ap g.Self.Reader.input c.loop.invariant.0,
+    )
 
 pub returns-then-byte-lt128 : goal.returns-then-byte-lt128
 returns-then-byte-lt128 g c =
@@ -18,19 +20,27 @@ returns-then-byte-lt128 g c =
     (omega (arith, m)))
 
 pub loop-preserved : goal.loop-preserved
-loop-preserved g c = (c.loop.invariant.0, rw c.from-in-loop.ensures (more c.loop.invariant.1
-    c.loop-test.true c.in_ok-byte.ensures (omega arith) (omega arith)))
+loop-preserved g c = (
+  c.loop.invariant.0,
+  rw c.from-in-loop.ensures (more c.loop.invariant.1
+      c.loop-test.true c.in_ok-byte.ensures (omega arith) (omega arith)),
+)
 
 pub returns-in_err-last : goal.returns-in_err-last
 returns-in_err-last g c =
     let p = err_from_is_err_and c.from_residual-in_err-last.result
     c.from_residual-in_err-last.ensures.1 in
-    rw (p.1, p.2) (uleb_fails c.loop.invariant.1 (omega arith) c.in_err-last.ensures.0,
-    ap g.Self.Reader.input c.loop.invariant.0)
+    rw (p.1, p.2) (
+      uleb_fails c.loop.invariant.1 (omega arith) c.in_err-last.ensures.0,
+      ap g.Self.Reader.input c.loop.invariant.0,
+    )
 
 pub returns-then-last-gt1 : goal.returns-then-last-gt1
-returns-then-last-gt1 g c = (uleb_big c.loop.invariant.1 (omega arith) c.in_ok-last.ensures
-    c.if-last-gt1.true, ap g.Self.Reader.input c.loop.invariant.0)
+returns-then-last-gt1 g c = (
+  uleb_big c.loop.invariant.1 (omega arith) c.in_ok-last.ensures
+      c.if-last-gt1.true,
+  ap g.Self.Reader.input c.loop.invariant.0,
+)
 
 pub overflow_add-result-2 : goal.overflow_add-result-2
 overflow_add-result-2 g c =
