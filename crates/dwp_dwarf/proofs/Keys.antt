@@ -1,18 +1,15 @@
 -- A map from numbers: what it has for each of them, where it has none, or one more than before.
 use Rattle.std.proofs.Common.{◌≡◌, ◌≢◌, ℕ, [], Option, Some, None, Result, Ok, Err, OnOk, true}
-use Rattle.std.proofs.Common.{false, eqb, refl, sym, subst, arith}
-use Rattle.std.specs.Option.{IfSome}
-use Rattle.std.specs.Ordering.{nat_cmp}
-use Rattle.std.specs.BTreeMap.{BTreeMap, get, is_at}
-use Rattle.std.specs.Result.{is_ok}
-use Rattle.std.proofs.lemmas.Bool.{eqb-true, eqb-false}
+use Rattle.std.proofs.Common.{false, eqb, refl, arith, IfSome, nat_cmp, BTreeMap, is_ok, eqb-true}
+use Rattle.std.specs.BTreeMap.{get, is_at}
+use Rattle.std.proofs.lemmas.Bool.{eqb-false}
 use Rattle.std.proofs.lemmas.Grind.{common_steps}
 use Rattle.dwp_base.proofs.Bools.{by-bool}
 
--- what holds of the key and of each other one
-pub by_key : (P : ℕ → Type 0) (k q : ℕ) → P k → (q ≢ k → P q) → P q
-by_key P k q here other = by-bool (P q) (eqb k q) (λ same. subst P (eqb-true _ _ same) here)
-    (λ apart. other (λ e. eqb-false _ _ apart (sym e)))
+-- by whether it is the key
+pub by_key : {P : Type 0} (k q : ℕ) → (q ≡ k → P) → (q ≢ k → P) → P
+by_key k q here other = by-bool _ (eqb q k) (λ e. here (eqb-true _ _ e))
+    (λ e. other (eqb-false _ _ e))
 
 pub none_there : {V : Type 0} (m : BTreeMap ℕ V) (q : ℕ) → m.entries ≡ [] → get nat_cmp m q ≡ None
 none_there m q empty = rw empty refl
@@ -24,12 +21,8 @@ none_each P m empty q = rw (none_there m q empty) tt
 pub one_more : {V : Type 0} (P : ℕ → V → Type 0) (old new : BTreeMap ℕ V) (k : ℕ) (v : V) → P k v
     → get nat_cmp new k ≡ Some v → ((q : ℕ) → q ≢ k → get nat_cmp new q ≡ get nat_cmp old q)
     → ((q : ℕ) → IfSome (get nat_cmp old q) (P q)) → (q : ℕ) → IfSome (get nat_cmp new q) (P q)
-one_more P old new k v p here others has q = by_key (λ q. IfSome (get nat_cmp new q) (P q)) k q
-    (rw here p) (λ apart. rw (others q apart) (has q))
-
--- what is so for a value that is there
-pub if_there : {A : Type 0} (P : A → Type 0) {o : Option A} {x : A} → o ≡ Some x → IfSome o P → P x
-if_there P e h = subst (λ o. IfSome o P) e h
+one_more P old new k v p here others has q = by_key k q (λ e. rw (e, here) p)
+    (λ apart. rw (others q apart) (has q))
 
 pub if_map : {A : Type 0} (o : Option A) {P Q : A → Type 0} → ((x : A) → P x → Q x) → IfSome o P
     → IfSome o Q

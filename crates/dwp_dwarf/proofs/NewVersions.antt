@@ -1,12 +1,10 @@
 -- A new version has what the older one has but for one key, and older versions stay.
-use Rattle.std.proofs.Common.{◌≡◌, ◌≢◌, ℕ, zero, suc, ◌<◌, ◌≤◌, ◌-◌, ◌%◌, false, cond, List}
-use Rattle.std.proofs.Common.{[], ◌∷◌, ◌++◌, length, Option, Some, None, eqb, ltb, refl, ap, sym}
-use Rattle.std.proofs.Common.{◌∙◌, arith, append_assoc}
-use Rattle.std.specs.Prelude.{slice_get}
-use Rattle.std.proofs.lemmas.Bool.{cond_both, eqb-true, eqb-false, ne_eqb, lt-ltb, ltb-true}
-use Rattle.std.proofs.lemmas.List.{length-append, append-nil}
+use Rattle.std.proofs.Common.{◌≡◌, ◌≢◌, ℕ, zero, suc, ◌<◌, ◌≤◌, ◌-◌, ◌%◌, cond, List, [], ◌∷◌, ◌++◌}
+use Rattle.std.proofs.Common.{length, Option, Some, None, eqb, ltb, refl, ap, sym, ◌∙◌, arith}
+use Rattle.std.proofs.Common.{append_assoc, slice_get, eqb-true, ne_eqb, lt-ltb, ltb-true}
+use Rattle.std.proofs.Common.{length-append, append-nil, eq-eqb}
+use Rattle.std.proofs.lemmas.Bool.{eqb-false}
 use Rattle.std.proofs.lemmas.Option.{slice_get_within}
-use Rattle.std.proofs.Math.Nat.{div-add-mod}
 use Rattle.dwp_dwarf.specs.Versions.{node_of, held, side_of, half, older, copy_by, copy_of}
 use Rattle.dwp_dwarf.specs.Versions.{value_below, value_by, Grows}
 use Rattle.dwp_dwarf.specs.declared.versions.Node.{Node}
@@ -15,20 +13,16 @@ use Rattle.dwp_base.proofs.Bools.{by-bool}
 pub grows_none : (nodes : List Node) → Grows nodes nodes
 grows_none nodes = record { more = []; is = sym (append-nil nodes) }
 
-pub grows_then : (a b c : List Node) → Grows a b → Grows b c → Grows a c
-grows_then a b c p q = record {
+pub grows_then : {a b c : List Node} → Grows a b → Grows b c → Grows a c
+grows_then {a} p q = record {
   more = p.more ++ q.more;
   is = q.is ∙ ap (λ (l : List Node). l ++ q.more) p.is ∙ append_assoc a p.more q.more;
 }
 
 -- what was added makes the nodes more
-pub grows_length : (old new : List Node) → Grows old new → length old ≤ length new
-grows_length old new g = omega (
-  arith,
-  ap (λ (l : List Node). length l) g.is,
-  length-append old
-      g.more,
-)
+pub grows_length : {old new : List Node} → Grows old new → length old ≤ length new
+grows_length {old} g =
+    omega (arith, ap (λ (l : List Node). length l) g.is, length-append old g.more)
 
 get_append : (xs ys : List Node) (i : ℕ) → i < length xs → slice_get (xs ++ ys) i ≡ slice_get xs i
 get_append [] ys i p = absurd (omega arith)
@@ -36,14 +30,13 @@ get_append (x ∷ xs) ys zero p = refl
 get_append (x ∷ xs) ys (suc i) p = get_append xs ys i (omega arith)
 
 -- a node that was there stays
-pub node_stays : (old new : List Node) (version : ℕ) → Grows old new → version ≤ length old
+node_stays : {old new : List Node} (version : ℕ) → Grows old new → version ≤ length old
     → node_of new version ≡ node_of old version
-node_stays old new zero g p = refl
-node_stays old new (suc i) g p = ap (λ (l : List Node). slice_get l i) g.is
-    ∙ get_append old g.more i (omega arith)
+node_stays zero g p = refl
+node_stays {old} (suc i) g p = rw g.is (get_append old g.more i (omega arith))
 
 older_within : (version other : ℕ) → older version other ≤ version
-older_within version other = by-bool (older version other ≤ version) (ltb other version)
+older_within version other = by-bool _ (ltb other version)
     (λ e. rw e (omega (arith, ltb-true other version e))) (λ e. rw e (omega arith))
 
 -- ---- what a version has, by its node
@@ -56,11 +49,11 @@ unfolding value_below
 one_level zero nodes version key some = absurd (some refl)
 one_level (suc n) nodes version key some = let less : suc n - 1 ≡ n = omega arith in rw less refl
 
-pub below_none : (n : ℕ) (nodes : List Node) (version key : ℕ) → node_of nodes version ≡ None
+pub none_below : (n : ℕ) (nodes : List Node) (version key : ℕ) → node_of nodes version ≡ None
     → value_below n nodes version key ≡ None
 unfolding value_below
-below_none zero nodes version key e = refl
-below_none (suc n) nodes version key e = rw e refl
+none_below zero nodes version key e = refl
+none_below (suc n) nodes version key e = rw e refl
 
 others_alike : (o : Option Node) (key : ℕ) (f g : Node → Option ℕ)
     → ((node : Node) → f node ≡ g node) → value_by o key f ≡ value_by o key g
@@ -68,25 +61,23 @@ others_alike None key f g same = refl
 others_alike (Some node) key f g same = ap (cond (eqb key 0) (held node.value)) (same node)
 
 -- older versions stay
-pub value_stays : (n : ℕ) (old new : List Node) (version key : ℕ) → Grows old new
+pub value_stays : {old new : List Node} (n : ℕ) {version : ℕ} (key : ℕ) → Grows old new
     → version ≤ length old → value_below n new version key ≡ value_below n old version key
 unfolding value_below
-value_stays zero old new version key g p = refl
-value_stays (suc n) old new version key g p = rw (node_stays old new version g p)
-    (others_alike (node_of old version) key _ _ (λ node. value_stays n old new (older version
-    (side_of node key)) (half key) g (omega (arith, older_within version (side_of node key)))))
+value_stays zero key g p = refl
+value_stays {old = old} (suc n) {version = version} key g p = rw (node_stays version g p)
+    (others_alike (node_of old version) key _ _ (λ node. value_stays n (half key) g
+    (omega (arith, older_within version (side_of node key)))))
 
 -- ---- the same by a copy of the node
 
 copy_side : (version key : ℕ) (node : Node) → side_of (copy_by version (Some node)) key ≡
     older version (side_of node key)
 copy_side version key node =
-    by-bool (side_of (copy_by version (Some node)) key ≡ older version (side_of node key))
-    (eqb (key % 2) 0) (λ e. rw e refl) (λ e. rw e refl)
+    by-bool _ (eqb (key % 2) 0) (λ e. rw e refl) (λ e. rw e refl)
 
 none_side : (version key : ℕ) → side_of (copy_by version None) key ≡ 0
-none_side version key = by-bool (side_of (copy_by version None) key ≡ 0) (eqb (key % 2) 0)
-    (λ e. rw e refl) (λ e. rw e refl)
+none_side version key = by-bool _ (eqb (key % 2) 0) (λ e. rw e refl) (λ e. rw e refl)
 
 copy_within : (nodes : List Node) (version key : ℕ)
     → side_of (copy_of nodes version) key ≤ length nodes
@@ -96,12 +87,8 @@ copy_within nodes (suc i) key = of_node (slice_get nodes i) refl
     of_node : (o : Option Node) → slice_get nodes i ≡ o
         → side_of (copy_by (suc i) o) key ≤ length nodes
     of_node None e = omega (arith, none_side (suc i) key)
-    of_node (Some node) e = omega (
-      arith,
-      copy_side (suc i) key node,
-      older_within (suc i) (side_of node key),
-      slice_get_within nodes i node e,
-    )
+    of_node (Some node) e = let within = slice_get_within nodes i node e in
+        omega (arith, copy_side (suc i) key node, older_within (suc i) (side_of node key))
 
 -- what a node has whose sides are older
 abbrev node_has : ℕ → List Node → Node → ℕ → Option ℕ
@@ -116,8 +103,8 @@ by_copy levels nodes version key some = one_level levels nodes version key some
     of_node : (o : Option Node) → value_by o key (λ node. value_below (levels - 1) nodes
         (older version (side_of node key)) (half key))
         ≡ node_has levels nodes (copy_by version o) key
-    of_node None = rw (none_side version key, below_none (levels - 1) nodes 0 (half key) refl)
-        (cond_both (eqb key 0) None None (λ (o : Option ℕ). None ≡ o) (λ _. refl) (λ _. refl))
+    of_node None = rw (none_side version key, none_below (levels - 1) nodes 0 (half key) refl)
+        (by-bool _ (eqb key 0) (λ e. rw e refl) (λ e. rw e refl))
     of_node (Some node) = rw (copy_side version key node) refl
 
 -- a node that was added
@@ -138,8 +125,7 @@ others_by : (levels : ℕ) (old new : List Node) (version added other : ℕ) (b 
     → value_below levels new added other ≡ value_below levels old version other
 others_by levels old new version added other b copy some is now less values sides =
     let both : node_has levels new b other ≡ node_has levels old copy other =
-    by-bool (node_has levels new b other ≡ node_has levels old copy other) (eqb other 0)
-    (λ e. rw (e, values (eqb-true _ _ e)) refl)
+    by-bool _ (eqb other 0) (λ e. rw (e, values (eqb-true _ _ e)) refl)
     (λ e. rw (e, sides (eqb-false _ _ e)) refl) in
     added_has levels new added other b some now less ∙ (rw is at both)
     ∙ sym (by_copy levels old version other some)
@@ -150,119 +136,73 @@ pub value_here : (levels : ℕ) (new : List Node) (added key : ℕ) (b : Node) �
 value_here levels new added key b some here there now = one_level levels new added key some
     ∙ rw (now, here, ne_eqb b.value 0 there) refl
 
-pub others_here : (levels : ℕ) (old new : List Node) (version added key : ℕ) (b copy : Node)
-    → levels ≢ 0 → key ≡ 0 → copy ≡ copy_of old version
-    → ((k : ℕ) → side_of b k ≡ side_of copy k) → Grows old new → length old < added
-    → node_of new added ≡ Some b → (other : ℕ) → other ≢ key
+pub others_here : (levels : ℕ) (old new : List Node) (version added key value : ℕ) (copy : Node)
+    → levels ≢ 0 → key ≡ 0 → copy ≡ copy_of old version → Grows old new → length old < added
+    → node_of new added ≡ Some (record copy { value = value }) → (other : ℕ) → other ≢ key
     → value_below levels new added other ≡ value_below levels old version other
-others_here levels old new version added key b copy some here is sides g above now other apart =
+others_here levels old new version added key value copy some here is g above now other apart =
     let fits = rw (← is) at (copy_within old version other) in
-    others_by levels old new version added other b copy some is now
-    (omega (arith, sides other, fits, above)) (λ e. absurd (apart (e ∙ sym here)))
-    (λ _. rw (sides other) (value_stays (levels - 1) old new (side_of copy other) (half other) g
-    fits))
+    others_by levels old new version added other (record copy { value = value }) copy some is now
+    (omega (arith, fits, above)) (λ e. absurd (apart (e ∙ sym here)))
+    (λ _. value_stays (levels - 1) (half other) g fits)
 
 -- two keys of one side are one where they are alike behind it
 halves_apart : (key other : ℕ) → key ≢ 0 → other ≢ 0 → key % 2 ≡ other % 2
     → half other ≡ half key → other ≡ key
-halves_apart key other p q sides same =
-    omega (
-      arith,
-      p,
-      q,
-      sides,
-      same,
-      div-add-mod key 2,
-      div-add-mod other 2,
-      div-add-mod (key - 1) 2,
-      div-add-mod (other - 1) 2,
-    )
+halves_apart key other p q sides same = omega arith
 
 side_alike : (node : Node) (k j : ℕ) → k % 2 ≡ j % 2 → side_of node k ≡ side_of node j
 side_alike node k j e = ap (λ (m : ℕ). cond (eqb m 0) node.even node.odd) e
 
--- where the side of a key is a new one
-pub record Beside (old mid new : List Node) (version added low key : ℕ) (b copy : Node) : Type 0
-  where
-    pub some : key ≢ 0
-    pub copied : copy ≡ copy_of old version
-    pub value : b.value ≡ copy.value
-    pub side : side_of b key ≡ low
-    pub sides : (k : ℕ) → eqb (k % 2) (key % 2) ≡ false → side_of b k ≡ side_of copy k
-    pub before : Grows old mid
-    pub after : Grows mid new
-    pub fits : low ≤ length mid
-    pub above : length mid < added
-    pub now : node_of new added ≡ Some b
+-- a node with another version on the side of a key
+abbrev pub with_side : Node → ℕ → ℕ → Node
+with_side node key low =
+    cond (eqb (key % 2) 0) (record node { even = low }) (record node { odd = low })
 
-pub value_beside : {old mid new : List Node} {version added low key : ℕ} {b copy : Node}
-    (levels value : ℕ) → levels ≢ 0 → Beside old mid new version added low key b copy
-    → value_below (levels - 1) mid low (half key) ≡ Some value
-    → value_below levels new added key ≡ Some value
-value_beside {mid = mid} {new = new} {added = added} {low = low} {key = key} {b = b}
-    levels value some
-    r has =
-    added_has levels new added key b some r.now (omega (arith, r.side, r.fits, r.above))
-    ∙ rw (ne_eqb key 0 r.some, r.side) (value_stays (levels - 1) mid new low (half key) r.after
-    r.fits ∙ has)
+value_with : (node : Node) (key low : ℕ) → (with_side node key low).value ≡ node.value
+value_with node key low = by-bool _ (eqb (key % 2) 0) (λ e. rw e refl) (λ e. rw e refl)
 
-pub others_beside : {old mid new : List Node} {version added low key : ℕ} {b copy : Node}
-    (levels : ℕ) → levels ≢ 0 → Beside old mid new version added low key b copy
-    → ((k : ℕ) → k ≢ half key
-    → value_below (levels - 1) mid low k ≡ value_below (levels - 1) old (side_of copy key) k)
-    → (other : ℕ) → other ≢ key
-    → value_below levels new added other ≡ value_below levels old version other
-others_beside {old} {mid} {new} {version} {added} {low} {key} {b} {copy} levels some r same other
-    apart =
-    let whole = grows_length old mid r.before in
-    let fits = rw (← r.copied) at (copy_within old version other) in
-    by-bool (value_below levels new added other ≡ value_below levels old version other)
-    (eqb (other % 2) (key % 2))
-    (λ e.
-    let alike : other % 2 ≡ key % 2 = eqb-true _ _ e in
-    let side : side_of b other ≡ low = side_alike b other key alike ∙ r.side in
-    others_by levels old new version added other b copy some r.copied r.now
-    (omega (arith, side, r.fits, r.above)) (λ _. r.value)
-    (λ behind. rw (side, side_alike copy other key alike) (value_stays (levels - 1) mid new low
-    (half other) r.after r.fits
-    ∙ same (half other) (λ h. apart (halves_apart key other r.some behind (sym alike) h)))))
-    (λ e. others_by levels old new version added other b copy some r.copied r.now
-    (omega (arith, r.sides other e, fits, whole, r.above)) (λ _. r.value)
-    (λ _. rw (r.sides other e) (value_stays (levels - 1) old new (side_of copy other) (half other)
-    (grows_then old mid new r.before r.after) fits)))
+side_with : (node : Node) (key low other : ℕ) → side_of (with_side node key low) other
+    ≡ cond (eqb (other % 2) (key % 2)) low (side_of node other)
+side_with node key low other = by-bool _ (eqb (key % 2) 0)
+    (λ e. rw (eqb-true _ _ e) (by-bool _ (eqb (other % 2) 0) (λ f. rw f refl) (λ f. rw f refl)))
+    (λ e. let odd : key % 2 ≡ 1 = omega (arith, eqb-false _ _ e) in
+    rw odd (by-bool _ (eqb (other % 2) 0) (λ f. rw (eqb-true _ _ f) refl)
+    (λ f. let last : other % 2 ≡ 1 = omega (arith, eqb-false _ _ f) in rw last refl)))
 
--- the new side of an even key, and of an odd one
-pub even_beside : {old mid new : List Node} (version added low key : ℕ) (copy : Node) → key ≢ 0
-    → key % 2 ≡ 0 → copy ≡ copy_of old version → Grows old mid → Grows mid new → low ≤ length mid
-    → length mid < added → node_of new added ≡ Some (record copy { even = low })
-    → Beside old mid new version added low key (record copy { even = low }) copy
-even_beside version added low key copy some even copied before after fits above now = record {
-  some = some;
-  copied = copied;
-  value = refl;
-  side = rw even refl;
-  sides = λ k differs. let odd = rw even at differs in rw odd refl;
-  before = before;
-  after = after;
-  fits = fits;
-  above = above;
-  now = now;
-}
+module _ {old mid new : List Node} (levels version added low key : ℕ) (copy : Node)
+    (some : levels ≢ 0) (there : key ≢ 0) (copied : copy ≡ copy_of old version)
+    (before : Grows old mid) (behind : Grows mid new) (fits : low ≤ length mid)
+    (above : length mid < added) (now : node_of new added ≡ Some (with_side copy key low)) where
+  pub value_beside : {value : ℕ} → value_below (levels - 1) mid low (half key) ≡ Some value
+      → value_below levels new added key ≡ Some value
+  value_beside has =
+      let side : side_of (with_side copy key low) key ≡ low =
+      rw (eq-eqb (key % 2) (key % 2) refl) at (side_with copy key low key) in
+      added_has levels new added key (with_side copy key low) some now
+      (omega (arith, side, fits, above))
+      ∙ rw (ne_eqb key 0 there, side) (value_stays (levels - 1) (half key) behind fits ∙ has)
 
-pub odd_beside : {old mid new : List Node} (version added low key : ℕ) (copy : Node) → key ≢ 0
-    → key % 2 ≢ 0 → copy ≡ copy_of old version → Grows old mid → Grows mid new → low ≤ length mid
-    → length mid < added → node_of new added ≡ Some (record copy { odd = low })
-    → Beside old mid new version added low key (record copy { odd = low }) copy
-odd_beside version added low key copy some odd copied before after fits above now = record {
-  some = some;
-  copied = copied;
-  value = refl;
-  side = rw (ne_eqb _ _ odd) refl;
-  sides = λ k differs. let even : k % 2 ≡ 0 = omega (arith, eqb-false _ _ differs, odd) in
-      rw even refl;
-  before = before;
-  after = after;
-  fits = fits;
-  above = above;
-  now = now;
-}
+  pub others_beside : ((k : ℕ) → k ≢ half key
+      → value_below (levels - 1) mid low k ≡ value_below (levels - 1) old (side_of copy key) k)
+      → (other : ℕ) → other ≢ key
+      → value_below levels new added other ≡ value_below levels old version other
+  others_beside same other apart =
+      let whole = grows_length before in
+      let copy_fits = rw (← copied) at (copy_within old version other) in
+      let by = λ (side : ℕ) (is : side_of (with_side copy key low) other ≡ side)
+      (less : side < added). others_by levels old new version added other
+      (with_side copy key low) copy some copied now (rw is less) (λ _. value_with copy key low) in
+      by-bool _ (eqb (other % 2) (key % 2))
+      (λ e.
+      let alike = eqb-true _ _ e in
+      let side : side_of (with_side copy key low) other ≡ low =
+      rw e at (side_with copy key low other) in
+      by low side (omega arith) (λ more. rw (side, side_alike copy other key alike)
+      (value_stays (levels - 1) (half other) behind fits ∙ same (half other) (λ h.
+      apart (halves_apart key other there more (sym alike) h)))))
+      (λ e.
+      let side : side_of (with_side copy key low) other ≡ side_of copy other =
+      rw e at (side_with copy key low other) in
+      by (side_of copy other) side (omega arith) (λ _. rw side
+      (value_stays (levels - 1) (half other) (grows_then before behind) copy_fits)))

@@ -1,11 +1,10 @@
 -- What stands at an offset of a section.
 use Rattle.std.proofs.Common.{◌≡◌, ℕ, ◌<◌, ◌≤◌, length, Ok, Err, ltb, refl, lt-ltb, arith}
-use Rattle.std.proofs.lemmas.Bool.{ltb-false, le-ltb}
+use Rattle.std.proofs.Common.{ltb-false, le-ltb}
 use Rattle.dwp_bytes.specs.declared.error.ReadError.TheVariants.{OffsetOutOfRange}
 use Rattle.dwp_bytes.specs.Input.{Input, after, skip_at}
 use Rattle.dwp_dwarf.specs.Offsets.{from_at}
-use Rattle.dwp_dwarf.proofs.Readings.{value_gives, error_gives, test_gives}
-use Rattle.dwp_dwarf.proofs.Readings.{after-zero}
+use Rattle.dwp_dwarf.proofs.Readings.{value_gives, error_gives, test_gives, after-zero}
 
 -- past the end nothing stands
 pub past_end : (place : ℕ) (section : Input) → length section.bytes < place → from_at place section

@@ -1,16 +1,15 @@
 -- What is remembered of a place of a section of abbreviations, from what is remembered of the next.
 use Rattle.std.proofs.Common.{◌≡◌, ◌≢◌, ℕ, ◌≤◌, ◌-◌, List, [], length, Bool, true, false, Option}
-use Rattle.std.proofs.Common.{Some, None, Result, Ok, Err, refl, ap, sym, subst, ◌∙◌, arith}
-use Rattle.std.specs.Option.{IfSome}
-use Rattle.std.specs.Ordering.{nat_cmp}
+use Rattle.std.proofs.Common.{Some, None, Result, Ok, refl, ap, sym, subst, ◌∙◌, arith, IfSome}
+use Rattle.std.proofs.Common.{nat_cmp, ◌+◌, length-take, length-drop}
 use Rattle.std.specs.BTreeMap.{get}
 use Rattle.dwp_base.proofs.Bools.{by-bool}
-use Rattle.dwp_bytes.specs.Input.{Input}
+use Rattle.dwp_bytes.specs.Input.{Input, Goes, front, after}
 use Rattle.dwp_bytes.specs.declared.error.ReadError.{ReadError}
 use Rattle.dwp_dwarf.specs.Abbreviations.{Declaration, declaration}
 use Rattle.dwp_dwarf.specs.Chains.{from_end, absent_by, StandsAt, DeclaredAt, SaidBy, EndsBefore}
-use Rattle.dwp_dwarf.specs.Chains.{StaysBehind, RemembersPlace, RemembersPlaces}
-use Rattle.dwp_dwarf.specs.Chains.{RemembersChains, FirstAt, first_by, first_in}
+use Rattle.dwp_dwarf.specs.Chains.{StaysBehind, RemembersPlace, RemembersPlaces, RemembersChains}
+use Rattle.dwp_dwarf.specs.Chains.{FirstAt, first_by, first_in, ListsPlaces, StaysBefore}
 use Rattle.dwp_dwarf.specs.Declarations.{found_of}
 use Rattle.dwp_dwarf.specs.Codes.{Numbered, KeptOrNew, GrowsCodes}
 use Rattle.dwp_dwarf.specs.Grammar.{next_at}
@@ -21,100 +20,174 @@ use Rattle.dwp_dwarf.specs.declared.chains.Place.{Place}
 use Rattle.dwp_dwarf.specs.declared.codes.Codes.{Codes}
 use Rattle.dwp_dwarf.specs.declared.versions.Node.{Node}
 use Rattle.dwp_base.specs.Reading.{Answers}
-use Rattle.dwp_dwarf.proofs.CodeNumbers.{none_numbered}
-use Rattle.dwp_dwarf.proofs.Keys.{by_key, none_each, one_more, if_there, if_map}
-use Rattle.dwp_dwarf.proofs.Readings.{one_answer}
-use Rattle.dwp_dwarf.proofs.Tables.{Next, Found, look_up-end, look_up-error, look_up-here}
-use Rattle.dwp_dwarf.proofs.Tables.{look_up-other}
-use Rattle.dwp_dwarf.proofs.PlaceEnds.{end_behind, ends_here, ends_further}
-use Rattle.dwp_dwarf.proofs.NewVersions.{below_none, value_stays, grows_length}
+use Rattle.dwp_dwarf.proofs.Keys.{by_key, one_more, if_map, none_there}
+use Rattle.dwp_dwarf.proofs.Readings.{one_answer, goes_then, takes_front, size}
+use Rattle.dwp_dwarf.proofs.Tables.{Next, Found, look_up-here, look_up-other, next_shorter}
+use Rattle.dwp_dwarf.proofs.Tables.{next_takes}
+use Rattle.dwp_dwarf.proofs.NewVersions.{value_stays, grows_length, none_below}
+use Rattle.dwp_dwarf.specs.Offsets.{from_at}
+use Rattle.std.proofs.lemmas.List.{drop-take}
+use Rattle.dwp_dwarf.proofs.Offsets.{from_is, from_within}
+
+-- ---- what a table says of a code doesn't need the bytes behind the code's declaration
+
+-- what comes behind a declaration is what the section has from there on
+pub end_behind : (section i : Input) (left : ℕ) (x : Next) → from_end left section ≡ Ok i
+    → next_at i ≡ Ok (Some x) → from_end (length x.1.bytes) section ≡ Ok x.1
+end_behind section i left x is h =
+    let offset : ℕ = length section.bytes - left in
+    let from = from_is offset section i is in
+    let start : Goes offset section i =
+    record { taken = offset; some = omega arith; enough = from.0; is = from.1 } in
+    let g = goes_then start (next_takes i x h).goes in
+    let left : length x.1.bytes ≡ length section.bytes - g.taken =
+    ap size g.is ∙ length-drop g.taken section.bytes in
+    let place : length section.bytes - length x.1.bytes ≡ g.taken = omega (arith, left, g.enough) in
+    rw place (from_within g.taken section g.enough ∙ ap (λ j. Ok j) (sym g.is))
+
+-- of the code of the declaration at a place
+pub ends_here : (section i : Input) (left : ℕ) (x : Next) → from_end left section ≡ Ok i
+    → next_at i ≡ Ok (Some x) → StaysBehind section i x.0.0 left
+ends_here section i left x is h = λ d stands.
+    let next = rw (one_answer _ stands.is is) at stands.next in
+    let same : stands.behind ≡ x.1 = cc in
+    rw same (
+      omega (arith, next_shorter i x h),
+      λ n enough. let m : ℕ = n + length x.1.bytes - length i.bytes in
+          look_up-here (front n i) (x.0, front m x.1)
+          (takes_front (next_takes i x h) n m (omega (arith, enough)))
+          ∙ sym (look_up-here i x h),
+    )
+
+-- of another code, by the table behind the declaration at a place
+pub ends_further : (section i : Input) (wanted first : ℕ) (x : Next) → next_at i ≡ Ok (Some x)
+    → x.0.0 ≢ wanted → StaysBehind section x.1 wanted first → StaysBehind section i wanted first
+ends_further section i wanted first x h apart inside = λ d stands.
+    let ends = inside d stands in (
+      omega (arith, next_shorter i x h, ends.0),
+      λ n enough. let m : ℕ = n + length x.1.bytes - length i.bytes in
+          look_up-other wanted (front n i) (x.0, front m x.1)
+          (takes_front (next_takes i x h) n m (omega (arith, enough, ends.0))) apart
+          ∙ ends.1 m (omega (arith, enough, ends.0))
+          ∙ sym (look_up-other wanted i x h apart),
+    )
+
+-- a declaration that ends within the first bytes of a section is there too
+pub same_within : (section part whole : Input) (offset end left code : ℕ)
+    → length section.bytes ≤ left + end → StaysBefore whole code left
+    → from_at offset (front end section) ≡ Ok part → from_at offset section ≡ Ok whole
+    → declaration code part ≡ declaration code whole
+same_within section part whole offset end left code fits ends p w =
+    let first = from_is offset (front end section) part p in
+    let all = from_is offset section whole w in
+    let way : offset + (end - offset) ≡ end =
+    omega (arith, first.0, length-take end section.bytes) in
+    let cut = rw way at (drop-take offset (end - offset) section.bytes) in
+    let is : part ≡ front (end - offset) whole = first.1
+    ∙ ap (λ (l : List ℕ). record (after offset section) { bytes = l }) cut
+    ∙ ap (front (end - offset)) (sym all.1) in
+    let size : length whole.bytes ≡ length section.bytes - offset =
+    rw all.1 (length-drop offset section.bytes) in
+    ap (declaration code) is ∙ ends (end - offset) (omega (arith, size, way, fits))
+
+-- ---- numbers, nodes and places that stay
+
+pub none_numbered : (codes : Codes) → codes.numbers.entries ≡ [] → Numbered codes
+none_numbered codes empty =
+    let none : (code number : ℕ) → get nat_cmp codes.numbers code ≡ Some number → ⊥ =
+    λ code number e. let never = none_there codes.numbers code empty in absurd cc in
+    record {
+      below = λ code number e. absurd (none code number e);
+      apart = λ code other number e f. absurd (none code number e);
+    }
 
 -- a version has the same for a code whose number stays or is new
-number_stays : (count : ℕ) (before now : Option ℕ) (nodes grown : List Node) (version : ℕ)
+number_stays : {count version : ℕ} {nodes grown : List Node} (before now : Option ℕ)
     → KeptOrNew count before now → Grows nodes grown → version ≤ length nodes
     → ((number : ℕ) → count ≤ number → value_in nodes version number ≡ None)
     → first_by now grown version ≡ first_by before nodes version
-number_stays count (Some n) now nodes grown version kept g fits none =
-    rw kept (value_stays 33 nodes grown version n g fits)
-number_stays count None None nodes grown version kept g fits none = refl
-number_stays count None (Some n) nodes grown version kept g fits none =
-    value_stays 33 nodes grown version n g fits ∙ none n kept
+number_stays (Some n) now kept g fits none = rw kept (value_stays 33 n g fits)
+number_stays None None kept g fits none = refl
+number_stays None (Some n) kept g fits none = value_stays 33 n g fits ∙ none n kept
 
-pub place_stays : (section : Input) (old new : Codes) (nodes grown : List Node) (left : ℕ)
-    (place : Place) → GrowsCodes old new → Grows nodes grown
+pub place_stays : {section : Input} {old new : Codes} {nodes grown : List Node} {left : ℕ}
+    {place : Place} → GrowsCodes old new → Grows nodes grown
     → RemembersPlace section old nodes left place → RemembersPlace section new grown left place
-place_stays section old new nodes grown left place c g r =
+place_stays {old = old} {new = new} {nodes = nodes} {grown = grown} {place = place} c g r =
     let first : (code : ℕ) → first_in new grown place.version code
-    ≡ first_in old nodes place.version code = λ code. number_stays old.count
-    (get nat_cmp old.numbers code) _ nodes grown place.version (c.kept code) g r.fits r.none in
+    ≡ first_in old nodes place.version code = λ code. number_stays
+    (get nat_cmp old.numbers code) _ (c.kept code) g r.fits r.none in
     record {
       table = r.table;
       is = r.is;
-      fits = omega (arith, r.fits, grows_length nodes grown g);
-      none = λ number over. value_stays 33 nodes grown place.version number g r.fits
+      fits = omega (arith, r.fits, grows_length g);
+      none = λ number over. value_stays 33 number g r.fits
           ∙ r.none number (omega (arith, c.count, over));
       same = λ code. rw (first code) (r.same code);
       ends = λ code. rw (first code) (r.ends code);
       behind = r.behind;
     }
 
-pub none_remembered : (section : Input) (chains : Chains) → chains.places.entries ≡ []
-    → chains.codes.numbers.entries ≡ [] → RemembersPlaces section chains
-none_remembered section chains empty unmet = record {
-  numbered = none_numbered chains.codes unmet;
-  each = none_each (RemembersPlace section chains.codes chains.firsts.nodes.items) chains.places
-      empty;
-}
-
 -- more numbers and nodes alone
-pub places_stay : (section : Input) (old new : Chains) → new.places ≡ old.places
+pub places_stay : {section : Input} {old new : Chains} → new.places ≡ old.places
     → Grows old.firsts.nodes.items new.firsts.nodes.items → GrowsCodes old.codes new.codes
     → (Numbered old.codes → Numbered new.codes) → RemembersPlaces section old
     → RemembersPlaces section new
-places_stay section old new same g codes numbered r = record {
+places_stay {old = old} same g codes numbered r = record {
   numbered = numbered r.numbered;
-  each = λ left. rw same (if_map (get nat_cmp old.places left) (λ place. place_stays section
-      old.codes new.codes old.firsts.nodes.items new.firsts.nodes.items left place codes g)
+  each = λ left. rw same (if_map (get nat_cmp old.places left) (λ place p. place_stays codes g p)
       (r.each left));
 }
 
 -- one more place, where there was memory for it
-pub place_put : (section : Input) (old new : Chains) (left : ℕ) (place : Place) (added : Bool)
+pub place_put : {section : Input} {old new : Chains} {left : ℕ} {place : Place} {added : Bool}
     → new.firsts ≡ old.firsts → new.codes ≡ old.codes
     → (added ≡ true → get nat_cmp new.places left ≡ Some place)
     → ((q : ℕ) → q ≢ left → get nat_cmp new.places q ≡ get nat_cmp old.places q)
     → (added ≡ false → (q : ℕ) → get nat_cmp new.places q ≡ get nat_cmp old.places q)
     → RemembersPlace section old.codes old.firsts.nodes.items left place
     → RemembersPlaces section old → RemembersPlaces section new
-place_put section old new left place added firsts codes here others refused is r = record {
-  numbered = rw codes r.numbered;
-  each = λ q. rw (firsts, codes) (by-bool (IfSome (get nat_cmp new.places q)
-      (RemembersPlace section old.codes old.firsts.nodes.items q)) added
-      (λ yes. one_more (RemembersPlace section old.codes old.firsts.nodes.items) old.places
-      new.places left place is (here yes) others r.each q)
-      (λ no. rw (refused no q) (r.each q)));
+place_put {section} {old} {new} {left} {place} {added} firsts codes here others refused is r =
+    record {
+      numbered = rw codes r.numbered;
+      each = λ q. rw (firsts, codes) (by-bool _ added
+          (λ yes. one_more (RemembersPlace section old.codes old.firsts.nodes.items) old.places
+          new.places left place is (here yes) others r.each q)
+          (λ no. rw (refused no q) (r.each q)));
+    }
+
+-- more lists alone
+pub chains_listed : {section : Input} {old new : Chains} → new.places ≡ old.places
+    → new.firsts ≡ old.firsts → new.codes ≡ old.codes
+    → (ListsPlaces section old.lists → ListsPlaces section new.lists)
+    → RemembersChains section old → RemembersChains section new
+chains_listed places firsts codes kept r = record {
+  places = record {
+    numbered = rw codes r.places.numbered;
+    each = λ left. rw (places, firsts, codes) (r.places.each left);
+  };
+  lists = kept r.lists;
 }
 
 -- ---- what is remembered is said
 
 -- at a place one declaration stands
-pub one_stands : (section : Input) (left : ℕ) (d e : Declaration) → StandsAt section left d
+pub one_stands : {section : Input} {left : ℕ} {d e : Declaration} → StandsAt section left d
     → StandsAt section left e → d ≡ e
-one_stands section left d e p q =
+one_stands {d = d} {e = e} p q =
     let next = rw (one_answer _ q.is p.is) at q.next in
     let first = p.next in
     let same : ((p.code, d), p.behind) ≡ ((q.code, e), q.behind) = cc in
     ap (λ (x : Next). x.0.1) same
 
 -- what is remembered of a place is remembered of the table that begins there
-place_of : (section table : Input) (chains : Chains) (left : ℕ) (place : Place)
+place_of : {section table : Input} {chains : Chains} {left : ℕ} {place : Place}
     → get nat_cmp chains.places left ≡ Some place → RemembersPlaces section chains
     → from_end left section ≡ Ok table
     → (r : RemembersPlace section chains.codes chains.firsts.nodes.items left place)
     × (r.table ≡ table)
-place_of section table chains left place here all is =
-    let r = if_there (RemembersPlace section chains.codes chains.firsts.nodes.items left) here
-    (all.each left) in (r, one_answer _ r.is is)
+place_of {left = left} here all is =
+    let r = rw here at (all.each left) in (r, one_answer _ r.is is)
 
 -- what a version has for a code is the place of its first declaration
 pub first_is : (section : Input) (chains : Chains) (offset size code first : ℕ) (place : Place)
@@ -123,10 +196,20 @@ pub first_is : (section : Input) (chains : Chains) (offset size code first : ℕ
     → first_in chains.codes chains.firsts.nodes.items place.version code ≡ Some first
     → RemembersChains section chains → FirstAt section offset code first
 first_is section chains offset size code first place is fits here some all =
-    let p = if_there (RemembersPlace section chains.codes chains.firsts.nodes.items
-    (size - offset)) here (all.places.each (size - offset)) in
+    let p = rw here at (all.places.each (size - offset)) in
     let same : length section.bytes - (size - offset) ≡ offset = omega (arith, is) in
     record { table = p.table; is = rw same at p.is; declares = rw some at (p.same code) }
+
+-- a declaration that was found stands at the first place that the table has for its code
+pub stands_first : {section : Input} {offset code left : ℕ} {declared : Declaration}
+    → FirstAt section offset code left
+    → ((table : Input) → from_at offset section ≡ Ok table
+    → declaration code table ≡ Ok (Some declared)) → StandsAt section left declared
+stands_first {section} {offset} {code} {left} {declared} first is =
+    let one = is first.table first.is in
+    let says = first.declares.says in
+    let same : first.declares.declared ≡ declared = cc in
+    subst (StandsAt section left) same first.declares.stands
 
 -- where the first declaration of a code ends that a version has
 pub end_is : (section table : Input) (chains : Chains) (left code first : ℕ)
@@ -135,11 +218,11 @@ pub end_is : (section table : Input) (chains : Chains) (left code first : ℕ)
     → get nat_cmp chains.places first ≡ Some declared → RemembersPlaces section chains
     → from_end left section ≡ Ok table → EndsBefore table code declared.behind
 end_is section table chains left code first place declared here some there all is =
-    let p = place_of section table chains left place here all is in
+    let p = place_of here all is in
     let said : DeclaredAt section first (declaration code p.0.table) = rw some at (p.0.same code) in
     let stands = said.stands in
-    let q = place_of section stands.start chains first declared there all stands.is in
-    let inside = if_there (StaysBehind section p.0.table code) some (p.0.ends code) in
+    let q = place_of there all stands.is in
+    let inside = rw some at (p.0.ends code) in
     let end : declared.behind ≡ length stands.behind.bytes =
     q.0.behind ((stands.code, said.declared), stands.behind) (rw q.1 stands.next) in
     rw end (subst (λ (t : Input). EndsBefore t code (length stands.behind.bytes)) p.1 (
@@ -157,57 +240,41 @@ pub said_is : {R : Type 0} (input : R → Input)
     → from_end left section ≡ Ok table → Answers (found_of input) r (declaration code table))
 said_is input None section chains left code place here says = tt
 said_is input (Some r) section chains left code place here says = λ all table is.
-    let p = place_of section table chains left place here all is in
+    let p = place_of here all is in
     says (declaration code table) (rw p.1 at (p.0.same code))
 
 -- ---- a place that is remembered now
 
--- where no declaration stands, by the error there
-abbrev ended : Option ReadError → Result (Option Next) ReadError
-ended None = Ok None
-ended (Some e) = Err e
-
-ended_said : (code : ℕ) (i : Input) (error : Option ReadError) → next_at i ≡ ended error
-    → declaration code i ≡ absent_by error
-ended_said code i None h = look_up-end code i h
-ended_said code i (Some e) h = look_up-error code i e h
-
-not_ended : (error : Option ReadError) (x : Next) → ended error ≡ Ok (Some x) → ⊥
-not_ended None x e = absurd cc
-not_ended (Some f) x e = absurd cc
-
 -- a version without numbers
 first_none : (o : Option ℕ) (nodes : List Node) → first_by o nodes 0 ≡ None
 first_none None nodes = refl
-first_none (Some number) nodes = below_none 33 nodes 0 number refl
+first_none (Some number) nodes = none_below 33 nodes 0 number refl
 
--- at the end of a table, or at an error
-pub place_end : (section i : Input) (codes : Codes) (nodes : List Node) (left : ℕ) (place : Place)
-    → from_end left section ≡ Ok i → next_at i ≡ ended place.error → place.version ≡ 0
+-- where no declaration stands
+pub place_end : {section i : Input} {codes : Codes} {nodes : List Node} {left : ℕ} {place : Place}
+    → from_end left section ≡ Ok i → ((code : ℕ) → declaration code i ≡ absent_by place.error)
+    → ((x : Next) → next_at i ≡ Ok (Some x) → ⊥) → place.version ≡ 0
     → RemembersPlace section codes nodes left place
-place_end section i codes nodes left place is end zero = record {
+place_end {i = i} {codes = codes} {nodes = nodes} is absent never zero = record {
   table = i;
   is = is;
   fits = omega (arith, zero);
-  none = λ number _. rw zero (below_none 33 nodes 0 number refl);
-  same = λ code. rw (zero, first_none (get nat_cmp codes.numbers code) nodes)
-      (ended_said code i place.error end);
+  none = λ number _. rw zero (none_below 33 nodes 0 number refl);
+  same = λ code. rw (zero, first_none (get nat_cmp codes.numbers code) nodes) (absent code);
   ends = λ code. rw (zero, first_none (get nat_cmp codes.numbers code) nodes) tt;
-  behind = λ x h. absurd (not_ended place.error x (sym end ∙ h));
+  behind = λ x h. absurd (never x h);
 }
 
--- a version that was changed for another code
-first_apart : (o : Option ℕ) (nodes grown : List Node) (version changed number : ℕ)
-    → (o ≢ Some number)
-    → ((n : ℕ) → n ≢ number → value_in grown changed n ≡ value_in nodes version n)
+-- versions that have the same for a code's number have the same for the code
+first_alike : (o : Option ℕ) (nodes grown : List Node) (version changed : ℕ)
+    → ((n : ℕ) → o ≡ Some n → value_in grown changed n ≡ value_in nodes version n)
     → first_by o grown changed ≡ first_by o nodes version
-first_apart None nodes grown version changed number apart others = refl
-first_apart (Some n) nodes grown version changed number apart others =
-    others n (λ e. apart (ap (λ (k : ℕ). Some k) e))
+first_alike None nodes grown version changed alike = refl
+first_alike (Some n) nodes grown version changed alike = alike n refl
 
 -- at a declaration
-pub place_next : (section i behind : Input) (codes : Codes) (nodes grown : List Node)
-    (left code number : ℕ) (declared : Declaration) (next place : Place)
+pub place_next : {section i behind : Input} {codes : Codes} {nodes grown : List Node}
+    {left code number : ℕ} {declared : Declaration} {next place : Place}
     → from_end left section ≡ Ok i
     → next_at i ≡ Ok (Some ((code, declared), behind)) → Numbered codes
     → get nat_cmp codes.numbers code ≡ Some number
@@ -216,15 +283,15 @@ pub place_next : (section i behind : Input) (codes : Codes) (nodes grown : List 
     → place.version ≤ length grown → value_in grown place.version number ≡ Some left
     → ((other : ℕ) → other ≢ number → value_in grown place.version other ≡ value_in nodes
     next.version other) → RemembersPlace section codes grown left place
-place_next section i behind codes nodes grown left code number declared next place is h numbered
-    number_is r error end fits value others =
+place_next {section} {i} {behind} {codes} {nodes} {grown} {left} {code} {number} {declared} {next}
+    {place} is h numbered number_is r error end fits value others =
     let x : Next = ((code, declared), behind) in
     let table : r.table ≡ behind = one_answer _ r.is (end_behind section i left x is h) in
     let here : first_in codes grown place.version code ≡ Some left = rw number_is value in
     let other : (c : ℕ) → c ≢ code
     → first_in codes grown place.version c ≡ first_in codes nodes next.version c =
-    λ c apart. first_apart (get nat_cmp codes.numbers c) nodes grown next.version place.version
-    number (λ e. apart (numbered.apart c code number e number_is)) others in
+    λ c apart. first_alike (get nat_cmp codes.numbers c) _ _ _ _ (λ n e. others n (λ same.
+    apart (numbered.apart c code number (e ∙ ap (λ (k : ℕ). Some k) same) number_is))) in
     record {
       table = i;
       is = is;
@@ -232,20 +299,16 @@ place_next section i behind codes nodes grown left code number declared next pla
       none = λ n over. others n (λ e. absurd (omega (
         arith,
         numbered.below code number number_is,
-        over,
-        e,
       ))) ∙ r.none n over;
-      same = λ c. by_key (λ c. SaidBy section place.error (first_in codes grown place.version c)
-          (declaration c i)) code c
-          (rw here (record {
+      same = λ c. by_key code c
+          (λ e. rw (e, here) (record {
             declared = declared;
             stands = record { start = i; is = is; code = code; behind = behind; next = h };
             says = look_up-here i x h;
           }))
           (λ apart. rw (other c apart, error, look_up-other c i x h (λ e. apart (sym e)))
           (rw table at (r.same c)));
-      ends = λ c. by_key (λ c. IfSome (first_in codes grown place.version c)
-          (StaysBehind section i c)) code c (rw here (ends_here section i left x is h))
+      ends = λ c. by_key code c (λ e. rw (e, here) (ends_here section i left x is h))
           (λ apart. rw (other c apart) (if_map (first_in codes nodes next.version c)
           (λ first inside. ends_further section i c first x h (λ e. apart (sym e))
           (rw table at inside)) (r.ends c)));

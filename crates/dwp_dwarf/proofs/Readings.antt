@@ -1,19 +1,16 @@
--- Readings made of others: what is left stands behind what was read, and the same is read where
--- bytes that were left are missing.
-use Rattle.std.proofs.Common.{◌≡◌, ◌∙◌, ℕ, suc, ◌+◌, ◌^◌, ◌<◌, ◌≤◌, zero, Bool, true, false, cond}
-use Rattle.std.proofs.Common.{List, [], ◌∷◌}
-use Rattle.std.proofs.Common.{◌++◌, length, drop, Result, Ok, Err, ltb, refl, ap, sym, subst}
-use Rattle.std.proofs.Common.{add_assoc}
-use Rattle.std.proofs.Common.{add-zero, arith}
-use Rattle.std.specs.Prelude.{ℤ}
-use Rattle.std.proofs.lemmas.Bool.{ltb-false, le-ltb}
-use Rattle.std.proofs.lemmas.List.{drop-drop, length-drop}
+-- Readings made of others: what is left stands behind what was read, and the same is read whatever
+-- bytes are left.
+use Rattle.std.proofs.Common.{◌≡◌, [], ◌∙◌, ℕ, suc, ◌+◌, ◌^◌, ◌<◌, ◌≤◌, zero, Bool, true, false}
+use Rattle.std.proofs.Common.{cond, List, ◌∷◌, ◌++◌, length, drop, Result, Ok, Err, ltb, refl, ap}
+use Rattle.std.proofs.Common.{sym, subst, add_assoc, add-zero, arith, ℤ, ltb-false, le-ltb}
+use Rattle.std.proofs.Common.{drop-drop, length-drop, take, take-add, append_assoc}
+use Rattle.std.proofs.Common.{take-append-drop}
 use Rattle.dwp_base.specs.Reading.{◌>>=◌}
 use Rattle.dwp_bytes.specs.declared.error.ReadError.{ReadError}
 use Rattle.dwp_bytes.specs.declared.error.ReadError.TheVariants.{UnexpectedEof}
 use Rattle.dwp_bytes.specs.Leb.{leb_at, uleb_at, signed_leb_at, sleb_at, is_i64}
-use Rattle.dwp_bytes.specs.Input.{Input, Goes, front, after, split_at, byte_at, skip_at, number_at}
-use Rattle.dwp_bytes.specs.Input.{relocated_at}
+use Rattle.dwp_bytes.specs.Input.{Input, Goes, front, split_at, byte_at, skip_at, number_at}
+use Rattle.dwp_bytes.specs.Input.{relocated_at, after}
 use Rattle.dwp_base.proofs.Steps.{bind-was}
 
 -- ---- what is known of an answer
@@ -52,6 +49,12 @@ was r = record { gives = λ x e. e }
 pub one_answer : {A E : Type 0} (r : Result A E) {x y : A} → r ≡ Ok x → r ≡ Ok y → x ≡ y
 one_answer r p q = cc
 
+-- by whether it is an answer
+pub by-result : {A E : Type 0} (P : Type 0) (r : Result A E) → ((x : A) → r ≡ Ok x → P)
+    → ((e : E) → r ≡ Err e → P) → P
+by-result P (Ok x) ok error = ok x refl
+by-result P (Err e) ok error = error e refl
+
 -- steps that go on alike are alike
 pub bind_alike : {A B E : Type 0} (r : Result A E) (f g : A → Result B E)
     → ((x : A) → r ≡ Ok x → f x ≡ g x) → (r >>= f) ≡ (r >>= g)
@@ -80,47 +83,36 @@ goes_after n fits = record { taken = n; some = omega arith; enough = fits; is = 
 pub after-zero : (i : Input) → after 0 i ≡ i
 after-zero i = rw add-zero refl
 
-pub goes_none : {i : Input} → Goes 0 i i
+abbrev pub goes_none : {i : Input} → Goes 0 i i
 goes_none {i} = record {
   taken = 0;
   some = omega arith;
   enough = omega arith;
-  is =
-      sym (after-zero i);
+  is = sym (after-zero i);
 }
 
-pub goes_some : {n : ℕ} {i j : Input} → Goes n i j → Goes 0 i j
-goes_some g = record { taken = g.taken; some = omega arith; enough = g.enough; is = g.is }
+abbrev pub goes_least : {m n : ℕ} {i j : Input} → m ≤ n → Goes n i j → Goes m i j
+goes_least le g =
+    record { taken = g.taken; some = omega (arith, g.some); enough = g.enough; is = g.is }
+
+abbrev pub goes_some : {n : ℕ} {i j : Input} → Goes n i j → Goes 0 i j
+goes_some g = goes_least (omega arith) g
 
 pub after-after : (m n : ℕ) (i : Input) → after n (after m i) ≡ after (m + n) i
 after-after m n i = rw (drop-drop n m i.bytes, add_assoc i.place m n) refl
 
-pub goes_both : {m n : ℕ} {i j k : Input} (p : Goes m i j) (q : Goes n j k)
-    → (p.taken + q.taken ≤ length i.bytes) × (k ≡ after (p.taken + q.taken) i)
-goes_both {i = i} p q =
-    let left : q.taken ≤ length (drop p.taken i.bytes) =
-    subst (λ (x : Input). q.taken ≤ length x.bytes) p.is q.enough in (
-      omega (arith, length-drop p.taken i.bytes, p.enough),
-      q.is ∙ ap (after q.taken) p.is ∙ after-after p.taken q.taken i,
-    )
-
-pub goes_then : {m n : ℕ} {i j k : Input} → Goes m i j → Goes n j k → Goes m i k
-goes_then p q = let both = goes_both p q in record {
+abbrev pub goes_then : {m n : ℕ} {i j k : Input} → Goes m i j → Goes n j k → Goes m i k
+goes_then {i = i} p q = record {
   taken = p.taken + q.taken;
   some = omega (arith, p.some);
-  enough = both.0;
-  is = both.1;
+  enough = omega (arith, p.enough, q.enough, ap size p.is, length-drop p.taken i.bytes);
+  is = q.is ∙ ap (after q.taken) p.is ∙ after-after p.taken q.taken i;
 }
 
 -- what was taken is no longer left
 pub goes_length : {n : ℕ} {i j : Input} → Goes n i j → length j.bytes + n ≤ length i.bytes
-goes_length {n} {i} {j} g = omega (
-  arith,
-  g.some,
-  g.enough,
-  ap (λ (x : Input). length x.bytes) g.is,
-  length-drop g.taken i.bytes,
-)
+goes_length {i = i} g =
+    omega (arith, g.some, g.enough, ap size g.is, length-drop g.taken i.bytes)
 
 -- what is taken where there are so many bytes
 guard_gives : {A : Type 0} (n : ℕ) (i : Input) (a : A)
@@ -153,7 +145,7 @@ pub relocated_goes : (n : ℕ) (i : Input) → Gives (ℕ × Input) (relocated_a
 unfolding relocated_at
 relocated_goes n i = guard_gives n i _
 
--- ---- bytes that are missing
+-- ---- more bytes behind, or fewer
 
 -- the input with more bytes behind
 abbrev pub more : Input → List ℕ → Input
@@ -162,39 +154,61 @@ more i rest = record i { bytes = i.bytes ++ rest }
 abbrev pub Answer : Type 0 → Type 0
 Answer A = Result (A × Input) ReadError
 
--- the same is read where the rest is missing, and what is left then lacks it too
-abbrev pub ReadWithout : {A : Type 0} → (Input → Answer A) → Input → List ℕ → A × Input → Type 0
-ReadWithout read i rest x = (y : Input) × (x.1 ≡ more y rest) × (read i ≡ Ok (x.0, y))
+-- at least so many bytes are taken, and say the same whatever is left behind them
+pub record Takes (least : ℕ) (i left : Input) (Says : Input → Input → Type 0) : Type 0 where
+  pub goes : Goes least i left
+  pub anyway : (rest : List ℕ) → Says (record i { bytes = take goes.taken i.bytes ++ rest })
+      (record left { bytes = rest })
 
--- a reading takes at least so many bytes, and can do without a rest of those that it left
+pub takes_then : {m n : ℕ} {i j k : Input} {P Q R : Input → Input → Type 0} → Takes m i j P
+    → Takes n j k Q → ((a b c : Input) → P a b → Q b c → R a c) → Takes m i k R
+takes_then {i = i} {j = j} p q both = record {
+  goes = goes_then p.goes q.goes;
+  anyway = λ rest. let left : j.bytes ≡ drop p.goes.taken i.bytes =
+      ap (λ (x : Input). x.bytes) p.goes.is in
+      rw (take-add p.goes.taken q.goes.taken i.bytes, append_assoc, ← left)
+      (both _ _ _ (p.anyway (take q.goes.taken j.bytes ++ rest)) (q.anyway rest));
+}
+
+-- they say it where some of the bytes behind them are missing
+pub takes_front : {least : ℕ} {i left : Input} {Says : Input → Input → Type 0}
+    → Takes least i left Says → (n m : ℕ) → n + length left.bytes ≡ m + length i.bytes
+    → Says (front n i) (front m left)
+takes_front {i = i} {left = left} t n m same =
+    let rest : left.bytes ≡ drop t.goes.taken i.bytes = ap (λ (x : Input). x.bytes) t.goes.is in
+    let size : n ≡ t.goes.taken + m =
+    omega (arith, ap size t.goes.is, length-drop t.goes.taken i.bytes, t.goes.enough) in
+    rw (size, take-add t.goes.taken m i.bytes, ← rest) (t.anyway (take m left.bytes))
+
+-- and where more bytes follow
+pub takes_more : {least : ℕ} {i left : Input} {Says : Input → Input → Type 0}
+    → Takes least i left Says → (rest : List ℕ) → Says (more i rest) (more left rest)
+takes_more {i = i} {left = left} {Says = Says} t rest =
+    let whole : take t.goes.taken i.bytes ++ left.bytes ≡ i.bytes =
+    rw t.goes.is (take-append-drop t.goes.taken i.bytes) in
+    subst (λ (l : List ℕ). Says (record i { bytes = l }) (more left rest))
+    (sym (append_assoc _ left.bytes rest) ∙ ap (λ (l : List ℕ). l ++ rest) whole)
+    (t.anyway (left.bytes ++ rest))
+
+-- a reading takes at least so many bytes
 pub record Reads (least : ℕ) (A : Type 0) (read : Input → Answer A) : Type 0 where
-  pub goes : (i : Input) → Gives (A × Input) (read i) (λ x. Goes least i x.1)
-  pub cut : (i : Input) (rest : List ℕ) (x : A × Input) → read (more i rest) ≡ Ok x
-      → length rest ≤ length x.1.bytes → ReadWithout read i rest x
+  pub reads : (i : Input)
+      → Gives (A × Input) (read i) (λ x. Takes least i x.1 (λ j k. read j ≡ Ok (x.0, k)))
 
 pub then_reads : {m n : ℕ} {A B : Type 0} {read : Input → Answer A} (next : A × Input → Answer B)
     → Reads m A read → ((a : A) → Reads n B (λ i. next (a, i))) → Reads m B (λ i. read i >>= next)
-then_reads {B = B} {read = read} next first second = record {
-  goes = λ i. then_gives (first.goes i) (λ x p. more_gives ((second x.0).goes x.1) (λ y q.
-      goes_then p q));
-  cut = λ i rest x h le.
-      let s = bind-was (read (more i rest)) next x h in
-      let left = goes_length (((second s.0.0).goes s.0.1).gives x s.2) in
-      let one = first.cut i rest s.0 s.1 (omega (arith, left)) in
-      let two = (second s.0.0).cut one.0 rest x (subst (λ (j : Input). next (s.0.0, j) ≡ Ok x)
-      one.1 s.2) le in
-      (two.0, two.1, rw one.2 two.2);
+then_reads next first second = record {
+  reads = λ i. then_gives (first.reads i) (λ x p. more_gives ((second x.0).reads x.1) (λ y q.
+      takes_then p q (λ a b c e f. rw e f)));
 }
 
 pub value_reads : {A : Type 0} {a : A} → Reads 0 A (λ i. Ok (a, i))
-value_reads {A} {a} = record {
-  goes = λ i. value_gives goes_none;
-  cut = λ i rest x h le. (value_gives {P = λ y. ReadWithout (λ j. Ok (a, j)) i rest y}
-      (i, refl, refl)).gives x h;
+value_reads = record {
+  reads = λ i. value_gives (record { goes = goes_none; anyway = λ rest. refl });
 }
 
 pub error_reads : {n : ℕ} {A : Type 0} {e : ReadError} → Reads n A (λ i. Err e)
-error_reads = record { goes = λ i. error_gives; cut = λ i rest x h le. absurd cc }
+error_reads = record { reads = λ i. error_gives }
 
 pub test_reads : {n : ℕ} {A : Type 0} {one other : Input → Answer A} (b : Bool) → Reads n A one
     → Reads n A other → Reads n A (λ i. cond b (one i) (other i))
@@ -202,28 +216,28 @@ test_reads true f g = f
 test_reads false f g = g
 
 pub some_reads : {n : ℕ} {A : Type 0} {read : Input → Answer A} → Reads n A read → Reads 0 A read
-some_reads r = record { goes = λ i. more_gives (r.goes i) (λ x p. goes_some p); cut = r.cut }
+some_reads r = record {
+  reads = λ i. more_gives (r.reads i) (λ x t.
+      record { goes = goes_some t.goes; anyway = t.anyway });
+}
 
-byte_cut : (i : Input) (bytes rest : List ℕ) (x : ℕ × Input)
-    → byte_at (record i { bytes = bytes ++ rest }) ≡ Ok x → length rest ≤ length x.1.bytes
-    → ReadWithout byte_at (record i { bytes = bytes }) rest x
-unfolding byte_at
-byte_cut i [] rest x h le = absurd (omega (
-  arith,
-  goes_length ((byte_goes (record i { bytes = rest })).gives x h),
-  le,
-))
-byte_cut i (b ∷ bs) rest x h le = (test_gives
-    {P = ReadWithout byte_at (record i { bytes = b ∷ bs }) rest}
-    (ltb (suc (length (bs ++ rest))) 1) (λ _. error_gives)
-    (λ _. value_gives (
-      record i { place = i.place + 1; bytes = bs },
-      refl,
-      rw (le-ltb (suc (length bs)) 1 (omega arith)) refl,
-    ))).gives x h
+-- a reading goes forward
+pub goes : {n : ℕ} {A : Type 0} {read : Input → Answer A} → Reads n A read → (i : Input)
+    → Gives (A × Input) (read i) (λ x. Goes n i x.1)
+goes r i = more_gives (r.reads i) (λ x t. t.goes)
 
 pub reads_byte : Reads 1 ℕ byte_at
-reads_byte = record { goes = byte_goes; cut = λ i rest x h le. byte_cut i i.bytes rest x h le }
+unfolding byte_at
+reads_byte = record {
+  reads = λ i. elim i.bytes as (λ l. Gives (ℕ × Input) (byte_at (record i { bytes = l }))
+      (λ x. Takes 1 (record i { bytes = l }) x.1 (λ j k. byte_at j ≡ Ok (x.0, k)))) [
+        | [] ↦ error_gives
+        | b ∷ bs ↦ rw (le-ltb (suc (length bs)) 1 (omega arith)) (value_gives (record {
+          goes = goes_after 1 (omega arith);
+          anyway = λ rest. rw (le-ltb (suc (length rest)) 1 (omega arith)) refl;
+        }))
+      ];
+}
 
 reads_leb : (n : ℕ) → Reads 1 ℕ (leb_at n)
 unfolding leb_at
@@ -249,4 +263,30 @@ reads_sleb = then_reads _ (reads_signed 10) (λ n. test_reads (is_i64 n) value_r
 -- what takes at least a byte leaves less
 pub shorter : {A : Type 0} {read : Input → Answer A} → Reads 1 A read → (i : Input) (x : A × Input)
     → read i ≡ Ok x → length x.1.bytes < length i.bytes
-shorter r i x e = let left = goes_length ((r.goes i).gives x e) in omega arith
+shorter r i x e = omega (arith, goes_length ((goes r i).gives x e))
+
+-- ---- at most so many steps, each to something smaller: more than the size change nothing
+
+pub record Steps {S R : Type 0} (size : S → ℕ) (within : ℕ → S → R) (step : (S → R) → S → R) :
+    Type 0 where
+  -- nothing comes of what has no size
+  pub none : (others : S → R) (s : S) → size s ≡ 0 → within 0 s ≡ step others s
+  pub next : (n : ℕ) (s : S) → within (suc n) s ≡ step (within n) s
+  -- a step goes by what comes of smaller ones
+  pub alike : (f g : S → R) (s : S) → ((t : S) → size t < size s → f t ≡ g t)
+      → step f s ≡ step g s
+
+module _ {S R : Type 0} {size : S → ℕ} {within : ℕ → S → R} {step : (S → R) → S → R}
+    (steps : Steps size within step) where
+  pub enough : (m n : ℕ) (s : S) → size s ≤ m → size s ≤ n → within m s ≡ within n s
+  enough zero zero s p q = refl
+  enough zero (suc n) s p q = steps.none (within n) s (omega arith) ∙ sym (steps.next n s)
+  enough (suc m) zero s p q = steps.next m s ∙ sym (steps.none (within m) s (omega arith))
+  enough (suc m) (suc n) s p q = steps.next m s
+      ∙ steps.alike (within m) (within n) s (λ t less. enough m n t (omega arith) (omega arith))
+      ∙ sym (steps.next n s)
+
+  pub by_step : (s : S) → within (size s) s ≡ step (λ t. within (size t) t) s
+  by_step s = enough (size s) (suc (size s)) s (omega arith) (omega arith)
+      ∙ steps.next (size s) s ∙ steps.alike (within (size s)) (λ t. within (size t) t) s
+      (λ t less. enough (size s) (size t) t (omega arith) (omega arith))

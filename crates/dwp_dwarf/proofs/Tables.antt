@@ -1,10 +1,8 @@
 -- A table of abbreviations: its readings go forward, and its lists and look-ups go by what stands
 -- first.
-use Rattle.std.proofs.Common.{◌≡◌, ◌∙◌, ℕ, zero, suc, ◌≤◌, ◌<◌, Bool, false, cond, eqb, List, []}
-use Rattle.std.proofs.Common.{◌∷◌, length, Option, Some, None, Result, Ok, Err, refl, ap, arith}
-use Rattle.std.proofs.Common.{length-append, subst, ◌++◌, ◌≢◌, eq-eqb}
-use Rattle.std.specs.Option.{IfSome}
-use Rattle.std.proofs.lemmas.Bool.{ne_eqb}
+use Rattle.std.proofs.Common.{◌≡◌, [], ◌∙◌, ℕ, zero, suc, ◌<◌, Bool, false, cond, eqb, List, ◌∷◌}
+use Rattle.std.proofs.Common.{length, Option, Some, None, Result, Ok, Err, refl, ap, arith, subst}
+use Rattle.std.proofs.Common.{◌++◌, ◌≢◌, eq-eqb, IfSome, ne_eqb, take, ◌↔◌, sym, eqb-true}
 use Rattle.dwp_base.specs.Reading.{◌>>=◌}
 use Rattle.dwp_bytes.specs.Input.{Input, Goes, byte_at}
 use Rattle.dwp_bytes.specs.Leb.{leb_at, uleb_at}
@@ -15,16 +13,17 @@ use Rattle.dwp_dwarf.specs.Abbreviations.{specifications_within, specifications_
 use Rattle.dwp_dwarf.specs.Abbreviations.{children_at, declaration_at, code_at, past_specifications}
 use Rattle.dwp_dwarf.specs.Abbreviations.{pairs_from, pairs_within, pairs_in, declaration_within}
 use Rattle.dwp_dwarf.specs.Abbreviations.{declaration}
-use Rattle.dwp_dwarf.specs.Grammar.{next_at}
-use Rattle.dwp_dwarf.proofs.Enough.{Steps, enough, by_step}
-use Rattle.dwp_dwarf.proofs.Readings.{Answer, Gives, then_gives, value_gives, error_gives}
-use Rattle.dwp_dwarf.proofs.Readings.{test_gives}
-use Rattle.dwp_dwarf.proofs.Readings.{more_gives, was, bind_alike, bind-bind, bind-cond, size}
-use Rattle.dwp_dwarf.proofs.Readings.{goes_none, goes_some, goes_then, goes_length, more}
-use Rattle.dwp_dwarf.proofs.Readings.{ReadWithout, Reads, then_reads, value_reads, error_reads}
-use Rattle.dwp_dwarf.proofs.Readings.{test_reads, some_reads, reads_byte, reads_uleb, reads_sleb}
-use Rattle.dwp_dwarf.proofs.Readings.{shorter}
+use Rattle.dwp_dwarf.specs.Grammar.{next_at, DeclarationsLie, IsBehindOthers}
+use Rattle.dwp_dwarf.proofs.Readings.{Steps, by_step, Answer, Gives, then_gives, value_gives}
+use Rattle.dwp_dwarf.proofs.Readings.{error_gives, test_gives, more_gives, was, bind_alike}
+use Rattle.dwp_dwarf.proofs.Readings.{bind-bind, bind-cond, size, goes_none, goes_some, goes_length}
+use Rattle.dwp_dwarf.proofs.Readings.{Reads, then_reads, value_reads, error_reads, test_reads}
+use Rattle.dwp_dwarf.proofs.Readings.{some_reads, reads_byte, reads_uleb, reads_sleb, shorter}
+use Rattle.dwp_dwarf.proofs.Readings.{takes_then, Takes, goes, by-result}
 use Rattle.dwp_base.proofs.Steps.{bind-was}
+use Rattle.std.specs.List.{AllByRecursion}
+use Rattle.std.proofs.lemmas.Bool.{eqb-false}
+use Rattle.dwp_base.proofs.Bools.{by-bool}
 
 reads_constant : (form : ℕ) → Reads 0 (Unit {0}) (constant_at form)
 unfolding constant_at
@@ -36,17 +35,11 @@ unfolding specification_at
 reads_specification = then_reads _ reads_uleb (λ name. then_reads _ reads_uleb (λ form. then_reads
     _ (reads_constant form) (λ c. value_reads)))
 
-reads_within : (n : ℕ) → Reads 1 (List Specification) (specifications_within n)
-unfolding specifications_within
-reads_within zero = error_reads
-reads_within (suc n) = then_reads _ reads_specification (λ first. test_reads (is_last first)
-    value_reads (some_reads (then_reads _ (reads_within n) (λ others. value_reads))))
-
 reads_tag : Reads 1 ℕ tag_at
 unfolding tag_at
 reads_tag = then_reads _ reads_uleb (λ tag. test_reads (eqb tag 0) error_reads value_reads)
 
-pub reads_children : Reads 1 Bool children_at
+reads_children : Reads 1 Bool children_at
 unfolding children_at
 reads_children = then_reads _ reads_byte (λ byte. test_reads (eqb byte 0) value_reads (test_reads
     (eqb byte 1) value_reads error_reads))
@@ -88,18 +81,13 @@ pub past-other : (first : Specification) (r : Answer (List Specification))
 past-other first (Ok x) = refl
 past-other first (Err e) = refl
 
-pairs_alike : (r : Answer Specification) (f g : Input → List Specification)
-    → ((x : Specification × Input) → r ≡ Ok x → f x.1 ≡ g x.1) → pairs_from r f ≡ pairs_from r g
-pairs_alike (Ok x) f g same = rw (same x refl) refl
-pairs_alike (Err e) f g same = refl
-
 pair_steps : Steps size pairs_within (λ others i. pairs_from (specification_at i) others)
 unfolding pairs_within
 pair_steps = record {
   none = λ others i e. rw (no_specification i e) refl;
   next = λ n i. refl;
-  alike = λ f g i same. pairs_alike (specification_at i) f g
-      (λ x e. same x.1 (shorter reads_specification i x e));
+  alike = λ f g i same. by-result _ (specification_at i)
+      (λ x e. rw (e, same x.1 (shorter reads_specification i x e)) refl) (λ e h. rw h refl);
 }
 
 pub pairs-cases : (i : Input) → pairs_in i ≡ pairs_from (specification_at i) pairs_in
@@ -132,18 +120,22 @@ passed_list i j e =
 
 -- ---- a declaration
 
-pub reads_specifications : Reads 1 (List Specification) specifications_at
-unfolding specifications_at
-reads_specifications = record {
-  goes = λ i. (reads_within (size i)).goes i;
-  cut = λ i rest x h le.
-      let c = (reads_within (length (i.bytes ++ rest))).cut i rest x h le in (
-        c.0,
-        c.1,
-        enough list_steps (size i) (length (i.bytes ++ rest)) i (omega arith)
-            (omega (arith, length-append i.bytes rest)) ∙ c.2,
-      );
-}
+-- a list, of at most so many bytes, is the same whatever follows it
+list_takes : (n : ℕ) (i : Input) → size i < n → Gives (List Specification × Input)
+    (specifications_at i) (λ x. Takes 1 i x.1 (λ j k. specifications_at j ≡ Ok (x.0, k)))
+list_takes zero i less = absurd (omega arith)
+list_takes (suc n) i less = rw (specifications-cases i) (then_gives (reads_specification.reads i)
+    (λ first t. test_gives (is_last first.0)
+    (λ last. value_gives (record {
+      goes = t.goes;
+      anyway = λ rest. specifications-cases _ ∙ rw (t.anyway rest, last) refl;
+    }))
+    (λ other. then_gives (list_takes n first.1 (omega (arith, goes_length t.goes)))
+    (λ others u. value_gives (takes_then t u
+    (λ a b c p q. specifications-cases a ∙ rw (p, other, q) refl))))))
+
+reads_specifications : Reads 1 (List Specification) specifications_at
+reads_specifications = record { reads = λ i. list_takes (suc (size i)) i (omega arith) }
 
 pub reads_declaration : Reads 1 Declaration declaration_at
 unfolding declaration_at
@@ -153,75 +145,63 @@ reads_declaration = then_reads _ reads_tag (λ tag. then_reads _ reads_children 
 pub code_goes : (i : Input) → Gives (ℕ × Input) (code_at i) (λ x. Goes 0 i x.1)
 unfolding code_at
 code_goes i = test_gives (eqb (size i) 0) (λ _. value_gives goes_none)
-    (λ _. more_gives (reads_uleb.goes i) (λ x p. goes_some p))
+    (λ _. more_gives (goes reads_uleb i) (λ x p. goes_some p))
 
 -- a declaration that was read with its code
 abbrev pub Next : Type 0
 Next = (ℕ × Declaration) × Input
 
-pub record Declared (i : Input) (x : Next) : Type 0 where
-  pub behind : Input
-  pub coded : code_at i ≡ Ok (x.0.0, behind)
-  pub some : eqb x.0.0 0 ≡ false
-  pub read : declaration_at behind ≡ Ok (x.0.1, x.1)
+-- a code other than 0, which no end of the bytes stands for
+code_takes : (i : Input) → Gives (ℕ × Input) (code_at i) (λ x. eqb x.0 0 ≡ false
+    → Takes 1 i x.1 (λ j k. code_at j ≡ Ok (x.0, k)))
+unfolding code_at
+code_takes i = test_gives (eqb (size i) 0) (λ _. value_gives (λ never. absurd cc))
+    (λ _. more_gives (reads_uleb.reads i) (λ x t _. record {
+      goes = t.goes;
+      anyway = λ rest. let less = shorter reads_uleb _ _ (t.anyway rest) in
+          rw (ne_eqb (length (take t.goes.taken i.bytes ++ rest)) 0 (λ e. omega (arith, e, less)))
+          (t.anyway rest);
+    }))
 
-next_gives : (i : Input) → Gives (Option Next) (next_at i) (λ o. IfSome o (Declared i))
+next_gives : (i : Input) → Gives (Option Next) (next_at i) (λ o. IfSome o (λ x. Takes 1 i x.1
+    (λ j k. next_at j ≡ Ok (Some (x.0, k)))))
 unfolding next_at
-next_gives i = then_gives (was (code_at i)) (λ code h. test_gives (eqb code.0 0)
-    (λ _. value_gives tt)
-    (λ some. then_gives (was (declaration_at code.1)) (λ d r. value_gives (record {
-      behind = code.1;
-      coded = h;
-      some = some;
-      read = r;
-    }))))
+next_gives i = then_gives (code_takes i) (λ code t. test_gives (eqb code.0 0) (λ _. value_gives tt)
+    (λ some. then_gives (reads_declaration.reads code.1) (λ d r. value_gives (takes_then (t some) r
+    (λ a b c p q. rw (p, some, q) refl)))))
 
-pub next_was : (i : Input) (x : Next) → next_at i ≡ Ok (Some x) → Declared i x
-next_was i x e = (next_gives i).gives (Some x) e
-
--- what comes behind a declaration lies further on
-pub next_goes : (i : Input) (x : Next) → next_at i ≡ Ok (Some x) → Goes 0 i x.1
-next_goes i x e =
-    let d = next_was i x e in
-    goes_then ((code_goes i).gives (x.0.0, d.behind) d.coded)
-    ((reads_declaration.goes d.behind).gives (x.0.1, x.1) d.read)
+-- the next declaration of a table is there whatever stands behind it
+pub next_takes : (i : Input) (x : Next) → next_at i ≡ Ok (Some x)
+    → Takes 1 i x.1 (λ j k. next_at j ≡ Ok (Some (x.0, k)))
+next_takes i x e = (next_gives i).gives (Some x) e
 
 pub next_shorter : (i : Input) (x : Next) → next_at i ≡ Ok (Some x)
     → length x.1.bytes < length i.bytes
-next_shorter i x e =
-    let d = next_was i x e in
-    omega (
-      arith,
-      goes_length ((code_goes i).gives (x.0.0, d.behind) d.coded),
-      goes_length ((reads_declaration.goes d.behind).gives (x.0.1, x.1) d.read),
-    )
+next_shorter i x e = omega (arith, goes_length (next_takes i x e).goes)
 
--- a code other than 0, which no end of the bytes stands for
-code_cut : (i : Input) (rest : List ℕ) (x : ℕ × Input) → code_at (more i rest) ≡ Ok x
-    → eqb x.0 0 ≡ false → length rest ≤ length x.1.bytes → ReadWithout code_at i rest x
-unfolding code_at
-code_cut i rest x h some le = (test_gives {P = λ y. eqb y.0 0 ≡ false
-    → length rest ≤ length y.1.bytes → ReadWithout code_at i rest y} (eqb (size (more i rest)) 0)
-    (λ _. value_gives {x = (0, more i rest)} (λ never _. absurd cc))
-    (λ _. record {
-      gives = λ y read _ few.
-          let c = reads_uleb.cut i rest y read few in
-          let less = shorter reads_uleb i (y.0, c.0) c.2 in
-          (c.0, c.1, rw (ne_eqb (size i) 0 (λ none. omega (arith, none, less))) c.2);
-    })).gives x h some le
-
--- the next declaration of a table is there too where bytes behind it are missing
-pub next_cut : (i : Input) (rest : List ℕ) (x : Next) → next_at (more i rest) ≡ Ok (Some x)
-    → length rest ≤ length x.1.bytes
-    → (y : Input) × (x.1 ≡ more y rest) × (next_at i ≡ Ok (Some (x.0, y)))
+-- a code and a declaration behind it
+pub next_is : (i : Input) {j k : Input} {code : ℕ} {d : Declaration} → code_at i ≡ Ok (code, j)
+    → code ≢ 0 → declaration_at j ≡ Ok (d, k) → next_at i ≡ Ok (Some ((code, d), k))
 unfolding next_at
-next_cut i rest x e le =
-    let d = next_was (more i rest) x e in
-    let less = shorter reads_declaration d.behind (x.0.1, x.1) d.read in
-    let one = code_cut i rest (x.0.0, d.behind) d.coded d.some (omega arith) in
-    let two = reads_declaration.cut one.0 rest (x.0.1, x.1)
-    (subst (λ (j : Input). declaration_at j ≡ Ok (x.0.1, x.1)) one.1 d.read) le in
-    (two.0, two.1, rw (one.2, d.some, two.2) refl)
+next_is i coded some read = rw (coded, ne_eqb _ 0 some, read) refl
+
+-- a declaration with the pairs that can be read behind its byte on children
+abbrev with_pairs : ℕ → Bool × Input → Declaration
+with_pairs tag children =
+    record { tag = tag; children = children.0; specifications = pairs_in children.1 }
+
+-- a declaration that is known to stand there has its tag, its byte on children and those pairs
+pub known_is : (i : Input) (code tag : ℕ × Input) (children : Bool × Input)
+    (x : (ℕ × Declaration) × Input) → code_at i ≡ Ok code → tag_at code.1 ≡ Ok tag
+    → children_at tag.1 ≡ Ok children → next_at i ≡ Ok (Some x) → x.0.1 ≡ with_pairs tag.0 children
+unfolding next_at declaration_at
+known_is i code tag children x h t c e =
+    let known : Gives (Option Next) (next_at i) (λ o. IfSome o (λ y. y.0.1 ≡
+    with_pairs tag.0 children)) = rw h (test_gives (eqb code.0 0) (λ _. value_gives tt)
+    (λ _. rw (t, c) (then_gives (then_gives (list_pairs children.1) (λ list pairs.
+    value_gives {P = λ d. d.0 ≡ with_pairs tag.0 children} (rw pairs refl)))
+    (λ d is. value_gives is)))) in
+    known.gives (Some x) e
 
 -- ---- a look-up
 
@@ -269,3 +249,58 @@ look_up-here i x h = rw (look_up x.0.0 i, h, eq-eqb x.0.0 x.0.0 refl) refl
 pub look_up-other : (code : ℕ) (i : Input) (x : Next) → next_at i ≡ Ok (Some x) → x.0.0 ≢ code
     → declaration code i ≡ declaration code x.1
 look_up-other code i x h apart = rw (look_up code i, h, ne_eqb x.0.0 code apart) refl
+
+-- ---- declarations one after the other, and which of them a look-up finds
+
+-- what the rest of a table says of a code by its next declaration
+abbrev IsSaid : ℕ → Input → Found → Type 0
+IsSaid code rest (Ok None) = next_at rest ≡ Ok None
+IsSaid code rest (Err e) = next_at rest ≡ Err e
+IsSaid code rest (Ok (Some d)) = (next : Input) × (next_at rest ≡ Ok (Some ((code, d), next)))
+
+-- the rest behind declarations of other codes says it so
+abbrev SaidBehind : ℕ → Input → Found → Type 0
+SaidBehind code i said = (rest : Input) × IsBehindOthers code i rest × IsSaid code rest said
+
+none_before : (code : ℕ) (i : Input) → IsBehindOthers code i i
+none_before code i = record { others = []; lie = refl; other = tt }
+
+by_next : (n : ℕ) (code : ℕ) (i : Input) (r : Result (Option Next) ReadError) → next_at i ≡ r
+    → size i < n → SaidBehind code i (declaration code i)
+by_next zero code i r h fits = absurd (omega arith)
+by_next (suc n) code i (Ok None) h fits = rw (look_up-end code i h) (i, none_before code i, h)
+by_next (suc n) code i (Err e) h fits = rw (look_up-error code i e h) (i, none_before code i, h)
+by_next (suc n) code i (Ok (Some x)) h fits = by-bool (SaidBehind code i (declaration code i))
+    (eqb x.0.0 code)
+    (λ here. subst (λ (c : ℕ). SaidBehind c i (declaration c i)) (eqb-true _ _ here)
+    (rw (look_up-here i x h) (i, none_before x.0.0 i, (x.1, h))))
+    (λ apart.
+    let less = next_shorter i x h in
+    let behind = by_next n code x.1 (next_at x.1) refl (omega arith) in
+    let others : IsBehindOthers code i behind.0 = record {
+      others = x.0 ∷ behind.1.others;
+      lie = (x.1, h, behind.1.lie);
+      other = (eqb-false _ _ apart, behind.1.other);
+    } in
+    rw (look_up-other code i x h (eqb-false _ _ apart)) (behind.0, others, behind.2))
+
+-- declarations of other codes are passed over
+passed_over : (code : ℕ) (ds : List (ℕ × Declaration)) (i rest : Input) → DeclarationsLie i ds
+    rest → AllByRecursion (λ d. d.0 ≢ code) ds → declaration code i ≡ declaration code rest
+passed_over code [] i rest lie other = ap (declaration code) (sym lie)
+passed_over code (d ∷ ds) i rest lie other = look_up-other code i (d, lie.0) lie.1 other.0
+    ∙ passed_over code ds lie.0 rest lie.2 other.1
+
+says : (code : ℕ) (rest : Input) (said : Found) → IsSaid code rest said
+    → declaration code rest ≡ said
+says code rest (Ok None) h = look_up-end code rest h
+says code rest (Err e) h = look_up-error code rest e h
+says code rest (Ok (Some d)) h = look_up-here rest ((code, d), h.0) h.1
+
+-- what a look-up finds is the first declaration of the code, or that there is none
+pub said : (code : ℕ) (i : Input) (found : Found) → (declaration code i ≡ found) ↔
+    SaidBehind code i found
+said code i found = (
+  (λ e. subst (SaidBehind code i) e (by_next (suc (size i)) code i (next_at i) refl (omega arith))),
+  (λ s. passed_over code s.1.others i s.0 s.1.lie s.1.other ∙ says code s.0 found s.2),
+)

@@ -1,9 +1,11 @@
--- A unit: its bytes are those that stood before the rest, and its entries lie in them behind the
--- header.
+-- A unit's bytes are those that stood before the rest, and its entries lie in them behind the
+-- header; the units of a section one after the other.
 use Rattle.std.proofs.Common.{◌≡◌, ℕ, ◌+◌, ◌-◌, ◌≤◌, List, length, Result, Ok, Err, ltb, leb, eqb}
-use Rattle.std.proofs.Common.{◌∷◌, ◌&&◌, refl, ap, sym, arith}
-use Rattle.std.proofs.lemmas.List.{drop-take, length-take-le}
-use Rattle.dwp_bytes.specs.Input.{Input, Goes, front, after, offset_at, is_address_size}
+use Rattle.std.proofs.Common.{◌∷◌, ◌&&◌, refl, ap, sym, arith, length-take-le, ◌<◌, true, false}
+use Rattle.std.proofs.Common.{cond, [], ◌++◌, drop, map, append_assoc, length-append, ◌∙◌, is_err}
+use Rattle.std.proofs.Common.{flat_map, take-append-drop, append-nil, eqb-true, ne_eqb}
+use Rattle.std.proofs.lemmas.List.{drop-take, nil_from_length}
+use Rattle.dwp_bytes.specs.Input.{Input, Goes, front, offset_at, is_address_size, after}
 use Rattle.dwp_bytes.specs.Encoding.{offset_size}
 use Rattle.dwp_bytes.specs.declared.encoding.Format.{Format}
 use Rattle.dwp_dwarf.specs.declared.unit.UnitType.{UnitType}
@@ -11,12 +13,19 @@ use Rattle.dwp_dwarf.specs.declared.unit.UnitSection.{UnitSection}
 use Rattle.dwp_dwarf.specs.declared.unit.UnitSection.TheVariants.{Info, Types}
 use Rattle.dwp_dwarf.specs.Units.{Unit, initial_length_at, address_size_at, type_at, older_type_at}
 use Rattle.dwp_dwarf.specs.Units.{unit_code_at, unit_type_at, older_at, newer_at, header_at}
-use Rattle.dwp_dwarf.specs.Units.{unit_at, listed}
+use Rattle.dwp_dwarf.specs.Units.{unit_at, listed, unit_of, unit_seen, units_left, units}
+use Rattle.dwp_dwarf.specs.Units.{units_within, unit_bytes, UnitsLie}
 use Rattle.dwp_dwarf.proofs.Readings.{Answer, Gives, then_gives, value_gives, error_gives}
-use Rattle.dwp_dwarf.proofs.Readings.{test_gives}
-use Rattle.dwp_dwarf.proofs.Readings.{more_gives, goes_none, goes_some, goes_then, goes_both}
-use Rattle.dwp_dwarf.proofs.Readings.{goes_after}
-use Rattle.dwp_dwarf.proofs.Readings.{byte_goes, number_goes, relocated_goes, then_split}
+use Rattle.dwp_dwarf.proofs.Readings.{test_gives, more_gives, goes_none, goes_some, goes_then}
+use Rattle.dwp_dwarf.proofs.Readings.{goes_after, byte_goes, number_goes, relocated_goes}
+use Rattle.dwp_dwarf.proofs.Readings.{then_split, goes_least, size, goes_length, after-zero}
+use Rattle.dwp_dwarf.proofs.Readings.{after-after, by-result, Steps, by_step}
+use Rattle.std.proofs.lemmas.List.Concat.{flat_map-cons}
+use Rattle.dwp_base.specs.Reading.{Reads}
+use Rattle.dwp_bytes.specs.declared.error.ReadError.{ReadError}
+use Rattle.dwp_dwarf.specs.declared.unit.UnitHeader.{UnitHeader}
+use Rattle.dwp_dwarf.specs.declared.unit.UnitHeaders.{UnitHeaders}
+use Rattle.dwp_base.proofs.Bools.{by-bool}
 
 -- what was read leaves what stands behind it
 abbrev pub Onward : (A : Type 0) → Input → Answer A → Type 0
@@ -126,19 +135,14 @@ pub record TakesUnit (i : Input) (p : Unit × Input) : Type 0 where
 unit_made : (i j : Input) (u : Unit) (n : ℕ) → Goes 4 i j → n ≤ length j.bytes
     → Heads (front ((after n j).place - i.place) i) (front n j) u → TakesUnit i (u, after n j)
 unit_made i j u n first fits heads =
-    let both = goes_both first (goes_after n fits) in
-    let start = ap (λ (x : Input). x.place) first.is in
-    let size : (after n j).place - i.place ≡ first.taken + n = omega (arith, start) in
+    let both = goes_then first (goes_after n fits) in
+    let size : (after n j).place - i.place ≡ first.taken + n =
+    omega (arith, ap (λ (x : Input). x.place) first.is) in
     let whole : u.whole ≡ front (first.taken + n) i = rw size at heads.0 in
     record {
-      goes = record {
-        taken = first.taken + n;
-        some = omega (arith, first.some);
-        enough = both.0;
-        is = both.1;
-      };
+      goes = goes_least (omega arith) both;
       whole = whole;
-      inside = goes_then (rw (whole, first.is) (front_goes first.taken n i both.0)) heads.1;
+      inside = goes_then (rw (whole, first.is) (front_goes first.taken n i both.enough)) heads.1;
     }
 
 pub unit_takes : (section : UnitSection) (i : Input)
@@ -162,7 +166,126 @@ pub listed_error : {A E : Type 0} (r : Result (A × Input) E) (others : Input �
 listed_error (Ok x) others f l e = absurd cc
 listed_error (Err g) others f l e = cc
 
-pub listed_alike : {A E : Type 0} (r : Result (A × Input) E) (f g : Input → List (Result A E))
-    → ((x : A × Input) → r ≡ Ok x → f x.1 ≡ g x.1) → listed r f ≡ listed r g
-listed_alike (Ok x) f g same = rw (same x refl) refl
-listed_alike (Err e) f g same = refl
+-- ---- the units of a section
+
+-- a unit leaves less
+unit_shorter : (section : UnitSection) (i : Input) (p : Unit × Input) → unit_at section i ≡ Ok p
+    → length p.1.bytes < length i.bytes
+unit_shorter section i p e = let left = goes_length ((unit_takes section i).gives p e).goes in
+    omega arith
+
+unit_steps : (section : UnitSection) → Steps size (λ n i. units_within n section i)
+    (λ others i. cond (eqb (length i.bytes) 0) [] (listed (unit_at section i) others))
+unfolding units_within
+unit_steps section = record {
+  none = λ others i e. rw e refl;
+  next = λ n i. refl;
+  alike = λ f g i same. ap (cond (eqb (length i.bytes) 0) []) (by-result _ (unit_at section i)
+      (λ x e. rw (e, same x.1 (unit_shorter section i x e)) refl) (λ e h. rw h refl));
+}
+
+-- the units by cases: the end, the first error, a unit and those after it
+pub units-cases : (section : UnitSection) (i : Input)
+    → units section i ≡ (cond (eqb (length i.bytes) 0) [] (listed (unit_at section i)
+    (units section)))
+unfolding units
+units-cases section i = by_step (unit_steps section) i
+
+-- what an iterator gives first, and what is left after it
+pub first_unit : {R : Type 0} (input : R → Input) (section : UnitSection) (i j : Input)
+    (r : Result (UnitHeader R) ReadError) → eqb (length i.bytes) 0 ≡ false → Reads (unit_of input) r
+    i j (unit_at section)
+    → units section i ≡ unit_seen input r ∷ cond (is_err r) [] (units section j)
+first_unit input section i j (Ok h) some reads = units-cases section i ∙ rw (some, reads) refl
+first_unit input section i j (Err f) some reads = units-cases section i ∙ rw (some, reads.0) refl
+
+-- nothing is left at the end
+pub nothing_left : {R : Type 0} (input : R → Input) (h : UnitHeaders R)
+    → eqb (length (input h.reader).bytes) 0 ≡ true → units_left input h ≡ []
+nothing_left input h e = rw (units-cases h.section (input h.reader), e) (by-bool _ h.ended
+    (λ ended. rw ended refl) (λ going. rw going refl))
+
+-- ---- the bytes of the units, joined
+
+-- a list that isn't empty stands where a byte is left
+some_listed : (section : UnitSection) (i : Input) (x : Result Unit ReadError)
+    (l : List (Result Unit ReadError)) → units section i ≡ x ∷ l → listed (unit_at section i)
+    (units section) ≡ x ∷ l
+some_listed section i x l e = by-bool _ (eqb (length i.bytes) 0)
+    (λ none. let never = rw (units-cases section i, none) at e in absurd cc)
+    (λ some. rw (units-cases section i, some) at e)
+
+-- what was taken and the rest are all that was there
+taken_bytes : (i rest whole : Input) (goes : Goes 1 i rest) → whole ≡ front goes.taken i
+    → (whole.bytes ++ rest.bytes ≡ i.bytes) × (rest ≡ after (length whole.bytes) i)
+taken_bytes i rest whole goes is = (
+  rw (is, goes.is) (take-append-drop goes.taken i.bytes),
+  rw (is, length-take-le goes.taken i.bytes goes.enough) goes.is,
+)
+
+-- behind the units that were read stands what the others are read from
+pub units_behind : (section : UnitSection) (read : List Unit)
+    (others : List (Result Unit ReadError)) (i : Input) → units section i ≡ map Ok read ++ others
+    → (rest : Input) × (flat_map unit_bytes read ++ rest.bytes ≡ i.bytes)
+    × (units section rest ≡ others) × (rest ≡ after (length (flat_map unit_bytes read)) i)
+units_behind section [] others i e = (i, refl, e, sym (after-zero i))
+units_behind section (u ∷ us) others i e =
+    let x = listed_ok (unit_at section i) (units section) u (map Ok us ++ others)
+    (some_listed section i (Ok u) (map Ok us ++ others) e) in
+    let takes = (unit_takes section i).gives (u, x.0) x.1 in
+    let first = taken_bytes i x.0 u.whole takes.goes takes.whole in
+    let r = units_behind section us others x.0 x.2 in (
+      r.0,
+      rw (flat_map-cons unit_bytes u us, append_assoc) (rw (← r.1) at first.0),
+      r.2,
+      rw (flat_map-cons unit_bytes u us, length-append) (r.3 ∙ ap (after
+          (length (flat_map unit_bytes us))) first.1 ∙ after-after (length u.whole.bytes)
+          (length (flat_map unit_bytes us)) i),
+    )
+
+-- no unit stands where no byte is left
+no_byte : (section : UnitSection) (i : Input) → units section i ≡ [] → i.bytes ≡ []
+no_byte section i e = by-bool _ (eqb (length i.bytes) 0)
+    (λ none. nil_from_length i.bytes (eqb-true _ _ none))
+    (λ some. absurd (never (unit_at section i) (rw (units-cases section i, some) at e)))
+  where
+    never : (r : Result (Unit × Input) ReadError) → listed r (units section) ≡ [] → ⊥
+    never (Ok x) e = absurd cc
+    never (Err f) e = absurd cc
+
+pub units_whole : (section : UnitSection) (i : Input) (read : List Unit) → units section i ≡ map Ok
+    read → flat_map unit_bytes read ≡ i.bytes
+units_whole section i read e =
+    let r = units_behind section read [] i (e ∙ sym (append-nil (map Ok read))) in
+    rw (no_byte section r.0 r.2, append-nil) at r.1
+
+pub units_error : (section : UnitSection) (i : Input) (read : List Unit) (f : ReadError)
+    → units section i ≡ map Ok read ++ Err f ∷ []
+    → (flat_map unit_bytes read ++ drop (length (flat_map unit_bytes read)) i.bytes ≡ i.bytes)
+    × (unit_at section (after (length (flat_map unit_bytes read)) i) ≡ Err f)
+units_error section i read f e =
+    let r = units_behind section read (Err f ∷ []) i e in
+    let error = listed_error (unit_at section r.0) (units section) f [] (some_listed section r.0
+    (Err f) [] r.2) in (rw r.3 at r.1, rw r.3 at error)
+
+-- ---- the one list
+
+-- a unit stands where a byte is left
+some_byte : (section : UnitSection) (i : Input) (x : Unit × Input) → unit_at section i ≡ Ok x
+    → eqb (length i.bytes) 0 ≡ false
+some_byte section i x e = let shorter = unit_shorter section i x e in ne_eqb (length i.bytes) 0
+    (λ none. absurd (omega (arith, shorter)))
+
+pub lie_read : (section : UnitSection) (us : List Unit) (i : Input) → UnitsLie section i us
+    → units section i ≡ map Ok us
+lie_read section [] i e = units-cases section i ∙ rw e refl
+lie_read section (u ∷ us) i l = units-cases section i
+    ∙ rw (some_byte section i (u, l.0) l.1, l.1, lie_read section us l.0 l.2) refl
+
+pub read_lie : (section : UnitSection) (us : List Unit) (i : Input) → units section i ≡ map Ok us
+    → UnitsLie section i us
+read_lie section [] i e = no_byte section i e
+read_lie section (u ∷ us) i e =
+    let x = listed_ok (unit_at section i) (units section) u (map Ok us)
+    (some_listed section i (Ok u) (map Ok us) e) in
+    (x.0, x.1, read_lie section us x.0 x.2)

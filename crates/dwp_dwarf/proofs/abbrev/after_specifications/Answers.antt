@@ -11,19 +11,17 @@ returns-in_err-specification g c =
     ∙ rw (specifications-cases _, c.in_err-specification.ensures.0) refl)
 
 pub returns-then-is_last : goal.returns-then-is_last
-returns-then-is_last g c = sym c.loop-specification.invariant ∙ rw (
-  specifications-cases _,
-  c.in_ok-specification.ensures,
-  sym c.is_last.ensures ∙ c.if-is_last.true,
-) refl
+returns-then-is_last g c =
+    let last = sym c.is_last.ensures ∙ c.if-is_last.true in
+    sym c.loop-specification.invariant
+    ∙ rw (specifications-cases, c.in_ok-specification.ensures, last) refl
 
 pub loop-specification-smaller : goal.loop-specification-smaller
 loop-specification-smaller g c = shorter reads_specification _ _
     c.in_ok-specification.ensures
 
 pub loop-specification-preserved : goal.loop-specification-preserved
-loop-specification-preserved g c = sym (rw (
-  specifications-cases _,
-  c.in_ok-specification.ensures,
-  sym c.is_last.ensures ∙ c.if-is_last.false,
-) (past-other _ _)) ∙ c.loop-specification.invariant
+loop-specification-preserved g c =
+    let other = sym c.is_last.ensures ∙ c.if-is_last.false in
+    sym (rw (specifications-cases, c.in_ok-specification.ensures, other) (past-other _ _))
+    ∙ c.loop-specification.invariant

@@ -1,4 +1,4 @@
-use Rattle.dwp_dwarf.proofs.PlaceLists.{known_is}
+use Rattle.dwp_dwarf.proofs.Tables.{known_is}
 use Rattle.dwp_dwarf.proofs.abbrev.known_declaration.Goals as goal
 
 pub returns : goal.returns

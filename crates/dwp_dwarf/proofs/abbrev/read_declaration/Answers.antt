@@ -5,9 +5,6 @@ use Rattle.dwp_dwarf.proofs.abbrev.read_declaration.Goals as goal
 
 pub returns : goal.returns
 unfolding declaration_at
-returns g c = rw (
-  c.in_ok-tag.ensures,
-  c.in_ok-has_children.ensures,
-  passed_list _ _
-      c.in_ok-reader.ensures,
-) refl
+returns g c =
+    let list = passed_list _ _ c.in_ok-reader.ensures in
+    rw (c.in_ok-tag.ensures, c.in_ok-has_children.ensures, list) refl

@@ -1,10 +1,10 @@
-use Rattle.std.proofs.Common.{sym, refl, ◌∙◌}
+use Rattle.std.proofs.Common.{sym, refl, ◌∙◌, arith}
+use Rattle.std.proofs.lemmas.Grind.{common_steps}
 use Rattle.dwp_dwarf.proofs.Tables.{pairs-cases}
 use Rattle.dwp_dwarf.proofs.entry.next_specification.Goals as goal
 
 pub returns-in-Ok : goal.returns-in-Ok
-returns-in-Ok g c =
-    rw (pairs-cases _, c.in-Ok.ensures, sym c.is_last.ensures ∙ c.if-not-is_last.true) refl
+returns-in-Ok g c = grind (arith, common_steps, pairs-cases)
 
 pub returns-in-Ok-2 : goal.returns-in-Ok-2
 returns-in-Ok-2 g c =

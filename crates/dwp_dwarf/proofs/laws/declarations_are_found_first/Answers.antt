@@ -1,11 +1,12 @@
-use Rattle.dwp_dwarf.proofs.Grammar.{found_first, absent_nowhere, error_before}
+use Rattle.std.proofs.Common.{Ok, Err, Some, None}
+use Rattle.dwp_dwarf.proofs.Tables.{said}
 use Rattle.dwp_dwarf.proofs.laws.declarations_are_found_first.Goals as goal
 
 pub returns-clause-found : goal.returns-clause-found
-returns-clause-found c = found_first
+returns-clause-found c = λ code i d. said code i (Ok (Some d))
 
 pub returns-clause-absent : goal.returns-clause-absent
-returns-clause-absent c = absent_nowhere
+returns-clause-absent c = λ code i. said code i (Ok None)
 
 pub returns-clause-error : goal.returns-clause-error
-returns-clause-error c = error_before
+returns-clause-error c = λ code i e. said code i (Err e)

@@ -1,5 +1,6 @@
-use Rattle.std.proofs.Common.{sym, ◌∙◌}
+use Rattle.std.proofs.Common.{sym, ◌∙◌, arith}
 use Rattle.std.proofs.lemmas.Result.{err_from_is_err_and}
+use Rattle.std.proofs.lemmas.Grind.{common_steps}
 use Rattle.dwp_dwarf.proofs.Tables.{next_shorter, look_up-end, look_up-error, look_up-here}
 use Rattle.dwp_dwarf.proofs.read_table.read_on.Goals as goal
 
@@ -8,8 +9,7 @@ returns-in_err-found-clause-declared g c =
     let p = err_from_is_err_and c.from_residual.result c.from_residual.ensures.1 in
     let same = rw (c.loop-found.invariant.none, c.requires) at
     (c.loop-found.invariant.said c.args.code) in
-    rw (p.1, p.2) (sym same ∙ look_up-error c.args.code _ _
-    c.in_err-found.ensures)
+    rw (p.1, p.2) (sym same ∙ look_up-error _ _ _ c.in_err-found.ensures)
 
 pub returns-then-found-code-clause-declared : goal.returns-then-found-code-clause-declared
 returns-then-found-code-clause-declared g c =
@@ -19,13 +19,7 @@ returns-then-found-code-clause-declared g c =
     sym same ∙ rw c.if-found-code.true at (look_up-here _ _ read)
 
 pub loop-found-smaller : goal.loop-found-smaller
-loop-found-smaller g c =
-    let read = rw c.in-Some.is at c.in_ok-found.ensures in
-    next_shorter _ _ read
+loop-found-smaller g c = next_shorter _ _ (rw c.in-Some.is at c.in_ok-found.ensures)
 
 pub returns-clause-declared : goal.returns-clause-declared
-returns-clause-declared g c =
-    let same = rw (c.loop-found.invariant.none, c.requires) at
-    (c.loop-found.invariant.said c.args.code) in
-    let end = rw c.in_default.is at c.in_ok-found.ensures in
-    sym same ∙ look_up-end c.args.code _ end
+returns-clause-declared g c = grind (arith, common_steps, look_up-end)

@@ -1,5 +1,4 @@
-use Rattle.std.proofs.Common.{◌≡◌, ℕ, length, None}
-use Rattle.std.specs.Ordering.{nat_cmp}
+use Rattle.std.proofs.Common.{◌≡◌, ℕ, length, None, nat_cmp}
 use Rattle.std.specs.BTreeMap.{get}
 use Rattle.dwp_dwarf.specs.Remembered.{remembered}
 use Rattle.dwp_dwarf.proofs.read_table.read_on.Given as goal

@@ -1,21 +1,34 @@
-use Rattle.std.proofs.Common.{sym, ◌∙◌, refl}
-use Rattle.dwp_dwarf.specs.Declarations.{declaration_of}
-use Rattle.dwp_dwarf.proofs.Remembered.{not_some, passed, inserted}
-use Rattle.dwp_dwarf.proofs.Keys.{on_ok, key_apart}
+use Rattle.std.proofs.Common.{◌≡◌, sym, ◌∙◌, refl, false, Option, Some, None, is_some, nat_cmp}
+use Rattle.std.specs.BTreeMap.{get}
+use Rattle.dwp_bytes.specs.Input.{Input}
+use Rattle.dwp_dwarf.specs.Remembered.{known_or}
+use Rattle.dwp_dwarf.specs.declared.abbrev.Abbreviation.{Abbreviation}
+use Rattle.dwp_dwarf.proofs.Keys.{by_key, on_ok, key_apart}
+use Rattle.dwp_dwarf.proofs.Tables.{Found, look_up-here, look_up-other}
 use Rattle.dwp_dwarf.proofs.read_table.remember.Goals as goal
+
+not_some : {A : Type 0} (o : Option A) → is_some o ≡ false → o ≡ None
+not_some None e = refl
+not_some (Some x) e = absurd cc
+
+-- where a code is remembered the rest of the table doesn't count
+known_alike : {R : Type 0} (input : R → Input) (o : Option (Abbreviation R)) (r s : Found)
+    → (o ≡ None → r ≡ s) → known_or input o r ≡ known_or input o s
+known_alike input (Some a) r s e = refl
+known_alike input None r s e = e refl
 
 pub returns-then-contains_key-clause-kept : goal.returns-then-contains_key-clause-kept
 returns-then-contains_key-clause-kept g c = λ yes rest behind h other.
-    passed g.R.Reader.input c.args.known.now rest
-    ((c.args.code, declaration_of g.R.Reader.input c.args.abbreviation), behind) h
-    (sym c.contains_key.ensures ∙ c.if-contains_key.true) other
+    let there = sym c.contains_key.ensures ∙ c.if-contains_key.true in
+    known_alike g.R.Reader.input (get nat_cmp c.args.known.now other) _ _ (λ none.
+    sym (look_up-other other rest _ h (λ e. let never = rw (e, none) at there in absurd cc)))
 
 pub returns-clause-kept : goal.returns-clause-kept
 returns-clause-kept g c = λ ok rest behind h other.
     let updates = on_ok _ c.insert.result (sym c.is_ok.ensures.value ∙ ok)
     c.insert.ensures.updates in
-    inserted g.R.Reader.input c.args.known.now c.insert.new.self rest
-    ((c.args.code, declaration_of g.R.Reader.input c.args.abbreviation), behind)
-    c.args.abbreviation h refl
-    (not_some _ (sym c.contains_key.ensures ∙ c.if-contains_key.false)) updates.1 (λ q apart.
-    updates.2 q (key_apart c.args.code q apart)) other
+    let none = not_some _ (sym c.contains_key.ensures ∙ c.if-contains_key.false) in
+    by_key c.args.code other (λ e. rw (e, updates.1, none, look_up-here rest _ h) refl)
+    (λ apart. rw (updates.2 other (key_apart c.args.code other apart))
+    (known_alike g.R.Reader.input (get nat_cmp c.args.known.now other) _ _
+    (λ gone. sym (look_up-other other rest _ h (λ e. apart (sym e))))))

@@ -7,8 +7,7 @@ use Rattle.dwp_dwarf.proofs.seen.read_to.Goals as goal
 pub returns-in_err-found : goal.returns-in_err-found
 returns-in_err-found g c =
     let p = err_from_is_err_and c.from_residual.result c.from_residual.ensures.1 in
-    rw (p.1, p.2) (sym c.loop-found.invariant ∙ look_up-error c.args.code _ _
-    c.in_err-found.ensures)
+    rw (p.1, p.2) (sym c.loop-found.invariant ∙ look_up-error _ _ _ c.in_err-found.ensures)
 
 pub returns-then-code-found : goal.returns-then-code-found
 returns-then-code-found g c =
@@ -16,9 +15,7 @@ returns-then-code-found g c =
     sym c.loop-found.invariant ∙ rw (sym c.if-code-found.true) at (look_up-here _ _ read)
 
 pub loop-found-smaller : goal.loop-found-smaller
-loop-found-smaller g c =
-    let read = rw c.in-Some.is at c.in_ok-found.ensures in
-    next_shorter _ _ read
+loop-found-smaller g c = next_shorter _ _ (rw c.in-Some.is at c.in_ok-found.ensures)
 
 pub loop-found-preserved : goal.loop-found-preserved
 loop-found-preserved g c =
@@ -28,5 +25,4 @@ loop-found-preserved g c =
 
 pub returns : goal.returns
 returns g c =
-    let end = rw c.in_default.is at c.in_ok-found.ensures in
-    sym c.loop-found.invariant ∙ look_up-end c.args.code _ end
+    sym c.loop-found.invariant ∙ look_up-end _ _ (rw c.in_default.is at c.in_ok-found.ensures)

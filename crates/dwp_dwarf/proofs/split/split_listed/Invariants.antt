@@ -2,7 +2,7 @@ use Rattle.std.proofs.Common.{◌≡◌, map, drop}
 use Rattle.dwp_dwarf.specs.Declarations.{specification_of}
 use Rattle.dwp_dwarf.specs.Entries.{attributes}
 use Rattle.dwp_dwarf.specs.Split.{attributes_of, split_in}
-use Rattle.dwp_dwarf.proofs.SplitNames.{after}
+use Rattle.dwp_dwarf.proofs.NeededAttributes.{after}
 use Rattle.dwp_dwarf.proofs.split.split_listed.Given as goal
 
 -- those found and those left have the meaning of all

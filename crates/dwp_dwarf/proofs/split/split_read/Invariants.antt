@@ -1,7 +1,7 @@
 use Rattle.std.proofs.Common.{◌≡◌}
 use Rattle.dwp_dwarf.specs.Attributes.{attributes_left, entry_of}
 use Rattle.dwp_dwarf.specs.Split.{attributes_of, split_in}
-use Rattle.dwp_dwarf.proofs.SplitNames.{after}
+use Rattle.dwp_dwarf.proofs.NeededAttributes.{after}
 use Rattle.dwp_dwarf.proofs.split.split_read.Given as goal
 
 -- those found and those left have the meaning of all

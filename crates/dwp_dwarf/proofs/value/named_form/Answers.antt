@@ -1,40 +1,30 @@
-use Rattle.std.proofs.Common.{sym, refl, ◌∙◌, eq-eqb}
-use Rattle.std.proofs.lemmas.Bool.{ne_eqb}
+use Rattle.std.proofs.Common.{sym, refl, ◌∙◌, ne_eqb}
 use Rattle.std.proofs.lemmas.Result.{err_from_is_err_and}
 use Rattle.dwp_dwarf.proofs.Readings.{reads_uleb, shorter}
-use Rattle.dwp_dwarf.proofs.Forms.{named_form-cases}
+use Rattle.dwp_dwarf.proofs.Values.{named_form-cases}
 use Rattle.dwp_dwarf.proofs.value.named_form.Goals as goal
 
 pub loop-named-smaller : goal.loop-named-smaller
 loop-named-smaller g c = shorter reads_uleb _ _ c.in_ok-named.ensures
 
 pub loop-named-preserved : goal.loop-named-preserved
-loop-named-preserved g c = sym (rw (
-  named_form-cases c.loop-named.named _,
-  eq-eqb _ _ c.loop-named-test.true,
-  c.in_ok-named.ensures,
-  ne_eqb _ _ c.if-named-eq-IMPLICIT_CONST.false,
-) refl) ∙ c.loop-named.invariant
+loop-named-preserved g c =
+    let other = ne_eqb _ _ c.if-named-eq-IMPLICIT_CONST.false in
+    sym (rw (named_form-cases, c.loop-named-test.true, c.in_ok-named.ensures, other) refl)
+    ∙ c.loop-named.invariant
 
 pub returns-in_err-named : goal.returns-in_err-named
 returns-in_err-named g c =
     let p = err_from_is_err_and c.from_residual.result c.from_residual.ensures.1 in
-    rw (p.1, p.2) (sym c.loop-named.invariant ∙ rw (
-      named_form-cases c.loop-named.named _,
-      eq-eqb _ _ c.loop-named-test.true,
-      c.in_err-named.ensures.0,
-    ) refl)
+    rw (p.1, p.2) (sym c.loop-named.invariant
+    ∙ rw (named_form-cases, c.loop-named-test.true, c.in_err-named.ensures.0) refl)
 
 pub returns-then-named-eq-IMPLICIT_CONST : goal.returns-then-named-eq-IMPLICIT_CONST
-returns-then-named-eq-IMPLICIT_CONST g c = sym c.loop-named.invariant ∙ rw (
-  named_form-cases c.loop-named.named _,
-  eq-eqb _ _ c.loop-named-test.true,
-  c.in_ok-named.ensures,
-  c.if-named-eq-IMPLICIT_CONST.true,
-) refl
+returns-then-named-eq-IMPLICIT_CONST g c =
+    let constant = c.if-named-eq-IMPLICIT_CONST.true in
+    sym c.loop-named.invariant
+    ∙ rw (named_form-cases, c.loop-named-test.true, c.in_ok-named.ensures, constant) refl
 
 pub returns : goal.returns
-returns g c = sym c.loop-named.invariant ∙ rw (
-  named_form-cases c.loop-named.named _,
-  ne_eqb _ _ c.loop-named-test.false,
-) refl
+returns g c = sym c.loop-named.invariant
+    ∙ rw (named_form-cases, ne_eqb _ _ c.loop-named-test.false) refl

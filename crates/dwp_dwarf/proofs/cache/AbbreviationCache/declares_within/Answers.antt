@@ -1,22 +1,15 @@
-use Rattle.std.proofs.Common.{◌≡◌, ◌≤◌, ◌+◌, length, ap, sym, arith}
-use Rattle.std.proofs.lemmas.Bool.{leb-true}
-use Rattle.dwp_dwarf.proofs.PlaceEnds.{same_within}
+use Rattle.std.proofs.Common.{◌≡◌, ◌≤◌, ◌+◌, length, ap, sym, arith, leb-true}
+use Rattle.dwp_dwarf.proofs.Places.{same_within}
 use Rattle.dwp_dwarf.proofs.cache.AbbreviationCache.declares_within.Goals as goal
 
 pub returns-clause-same : goal.returns-clause-same
 returns-clause-same g c = λ yes part whole is_part is_whole.
     let section = g.R.Reader.input c.self.inside.section in
     let same : c.self.inside.section ≡ c.args.self.now = cc in
+    let size = ap (λ r. length (g.R.Reader.input r).bytes) same in
     let fits : length (g.R.Reader.input c.args.self.now).bytes ≤ c.in-Some.left + c.args.end =
-    omega (
-      arith,
-      leb-true _ _ yes,
-      c.len.ensures,
-      c.saturating_add.ensures,
-      ap (λ r. length (g.R.Reader.input r).bytes) same,
-    ) in
-    same_within (g.R.Reader.input c.args.self.now) part whole c.args.offset c.args.end
-    c.in-Some.left c.args.code fits
+    omega (arith, leb-true _ _ yes, c.len.ensures, c.saturating_add.ensures, size) in
+    same_within _ part whole c.args.offset c.args.end _ _ fits
     (c.in-Some.ensures.ends c.self.invariant.2 whole (rw (sym same) at is_whole)).1
     is_part is_whole
 

@@ -1,7 +1,7 @@
 use Rattle.std.proofs.Common.{refl, ◌≡◌}
 use Rattle.dwp_dwarf.specs.Chains.{StandsAt}
 use Rattle.dwp_dwarf.specs.Declarations.{declaration_of}
-use Rattle.dwp_dwarf.proofs.PlaceLists.{stands_first}
+use Rattle.dwp_dwarf.proofs.Places.{stands_first}
 use Rattle.dwp_dwarf.proofs.cache.AbbreviationCache.number_in.Given.{Over}
 use Rattle.dwp_dwarf.proofs.cache.AbbreviationCache.number_in.Goals as goal
 
@@ -13,22 +13,15 @@ stands g c =
     let view = c.self-2.view_is in
     let kept = c.in_ok-abbreviation.ensures.kept in
     let same : c.self-2.inside.section ≡ c.args.self.now = cc in
-    stands_first (g.R.Reader.input c.self-2.inside.section) c.args.offset c.args.code
-    c.in-Some-first.first (declaration_of g.R.Reader.input c.in-Some.abbreviation)
-    (c.in-Some-first.ensures c.self-2.invariant.2)
+    stands_first (c.in-Some-first.ensures c.self-2.invariant.2)
     (λ table is. rw c.in-Some.is at (c.in_ok-abbreviation.ensures.declared table (rw same at is)))
 
 pub invariant_of-self : goal.invariant_of-self
-invariant_of-self g c = (
-  c.self-2.invariant.0,
-  c.self-2.invariant.1,
-  c.number-number.ensures.kept (g.R.Reader.input c.self-2.inside.section) (stands g c)
-      c.self-2.invariant.2,
-)
+invariant_of-self g c =
+    let kept = c.number-number.ensures.kept _ (stands g c) c.self-2.invariant.2 in
+    (c.self-2.invariant.0, c.self-2.invariant.1, kept)
 
 pub returns-in-Some-first-clause-numbered : goal.returns-in-Some-first-clause-numbered
 returns-in-Some-first-clause-numbered g c = λ table is.
     let said = rw c.in-Some.is at (c.in_ok-abbreviation.ensures.declared table is) in
-    let number = c.number-number.ensures.number (g.R.Reader.input c.self-2.inside.section)
-    (stands g c) c.self-2.invariant.2 in
-    rw (said, number) refl
+    rw (said, c.number-number.ensures.number _ (stands g c) c.self-2.invariant.2) refl

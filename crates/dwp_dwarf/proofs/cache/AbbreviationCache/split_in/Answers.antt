@@ -1,14 +1,12 @@
-use Rattle.std.proofs.Common.{◌≡◌, Result, Ok, Some, subst}
+use Rattle.std.proofs.Common.{◌≡◌, Ok, subst}
 use Rattle.dwp_base.specs.Reading.{Answers}
 use Rattle.dwp_bytes.specs.Input.{Input}
-use Rattle.dwp_bytes.specs.declared.error.ReadError.{ReadError}
-use Rattle.dwp_dwarf.specs.Abbreviations.{declaration}
 use Rattle.dwp_dwarf.specs.Chains.{StandsAt}
 use Rattle.dwp_dwarf.specs.Declarations.{declaration_of}
 use Rattle.dwp_dwarf.specs.Entries.{DebugEntry, entry}
 use Rattle.dwp_dwarf.specs.Offsets.{from_at}
-use Rattle.dwp_dwarf.specs.Split.{SplitAttributes, attributes_of, split_in}
-use Rattle.dwp_dwarf.proofs.PlaceLists.{stands_first}
+use Rattle.dwp_dwarf.specs.Split.{attributes_of, split_in}
+use Rattle.dwp_dwarf.proofs.Places.{stands_first}
 use Rattle.dwp_dwarf.proofs.cache.AbbreviationCache.split_in.Given.{Over}
 use Rattle.dwp_dwarf.proofs.cache.AbbreviationCache.split_in.Goals as goal
 use Rattle.dwp_dwarf.proofs.cache.AbbreviationCache.split_in.Goals.{in-Some-first}
@@ -23,18 +21,13 @@ stands g c =
     let view = c.self-2.view_is in
     let kept = c.in_ok-declared.ensures.kept in
     let same : c.self-2.inside.section ≡ c.args.self.now = cc in
-    stands_first (g.R.Reader.input c.self-2.inside.section) c.args.offset c.args.code
-    c.in-Some-first.first (declaration_of g.R.Reader.input c.in-Some.declared)
-    (c.in-Some-first.ensures c.self-2.invariant.2)
+    stands_first (c.in-Some-first.ensures c.self-2.invariant.2)
     (λ table is. rw c.in-Some.is at (c.in_ok-declared.ensures.declared table (rw same at is)))
 
 pub invariant_of-self : goal.invariant_of-self
-invariant_of-self g c = (
-  c.self-2.invariant.0,
-  c.self-2.invariant.1,
-  c.split-split.ensures.kept (g.R.Reader.input c.self-2.inside.section) (stands g c)
-      c.self-2.invariant.2,
-)
+invariant_of-self g c =
+    let kept = c.split-split.ensures.kept _ (stands g c) c.self-2.invariant.2 in
+    (c.self-2.invariant.0, c.self-2.invariant.1, kept)
 
 pub returns-clause-split : goal.returns-clause-split
 returns-clause-split g c = λ table is.
@@ -43,18 +36,12 @@ returns-clause-split g c = λ table is.
     let view = c.self-2.view_is in
     let kept = c.in_ok-declared.ensures.kept in
     let own : c.self-2.inside.section ≡ c.args.self.now = cc in
-    let declared : (t : Input) → from_at c.args.offset (input c.self-2.inside.section) ≡ Ok t
-    → declaration c.args.code t ≡ Ok (Some d) =
-    λ t begins. rw c.in-Some.is at (c.in_ok-declared.ensures.declared t (rw own at begins)) in
-    let here : declaration c.args.code table ≡ Ok (Some d) =
-    rw c.in-Some.is at (c.in_ok-declared.ensures.declared table is) in
-    let read : Result SplitAttributes ReadError = split_in c.args.encoding.format
-    (entry c.args.encoding d (input c.args.values)).attributes in
-    let says : Answers (attributes_of input) c.match-first.split read =
-    elim c.match-first.branch [
-      | in-Some-first w ↦ rw w.split-is (w.split-split.ensures.split (input c.self-2.inside.section)
-          (stands_first (input c.self-2.inside.section) c.args.offset c.args.code
-          w.in-Some-first.first d (w.in-Some-first.ensures c.self-2.invariant.2) declared)
+    let declared = λ (t : Input) (begins : from_at c.args.offset (input c.self-2.inside.section)
+    ≡ Ok t). rw c.in-Some.is at (c.in_ok-declared.ensures.declared t (rw own at begins)) in
+    let says : Answers (attributes_of input) c.match-first.split (split_in c.args.encoding.format
+    (entry c.args.encoding d (input c.args.values)).attributes) = elim c.match-first.branch [
+      | in-Some-first w ↦ rw w.split-is (w.split-split.ensures.split _
+          (stands_first (w.in-Some-first.ensures c.self-2.invariant.2) declared)
           c.self-2.invariant.2)
       | in_default-first+then-is_known+then-is_at_hand w ↦
           let table = c.self-2.invariant.0 in
@@ -67,4 +54,5 @@ returns-clause-split g c = λ table is.
           w.split_read.result (split_in c.args.encoding.format e.attributes)) w.entry.ensures
           w.split_read.ensures)
     ] in
-    rw here (c.found_split.ensures read says)
+    rw (rw c.in-Some.is at (c.in_ok-declared.ensures.declared table is))
+    (c.found_split.ensures _ says)

@@ -1,30 +1,21 @@
-use Rattle.std.proofs.Common.{sym, ◌∙◌}
-use Rattle.dwp_dwarf.specs.Chains.{ListedAt}
+use Rattle.std.proofs.Common.{sym, ◌∙◌, rules}
 use Rattle.dwp_dwarf.specs.Declarations.{declaration_of}
 use Rattle.dwp_dwarf.specs.Needed.{none_met}
-use Rattle.dwp_dwarf.proofs.Keys.{if_there}
-use Rattle.dwp_dwarf.proofs.Numbers.{first_needed}
-use Rattle.dwp_dwarf.proofs.Places.{one_stands}
-use Rattle.dwp_dwarf.proofs.PlaceLists.{chains_listed}
+use Rattle.dwp_dwarf.proofs.NeededAttributes.{first_needed}
+use Rattle.dwp_dwarf.proofs.Places.{one_stands, chains_listed}
 use Rattle.dwp_dwarf.proofs.chains.Chains.number.Goals as goal
 
 pub returns-in-Some-clause-number : goal.returns-in-Some-clause-number
 returns-in-Some-clause-number g c = λ section stands all.
-    let d = declaration_of g.R.Reader.input c.args.abbreviation in
     let found = rw c.in-Some.is at (sym c.get.ensures.value) in
-    let has = if_there (ListedAt section c.args.first) found (c.list.ensures.lists section stands
-    all.lists c.args.first) in
-    let same = one_stands section c.args.first has.declared d has.stands stands in
-    c.number_listed.ensures ∙ rw (c.deref.ensures.value, has.listed, same)
-    (first_needed c.args.name c.args.encoding none_met d.specifications
-    (g.R.Reader.input c.args.values))
+    let has = rw found at (c.list.ensures.lists section stands all.lists c.args.first) in
+    c.number_listed.ensures
+    ∙ rw (c.deref.ensures.value, has.listed, one_stands has.stands stands)
+    (first_needed _ _ none_met
+    (declaration_of g.R.Reader.input c.args.abbreviation).specifications _)
 
 pub returns-in-Some-clause-kept : goal.returns-in-Some-clause-kept
-returns-in-Some-clause-kept g c = λ section stands.
-    chains_listed section c.args.self.now c.list.new.self c.list.ensures.places
-    c.list.ensures.firsts c.list.ensures.codes (c.list.ensures.lists section stands)
+returns-in-Some-clause-kept g c = search (rules, chains_listed)
 
 pub returns-in-None-clause-kept : goal.returns-in-None-clause-kept
-returns-in-None-clause-kept g c = λ section stands.
-    chains_listed section c.args.self.now c.list.new.self c.list.ensures.places
-    c.list.ensures.firsts c.list.ensures.codes (c.list.ensures.lists section stands)
+returns-in-None-clause-kept g c = search (rules, chains_listed)

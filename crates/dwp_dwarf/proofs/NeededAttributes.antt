@@ -1,27 +1,88 @@
--- Of each name that may name a split object the first attribute, one attribute after the other; it
--- is among those that are needed.
-use Rattle.std.proofs.Common.{◌≡◌, ◌∙◌, ℕ, Bool, true, false, cond, List, [], ◌∷◌, Option, Some}
-use Rattle.std.proofs.Common.{None, Result, Ok, Err, eqb, refl, ap, sym}
-use Rattle.std.specs.Prelude.{find, ◌&&◌, if◌then◌else◌}
-use Rattle.std.specs.Option.{option_or, is_none}
-use Rattle.dwp_base.specs.Reading.{◌>>=◌}
-use Rattle.dwp_bytes.specs.Input.{Input}
+-- Attributes whose values have no bytes have no number and name no place, so the attributes that
+-- are needed tell what all tell.
+use Rattle.std.proofs.Common.{◌≡◌, ℕ, false, List, [], ◌∷◌, length, Result, Ok, Option, Some, None}
+use Rattle.std.proofs.Common.{eqb, refl, ap, sym, ◌∙◌, arith, add-zero, eqb-true, le-ltb, Bool}
+use Rattle.std.proofs.Common.{true, cond, find, ◌&&◌, if◌then◌else◌, is_none}
+use Rattle.std.proofs.Math.Nat.{sub_self}
+use Rattle.dwp_bytes.specs.Input.{Input, front, skip_at, split_at}
 use Rattle.dwp_bytes.specs.declared.encoding.Encoding.{Encoding}
 use Rattle.dwp_bytes.specs.declared.encoding.Format.{Format}
 use Rattle.dwp_bytes.specs.declared.error.ReadError.{ReadError}
+use Rattle.dwp_dwarf.specs.declared.form.Layout.TheVariants.{Fixed}
 use Rattle.dwp_dwarf.specs.Abbreviations.{Specification}
-use Rattle.dwp_dwarf.specs.Entries.{DebugAttribute, attribute_at, attributes, place_of}
-use Rattle.dwp_dwarf.specs.Needed.{is_needed, is_unmet, met, needed, none_met}
+use Rattle.dwp_dwarf.specs.Forms.{layout_of, past_value, value_at, named_form_at}
+use Rattle.dwp_dwarf.specs.Entries.{DebugAttribute, attribute_at, attributes, number_of, place_of}
+use Rattle.dwp_dwarf.specs.Needed.{is_needed, met, needed, is_unmet, none_met}
+use Rattle.dwp_dwarf.specs.declared.needed.UnmetNames.{UnmetNames}
+use Rattle.dwp_dwarf.specs.Numbers.{named_number, number_or, first_number, has_bytes}
+use Rattle.dwp_dwarf.proofs.Readings.{after-zero, bind-bind, bind_alike, by-result}
+use Rattle.dwp_dwarf.proofs.Values.{named_form-cases, attribute_lies}
+use Rattle.std.proofs.lemmas.List.Folds.{find-append}
+use Rattle.dwp_base.proofs.Bools.{by-bool, neither}
+use Rattle.std.specs.Option.{option_or}
+use Rattle.dwp_base.specs.Reading.{◌>>=◌}
 use Rattle.dwp_dwarf.specs.Split.{SplitAttributes, split_attributes, split_in, with_attribute}
 use Rattle.dwp_dwarf.specs.Split.{all_read, base_in, first_base, is_attribute, none_found}
 use Rattle.dwp_dwarf.specs.Split.{DW_AT_dwo_name, DW_AT_GNU_dwo_name, DW_AT_comp_dir}
 use Rattle.dwp_dwarf.specs.Split.{DW_AT_str_offsets_base}
-use Rattle.dwp_dwarf.specs.declared.needed.UnmetNames.{UnmetNames}
-use Rattle.dwp_dwarf.proofs.Numbers.{is_empty, empty}
-use Rattle.dwp_dwarf.proofs.Values.{attribute_lies}
-use Rattle.dwp_dwarf.specs.Units.{listed}
-use Rattle.dwp_dwarf.specs.Numbers.{has_bytes}
-use Rattle.dwp_base.proofs.Bools.{by-bool, neither}
+
+-- ---- an attribute whose value has no bytes
+
+abbrev pub empty : Specification → Input → DebugAttribute
+empty s i = record { name = s.name; form = s.form; value = front 0 i }
+
+-- what such an attribute is, and that it has no number and names no place
+pub record IsEmpty (encoding : Encoding) (s : Specification) (i : Input) : Type 0 where
+  pub read : attribute_at encoding s i ≡ Ok (empty s i, i)
+  pub numberless : number_of (empty s i) ≡ None
+  pub placeless : (format : Format) → place_of format (empty s i) ≡ None
+
+empty_read : (encoding : Encoding) (s : Specification) (i : Input) → named_form_at s.form i ≡
+    Ok (s.form, i) → layout_of encoding s.form ≡ Some (Fixed 0)
+    → attribute_at encoding s i ≡ Ok (empty s i, i)
+unfolding attribute_at value_at past_value skip_at split_at
+empty_read encoding s i named layout =
+    let fits = le-ltb (length i.bytes) 0 (omega arith) in
+    rw (named, layout, fits, after-zero i, add-zero, sub_self i.place, fits) refl
+
+pub is_empty : (encoding : Encoding) (s : Specification) (i : Input) → has_bytes s ≡ false
+    → IsEmpty encoding s i
+unfolding number_of place_of
+is_empty encoding s i none = by-bool _ (eqb s.form 0x19)
+    (λ e. let is = eqb-true _ _ e in record {
+      read = empty_read encoding s i (rw (named_form-cases s.form i, is) refl) (rw is refl);
+      numberless = rw is refl;
+      placeless = λ format. rw is refl;
+    })
+    (λ other. by-bool _ (eqb s.form 0x21)
+    (λ e. let is = eqb-true _ _ e in record {
+      read = empty_read encoding s i (rw (named_form-cases s.form i, is) refl) (rw is refl);
+      numberless = rw is refl;
+      placeless = λ format. rw is refl;
+    })
+    (λ e. let never = rw (other, e) at none in absurd cc))
+
+-- ---- the first number
+
+numberless_or : (name : ℕ) (a : DebugAttribute) (others : Result (Option ℕ) ReadError)
+    → number_of a ≡ None → number_or (named_number name a) others ≡ others
+numberless_or name a others none = by-bool _ (eqb a.name name) (λ e. rw (e, none) refl)
+    (λ e. rw e refl)
+
+-- it is among those that are needed
+pub first_needed : (name : ℕ) (encoding : Encoding) (unmet : UnmetNames) (ss : List Specification)
+    (i : Input) → first_number name (attributes encoding (needed unmet ss) i)
+    ≡ first_number name (attributes encoding ss i)
+first_needed name encoding unmet [] i = refl
+first_needed name encoding unmet (s ∷ ss) i = by-bool _ (is_needed unmet s)
+    (λ some. rw some (by-result _ (attribute_at encoding s i)
+    (λ x is. rw (is, first_needed name encoding (met unmet s.name) ss x.1) refl)
+    (λ e is. rw is refl)))
+    (λ none. let empty = is_empty encoding s i (neither _ _ none).0 in
+    rw (none, empty.read) (first_needed name encoding unmet ss i
+    ∙ sym (numberless_or name _ _ empty.numberless)))
+
+-- ---- of each name that may name a split object the first attribute
 
 -- the first of each name, before and among others
 abbrev pub joined : SplitAttributes → SplitAttributes → SplitAttributes
@@ -47,14 +108,9 @@ or-none : {T : Type 0} (x : Option T) → option_or x None ≡ x
 or-none None = refl
 or-none (Some x) = refl
 
-cond-or : {T : Type 0} (b : Bool) (a : T) (rest : Option T) → cond b (Some a) rest ≡ option_or
-    (cond b (Some a) None) rest
-cond-or true a rest = refl
-cond-or false a rest = refl
-
 or-find : {T : Type 0} (x : Option T) (p : T → Bool) (a : T) (rest : List T)
     → option_or x (find p (a ∷ rest)) ≡ option_or (option_or x (find p (a ∷ []))) (find p rest)
-or-find x p a rest = ap (option_or x) (cond-or (p a) a (find p rest)) ∙ or-assoc x
+or-find x p a rest = ap (option_or x) (find-append p (a ∷ []) rest) ∙ or-assoc x
     (find p (a ∷ [])) (find p rest)
 
 joined-first : (format : Format) (before : SplitAttributes) (a : DebugAttribute)
@@ -63,36 +119,16 @@ joined-first : (format : Format) (before : SplitAttributes) (a : DebugAttribute)
 joined-first format before a rest =
     rw (
       or-find before.dwo_name (is_attribute DW_AT_dwo_name) a rest,
-      or-find before.gnu_dwo_name
-          (is_attribute DW_AT_GNU_dwo_name) a rest,
-      or-find before.comp_dir
-          (is_attribute DW_AT_comp_dir) a rest,
-      or-assoc before.str_offsets_base (base_in format a)
-          (first_base format rest),
+      or-find before.gnu_dwo_name (is_attribute DW_AT_GNU_dwo_name) a rest,
+      or-find before.comp_dir (is_attribute DW_AT_comp_dir) a rest,
+      or-assoc before.str_offsets_base (base_in format a) (first_base format rest),
     )
-
-after-read : (format : Format) (before : SplitAttributes) (a : DebugAttribute)
-    (rest : Result (List DebugAttribute) ReadError)
-    → ((rest >>= λ others. Ok (a ∷ others)) >>= λ attributes.
-    Ok (joined before (split_attributes format attributes)))
-    ≡ (rest >>= λ attributes. Ok (joined (with_attribute format before a)
-    (split_attributes format attributes)))
-after-read format before a (Ok others) = ap Ok (joined-first format before a others)
-after-read format before a (Err e) = refl
 
 pub after-first : (format : Format) (before : SplitAttributes) (a : DebugAttribute)
     (rest : List (Result DebugAttribute ReadError)) → after format before (Ok a ∷ rest) ≡ after
     format (with_attribute format before a) rest
-after-first format before a rest = after-read format before a (all_read rest)
-
--- an attribute of a list that was read
-pub after-listed : (format : Format) (encoding : Encoding) (before : SplitAttributes)
-    (s : Specification) (ss : List Specification) (i j : Input) (a : DebugAttribute)
-    → attribute_at encoding s i ≡ Ok (a, j)
-    → after format before (attributes encoding (s ∷ ss) i)
-    ≡ after format (with_attribute format before a) (attributes encoding ss j)
-after-listed format encoding before s ss i j a is =
-    rw is (after-first format before a (attributes encoding ss j))
+after-first format before a rest = bind-bind (all_read rest) _ _
+    ∙ bind_alike (all_read rest) _ _ (λ others _. ap Ok (joined-first format before a others))
 
 -- ---- those that are needed
 
@@ -146,32 +182,24 @@ passed_over format before a none known =
       or-none before.str_offsets_base,
     ) refl
 
--- what is found behind one that was read
-with_read : (format : Format) (before : SplitAttributes)
-    (r : Result (DebugAttribute × Input) ReadError)
-    (f g : Input → List (Result DebugAttribute ReadError))
-    → ((x : DebugAttribute × Input) → r ≡ Ok x → after format (with_attribute format before x.0)
-    (f x.1) ≡ after format (with_attribute format before x.0) (g x.1))
-    → after format before (listed r f) ≡ after format before (listed r g)
-with_read format before (Ok x) f g same = after-first format before x.0 (f x.1) ∙ same x refl
-    ∙ sym (after-first format before x.0 (g x.1))
-with_read format before (Err e) f g same = refl
-
 -- what is found is found among those that are needed
 after_needed : (format : Format) (encoding : Encoding) (before : SplitAttributes)
     (ss : List Specification) (i : Input)
     → after format before (attributes encoding (needed (unmet_of before) ss) i)
     ≡ after format before (attributes encoding ss i)
 after_needed format encoding before [] i = refl
-after_needed format encoding before (s ∷ ss) i = by-bool
-    (after format before (attributes encoding (needed (unmet_of before) (s ∷ ss)) i)
-    ≡ after format before (attributes encoding (s ∷ ss) i)) (is_needed (unmet_of before) s)
-    (λ some. rw some (with_read format before (attribute_at encoding s i)
-    (attributes encoding (needed (met (unmet_of before) s.name) ss)) (attributes encoding ss)
+after_needed format encoding before (s ∷ ss) i = by-bool _ (is_needed (unmet_of before) s)
+    (λ some. rw some (by-result _ (attribute_at encoding s i)
     (λ x is.
     let name = ((attribute_lies encoding s i).gives x is).name in
+    let first = after-first format before x.0 in
+    let rest = attributes encoding (needed (met (unmet_of before) s.name) ss) x.1 in
+    let same : after format (with_attribute format before x.0) rest
+    ≡ after format (with_attribute format before x.0) (attributes encoding ss x.1) =
     rw (← name, ← unmet_behind format before x.0)
-    (after_needed format encoding (with_attribute format before x.0) ss x.1))))
+    (after_needed format encoding (with_attribute format before x.0) ss x.1) in
+    rw is (first rest ∙ same ∙ sym (first (attributes encoding ss x.1))))
+    (λ e is. rw is refl)))
     (λ none. let needless = neither (has_bytes s) _ none in
     let is = is_empty encoding s i needless.0 in
     rw (none, is.read) (after_needed format encoding before ss i
