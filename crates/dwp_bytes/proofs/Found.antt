@@ -69,7 +69,7 @@ string_at-unended section at within found =
     let bytes = drop at section in
     rw (
       le-ltb (length section) at within,
-      list_any_none (λ b. eqb b 0) bytes (λ k d below.
-          rw (get_or_default bytes k d 0 below) (false_from_ne_true _ (found k (omega arith) below))),
+      list_any_none (λ b. eqb b 0) bytes (λ k d below. rw (get_or_default bytes k d 0 below)
+          (false_from_ne_true _ (found k (omega arith) below))),
     )
     refl

@@ -13,7 +13,6 @@ ghost use Rattle.dwp_dwarf.specs.Declarations.{found_of};
 
 use crate::form::IMPLICIT_CONST;
 use crate::offset::from_offset;
-use dwp_bytes::laws::lebs_take_bytes;
 use dwp_bytes::{ReadError, Reader};
 
 /// An attribute and its form, as an abbreviation lists them.
@@ -70,7 +69,6 @@ pub(crate) fn read_specification<R: Reader>(
 fn after_specifications<R: Reader>(mut at: R) -> Result<R, ReadError>
     ensures { Answers R.input result (past_specifications (R.input at)) }
 {
-    lebs_take_bytes();
     loop {
         let specification = read_specification(&mut at)?;
         if specification.is_last() {
@@ -178,7 +176,6 @@ impl<R: Reader> Abbreviations<R> {
     pub fn get(&self, code: u64) -> Result<Option<Abbreviation<R>>, ReadError>
         ensures { Answers (found_of R.input) result (declaration code (table_of R.input self.now)) }
     {
-        lebs_take_bytes();
         let mut at = self.table;
         loop {
             let found = read_code(&mut at)?;

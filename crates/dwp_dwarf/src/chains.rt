@@ -27,7 +27,6 @@ use crate::offset::from_offset;
 use crate::read_table::next_declaration;
 use crate::split::{SplitAttributes, split_listed, split_read};
 use crate::versions::Versions;
-use dwp_bytes::laws::lebs_take_bytes;
 use dwp_bytes::{Encoding, ReadError, Reader};
 use std::alloc::Global;
 use std::collections::BTreeMap;
@@ -319,7 +318,6 @@ impl Chains {
 
     /// How many bytes are left at the places of that table, up to one that is remembered.
     fn lefts<R: Reader>(&self, section: R, left: u64) -> Vec<u64> {
-        lebs_take_bytes();
         let mut lefts = Vec::new(self.alloc);
         let Some(mut at) = from_end(section, left) else {
             return lefts;
@@ -379,7 +377,6 @@ impl Chains {
             → RemembersPlaces section self.old → from_end left section ≡ Ok (R.input at)
             → RemembersPlace section self.new.codes self.new.firsts.nodes.items left place) }
     {
-        lebs_take_bytes();
         match next_declaration(at) {
             Ok(Some((code, _, behind))) => {
                 let next = self.next_place(behind)?;

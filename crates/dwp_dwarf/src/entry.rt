@@ -17,7 +17,6 @@ use crate::abbrev::{
 use crate::form::{DATA1, DATA2, DATA4, DATA8, SEC_OFFSET, UDATA};
 use crate::unit::UnitHeader;
 use crate::value::{named_form, read_value};
-use dwp_bytes::laws::lebs_take_bytes;
 use dwp_bytes::{Encoding, Format, ReadError, Reader};
 
 /// An attribute of an entry (DWARF 5, 7.5.4 and 7.5.5).
@@ -56,7 +55,6 @@ pub(crate) fn next_specification<R: Reader>(
     ensures { MatchOption result (pairs_in (R.input specifications.old) ≡ []) (λ s. pairs_in
         (R.input specifications.old) ≡ specification_of s ∷ pairs_in (R.input specifications.new)) }
 {
-    lebs_take_bytes();
     match read_specification(specifications) {
         Ok(specification) if !specification.is_last() => Some(specification),
         Ok(_) => None,

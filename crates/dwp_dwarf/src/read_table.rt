@@ -21,7 +21,6 @@ use crate::abbrev::{
 use crate::needed::list_needed;
 use crate::number::{number_listed, number_read};
 use crate::split::{SplitAttributes, split_listed, split_read};
-use dwp_bytes::laws::lebs_take_bytes;
 use dwp_bytes::{Encoding, ReadError, Reader};
 use std::alloc::Global;
 use std::collections::BTreeMap;
@@ -205,7 +204,6 @@ fn remember<R: Reader>(
     ensures refused { result ≡ false → (other : ℕ)
         → get nat_cmp known.new other ≡ get nat_cmp known.old other }
 {
-    lebs_take_bytes();
     if known.contains_key(&code) {
         return true;
     }
@@ -239,7 +237,6 @@ pub(crate) fn read_on<R: Reader>(
     ensures kept { (other : ℕ) → remembered R.input known.new (R.input rest.new) other
         ≡ remembered R.input known.old (R.input rest.old) other }
 {
-    lebs_take_bytes();
     while let Some((found, abbreviation, behind)) = next_declaration(*rest)? {
         if !remember(known, found, abbreviation) {
             return Abbreviations { table: *rest }.get(code);

@@ -14,7 +14,6 @@ ghost use Rattle.dwp_dwarf.specs.Remembered.{RemembersTable};
 use crate::abbrev::Abbreviation;
 use crate::chains::Chains;
 use crate::read_table::{ReadTable, next_declaration, read_on};
-use dwp_bytes::laws::lebs_take_bytes;
 use dwp_bytes::{ReadError, Reader};
 use std::alloc::Global;
 
@@ -136,7 +135,6 @@ impl SeenTables {
 fn read_to<R: Reader>(rest: &mut R, code: u64) -> Result<Option<Abbreviation<R>>, ReadError>
     ensures { Answers (found_of R.input) result (declaration code (R.input rest.old)) }
 {
-    lebs_take_bytes();
     while let Some((found, abbreviation, behind)) = next_declaration(*rest)? {
         *rest = behind;
         if code == found {

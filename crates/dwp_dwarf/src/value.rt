@@ -7,7 +7,6 @@ ghost use Rattle.dwp_dwarf.specs.Forms.{block_length_at, text_at, past_value, va
 ghost use Rattle.dwp_dwarf.specs.Forms.{named_form_at};
 
 use crate::form::*;
-use dwp_bytes::laws::lebs_take_bytes;
 use dwp_bytes::{Encoding, ReadError, Reader};
 
 /// The size of a value that has one of its own.
@@ -141,7 +140,6 @@ pub(crate) fn read_value<R: Reader>(
 pub(crate) fn named_form<R: Reader>(mut at: R, form: u64) -> Result<(u64, R), ReadError>
     ensures { Answers (λ x. (x.0, R.input x.1)) result (named_form_at form (R.input at)) }
 {
-    lebs_take_bytes();
     let mut named = form;
     while named == INDIRECT {
         named = at.read_uleb128()?;

@@ -18,7 +18,7 @@ use Rattle.std.proofs.lemmas.List.Sums.{sum_by-cons, sum_by-append, sum_by-le-su
 use Rattle.dwp_base.specs.declared.section.SectionKind.TheVariants.{Info}
 use Rattle.dwp_base.specs.Sections.{name_of}
 use Rattle.dwp_dwarf.specs.Units.{Unit as Header, units, unit_bytes as bytes_of_unit}
-use Rattle.dwp_dwarf.proofs.UnitLists.{units_whole}
+use Rattle.dwp_dwarf.proofs.Units.{units_whole}
 use Rattle.dwp_elf.specs.Contents.{appended, KindsDiffer}
 use Rattle.thorin_input.specs.Growing.{with_parts}
 use Rattle.thorin_input.specs.NewUnits.{new_units}

@@ -7,7 +7,7 @@ use Rattle.thorin_join.proofs.Terms.{IsTable, joined_parts, joining, keys, kind_
 use Rattle.thorin_join.proofs.Terms.{Members, New, parts_of, same-ok, same_kind, SectionKind}
 use Rattle.thorin_join.proofs.Terms.{Source, source_units, units_of}
 use Rattle.dwp_base.specs.declared.section.SectionKind.TheVariants as kinds
-use Rattle.dwp_dwarf.proofs.UnitLists.{unit_taken}
+use Rattle.dwp_dwarf.proofs.Units.{unit_taken}
 use Rattle.thorin_input.specs.Growing.{with_parts}
 use Rattle.thorin_join.specs.Meaning.{input_meaning, meant, source_meaning, can_join}
 use Rattle.thorin_input.specs.NewUnits.{new_units}

@@ -6,7 +6,7 @@ use Rattle.thorin_strings.proofs.NamedEntries.{range_named}
 use Rattle.thorin_packaged.specs.PackagedOffsets.{packaged_offsets}
 use Rattle.thorin_packaged.specs.PackagedReading.{PackageReadsAlike}
 use Rattle.thorin_packaged.proofs.ReadAlike.{AlikeLaw, package_reads_alike}
-use Rattle.thorin_packaged.proofs.StringsAgain.{strings_again}
+use Rattle.thorin_packaged.proofs.OffsetsJoined.{strings_again}
 pub use Rattle.thorin_packaged.proofs.ReadAlike.{NamesLaw as NamesTheSameLaw}
 
 -- the ranges of a package's rows are read alike

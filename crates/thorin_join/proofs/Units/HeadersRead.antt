@@ -7,7 +7,7 @@ use Rattle.thorin_join.proofs.Terms.{Source, unit_section, UnitRead, UnitSection
 use Rattle.dwp_base.specs.declared.section.SectionKind.TheVariants as kinds
 use Rattle.dwp_dwarf.specs.declared.unit.UnitSection.TheVariants as places
 use Rattle.dwp_dwarf.specs.Units.{Unit as Header, units, unit_bytes}
-use Rattle.dwp_dwarf.proofs.UnitLists.{unit_taken}
+use Rattle.dwp_dwarf.proofs.Units.{unit_taken}
 use Rattle.dwp_index.specs.Package.{encoding_in}
 use Rattle.dwp_index.proofs.TwoPlaces.{units_alone}
 use Rattle.thorin_errors.specs.Errors.{NotSplitUnit}
