@@ -1,6 +1,6 @@
 -- The hash of a string, made of blocks of sixteen bytes.
 use Rattle.std.proofs.Common.{◌≡◌, ℕ, suc, ◌+◌, ◌-◌, ◌*◌, ◌/◌, ◌%◌, ◌<◌, ◌^◌, List, length, arith}
-use Rattle.std.proofs.Common.{drop, get_or, ap, sym, ◌∙◌}
+use Rattle.std.proofs.Common.{drop, get_or}
 use Rattle.std.proofs.lemmas.List.{get_or-drop}
 use Rattle.std.proofs.lemmas.Bool.{lt-leb}
 use Rattle.std.specs.Hash.FoldHasher.{mix, mix_blocks, write, initial, read_u32}
@@ -37,19 +37,16 @@ mixed_all bytes state at last long whole within near is so_far =
     let count : (length bytes - 1) / 16 ≡ at / 16 = omega (arith, whole, within, near) in
     rw (lt-leb (length bytes) 8 long, count, so_far, is)
 
-byte_behind : (bytes rest : List ℕ) (at k to : ℕ) → rest ≡ drop at bytes → to ≡ at + k
-    → get_or rest k 0 ≡ get_or bytes to 0
-byte_behind bytes rest at k to is there = ap (λ l. get_or l k 0) is ∙ get_or-drop at bytes k 0
-    ∙ ap (λ n. get_or bytes n 0) (sym there)
-
 -- four bytes of those from a place on
 pub read_behind : (bytes rest : List ℕ) (at k to : ℕ) → rest ≡ drop at bytes → to ≡ at + k
     → read_u32 rest k ≡ read_u32 bytes to
 unfolding read_u32
 read_behind bytes rest at k to is there =
+    let byte : (j i : ℕ) → i ≡ at + j → get_or rest j 0 ≡ get_or bytes i 0 =
+    λ j i e. rw (is, e) (get_or-drop at bytes j 0) in
     rw (
-      byte_behind bytes rest at k to is there,
-      byte_behind bytes rest at (k + 1) (to + 1) is (omega (arith, there)),
-      byte_behind bytes rest at (k + 2) (to + 2) is (omega (arith, there)),
-      byte_behind bytes rest at (k + 3) (to + 3) is (omega (arith, there)),
+      byte k to there,
+      byte (k + 1) (to + 1) (omega (arith, there)),
+      byte (k + 2) (to + 2) (omega (arith, there)),
+      byte (k + 3) (to + 3) (omega (arith, there)),
     )

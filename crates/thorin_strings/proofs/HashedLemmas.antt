@@ -1,11 +1,9 @@
 -- Strings of entries, which are found by their hashes, or else by their order.
-use Rattle.std.proofs.Common.{◌≡◌, ◌≢◌, ℕ, suc, ◌+◌, ◌<◌, ◌≤◌, Bool, true, false, ltb, List}
+use Rattle.std.proofs.Common.{◌≡◌, ◌≢◌, ℕ, suc, ◌+◌, ◌^◌, ◌<◌, ◌≤◌, Bool, true, false, ltb, List}
 use Rattle.std.proofs.Common.{[], ◌∷◌, ◌++◌, length, take, map, filter, get_or, Contains, insert}
-use Rattle.std.proofs.Common.{Some, None, Option, inl, inr, ⊎_elim, ap, sym, subst, refl, ◌∙◌}
-use Rattle.std.proofs.Common.{arith}
-use Rattle.std.proofs.Common.{length-append, Result, Ok, Err, IfOk, IfErr, OnOk, OnErr}
+use Rattle.std.proofs.Common.{Some, None, Option, inl, inr, ⊎_elim, ap, sym, refl, ◌∙◌, arith}
+use Rattle.std.proofs.Common.{length-append, Result, Ok, Err, IfErr, OnOk, OnErr}
 use Rattle.std.specs.declared.alloc.AllocError.{AllocError}
-use Rattle.std.proofs.lemmas.Result.{IfOk-at_ok, IfErr-at_err}
 use Rattle.std.proofs.lemmas.List.{get_or_append_left, get_or_push, get_or-map, get_or-take}
 use Rattle.std.proofs.lemmas.List.{length-map, length-take, map-append, take-map, take_at}
 use Rattle.std.proofs.lemmas.List.Elements.{All-contains, Contains-get_or}
@@ -25,8 +23,7 @@ use Rattle.thorin_strings.proofs.OffsetLemmas.{has_Decides, offset_of-at, offset
 use Rattle.thorin_strings.proofs.OffsetLemmas.{offsets_from-below, offsets_from-take}
 use Rattle.thorin_strings.proofs.OffsetLemmas.{length-offsets_from}
 use Rattle.thorin_strings.proofs.TableLemmas.{strings_push, strings_few, positions_few}
-use Rattle.thorin_strings.proofs.TableLemmas.{stands_apart}
-use Rattle.thorin_strings.proofs.TableLemmas.{indexed_more, indexed_take}
+use Rattle.thorin_strings.proofs.TableLemmas.{stands_apart, indexed_more, indexed_take}
 use Rattle.thorin_strings.proofs.PlacesLemmas.{same_or}
 use Rattle.thorin_strings.proofs.UsedLemmas.{used_new}
 use Rattle.thorin_strings.proofs.Named.{begins_there}
@@ -38,9 +35,6 @@ place_in e h = place_of e.places.slots.items e.places.size h
 abbrev pub IsFoundIn : Entries → ℕ → ℕ → Type 0
 IsFoundIn e h n = IsFound e.places.slots.items e.places.size e.places.is_full e.ordered h n
 
-abbrev pub IsOrderedIn : Entries → ℕ → Type 0
-IsOrderedIn e h = IsOrdered e.places.slots.items e.places.size e.places.is_full h
-
 -- in each of the ways in which a string is found
 found_by : (P : Type 0) (e : Entries) (h n : ℕ) → IsFoundIn e h n
     → (place_in e h ≡ Some n → n < shared → P)
@@ -50,9 +44,9 @@ found_by P e h n found own common late =
     ⊎_elim (λ here. own here.0 here.1)
     (λ among. ⊎_elim (common among.0) (λ l. late among.0 l.0 l.1) among.1) found
 
--- there are no more strings than bytes
-pub entries_few : (e : Entries) → IsHashed e → (e.count ≤ e.bytes.len)
-    × (length e.ordered ≤ e.bytes.len)
+-- there are no more strings than bytes, so that one more can be counted
+pub entries_few : (e : Entries) → IsHashed e → (e.count + 1 < 2 ^ 64)
+    × (length e.ordered + 1 < 2 ^ 64)
 entries_few e table =
     let long : length (held e) ≤ e.bytes.len = omega (
       arith,
@@ -60,6 +54,7 @@ entries_few e table =
       ap length table.findable.indexed.ended,
       e.bytes.ok.0,
     ) in
+    let small = e.bytes.small in
     (omega (arith, table.counted), omega (arith, positions_few _ _ table.findable.indexed))
 
 module _ (e : Entries) (table : IsHashed e) where
@@ -112,8 +107,8 @@ module _ (e : Entries) (table : IsHashed e) (s : List ℕ) (h : ℕ) (is_hash : 
       (λ _ _ none. cc)
 
   -- nor one that isn't among those in order, where it is looked for there
-  pub unordered : (r : ℕ) → IsOrderedIn e h → StandsAt e.bytes.items e.ordered s r
-      → Contains (held e) s → ⊥
+  pub unordered : (r : ℕ) → IsOrdered e.places.slots.items e.places.size e.places.is_full h
+      → StandsAt e.bytes.items e.ordered s r → Contains (held e) s → ⊥
   unordered r leads stands there =
       let here = stands_there e table s there in
       found_by ⊥ e h _ (found_at there)
@@ -241,24 +236,11 @@ added e new s h n table free is_hash absent is_new is_long is_count indexed more
       kept = ap (take (length ss)) push ∙ take_at ss (s ∷ []) _ refl;
     }
 
--- what a search that found a string says
-pub found_there : (bytes now ordered s : List ℕ) (p : ℕ) (answer : Result ℕ ℕ) → now ≡ bytes
-    → answer ≡ Ok p
-    → IfOk answer (λ place. Contains (strings_in now) s × (place ≡ offset_of (strings_in now) s))
-    → IfOk answer (Contains ordered)
-    → (Contains (strings_in bytes) s × (p ≡ offset_of (strings_in bytes) s)) × Contains ordered p
-found_there bytes now ordered s p answer same is_ok found there = (
-  subst (λ l. Contains (strings_in l) s × (p ≡ offset_of (strings_in l) s)) same
-      (IfOk-at_ok (λ place. Contains (strings_in now) s × (place ≡ offset_of (strings_in now) s))
-      is_ok found),
-  IfOk-at_ok (Contains ordered) is_ok there,
-)
-
--- what a search that didn't says
+-- what a search that found no string says
 pub absent_there : (bytes now ordered s : List ℕ) (r : ℕ) (answer : Result ℕ ℕ) → now ≡ bytes
     → answer ≡ Err r → IfErr answer (StandsAt now ordered s) → StandsAt bytes ordered s r
 absent_there bytes now ordered s r answer same is_err absent =
-    rw same at (IfErr-at_err (StandsAt now ordered s) is_err absent)
+    rw (is_err, same) at absent
 
 -- what is in a list is so when one more goes in
 pub among_more : (xs : List ℕ) (r y p : ℕ) → Contains xs p → Contains (insert xs r y) p
@@ -275,12 +257,10 @@ pub inserted_or : (bytes ordered s : List ℕ) (r p : ℕ) (new : List ℕ)
     → Contains (offsets_from 0 (strings_in bytes)) p → string_from bytes p ≡ s
     → OnOk answer (new ≡ insert ordered r p) → OnErr answer (new ≡ ordered)
     → IsIndexed bytes new × ((q : ℕ) → Contains ordered q → Contains new q)
-inserted_or bytes ordered s r p new (Ok u) table stands there is ok err = (
-  subst (IsIndexed bytes) (sym ok) (indexed_more bytes ordered s r p table stands there is),
-  λ q among. subst (λ l. Contains l q) (sym ok) (among_more ordered r p q among),
-)
+inserted_or bytes ordered s r p new (Ok u) table stands there is ok err =
+    rw ok (indexed_more bytes ordered s r p table stands there is, among_more ordered r p)
 inserted_or bytes ordered s r p new (Err e) table stands there is ok err =
-    (subst (IsIndexed bytes) (sym err) table, λ q among. subst (λ l. Contains l q) (sym err) among)
+    rw err (table, λ q among. among)
 
 -- back to the first strings
 pub findable_take : (bytes kept : List ℕ) (slots : List Slot) (size : ℕ) (is_full : Bool)
@@ -297,35 +277,30 @@ findable_take bytes kept slots size is_full ordered ordered' strings n m table i
     let new = indexed_take bytes ordered n m table.indexed long in
     let strings' : strings_in kept ≡ take n ss = ap strings_in is_kept ∙ new.0 in
     let found : AreFound kept slots size is_full ordered' = λ k less.
-    let few : (k < n) × (k < length (take n ss)) × (k < length ss) = (
-      omega (arith, less, length-map (strings_in kept) hash, ap length strings', length-take n ss),
-      omega (arith, less, length-map (strings_in kept) hash, ap length strings'),
-      omega (arith, less, length-map (strings_in kept) hash, ap length strings', length-take n ss),
-    ) in
+    let front : k < length (take n ss) =
+    omega (arith, less, length-map (strings_in kept) hash, ap length strings') in
+    let first : k < n = omega (arith, length-take n ss) in
     let place = get_or (offsets_from 0 (take n ss)) k 0 in
-    let is_place : get_or (offsets_from 0 ss) k 0 ≡ place = sym (get_or-take n (offsets_from 0 ss) k
-    0 few.0) ∙ ap (λ l. get_or l k 0) (sym (offsets_from-take n 0 ss)) in
+    let is_place : get_or (offsets_from 0 ss) k 0 ≡ place = rw (offsets_from-take n 0 ss)
+    (sym (get_or-take n (offsets_from 0 ss) k 0 first)) in
     let below : place < m = omega (
       arith,
       offsets_from-below 0 (take n ss) k 0
-          (omega (arith, few.1, length-offsets_from 0 (take n ss))),
+          (omega (arith, length-offsets_from 0 (take n ss))),
       long,
     ) in
-    rw (strings', ← take-map hash n ss, get_or-take n (map hash ss) k 0 few.0)
+    rw (strings', ← take-map hash n ss, get_or-take n (map hash ss) k 0 first)
     (⊎_elim (λ own. inl own)
     (λ among. inr (
       rw is_ordered (Contains-filter (λ p. ltb p m) ordered _ among.0.0 among.0.1 among.0.2
           (lt-ltb _ m below)),
       among.1,
     ))
-    (rw is_place at (table.found k (omega (arith, few.2, length-map ss hash))))) in (
+    (rw is_place at (table.found k (omega (arith, length-take n ss, length-map ss hash))))) in (
       strings' ∙ ap (take n) is_strings,
       record { indexed = rw (is_kept, is_ordered) new.1; found = found },
     )
 
 pub findable_table : (bytes : List ℕ) (slots : List Slot) (size : ℕ) (is_full : Bool)
     (ordered : List ℕ) → IsFindable bytes slots size is_full ordered → IsTable (strings_in bytes)
-findable_table bytes slots size is_full ordered table = record {
-  distinct = table.indexed.distinct;
-  zero_free = zero_free-strings_in bytes;
-}
+findable_table bytes slots size is_full ordered table = search (zero_free-strings_in)

@@ -1,6 +1,6 @@
 -- What the vectors of a list hold, as one of them changes or is cut in two.
-use Rattle.std.proofs.Common.{◌≡◌, ℕ, ◌+◌, ◌-◌, ◌/◌, ◌<◌, List, [], ◌∷◌, ◌++◌, length, take}
-use Rattle.std.proofs.Common.{drop, get_or, set, insert, Vec, ap, ap₂, sym, ◌∙◌, arith, add-one}
+use Rattle.std.proofs.Common.{◌≡◌, ℕ, ◌+◌, ◌-◌, ◌/◌, ◌<◌, List, [], ◌∷◌, ◌++◌, length, take, drop}
+use Rattle.std.proofs.Common.{get_or, set, insert, Vec, ap, ap₂, sym, ◌∙◌, arith, add-one}
 use Rattle.std.proofs.lemmas.List.{map-append, map-set, take-map, drop-map, get_or-map, set-get_or}
 use Rattle.std.proofs.lemmas.List.{length-map, take_rest}
 use Rattle.thorin_strings.specs.Chunks.{pieces, IsHalved}

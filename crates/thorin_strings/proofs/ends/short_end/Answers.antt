@@ -1,4 +1,4 @@
-use Rattle.std.proofs.Common.{◌≢◌, ◌+◌, ◌*◌, get_or, arith}
+use Rattle.std.proofs.Common.{◌+◌, ◌*◌, arith}
 use Rattle.thorin_strings.proofs.LaneLemmas.{range_more}
 use Rattle.thorin_strings.proofs.ends.short_end.Goals as goal
 
@@ -9,9 +9,8 @@ returns-then-some-lt-LANES c =
     record {
       within = omega arith;
       ended = c.before_zero-some.ensures.zero (omega arith);
-      before = range_more (λ k. get_or c.args.bytes.now k 0 ≢ 0) at at count (at + count)
-          c.loop-round.invariant.some (λ k less. c.before_zero-some.ensures.some k
-          less (omega arith))
+      before = range_more _ at at count (at + count) c.loop-round.invariant.some
+          (λ k less. c.before_zero-some.ensures.some k less (omega arith))
           (omega arith) (omega arith);
     }
 
@@ -20,8 +19,8 @@ loop-round-preserved c =
     let at = c.loop-round.round * 64 in
     record {
       within = omega arith;
-      some = range_more (λ k. get_or c.args.bytes.now k 0 ≢ 0) at at 64
-          ((c.loop-round.round + 1) * 64) c.loop-round.invariant.some
+      some = range_more _ at at 64 ((c.loop-round.round + 1) * 64)
+          c.loop-round.invariant.some
           (λ k less. c.before_zero-some.ensures.some k (omega arith) less)
           (omega arith) (omega arith);
     }

@@ -1,5 +1,5 @@
 use Rattle.std.proofs.Common.{◌∙◌, refl, arith}
-use Rattle.thorin_strings.proofs.PlacesLemmas.{same_or, there_of}
+use Rattle.thorin_strings.proofs.PlacesLemmas.{same_or, has_of, slot_within}
 use Rattle.thorin_strings.proofs.places.put_again.Goals as goal
 
 pub loop-number-preserved : goal.loop-number-preserved
@@ -21,6 +21,7 @@ loop-number-preserved-then-slot-eq0 c = record {
 
 pub returns-clause-kept : goal.returns-clause-kept
 returns-clause-kept c = λ other h n is.
-    let there = there_of c.args.others.now other h n is in
+    let there = has_of c.args.others.now other h n is in
     rw (there.same, there.place) at
-    (c.loop-number.invariant.same there.number (omega (arith, there.within)) there.used)
+    (c.loop-number.invariant.same there.number (omega (arith,
+    slot_within c.args.others.now there.number there.used)) there.used)

@@ -1,12 +1,9 @@
-use Rattle.std.proofs.Common.{◌≡◌, ◌+◌, ◌-◌}
-use Rattle.thorin_strings.specs.Places.{place_from, place_of}
+use Rattle.std.proofs.Common.{◌≡◌}
 use Rattle.thorin_strings.proofs.PlacesLemmas.{ArePassed}
 use Rattle.thorin_strings.proofs.places.put_over.Given as goal
 
 abbrev pub invariant-loop-number : goal.invariant-loop-number
 invariant-loop-number l = record {
   passed : ArePassed l.slots l.home l.number l.hash;
-  looked : place_of l.slots l.size l.hash ≡ place_from l.slots l.number
-      (l.home + 128 - l.number) l.hash;
   same : l.slots ≡ l.initial.slots;
 }

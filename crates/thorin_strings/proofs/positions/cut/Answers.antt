@@ -1,9 +1,8 @@
 use Rattle.std.proofs.Common.{◌≡◌, ◌<◌, ◌+◌, ◌/◌, length, get_or, [], ap, arith}
 use Rattle.std.proofs.lemmas.List.{get_or_read}
 use Rattle.thorin_strings.specs.Chunks.{pieces, IsHalved}
-use Rattle.thorin_strings.proofs.ChunkLemmas.{start_within}
+use Rattle.thorin_strings.proofs.ChunkLemmas.{start_within, halves_same, halves_begun, halves_short}
 use Rattle.thorin_strings.proofs.PieceLemmas.{counts, length-pieces, piece_read, piece_halved}
-use Rattle.thorin_strings.proofs.ShortLemmas.{halves_same, halves_begun, halves_short}
 use Rattle.thorin_strings.proofs.positions.cut.Goals as goal
 use Rattle.thorin_strings.proofs.positions.cut.Goals.{After-index}
 
@@ -47,22 +46,16 @@ overflow_add-start c =
       c.requires.small,
     )
 
-pub returns-clause-begun : goal.returns-clause-begun
-returns-clause-begun c =
-    let at = (goal.at.returns-clause-begun c).After-index in
-    halves_begun _ _ c.args.at (there at) (halved at) c.args.starts.now.items _ c.requires.begun
-    (rw (← start at, ← c.reserve-2.ensures.items) (rw c.unwrap-2.ensures at
-    c.insert-2.ensures.items))
-
-pub returns-clause-same : goal.returns-clause-same
-returns-clause-same c =
-    let at = (goal.at.returns-clause-same c).After-index in
-    halves_same _ _ c.args.at (there at) (halved at)
-
-pub returns-clause-halved : goal.returns-clause-halved
-returns-clause-halved c = halved (goal.at.returns-clause-halved c).After-index
-
-pub returns-clause-short : goal.returns-clause-short
-returns-clause-short c =
-    let at = (goal.at.returns-clause-short c).After-index in
-    halves_short _ _ c.args.at (there at) (halved at) c.requires.short
+pub returns : goal.returns
+returns c =
+    let after = (goal.at.returns c).After-index in
+    let there = there after in
+    let halved = halved after in
+    record {
+      begun = halves_begun _ _ c.args.at there halved c.args.starts.now.items _ c.requires.begun
+          (rw (← start after, ← c.reserve-2.ensures.items) (rw c.unwrap-2.ensures at
+          c.insert-2.ensures.items));
+      same = halves_same _ _ c.args.at there halved;
+      short = halves_short _ _ c.args.at there halved c.requires.short;
+      halved = halved;
+    }

@@ -1,8 +1,7 @@
-use Rattle.std.proofs.Common.{◌+◌, set, filter, nat_lt, length, ap, arith}
+use Rattle.std.proofs.Common.{◌+◌, nat_lt, length, ap, arith}
 use Rattle.thorin_strings.specs.Chunks.{pieces}
-use Rattle.thorin_strings.proofs.ChunkLemmas.{IsKept, kept_within, kept_long, kept_there, kept_more}
-use Rattle.thorin_strings.proofs.ChunkLemmas.{kept_all, chunked_all}
-use Rattle.thorin_strings.proofs.ShortLemmas.{short_filter}
+use Rattle.thorin_strings.proofs.ChunkLemmas.{kept_within, kept_long, kept_there, kept_more}
+use Rattle.thorin_strings.proofs.ChunkLemmas.{kept_all, chunked_all, short_filter}
 use Rattle.thorin_strings.proofs.PieceLemmas.{length-pieces, piece_read}
 use Rattle.thorin_strings.proofs.positions.keep_all.Goals as goal
 
@@ -10,24 +9,21 @@ pub keep-requires : goal.keep-requires
 keep-requires c = omega (
   arith,
   c.loop-at.invariant.long,
-  kept_long _ _ _ _ _ _ _ c.loop-at.invariant (omega arith),
+  kept_long _ _ _ _ _ _ c.loop-at.invariant,
   length-pieces c.loop-at.chunks,
 )
 
 pub index-requires : goal.index-requires
 index-requires c = omega (
   arith,
-  kept_there _ _ _ _ _ _ _ c.loop-at.invariant _ _ (omega arith) c.keep.ensures,
+  kept_there _ _ _ _ _ _ c.loop-at.invariant _ _ (omega arith) c.keep.ensures,
   length-pieces c.keep.new.chunks,
 )
 
-more : (c : goal.After-len-total) → IsKept (filter (λ p. nat_lt p c.args.limit))
-    (pieces c.args.chunks.now.items) (pieces c.keep.new.chunks.items) c.args.starts.now
-    (set c.loop-at.starts c.loop-at.at c.loop-at.total) (c.loop-at.at + 1)
-    (c.loop-at.total + c.len-total.result)
-more c =
-    let there = kept_there _ _ _ _ _ _ _ c.loop-at.invariant _ _ (omega arith) c.keep.ensures in
-    kept_more _ _ _ _ _ _ _ c.loop-at.invariant _ _ (omega arith) c.keep.ensures (omega (
+pub loop-at-preserved : goal.loop-at-preserved
+loop-at-preserved c =
+    let there = kept_there _ _ _ _ _ _ c.loop-at.invariant _ _ (omega arith) c.keep.ensures in
+    kept_more _ _ _ _ _ _ c.loop-at.invariant _ _ (omega arith) c.keep.ensures (omega (
       arith,
       ap length (piece_read c.keep.new.chunks.items c.loop-at.at c.index.result.now
           (omega (arith, there, length-pieces c.keep.new.chunks, c.keep.new.chunks.ok.0))
@@ -38,17 +34,14 @@ more c =
 pub overflow_add-total : goal.overflow_add-total
 overflow_add-total c = omega (
   arith,
-  (more c).counted,
+  (loop-at-preserved c).counted,
   kept_within (λ p. nat_lt p c.args.limit) (pieces c.args.chunks.now.items) (c.loop-at.at + 1),
   c.requires.small,
 )
 
-pub loop-at-preserved : goal.loop-at-preserved
-loop-at-preserved c = more c
-
 pub returns-clause-kept : goal.returns-clause-kept
-returns-clause-kept c = kept_all _ _ _ _ _ _ _ c.loop-at.invariant (omega arith)
+returns-clause-kept c = kept_all _ _ _ _ _ _ c.loop-at.invariant (omega arith)
 
 pub returns-clause-chunked : goal.returns-clause-chunked
-returns-clause-chunked c = chunked_all _ _ _ _ _ _ _ c.loop-at.invariant (omega arith)
+returns-clause-chunked c = chunked_all _ _ _ _ _ _ c.loop-at.invariant (omega arith)
     (short_filter (λ p. nat_lt p c.args.limit) (pieces c.args.chunks.now.items) c.requires.short)

@@ -1,14 +1,16 @@
-use Rattle.std.proofs.Common.{◌∙◌, ap, sym, ◌+◌}
-use Rattle.thorin_strings.proofs.ChunkLemmas.{raised, length-raised, raised_at, over_left}
-use Rattle.thorin_strings.proofs.ChunkLemmas.{over_more}
+use Rattle.std.proofs.Common.{◌≡◌, ◌-◌, sym, arith}
+use Rattle.std.proofs.lemmas.List.{take-append-drop}
+use Rattle.thorin_strings.proofs.ChunkLemmas.{raise_more, raise_all}
 use Rattle.thorin_strings.proofs.positions.raise.Goals as goal
 
+pub loop-i-init : goal.loop-i-init
+loop-i-init c =
+    let none : c.args.from - c.args.from ≡ 0 = omega arith in
+    rw none (sym (take-append-drop c.args.from c.args.starts.now))
+
 pub loop-i-preserved : goal.loop-i-preserved
-loop-i-preserved c =
-    let old = c.args.starts.now in
-    let new = raised c.args.from old in
-    let long = length-raised c.args.from old in
-    let within = c.loop-i-test.true in
-    over_more new old _ c.loop-i.i long c.loop-i.invariant _ 0 within
-    (ap (λ n. n + 1) (over_left new old _ c.loop-i.i long c.loop-i.invariant 0 within)
-    ∙ sym (raised_at c.args.from c.loop-i.i old c.loop-i.auto.i within))
+loop-i-preserved c = raise_more _ _ c.args.starts.now _ c.loop-i.auto.i c.loop-i.invariant
+    c.loop-i-test.true
+
+pub returns : goal.returns
+returns c = raise_all _ _ c.args.starts.now _ c.loop-i.auto.i c.loop-i.invariant (omega arith)

@@ -1,17 +1,13 @@
-use Rattle.std.proofs.Common.{◌≡◌, ◌+◌, ◌-◌, get_or, refl, arith}
+use Rattle.std.proofs.Common.{◌+◌, ◌-◌, refl, arith}
 use Rattle.thorin_strings.proofs.LaneLemmas.{range_more, same_fronts}
 use Rattle.thorin_strings.proofs.search.begins_same.Goals as goal
 
 pub loop-at-preserved : goal.loop-at-preserved
-loop-at-preserved c = record {
-  same = range_more (λ k. get_or c.args.bytes.now k 0 ≡ get_or c.args.other.now k 0) c.loop-at.at
-      c.loop-at.at 32 (c.loop-at.at + 32) c.loop-at.invariant.same (c.if-not-are_same.ensures refl)
-      (omega arith) (omega arith);
-}
+loop-at-preserved c = range_more _ c.loop-at.at c.loop-at.at 32 (c.loop-at.at + 32)
+    c.loop-at.invariant (c.if-not-are_same.ensures refl) (omega arith) (omega arith)
 
 pub returns : goal.returns
 returns c = λ is.
     same_fronts c.args.bytes.now c.args.other.now c.args.count c.requires.first c.requires.second
-    (range_more (λ k. get_or c.args.bytes.now k 0 ≡ get_or c.args.other.now k 0) c.loop-at.at
-    (c.args.count - 32) 32 c.args.count c.loop-at.invariant.same (c.are_same-2.ensures is)
-    (omega arith) (omega arith))
+    (range_more _ c.loop-at.at (c.args.count - 32) 32 c.args.count c.loop-at.invariant
+    (c.are_same-2.ensures is) (omega arith) (omega arith))

@@ -1,29 +1,15 @@
-use Rattle.std.proofs.Common.{◌-◌, ◌∙◌, length, take, drop, ap, arith}
-use Rattle.std.specs.Ordering.{nat_cmp}
-use Rattle.std.specs.Cmp.Lexicographic.{slice_cmp}
-use Rattle.std.proofs.lemmas.List.{take_rest}
-use Rattle.thorin_strings.proofs.CompareLemmas.{front_string, compared_short, equal_so_far, unequal}
+use Rattle.std.proofs.Common.{◌∙◌, sym, arith}
+use Rattle.thorin_strings.proofs.CompareLemmas.{compared_at, compared_short, first_decides}
 use Rattle.thorin_strings.proofs.search.compare_at.Goals as goal
 
 pub returns-then-rest-string : goal.returns-then-rest-string
-returns-then-rest-string c =
-    let rest = take (length c.args.bytes.now - c.args.at) (drop c.args.at c.args.bytes.now) in
-    c.cmp.ensures ∙ compared_short rest c.args.string.now c.requires.zero_free (omega arith)
-    ∙ ap (λ l. slice_cmp nat_cmp (front_string l) c.args.string.now)
-    (take_rest c.args.bytes.now c.args.at)
+returns-then-rest-string c = c.cmp.ensures ∙ compared_short c.args.bytes.now c.args.at
+    c.args.string.now c.requires.zero_free (omega arith)
 
 pub returns-in-Equal : goal.returns-in-Equal
-returns-in-Equal c =
-    let rest = take (length c.args.bytes.now - c.args.at) (drop c.args.at c.args.bytes.now) in
-    c.cmp-in-Equal.ensures ∙ equal_so_far rest c.args.string.now c.cmp-2.result c.requires.zero_free
-    (omega arith) c.cmp-2.ensures c.in-Equal.is
-    ∙ ap (λ l. slice_cmp nat_cmp (front_string l) c.args.string.now)
-    (take_rest c.args.bytes.now c.args.at)
+returns-in-Equal c = c.cmp-in-Equal.ensures ∙ rw (sym c.cmp-2.ensures ∙ c.in-Equal.is) at
+    (compared_at c.args.bytes.now c.args.at c.args.string.now c.requires.zero_free)
 
 pub returns-in_default : goal.returns-in_default
-returns-in_default c =
-    let rest = take (length c.args.bytes.now - c.args.at) (drop c.args.at c.args.bytes.now) in
-    unequal rest c.args.string.now c.cmp-2.result c.requires.zero_free (omega arith) c.cmp-2.ensures
-    c.in_default.not-Equal
-    ∙ ap (λ l. slice_cmp nat_cmp (front_string l) c.args.string.now)
-    (take_rest c.args.bytes.now c.args.at)
+returns-in_default c = first_decides _ _ c.in_default.not-Equal ∙ rw (← c.cmp-2.ensures) at
+    (compared_at c.args.bytes.now c.args.at c.args.string.now c.requires.zero_free)

@@ -1,7 +1,7 @@
 use Rattle.std.proofs.Common.{ℕ, ◌<◌, ◌≤◌, ◌-◌, length, slice_index}
 use Rattle.dwp_bytes.specs.StringOffsets.{string_from}
 use Rattle.thorin_strings.specs.Strings.{IsBefore}
-use Rattle.thorin_strings.proofs.Digits.{IsHalved}
+use Rattle.thorin_strings.proofs.CompareLemmas.{IsHalved}
 use Rattle.thorin_strings.proofs.search.search.Given as goal
 
 abbrev pub invariant-loop-low : goal.invariant-loop-low

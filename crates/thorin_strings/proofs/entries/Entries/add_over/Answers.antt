@@ -1,48 +1,35 @@
-use Rattle.std.proofs.Common.{◌+◌, ◌∙◌, inl, sym, refl, arith}
+use Rattle.std.proofs.Common.{◌+◌, ◌∙◌, inl, sym, refl, arith, rules}
 use Rattle.std.proofs.lemmas.Bool.{false≢true}
 use Rattle.thorin_strings.specs.Strings.{BeginsAt}
-use Rattle.thorin_strings.specs.declared.entries.Entries.{Entries}
 use Rattle.thorin_strings.proofs.UsedLemmas.{two_pushes}
-use Rattle.thorin_strings.proofs.HashedLemmas.{IsAdded, added, entries_few, misplaced, carried_over}
+use Rattle.thorin_strings.proofs.HashedLemmas.{added, entries_few, misplaced, carried_over}
 use Rattle.thorin_strings.proofs.HashedLemmas.{begins_at_offset}
 use Rattle.thorin_strings.proofs.TableLemmas.{indexed_push}
 use Rattle.thorin_strings.proofs.entries.Entries.add_over.Goals as goal
-use Rattle.thorin_strings.proofs.entries.Entries.add_over.Goals.{After-unwrap-2}
 
 pub overflow_add-self : goal.overflow_add-self
 overflow_add-self c = omega (arith, (entries_few c.args.self.now c.requires.table).0)
 
-abbrev new : goal.After-unwrap-2 → Entries
-new c = record c.args.self.now {
-  bytes = c.push.new.self;
-  count = c.args.self.now.count + 1;
-  places = c.give.new.self;
-}
-
-done : (c : goal.After-unwrap-2) → IsAdded c.args.self.now (new c) c.args.string.now
-    c.len-last.result
-done c =
+pub returns : goal.returns
+returns c =
     let e = c.args.self.now in
+    let new = record e {
+      bytes = c.push.new.self;
+      count = e.count + 1;
+      places = c.give.new.self;
+    } in
     let s = c.args.string.now in
     let table = c.requires.table in
     let gone : BeginsAt e.bytes.items c.args.place → ⊥ = λ begins. false≢true
     (sym c.if-begins_at.false ∙ c.begins_at.ensures.1 (rw c.as_slice.ensures.value begins)) in
     let absent = misplaced e table s c.args.hash c.requires.hashed c.args.place c.requires.has
     c.requires.own (λ here. gone here.0) in
-    added e (new c) s c.args.hash _ table c.requires.zero_free c.requires.hashed absent
+    let done = added e new s c.args.hash _ table c.requires.zero_free c.requires.hashed absent
     (two_pushes _ _ _ _ _ c.reserve.ensures.items (rw c.unwrap.ensures at
     c.extend_from_slice.ensures.items) (rw c.unwrap-2.ensures at c.push.ensures.items))
     c.len-last.ensures refl
     (indexed_push e.bytes.items e.ordered s table.findable.indexed c.requires.zero_free absent)
-    (carried_over e (new c) c.args.hash c.args.place c.give.ensures.full refl c.requires.has
+    (carried_over e new c.args.hash c.args.place c.give.ensures.full refl c.requires.has
     c.give.ensures.others c.requires.own (λ begun. gone (begins_at_offset e table _ begun)))
-    (inl (c.if-not-give.ensures.given refl _ c.requires.has, c.if-not-give.ensures.fits refl))
-
-pub returns-clause-table : goal.returns-clause-table
-returns-clause-table c = (done (goal.at.returns-clause-table c).After-unwrap-2).table
-
-pub returns-clause-placed : goal.returns-clause-placed
-returns-clause-placed c = (done (goal.at.returns-clause-placed c).After-unwrap-2).placed
-
-pub returns-clause-kept : goal.returns-clause-kept
-returns-clause-kept c = (done (goal.at.returns-clause-kept c).After-unwrap-2).kept
+    (inl (c.if-not-give.ensures.given refl _ c.requires.has, c.if-not-give.ensures.fits refl)) in
+    search rules

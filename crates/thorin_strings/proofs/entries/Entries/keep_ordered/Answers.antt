@@ -1,27 +1,23 @@
-use Rattle.std.proofs.Common.{◌∙◌, sym, refl, arith}
+use Rattle.std.proofs.Common.{◌∙◌, sym, refl}
 use Rattle.thorin_strings.proofs.PlaceLemmas.{offset_there, known_place_in}
-use Rattle.thorin_strings.proofs.HashedLemmas.{hashed_kept, entries_few, carried_among, found_there}
+use Rattle.thorin_strings.proofs.HashedLemmas.{hashed_kept, entries_few, carried_among}
 use Rattle.thorin_strings.proofs.HashedLemmas.{absent_there, inserted_or}
 use Rattle.thorin_strings.proofs.Named.{string_was}
 use Rattle.thorin_strings.proofs.entries.Entries.keep_ordered.Goals as goal
 
 pub insert-requires-clause-small : goal.insert-requires-clause-small
-insert-requires-clause-small c = omega (
-  arith,
-  (entries_few c.args.self.now c.requires.table).1,
-  c.args.self.now.bytes.small,
-)
+insert-requires-clause-small c = (entries_few c.args.self.now c.requires.table).1
 
 pub returns-in-Ok-place-clause-there : goal.returns-in-Ok-place-clause-there
 returns-in-Ok-place-clause-there c = λ begins.
     let e = c.args.self.now in
     let table = c.requires.table.findable.indexed in
     let s = c.in-Ok.string.now in
-    let found = found_there e.bytes.items _ e.ordered s c.in-Ok-place.field-0 c.search.result.place
-    c.as_slice-bytes.ensures.value c.in-Ok-place.is c.search.ensures.found c.search.ensures.there in
+    let found = rw (c.in-Ok-place.is, c.as_slice-bytes.ensures.value) at c.search.ensures.found in
+    let among = rw c.in-Ok-place.is at c.search.ensures.there in
     let is = rw c.as_slice-bytes.ensures.value at (string_was _ _ _ c.in-Ok.ensures.meaning) in
     let known = known_place_in e.bytes.items s c.args.place table.ended table.distinct begins is in
-    rw (found.0.1 ∙ sym known.1) at found.1
+    rw (found.1 ∙ sym known.1) at among
 
 pub returns-in-Err-clause-table : goal.returns-in-Err-clause-table
 returns-in-Err-clause-table c =

@@ -2,22 +2,17 @@ use Rattle.std.proofs.Common.{◌≡◌, ◌<◌, ◌-◌, length, get_or, ap, s
 use Rattle.std.specs.List.{concat}
 use Rattle.std.proofs.lemmas.List.{get_or_read}
 use Rattle.thorin_strings.specs.Chunks.{pieces, IsPieceOf}
-use Rattle.thorin_strings.proofs.ChunkLemmas.{first_start, some_piece, placed, chunk_got}
+use Rattle.thorin_strings.proofs.ChunkLemmas.{first_start, some_piece, placed}
 use Rattle.thorin_strings.proofs.PieceLemmas.{length-pieces, piece_read}
 use Rattle.thorin_strings.proofs.positions.Positions.get_near.Goals as goal
 use Rattle.thorin_strings.proofs.positions.Positions.get_near.Goals.{After-index}
 
-pub chunk_of-at-requires-clause-some : goal.chunk_of-at-requires-clause-some
-chunk_of-at-requires-clause-some c =
-    let ps = pieces c.self.inside.chunks.items in
-    rw (c.as_slice.ensures.value, c.self.invariant.begun)
-    (first_start ps (some_piece ps (omega (arith, ap length c.self.view_is)))).0
-
-pub chunk_of-at-requires-clause-first : goal.chunk_of-at-requires-clause-first
-chunk_of-at-requires-clause-first c =
-    let ps = pieces c.self.inside.chunks.items in
-    let zero = (first_start ps (some_piece ps (omega (arith, ap length c.self.view_is)))).1 in
-    rw (c.as_slice.ensures.value, c.self.invariant.begun) (omega (arith, zero))
+pub chunk_of-at-requires : goal.chunk_of-at-requires
+chunk_of-at-requires c =
+    let first = first_start c.as_slice.result.now _
+    (c.as_slice.ensures.value ∙ c.self.invariant.begun)
+    (some_piece _ (omega (arith, ap length c.self.view_is))) in
+    record { some = first.0; first = omega (arith, first.1) }
 
 -- what the rank finds
 found : (c : goal.After-index) → (c.args.rank - c.index.result.now < length
@@ -35,11 +30,8 @@ found c =
     let place = placed (pieces chunks.items) _ c.args.rank c.chunk_of-at.result _
     c.self.invariant.begun piece start (omega arith) in
     rw (← piece_read chunks.items c.chunk_of-at.result c.index-chunk.result.now
-    (omega (arith, place.there, length-pieces chunks, chunks.ok.0)) c.index-chunk.ensures) (
-      place.inside within,
-      chunk_got (pieces chunks.items) _ c.args.rank c.chunk_of-at.result _ c.self.invariant.begun
-          piece start (omega arith) within,
-    )
+    (omega (arith, place.there, length-pieces chunks, chunks.ok.0)) c.index-chunk.ensures)
+    (place.inside within, place.got within)
 
 pub index-requires-2 : goal.index-requires-2
 index-requires-2 c = omega (
