@@ -1,2 +1,3 @@
--- A written package is accepted.
+-- A written package is accepted: the units that it has as an input are taken.
+pub mod OwnUnits
 pub mod Written

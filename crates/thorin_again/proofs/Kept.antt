@@ -2,6 +2,4 @@
 pub mod EachUnit
 pub mod OneEncoding
 pub mod LongerTables
-pub mod SharedParts
 pub mod Names
-pub mod PlainPackage

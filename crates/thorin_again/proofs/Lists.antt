@@ -1,6 +1,3 @@
 -- What lists of inputs make of a new builder.
-pub mod PlainInputs
-pub mod HeadersEncoded
-pub mod StringsWhole
+pub mod InOrder
 pub mod OneEncoding
-pub mod Held

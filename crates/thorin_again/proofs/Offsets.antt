@@ -1,5 +1,3 @@
 -- The string offsets of a written package, rewritten once more.
 pub mod RewrittenAgain
 pub mod Tiled
-pub mod RangesFill
-pub mod OfPackage

@@ -1,6 +1,3 @@
 -- A written package as an input: its sections, parts and indexes.
 pub mod Sections
-pub mod Parts
 pub mod Indexes
-pub mod FirstEncoding
-pub mod Unless

@@ -1,9 +1,9 @@
 -- A written package of plain objects of one encoding is accepted: by any package of its byte
 -- order, unless it is foreseen otherwise, and by a new one.
-use Rattle.std.proofs.Common.{◌≡◌, ◌∙◌, ℕ, Bool, cond, List, [], ◌∷◌, ◌++◌, map, refl, sym, ap, Ok}
-use Rattle.std.proofs.Common.{Option, unwrap_or, IsPermutation, append_assoc, subst, ◌||◌, ◌<◌}
-use Rattle.std.proofs.Common.{true, false, not, ◌&&◌, length, Result, Err, Some, None, arith, inl}
-use Rattle.std.proofs.Common.{length-append, nat_lt, is_some, ltb-true, lt-ltb}
+use Rattle.std.proofs.Common.{◌≡◌, ◌∙◌, ℕ, Bool, cond, List, [], ◌∷◌, ◌++◌, refl, sym, ap, Ok, ◌||◌}
+use Rattle.std.proofs.Common.{Option, IsPermutation, append_assoc, subst, ◌<◌, not, true, false}
+use Rattle.std.proofs.Common.{◌&&◌, length, Result, Err, Some, None, arith, inl, length-append, inr}
+use Rattle.std.proofs.Common.{nat_lt, is_some, ltb-true, lt-ltb}
 use Rattle.std.specs.Cmp.{IsEquivalence}
 use Rattle.std.specs.List.{IsDistinct, list_any}
 use Rattle.std.proofs.lemmas.List.Elements.{All-from_recursion}
@@ -17,16 +17,16 @@ use Rattle.thorin_again.specs.Again.{all_meant, HaveEncodingOf, MeansOnceWritten
 use Rattle.thorin_join.specs.Join.{Joins, IsPackageOf, same_sort, limit_of, look_limit}
 use Rattle.thorin_join.specs.Meaning.{Meaning, Members, input_meaning, keys, joining}
 use Rattle.thorin_input.specs.Names.{same_name}
-use Rattle.thorin_again.proofs.Lists.StringsWhole.{Finds, own-encoded, alone-whole, FinishedLaw}
+use Rattle.thorin_again.proofs.Lists.OneEncoding.{Finds, own-encoded, FinishedLaw, first-of}
+use Rattle.thorin_again.proofs.Lists.OneEncoding.{AreEncoded, input-order, answers-whole}
 use Rattle.thorin_join.proofs.Units.NamesApart.{same_name-self, same_name-true, same_name-sym}
-use Rattle.thorin_again.proofs.Taken.NamesFree.{different-sym}
+use Rattle.thorin_again.proofs.Accepted.OwnUnits.{taken-all, different-sym}
 use Rattle.dwp_base.proofs.Bools.{by-bool, neither, both}
 use Rattle.std.proofs.lemmas.List.Sums.{length-filter}
 use Rattle.std.proofs.lemmas.List.{length-map}
 use Rattle.dwp_base.specs.declared.section.SectionKind.{SectionKind}
 use Rattle.dwp_base.specs.declared.section.SectionKind.TheVariants as kinds
 use Rattle.dwp_bytes.specs.declared.encoding.Encoding.{Encoding}
-use Rattle.dwp_dwarf.specs.Units.{UnitsAreTaken}
 use Rattle.dwp_dwarf.specs.declared.unit.UnitSection.TheVariants as places
 use Rattle.dwp_elf.specs.Contents.{KindsDiffer, content_of}
 use Rattle.dwp_elf.specs.FileText.{Object as File, file_text}
@@ -44,33 +44,27 @@ use Rattle.thorin_again.specs.Own.{has_content, has_sections, packs_again}
 use Rattle.thorin_again.specs.OwnAccepted.{IsAccepted, IsAcceptedByNew}
 use Rattle.thorin_again.specs.OwnInput.{written_object, IsOwn, own_source}
 use Rattle.thorin_again.specs.OwnRefusals.{UnlessStringOffset, IsForeseen}
-use Rattle.thorin_again.specs.OwnUnits.{HoldsOwn}
+use Rattle.thorin_again.specs.OwnUnits.{HoldsOwn, AllOf}
 use Rattle.thorin_input.specs.Format.{is_shared}
 use Rattle.thorin_input.specs.Parts.{Parts, parts_of}
-use Rattle.thorin_again.specs.Plain.{IsPlain, HoldsPlain, NamesItself}
+use Rattle.thorin_again.specs.Plain.{IsPlain, HoldsPlain}
 use Rattle.thorin_join.specs.Represents.{IsSoundBegun, units_of, units_begun, units_in}
 use Rattle.thorin_join.specs.State.{InProgress, adding, abbreviations_test, with_source, names_of}
 use Rattle.thorin_input.specs.Used.{counts_once}
-use Rattle.thorin_join.proofs.Files.Indexes.{IndexIsRead, IndexHasEntries}
 use Rattle.thorin_join.proofs.Joined.Input.{new-sound}
-use Rattle.thorin_again.proofs.Offsets.OfPackage.{finished-shared, own-offsets, own-offsets-alone}
+use Rattle.thorin_again.proofs.Opened.Indexes.{finished-shared, own-offsets, own-offsets-alone}
 use Rattle.thorin_again.proofs.Opened.Indexes.{in-format, lie-used, up-to-parts, OwnMade, own-made}
+use Rattle.thorin_again.proofs.Opened.Indexes.{lie-kept, read-of}
 use Rattle.thorin_again.proofs.Opened.Sections.{present-written, info-written, object-written}
-use Rattle.thorin_again.proofs.Opened.Sections.{opened-elf}
-use Rattle.thorin_again.proofs.Taken.OwnUnits.{own-units, own-units-new}
-use Rattle.thorin_join.proofs.Parts.OffsetLaws.{NamesTheSameLaw, PackagedLaw}
-use Rattle.thorin_again.proofs.Meant.RowPlaces.{FirstLaw, FindLaw}
-use Rattle.thorin_join.proofs.Files.Finished.{finished-own, finished-strings, finished-order}
-use Rattle.thorin_again.proofs.Opened.FirstEncoding.{EncodesItself, first-of, input-encoding}
-use Rattle.thorin_again.proofs.Meant.Package.{lie-kept}
-use Rattle.thorin_again.proofs.Opened.Parts.{own-parts-tried}
-use Rattle.thorin_again.proofs.Opened.Unless.{Unless, and-then, answered}
-use Rattle.thorin_again.proofs.Offsets.Tiled.{weaker}
-use Rattle.thorin_again.proofs.Lists.Held.{InputsSound}
-use Rattle.thorin_again.proofs.Lists.HeadersEncoded.{AreEncoded}
+use Rattle.thorin_again.proofs.Opened.Sections.{opened-elf, input-encoding, own-parts-tried, Unless}
+use Rattle.thorin_again.proofs.Opened.Sections.{and-then, answered}
 use Rattle.thorin_again.proofs.Kept.OneEncoding.{InputsJoined, begun-now}
+use Rattle.thorin_join.proofs.Parts.OffsetLaws.{NamesTheSameLaw, PackagedLaw}
+use Rattle.thorin_join.proofs.Files.Finished.{finished-own, finished-strings, finished-order}
+use Rattle.thorin_again.proofs.Lists.InOrder.{InputsSound, there-back, meant_or}
 use Rattle.thorin_join.proofs.Units.InRows.{keys-units}
 use Rattle.thorin_input.specs.InputStrings.{rewritten}
+use Rattle.thorin_again.proofs.Meant.RowByRow.{Laws}
 
 -- ---- names
 
@@ -107,29 +101,20 @@ keys-meant : (us : Members) → keys (all_meant us) ≡ keys us
 keys-meant [] = refl
 keys-meant (u ∷ us) = ap (λ l. u.0 ∷ l) (keys-meant us)
 
-meant-back : (other : Meaning) (us : Members) → map {B = DwarfObject × Meaning} (λ u.
-    (u.0, unwrap_or u.1 other)) (all_meant us) ≡ us
-meant-back other [] = refl
-meant-back other (u ∷ us) = ap (λ l. u ∷ l) (meant-back other us)
-
 -- the units that were joined alone are those that the input means
-alone-units : (bytes : List ℕ) (other : Meaning) (us now : Members) → IsDistinct same_name
+alone-units : (bytes : List ℕ) (us now : Members) → IsDistinct same_name
     (keys us) → Joins bytes [] now
     → ((meant : List (DwarfObject × Option Meaning)) → input_meaning bytes ≡ Ok meant
     → IsPermutation (all_meant us) meant) → IsPermutation us now
-alone-units bytes other us now distinct joins means =
+alone-units bytes us now distinct joins means =
     let perm = means joins.units joins.meaning in
     let apart = IsDistinct-IsPermutation same_name flips (keys (all_meant us)) (keys joins.units)
     (IsPermutation-map (λ u. u.0) (all_meant us) joins.units perm)
     (rw (keys-meant us) distinct) in
     let units : joins.units ≡ all_meant joins.added = sym (joining-apart [] joins.units apart)
     ∙ joins.joined in
-    let full : DwarfObject × Option Meaning → DwarfObject × Meaning = λ u.
-    (u.0, unwrap_or u.1 other) in
-    let back = IsPermutation-map full (all_meant us) (all_meant joins.added) (rw units at perm) in
-    rw joins.is (rw (meant-back other us, meant-back other joins.added) at back)
-
--- ---- answers
+    let full = IsPermutation-map meant_or (all_meant us) _ (rw units at perm) in
+    rw joins.is (rw (there-back us, there-back joins.added) at full)
 
 -- look-ups in a package of these units find them, in whatever order
 alone-finds : (us vs : Members) (bytes : List ℕ) → IsPermutation us vs → IsDistinct same_name
@@ -167,9 +152,7 @@ MeansLaw = (state : State) (file : File) → IsSoundBegun state.begun → finish
     → IsFinishedState state file → MeansOnceWritten (units_in state) file
 
 -- the file of a state that packs again
-module _ (names : NamesTheSameLaw) (law : PackagedLaw) (reads : UnitsAreTaken)
-    (first_law : FirstLaw) (find_law : FindLaw) (is_read : IndexIsRead)
-    (has_entries : IndexHasEntries) (state : State) (file : File)
+module _ (names : NamesTheSameLaw) (law : PackagedLaw) (laws : Laws) (state : State) (file : File)
     (sound : IsSoundBegun state.begun) (holds : HoldsOwn state) (holds_plain : HoldsPlain state)
     (tested : finish_test state ≡ Ok tt) (f : IsFinishedState state file)
     (packs : packs_again state ≡ true) (differ : KindsDiffer file.contents)
@@ -195,24 +178,23 @@ module _ (names : NamesTheSameLaw) (law : PackagedLaw) (reads : UnitsAreTaken)
       let long : length (units_of made) ≡ length made.rows = length-map made.rows _ in
       rw (finished-own made file fin places.Info) (plain.info (omega (arith, count, long)))
 
+  all : AllOf encoding (units_of made)
+  all = subst (λ b. AllOf encoding (units_begun b)) f.begun (holds.all encoding there.1)
+
+  encoded : AreEncoded made.file.order (units_of made)
+  encoded = own-encoded made encoding (rw f.begun at sound) plain all
+
   abbrev own : IsOwn state encoding file
-  own = record {
-    sound = sound;
-    tested = tested;
-    finished = f;
-    kinds = differ;
-    read_back = back;
-    some = holds.some encoding there.1;
-    all = holds.all encoding there.1;
-    info = info;
-    first = first-of reads made file encoding (rw f.begun at sound) fin differ
-        (weaker (NamesItself made.file.order encoding made.file.contents)
-        (EncodesItself made.file.order encoding made.file.contents)
-        (λ row names unit rest read. (names unit rest read).0) made.rows plain.units) info;
-  }
+  own = assumption (
+    holds.some encoding there.1,
+    holds.all encoding there.1,
+    info,
+    first-of laws.taken made file encoding (rw f.begun at sound) fin differ
+        (λ k d within. (encoded k d within, all k d within)) info,
+  )
 
   has : OwnMade encoding made
-  has = own-made state encoding file own
+  has = own-made own
 
   has-both : (has_content kinds.Abbrev made ≡ true)
       × ((not (has_content kinds.StrOffsets made) || nat_lt 0 (length made.strings)) ≡ true)
@@ -260,7 +242,7 @@ module _ (names : NamesTheSameLaw) (law : PackagedLaw) (reads : UnitsAreTaken)
       → Unless E (taken (file_text file) before)
   unfolding taken with_source_or_new with_source own_encoding file_encoding
   taken-unless E before same takes =
-      let t = up-to-parts is_read state encoding file own before.begun same in
+      let t = up-to-parts laws.read state encoding file own before.begun same in
       let given = takes t.indexes t.read in
       let parts = own-parts-tried E (own_source file encoding t.indexes) file.contents
       (package_or_new (written_elf file) before.begun).strings refl differ (record {
@@ -279,29 +261,27 @@ module _ (names : NamesTheSameLaw) (law : PackagedLaw) (reads : UnitsAreTaken)
       (and-then E _ _ (and-then E _ _ parts (λ p e. rw abbreviations-tested
       (and-then E _ _ (given.1 p e) (λ new h. tt)))) (λ m h. tt)) (λ now h. tt))
 
-  -- ---- by any package, and by a new one
-
-  -- a package of its byte order takes them, unless it is foreseen otherwise
+    -- a package of its byte order takes them, unless it is foreseen otherwise
   pub own-all : IsAccepted file
   own-all before fine same =
       let now = package_or_new (written_elf file) before.begun in
-      taken-unless IsForeseen before same (λ indexes read. (
-        foreseen _ (own-offsets is_read has_entries state encoding file own made f.begun plain
-            indexes read now.strings),
-        λ p e. own-units names law reads first_law find_law is_read has_entries state encoding file
-            own made f.begun plain indexes read now p.0 p.1
+      taken-unless IsForeseen before same (λ indexes read.
+      let is = read-of own laws.read laws.entries indexes read in (
+        foreseen _ (own-offsets is plain now.strings),
+        λ p e. taken-all names law laws ⊥ IsForeseen (inr (λ id. inr (id, refl))) is plain now
+            (λ never. absurd never) p.0 p.1
             (new-sound (written_elf file) before.begun fine).units.table e,
       ))
 
   -- a new one takes them
   new-accepted : (after : State) × (taken (file_text file) start ≡ Ok after)
   new-accepted =
-      answered (taken (file_text file) start) (taken-unless (λ e. ⊥) start refl (λ indexes read. (
-        rw (own-offsets-alone is_read has_entries state encoding file own made f.begun plain indexes
-            read).1 tt,
-        λ p e. rw (own-units-new names law reads first_law find_law is_read has_entries state
-            encoding file own made f.begun plain indexes read (begun_by (written_elf file)) refl p.0
-            p.1 (new-sound (written_elf file) None tt).units.table e).1 tt,
+      answered (taken (file_text file) start) (taken-unless (λ e. ⊥) start refl (λ indexes read.
+      let is = read-of own laws.read laws.entries indexes read in (
+        rw (own-offsets-alone is plain).1 tt,
+        λ p e. taken-all names law laws (Unit {0}) (λ e. ⊥) (inl tt) is plain
+            (begun_by (written_elf file)) (λ fresh. refl) p.0 p.1
+            (new-sound (written_elf file) None tt).units.table e,
       )))
 
   -- and has their units then
@@ -311,22 +291,13 @@ module _ (names : NamesTheSameLaw) (law : PackagedLaw) (reads : UnitsAreTaken)
       let after = new-accepted.0 in
       let bytes = file_text file in
       let input = begun-now bytes start after new-accepted.1 in
-      let encoded : HaveEncodingOf bytes (units_in state) = λ k d within.
+      let encodings : HaveEncodingOf bytes (units_in state) = λ k d within.
       input-encoding file differ back ∙ own.first ∙ ap Ok (sym (own.all k d within)) in
       let distinct = subst (λ b. IsDistinct same_name (keys (units_begun b))) (sym f.begun)
       (rw (keys-units made) (IsDistinct-from_apart same_name (names_of made) has.sound.apart)) in
-      let no : Meaning = record {
-        bytes = [];
-        pieces = λ k c. [];
-        strings = [];
-        encoding = encoding;
-      } in
-      let perm = alone-units bytes no (units_in state) (units_in after) distinct
-      (joins bytes None after.begun tt input) (means state file sound tested f differ back encoded
+      let perm = alone-units bytes (units_in state) (units_in after) distinct
+      (joins bytes None after.begun tt input) (means state file sound tested f differ back encodings
       start after new-accepted.1) in
-      let encoded_units : AreEncoded made.file.order (units_in state) =
-      subst (λ b. AreEncoded made.file.order (units_begun b)) (sym f.begun)
-      (own-encoded made encoding has.sound plain has.all) in
       record {
         after = after;
         is = new-accepted.1;
@@ -334,8 +305,11 @@ module _ (names : NamesTheSameLaw) (law : PackagedLaw) (reads : UnitsAreTaken)
         answers = λ alone passed finished kinds_differ read.
             let p = finishes after alone (sounds bytes None after.begun tt input) passed finished
             kinds_differ read in
-            alone-whole (units_in state) file alone made after encoded_units
-            (finished-order made file fin) back input
-            finished read p.pack p.parsed (alone-finds (units_in state) (units_in after)
-            (file_text alone) perm distinct p);
+            let same = finished-order finished.made alone finished.finished
+            ∙ sym (ap (λ b. order_of b file.order) finished.begun)
+            ∙ input-order bytes (written_elf file) None after.begun file.order
+            (opened-elf bytes (written_elf file) back) input ∙ finished-order made file fin in
+            answers-whole made.file.order (units_in state) alone read same (subst (λ b. AreEncoded
+            made.file.order (units_begun b)) (sym f.begun) encoded) p.pack p.parsed (alone-finds
+            (units_in state) (units_in after) (file_text alone) perm distinct p);
       }

@@ -1,6 +1,6 @@
 -- What is read of a table of abbreviations stays where more bytes follow.
-use Rattle.std.proofs.Common.{◌≡◌, ◌∙◌, ℕ, zero, suc, ◌^◌, ◌≤◌, eqb, ltb, List, [], ◌∷◌, ◌++◌}
-use Rattle.std.proofs.Common.{length, Result, Ok, Err, Option, Some, None, refl, ap, subst, arith}
+use Rattle.std.proofs.Common.{◌≡◌, ◌∙◌, ℕ, zero, suc, ◌^◌, ◌≤◌, eqb, ltb, List, [], ◌∷◌, ◌++◌, Ok}
+use Rattle.std.proofs.Common.{length, Result, Err, Option, Some, None, refl, ap, subst, arith}
 use Rattle.std.proofs.Common.{length-append}
 use Rattle.std.specs.Option.{ok_or}
 use Rattle.std.proofs.lemmas.Bool.{le-ltb, ltb-false, eqb-false, ne_eqb}
@@ -11,8 +11,8 @@ use Rattle.dwp_bytes.specs.Leb.{leb_at, uleb_at, signed_leb_at, sleb_at, is_i64}
 use Rattle.dwp_bytes.specs.declared.error.ReadError.{ReadError}
 use Rattle.dwp_bytes.specs.declared.error.ReadError.TheVariants.{UnknownCode}
 use Rattle.dwp_dwarf.specs.Abbreviations.{Declaration, constant_at, specification_at, is_last}
-use Rattle.dwp_dwarf.specs.Abbreviations.{specifications_within, specifications_at, tag_at}
-use Rattle.dwp_dwarf.specs.Abbreviations.{children_at, declaration_at, code_at, declaration_within}
+use Rattle.dwp_dwarf.specs.Abbreviations.{specifications_within, specifications_at, tag_at, code_at}
+use Rattle.dwp_dwarf.specs.Abbreviations.{children_at, declaration_at, declaration_within}
 use Rattle.dwp_dwarf.specs.Abbreviations.{declaration}
 use Rattle.dwp_dwarf.specs.Offsets.{from_at}
 use Rattle.dwp_dwarf.specs.Entries.{root_code_at}
@@ -27,6 +27,7 @@ use Rattle.thorin_strings.proofs.NamedEntries.{as_error_ok}
 use Rattle.dwp_base.proofs.Bools.{by-bool}
 use Rattle.dwp_base.proofs.Steps.{bind-was, bind-ok, same-ok}
 use Rattle.dwp_dwarf.proofs.Readings.{more}
+use Rattle.thorin_join.proofs.Moved.Readings.{Moves, answered, then, either}
 use Rattle.dwp_index.proofs.TwoPlaces.{choice}
 
 pub ok-some : {A E : Type 0} (e : E) (r : Option A) (x : A) → ok_or r e ≡ Ok x → r ≡ Some x
@@ -34,24 +35,16 @@ ok-some e None x h = absurd cc
 ok-some e (Some y) x h = ap Some (same-ok y x h)
 
 module _ (rest : List ℕ) where
-  -- what was read is read, and the bytes that follow are left, where they follow
+  -- the bytes that follow are left too
+  abbrev behind : {A : Type 0} → A × Input → A × Input
+  behind x = (x.0, more x.1 rest)
+
+  -- what was read is read where they follow
   abbrev Stays : {A : Type 0} → (short long : Result (A × Input) ReadError) → Type 0
-  Stays (Ok x) long = long ≡ Ok (x.0, more x.1 rest)
-  Stays (Err e) long = Unit {0}
+  Stays {A} short long = Moves ⊥ (A × Input) behind short long
 
-  -- one step, and then another
-  then-by : {A C : Type 0} (T : (short long : Result C ReadError) → Type 0)
-      (short long : Result (A × Input) ReadError) (f g : A × Input → Result C ReadError)
-      → ((e : ReadError) (z : Result C ReadError) → T (Err e) z) → Stays short long
-      → ((a : A) (i : Input) → T (f (a, i)) (g (a, more i rest))) → T (short >>= f) (long >>= g)
-  then-by T (Ok x) long f g errors h k = rw h (k x.0 x.1)
-  then-by T (Err e) long f g errors h k = errors e (long >>= g)
-
-  then : {A C : Type 0} (short long : Result (A × Input) ReadError)
-      (f g : A × Input → Result (C × Input) ReadError) → Stays short long
-      → ((a : A) (i : Input) → Stays (f (a, i)) (g (a, more i rest)))
-      → Stays (short >>= f) (long >>= g)
-  then short long f g h k = then-by Stays short long f g (λ e z. tt) h k
+  failed : {A : Type 0} {e : ReadError} {long : Result (A × Input) ReadError} → Stays (Err e) long
+  failed = record { is = λ never. absurd never }
 
   -- ---- bytes and numbers
 
@@ -59,41 +52,40 @@ module _ (rest : List ℕ) where
   unfolding byte_at
   stays-byte i = elim i.bytes as (λ l. Stays (byte_at (record i { bytes = l }))
       (byte_at (record i { bytes = l ++ rest }))) [
-        | [] ↦ tt
+        | [] ↦ failed
         | b ∷ bs ↦ rw (
           le-ltb (suc (length bs)) 1 (omega arith),
           le-ltb (suc (length (bs ++ rest))) 1 (omega arith),
-        ) refl
+        ) answered
       ]
 
   stays-leb : (n : ℕ) (i : Input) → Stays (leb_at n i) (leb_at n (more i rest))
   unfolding leb_at
-  stays-leb zero i = tt
-  stays-leb (suc n) i = then _ _ _ _ (stays-byte i) (λ b j. choice Stays (ltb b 128) _ _ _ _ refl
-      (then _ _ _ _ (stays-leb n j) (λ r k. refl)))
+  stays-leb zero i = failed
+  stays-leb (suc n) i = then _ (stays-byte i) (λ b. either _ answered
+      (then _ (stays-leb n b.1) (λ r. answered)))
 
   stays-uleb : (i : Input) → Stays (uleb_at i) (uleb_at (more i rest))
   unfolding uleb_at
-  stays-uleb i = then _ _ _ _ (stays-leb 10 i) (λ n j. choice Stays (ltb n (2 ^ 64))
-      _ _ _ _ refl tt)
+  stays-uleb i = then _ (stays-leb 10 i) (λ n. either (ltb n.0 (2 ^ 64)) answered failed)
 
   stays-signed : (n : ℕ) (i : Input) → Stays (signed_leb_at n i) (signed_leb_at n (more i rest))
   unfolding signed_leb_at
-  stays-signed zero i = tt
-  stays-signed (suc n) i = then _ _ _ _ (stays-byte i) (λ b j. choice Stays (ltb b 64) _ _ _ _ refl
-      (choice Stays (ltb b 128) _ _ _ _ refl (then _ _ _ _ (stays-signed n j) (λ r k. refl))))
+  stays-signed zero i = failed
+  stays-signed (suc n) i = then _ (stays-byte i) (λ b. either (ltb b.0 64) answered
+      (either (ltb b.0 128) answered (then _ (stays-signed n b.1) (λ r. answered))))
 
   stays-sleb : (i : Input) → Stays (sleb_at i) (sleb_at (more i rest))
   unfolding sleb_at
-  stays-sleb i = then _ _ _ _ (stays-signed 10 i) (λ n j. choice Stays (is_i64 n) _ _ _ _ refl tt)
+  stays-sleb i = then _ (stays-signed 10 i) (λ n. either (is_i64 n.0) answered failed)
 
   -- ---- declarations
 
   stays-specification : (i : Input) → Stays (specification_at i) (specification_at (more i rest))
   unfolding specification_at constant_at
-  stays-specification i = then _ _ _ _ (stays-uleb i) (λ name j. then _ _ _ _ (stays-uleb j)
-      (λ form k. then _ _ _ _ (choice Stays (eqb form 0x21) _ _ _ _ (then _ _ _ _ (stays-sleb k)
-      (λ x l. refl)) refl) (λ c l. refl)))
+  stays-specification i = then _ (stays-uleb i) (λ name. then _ (stays-uleb name.1) (λ form.
+      then {f = behind} _ (either (eqb form.0 0x21) (then _ (stays-sleb form.1) (λ x. answered))
+      answered) (λ c. answered)))
 
   longer : (i : Input) → length i.bytes ≤ length (i.bytes ++ rest)
   longer i = omega (arith, length-append i.bytes rest)
@@ -102,25 +94,31 @@ module _ (rest : List ℕ) where
   stays-within : (n m : ℕ) (i : Input) → n ≤ m
       → Stays (specifications_within n i) (specifications_within m (more i rest))
   unfolding specifications_within
-  stays-within zero m i le = tt
+  stays-within zero m i le = failed
   stays-within (suc n) zero i le = absurd (omega (arith, le))
-  stays-within (suc n) (suc m) i le = then _ _ _ _ (stays-specification i) (λ first j.
-      choice Stays (is_last first) _ _ _ _ refl
-      (then _ _ _ _ (stays-within n m j (omega (arith, le))) (λ others k. refl)))
+  stays-within (suc n) (suc m) i le = then _ (stays-specification i) (λ first.
+      either (is_last first.0) answered
+      (then _ (stays-within n m first.1 (omega (arith, le))) (λ others. answered)))
 
   stays-declaration : (i : Input) → Stays (declaration_at i) (declaration_at (more i rest))
   unfolding declaration_at tag_at children_at specifications_at
-  stays-declaration i =
-      then _ _ _ _ (then _ _ _ _ (stays-uleb i) (λ tag j. choice Stays (eqb tag 0) _ _ _ _ tt refl))
-      (λ tag j. then _ _ _ _ (then _ _ _ _ (stays-byte j) (λ byte k.
-      choice Stays (eqb byte 0) _ _ _ _ refl (choice Stays (eqb byte 1) _ _ _ _ refl tt)))
-      (λ children k. then _ _ _ _ (stays-within _ _ k (longer k)) (λ list l. refl)))
+  stays-declaration i = then _ (then _ (stays-uleb i) (λ tag. either (eqb tag.0 0) failed answered))
+      (λ tag. then _ (then _ (stays-byte tag.1) (λ byte. either (eqb byte.0 0) answered
+      (either (eqb byte.0 1) answered failed)))
+      (λ children. then _ (stays-within _ _ children.1 (longer children.1)) (λ list. answered)))
 
   -- a declaration that was found is found there too
   abbrev Found : (short long : Result (Option Declaration) ReadError) → Type 0
   Found (Ok (Some d)) long = long ≡ Ok (Some d)
   Found (Ok None) long = Unit {0}
   Found (Err e) long = Unit {0}
+
+  then-found : {A : Type 0} {short long : Result (A × Input) ReadError}
+      (next later : A × Input → Result (Option Declaration) ReadError) → Stays short long
+      → ((x : A × Input) → Found (next x) (later (behind x))) → Found (short >>= next)
+      (long >>= later)
+  then-found {short = Ok x} next later h k = rw h.is (k x)
+  then-found {short = Err e} next later h k = tt
 
   -- no end of the bytes stands for its code, and more of them may be read
   found-within : (wanted n m : ℕ) (i : Input) → n ≤ m
@@ -136,10 +134,9 @@ module _ (rest : List ℕ) where
         ne_eqb (length (i.bytes ++ rest)) 0 (λ none.
             eqb-false (length i.bytes) 0 some (omega (arith, none, longer i))),
       )
-      (then-by Found _ _ _ _ (λ e z. tt) (stays-uleb i) (λ code j.
-      choice Found (eqb code 0) _ _ _ _ tt (then-by Found _ _ _ _ (λ e z. tt)
-      (stays-declaration j) (λ first k. choice Found (eqb code wanted) _ _ _ _ refl
-      (found-within wanted n m k (omega (arith, le))))))))
+      (then-found _ _ (stays-uleb i) (λ code. choice Found (eqb code.0 0) _ _ _ _ tt
+      (then-found _ _ (stays-declaration code.1) (λ first. choice Found (eqb code.0 wanted)
+      _ _ _ _ refl (found-within wanted n m first.1 (omega (arith, le))))))))
 
   -- ---- the identity of a unit
 

@@ -2,9 +2,9 @@
 -- so by those of its row each unit of a package that such objects are added to. And info of such a
 -- package has bytes, where it has units: the first unit of an object stands in info, with the
 -- object's encoding, and its name's unit goes there.
-use Rattle.std.proofs.Common.{◌≡◌, ◌∙◌, ℕ, false, List, refl, sym, ap, Ok, Some, true, [], ◌∷◌}
-use Rattle.std.proofs.Common.{◌++◌, length, subst, eqb, ◌-◌, leb, ◌&&◌, ◌⊎◌, inl, inr, Err, None}
-use Rattle.std.proofs.Common.{◌<◌, map, arith, true≢false, length-append}
+use Rattle.std.proofs.Common.{◌≡◌, ◌∙◌, ℕ, false, List, refl, sym, ap, Ok, Some, true, [], ◌∷◌, eqb}
+use Rattle.std.proofs.Common.{◌++◌, length, subst, ◌-◌, leb, ◌&&◌, ◌⊎◌, inl, inr, Err, None, ◌<◌}
+use Rattle.std.proofs.Common.{map, arith, true≢false, length-append}
 use Rattle.dwp_base.specs.declared.endian.Endianness.{Endianness}
 use Rattle.dwp_base.specs.declared.section.SectionKind.{SectionKind}
 use Rattle.dwp_base.specs.declared.section.SectionKind.TheVariants as kinds
@@ -26,13 +26,14 @@ use Rattle.thorin_join.specs.Meaning.{named_at, named_sections, joining}
 use Rattle.thorin_input.specs.NewUnits.{name_for, place_for, NewUnit, unit_section}
 use Rattle.thorin_input.specs.Rows.{abbreviations_for}
 use Rattle.thorin_join.specs.State.{kind_at, InProgress, row_at, unit_bytes, adding, with_new_units}
-use Rattle.thorin_join.specs.State.{with_source, with_unit_added, names_of}
+use Rattle.thorin_join.specs.State.{with_source, with_unit_added, names_of, with_new_unit}
 use Rattle.thorin_input.specs.Used.{first, Used}
 use Rattle.thorin_join.proofs.Units.HeadersRead.{ReadAlone, kind-place, Listed, Reads}
 use Rattle.thorin_join.proofs.Units.HeadersRead.{name-identity}
 use Rattle.thorin_join.proofs.Units.Sorts.{identity-sort}
-use Rattle.thorin_again.proofs.Kept.EachUnit.{Each, each-both, News, in-turn, WasRead, AllSo, OfOne}
-use Rattle.thorin_again.proofs.Kept.EachUnit.{sections-are, of-one, each-added}
+use Rattle.thorin_again.proofs.Kept.EachUnit.{Each, News, WasRead, AllSo, OfOne, of-one, each-added}
+use Rattle.thorin_again.proofs.Kept.EachUnit.{each-append, parted, shared-row, plain-part, news-are}
+use Rattle.thorin_again.proofs.Kept.EachUnit.{plain-added, order-added, each-unit}
 use Rattle.thorin_join.proofs.Moved.RootEntries.{identity-shifted}
 use Rattle.thorin_join.proofs.Units.Whole.{ReadsAlone, IsKnown, known-in, other-alone, five-named}
 use Rattle.thorin_join.proofs.Units.Whole.{Goes}
@@ -61,27 +62,21 @@ use Rattle.thorin_join.proofs.Rows.Stay.{front-long}
 use Rattle.thorin_join.proofs.Rows.Ranges.{whole_behind}
 use Rattle.thorin_again.proofs.Meant.RowByRow.{part-middle}
 use Rattle.thorin_join.proofs.Rows.LieInTurn.{can-lie}
-use Rattle.thorin_again.proofs.Offsets.Tiled.{row-append, weaker}
 use Rattle.thorin_join.proofs.Parts.Appended.{content-with_parts, parts-copied, no-bytes}
 use Rattle.thorin_join.proofs.Parts.Appended.{content-with_bytes}
-use Rattle.thorin_again.proofs.Kept.SharedParts.{shared-row, plain-part, plain-added, order-added}
-use Rattle.thorin_again.proofs.Kept.SharedParts.{parted, news-are}
 use Rattle.thorin_join.proofs.Joined.Source.{grows-with_parts, keys-held}
 use Rattle.thorin_join.proofs.Rows.StandApart.{sound-inside}
 use Rattle.thorin_join.proofs.Rows.OneAdded.{content-put, row-name, row-own, own-place}
-use Rattle.dwp_base.specs.declared.section.SectionKind.TheVariants as kinds
 use Rattle.dwp_base.proofs.EveryKind.{is-same}
 use Rattle.dwp_dwarf.proofs.Readings.{Gives, then_gives, test_gives, value_gives, error_gives, was}
 use Rattle.std.specs.Prelude.{slice_get, Some}
-use Rattle.dwp_dwarf.specs.declared.unit.UnitSection.TheVariants as places
 use Rattle.thorin_input.specs.Names.{same_name}
 use Rattle.thorin_join.proofs.Units.NamesApart.{same_name-self, same_name-true}
 use Rattle.thorin_join.proofs.Steps.{past, unless}
 use Rattle.thorin_join.proofs.Moved.Units.{newer-five}
-use Rattle.std.proofs.Math.Bool.{or-false}
 use Rattle.std.proofs.lemmas.List.Folds.{list_any-append}
 use Rattle.thorin_input.specs.Format.{is_in_format}
-use Rattle.thorin_join.proofs.Rows.AllAdded.{names-added}
+use Rattle.thorin_join.proofs.Rows.AllAdded.{names-added, AllNew, joined-new}
 
 -- ---- the abbreviations of a row begin with those of the first section
 
@@ -104,14 +99,19 @@ put-stays front x {whole = whole} same h =
 
 -- ---- rows name their units, however contents grow
 
-pub keep-names : (order : Endianness) (encoding : Encoding) (c d : Contents) (row : IndexEntry)
-    → Grows c d → LieInside c row → NamesItself order encoding c row
-    → NamesItself order encoding d row
-keep-names order encoding c d row grows lie names unit rest read =
-    let place = place_of row.id row.debug_types in
-    let own : unit_bytes d row ≡ unit_bytes c row = keep-part c d row grows lie (kind_at place) in
-    let there = names unit rest (ap (λ l. unit_at place (section order l)) (sym own) ∙ read) in
-    (there.0, rw (keep-part c d row grows lie kinds.Abbrev) there.1)
+pub keep-names : (order : Endianness) (encoding : Encoding) (c d : Contents) → Grows c d
+    → (rows : List IndexEntry) → EachRow (LieInside c) rows
+    → EachRow (NamesItself order encoding c) rows → EachRow (NamesItself order encoding d) rows
+keep-names order encoding c d grows [] lie names = tt
+keep-names order encoding c d grows (row ∷ rows) lie names = (
+  λ unit rest read.
+      let place = place_of row.id row.debug_types in
+      let own : unit_bytes d row ≡ unit_bytes c row =
+      keep-part c d row grows lie.0 (kind_at place) in
+      let there = names.0 unit rest (ap (λ l. unit_at place (section order l)) (sym own) ∙ read) in
+      (there.0, rw (keep-part c d row grows lie.0 kinds.Abbrev) there.1),
+  keep-names order encoding c d grows rows lie.1 names.1,
+)
 
 -- where a unit goes to it is read alone
 goes-alone : (order : Endianness) (place : UnitSection) (name : DwarfObject) (unit : Header)
@@ -119,9 +119,8 @@ goes-alone : (order : Endianness) (place : UnitSection) (name : DwarfObject) (un
     → ReadsAlone order (place_for name (kind_at place)) unit
 goes-alone order places.Types (Compilation id) unit known sort = other-alone order places.Types
     places.Info unit (five-named unit sort (known.1 refl)) known.0
-goes-alone order places.Types (TypeUnit signature) unit known sort = known.0
 goes-alone order places.Info (Compilation id) unit known sort = known.0
-goes-alone order places.Info (TypeUnit signature) unit known sort = known.0
+goes-alone order _ _ unit known sort = known.0
 
 module _ (source : Source) (made : InProgress) (plain : is_package source.indexes ≡ false)
     (parts : Contents) (after : List (List ℕ))
@@ -192,13 +191,9 @@ module _ (source : Source) (made : InProgress) (plain : is_package source.indexe
       let more = grows-with_bytes (kind_at u.1.place) u.1.bytes c in
       let d : Contents = with_bytes (kind_at u.1.place) u.1.bytes c in (
         grows-trans base c d names.0 more,
-        λ e up. row-append (NamesItself order source.encoding e) p.rows _
-            (names.1 e (grows-trans c d e more up)) (new-names c e u new names.0 up),
+        λ e up. each-append (NamesItself order source.encoding e) p.rows (_ ∷ [])
+            (names.1 e (grows-trans c d e more up)) (new-names c e u new names.0 up, tt),
       )
-
-pub both-rows : (P Q : IndexEntry → Type 0) (rows : List IndexEntry) → EachRow P rows
-    → EachRow Q rows → EachRow (λ row. P row × Q row) rows
-both-rows P Q rows h k = each-both P Q rows h k
 
 grows-self : (c : Contents) → Grows c c
 grows-self c kind = record { rest = []; is = sym (append-nil (content_of kind c)) }
@@ -213,23 +208,19 @@ names-kept taken alone source before now plain has sound same h named =
     let order = source.object.order in
     let encoding = source.encoding in
     let c = before.file.contents in
-    let q = parted source before now a in
+    let q = parted a in
     let b = q.file.contents in
-    let new = news-are source before now a taken alone (OfOne source)
-    (sections-are source (OfOne source) source.object.sections a.joined.all
-    (of-one taken alone source source.object.sections has) a.joined.is)
+    let new = news-are a taken alone (OfOne source)
+    (of-one taken alone source source.object.sections has)
     (IsNew source before plain a.parts a.after a.parts_are)
     (λ n r is goes w. (r, is, goes, w)) in
-    let old : EachRow (λ row. LieInside c row × NamesItself order encoding c row) before.rows =
-    both-rows (LieInside c) (NamesItself order encoding c) before.rows (sound-inside before sound)
-    (subst (λ o. EachRow (NamesItself o encoding c) before.rows) (sym same) named) in
     let all = each-added (Name source before plain a.parts a.after a.parts_are) _
     (one-named source before plain a.parts a.after a.parts_are) q a.new.units new (
       grows-self b,
-      λ d up. weaker _ (NamesItself order encoding d) (λ row s. keep-names order encoding c d row
-          (grows-trans c b d (grows-with_parts a.parts c) up) s.0 s.1) before.rows old,
+      λ d up. keep-names order encoding c d (grows-trans c b d (grows-with_parts a.parts c) up)
+          before.rows (sound-inside before sound) (rw same named),
     ) in
-    rw (order-added source before now a ∙ sym same, a.is)
+    rw (order-added a ∙ sym same, a.is)
     (all.1 (with_new_units q a.new.units).file.contents (grows-self _))
 
 -- ---- a unit in info is of version 5, or no type unit
@@ -350,30 +341,21 @@ to-info encoding name place sort h = refl
 
 -- ---- units that are added
 
+-- info has bytes, and more where a unit is added
+abbrev HasInfo : InProgress → Type 0
+HasInfo p = 0 < length (content_of kinds.Info p.file.contents)
+
+has-more : (p : InProgress) (u : DwarfObject × NewUnit) → HasInfo p → HasInfo (with_unit_added p u)
+has-more p u has = omega (
+  arith,
+  has,
+  front-long (grows-with_bytes (kind_at u.1.place) u.1.bytes p.file.contents kinds.Info),
+)
+
 module _ (name : DwarfObject) where
   -- a unit of the name has bytes, and goes to info
   abbrev PutInInfo : DwarfObject × NewUnit → Type 0
   PutInInfo u = same_name name u.0 ≡ true → (u.1.place ≡ places.Info) × (0 < length u.1.bytes)
-
-  -- where a unit of the name is there, info has bytes
-  abbrev HasInfo : InProgress → Type 0
-  HasInfo p = IsThere name (names_of p) → 0 < length (content_of kinds.Info p.file.contents)
-
-  one-put : (p : InProgress) (u : DwarfObject × NewUnit) → PutInInfo u → HasInfo p
-      → HasInfo (with_unit_added p u)
-  one-put p u put has there =
-      let c = p.file.contents in
-      by-bool _ (same_name name u.0)
-      (λ same. let new = put same in
-      rw (content-with_bytes kinds.Info (kind_at u.1.place) u.1.bytes c, new.0)
-      (omega (arith, length-append (content_of kinds.Info c) u.1.bytes, new.1)))
-      (λ other. omega (
-        arith,
-        has (rw (names-added p u, list_any-append {X = DwarfObject}, other, or-false) at there),
-        front-long (grows-with_bytes (kind_at u.1.place) u.1.bytes c kinds.Info),
-      ))
-
-  -- ---- the name is there in the end
 
   -- a name that was met, where another of it is there
   met-there : (names others : List DwarfObject) (u : DwarfObject) → IsThere u names
@@ -393,22 +375,22 @@ module _ (name : DwarfObject) where
       (λ new. rw (new, ← append_assoc names (r.0 ∷ []) (keys (joining (names ++ r.0 ∷ []) rs)))
       (joining-there (names ++ r.0 ∷ []) rs (rw append_assoc h)))
 
-  units-put : (p : InProgress) (us : News) → Each PutInInfo us → HasInfo p
-      → IsThere name (names_of p ++ keys us)
-      → 0 < length (content_of kinds.Info (with_new_units p us).file.contents)
-  units-put p us put has there =
-      let all = in-turn (λ q vs. Each PutInInfo vs × HasInfo q
-      × IsThere name (names_of q ++ keys vs))
-      (λ q v vs met k. (k.0.1, k.1, met-there (names_of q) (keys vs) v.0 met k.2))
-      (λ q v vs k. (
-        k.0.1,
-        one-put q v k.0.0 k.1,
-        rw (names-added q v, append_assoc (names_of q) (v.0 ∷ []) (keys vs)) k.2,
-      )) p us (put, has, there) in
-      all.1 (rw append-nil at all.2)
+  -- info has bytes, once units of new names are added, one of which has the name
+  units-put : (p : InProgress) (us : News) → AllNew (names_of p) (keys us) → Each PutInInfo us
+      → IsThere name (keys us) → HasInfo (with_new_units p us)
+  unfolding with_new_units with_new_unit
+  units-put p [] new put there = absurd cc
+  units-put p (u ∷ us) new put there =
+      let c = p.file.contents in
+      rw (new.0, with_new_units) (by-bool _ (same_name name u.0)
+      (λ same. let goes = put.0 same in
+      each-unit HasInfo has-more (with_unit_added p u) us
+      (rw (content-with_bytes kinds.Info (kind_at u.1.place) u.1.bytes c, goes.0)
+      (omega (arith, length-append (content_of kinds.Info c) u.1.bytes, goes.1))))
+      (λ other. units-put (with_unit_added p u) us (rw (names-added p u) new.1) put.1
+      (rw other at there)))
 
--- ---- an object that was added
-
+-- once an object with units was added, info has bytes
 pub info-there : UnitsAreTaken → ReadAlone → (source : Source) (before now : InProgress)
     → encoding_of source.object ≡ Ok source.encoding → with_source source before ≡ Ok now
     → (0 < length before.rows → 0 < length (content_of kinds.Info before.file.contents))
@@ -420,21 +402,22 @@ info-there taken alone source before now is h info =
     let add = adding source before a.parts in
     let held = keys add.held in
     let n = first-named taken alone source source.encoding source.object.sections j.all j.is is in
-    let put = news-are source before now a taken alone (InFormat source)
-    (sections-are source (InFormat source) source.object.sections j.all
-    (each-format source source.object.sections _ _ a.parts_are) j.is) (PutInInfo n.0)
+    let put = news-are a taken alone (InFormat source)
+    (each-format source source.object.sections _ _ a.parts_are) (PutInInfo n.0)
     (λ u r are goes w same. (
       are.place ∙ rw w.from (to-info source.encoding r.0 w.place
           (subst (GoesToInfo source.encoding) (same_name-true n.0 u.0 same ∙ are.name) n.2) w.so),
       subst (λ l. 0 < length l) (sym are.bytes) goes.some,
     )) in
-    let has : HasInfo n.0 (parted source before now a) =
-    λ there. omega (
+    let names = joining-there n.0 held j.all (there-right n.0 held (keys j.all) n.1) in
+    let added = added-keys add a.new.units (joining held j.all) j.are in
+    rw a.is (by-bool _ (list_any (same_name n.0) held)
+    (λ old. each-unit HasInfo has-more (parted a) a.new.units (omega (
       arith,
       info ((elim before.rows as (λ rows. IsThere n.0 (map (λ (r : IndexEntry). r.id) rows)
-          → 0 < length rows) [ [] ↦ λ e. absurd cc | r ∷ rs ↦ λ e. omega arith ]) there),
+          → 0 < length rows) [ [] ↦ λ e. absurd cc | r ∷ rs ↦ λ e. omega arith ])
+          (rw (keys-held before) at old)),
       front-long (grows-with_parts a.parts before.file.contents kinds.Info),
-    ) in
-    rw a.is (units-put n.0 (parted source before now a) a.new.units put has
-    (rw (← keys-held before, added-keys add a.new.units (joining held j.all) j.are)
-    (joining-there n.0 held j.all (there-right n.0 held (keys j.all) n.1))))
+    )))
+    (λ new. units-put n.0 (parted a) a.new.units (rw (← keys-held before, added)
+    (joined-new held j.all)) put (rw added (rw (list_any-append {X = DwarfObject}, new) at names))))

@@ -1,40 +1,54 @@
--- What holds of all units of a package once an input was taken; and all units of plain objects of
--- one encoding have it.
+-- What holds of all units of a package once an input was taken; all units of plain objects of one
+-- encoding have it; and a builder's package stays one of such objects.
 use Rattle.std.proofs.Common.{◌≡◌, ◌∙◌, ℕ, ◌<◌, Bool, true, false, cond, ltb, inl, inr, List, []}
-use Rattle.std.proofs.Common.{◌∷◌, length, map, refl, sym, ap, subst, Result, Ok, Err, Option, Some}
-use Rattle.std.proofs.Common.{◌↔◌, None, arith, true≢false}
+use Rattle.std.proofs.Common.{◌∷◌, length, map, refl, sym, ap, subst, Ok, Err, Option, Some, ◌↔◌}
+use Rattle.std.proofs.Common.{None, arith, true≢false}
 use Rattle.std.specs.Prelude.{All}
-use Rattle.std.specs.List.{list_all}
+use Rattle.std.specs.List.{list_all, list_any}
 use Rattle.std.specs.Option.{option_and_then, IfSome}
 use Rattle.std.proofs.lemmas.Bool.{ltb-true, lt-ltb}
 use Rattle.std.proofs.lemmas.List.{length-map}
 use Rattle.std.proofs.lemmas.List.Elements.{All-nil, All-cons, All-append}
-use Rattle.std.proofs.lemmas.Option.{none-some, cond_some, IfSome_then}
-use Rattle.dwp_base.proofs.Bools.{both, by-bool}
+use Rattle.std.proofs.lemmas.Option.{none-some, cond_some, IfSome_then, same_Some}
+use Rattle.dwp_base.proofs.Bools.{both, by-bool, is-false, neither}
 use Rattle.dwp_base.proofs.Steps.{bind-was, same-ok}
 use Rattle.dwp_elf_read.specs.Elf.{Elf}
 use Rattle.dwp_bytes.specs.declared.encoding.Encoding.{Encoding}
-use Rattle.dwp_bytes.specs.declared.error.ReadError.{ReadError}
 use Rattle.dwp_index.specs.Index.{Ranges}
 use Rattle.dwp_table.specs.declared.object.DwarfObject.{DwarfObject}
 use Rattle.thorin_errors.specs.Errors.{ErrorValue}
 use Rattle.thorin_join.specs.Builder.{State, taken, with_input, with_own, own_after, names_in}
+use Rattle.thorin_join.specs.Builder.{package_or_new}
 use Rattle.thorin_input.specs.Encodings.{common, file_encoding, own_encoding, is_plain, section_has}
-use Rattle.thorin_input.specs.Indexes.{Source, is_package, index_for}
+use Rattle.thorin_input.specs.Encodings.{is_index}
+use Rattle.thorin_input.specs.Indexes.{Source, is_package, index_for, Indexes, indexes_of, index_in}
 use Rattle.thorin_join.specs.Join.{Joins}
 use Rattle.thorin_join.specs.Meaning.{Meaning, Members, UnitRead, keys, meaning_with, meaning_by}
-use Rattle.thorin_join.specs.Meaning.{unit_meaning, lie_inside, meant, source_units, source_meaning}
-use Rattle.thorin_join.specs.Meaning.{object_meaning, input_meaning, placed_row}
+use Rattle.thorin_join.specs.Meaning.{offsets_by, unit_meaning, lie_inside, meant, source_units}
+use Rattle.thorin_join.specs.Meaning.{source_meaning, object_meaning, input_meaning, placed_row}
+use Rattle.dwp_base.specs.declared.section.SectionKind.TheVariants.{Str, CuIndex, TuIndex}
 use Rattle.thorin_again.specs.OwnUnits.{AllOf, HoldsOwn}
 use Rattle.thorin_join.specs.Represents.{IsSoundBegun, units_begun}
 use Rattle.thorin_join.specs.State.{InProgress}
-use Rattle.thorin_input.specs.Used.{InputFile, opened, has_info}
-use Rattle.thorin_join.proofs.Joined.Input.{new-units}
+use Rattle.thorin_input.specs.Used.{InputFile, has_info, Used, first}
+use Rattle.thorin_join.proofs.Joined.Input.{new-units, made-order, new-sound}
 use Rattle.thorin_join.proofs.Joined.Source.{all_there}
 use Rattle.thorin_join.proofs.Joined.Taken.{Takes, TakesUnits, takes}
-use Rattle.thorin_join.proofs.Units.HeadersRead.{Reads}
+use Rattle.thorin_join.proofs.Units.HeadersRead.{Reads, ReadAlone}
 use Rattle.thorin_again.proofs.Kept.EachUnit.{Each, each-all, each-joining, common-are, common-self}
+use Rattle.thorin_again.proofs.Kept.EachUnit.{named-kept}
 use Rattle.thorin_input.specs.Rows.{own_range}
+use Rattle.dwp_base.specs.declared.section.SectionKind.{SectionKind}
+use Rattle.dwp_base.specs.Sections.{same_kind}
+use Rattle.dwp_dwarf.specs.Units.{UnitsAreTaken}
+use Rattle.thorin_index.specs.declared.entry.IndexEntry.{IndexEntry}
+use Rattle.thorin_strings.specs.Strings.{data_of}
+use Rattle.thorin_again.specs.Plain.{IsPlain, HoldsPlain}
+use Rattle.thorin_join.proofs.Parts.OffsetLaws.{NamesTheSameLaw}
+use Rattle.thorin_again.proofs.Kept.Names.{info-there, names-kept}
+use Rattle.thorin_again.proofs.Offsets.RewrittenAgain.{no-turn}
+use Rattle.thorin_again.proofs.Offsets.Tiled.{tiled-kept}
+use Rattle.thorin_join.specs.Strings.{strings_of}
 
 -- ---- what an input means
 
@@ -42,17 +56,16 @@ use Rattle.thorin_input.specs.Rows.{own_range}
 abbrev pub MadeOf : Source → List ℕ → Meaning → Type 0
 MadeOf source bytes unit = (unit.encoding ≡ source.encoding) × (unit.bytes ≡ bytes)
 
-with-made : (source : Source) (bytes : List ℕ) (row : Option Ranges)
-    (strings : Result (List (List ℕ)) ReadError)
-    → IfSome (meaning_with source bytes row strings) (MadeOf source bytes)
-with-made source bytes row (Ok strings) = (refl, refl)
-with-made source bytes row (Err e) = tt
-
 by-made : (source : Source) (bytes : List ℕ) (row : Option Ranges)
     → IfSome (meaning_by source bytes row) (MadeOf source bytes)
 unfolding meaning_by
-by-made source bytes row = by-bool _ (lie_inside source row)
-    (λ inside. rw inside (with-made source bytes row _)) (λ outside. rw outside tt)
+by-made source bytes row =
+    by-bool _ (lie_inside source row)
+    (λ inside. rw inside (elim (strings_of source.object.order source.encoding
+    (first Str source.object.sections) (offsets_by source row)) as
+    (λ r. IfSome (meaning_with source bytes row r) (MadeOf source bytes))
+    [ Ok strings ↦ (refl, refl) | Err e ↦ tt ]))
+    (λ outside. rw outside tt)
 
 unit-made : (source : Source) (read : DwarfObject × UnitRead)
     → IfSome (unit_meaning source read) (MadeOf source read.1.unit.whole.bytes)
@@ -93,12 +106,12 @@ module _ (P : Meaning → Type 0) where
       All-cons (λ (v : DwarfObject × Meaning). P v.1) u us h.0 (all-of us h.1)
 
   -- what holds of the units before an input, and of those that it adds
-  pub units-hold : (bytes : List ℕ) (begun now : Option InProgress)
+  pub units-hold : {bytes : List ℕ} {begun now : Option InProgress}
       → Joins bytes (units_begun begun) (units_begun now) → (t : Takes bytes begun now)
       → ((u : TakesUnits t.file begun now) (all : Reads) → source_units u.source ≡ Ok all
       → CanMean u.source all) → HoldsOf (units_begun begun) → HoldsOf (units_begun now)
   unfolding input_meaning object_meaning source_meaning
-  units-hold bytes begun now j t can before = elim t.does [
+  units-hold {begun = begun} j t can before = elim t.does [
     | inl w ↦
         let u = w.1 in
         let s = bind-was (source_units u.source) _ j.units
@@ -114,7 +127,7 @@ module _ (P : Meaning → Type 0) where
 -- ---- the encoding of a builder's inputs
 
 -- the package after an input, and the one encoding
-pub taken-as : (bytes : List ℕ) (old new : State) → taken bytes old ≡ Ok new
+taken-as : (bytes : List ℕ) (old new : State) → taken bytes old ≡ Ok new
     → (found : Option Encoding) × (own_encoding bytes ≡ Ok found)
     × (own_after old new.begun found ≡ new.own) × (with_input bytes old.begun ≡ Ok new.begun)
 unfolding taken
@@ -156,28 +169,26 @@ pub record OwnUnits (object : InputFile) (encoding e : Encoding) : Type 0 where
   pub plain : is_plain object.sections ≡ true
   pub all : list_all (section_has encoding object.order) object.sections ≡ true
 
-module _ (bytes : List ℕ) (e : Encoding) (found : own_encoding bytes ≡ Ok (Some e)) where
-  info-read : (file : Elf) → opened bytes ≡ Ok file → (has_info file ≡ true)
-      × (file_encoding file ≡ Ok (Some e))
+module _ {bytes : List ℕ} {e : Encoding} (found : own_encoding bytes ≡ Ok (Some e))
+    {begun now : Option InProgress} (t : Takes bytes begun now) where
+  info-read : (has_info t.file ≡ true) × (file_encoding t.file ≡ Ok (Some e))
   unfolding own_encoding
-  info-read file opens = not-else (has_info file) (file_encoding file) (Ok None) (Ok (Some e))
-      (λ none. absurd cc) (rw opens at found)
+  info-read = not-else (has_info t.file) (file_encoding t.file) (Ok None) (Ok (Some e))
+      (λ none. absurd cc) (rw t.opens at found)
 
-  pub own-units : (file : Elf) (begun now : Option InProgress) (u : TakesUnits file begun now)
-      → opened bytes ≡ Ok file → OwnUnits u.source.object u.source.encoding e
+  pub own-units : (u : TakesUnits t.file begun now) → OwnUnits u.source.object u.source.encoding e
   unfolding file_encoding
-  own-units file begun now u opens =
+  own-units u =
       let one = cond_some _ u.source.encoding e (same-ok {E = ErrorValue} _ (Some e)
-      (rw (u.object_is, u.encoding_is) at (info-read file opens).1)) in
+      (rw (u.object_is, u.encoding_is) at info-read.1)) in
       let two = both (is_plain u.source.object.sections) _ one.0 in
       record { is = one.1; plain = two.0; all = two.1 }
 
   -- such an object has units
-  pub takes-units : (begun now : Option InProgress) (t : Takes bytes begun now)
-      → (has_info t.file ≡ true) × TakesUnits t.file begun now
-  takes-units begun now t = elim t.does [
+  pub takes-units : (has_info t.file ≡ true) × TakesUnits t.file begun now
+  takes-units = elim t.does [
     | inl w ↦ w
-    | inr none ↦ absurd (true≢false (sym (info-read t.file t.opens).0 ∙ none.0))
+    | inr none ↦ absurd (true≢false (sym info-read.0 ∙ none.0))
   ]
 
 -- an input of that encoding was taken, which added a unit
@@ -220,13 +231,88 @@ taken-holds joined bytes old new sound holds h = record {
       let now = begun-now bytes old new h in
       let t = takes bytes old.begun new.begun now in
       let a = (own-adds bytes old new e h).0 k in
-      units-hold (λ unit. unit.encoding ≡ e) bytes old.begun new.begun
-      (joined bytes old.begun new.begun sound now) t
-      (λ u all read. each-all _ (λ r unit made. made.0
-      ∙ (own-units bytes e a.found t.file old.begun new.begun u t.opens).is) all)
+      units-hold (λ unit. unit.encoding ≡ e) (joined bytes old.begun new.begun sound now) t
+      (λ u all read. each-all _ (λ r unit made. made.0 ∙ (own-units a.found t u).is) all)
       ((elim old.begun as (λ b. Before b old.own e → (old.own ≡ Some e → AllOf e (units_begun b))
       → AllOf e (units_begun b)) [
         | None ↦ λ is all. All-nil (λ (u : DwarfObject × Meaning). u.1.encoding ≡ e)
         | Some made ↦ λ is all. all (is made refl)
       ]) a.before (holds.all e));
+}
+
+-- ---- a plain object has no index
+
+none-found : (kind : SectionKind) → ((s : Used) → is_index s ≡ false → same_kind s.kind kind ≡
+    false) → (ss : List Used) → list_any is_index ss ≡ false → first kind ss ≡ []
+none-found kind other [] h = refl
+none-found kind other (s ∷ ss) h =
+    let both = neither (is_index s) (list_any is_index ss) h in
+    rw (other s both.0) (none-found kind other ss both.1)
+
+plain-indexes : (object : InputFile) (encoding : Encoding) (indexes : Indexes)
+    → is_plain object.sections ≡ true → indexes_of object encoding ≡ Ok indexes
+    → is_package indexes ≡ false
+unfolding indexes_of index_in
+plain-indexes object encoding indexes plain h =
+    let none = is-false (list_any is_index object.sections) plain in
+    let apart = λ (s : Used) (other : is_index s ≡ false).
+    neither (same_kind s.kind CuIndex) (same_kind s.kind TuIndex) other in
+    let c = none-found CuIndex (λ s other. (apart s other).0) object.sections none in
+    let t = none-found TuIndex (λ s other. (apart s other).1) object.sections none in
+    let empty : Indexes = record { compilations = None; types = None } in
+    ap is_package (sym (same-ok {E = ErrorValue} empty indexes (rw (c, t) at h)))
+
+-- the package before it is of such objects, or a new one
+plain-before : (encoding : Encoding) (file : Elf) (begun : Option InProgress)
+    (own : Option Encoding) → Before begun own encoding
+    → ((made : InProgress) → own ≡ Some encoding → begun ≡ Some made → IsPlain encoding made)
+    → IsPlain encoding (package_or_new file begun)
+plain-before encoding file None own before holds = record {
+  named = λ kind shared some. absurd (omega (arith, some));
+  offsets = record {
+    ranges = [];
+    tile = refl;
+    rows = tt;
+    named = λ range there. absurd there;
+    strings = λ final table front. no-turn file.order encoding (data_of final) [] 0 [];
+  };
+  units = tt;
+  info = λ some. absurd (omega (arith, some));
+}
+plain-before encoding file (Some made) own before holds = holds made (before made refl) refl
+
+-- an input that is taken keeps a package of such objects
+pub taken-plain : NamesTheSameLaw → UnitsAreTaken → ReadAlone → (bytes : List ℕ) (old new : State)
+    → IsSoundBegun old.begun → HoldsPlain old → taken bytes old ≡ Ok new → HoldsPlain new
+taken-plain names reads alone bytes old new sound holds h = record {
+  made = λ encoding made own begun.
+      let a = (own-adds bytes old new encoding h).0 own in
+      let t = takes bytes old.begun new.begun (begun-now bytes old new h) in
+      let u = (takes-units a.found t).1 in
+      let source = u.source in
+      let is = own-units a.found t u in
+      let before = package_or_new t.file old.begun in
+      let plain = plain-indexes source.object source.encoding source.indexes is.plain
+      u.indexes_are in
+      let order = made-order t.file source.object old.begun u.object_is u.order_is in
+      let before_sound = new-sound t.file old.begun sound in
+      let now : u.made ≡ made = same_Some u.made made (u.is ∙ begun) in
+      let more : length before.rows < length u.made.rows = omega (
+        arith,
+        a.more,
+        elim old.begun as (λ b. length (names_in b) ≡ length (package_or_new t.file b).rows)
+            [ None ↦ refl | Some held ↦ length-map held.rows _ ],
+        ap (λ b. length (names_in b)) (sym u.is),
+        length-map u.made.rows (λ (row : IndexEntry). row.id),
+      ) in
+      let was : IsPlain source.encoding before = subst (λ e. IsPlain e before) (sym is.is)
+      (plain-before encoding t.file old.begun old.own a.before (holds.made encoding)) in
+      subst (IsPlain encoding) now (subst (λ e. IsPlain e u.made) is.is (record {
+        named = named-kept source before u.made plain u.with more was.named;
+        offsets = tiled-kept names source before u.made plain before_sound.units.table order u.with
+            more was.offsets;
+        units = names-kept reads alone source before u.made plain is.all before_sound order u.with
+            was.units;
+        info = λ some. info-there reads alone source before u.made u.encoding_is u.with was.info;
+      }));
 }

@@ -17,7 +17,7 @@ use Rattle.dwp_dwarf.specs.declared.unit.UnitType.{UnitType}
 use Rattle.dwp_dwarf.specs.declared.unit.UnitType.TheVariants as unit_types
 use Rattle.dwp_elf.specs.Contents.{content_of}
 use Rattle.dwp_index.specs.Index.{Index, Ranges, row_in, range_in}
-use Rattle.dwp_index.specs.Package.{part_of, is_outside, place_of}
+use Rattle.dwp_index.specs.Package.{part_of, is_outside}
 use Rattle.dwp_table.specs.Objects.{identifier_of}
 use Rattle.dwp_table.specs.Probing.{found_row, look_count}
 use Rattle.dwp_table.specs.Table.{FindsExactly}
@@ -34,30 +34,35 @@ use Rattle.thorin_strings.specs.Strings.{data_of}
 use Rattle.thorin_join.specs.Builder.{is_chosen, rows_of}
 use Rattle.thorin_input.specs.Growing.{Contents}
 use Rattle.thorin_input.specs.Indexes.{Source, Indexes, index_for, looked_up}
-use Rattle.thorin_join.specs.Laid.{type_signature, name_signature, is_at}
+use Rattle.thorin_join.specs.Laid.{type_signature, name_signature}
 use Rattle.thorin_join.specs.Meaning.{Meaning, lie_inside, shared_kinds, meaning_with, meaning_by}
 use Rattle.thorin_join.specs.Meaning.{unit_meaning}
 use Rattle.thorin_input.specs.Names.{is_compilation}
 use Rattle.thorin_input.specs.NewUnits.{name_for}
-use Rattle.thorin_join.specs.Represents.{IsRowOf}
+use Rattle.thorin_join.specs.Represents.{IsRowOf, AreRowsOf, meaning_at, LieInside}
 use Rattle.thorin_input.specs.Rows.{own_range, row_test, is_compile, row_abbreviations, is_same_row}
 use Rattle.thorin_input.specs.Rows.{numbered_abbreviations, abbreviations_for}
-use Rattle.thorin_join.specs.State.{kind_at}
+use Rattle.thorin_join.specs.State.{kind_at, InProgress}
 use Rattle.thorin_join.specs.Strings.{strings_of}
 use Rattle.thorin_input.specs.Used.{first}
 use Rattle.thorin_join.proofs.Units.HeadersRead.{name-identity}
 use Rattle.thorin_join.proofs.Units.Sorts.{identity-sort}
 use Rattle.thorin_join.proofs.Files.UnitsFound.{part-there}
 use Rattle.thorin_join.proofs.Files.Indexes.{HasRows}
-use Rattle.thorin_again.proofs.Meant.RowPlaces.{IsBelow, FirstLaw, FindLaw, IsAgain, Below}
-use Rattle.thorin_again.proofs.Meant.RowPlaces.{non_empty-some, place-eq, range_at}
-use Rattle.thorin_join.proofs.Files.RowsFound.{id-at}
+use Rattle.thorin_again.proofs.Meant.RowByRow.{at-seam, IsBelow, non_empty-some, range_at, IsUnitOf}
+use Rattle.thorin_again.proofs.Meant.RowByRow.{Laws, bytes-own}
+use Rattle.thorin_join.proofs.Files.RowsFound.{id-at, members}
 use Rattle.thorin_join.proofs.Parts.StringLists.{strings-are}
-use Rattle.thorin_join.proofs.Moved.Readings.{plain}
 use Rattle.thorin_join.proofs.Units.InRows.{pieces-same}
 use Rattle.dwp_base.proofs.Steps.{same-ok}
 use Rattle.dwp_base.proofs.Bools.{by-bool}
 use Rattle.thorin_join.proofs.Steps.{kept}
+use Rattle.dwp_base.specs.declared.endian.Endianness.{Endianness}
+use Rattle.dwp_bytes.specs.declared.encoding.Encoding.{Encoding}
+use Rattle.thorin_again.specs.OwnUnits.{AllOf}
+use Rattle.thorin_again.specs.OwnInput.{own_source}
+use Rattle.thorin_again.proofs.Opened.Indexes.{IsReadOf, rows-kept}
+use Rattle.dwp_elf.specs.FileText.{Object as File}
 
 -- ---- names
 
@@ -87,10 +92,6 @@ identity-by a b h type c = refl
 
 -- ---- rows
 
-get-seam : {X : Type 0} (xs ys : List X) (y : X) → slice_get (xs ++ y ∷ ys) (length xs) ≡ Some y
-get-seam [] ys y = refl
-get-seam (x ∷ xs) ys y = get-seam xs ys y
-
 -- where there is a row, there is an index
 some-index : (index : Option Index) (rows : List IndexEntry) (row : IndexEntry) (n : ℕ)
     → HasRows index rows → slice_get rows n ≡ Some row → (i : Index) × (index ≡ Some i)
@@ -108,15 +109,41 @@ inside-by : (bytes : List ℕ) (part : Option Contribution) → ((range : Contri
 inside-by bytes None h = refl
 inside-by bytes (Some range) h = ap not (le-leb _ _ (h range refl))
 
-module _ (first_law : FirstLaw) (find_law : FindLaw) (source : Source) (contents : Contents)
-    (strings : List (List ℕ)) (rows : List IndexEntry) (again : IsAgain source
-    contents strings rows)
-    (before later : List IndexEntry) (row : IndexEntry) (split : rows ≡ before ++ row ∷ later)
-    (unit : Meaning) (is : IsRowOf source.object.order contents strings row (row.id, unit))
-    (place : UnitSection) (offset : ℕ) (own : List ℕ)
-    (below : Below (kind_at place) offset before) (here : is_at place row ≡ true)
-    (range_is : contribution_to (kind_at place) row ≡ Some (range_at offset own))
-    (part : part_of (content_of (kind_at place) contents) (Some (range_at offset own)) ≡ own) where
+-- the unit of a row, and its encoding
+unit-of : (order : Endianness) (contents : Contents) (strings : List (List ℕ)) (encoding : Encoding)
+    (mean : IndexEntry → Meaning) (rows before later : List IndexEntry) (row : IndexEntry)
+    → rows ≡ before ++ row ∷ later → AreRowsOf order contents strings rows (members mean rows)
+    → AllOf encoding (members mean rows) → IsRowOf order contents strings row (row.id, mean row)
+    × (encoding ≡ (mean row).encoding)
+unit-of order contents strings encoding mean rows [] later row cut are all =
+    ((rw cut at are).0, sym ((rw cut at all) 0 (row.id, mean row) (omega arith)))
+unit-of order contents strings encoding mean rows (b ∷ bs) later row cut are all =
+    unit-of order contents strings encoding mean (bs ++ row ∷ later) bs later row refl
+    (rw cut at are).1 (λ k d within. (rw cut at all) (suc k) d (omega (arith, within)))
+
+-- a unit that is read of a written package
+module _ (laws : Laws) {encoding : Encoding} {file : File} {indexes : Indexes} {made : InProgress}
+    (read : IsReadOf encoding file indexes made) {place : UnitSection} {row : IndexEntry}
+    {later : List IndexEntry} {h : Header}
+    (u : IsUnitOf file.order file.contents place made.rows row later h) where
+  abbrev source : Source
+  source = own_source file encoding indexes
+
+  -- what was joined
+  abbrev mean : IndexEntry → Meaning
+  mean r = meaning_at made.file.order made.file.contents made.strings r
+
+  abbrev unit : Meaning
+  unit = mean row
+
+  joined : IsRowOf file.order file.contents made.strings row (row.id, unit)
+      × (encoding ≡ unit.encoding)
+  joined = unit-of file.order file.contents made.strings encoding mean made.rows u.before later
+      row u.split (rows-kept made file read.own.sound read.finished) read.own.all
+
+  pub row-lies : LieInside file.contents row
+  row-lies = joined.0.lie
+
   abbrev kind : SectionKind
   kind = kind_at place
 
@@ -124,33 +151,34 @@ module _ (first_law : FirstLaw) (find_law : FindLaw) (source : Source) (contents
   sort = is_compilation row.id
 
   abbrev range : Contribution
-  range = range_at offset own
+  range = range_at u.offset u.own
 
   -- the rows of its sort, and its number among them
   abbrev chosen : List IndexEntry
-  chosen = rows_of sort rows
+  chosen = rows_of sort made.rows
 
   abbrev number : ℕ
-  number = length (rows_of sort before)
+  number = length (rows_of sort u.before)
 
-  chosen-are : chosen ≡ rows_of sort before ++ row ∷ rows_of sort later
+  chosen-are : chosen ≡ rows_of sort u.before ++ row ∷ rows_of sort later
   chosen-are =
       let own_sort : is_chosen sort row ≡ true =
       by-bool _ (is_compilation row.id) (λ e. rw e e) (λ e. rw e (ap not e)) in
-      rw (split, filter-append (is_chosen sort) before (row ∷ later), own_sort) refl
+      ap (rows_of sort) u.split
+      ∙ rw (filter-append (is_chosen sort) u.before (row ∷ later), own_sort) refl
 
-  pub at : slice_get chosen number ≡ Some row
-  at = rw chosen-are (get-seam (rows_of sort before) (rows_of sort later) row)
+  at : slice_get chosen number ≡ Some row
+  at = rw chosen-are (at-seam (rows_of sort u.before) (rows_of sort later))
 
-  pub there : (i : Index) × (index_for source.indexes row.id ≡ Some i)
+  pub there : (i : Index) × (index_for indexes row.id ≡ Some i)
       × ((version : ℕ) × HasEntries version chosen i)
   there =
       let has = elim row.id as
-      (λ id. HasRows (index_for source.indexes id) (rows_of (is_compilation id) rows)) [
-        | Compilation id ↦ again.compilations
-        | TypeUnit signature ↦ again.types
+      (λ id. HasRows (index_for indexes id) (rows_of (is_compilation id) made.rows)) [
+        | Compilation id ↦ read.again.compilations
+        | TypeUnit signature ↦ read.again.types
       ] in
-      some-index (index_for source.indexes row.id) chosen row number has at
+      some-index (index_for indexes row.id) chosen row number has at
 
   abbrev index : Index
   index = there.0
@@ -160,7 +188,7 @@ module _ (first_law : FirstLaw) (find_law : FindLaw) (source : Source) (contents
 
   -- the row's part of a section
   pub found-range : (k : SectionKind) → range_in parts.row k ≡ contribution_to k row
-  found-range k = parts.parts k ∙ part-there (contribution_to k row) (is.lie.some k)
+  found-range k = parts.parts k ∙ part-there (contribution_to k row) (row-lies.some k)
 
   -- ---- its row by place
 
@@ -178,57 +206,57 @@ module _ (first_law : FirstLaw) (find_law : FindLaw) (source : Source) (contents
       let has_range = non_empty-some (contribution_to kind r) range
       (sym (ps.parts kind) ∙ ap (λ x. range_in x kind) (sym same) ∙ e) in
       let early = ap (λ rs. contribution_to kind (get_or rs l row)) chosen-are
-      ∙ ap (contribution_to kind) (get_or_append_left (rows_of sort before)
+      ∙ ap (contribution_to kind) (get_or_append_left (rows_of sort u.before)
       (row ∷ rows_of sort later) row l within) in
-      let low = All-filter (is_chosen sort) (IsBelow kind offset) before below l row within range
-      (sym early ∙ has_range) in
+      let low = All-filter (is_chosen sort) (IsBelow kind u.offset) u.before u.below l row within
+      range (sym early ∙ has_range) in
       omega arith
 
   row-first : row_by_place (Some index) kind range ≡ Some (number + 1)
-  row-first = first_law index kind range (number + 1) (record {
+  row-first = laws.first index kind range (number + 1) (record {
     row = parts.row;
     there = parts.there;
-    has = found-range kind ∙ range_is;
+    has = found-range kind ∙ u.range;
     low = omega arith;
     high = omega (arith, there.2.1.count, slice_get_within chosen number row at);
     first = none-before;
   })
 
-  by-place : row_by_place (index_for source.indexes row.id) kind range ≡ Some (number + 1)
+  by-place : row_by_place (index_for indexes row.id) kind range ≡ Some (number + 1)
   by-place = rw there.1 row-first
 
   -- ---- what belongs to it
 
   bytes-are : (k : SectionKind) → part_of (first k source.object.sections) (range_in parts.row k) ≡
-      part_of (content_of k contents) (contribution_to k row)
-  bytes-are k = ap₂ part_of (again.held k) (found-range k)
+      part_of (content_of k file.contents) (contribution_to k row)
+  bytes-are k = ap₂ part_of (read.again.held k) (found-range k)
 
   outside : (k : SectionKind) → is_outside (first k source.object.sections) (range_in parts.row k) ≡
       false
-  outside k = ap₂ is_outside (again.held k) (found-range k) ∙ inside-by (content_of k contents)
-      (contribution_to k row) (is.lie.inside k)
+  outside k = ap₂ is_outside (read.again.held k) (found-range k)
+      ∙ inside-by (content_of k file.contents) (contribution_to k row) (row-lies.inside k)
 
-  means : source.encoding ≡ unit.encoding → meaning_by source own (Some parts.row) ≡ Some unit
+  means : meaning_by source u.own (Some parts.row) ≡ Some unit
   unfolding meaning_by
-  means same_encoding =
-      let same : place ≡ is.owns.place = place-eq place (place_of row.id row.debug_types) here ∙ sym
-      is.owns.place_is in
-      let own_is = sym part ∙ ap (part_of (content_of kind contents)) (sym range_is) ∙ ap (λ p.
-      part_of (content_of (kind_at p) contents) (contribution_to (kind_at p) row)) same
-      ∙ is.owns.bytes in
+  means =
+      let is = joined.0 in
+      let own_is = sym (bytes-own u) ∙ ap (λ p. part_of (content_of (kind_at p) file.contents)
+      (contribution_to (kind_at p) row)) (sym is.owns.place_is) ∙ is.owns.bytes in
       let inside : lie_inside source (Some parts.row) ≡ true = λ i. is_none (find (λ k. outside k i)
       shared_kinds) in
       let strings_are =
-      (λ i. strings_of source.object.order (same_encoding i)
-      ((again.held kinds.Str ∙ again.strings_are) i) (bytes-are kinds.StrOffsets i))
-      ∙ strings-are source.object.order unit.encoding (data_of strings)
-      (part_of (content_of kinds.StrOffsets contents) (contribution_to kinds.StrOffsets row))
-      unit.strings (is.shares.string strings again.table (take-length strings)) in
-      rw inside (ap (meaning_with source own (Some parts.row)) strings_are ∙ (λ i. Some (record {
+      (λ i. strings_of file.order (joined.1 i)
+      ((read.again.held kinds.Str ∙ read.again.strings_are) i) (bytes-are kinds.StrOffsets i))
+      ∙ strings-are file.order unit.encoding (data_of made.strings)
+      (part_of (content_of kinds.StrOffsets file.contents) (contribution_to kinds.StrOffsets row))
+      unit.strings (is.shares.string made.strings read.again.table
+      (take-length made.strings)) in
+      rw inside (ap (meaning_with source u.own (Some parts.row)) strings_are
+      ∙ (λ i. Some (record {
         bytes = own_is i;
         pieces = pieces-same _ unit.pieces (λ k copied. bytes-are k ∙ is.shares.content k copied) i;
         strings = unit.strings;
-        encoding = same_encoding i;
+        encoding = joined.1 i;
       })))
 
   -- ---- the row of its identifier
@@ -236,19 +264,19 @@ module _ (first_law : FirstLaw) (find_law : FindLaw) (source : Source) (contents
   finds : (name : DwarfObject) → FindsExactly (entry_ids chosen) (identifier_of name)
       (found_row index.signatures index.rows (identifier_of name))
       (look_count index.signatures index.rows (identifier_of name))
-  finds name = find_law (entry_ids chosen) index.signatures index.rows
+  finds name = laws.find (entry_ids chosen) index.signatures index.rows
       (identifier_of name) there.2.1.slots
 
-  looked : looked_up (index_for source.indexes row.id) (identifier_of row.id) ≡ Some (number + 1)
+  looked : looked_up (index_for indexes row.id) (identifier_of row.id) ≡ Some (number + 1)
   looked = let id = id-at chosen number row at in
       rw there.1 ((finds row.id).present_row number id.0 id.1)
 
-  pub found-row : row_of (index_for source.indexes row.id) (identifier_of row.id) ≡ Ok parts.row
+  pub found-row : row_of (index_for indexes row.id) (identifier_of row.id) ≡ Ok parts.row
   unfolding row_of
   found-row = let number_is = rw there.1 at looked in rw (there.1, number_is, parts.there) refl
 
   -- what has that row has that identifier
-  same-id : (name : DwarfObject) → looked_up (index_for source.indexes row.id) (identifier_of name)
+  same-id : (name : DwarfObject) → looked_up (index_for indexes row.id) (identifier_of name)
       ≡ Some (number + 1) → identifier_of row.id ≡ identifier_of name
   same-id name found =
       let row_is = rw there.1 at found in
@@ -259,60 +287,49 @@ module _ (first_law : FirstLaw) (find_law : FindLaw) (source : Source) (contents
       let same : r ≡ number = omega arith in
       eqb-false _ _ other (sym (id-at chosen number row at).1 ∙ rw same at is_there))) ∙ row_is)))
 
-  module _ (h : Header) (whole : h.whole ≡ plain source.object.order offset own) where
-    own-range : own_range h ≡ range
-    own-range = ap (λ (i : Input). range_at i.place i.bytes) whole
+  own-range : own_range h ≡ range
+  own-range = ap (λ (i : Input). range_at i.place i.bytes) u.whole
 
-    -- the unit has the name of its row, and means what was joined
-    pub row-means-again : (name : DwarfObject) → source.encoding ≡ unit.encoding
-        → type_signature h.unit_type ≡ name_signature row.id → name_for source kind h ≡ Ok name
-        → (is_compilation name ≡ true → row_test source.indexes kind name h ≡ Ok tt)
-        → (name ≡ row.id)
-        × (unit_meaning source (name, record { from = kind; unit = h }) ≡ Some unit)
-    unfolding unit_meaning row_test
-    row-means-again name same_encoding agrees named tested =
-        let id = name-identity source kind h name named in
-        let is_name : name ≡ row.id = same-name source.indexes row.id name
-        (sym (identity-sort id.0 h name id.1) ∙ agrees) (λ c alike. same-id name (same-number _
-        (number + 1) (kept _ _ _ _ (rw (again.packed, alike, own-range, by-place) at
-        (tested c))).0))
-        in (
-          is_name,
-          rw (again.packed, is_name, own-range, there.1, row-first, parts.there, whole)
-              (means same_encoding),
-        )
+  -- the unit has the name of its row, and means what was joined
+  pub row-means-again : (name : DwarfObject) → name_for source kind h ≡ Ok name
+      → (is_compilation name ≡ true → row_test indexes kind name h ≡ Ok tt)
+      → (name ≡ row.id)
+      × (unit_meaning source (name, record { from = kind; unit = h }) ≡ Some unit)
+  unfolding unit_meaning row_test
+  row-means-again name named tested =
+      let id = name-identity source kind h name named in
+      let is_name : name ≡ row.id = same-name indexes row.id name
+      (sym (identity-sort id.0 h name id.1) ∙ u.sort) (λ c alike. same-id name (same-number _
+      (number + 1) (kept _ _ _ _ (rw (read.again.packed, alike, own-range, by-place) at
+      (tested c))).0))
+      in (
+        is_name,
+        rw (read.again.packed, is_name, own-range, there.1, row-first, parts.there)
+            (ap (λ (i : Input). meaning_by source i.bytes (Some parts.row)) u.whole ∙ means),
+      )
 
-    -- it passes the test of its row
-    pub row-tested : row_test source.indexes kind row.id h ≡ Ok tt
-    unfolding row_test
-    row-tested = rw (
-      again.packed,
-      own-range,
-      by-place,
-      looked,
-      eq-eqb (number + 1)
-          (number + 1) refl,
-    )
-        refl
+  -- it passes the test of its row
+  pub row-tested : row_test indexes kind row.id h ≡ Ok tt
+  unfolding row_test
+  row-tested = let same = eq-eqb (number + 1) (number + 1) refl in
+      rw (read.again.packed, own-range, by-place, looked, same) refl
 
-    abbrev abbreviations : List ℕ
-    abbreviations = part_of (content_of kinds.Abbrev contents) row.debug_abbrev
+  abbrev abbreviations : Input
+  abbreviations =
+      section file.order (part_of (content_of kinds.Abbrev file.contents) row.debug_abbrev)
 
-    -- it has the name of its row
-    pub named-again : type_signature h.unit_type ≡ name_signature row.id
-        → identity (section source.object.order abbreviations) h ≡ Ok (Some row.id)
-        → name_for source kind h ≡ Ok row.id
-    unfolding name_for abbreviations_for row_abbreviations numbered_abbreviations identity
-    named-again agrees named =
-        by-bool _ (is_compile h.unit_type)
-        (λ compiled. let same = compile-sort source.indexes h.unit_type row.id compiled agrees in
-        rw (again.packed, compiled, same, there.1, own-range, row-first, parts.there)
-        (rw (outside kinds.Abbrev, bytes-are kinds.Abbrev, named) refl))
-        (λ other. rw (
-          again.packed,
-          other,
-          identity-by
-              (section source.object.order (first kinds.Abbrev source.object.sections))
-              (section source.object.order abbreviations) h h.unit_type other,
-          named,
-        ) refl)
+  -- it has the name of its row
+  pub named-again : identity abbreviations h ≡ Ok (Some row.id) → name_for source kind h ≡ Ok row.id
+  unfolding name_for abbreviations_for row_abbreviations numbered_abbreviations identity
+  named-again named =
+      by-bool _ (is_compile h.unit_type)
+      (λ compiled. let same = compile-sort indexes h.unit_type row.id compiled u.sort in
+      rw (read.again.packed, compiled, same, there.1, own-range, row-first, parts.there)
+      (rw (outside kinds.Abbrev, bytes-are kinds.Abbrev, named) refl))
+      (λ other. rw (
+        read.again.packed,
+        other,
+        identity-by (section file.order (first kinds.Abbrev source.object.sections)) abbreviations
+            h h.unit_type other,
+        named,
+      ) refl)

@@ -1,31 +1,102 @@
--- A section of units of a written package is read as the units of its rows, one after another.
-use Rattle.std.proofs.Common.{◌≡◌, ◌∙◌, ℕ, zero, suc, ◌+◌, ◌-◌, ◌<◌, ◌≤◌, true, false, List, []}
-use Rattle.std.proofs.Common.{◌∷◌, ◌++◌, length, ap, sym, refl, subst, Result, Ok, Some, arith}
-use Rattle.std.proofs.Common.{length-append, append_assoc, ne_eqb}
+-- What the rows of a written package are for an input: the laws of looking for them, and which
+-- begin before a place. A section of units of such a package is read as the units of its rows, one
+-- after another.
+use Rattle.std.proofs.Common.{◌≡◌, ℕ, ◌<◌, true, false, nat_eq, List, length, refl, Option, Some}
+use Rattle.std.proofs.Common.{None, All, ◌∙◌, zero, suc, ◌+◌, ◌-◌, ◌≤◌, ◌∷◌, ◌++◌, ap, sym, subst}
+use Rattle.std.proofs.Common.{Result, Ok, arith, length-append, append_assoc, ne_eqb, []}
 use Rattle.std.proofs.lemmas.Option.{none-some, same_Some}
+use Rattle.dwp_base.specs.declared.section.Contribution.{Contribution}
+use Rattle.dwp_base.specs.declared.section.SectionKind.{SectionKind}
+use Rattle.dwp_base.specs.declared.section.SectionKind.TheVariants as kinds
+use Rattle.dwp_dwarf.specs.declared.unit.UnitSection.{UnitSection}
+use Rattle.dwp_dwarf.specs.declared.unit.UnitSection.TheVariants as places
+use Rattle.dwp_elf.specs.Contents.{content_of}
+use Rattle.dwp_index.specs.Index.{Index}
+use Rattle.dwp_table.specs.Probing.{found_row, look_count}
+use Rattle.dwp_table.specs.Table.{IsIndex, FindsExactly}
+use Rattle.thorin_packaged.specs.RowPlaces.{row_by_place, IsFirstWith}
+use Rattle.thorin_index.specs.Entries.{contribution_to}
+use Rattle.thorin_index.specs.ReadRows.{non_empty}
+use Rattle.thorin_index.specs.declared.entry.IndexEntry.{IndexEntry}
+use Rattle.thorin_strings.specs.Strings.{IsTable, data_of}
+use Rattle.thorin_join.specs.Builder.{rows_of}
+use Rattle.thorin_input.specs.Growing.{Contents}
+use Rattle.thorin_input.specs.Indexes.{Source, is_package}
+use Rattle.thorin_join.specs.Laid.{same_place, type_signature, name_signature, Lie, HaveOneRange}
+use Rattle.thorin_join.specs.Laid.{is_at, rows_at}
+use Rattle.thorin_input.specs.Used.{first}
+use Rattle.thorin_join.proofs.Files.Indexes.{HasRows, IndexIsRead, IndexHasEntries}
+use Rattle.dwp_base.proofs.Bools.{by-bool}
 use Rattle.std.proofs.lemmas.List.Elements.{All-nil, All-push, All-weaker}
 use Rattle.std.proofs.Math.Seq.{drop-append_seam, take-append_seam}
 use Rattle.dwp_base.specs.declared.endian.Endianness.{Endianness}
-use Rattle.dwp_base.specs.declared.section.Contribution.{Contribution}
-use Rattle.dwp_base.specs.declared.section.SectionKind.{SectionKind}
 use Rattle.dwp_bytes.specs.Input.{Input, section, after}
 use Rattle.dwp_bytes.specs.declared.error.ReadError.{ReadError}
 use Rattle.dwp_dwarf.specs.Units.{Unit as Header, UnitsAreTaken, unit_at, units_within, units}
-use Rattle.dwp_dwarf.specs.declared.unit.UnitSection.{UnitSection}
-use Rattle.dwp_elf.specs.Contents.{content_of}
-use Rattle.dwp_index.specs.Package.{part_of}
-use Rattle.thorin_index.specs.Entries.{contribution_to}
-use Rattle.thorin_index.specs.declared.entry.IndexEntry.{IndexEntry}
-use Rattle.thorin_input.specs.Growing.{Contents}
-use Rattle.thorin_join.specs.Laid.{type_signature, name_signature, Lie, HaveOneRange, is_at}
-use Rattle.thorin_join.specs.Laid.{rows_at}
-use Rattle.thorin_join.specs.State.{kind_at}
+use Rattle.dwp_index.specs.Package.{part_of, place_of}
+use Rattle.thorin_join.specs.State.{kind_at, unit_bytes}
 use Rattle.thorin_join.proofs.Moved.Readings.{plain}
 use Rattle.thorin_join.proofs.Moved.RootEntries.{IsShifted}
 use Rattle.thorin_join.proofs.Moved.Units.{unit-moves}
-use Rattle.dwp_base.proofs.Bools.{by-bool}
 use Rattle.thorin_join.proofs.Rows.Stay.{part-inside}
-use Rattle.thorin_again.proofs.Meant.RowPlaces.{IsBelow, Below, range_at}
+use Rattle.std.specs.Prelude.{slice_get}
+
+-- the laws of rows by place and of look-ups
+abbrev pub FirstLaw : Type 0
+FirstLaw = (index : Index) (kind : SectionKind) (range : Contribution) (number : ℕ)
+    → IsFirstWith index kind range number → row_by_place (Some index) kind range ≡ Some number
+
+abbrev pub FindLaw : Type 0
+FindLaw = (ids signatures rows : List ℕ) (x : ℕ) → IsIndex ids signatures rows → FindsExactly ids x
+    (found_row signatures rows x) (look_count signatures rows x)
+
+-- what is called upon for an input that was written
+pub record Laws : Type 0 where
+  pub taken : UnitsAreTaken
+  pub first : FirstLaw
+  pub find : FindLaw
+  pub read : IndexIsRead
+  pub entries : IndexHasEntries
+
+-- an input that was read of a written package of these rows
+pub record IsAgain (source : Source) (contents : Contents) (strings : List (List ℕ))
+    (rows : List IndexEntry) : Type 0 where
+  pub packed : is_package source.indexes ≡ true
+  pub held : (kind : SectionKind) → first kind source.object.sections ≡ content_of kind contents
+  pub strings_are : content_of kinds.Str contents ≡ data_of strings
+  pub table : IsTable strings
+  pub compilations : HasRows source.indexes.compilations (rows_of true rows)
+  pub types : HasRows source.indexes.types (rows_of false rows)
+
+-- where these bytes lie, which begin at this offset
+abbrev pub range_at : ℕ → List ℕ → Contribution
+range_at offset own = record { offset = record { 0 = offset }; size = length own }
+
+-- a row begins before this offset; each of these does
+abbrev pub IsBelow : SectionKind → ℕ → IndexEntry → Type 0
+IsBelow kind n row = (c : Contribution) → contribution_to kind row ≡ Some c → c.offset.0 < n
+
+abbrev pub Below : SectionKind → ℕ → List IndexEntry → Type 0
+Below kind n rows = All (IsBelow kind n) rows
+
+pub non_empty-some : (part : Option Contribution) (range : Contribution) → non_empty part ≡ Some
+    range → part ≡ Some range
+non_empty-some None range h = h
+non_empty-some (Some c) range h =
+    by-bool _ (nat_eq c.size 0) (λ e. absurd (none-some range (rw e at h))) (λ e. rw e at h)
+
+pub place-eq : (a b : UnitSection) → same_place a b ≡ true → a ≡ b
+place-eq places.Info places.Info h = refl
+place-eq places.Types places.Types h = refl
+place-eq a b h = absurd cc
+
+-- what there is at either place
+abbrev pub each-place : (P : UnitSection → Type 0) → P places.Info → P places.Types
+    → (place : UnitSection) → P place
+each-place P info types places.Info = info
+each-place P info types places.Types = types
+
+-- ---- units one after another
 
 -- the part in the middle
 pub part-middle : (pre own rest whole : List ℕ) (offset : ℕ) → whole ≡ pre ++ (own ++ rest)
@@ -46,10 +117,13 @@ one-read : (n : ℕ) (place : UnitSection) (i : Input) (u : Header) (rest : Inpu
 unfolding units_within
 one-read n place i u rest some h = rw (ne_eqb (length i.bytes) 0 (λ e. omega arith), h) refl
 
--- a unit that is read in a section is that of a row: its bytes are those at the row's range, and
--- read alone they give such a unit
+-- a unit that is read in a section is that of a row of these: its bytes are those at the row's
+-- range, and read alone they give such a unit
 pub record IsUnitOf (order : Endianness) (contents : Contents) (place : UnitSection)
-    (before : List IndexEntry) (row : IndexEntry) (unit : Header) : Type 0 where
+    (rows : List IndexEntry) (row : IndexEntry) (later : List IndexEntry)
+    (unit : Header) : Type 0 where
+  pub before : List IndexEntry
+  pub split : rows ≡ before ++ row ∷ later
   pub here : is_at place row ≡ true
   pub offset : ℕ
   pub own : List ℕ
@@ -63,6 +137,29 @@ pub record IsUnitOf (order : Endianness) (contents : Contents) (place : UnitSect
   pub read : unit_at place (section order own) ≡ Ok (alone, rest)
   pub shifted : IsShifted offset alone unit
 
+pub at-seam : {X : Type 0} (xs ys : List X) {y : X} → slice_get (xs ++ y ∷ ys) (length xs) ≡ Some y
+at-seam [] ys = refl
+at-seam (x ∷ xs) ys = at-seam xs ys
+
+module _ {order : Endianness} {contents : Contents} {place : UnitSection} {rows : List IndexEntry}
+    {row : IndexEntry} {later : List IndexEntry} {unit : Header}
+    (u : IsUnitOf order contents place rows row later unit) where
+  pub row-there : slice_get rows (length u.before) ≡ Some row
+  row-there = ap (λ l. slice_get l (length u.before)) u.split ∙ at-seam u.before later
+
+  pub place-is : place ≡ place_of row.id row.debug_types
+  place-is = place-eq place (place_of row.id row.debug_types) u.here
+
+  pub bytes-own : unit_bytes contents row ≡ u.own
+  bytes-own =
+      ap (λ p. part_of (content_of (kind_at p) contents) (contribution_to (kind_at p) row))
+      (sym place-is) ∙ ap (part_of (content_of (kind_at place) contents)) u.range ∙ u.part
+
+  -- it is read of its row's bytes alone
+  pub read-alone : unit_at (place_of row.id row.debug_types) (section order (unit_bytes contents
+      row)) ≡ Ok (u.alone, u.rest)
+  read-alone = (λ i. unit_at (sym place-is i) (section order (bytes-own i))) ∙ u.read
+
 -- what holds of the end of the rows, of rows behind one that stands elsewhere, and of rows behind
 -- one whose unit is read, holds of all rows and all that is read of the section
 module _ (taken : UnitsAreTaken) (order : Endianness) (contents : Contents) (place : UnitSection)
@@ -70,9 +167,9 @@ module _ (taken : UnitsAreTaken) (order : Endianness) (contents : Contents) (pla
     (none : P [] [])
     (passed : (r : IndexEntry) (rs : List IndexEntry) (reads : List (Result Header ReadError))
     → is_at place r ≡ false → P rs reads → P (r ∷ rs) reads)
-    (one : (before : List IndexEntry) (r : IndexEntry) (rs : List IndexEntry) (h : Header)
-    (reads : List (Result Header ReadError)) → rows ≡ before ++ r ∷ rs
-    → IsUnitOf order contents place before r h → P rs reads → P (r ∷ rs) (Ok h ∷ reads)) where
+    (one : (r : IndexEntry) (rs : List IndexEntry) (h : Header)
+    (reads : List (Result Header ReadError)) → IsUnitOf order contents place rows r rs h
+    → P rs reads → P (r ∷ rs) (Ok h ∷ reads)) where
   abbrev kind : SectionKind
   kind = kind_at place
 
@@ -108,8 +205,9 @@ module _ (taken : UnitsAreTaken) (order : Endianness) (contents : Contents) (pla
       subst (P (r ∷ rs)) (sym (ap (λ k. units_within k place (plain order offset bytes)) more
       ∙ one-read (n - 1) place (plain order offset bytes) moved.unit (plain order end head.rest)
       some read))
-      (one before r rs moved.unit (units_within (n - 1) place (plain order end head.rest)) split
-      (record {
+      (one r rs moved.unit (units_within (n - 1) place (plain order end head.rest)) (record {
+        before = before;
+        split = split;
         here = is;
         offset = offset;
         own = own;
@@ -121,12 +219,7 @@ module _ (taken : UnitsAreTaken) (order : Endianness) (contents : Contents) (pla
         alone = head.is.unit;
         rest = head.is.rest;
         read = head.is.read;
-        shifted = record {
-          type = sym moved.type;
-          encoding = sym moved.encoding;
-          offset = moved.offset;
-          entries = moved.entries;
-        };
+        shifted = assumption (sym moved.type, sym moved.encoding);
       }) (from (before ++ r ∷ []) rs (pre ++ own) head.rest end (n - 1) next once.1
       (All-push (IsBelow kind end) before r
       (All-weaker (IsBelow kind offset) (IsBelow kind end) (λ x h c e. let low =

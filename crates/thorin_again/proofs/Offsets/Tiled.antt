@@ -22,8 +22,8 @@ use Rattle.thorin_again.specs.Plain.{HasTiledOffsets}
 use Rattle.thorin_input.specs.Used.{Used, first}
 use Rattle.thorin_join.proofs.Parts.FirstUses.{no-entries, units-strings}
 use Rattle.thorin_join.proofs.Parts.OffsetRanges.{count-again, range-of}
-use Rattle.thorin_again.proofs.Offsets.RewrittenAgain.{Lead, entries-alike, leads-joined}
-use Rattle.thorin_again.proofs.Offsets.RewrittenAgain.{whole-remapped, no-turn, turn, grown}
+use Rattle.thorin_again.proofs.Offsets.RewrittenAgain.{Lead, entries-alike, leads-joined, no-turn}
+use Rattle.thorin_again.proofs.Offsets.RewrittenAgain.{whole-remapped, turn, grown}
 use Rattle.thorin_join.proofs.Parts.Appended.{each-part, joined_parts-more, joined_parts-other}
 use Rattle.thorin_join.proofs.Parts.Appended.{Rewritten, Adds, no-bytes}
 use Rattle.thorin_join.proofs.Parts.OffsetLaws.{NamesTheSameLaw}
@@ -39,14 +39,13 @@ use Rattle.dwp_base.specs.declared.section.Contribution.{Contribution}
 use Rattle.dwp_elf.specs.Contents.{content_of}
 use Rattle.thorin_index.specs.declared.entry.IndexEntry.{IndexEntry}
 use Rattle.thorin_join.specs.StandApart.{EachRow}
-use Rattle.thorin_join.specs.State.{InProgress, row_at, with_source}
-use Rattle.thorin_again.proofs.Kept.EachUnit.{each-added, each-unit}
-use Rattle.thorin_again.proofs.Kept.SharedParts.{PlainAdded, plain-added, parted, order-added}
-use Rattle.thorin_again.proofs.Kept.SharedParts.{content-added, RowHas, rows-share, once-more}
+use Rattle.thorin_join.specs.State.{InProgress, with_source}
+use Rattle.thorin_again.proofs.Kept.EachUnit.{each-added, each-unit, each-weaker, each-append}
+use Rattle.thorin_again.proofs.Kept.EachUnit.{PlainAdded, plain-added, parted, order-added, RowHas}
+use Rattle.thorin_again.proofs.Kept.EachUnit.{content-added, rows-share, once-more, row_with}
 use Rattle.thorin_join.proofs.Rows.OneAdded.{place-put, range_for, own-bytes}
 
--- ---- the part of string offsets that a plain object makes is whole
-
+-- the part of string offsets that a plain object makes is whole
 module _ (names : NamesTheSameLaw) (source : Source) (plain : is_package source.indexes ≡ false)
     (start : List (List ℕ)) where
   abbrev order : Endianness
@@ -93,18 +92,13 @@ module _ (names : NamesTheSameLaw) (source : Source) (plain : is_package source.
         | inl none ↦
             let count = ap (entry_count encoding) none.0 ∙ no-entries encoding in
             rw (← none.1) (inl (refl, count), ([], rw count refl))
-        | inr r ↦ (
-          inr (
-            (names order encoding section bytes (length bytes) strings written.0 written.1
-                table h).long (eqb-false (length bytes) 0 r.some),
-            r.header,
-            r.header_is,
-          ),
-          (
-            r.entries.0,
-            r.entries_are ∙ ap (λ (w : List ℕ × List (List ℕ)). Ok (r.entries.0, w.1)) r.is,
-          ),
-        )
+        | inr r ↦
+            let law = names order encoding section bytes (length bytes) strings written.0 written.1
+            table h in
+            let is = ap (λ (w : List ℕ × List (List ℕ)). Ok (r.entries.0, w.1)) r.is in (
+              inr (law.long (eqb-false (length bytes) 0 r.some), r.header, r.header_is),
+              (r.entries.0, r.entries_are ∙ is),
+            )
       ]
 
   -- before DWARF 5 there are the entries alone
@@ -138,20 +132,12 @@ module _ (names : NamesTheSameLaw) (source : Source) (plain : is_package source.
       (λ gnu.
       let old = leb-false 5 encoding.version gnu in
       let long = older-long old (length new) so_far.count so_far.fills in
-      let more = older-long old (length own) m one.0 in (
+      let more = older-long old (length own) m one.0 in
+      let both = add-mul so_far.count m width in
+      let size : length (new ++ own) ≡ header_size encoding + (so_far.count + m) * width =
+      omega (arith, long, more, no_header encoding old, both, length-append new own) in (
         so_far.count + m,
-        inr (
-          omega (
-            arith,
-            long,
-            more,
-            no_header encoding old,
-            add-mul so_far.count m width,
-            length-append new own,
-          ),
-          [],
-          rw (lt-ltb encoding.version 5 old) refl,
-        ),
+        inr (size, [], rw (lt-ltb encoding.version 5 old) refl),
         λ final table kept. leads-joined order encoding old (data_of final) new own so_far.count
             long m start before.1 strings (so_far.again final table
             (front-front before.1 strings final law.kept kept)) (alone final table kept),
@@ -242,18 +228,6 @@ module _ (names : NamesTheSameLaw) (source : Source) (plain : is_package source.
             )
       ])
 
--- ---- rows that are added
-
-pub row-append : (P : IndexEntry → Type 0) (rows : List IndexEntry) (row : IndexEntry)
-    → EachRow P rows → P row → EachRow P (rows ++ row ∷ [])
-row-append P [] row h own = (own, tt)
-row-append P (r ∷ rs) row h own = (h.0, row-append P rs row h.1 own)
-
-pub weaker : (P Q : IndexEntry → Type 0) → ((row : IndexEntry) → P row → Q row)
-    → (rows : List IndexEntry) → EachRow P rows → EachRow Q rows
-weaker P Q f [] h = tt
-weaker P Q f (r ∷ rs) h = (f r h.0, weaker P Q f rs h.1)
-
 -- what holds of one of a list, or of another
 abbrev Any : {X : Type 0} → (X → Type 0) → List X → Type 0
 Any P [] = ⊥
@@ -282,13 +256,7 @@ tile-append o e at [] end r h from whole = (from ∙ sym h, whole, ap (λ n. n +
 tile-append o e at (x ∷ rs) end r h from whole =
     (h.0, h.1, tile-append o e (at + x.size) rs end r h.2 from whole)
 
-gives-same : {o p : Endianness} {xs ys : List ℕ} {s t : List (List ℕ)} (encoding : Encoding)
-    (ranges : List Contribution) → p ≡ o → ys ≡ xs → t ≡ s → GiveStrings o encoding xs ranges s
-    → GiveStrings p encoding ys ranges t
-gives-same encoding ranges order bytes strings gives = rw (order, bytes, strings) gives
-
--- ---- a plain object that was added
-
+-- a plain object that was added
 module _ (names : NamesTheSameLaw) (source : Source) (before now : InProgress)
     (plain : is_package source.indexes ≡ false) (table : IsTable before.strings)
     (same : source.object.order ≡ before.file.order) (h : with_source source before ≡ Ok now)
@@ -321,29 +289,30 @@ module _ (names : NamesTheSameLaw) (source : Source) (before now : InProgress)
       → GiveStrings now_order source.encoding (old ++ joined) (tiled.ranges ++ ranges) a.after
       → HasTiledOffsets source.encoding now
   made-so ranges tile new named gives =
-      let q = parted source before now a in
+      let q = parted a in
       let all = tiled.ranges ++ ranges in
       let content : content_of StrOffsets now.file.contents ≡ old ++ joined =
-      content-added source before now a StrOffsets refl in
-      let order_is = order-added source before now a in
+      content-added a StrOffsets refl in
+      let order_is = order-added a in
       let strings_are : now.strings ≡ a.after =
       ap (λ (p : InProgress). p.strings) a.is ∙ units-strings q a.new.units in
       record {
         ranges = all;
         tile = rw (order_is, content, length-append old joined) tile;
         rows = rw a.is (each-added (λ p. EachRow (HasOneOf all) p.rows) (RowHas (HasOneOf all))
-            (λ p u has rows. row-append (HasOneOf all) p.rows (row_at u.1.row p.file.contents u.0
-            u.1.bytes u.1.place) rows (has p.file.contents)) q a.new.units
-            (rows-share source before now a plain StrOffsets refl (λ part. (r : Contribution)
+            (λ p u has rows. each-append (HasOneOf all) p.rows (row_with p.file.contents u ∷ [])
+            rows (has p.file.contents, tt)) q a.new.units
+            (rows-share a plain StrOffsets refl (λ part. (r : Contribution)
             → part ≡ Some r → IsAmong r all)
             (λ r e. any-right (λ x. r ≡ x) tiled.ranges ranges (new r e)))
-            (weaker (HasOneOf tiled.ranges) (HasOneOf all) (λ row has r e.
+            (each-weaker (HasOneOf tiled.ranges) (HasOneOf all) (λ row has r e.
             any-left (λ x. r ≡ x) tiled.ranges ranges (has r e)) before.rows tiled.rows));
         named = λ r h. ⊎_elim (λ k. rw a.is (each-unit (λ p. IsOfSome r p.rows) (λ p u so. any-left
             (λ (row : IndexEntry). row.debug_str_offsets ≡ Some r) p.rows
-            (row_at u.1.row p.file.contents u.0 u.1.bytes u.1.place ∷ []) so) q a.new.units
-            (tiled.named r k))) (named r) (any-either (λ x. r ≡ x) tiled.ranges ranges h);
-        strings = gives-same source.encoding all order_is content strings_are gives;
+            (row_with p.file.contents u ∷ []) so) q a.new.units (tiled.named r k))) (named r)
+            (any-either (λ x. r ≡ x) tiled.ranges ranges h);
+        strings = rw (order_is, content) (subst (GiveStrings now_order source.encoding (old ++
+            joined) all) (sym strings_are) gives);
       }
 
   pub tiled-kept : HasTiledOffsets source.encoding now
@@ -352,8 +321,8 @@ module _ (names : NamesTheSameLaw) (source : Source) (before now : InProgress)
         | inl none ↦
             made-so [] (rw (append-nil tiled.ranges, none.0, add-zero (length old)) tiled.tile)
             (λ r e. absurd (none-some r (rw none.0 at e))) (λ r h. absurd h)
-            (rw (append-nil tiled.ranges) (gives-same source.encoding tiled.ranges refl
-            (ap (λ l. old ++ l) (no-bytes joined none.0) ∙ append-nil old) none.1 tiled.strings))
+            (rw (append-nil tiled.ranges, none.1, no-bytes joined none.0, append-nil old)
+            tiled.strings)
         | inr whole ↦
             let is_whole = subst (λ o. IsWholeRange o source.encoding (length joined)) same
             whole.0 in
@@ -362,12 +331,11 @@ module _ (names : NamesTheSameLaw) (source : Source) (before now : InProgress)
             range tiled.tile refl is_whole)
             (λ r e. inl (same_Some r range (sym e ∙ put)))
             (λ r h. ⊎_elim (λ e. subst (λ x. IsOfSome x now.rows) (sym e)
-            (once-more source before now a more (λ p. IsOfSome range p.rows)
+            (once-more a more (λ p. IsOfSome range p.rows)
             (RowHas (λ row. row.debug_str_offsets ≡ Some range))
             (λ p u has. any-right (λ (row : IndexEntry). row.debug_str_offsets ≡ Some range) p.rows
-            (row_at u.1.row p.file.contents u.0 u.1.bytes u.1.place ∷ [])
-            (inl (has p.file.contents)))
-            (rows-share source before now a plain StrOffsets refl (λ part. part ≡ Some range) put)))
+            (row_with p.file.contents u ∷ []) (inl (has p.file.contents)))
+            (rows-share a plain StrOffsets refl (λ part. part ≡ Some range) put)))
             (λ k. absurd k) h)
             (λ final final_table front. let one = whole.1 final final_table front in
             grown now_order source.encoding (data_of final) old joined 0 0 (length old) tiled.ranges

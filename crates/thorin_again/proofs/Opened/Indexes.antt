@@ -1,23 +1,23 @@
 -- The indexes of a written package are taken, where its rows have the version of the input, and its
--- sections are in the format of its units.
-use Rattle.std.proofs.Common.{◌||◌, ◌≡◌, ◌∙◌, ℕ, ◌<◌, ◌^◌, Bool, true, false, leb, List, [], ◌∷◌}
-use Rattle.std.proofs.Common.{length, refl, ap, Ok, Option, Some, None, arith, not, ⊎_elim}
-use Rattle.std.proofs.Common.{slice_index, is_some, slice_get, All}
-use Rattle.std.proofs.lemmas.List.Elements.{All-filter}
+-- sections are in the format of its units. A written package of plain objects is read again: its
+-- indexes, and its string offsets.
+use Rattle.std.proofs.Common.{◌≡◌, ◌∙◌, ℕ, ◌<◌, ◌^◌, Bool, true, false, leb, List, ◌∷◌, length, ap}
+use Rattle.std.proofs.Common.{refl, Ok, Option, Some, None, arith, not, ⊎_elim, slice_index, All}
+use Rattle.std.proofs.Common.{is_some, slice_get, sym, subst, ◌||◌, [], inl, inr}
+use Rattle.std.proofs.lemmas.List.Elements.{All-filter, All-tail}
 use Rattle.std.proofs.Math.ListN.{get_or-map}
 use Rattle.dwp_table.specs.declared.object.DwarfObject.{DwarfObject}
-use Rattle.thorin_join.specs.Meaning.{Meaning}
-use Rattle.thorin_join.specs.Represents.{meaning_at, IsSound, units_of}
+use Rattle.thorin_join.specs.Meaning.{Meaning, Members}
+use Rattle.thorin_join.specs.Represents.{meaning_at, IsSound, units_of, AreRowsOf}
 use Rattle.std.proofs.lemmas.List.{length-map}
 use Rattle.std.proofs.Math.Dec.{eqb-suc-zero}
 use Rattle.dwp_base.specs.declared.endian.Endianness.{Endianness}
 use Rattle.dwp_base.specs.declared.endian.Endianness.TheVariants.{Little, Big}
 use Rattle.dwp_base.specs.declared.section.SectionKind.{SectionKind}
-use Rattle.dwp_base.specs.declared.section.SectionKind.TheVariants.{CuIndex, TuIndex}
 use Rattle.dwp_base.proofs.Bools.{by-bool}
 use Rattle.dwp_bytes.specs.Encoding.{index_version_of}
 use Rattle.dwp_bytes.specs.declared.encoding.Encoding.{Encoding}
-use Rattle.dwp_elf.specs.Contents.{KindsDiffer}
+use Rattle.dwp_elf.specs.Contents.{KindsDiffer, content_of}
 use Rattle.dwp_elf.specs.FileText.{Object as File, file_text}
 use Rattle.dwp_elf.specs.Written.{written_elf}
 use Rattle.dwp_index.specs.Index.{Index}
@@ -28,27 +28,51 @@ use Rattle.thorin_index.specs.EntryTests.{index_tests}
 use Rattle.thorin_index.proofs.Each.{have_passed, used_known}
 use Rattle.thorin_index.specs.IndexText.{IsIndexOf, entry_ids, used_sections, is_used}
 use Rattle.thorin_index.specs.ReadBack.{index_with}
-use Rattle.thorin_join.specs.Builder.{State, IdentifiersFit, IsFinished, rows_of, is_chosen}
-use Rattle.thorin_join.specs.Builder.{order_of, same_order, order_test, with_units, with_input}
+use Rattle.thorin_join.specs.Builder.{State, IsFinished, rows_of, is_chosen, order_of, same_order}
+use Rattle.thorin_join.specs.Builder.{order_test, with_units, with_input}
 use Rattle.thorin_input.specs.Indexes.{Indexes, is_package, index_in, version_test, indexes_of}
 use Rattle.thorin_input.specs.Names.{is_compilation}
-use Rattle.thorin_again.specs.OwnInput.{written_object, IsOwn, TakesUpToParts}
+use Rattle.thorin_again.specs.OwnInput.{written_object, IsOwn, TakesUpToParts, own_source}
 use Rattle.thorin_again.specs.OwnUnits.{AllOf}
-use Rattle.thorin_join.specs.State.{InProgress, kind_at}
+use Rattle.thorin_join.specs.State.{InProgress, kind_at, names_of}
 use Rattle.thorin_input.specs.Used.{first, counts_once}
 use Rattle.thorin_join.proofs.Files.Indexes.{IndexIsRead, IndexHasEntries, HasRows, chosen-fit}
 use Rattle.thorin_join.proofs.Files.Indexes.{no-bytes}
 use Rattle.thorin_again.proofs.Opened.Sections.{info-written, first-written, object-written}
 use Rattle.thorin_again.proofs.Opened.Sections.{opened-elf}
-use Rattle.thorin_join.proofs.Files.Finished.{Tested, tested-state, finished-order}
-use Rattle.thorin_join.proofs.Files.Finished.{finished-compilations, finished-types}
+use Rattle.thorin_join.proofs.Files.Finished.{Tested, tested-state, finished-order, finished-types}
+use Rattle.thorin_join.proofs.Files.Finished.{finished-compilations, finished-own, finished-grows}
+use Rattle.thorin_join.proofs.Files.Finished.{finished-strings}
 use Rattle.dwp_dwarf.specs.declared.unit.UnitSection.{UnitSection}
 use Rattle.dwp_table.specs.Columns.{column_of}
-use Rattle.thorin_join.specs.Laid.{Lie, is_at, rows_at}
-use Rattle.thorin_input.specs.Format.{is_in_format, is_of_units}
-use Rattle.thorin_again.proofs.Taken.RowsGiven.{used-chosen}
+use Rattle.thorin_join.specs.Laid.{Lie, is_at, rows_at, IsLaid}
+use Rattle.thorin_input.specs.Format.{is_in_format, is_of_units, is_shared}
 use Rattle.dwp_base.proofs.EveryKind.{same-each}
 use Rattle.std.proofs.lemmas.Bool.{or_left, or_right}
+use Rattle.std.proofs.lemmas.Option.{same_Some}
+use Rattle.thorin_again.specs.Plain.{IsPlain, IsWholeRange, IsOfSome, HasTiledOffsets}
+use Rattle.dwp_base.proofs.Steps.{same-ok}
+use Rattle.std.proofs.Math.Seq.{take-length}
+use Rattle.thorin_join.proofs.Rows.Stay.{keep-rows, part-inside}
+use Rattle.thorin_join.proofs.Units.NamesApart.{distinct_chosen}
+use Rattle.thorin_again.proofs.Meant.RowByRow.{IsAgain, each-place}
+use Rattle.thorin_again.proofs.Offsets.RewrittenAgain.{used-chosen, tile-lies, ranges-are}
+use Rattle.thorin_again.proofs.Offsets.RewrittenAgain.{CanRewrite, are-named, all-rewritten}
+use Rattle.thorin_again.proofs.Offsets.RewrittenAgain.{tile-tested}
+use Rattle.std.specs.Prelude.{slice_get}
+use Rattle.dwp_base.specs.declared.section.Contribution.{Contribution}
+use Rattle.dwp_base.specs.declared.section.SectionKind.TheVariants as kinds
+use Rattle.dwp_index.specs.Package.{part_of}
+use Rattle.dwp_index.specs.Strings.{string_in}
+use Rattle.thorin_strings.specs.Strings.{IsTable, data_of}
+use Rattle.thorin_input.specs.Growing.{Contents}
+use Rattle.thorin_again.specs.OwnRefusals.{UnlessStringOffset}
+use Rattle.thorin_input.specs.InputStrings.{rewritten}
+use Rattle.thorin_packaged.specs.PackagedOffsets.{packaged_offsets, rewritten_from}
+use Rattle.thorin_packaged.specs.PackagedReading.{range_bytes}
+use Rattle.thorin_join.proofs.Parts.FirstUses.{slice-long}
+use Rattle.thorin_join.proofs.Parts.Appended.{content-with_bytes}
+use Rattle.thorin_join.proofs.Parts.Strings.{rewritten-package}
 
 -- rows come from inputs of this version
 abbrev pub HaveVersion : ℕ → List IndexEntry → Type 0
@@ -65,11 +89,6 @@ pub record IndexTaken (order : Endianness) (rows : List IndexEntry) (bytes : Lis
   pub there : is_some index ≡ is_some (slice_get rows 0)
   pub has : IndexHasEntries → AreDistinct (entry_ids rows) → HasRows index rows
 
-pub none-taken : (order : Endianness) (kind : SectionKind) (bytes : List ℕ) → bytes ≡ []
-    → index_in order kind bytes ≡ Ok None
-unfolding index_in
-none-taken order kind bytes none = rw none refl
-
 some-taken : (order : Endianness) (kind : SectionKind) (bytes : List ℕ) (index : Index)
     → index_of order bytes ≡ Ok index → index_in order kind bytes ≡ Ok (Some index)
 unfolding index_in
@@ -79,9 +98,10 @@ some-taken order kind (b ∷ bs) index read = rw (eqb-suc-zero, read) refl
 index-taken : IndexIsRead → (order : Endianness) (rows : List IndexEntry) (bytes : List ℕ)
     → IsIndexOf order rows bytes → index_tests rows ≡ Ok tt
     → ((r : ℕ) → slice_index (entry_ids rows) r < 2 ^ 64) → IndexTaken order rows bytes
+unfolding index_in
 index-taken is_read order [] bytes text tested fit = record {
   index = None;
-  taken = λ kind. none-taken order kind bytes text;
+  taken = λ kind. rw text refl;
   fits = λ encoding kind have. refl;
   there = refl;
   has = λ law distinct. refl;
@@ -114,46 +134,9 @@ one-is-there [] some = absurd (some refl)
 one-is-there (row ∷ rows) some =
     by-bool _ (is_compilation row.id) (λ e. rw e refl) (λ e. rw e (or_right _ _ refl))
 
--- ---- the indexes of a finished package
+-- ---- the package of an own file
 
-module _ (is_read : IndexIsRead) (made : InProgress) (file : File) (sound : IsSound made)
-    (tests : Tested made) (fits : IdentifiersFit made.rows) (f : IsFinished made file)
-    (differ : KindsDiffer file.contents) where
-  pub compilations-taken : IndexTaken file.order (rows_of true made.rows)
-      (first CuIndex (written_object file).sections)
-  compilations-taken =
-      let same = finished-compilations made file f sound.units.no_compilations in
-      rw (finished-order made file f, first-written CuIndex file.contents differ, same)
-      (index-taken is_read made.file.order (rows_of true made.rows)
-      f.compilation_index f.compilations
-      tests.compilation_rows (chosen-fit true made.rows fits))
-
-  pub types-taken : IndexTaken file.order (rows_of false made.rows)
-      (first TuIndex (written_object file).sections)
-  types-taken =
-      let same = finished-types made file f sound.units.no_types in
-      rw (finished-order made file f, first-written TuIndex file.contents differ, same)
-      (index-taken is_read made.file.order (rows_of false made.rows) f.type_index f.types
-      tests.type_rows (chosen-fit false made.rows fits))
-
-  abbrev pub indexes-taken : Indexes
-  indexes-taken = record { compilations = compilations-taken.index; types = types-taken.index }
-
-  pub indexes-packed : (made.rows ≡ [] → ⊥) → is_package indexes-taken ≡ true
-  indexes-packed some =
-      rw (compilations-taken.there, types-taken.there) (one-is-there made.rows some)
-
-  indexes-read : (encoding : Encoding) → HaveVersion encoding.version made.rows
-      → indexes_of (written_object file) encoding ≡ Ok indexes-taken
-  unfolding indexes_of
-  indexes-read encoding have =
-      let c = compilations-taken.fits encoding CuIndex (version-chosen true _ made.rows have) in
-      let t = types-taken.fits encoding TuIndex (version-chosen false _ made.rows have) in
-      rw (compilations-taken.taken CuIndex, types-taken.taken TuIndex, c, t) refl
-
--- ---- up to the parts
-
--- what the package of an own file has
+-- what it has
 pub record OwnMade (encoding : Encoding) (made : InProgress) : Type 0 where
   pub sound : IsSound made
   pub tests : Tested made
@@ -161,43 +144,130 @@ pub record OwnMade (encoding : Encoding) (made : InProgress) : Type 0 where
   pub some : made.rows ≡ [] → ⊥
   pub version : HaveVersion encoding.version made.rows
 
-pub own-made : (state : State) (encoding : Encoding) (file : File)
-    → (own : IsOwn state encoding file) → OwnMade encoding own.finished.made
-own-made state encoding file own =
-    let made = own.finished.made in
-    let begun = own.finished.begun in
-    let all : AllOf encoding (units_of made) = rw begun at own.all in
-    let some : 0 < length (units_of made) = rw begun at own.some in
-    let mean = meaning_at made.file.order made.file.contents made.strings in
-    let unit : IndexEntry → DwarfObject × Meaning = λ row. (row.id, mean row) in
-    let long : length (units_of made) ≡ length made.rows = length-map made.rows unit in
-    record {
-      sound = rw begun at own.sound;
-      tests = tested-state state made begun own.tested;
-      all = all;
-      some = λ none. omega (arith, some, long, ap length none);
-      version = λ k d within. ap (λ (e : Encoding). e.version)
-          (rw (get_or-map unit made.rows k d) at
-          (all k (unit d) (omega (arith, within, long))));
-    }
+-- its rows are those of its units
+pub rows-kept : (made : InProgress) (file : File) → IsSound made → IsFinished made file
+    → AreRowsOf file.order file.contents made.strings made.rows (units_of made)
+rows-kept made file sound f =
+    rw (finished-order made file f) (keep-rows made.file.order made.file.contents file.contents
+    made.strings made.strings made.rows _ (finished-grows made file f) (take-length made.strings)
+    sound.units.rows)
 
+-- and they lie in turn
+pub lie-kept : (made : InProgress) (file : File) → IsLaid made → IsFinished made file
+    → (place : UnitSection) → Lie file.order place 0 (rows_at place made.rows)
+    (content_of (kind_at place) file.contents)
+lie-kept made file laid f place =
+    rw (finished-order made file f, finished-own made file f place) (each-place
+    (λ p. Lie made.file.order p 0 (rows_at p made.rows) (content_of (kind_at p) made.file.contents))
+    laid.info laid.types place)
+
+-- a finished package, read again of its file with these indexes
+pub record IsReadOf (encoding : Encoding) (file : File) (indexes : Indexes)
+    (made : InProgress) : Type 0 where
+  pub finished : IsFinished made file
+  pub kinds : KindsDiffer file.contents
+  pub own : OwnMade encoding made
+  pub again : IsAgain (own_source file encoding indexes) file.contents made.strings made.rows
+
+module _ {state : State} {encoding : Encoding} {file : File} (own : IsOwn state encoding file) where
+  abbrev made : InProgress
+  made = own.finished.made
+
+  abbrev f : IsFinished made file
+  f = own.finished.finished
+
+  pub own-made : OwnMade encoding made
+  own-made =
+      let begun = own.finished.begun in
+      let all : AllOf encoding (units_of made) = rw begun at own.all in
+      let some : 0 < length (units_of made) = rw begun at own.some in
+      let mean = meaning_at made.file.order made.file.contents made.strings in
+      let unit : IndexEntry → DwarfObject × Meaning = λ row. (row.id, mean row) in
+      let long : length (units_of made) ≡ length made.rows = length-map made.rows unit in
+      record {
+        sound = rw begun at own.sound;
+        tests = tested-state state made begun own.tested;
+        all = all;
+        some = λ none. omega (arith, some, long, ap length none);
+        version = λ k d within. ap (λ (e : Encoding). e.version)
+            (rw (get_or-map unit made.rows k d) at
+            (all k (unit d) (omega (arith, within, long))));
+      }
+
+  pub own-plain : {other : InProgress} → state.begun ≡ Some other → IsPlain encoding other
+      → IsPlain encoding made
+  own-plain {other} begun plain =
+      subst (IsPlain encoding) (same_Some other made (sym begun ∙ own.finished.begun)) plain
+
+  module _ (is_read : IndexIsRead) where
+    compilations-taken : IndexTaken file.order (rows_of true made.rows)
+        (first kinds.CuIndex (written_object file).sections)
+    compilations-taken =
+        let same = finished-compilations made file f own-made.sound.units.no_compilations in
+        subst (λ o. IndexTaken o (rows_of true made.rows) (first kinds.CuIndex (written_object
+        file).sections)) (sym (finished-order made file f))
+        (rw (first-written kinds.CuIndex file.contents own.kinds, same) (index-taken is_read
+        made.file.order (rows_of true made.rows) f.compilation_index f.compilations
+        own-made.tests.compilation_rows (chosen-fit true made.rows own.finished.identifiers)))
+
+    types-taken : IndexTaken file.order (rows_of false made.rows)
+        (first kinds.TuIndex (written_object file).sections)
+    types-taken =
+        let same = finished-types made file f own-made.sound.units.no_types in
+        subst (λ o. IndexTaken o (rows_of false made.rows) (first kinds.TuIndex (written_object
+        file).sections)) (sym (finished-order made file f))
+        (rw (first-written kinds.TuIndex file.contents own.kinds, same) (index-taken is_read
+        made.file.order (rows_of false made.rows) f.type_index f.types
+        own-made.tests.type_rows (chosen-fit false made.rows own.finished.identifiers)))
+
+    abbrev indexes-taken : Indexes
+    indexes-taken = record { compilations = compilations-taken.index; types = types-taken.index }
+
+    indexes-packed : is_package indexes-taken ≡ true
+    indexes-packed =
+        rw (compilations-taken.there, types-taken.there) (one-is-there made.rows own-made.some)
+
+    indexes-read : indexes_of (written_object file) encoding ≡ Ok indexes-taken
+    unfolding indexes_of
+    indexes-read =
+        let have = own-made.version in
+        let chosen = λ (b : Bool). version-chosen b _ made.rows have in
+        let c = compilations-taken.fits encoding kinds.CuIndex (chosen true) in
+        let t = types-taken.fits encoding kinds.TuIndex (chosen false) in
+        rw (compilations-taken.taken kinds.CuIndex, types-taken.taken kinds.TuIndex, c, t) refl
+
+    pub read-of : IndexHasEntries → (indexes : Indexes)
+        → indexes_of (written_object file) encoding ≡ Ok indexes
+        → IsReadOf encoding file indexes made
+    read-of has_entries indexes read =
+        let same : indexes ≡ indexes-taken = same-ok _ _ (sym read ∙ indexes-read) in
+        let units = own-made.sound.units in
+        let distinct = λ (b : Bool).
+        distinct_chosen b made.rows (names_of made) refl own-made.sound.apart in
+        let again : IsAgain (own_source file encoding indexes) file.contents made.strings
+        made.rows = rw same (assumption (
+          indexes-packed,
+          (λ (kind : SectionKind). first-written kind file.contents own.kinds),
+          finished-strings made file f units.no_strings,
+          compilations-taken.has has_entries (distinct true),
+          types-taken.has has_entries (distinct false),
+        )) in
+        assumption own-made
+
+-- an own file is taken up to its parts
 pub up-to-parts : IndexIsRead → (state : State) (encoding : Encoding) (file : File)
     → IsOwn state encoding file → (before : Option InProgress) → order_of before file.order ≡
     file.order → TakesUpToParts file encoding before
 unfolding with_input with_units order_test
 up-to-parts is_read state encoding file own before same =
-    let f = own.finished in
-    let m = own-made state encoding file own in
     let opens = opened-elf (file_text file) (written_elf file) own.read_back in
     let object = object-written file own.kinds in
     let order = elim file.order as (λ o. same_order o o ≡ true) [ Little ↦ refl | Big ↦ refl ] in
-    let read = indexes-read is_read f.made file m.sound m.tests f.identifiers f.finished own.kinds
-    encoding m.version in
+    let read = indexes-read own is_read in
     record {
       indexes = _;
       read = read;
-      finished = indexes-packed is_read f.made file m.sound m.tests f.identifiers f.finished
-          own.kinds m.some;
+      finished = indexes-packed own is_read;
       is = rw (opens, info-written file own.info, object, own.first, same, order, read) refl;
     }
 
@@ -234,3 +304,87 @@ lie-used order place offset (r ∷ rs) bytes lie some =
     by-bool _ (is_at place r)
     (λ here. let l = rw here at lie in rw l.0.range refl)
     (λ other. or_right _ _ (lie-used order place offset rs bytes (rw other at lie) some))
+
+-- the contents that units share stay when a package is finished
+pub finished-shared : (made : InProgress) (file : File) → IsFinished made file
+    → (kind : SectionKind) → is_shared kind ≡ true → content_of kind file.contents ≡ content_of kind
+    made.file.contents
+finished-shared made file f kinds.Str shared = absurd cc
+finished-shared made file f kinds.CuIndex shared = absurd cc
+finished-shared made file f kinds.TuIndex shared = absurd cc
+finished-shared made file f kind shared = ap (λ (o : File). content_of kind o.contents) f.contents
+    ∙ rw (content-with_bytes, content-with_bytes, content-with_bytes) refl
+
+-- ---- string offsets
+
+-- the range of some row can be rewritten
+module _ (order : Endianness) (encoding : Encoding) (c : Contents) (strings : List (List ℕ))
+    (table : IsTable strings) (range : Contribution)
+    (whole : IsWholeRange order encoding range.size) where
+  some-can : (rows : List IndexEntry) (ms : Members) → AreRowsOf order c strings rows ms
+      → AllOf encoding ms → IsOfSome range rows
+      → CanRewrite order encoding (data_of strings) (content_of kinds.StrOffsets c) range
+  some-can [] ms are all h = absurd h
+  some-can (row ∷ rows) [] are all h = absurd are
+  some-can (row ∷ rows) (m ∷ ms) are all (inl e) =
+      let bytes = content_of kinds.StrOffsets c in
+      let own = range_bytes bytes range in
+      let inside = are.0.lie.inside kinds.StrOffsets range e in
+      let own_is : own ≡ part_of bytes row.debug_str_offsets =
+      sym (ap (part_of bytes) e ∙ part-inside bytes range inside) in
+      let same = all 0 m (omega arith) in (
+        whole,
+        are-named order encoding (data_of strings) own range.size
+            (slice-long bytes range.offset.0 range.size inside) whole (slice_get m.1.strings) (λ k.
+            (λ i. string_in order (sym same i) (data_of strings) (own_is i) k)
+            ∙ are.0.shares.string strings table (take-length strings) k),
+      )
+  some-can (row ∷ rows) (m ∷ ms) are all (inr h) = some-can rows ms are.1
+      (All-tail (λ (u : DwarfObject × Meaning). u.1.encoding ≡ encoding) m ms all) h
+
+-- a package of plain objects, read again of its file
+module _ {encoding : Encoding} {file : File} {indexes : Indexes} {made : InProgress}
+    (is : IsReadOf encoding file indexes made) (plain : IsPlain encoding made) where
+  abbrev tiled : HasTiledOffsets encoding made
+  tiled = plain.offsets
+
+  -- its string offsets are rewritten range by range
+  offsets-are : (strings : List (List ℕ)) → rewritten (own_source file encoding indexes)
+      (content_of kinds.StrOffsets file.contents) strings
+      ≡ rewritten_from made.file.order encoding (data_of made.strings)
+      (content_of kinds.StrOffsets made.file.contents) 0 tiled.ranges strings
+  unfolding packaged_offsets
+  offsets-are strings =
+      let f = is.finished in
+      let again = is.again in
+      let size = length (content_of kinds.StrOffsets made.file.contents) in
+      rewritten-package (own_source file encoding indexes)
+      (content_of kinds.StrOffsets file.contents) strings again.packed
+      ∙ (λ i. packaged_offsets (finished-order made file f i) encoding indexes.compilations
+      indexes.types ((again.held kinds.Str ∙ again.strings_are) i)
+      (finished-shared made file f kinds.StrOffsets refl i) strings) ∙ rw (
+        ranges-are made.file.order encoding size tiled.ranges tiled.tile indexes.compilations
+            indexes.types made.rows again.compilations again.types tiled.rows tiled.named,
+        tile-tested made.file.order encoding size 0 size 0 tiled.ranges tiled.tile (omega arith)
+            (omega arith),
+      ) refl
+
+  -- unless an offset doesn't fit
+  pub own-offsets : (strings : List (List ℕ)) → UnlessStringOffset
+      (rewritten (own_source file encoding indexes) (content_of kinds.StrOffsets file.contents)
+      strings)
+  own-offsets strings =
+      let units = is.own.sound.units in
+      let bytes = content_of kinds.StrOffsets made.file.contents in
+      rw (offsets-are strings) (all-rewritten made.file.order encoding (data_of made.strings) bytes
+      0 tiled.ranges strings (λ r h. some-can made.file.order encoding made.file.contents
+      made.strings units.table r (tile-lies made.file.order encoding 0 (length bytes) tiled.ranges r
+      tiled.tile h).1 made.rows (units_of made) units.rows is.own.all (tiled.named r h)))
+
+  -- where there are no strings they are, with the package's strings
+  pub own-offsets-alone : (w : List ℕ × List (List ℕ)) × (rewritten
+      (own_source file encoding indexes) (content_of kinds.StrOffsets file.contents) [] ≡ Ok w)
+  own-offsets-alone =
+      let given = tiled.strings made.strings is.own.sound.units.table
+      (take-length made.strings) in
+      ((given.0, made.strings), offsets-are [] ∙ given.1)

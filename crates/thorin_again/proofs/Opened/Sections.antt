@@ -1,28 +1,30 @@
 -- A written file is opened as an input, its sections are taken, and what is not empty is there
--- under its name.
+-- under its name. The sections are taken as parts, or refused with an error of some sort, where
+-- string offsets are.
 use Rattle.std.proofs.Common.{◌≡◌, ◌∙◌, ℕ, ◌+◌, ◌≤◌, ◌||◌, Bool, true, false, cond, eqb, List, []}
-use Rattle.std.proofs.Common.{◌∷◌, ◌++◌, length, Ok, None, refl, sym, ap, arith, ◌<◌, true≢false}
-use Rattle.std.proofs.Common.{codes, bytes_eq}
+use Rattle.std.proofs.Common.{◌∷◌, ◌++◌, length, Ok, refl, sym, ap, arith, ◌<◌, true≢false, subst}
+use Rattle.std.proofs.Common.{bytes_eq, Result, Err, not}
 use Rattle.std.proofs.lemmas.Bool.{eqb-true, eqb-false, false_from_ne_true, or_left, or_right}
+use Rattle.std.proofs.lemmas.Bool.{cond-false}
 use Rattle.std.proofs.lemmas.List.{append_assoc, append-nil, nil_from_length}
 use Rattle.std.proofs.Math.Dec.{eqb-suc-zero}
 use Rattle.dwp_base.specs.declared.section.SectionKind.{SectionKind}
-use Rattle.dwp_base.specs.Sections.{name_of, same_kind, kind_named}
+use Rattle.dwp_base.specs.Sections.{name_of, same_kind}
 use Rattle.dwp_base.proofs.EveryKind.{not-older, same-self, kind-named, is-same, every}
 use Rattle.dwp_elf.specs.Contents.{count_of, KindsDiffer, content_of}
-use Rattle.dwp_elf.specs.FileText.{Object as File, name_table}
+use Rattle.dwp_elf.specs.FileText.{Object as File, name_table, file_text}
 use Rattle.dwp_elf.specs.Written.{plain_section, written_sections, written_elf}
 use Rattle.dwp_elf_read.specs.Elf.{Elf, elf_of, SectionMeaning, is_named}
 use Rattle.dwp_elf_read.specs.Identification.{kind_of, identity_of}
 use Rattle.dwp_elf_read.specs.declared.kind.FileKind.TheVariants.{Archive, Elf32, Elf64}
 use Rattle.dwp_index.specs.Contents as contents
 use Rattle.dwp_index.specs.Contents.{is_of_kind}
-use Rattle.thorin_errors.specs.Errors.{ParseObjectFile}
+use Rattle.thorin_errors.specs.Errors.{ParseObjectFile, ErrorValue}
 use Rattle.thorin_errors.specs.Answers.{as_error}
 use Rattle.thorin_input.specs.Growing.{Contents}
-use Rattle.thorin_again.specs.OwnInput.{written_used, written_object}
-use Rattle.thorin_input.specs.Used.{Used, elf_in, opened, used_kind, used_bytes, has_kind}
-use Rattle.thorin_input.specs.Used.{used_from, input_file_of, first, has_info, is_of, is_present}
+use Rattle.thorin_again.specs.OwnInput.{written_used, written_object, CanTake, TakesParts}
+use Rattle.thorin_input.specs.Used.{Used, elf_in, opened, used_kind, used_bytes, has_kind, first}
+use Rattle.thorin_input.specs.Used.{used_from, input_file_of, has_info, is_of, is_present}
 use Rattle.thorin_join.proofs.Files.Contents.{nothing}
 use Rattle.thorin_input.proofs.Walking.{found-any}
 use Rattle.dwp_base.proofs.Steps.{bind-was}
@@ -30,10 +32,18 @@ use Rattle.std.proofs.Math.Bool.{and-false, or-false}
 use Rattle.dwp_base.proofs.Bools.{by-bool}
 use Rattle.std.specs.List.{list_any}
 use Rattle.std.proofs.lemmas.List.Folds.{list_any-append}
-use Rattle.dwp_base.specs.declared.section.SectionKind.TheVariants.{Info}
+use Rattle.dwp_base.specs.declared.section.SectionKind.TheVariants.{Info, StrOffsets}
+use Rattle.thorin_again.specs.Again.{input_encoding}
+use Rattle.thorin_input.specs.Encodings.{encoding_of}
+use Rattle.dwp_base.specs.Reading.{◌>>=◌}
+use Rattle.thorin_input.specs.Indexes.{Source}
+use Rattle.thorin_input.specs.Format.{is_in_format, is_copied}
+use Rattle.thorin_input.specs.InputStrings.{rewritten}
+use Rattle.thorin_input.specs.Parts.{Parts, has_part, with_offsets, with_part, with_each_part}
+use Rattle.thorin_input.specs.Parts.{parts_of}
+use Rattle.dwp_dwarf.proofs.Readings.{bind-bind}
 
--- ---- the file is opened
-
+-- a written file is opened
 pub opened-elf : (bytes : List ℕ) (file : Elf) → elf_of bytes ≡ Ok file → opened bytes ≡ Ok file
 unfolding opened elf_of identity_of
 opened-elf bytes file h =
@@ -45,31 +55,11 @@ opened-elf bytes file h =
       | Elf64 ↦ λ e. ap (as_error ParseObjectFile) h
     ]) k.1)
 
--- ---- the sections of written contents
-
+-- a content as a section
 abbrev pub section_of : SectionKind × List ℕ → Used
 section_of c = record { kind = c.0; bytes = c.1; address = 0 }
 
-kind-plain : (n : ℕ) (name bytes : List ℕ) → used_kind (plain_section n 1 name bytes)
-    ≡ cond (eqb (length bytes) 0) None (kind_named name)
-unfolding used_kind is_of_kind
-kind-plain n name bytes = by-bool _ (eqb (length bytes) 0) (λ e. rw e refl) (λ e. rw e refl)
-
-names-none : (n : ℕ) (bytes : List ℕ)
-    → used_kind (plain_section n 3 (codes ".shstrtab") bytes) ≡ None
-unfolding used_kind is_of_kind
-names-none n bytes = by-bool _ (eqb (length bytes) 0) (λ e. rw e refl) (λ e. rw e refl)
-
 -- ---- no kind that was seen comes again
-
-pub fewer : (b : Bool) (n : ℕ) → cond b 1 0 + n ≡ 0 → n ≡ 0
-fewer b n h = omega (arith, h)
-
-pub last-counts : (b : Bool) (n : ℕ) → b ≡ true → cond b 1 0 + n ≤ 1 → n ≡ 0
-last-counts b n e h = let one = rw e at h in omega (arith, one)
-
-pub one-there : (b : Bool) (n : ℕ) → b ≡ true → cond b 1 0 + n ≡ 0 → ⊥
-one-there b n e h = let one = rw e at h in omega (arith, one)
 
 pub rest-differ : (c : SectionKind × List ℕ) (cs : Contents) → KindsDiffer (c ∷ cs) → KindsDiffer cs
 rest-differ c cs h kind = let all = h kind in omega arith
@@ -78,7 +68,7 @@ rest-differ c cs h kind = let all = h kind in omega arith
 pub none-behind : (kind : SectionKind) (c : SectionKind × List ℕ) (cs : Contents)
     → KindsDiffer (c ∷ cs) → same_kind c.0 kind ≡ true → content_of kind cs ≡ []
 none-behind kind c cs differ same =
-    nothing kind cs (last-counts (same_kind c.0 kind) (count_of kind cs) same (differ kind))
+    let one = rw same at (differ kind) in nothing kind cs (omega (arith, one))
 
 -- a content without bytes counts as none
 pub empty-first : (kind k : SectionKind) (cs : Contents) → KindsDiffer ((k, []) ∷ cs)
@@ -125,14 +115,15 @@ Seen used kind = list_any (has_kind kind) used
 
 used-written : (n : ℕ) (names : List ℕ) (cs : Contents) (used : List Used) → Fresh (Seen used) cs
     → used_from used (written_sections n names cs) ≡ Ok (used ++ written_used cs)
-unfolding used_from used_bytes contents.used_bytes
-used-written n names [] used fresh = rw (names-none n names, append-nil) refl
+unfolding used_from used_bytes contents.used_bytes used_kind is_of_kind
+used-written n names [] used fresh = by-bool _ (eqb (length names) 0)
+    (λ none. rw (none, append-nil) refl) (λ some. rw (some, append-nil) refl)
 used-written n names (c ∷ cs) used fresh =
     by-bool _ (eqb (length c.1) 0)
-    (λ none. rw (kind-plain n (name_of c.0) c.1, none)
+    (λ none. rw none
     (used-written (n + 1) names cs used (fresh-rest (Seen used) c cs fresh)))
     (λ some. let new = found-any (has_kind c.0) used ∙ not-seen (Seen used) c cs fresh in
-    rw (kind-plain n (name_of c.0) c.1, some, kind-named c.0, new, and-false, not-older c.0)
+    rw (some, kind-named c.0, new, and-false, not-older c.0)
     (used-written (n + 1) names cs (used ++ section_of c ∷ [])
     (fresh-more has_kind used (section_of c) c cs (λ kind. refl) fresh)
     ∙ ap Ok (append_assoc used (section_of c ∷ []) (written_used cs))))
@@ -145,7 +136,14 @@ object-written file differ =
     rw (used-written 1 (name_table file.contents) file.contents []
     (λ kind. let d = differ kind in omega arith)) refl
 
--- ---- what is there
+-- the encoding of the written bytes is that of the file as an input
+pub input-encoding : (file : File) → KindsDiffer file.contents
+    → elf_of (file_text file) ≡ Ok (written_elf file)
+    → input_encoding (file_text file) ≡ encoding_of (written_object file)
+unfolding input_encoding
+input-encoding file differ back =
+    let opens = opened-elf (file_text file) (written_elf file) back in
+    rw (opens, object-written file differ) refl
 
 -- the first section of a kind is the content of that kind
 pub first-written : (kind : SectionKind) (cs : Contents) → KindsDiffer cs
@@ -196,3 +194,121 @@ no-info o h =
     (λ none. nil_from_length _ (eqb-true _ 0 none))
     (λ some. let there = eqb-false _ 0 some in
     absurd (true≢false (sym (info-written o (omega arith)) ∙ h)))
+
+-- an answer of which something holds, or an error of some sort
+abbrev pub Fares : {X : Type 0} → (ErrorValue → Type 0) → (X → Type 0) → Result X ErrorValue
+    → Type 0
+Fares E P (Ok x) = P x
+Fares E P (Err e) = E e
+
+-- a step, and then another
+pub then-fares : {X Y : Type 0} (E : ErrorValue → Type 0) (P : X → Type 0) (Q : Y → Type 0)
+    (r : Result X ErrorValue) (f : X → Result Y ErrorValue) → Fares E P r
+    → ((x : X) → P x → Fares E Q (f x)) → Fares E Q (r >>= f)
+then-fares E P Q (Ok x) f h k = k x h
+then-fares E P Q (Err e) f h k = h
+
+-- an answer, or an error of some sort
+abbrev pub Unless : (ErrorValue → Type 0) → {X : Type 0} → Result X ErrorValue → Type 0
+Unless E (Ok x) = Unit {0}
+Unless E (Err e) = E e
+
+-- a step, and then another
+pub and-then : (E : ErrorValue → Type 0) {X Y : Type 0} (r : Result X ErrorValue)
+    (f : X → Result Y ErrorValue) → Unless E r → ((x : X) → r ≡ Ok x → Unless E (f x))
+    → Unless E (r >>= f)
+and-then E (Ok x) f h k = k x refl
+and-then E (Err e) f h k = h
+
+-- where no error is of that sort, there is an answer
+pub answered : {X : Type 0} (r : Result X ErrorValue) → Unless (λ e. ⊥) r → (x : X) × (r ≡ Ok x)
+answered (Ok x) h = (x, refl)
+answered (Err e) h = absurd h
+
+-- a content behind the first is that of its kind in the whole
+pub behind : (kind : SectionKind) (c : SectionKind × List ℕ) (cs : Contents) → KindsDiffer (c ∷ cs)
+    → 0 < length (content_of kind cs) → content_of kind (c ∷ cs) ≡ content_of kind cs
+behind kind c cs differ some =
+    by-bool _ (same_kind c.0 kind)
+    (λ same. absurd (omega (arith, ap length (none-behind kind c cs differ same))))
+    (λ other. rw other refl)
+
+pub front : (c : SectionKind × List ℕ) (cs : Contents) → content_of c.0 (c ∷ cs) ≡ c.1
+front c cs = rw (same-self c.0) refl
+
+-- ---- the sections are taken, or refused with an error of some sort
+
+module _ (E : ErrorValue → Type 0) (source : Source) where
+  -- what taking them asks
+  pub record CanTry (cs : Contents) (strings : List (List ℕ)) : Type 0 where
+    pub format : (kind : SectionKind) → 0 < length (content_of kind cs)
+        → is_in_format source.encoding kind ≡ true
+    pub offsets : 0 < length (content_of StrOffsets cs) → (source.object.has_strings ≡ true)
+        × Unless E (rewritten source (content_of StrOffsets cs) strings)
+
+  -- the strings change with the string offsets alone
+  can-rest : (c : SectionKind × List ℕ) (cs : Contents) (strings now : List (List ℕ))
+      → KindsDiffer (c ∷ cs) → (0 < length (content_of StrOffsets cs) → strings ≡ now)
+      → CanTry (c ∷ cs) strings → CanTry cs now
+  can-rest c cs strings now differ same can = record {
+    format = λ kind some. can.format kind (rw (behind kind c cs differ some) some);
+    offsets = λ some. let is = behind StrOffsets c cs differ some in
+        rw (← same some, ← is) (can.offsets (rw is some));
+  }
+
+  abbrev Had : Parts → SectionKind → Bool
+  Had before kind = has_part kind before.0
+
+  parts-tried : (cs : Contents) (before : Parts) → Fresh (Had before) cs
+      → CanTry cs before.1 → Unless E (with_each_part source before (written_used cs))
+  unfolding with_each_part with_part with_offsets
+  parts-tried [] before fresh can = tt
+  parts-tried ((kind, []) ∷ cs) before fresh can = parts-tried cs before
+      (fresh-rest (Had before) (kind, []) cs fresh) (can-rest (kind, []) cs before.1 before.1
+      (fresh-differ (Had before) ((kind, []) ∷ cs) fresh) (λ s. refl) can)
+  parts-tried ((kind, b ∷ bs) ∷ cs) before fresh can =
+      let bytes = b ∷ bs in
+      let c : SectionKind × List ℕ = (kind, b ∷ bs) in
+      let differ = fresh-differ (Had before) (c ∷ cs) fresh in
+      let rest = fresh-rest (Had before) c cs fresh in
+      let same-strings = can-rest c cs before.1 before.1 differ (λ s. refl) can in
+      let more = λ (put : List ℕ) (k : SectionKind) (is : kind ≡ k).
+      fresh-more (λ j (part : SectionKind × List ℕ). same_kind part.0 j) before.0 (k, put) c cs
+      (λ j. ap (λ l. same_kind l j) (sym is)) fresh in
+      let fits = can.format kind (rw (front c cs) (omega arith)) in
+      rw (eqb-suc-zero, not-seen (Had before) c cs fresh, and-false, fits)
+      (by-bool _ (same_kind kind StrOffsets)
+      (λ same.
+      let had = (rw same at can.offsets) (omega arith) in
+      let offsets : with_offsets source before bytes ≡ (rewritten source bytes before.1 >>= λ w.
+      Ok (before.0 ++ (StrOffsets, w.0) ∷ [], w.1)) = cond-false _ _ _ (ap not had.0) in
+      rw (same, offsets, bind-bind)
+      (and-then E (rewritten source bytes before.1) _ had.1
+      (λ w is. parts-tried cs (before.0 ++ (StrOffsets, w.0) ∷ [], w.1)
+      (more w.0 StrOffsets (is-same kind StrOffsets same))
+      (can-rest c cs before.1 w.1 differ (λ s. let no =
+      ap length (none-behind StrOffsets c cs differ
+      same) in absurd (omega arith)) can))))
+      (λ other. by-bool _ (is_copied kind)
+      (λ copied. rw (copied, other) (parts-tried cs (before.0 ++ c ∷ [], before.1)
+      (more bytes kind refl) same-strings))
+      (λ apart. rw (apart, other) (parts-tried cs before rest same-strings))))
+
+  -- those of an input that has the sections of written contents
+  pub own-parts-tried : (contents : Contents) (strings : List (List ℕ))
+      → source.object.sections ≡ written_used contents → KindsDiffer contents
+      → CanTry contents strings → Unless E (parts_of source strings)
+  own-parts-tried contents strings are differ can =
+      subst (λ l. Unless E (with_each_part source ([], strings) l)) (sym are)
+      (parts-tried contents ([], strings) (λ kind. let d = differ kind in omega arith) can)
+
+-- the parts of a written package are taken
+pub own-parts : (source : Source) (contents : Contents) (strings : List (List ℕ))
+    → source.object.sections ≡ written_used contents → KindsDiffer contents
+    → CanTake source contents strings → TakesParts source strings
+own-parts source contents strings are differ can =
+    answered (parts_of source strings) (own-parts-tried (λ e. ⊥) source contents strings are differ
+    (record {
+      format = can.format;
+      offsets = λ some. (can.has some, rw (can.written some).1 tt);
+    }))

@@ -1,4 +1,4 @@
-use Rattle.thorin_again.proofs.Lists.Held.{inputs-hold}
+use Rattle.thorin_again.proofs.Lists.InOrder.{inputs-hold}
 use Rattle.thorin_again.proofs.inputs.packages_that_pack_again_are_accepted.Goals as goal
 
 pub returns-clause-accepted : goal.returns-clause-accepted

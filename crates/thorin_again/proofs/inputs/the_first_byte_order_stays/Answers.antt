@@ -1,4 +1,4 @@
-use Rattle.thorin_again.proofs.Lists.StringsWhole.{taken-order}
+use Rattle.thorin_again.proofs.Lists.OneEncoding.{taken-order}
 use Rattle.thorin_again.proofs.inputs.the_first_byte_order_stays.Goals as goal
 
 pub returns : goal.returns

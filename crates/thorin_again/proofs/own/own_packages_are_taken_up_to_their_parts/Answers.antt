@@ -1,5 +1,5 @@
 use Rattle.thorin_again.proofs.Opened.Indexes.{up-to-parts}
-use Rattle.thorin_again.proofs.Opened.Parts.{own-parts}
+use Rattle.thorin_again.proofs.Opened.Sections.{own-parts}
 use Rattle.thorin_again.proofs.own.own_packages_are_taken_up_to_their_parts.Goals as goal
 
 pub returns-clause-tests : goal.returns-clause-tests

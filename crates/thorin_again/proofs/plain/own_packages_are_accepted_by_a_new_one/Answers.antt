@@ -3,10 +3,7 @@ use Rattle.thorin_again.proofs.plain.own_packages_are_accepted_by_a_new_one.Goal
 
 pub returns : goal.returns
 returns c state file sound holds plain tested finished packs differ back = own-by-new
-    c.rewritten_offsets_name_the_same.ensures c.packaged_rows_are_read_alike.ensures
-    c.units_have_all_bytes.ensures.taken c.every_row_is_found_by_place.ensures.first
-    c.look_up_finds_exactly.ensures.exact c.written_index_is_read.ensures
-    c.written_index_has_the_entries.ensures state file sound holds plain tested
-    finished packs differ
-    back c.inputs_are_joined.ensures.sound c.inputs_are_joined.ensures.joins
+    c.rewritten_offsets_name_the_same.ensures c.packaged_rows_are_read_alike.ensures (assumption)
+    state file sound holds plain tested finished packs differ back
+    c.inputs_are_joined.ensures.sound c.inputs_are_joined.ensures.joins
     c.written_packages_mean_their_units.ensures c.finished_packages_are_read.ensures

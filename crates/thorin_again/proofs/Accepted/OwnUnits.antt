@@ -1,0 +1,427 @@
+-- The units of a written package of plain objects are taken as those of an input, and each gets a
+-- row: by a package without units all of them, since no name comes twice; by any other unless a
+-- compilation unit is there already.
+use Rattle.std.proofs.Common.{◌≡◌, ◌∙◌, ℕ, ◌+◌, ◌<◌, ◌≤◌, Bool, true, false, ⊎_elim, List, [], ◌∷◌}
+use Rattle.std.proofs.Common.{length, refl, sym, ap, Result, Ok, Option, Some, None, arith, ◌≢◌}
+use Rattle.std.proofs.Common.{true≢false, ◌++◌, map, ◌⊎◌, eqb, subst, length-append, ◌||◌}
+use Rattle.std.specs.Prelude.{is_some, slice_get}
+use Rattle.std.proofs.lemmas.Bool.{le-leb, cases_lt, eqb-false}
+use Rattle.dwp_base.specs.Reading.{read_each, ◌>>=◌}
+use Rattle.dwp_base.specs.Sections.{all_kinds}
+use Rattle.dwp_base.proofs.Bools.{by-bool, neither}
+use Rattle.dwp_base.specs.declared.section.Contribution.{Contribution}
+use Rattle.dwp_base.specs.declared.section.SectionKind.{SectionKind}
+use Rattle.dwp_elf.specs.Contents.{content_of, count_of, KindsDiffer}
+use Rattle.dwp_index.specs.Index.{Index, Ranges, range_in, column_place}
+use Rattle.dwp_table.specs.Objects.{identifier_of}
+use Rattle.dwp_table.specs.declared.object.DwarfObject.{DwarfObject}
+use Rattle.dwp_table.specs.declared.object.DwarfObject.TheVariants.{Compilation, TypeUnit}
+use Rattle.thorin_errors.specs.Errors.{ErrorValue, DuplicateUnit}
+use Rattle.thorin_input.specs.Adjusting.{Adjustor, own_index, other_index, row_of, has_column_for}
+use Rattle.thorin_input.specs.Adjusting.{moved, moved_range, without_column, adjusted}
+use Rattle.thorin_index.specs.Entries.{contribution_to}
+use Rattle.thorin_index.specs.IndexText.{is_used}
+use Rattle.thorin_index.specs.declared.entry.IndexEntry.{IndexEntry}
+use Rattle.thorin_join.specs.Builder.{rows_of}
+use Rattle.thorin_input.specs.Growing.{Contents, range_put, joined_parts}
+use Rattle.thorin_input.specs.Indexes.{Indexes, Source}
+use Rattle.thorin_input.specs.Format.{is_shared}
+use Rattle.thorin_join.specs.Represents.{LieInside, AreApart}
+use Rattle.thorin_input.specs.Rows.{adjusted_part, unit_part, unit_row, row_test}
+use Rattle.thorin_join.specs.StandApart.{EachRow}
+use Rattle.thorin_join.proofs.Files.Indexes.{HasRows}
+use Rattle.thorin_join.proofs.Rows.OfUnits.{own-index, some-index, whole-part}
+use Rattle.thorin_join.proofs.Files.UnitsFound.{part-there}
+use Rattle.thorin_join.proofs.Rows.Ranges.{range-none}
+use Rattle.thorin_join.proofs.Rows.OneAdded.{place-put}
+use Rattle.thorin_again.proofs.Offsets.RewrittenAgain.{each-chosen, at-row, by-passing, used-chosen}
+use Rattle.thorin_again.proofs.Opened.Sections.{Unless, and-then, answered, behind, front, Fares}
+use Rattle.thorin_again.proofs.Opened.Sections.{then-fares, rest-differ, section_of}
+use Rattle.std.specs.Map.{lookup}
+use Rattle.std.proofs.lemmas.List.{length-map}
+use Rattle.std.proofs.lemmas.Option.{none-some, slice_get_within, same_Some, get_or_from_slice_get}
+use Rattle.thorin_input.specs.Names.{same_name}
+use Rattle.thorin_input.specs.NewUnits.{New, NewUnit, Adding, Met, is_met, with_met, kept_bytes}
+use Rattle.thorin_input.specs.NewUnits.{place_for, name_for, with_read, with_each_read, with_first}
+use Rattle.thorin_input.specs.NewUnits.{with_unit, unit_section, none_met, once_test, with_section}
+use Rattle.thorin_input.specs.NewUnits.{with_section_at, with_section_in, with_each_section}
+use Rattle.thorin_input.specs.NewUnits.{new_units}
+use Rattle.thorin_join.proofs.Units.NamesApart.{same_name-sym}
+use Rattle.dwp_bytes.specs.declared.encoding.Encoding.{Encoding}
+use Rattle.dwp_elf.specs.FileText.{Object as File}
+use Rattle.dwp_dwarf.specs.declared.unit.UnitSection.{UnitSection}
+use Rattle.thorin_again.specs.Plain.{IsPlain, NamesItself}
+use Rattle.dwp_dwarf.specs.Units.{Unit as Header, units}
+use Rattle.thorin_join.proofs.Rows.StandApart.{sound-inside}
+use Rattle.thorin_join.proofs.Files.Finished.{finished-grows, finished-order}
+use Rattle.thorin_again.proofs.Meant.RowByRow.{IsUnitOf, Laws, of-section, each-place, row-there}
+use Rattle.thorin_again.proofs.Meant.RowByRow.{place-is, read-alone, place-eq}
+use Rattle.thorin_again.proofs.Opened.Indexes.{finished-shared, IsReadOf, lie-kept}
+use Rattle.thorin_again.proofs.Meant.OneRow.{parts, row-lies, found-range, found-row, row-tested}
+use Rattle.thorin_again.proofs.Meant.OneRow.{named-again}
+use Rattle.thorin_join.specs.State.{InProgress, kind_at, adding}
+use Rattle.dwp_base.specs.declared.section.SectionKind.TheVariants as kinds
+use Rattle.dwp_bytes.specs.Input.{section}
+use Rattle.dwp_bytes.specs.declared.error.ReadError.{ReadError}
+use Rattle.dwp_dwarf.specs.declared.unit.UnitSection.TheVariants as places
+use Rattle.dwp_index.specs.Package.{place_of}
+use Rattle.thorin_input.specs.Parts.{parts_of}
+use Rattle.thorin_input.specs.Used.{Used}
+use Rattle.thorin_strings.specs.Strings.{IsTable}
+use Rattle.thorin_join.specs.Laid.{is_at, same_place}
+use Rattle.thorin_join.proofs.Moved.RootEntries.{identity-shifted}
+use Rattle.thorin_join.proofs.Parts.OffsetLaws.{NamesTheSameLaw, PackagedLaw}
+use Rattle.thorin_again.specs.OwnInput.{own_source, written_used}
+use Rattle.thorin_again.proofs.Kept.Names.{keep-names}
+use Rattle.thorin_join.proofs.Parts.OfPackages.{parts-first, rows-read}
+use Rattle.thorin_join.proofs.EachKind.{copied-or-offsets}
+use Rattle.std.proofs.Math.Bool.{and-false}
+use Rattle.dwp_base.proofs.EveryKind.{same-self}
+use Rattle.thorin_join.proofs.Units.HeadersRead.{kind-place}
+use Rattle.std.proofs.Math.ListN.{get_or-map}
+
+-- where a unit's own index and the other have no column, neither index has
+no-columns : (kind : SectionKind) (a : Adjustor) (name : DwarfObject)
+    → has_column_for kind (own_index a name) ≡ false
+    → has_column_for kind (other_index a name) ≡ false
+    → (has_column_for kind a.compilation ≡ false) × (has_column_for kind a.types ≡ false)
+no-columns kind a (Compilation id) own other = (own, other)
+no-columns kind a (TypeUnit signature) own other = (other, own)
+
+-- ---- a unit's part is moved
+
+abbrev Fine : {X : Type 0} → Result X ErrorValue → Type 0
+Fine r = Unless (λ e. ⊥) r
+
+-- a part of a section which as a whole has so many bytes
+moved-fine : (kind : SectionKind) (id : ℕ) (range : Option Contribution) (x : List ℕ)
+    (before : Contents) → ((r : Contribution) → range ≡ Some r
+    → (r.offset.0 + r.size ≤ length x) × (0 < r.size))
+    → Fine (moved_range kind id range (range_put kind x before))
+unfolding moved
+moved-fine kind id None x before h = tt
+moved-fine kind id (Some r) x before h =
+    let i = h r refl in
+    let some : 0 < length x = let a = i.0 in let b = i.1 in omega (arith, a, b) in
+    rw (place-put kind x before some, le-leb (r.offset.0 + r.size) (length x) i.0) tt
+
+none-fine : (kind : SectionKind) (x : List ℕ) (before : Contents) → (0 < length x → ⊥)
+    → Fine (without_column (range_put kind x before))
+none-fine kind [] before h = tt
+none-fine kind (b ∷ bs) before h = absurd (h (omega arith))
+
+each-fine : {X Y : Type 0} (f : X → Result Y ErrorValue) → ((x : X) → Fine (f x)) → (xs : List X)
+    → Fine (read_each f xs)
+each-fine f fine [] = tt
+each-fine f fine (x ∷ xs) = and-then (λ e. ⊥) (f x) _ (fine x) (λ y is.
+    and-then (λ e. ⊥) (read_each f xs) _ (each-fine f fine xs) (λ ys are. tt))
+
+-- a unit that is read of a written package of plain objects
+module _ (laws : Laws) {encoding : Encoding} {file : File} {indexes : Indexes}
+    {made : InProgress} (is : IsReadOf encoding file indexes made) (plain : IsPlain encoding made)
+    {place : UnitSection} {row : IndexEntry} {later : List IndexEntry} {h : Header}
+    (u : IsUnitOf file.order file.contents place made.rows row later h) where
+  abbrev found : Ranges
+  found = (parts laws is u).row
+
+  -- a section that some row names has a column in the index of that row
+  column-there : (kind : SectionKind) (b : Bool) (read : Option Index)
+      → HasRows read (rows_of b made.rows) → is_used (rows_of b made.rows) kind ≡ true
+      → has_column_for kind read ≡ true
+  column-there kind b read has used =
+      by-passing _ (λ row. is_some (contribution_to kind row)) read (rows_of b made.rows) has used
+      (λ index n row there at passes parts.
+      let inside = at-row (LieInside made.file.contents) (rows_of b made.rows) n row
+      (each-chosen _ b made.rows (sound-inside made is.own.sound)) at in
+      rw there (by-bool _ (is_some (column_place index.version index.columns kind)) (λ e. e)
+      (λ e. absurd (true≢false (sym passes ∙ ap is_some (sym (part-there (contribution_to kind row)
+      (inside.some kind)) ∙ sym (parts.parts kind)
+      ∙ range-none index (n + 1) parts.row kind parts.there e))))))
+
+  part-fine : (kind : SectionKind) → is_shared kind ≡ true → (x : List ℕ) (before : Contents)
+      → length x ≡ length (content_of kind file.contents)
+      → Fine (adjusted_part indexes row.id kind (range_put kind x before))
+  unfolding adjusted
+  part-fine kind shared x before long =
+      let a : Adjustor = record {
+        compilation = indexes.compilations;
+        types = indexes.types;
+        section = kind;
+      } in
+      let own : row_of (own_index a row.id) (identifier_of row.id) ≡ Ok found =
+      ap (λ i. row_of i (identifier_of row.id)) (own-index indexes kind row.id)
+      ∙ found-row laws is u in
+      let inside = row-lies laws is u in
+      rw (some-index indexes.compilations indexes.types is.again.packed, own)
+      (by-bool _ (has_column_for kind (own_index a row.id))
+      (λ mine. rw mine (moved-fine kind (identifier_of row.id) (range_in found kind) x before
+      (λ r e. let there = sym (found-range laws is u kind) ∙ e in
+      let i = inside.inside kind r there in (omega (arith, i, long), inside.some kind r there))))
+      (λ none. by-bool _ (has_column_for kind (other_index a row.id))
+      (λ others. rw (none, others) tt)
+      (λ no. let neither = no-columns kind a row.id none no in
+      rw (none, no) (none-fine kind x before (λ some. ⊎_elim
+      (λ u. true≢false (sym (column-there kind true a.compilation is.again.compilations u)
+      ∙ neither.0))
+      (λ u. true≢false (sym (column-there kind false a.types is.again.types u) ∙ neither.1))
+      (used-chosen kind made.rows (plain.named kind shared (rw (← finished-shared made file
+      is.finished kind shared) (omega (arith, some, long))))))))))
+
+  -- where the wholes lie
+  pub row-given : (whole : IndexEntry) (x : SectionKind → List ℕ) (before : Contents)
+      → ((kind : SectionKind) → is_shared kind ≡ true → length (x kind) ≡ length
+      (content_of kind file.contents))
+      → ((kind : SectionKind) → is_shared kind ≡ true → contribution_to kind whole ≡ range_put kind
+      (x kind) before) → (given : IndexEntry) × (unit_row indexes whole row.id ≡ Ok given)
+  unfolding unit_row
+  row-given whole x before long put = answered _ (and-then (λ e. ⊥) _ _ (each-fine
+      (λ kind. unit_part indexes row.id kind (contribution_to kind whole)) (λ kind.
+      by-bool _ (is_shared kind)
+      (λ shared. rw (shared, put kind shared) (part-fine kind shared (x kind) before
+      (long kind shared)))
+      (λ alone. rw alone tt)) all_kinds) (λ parts are. tt))
+
+-- ---- names that are free
+
+-- none of the units has the name
+abbrev pub Free : DwarfObject → New → Type 0
+Free name new = lookup (same_name name) new.units ≡ None
+
+-- with a unit of another name it stays so
+pub free-more : (name other : DwarfObject) (units : List (DwarfObject × NewUnit)) (u : NewUnit)
+    → lookup (same_name name) units ≡ None → same_name name other ≡ false → lookup (same_name name)
+    (units ++ (other, u) ∷ []) ≡ None
+free-more name other [] u h e = rw e refl
+free-more name other (x ∷ xs) u h e = by-bool _ (same_name name x.0)
+    (λ same. absurd (none-some x.1 (sym (rw same at h))))
+    (λ others. rw others (free-more name other xs u (rw others at h) e))
+
+pub different-sym : (a b : DwarfObject) → same_name a b ≡ false → same_name b a ≡ false
+different-sym a b h =
+    by-bool _ (same_name b a) (λ e. absurd (true≢false (sym (same_name-sym b a e) ∙ h))) (λ e. e)
+
+-- rows at different places have different names, where names are apart
+pub rows-differ : (rows : List IndexEntry) → AreApart (map (λ row. row.id) rows) → (i j : ℕ)
+    (a b : IndexEntry) → slice_get rows i ≡ Some a → slice_get rows j ≡ Some b → i ≢ j
+    → same_name a.id b.id ≡ false
+rows-differ rows apart i j a b at there differ =
+    ⊎_elim (λ less. in-order i j a b at there less)
+    (λ most. different-sym b.id a.id (in-order j i b a there at (omega (arith, differ))))
+    (cases_lt i j)
+  where
+    in-order : (i j : ℕ) (a b : IndexEntry) → slice_get rows i ≡ Some a
+        → slice_get rows j ≡ Some b → i < j → same_name a.id b.id ≡ false
+    in-order i j a b at there less =
+        let long = length-map rows (λ (r : IndexEntry). r.id) in
+        let id = get_or-map (λ (r : IndexEntry). r.id) rows in
+        let apart_there = apart i j a.id less
+        (omega (arith, slice_get_within rows j b there, long)) in
+        rw (id i a, id j a, get_or_from_slice_get rows i a a at, get_or_from_slice_get rows j b a
+        there) at apart_there
+
+-- ---- section by section: no section of units comes twice
+
+-- the sections of units that are still to come weren't met
+abbrev Unmet : Met → Contents → Type 0
+Unmet met cs = (place : UnitSection) → 0 < count_of (kind_at place) cs → is_met place met ≡ false
+
+met-with : (place other : UnitSection) (met : Met)
+    → is_met other (with_met place met) ≡ (same_place place other || is_met other met)
+met-with places.Info places.Info met = refl
+met-with places.Info places.Types met = refl
+met-with places.Types places.Info met = refl
+met-with places.Types places.Types met = refl
+
+-- nor were they when one more was
+unmet-after : (met : Met) (place : UnitSection) (bytes : List ℕ) (cs : Contents)
+    → KindsDiffer ((kind_at place, bytes) ∷ cs) → Unmet met ((kind_at place, bytes) ∷ cs)
+    → Unmet (with_met place met) cs
+unmet-after met place bytes cs differ unmet other some =
+    let once = differ (kind_at place) in
+    by-bool _ (same_place place other)
+    (λ same. let is = place-eq place other same in
+    let twice = rw (← is) at some in let one = rw (same-self (kind_at place)) at once in
+    absurd (omega (arith, one, twice)))
+    (λ apart. rw (met-with place other met, apart) (unmet other (omega (arith, some))))
+
+-- what holds before a section that wasn't met and is taken, with that section met then
+module _ (E : ErrorValue → Type 0) (add : Adding) (contents : Contents) (P : Met → New → Type 0)
+    (each : (met : Met) (place : UnitSection) (from : Used) → from.kind ≡ kind_at place
+    → eqb from.address 0 ≡ true → from.bytes ≡ content_of (kind_at place) contents
+    → is_met place met ≡ false → (new : New) → P met new
+    → Fares E (P (with_met place met)) (with_each_read add from new
+    (units place (section add.source.object.order from.bytes)))) where
+  abbrev Done : Met × New → Type 0
+  Done next = Unit {0}
+
+  each-taken : (cs : Contents) → KindsDiffer cs → ((kind : SectionKind)
+      → 0 < length (content_of kind cs) → content_of kind contents ≡ content_of kind cs)
+      → (met : Met) (new : New) → Unmet met cs → P met new
+      → Fares E Done (with_each_section add (met, new) (written_used cs))
+  unfolding with_each_section with_section with_section_at once_test
+  each-taken [] differ held met new unmet so = tt
+  each-taken (c ∷ cs) differ held met new unmet so =
+      let later = each-taken cs (rest-differ c cs differ) (λ kind some.
+      let is = behind kind c cs differ some in held kind (rw is some) ∙ is) in
+      by-bool _ (eqb (length c.1) 0)
+      (λ none. rw none (later met new (λ place some. unmet place (omega (arith, some))) so))
+      (λ some. rw some (by (unit_section c.0) refl (omega (arith, eqb-false (length c.1) 0 some))
+      later))
+    where
+      by : (place : Option UnitSection) → unit_section c.0 ≡ place → 0 < length c.1
+          → ((m : Met) (n : New) → Unmet m cs → P m n
+          → Fares E Done (with_each_section add (m, n) (written_used cs)))
+          → Fares E Done (with_section_in add (section_of c) place (met, new) >>= λ next.
+          with_each_section add next (written_used cs))
+      by None at some later = later met new (λ place some. unmet place (omega (arith, some))) so
+      by (Some place) at some later =
+          let kind = kind-place c.0 place at in
+          let is = front c cs in
+          let bytes : c.1 ≡ content_of (kind_at place) contents =
+          sym is ∙ sym (held c.0 (rw is some)) ∙ ap (λ k. content_of k contents) kind in
+          let counted : 0 < count_of (kind_at place) (c ∷ cs) =
+          rw (kind, same-self (kind_at place)) (omega arith) in
+          let one = each met place (section_of c) kind refl bytes (unmet place counted) new so in
+          rw (unmet place counted, and-false) (then-fares E
+          (λ next. (next.0 ≡ with_met place met) × P next.0 next.1) Done (_ >>= λ n.
+          Ok (with_met place met, n)) _ (then-fares E (P (with_met place met)) _ _ _ one
+          (λ n taken. (refl, taken)))
+          (λ next goes. later next.0 next.1 (rw goes.0 (unmet-after met place c.1 cs
+          (subst (λ k. KindsDiffer ((k, c.1) ∷ cs)) kind differ)
+          (subst (λ k. Unmet met ((k, c.1) ∷ cs)) kind unmet))) goes.1))
+
+  new-taken : add.source.object.sections ≡ written_used contents → KindsDiffer contents
+      → P none_met (record { units = []; differing = [] })
+      → Fares E (λ new. Unit {0}) (new_units add)
+  unfolding new_units
+  new-taken are differ start = then-fares E Done (λ new. Unit {0})
+      (with_each_section add (none_met, record { units = []; differing = [] })
+      add.source.object.sections) _ (subst (λ l. Fares E Done (with_each_section add (
+        none_met,
+        record { units = []; differing = [] },
+      ) l)) (sym are)
+      (each-taken contents differ (λ kind some. refl) none_met _ (λ place some.
+      each-place (λ p. is_met p none_met ≡ false) refl refl place) start))
+      (λ all h. tt)
+
+-- the units of a written package, added to one that had no units, or by which a compilation unit
+-- that is there already may be refused
+module _ (names : NamesTheSameLaw) (law : PackagedLaw) (laws : Laws) (Fresh : Type 0)
+    (E : ErrorValue → Type 0) (may : Fresh ⊎ ((id : ℕ) → E (DuplicateUnit id)))
+    {encoding : Encoding} {file : File} {indexes : Indexes} {made : InProgress}
+    (is : IsReadOf encoding file indexes made) (plain : IsPlain encoding made) (before : InProgress)
+    (none_there : Fresh → before.rows ≡ []) (parts_taken : Contents) (after : List (List ℕ))
+    (table : IsTable before.strings) (parts_are : parts_of (own_source file encoding indexes)
+    before.strings ≡ Ok (parts_taken, after)) where
+  abbrev source : Source
+  source = own_source file encoding indexes
+
+  abbrev add : Adding
+  add = adding source before parts_taken
+
+  -- each row names its unit
+  named-all : EachRow (NamesItself file.order encoding file.contents) made.rows
+  named-all = subst (λ o. EachRow (NamesItself o encoding file.contents) made.rows)
+      (sym (finished-order made file is.finished)) (keep-names made.file.order encoding
+      made.file.contents file.contents (finished-grows made file is.finished) made.rows
+      (sound-inside made is.own.sound) plain.units)
+
+  -- in a package without units there is one more then
+  abbrev Added : DwarfObject → New → New → Type 0
+  Added name new next = Fresh → (unit : NewUnit)
+      × (next.units ≡ new.units ++ (name, unit) ∷ [])
+
+  -- and the names of rows in sections that weren't met are free
+  abbrev Open : Met → New → Type 0
+  Open met new = Fresh → (n : ℕ) (row : IndexEntry) → slice_get made.rows n ≡ Some row
+      → is_met (place_of row.id row.debug_types) met ≡ false → Free row.id new
+
+  -- ---- one section
+  module _ (met : Met) (place : UnitSection) (from : Used) (from_is : from.kind ≡ kind_at place)
+      (address : eqb from.address 0 ≡ true)
+      (bytes : from.bytes ≡ content_of (kind_at place) file.contents)
+      (unmet : is_met place met ≡ false) where
+    unit-fares : (h : Header) (new : New) (row : IndexEntry) (kept : Option (List ℕ))
+        (name : DwarfObject) → (Fresh → kept ≡ None)
+        → row_test add.source.indexes from.kind name h ≡ Ok tt
+        → unit_row add.source.indexes add.whole name ≡ Ok row
+        → Fares E (Added name new) (with_unit kept add from name h new)
+    unfolding with_unit with_first
+    unit-fares h new row (Some kept) (Compilation id) none tested given =
+        ⊎_elim (λ f. absurd (none-some kept (sym (none f)))) (λ twice. twice id.0) may
+    unit-fares h new row (Some kept) (TypeUnit signature) none tested given =
+        λ f. absurd (none-some kept (sym (none f)))
+    unit-fares h new row None name none tested given = rw (address, tested, given) (λ f. (
+      record { place = place_for name from.kind; bytes = h.whole.bytes; row = row },
+      refl,
+    ))
+
+    -- those of the section's rows too, where they are among the last so many
+    abbrev Left : ℕ → New → Type 0
+    Left m new = Fresh → (n : ℕ) (row : IndexEntry) → slice_get made.rows n ≡ Some row
+        → is_met (place_of row.id row.debug_types) met ≡ false
+        → (is_at place row ≡ true → length made.rows ≤ n + m) → Free row.id new
+
+    -- what is read of the last rows is taken
+    abbrev TakesRows : List IndexEntry → List (Result Header ReadError) → Type 0
+    TakesRows todo reads = (new : New) → Left (length todo) new
+        → Fares E (Open (with_met place met)) (with_each_read add from new reads)
+
+    one-taken : (r : IndexEntry) (rs : List IndexEntry) (h : Header)
+        (reads : List (Result Header ReadError))
+        → IsUnitOf file.order file.contents place made.rows r rs h → TakesRows rs reads
+        → TakesRows (r ∷ rs) (Ok h ∷ reads)
+    unfolding with_each_read with_read
+    one-taken r rs h reads u later new left =
+        let place_at = length u.before in
+        let long = ap length u.split ∙ length-append u.before (r ∷ rs) in
+        let at = row-there u in
+        let alone = at-row (NamesItself file.order encoding file.contents) made.rows place_at r
+        named-all at u.alone u.rest (read-alone u) in
+        let named = named-again laws is u
+        (identity-shifted _ u.offset u.alone h u.shifted ∙ alone.1) in
+        let parts_long = copied-or-offsets
+        (λ k. length (joined_parts k parts_taken) ≡ length (content_of k file.contents))
+        (λ k copied. ap length (parts-first source is.again.packed before.strings parts_taken after
+        parts_are k copied ∙ is.again.held k))
+        ((rows-read names law source is.again.packed before.strings parts_taken after table
+        parts_are).size ∙ ap length (is.again.held kinds.StrOffsets)) in
+        let given = row-given laws is plain u add.whole (λ k. joined_parts k parts_taken)
+        before.file.contents parts_long
+        (whole-part encoding before.file.contents parts_taken) in
+        let free = λ (f : Fresh). left f place_at r at (ap (λ p. is_met p met) (sym (place-is u))
+        ∙ unmet) (λ here. omega (arith, long)) in
+        let named_from : name_for source from.kind h ≡ Ok r.id = rw from_is named in
+        then-fares E (Added r.id new) _ (with_read add from new (Ok h))
+        (λ next. with_each_read add from next reads) (rw named_from (unit-fares h new given.0
+        (kept_bytes add.held new.units r.id) r.id (λ f. rw (none_there f, free f) refl)
+        (rw from_is (row-tested laws is u)) given.1))
+        (λ next more. later next (λ f n row there to_come last.
+        let other : n ≢ place_at = λ same. let one : row ≡ r = same_Some row r (sym there
+        ∙ ap (slice_get made.rows) same ∙ at) in
+        omega (arith, last (ap (is_at place) one ∙ u.here), long, same) in
+        rw (more f).1 (free-more row.id r.id new.units (more f).0
+        (left f n row there to_come (λ here. omega (arith, last here)))
+        (rows-differ made.rows is.own.sound.apart n place_at row r there at other))))
+
+    -- all of the section
+    section-taken : (new : New) → Open met new → Fares E (Open (with_met place met))
+        (with_each_read add from new (units place (section file.order from.bytes)))
+    unfolding with_each_read
+    section-taken new opened = subst (λ l. Fares E (Open (with_met place met))
+        (with_each_read add from new (units place (section file.order l)))) (sym bytes)
+        (of-section laws.taken file.order file.contents place made.rows TakesRows
+        (λ new left f n row at free.
+        let at_row = place_of row.id row.debug_types in
+        let other = neither (same_place place at_row) _ (sym (met-with place at_row met) ∙ free) in
+        left f n row at other.1 (λ here. absurd (true≢false (sym here ∙ other.0))))
+        (λ r rs reads not_here later new left. later new (λ f n row at to_come last.
+        left f n row at to_come (λ here. omega (arith, last here))))
+        one-taken is.own.sound.laid.once
+        (lie-kept made file is.own.sound.laid is.finished place) new
+        (λ f n row at free last. opened f n row at free))
+
+  -- all of the file are taken, or one is refused so
+  pub taken-all : Unless E (new_units add)
+  taken-all = new-taken E add file.contents Open section-taken refl is.kinds
+      (λ fresh n row at unmet. refl)
