@@ -136,7 +136,7 @@ module _ (ps : List (List ℕ)) (starts : List ℕ) (rank at start : ℕ)
       omega (arith, last) in
       let rest = concat (drop (suc at) ps) in
       let got : rank < length (concat ps)
-          → get_or (concat ps) rank 0 ≡ get_or (get_or ps at []) (rank - start) 0 =
+      → get_or (concat ps) rank 0 ≡ get_or (get_or ps at []) (rank - start) 0 =
       λ more. ap (λ l. get_or l rank 0) (concat_around ps at there)
       ∙ get_or-append_right (concat (take at ps)) (get_or ps at [] ++ rest) start rank 0
       (sym begins) low

@@ -34,9 +34,10 @@ module _ (f : ℕ → ℕ → Bool) (l m : List ℕ) (same : length l ≡ length
   lowest k within = ⊎_elim
       (λ some. let low = bit_at-trailing_zeros w64 _ some (omega arith) in
       (λ less. low.2 k less, λ is. ap (bit_at (mask_of f l m)) is ∙ low.1))
-      (λ none. let e : mask_of f l m ≡ 0 = omega arith in
-      (λ less. omega (arith, ap (λ n. bit_at n k) e),
-      λ is. omega (arith, ap (trailing_zeros w64) e, trailing_of_zero 64)))
+      (λ none. let e : mask_of f l m ≡ 0 = omega arith in (
+        λ less. omega (arith, ap (λ n. bit_at n k) e),
+        λ is. omega (arith, ap (trailing_zeros w64) e, trailing_of_zero 64),
+      ))
       (cases_lt 0 (mask_of f l m))
 
   -- the test fails below the lowest bit that is set

@@ -176,7 +176,7 @@ pub kept_of : (slots : List Slot) (size : ℕ) (s : Slot) (k h p : ℕ) → (get
 kept_of slots size s k h p was is =
     let there = has_of slots size h p is in
     let stays : (j : ℕ) → (get_or slots j free).behind ≢ 0
-        → get_or (set slots k s) j free ≡ get_or slots j free =
+    → get_or (set slots k s) j free ≡ get_or slots j free =
     λ j used. get_or-set_other slots k j s free (λ same. used (rw same was)) in
     let here = stays there.number there.used in
     rw here at (found_of (set slots k s) size h (home size h) there.number refl there.low

@@ -216,8 +216,13 @@ rows-differ rows apart i j a b at there differ =
         let id = get_or-map (λ (r : IndexEntry). r.id) rows in
         let apart_there = apart i j a.id less
         (omega (arith, slice_get_within rows j b there, long)) in
-        rw (id i a, id j a, get_or_from_slice_get rows i a a at, get_or_from_slice_get rows j b a
-        there) at apart_there
+        rw (
+          id i a,
+          id j a,
+          get_or_from_slice_get rows i a a at,
+          get_or_from_slice_get rows j b a
+              there,
+        ) at apart_there
 
 -- ---- section by section: no section of units comes twice
 

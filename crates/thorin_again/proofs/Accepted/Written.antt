@@ -260,8 +260,8 @@ module _ (names : NamesTheSameLaw) (law : PackagedLaw) (laws : Laws) (state : St
       ) (and-then E _ _
       (and-then E _ _ (and-then E _ _ parts (λ p e. rw abbreviations-tested
       (and-then E _ _ (given.1 p e) (λ new h. tt)))) (λ m h. tt)) (λ now h. tt))
+      -- a package of its byte order takes them, unless it is foreseen otherwise
 
-    -- a package of its byte order takes them, unless it is foreseen otherwise
   pub own-all : IsAccepted file
   own-all before fine same =
       let now = package_or_new (written_elf file) before.begun in

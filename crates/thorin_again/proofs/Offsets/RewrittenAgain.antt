@@ -361,8 +361,8 @@ module _ (order : Endianness) (encoding : Encoding) where
       (λ range e. and-then IsStringOffset _ _
       (all-rewritten section bytes (r.offset.0 + r.size) rs range.1 (λ x h. can x (inr h)))
       (λ rest f. tt))
+      -- so many entries, rewritten from these strings on, give those
 
-    -- so many entries, rewritten from these strings on, give those
   abbrev pub Lead : (section bytes : List ℕ) → ℕ → (before after : List (List ℕ)) → Type 0
   Lead section bytes n before after = (offsets : List ℕ)
       × (remapped_entries order encoding section bytes n before ≡ Ok (offsets, after))

@@ -23,5 +23,7 @@ pub returns-clause-kept : goal.returns-clause-kept
 returns-clause-kept c = λ other h n is.
     let there = has_of c.args.others.now other h n is in
     rw (there.same, there.place) at
-    (c.loop-number.invariant.same there.number (omega (arith,
-    slot_within c.args.others.now there.number there.used)) there.used)
+    (c.loop-number.invariant.same there.number (omega (
+      arith,
+      slot_within c.args.others.now there.number there.used,
+    )) there.used)

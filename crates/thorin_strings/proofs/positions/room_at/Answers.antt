@@ -7,9 +7,12 @@ use Rattle.thorin_strings.proofs.positions.room_at.Goals as goal
 use Rattle.thorin_strings.proofs.positions.room_at.Goals.{In_ok-cut}
 
 pub chunk_of-at-requires-clause-first : goal.chunk_of-at-requires-clause-first
-chunk_of-at-requires-clause-first c = omega (arith, (first_start c.deref.result.now
-    (pieces c.args.chunks.now.items) (c.deref.ensures.value ∙ c.requires.begun)
-    (grind (arith, counts))).1)
+chunk_of-at-requires-clause-first c = omega (
+  arith,
+  (first_start c.deref.result.now
+      (pieces c.args.chunks.now.items) (c.deref.ensures.value ∙ c.requires.begun)
+      (grind (arith, counts))).1,
+)
 
 there : (c : goal.In_ok-cut) → c.chunk_of-at.result < length (pieces c.args.chunks.now.items)
 there c = grind (arith, counts)
