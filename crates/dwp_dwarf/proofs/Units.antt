@@ -153,6 +153,12 @@ unit_takes section i = then_gives (initial_length_goes i) (λ length first. then
     then_split _ _ i (λ _. then_gives (header_heads section length.0.0 _ _)
     (λ u heads. value_gives (unit_made i length.1 u length.0.1 first fits heads)))))
 
+-- a unit that is read goes forward, and is the bytes that it takes
+pub unit_taken : (section : UnitSection) (i rest : Input) (u : Unit)
+    → unit_at section i ≡ Ok (u, rest) → (goes : Goes 1 i rest) × (u.whole ≡ front goes.taken i)
+unit_taken section i rest u e =
+    let takes = (unit_takes section i).gives (u, rest) e in (takes.goes, takes.whole)
+
 -- ---- what was read and others behind it
 
 pub listed_ok : {A E : Type 0} (r : Result (A × Input) E) (others : Input → List (Result A E))

@@ -1,4 +1,4 @@
-use Rattle.dwp_dwarf.proofs.Units.{unit_takes, units_whole, units_error, lie_read, read_lie}
+use Rattle.dwp_dwarf.proofs.Units.{unit_taken, units_whole, units_error, lie_read, read_lie}
 use Rattle.dwp_dwarf.proofs.laws.units_have_all_bytes.Goals as goal
 
 pub returns-clause-whole : goal.returns-clause-whole
@@ -11,5 +11,4 @@ pub returns-clause-one : goal.returns-clause-one
 returns-clause-one c = λ section i us. (lie_read section us i, read_lie section us i)
 
 pub returns-clause-taken : goal.returns-clause-taken
-returns-clause-taken c = λ section i rest u e.
-    let takes = (unit_takes section i).gives (u, rest) e in (takes.goes, takes.whole)
+returns-clause-taken c = unit_taken
