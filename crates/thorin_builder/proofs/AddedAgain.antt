@@ -2,37 +2,28 @@
 use Rattle.std.proofs.Common.{◌≡◌, ◌∙◌, ◌⊎◌, ℕ, false, List, [], ◌∷◌, ◌++◌, refl, sym, ap}
 use Rattle.std.proofs.Common.{inl, inr, true≢false, arith, Ok, Option, Some, None, map}
 use Rattle.std.proofs.Common.{length}
+use Rattle.thorin_builder.proofs.Terms.{append-nil, append_assoc, map-append, take-length, lookup}
+use Rattle.thorin_builder.proofs.Terms.{bytes_eq, by-bool, DwarfObject, Compilation, TypeUnit}
+use Rattle.thorin_builder.proofs.Terms.{IndexEntry, part, Encoding, in_progress_of, begun_of}
+use Rattle.thorin_builder.proofs.Terms.{Repeated}
 use Rattle.std.specs.Prelude.{is_some, String, string_bytes, string_eq}
 use Rattle.std.proofs.lemmas.Bool.{le-ltb}
-use Rattle.std.proofs.lemmas.List.{append-nil, append_assoc, map-append}
 use Rattle.std.proofs.lemmas.Simd.{map-map}
 use Rattle.std.proofs.lemmas.Option.{none-some, same_Some}
 use Rattle.std.proofs.lemmas.Slice.Eq.{bytes_eq-Decides}
-use Rattle.std.proofs.Math.Seq.{take-length}
 use Rattle.std.specs.Global.{Global}
-use Rattle.std.specs.Map.{lookup}
-use Rattle.std.specs.Str.{bytes_eq}
 use Rattle.indexmap.specs.IndexMap.{insert_entry}
-use Rattle.dwp_base.proofs.Bools.{by-bool}
-use Rattle.dwp_table.specs.declared.object.DwarfObject.{DwarfObject}
-use Rattle.dwp_table.specs.declared.object.DwarfObject.TheVariants.{Compilation, TypeUnit}
-use Rattle.thorin_index.specs.declared.entry.IndexEntry.{IndexEntry}
-use Rattle.thorin_input.specs.View.{part}
 use Rattle.thorin_join.specs.Builder.{with_input, State, taken, names_in, own_after}
 use Rattle.thorin_input.specs.Encodings.{own_encoding}
-use Rattle.dwp_bytes.specs.declared.encoding.Encoding.{Encoding}
 use Rattle.thorin_join.specs.Join.{Joins}
 use Rattle.thorin_join.specs.Meaning.{Meaning}
 use Rattle.thorin_join.specs.Represents.{units_begun, units_of, meaning_at}
 use Rattle.thorin_join.specs.State.{InProgress, held_units}
 use Rattle.thorin_join.proofs.Parts.Strings.{front-front}
 use Rattle.thorin_builder.specs.Repeated.{IsLater, IsLaterBegun, ExtendsBegun, AddsAgain}
-use Rattle.thorin_builder.specs.Repeated.{AddsAgainTo, with_more, IsTaken, AreTaken}
-use Rattle.thorin_builder.specs.Repeated.{Remembers}
-use Rattle.thorin_builder.specs.StateView.{in_progress_of, begun_of}
+use Rattle.thorin_builder.specs.Repeated.{AddsAgainTo, with_more, IsTaken, AreTaken, Remembers}
 use Rattle.thorin_builder.specs.Taking.{with_target}
 use Rattle.thorin_builder.specs.declared.in_progress.InProgressDwarfPackage.{InProgressDwarfPackage}
-use Rattle.thorin_builder.specs.declared.repeated.Repeated.{Repeated}
 use Rattle.thorin_builder.proofs.Extending.{extends-refl}
 use Rattle.thorin_builder.proofs.Running.{Offer}
 

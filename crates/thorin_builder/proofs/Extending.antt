@@ -1,18 +1,14 @@
 -- A package that loses nothing of what it had.
 use Rattle.std.proofs.Common.{◌≡◌, ◌∙◌, ℕ, true, false, List, [], ◌∷◌, ◌++◌, length, take, map}
 use Rattle.std.proofs.Common.{refl, sym, Ok, Err, Result, true≢false}
+use Rattle.thorin_builder.proofs.Terms.{append-nil, map-append, take-append_seam, take-length, File}
+use Rattle.thorin_builder.proofs.Terms.{DebugTypeSignature, parts_of, Extends}
 use Rattle.std.specs.Result.{OnOk, OnErr, is_err}
-use Rattle.std.proofs.lemmas.List.{append-nil, map-append}
-use Rattle.std.proofs.Math.Seq.{take-append_seam, take-length}
 use Rattle.dwp_base.proofs.Steps.{bind-ok}
-use Rattle.dwp_elf.specs.FileText.{Object as File}
-use Rattle.dwp_table.specs.declared.object.DebugTypeSignature.{DebugTypeSignature}
 use Rattle.thorin_input.specs.Growing.{Contents, Begins, IsGrown}
 use Rattle.thorin_input.specs.Indexes.{Source}
 use Rattle.thorin_input.specs.NewUnits.{New, new_units}
-use Rattle.thorin_input.specs.Parts.{parts_of}
-use Rattle.thorin_join.specs.State.{InProgress, Extends, with_source, with_all}
-use Rattle.thorin_join.specs.State.{abbreviations_test, adding}
+use Rattle.thorin_join.specs.State.{InProgress, with_source, with_all, abbreviations_test, adding}
 
 -- the signatures of type units, once more are added
 abbrev signatures_of : List DebugTypeSignature → List ℕ
@@ -49,12 +45,9 @@ pub grown-extends : {p : InProgress} {f : File} {strings : List (List ℕ)} {dif
     → take (length p.strings) strings ≡ p.strings
     → take (length p.differing) differing ≡ p.differing
     → Extends p (record p { file = f; strings = strings; differing = differing })
-grown-extends {p = p} grown kept more = record {
-  file = grown p.file (is_grown-refl p.file);
-  strings = kept;
-  rows = take-length p.rows;
-  differing = more;
-}
+grown-extends {p = p} grown kept more =
+    let file = grown p.file (is_grown-refl p.file) in
+    let rows = take-length p.rows in assumption
 
 pub strings-extend : {p : InProgress} {strings : List (List ℕ)}
     → take (length p.strings) strings ≡ p.strings → Extends p (record p { strings = strings })

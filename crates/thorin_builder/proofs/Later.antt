@@ -2,15 +2,14 @@
 use Rattle.std.proofs.Common.{◌≡◌, ◌∙◌, Bool, true, false, cond, Result, Ok, Err, sym, subst, refl}
 use Rattle.std.proofs.Common.{ℕ, zero, suc, ◌+◌, ◌*◌, not, ltb, eqb, ◌&&◌, List, [], ◌∷◌, length}
 use Rattle.std.proofs.Common.{take, ◌==◌, ◌++◌, Option, Some, None, ap, arith, length-append}
-use Rattle.std.proofs.Math.Seq.{take-append_seam, take-length}
+use Rattle.thorin_builder.proofs.Terms.{take-append_seam, take-length, lookup, bytes_eq, by-bool}
+use Rattle.thorin_builder.proofs.Terms.{parts_of, DwarfObject, Compilation, TypeUnit, IndexEntry}
+use Rattle.thorin_builder.proofs.Terms.{same_name, New, NewUnit, or_held, kept_bytes, none_met}
 use Rattle.std.proofs.lemmas.Bool.{cond-true}
 use Rattle.std.proofs.lemmas.Option.{none-some}
-use Rattle.std.specs.Map.{lookup}
-use Rattle.std.specs.Str.{bytes_eq}
 use Rattle.dwp_base.specs.Reading.{◌>>=◌}
 use Rattle.dwp_base.proofs.Steps.{bind-was, bind-ok, same-ok}
 use Rattle.thorin_errors.specs.Errors.{ErrorValue, ParseUnitHeader}
-use Rattle.dwp_base.proofs.Bools.{by-bool}
 use Rattle.dwp_base.specs.declared.section.Contribution.{Contribution}
 use Rattle.dwp_base.specs.declared.section.SectionKind.TheVariants.{StrOffsets, Str}
 use Rattle.dwp_base.specs.Sections.{same_kind}
@@ -27,21 +26,15 @@ use Rattle.thorin_input.specs.Indexes.{Source, is_package}
 use Rattle.thorin_input.specs.Format.{is_in_format, is_copied}
 use Rattle.thorin_input.specs.InputStrings.{rewritten}
 use Rattle.thorin_input.specs.Parts.{has_part, stands_once, with_offsets, with_part, with_each_part}
-use Rattle.thorin_input.specs.Parts.{parts_of}
 use Rattle.thorin_input.specs.Used.{Used, first}
 use Rattle.thorin_strings.proofs.Named.{has, there_later, there_once_used}
 use Rattle.thorin_join.proofs.Parts.Strings.{front-front}
 use Rattle.dwp_bytes.specs.declared.error.ReadError.{ReadError}
 use Rattle.dwp_dwarf.specs.Units.{Unit as Header}
 use Rattle.dwp_dwarf.specs.declared.unit.UnitSection.{UnitSection}
-use Rattle.dwp_table.specs.declared.object.DwarfObject.{DwarfObject}
-use Rattle.dwp_table.specs.declared.object.DwarfObject.TheVariants.{Compilation, TypeUnit}
-use Rattle.thorin_index.specs.declared.entry.IndexEntry.{IndexEntry}
 use Rattle.thorin_errors.specs.Answers.{as_error}
-use Rattle.thorin_input.specs.Names.{same_name}
-use Rattle.thorin_input.specs.NewUnits.{New, NewUnit, Adding, Met, or_held, kept_bytes, with_first}
-use Rattle.thorin_input.specs.NewUnits.{with_unit, name_for, with_read, with_each_read}
-use Rattle.thorin_input.specs.NewUnits.{unit_section, none_met, once_test, with_section_at}
+use Rattle.thorin_input.specs.NewUnits.{Adding, Met, with_first, with_unit, name_for, with_read}
+use Rattle.thorin_input.specs.NewUnits.{with_each_read, unit_section, once_test, with_section_at}
 use Rattle.thorin_input.specs.NewUnits.{with_section_in, with_section, with_each_section, new_units}
 use Rattle.thorin_input.specs.Rows.{unit_row, row_test}
 

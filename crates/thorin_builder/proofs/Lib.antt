@@ -1,4 +1,4 @@
-pub mod Names
+pub mod Terms
 pub mod NewUnitLemmas
 pub mod Extending
 pub mod Running

@@ -1,22 +1,35 @@
--- The units that an input adds: what is kept for the name of one, and one that is added last.
+-- The names of units, what `==` says of them and what is kept for one; a unit that is added last.
 use Rattle.std.proofs.Common.{◌≡◌, ◌∙◌, ℕ, suc, ◌<◌, Bool, List, Option, Some, None, ap, sym, refl}
-use Rattle.std.proofs.Common.{map, take, length, get_or, [], ◌∷◌, ◌++◌, arith}
+use Rattle.std.proofs.Common.{map, take, length, get_or, [], ◌∷◌, ◌++◌, arith, not}
+use Rattle.thorin_builder.proofs.Terms.{list_any, lookup, by-bool, DwarfObject, Compilation}
+use Rattle.thorin_builder.proofs.Terms.{TypeUnit, IndexEntry, blank, NewUnit, or_held, kept_bytes}
+use Rattle.thorin_builder.proofs.Terms.{same_name, is_missing, at_least}
 use Rattle.std.proofs.lemmas.List.{get_or-take, map_push}
 use Rattle.std.proofs.lemmas.List.Elements.{All-push}
 use Rattle.std.proofs.lemmas.Option.{get_or_from_slice_get, slice_get_within}
 use Rattle.std.specs.Prelude.{All, slice_get}
-use Rattle.std.specs.Map.{lookup}
-use Rattle.dwp_base.proofs.Bools.{by-bool}
 use Rattle.dwp_table.specs.contracts.object.DwarfObjectPartialEq.TheImpl as derived
-use Rattle.dwp_table.specs.declared.object.DwarfObject.{DwarfObject}
-use Rattle.thorin_index.specs.declared.entry.IndexEntry.{IndexEntry}
-use Rattle.thorin_index.specs.Rows.{blank}
-use Rattle.thorin_input.specs.NewUnits.{NewUnit, or_held, kept_bytes}
-use Rattle.thorin_input.specs.Names.{same_name}
 use Rattle.thorin_builder.specs.declared.new_units.NewUnit.{NewUnit as CodeUnit}
 use Rattle.thorin_builder.specs.UnitView.{new_unit}
-use Rattle.thorin_builder.proofs.Names.{same_name-is}
-use Rattle.thorin_index.proofs.RowLemmas.{at_least}
+
+same_name-at : (a b : DwarfObject) → derived.eq-value.it a b ≡ same_name a b
+same_name-at (Compilation a) (Compilation b) = refl
+same_name-at (TypeUnit a) (TypeUnit b) = refl
+same_name-at (Compilation a) (TypeUnit b) = refl
+same_name-at (TypeUnit a) (Compilation b) = refl
+
+-- `==` is the same name
+pub same_name-is : (a : DwarfObject) → derived.eq-value.it a ≡ same_name a
+same_name-is a = λ i b. same_name-at a b i
+
+-- a name is among others, or is missing there
+pub among-is : (a : DwarfObject) (names : List DwarfObject) → list_any (derived.eq-value.it a) names
+    ≡ list_any (same_name a) names
+among-is a names = ap (λ f. list_any f names) (same_name-is a)
+
+pub missing-is : (a : DwarfObject) (names : List DwarfObject) (there : Bool)
+    → there ≡ list_any (derived.eq-value.it a) names → is_missing names a ≡ not there
+missing-is a names there is = ap not (sym (is ∙ among-is a names))
 
 -- the units with their rows
 abbrev pub with_rows : List IndexEntry → List (DwarfObject × CodeUnit)

@@ -1,11 +1,10 @@
 use Rattle.std.proofs.Common.{◌≡◌, ◌∙◌, ℕ, ◌+◌, Bool, true, false, cond, List, ◌∷◌, drop}
 use Rattle.std.proofs.Common.{Some, ap, not, sym, refl, rules, arith}
-use Rattle.std.specs.Prelude.{filter, slice_get}
+use Rattle.thorin_builder.proofs.Terms.{filter, slice_get, is_missing}
 use Rattle.std.proofs.lemmas.List.{at_drop_more}
 use Rattle.std.proofs.lemmas.Option.{get_or_from_slice_get, slice_get_within}
 use Rattle.dwp_base.proofs.Finds.{slice_get_none}
-use Rattle.thorin_join.specs.Builder.{is_missing}
-use Rattle.thorin_builder.proofs.Names.{missing-is}
+use Rattle.thorin_builder.proofs.NewUnitLemmas.{missing-is}
 use Rattle.thorin_builder.proofs.missing.first_missing.Goals.{in-Some+else-not-contains, in_default}
 use Rattle.thorin_builder.proofs.missing.first_missing.Goals as goal
 

@@ -1,6 +1,5 @@
 use Rattle.std.proofs.Common.{◌≡◌, drop}
-use Rattle.std.specs.Prelude.{filter}
-use Rattle.thorin_join.specs.Builder.{is_missing}
+use Rattle.thorin_builder.proofs.Terms.{filter, is_missing}
 use Rattle.thorin_builder.proofs.missing.first_missing.Given as goal
 
 -- those that were passed over are contained

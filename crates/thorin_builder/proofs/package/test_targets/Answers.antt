@@ -1,6 +1,6 @@
 use Rattle.std.proofs.Common.{◌∙◌, ap, not}
 use Rattle.thorin_join.specs.Builder.{targets_test}
-use Rattle.thorin_builder.proofs.Names.{missing-is}
+use Rattle.thorin_builder.proofs.NewUnitLemmas.{missing-is}
 use Rattle.thorin_builder.proofs.package.test_targets.Goals as goal
 
 pub loop-target-preserved : goal.loop-target-preserved

@@ -1,6 +1,5 @@
 use Rattle.std.proofs.Common.{rules}
-use Rattle.thorin_index.proofs.RowLemmas.{on_err}
-use Rattle.thorin_builder.specs.StateView.{in_progress_of}
+use Rattle.thorin_builder.proofs.Terms.{on_err, in_progress_of}
 use Rattle.thorin_builder.proofs.in_progress.InProgressDwarfPackage.add_again.Goals.{then-is_err}
 use Rattle.thorin_builder.proofs.in_progress.InProgressDwarfPackage.add_again.Goals.{else-is_err}
 use Rattle.thorin_builder.proofs.Extending.{no_err}

@@ -1,32 +1,24 @@
 use Rattle.std.proofs.Common.{◌≡◌, ◌∙◌, ℕ, List, map, ap, sym, refl, rules, [], Some, None, Ok}
-use Rattle.std.proofs.lemmas.List.{append-nil}
+use Rattle.thorin_builder.proofs.Terms.{append-nil, take-length, DwarfObject, IndexEntry, New}
+use Rattle.thorin_builder.proofs.Terms.{parts_of, unit_bytes, held_units, in_progress_of, Repeated}
 use Rattle.std.proofs.lemmas.Option.{IfSome_then}
 use Rattle.std.proofs.lemmas.Result.{IfOk-weaker}
-use Rattle.std.proofs.Math.Seq.{take-length}
 use Rattle.dwp_base.specs.declared.endian.Endianness.{Endianness}
 use Rattle.dwp_base.specs.declared.endian.Endianness.TheVariants.{Little, Big}
 use Rattle.dwp_elf.specs.Contents.{content_of}
 use Rattle.dwp_elf_read.specs.View.{elf}
 use Rattle.dwp_index.specs.Package.{part_of, place_of}
-use Rattle.dwp_table.specs.declared.object.DwarfObject.{DwarfObject}
 use Rattle.thorin_index.specs.Entries.{contribution_to}
-use Rattle.thorin_index.specs.declared.entry.IndexEntry.{IndexEntry}
 use Rattle.thorin_input.specs.Encodings.{own_encoding, file_encoding, one_encoding}
 use Rattle.thorin_input.specs.Growing.{Contents, with_parts}
 use Rattle.thorin_input.specs.Indexes.{Source}
-use Rattle.thorin_input.specs.NewUnits.{New}
-use Rattle.thorin_input.specs.Parts.{parts_of}
 use Rattle.thorin_input.specs.Used.{input_file_of}
 use Rattle.thorin_input.specs.View as view
 use Rattle.thorin_join.specs.Builder.{with_input, with_units, with_source_or_new, order_test}
-use Rattle.thorin_join.specs.State.{InProgress, kind_at, unit_bytes, held_units}
-use Rattle.thorin_join.specs.State.{with_source}
-use Rattle.thorin_join.specs.State.{with_all, with_new_units}
+use Rattle.thorin_join.specs.State.{InProgress, kind_at, with_source, with_all, with_new_units}
 use Rattle.thorin_join.proofs.Parts.Appended.{content-with_parts, parts-none}
 use Rattle.thorin_join.proofs.Rows.OneAdded.{not-shared}
 use Rattle.thorin_builder.specs.Repeated.{IsLater, AddsNoUnit, with_more}
-use Rattle.thorin_builder.specs.StateView.{in_progress_of}
-use Rattle.thorin_builder.specs.declared.repeated.Repeated.{Repeated}
 use Rattle.thorin_builder.proofs.AddedAgain.{later-refl, with_again}
 use Rattle.thorin_builder.proofs.Extending.{with_source-is}
 use Rattle.thorin_builder.proofs.Later.{parts-later, units-later}

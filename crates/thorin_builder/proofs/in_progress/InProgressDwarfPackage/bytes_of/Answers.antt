@@ -1,19 +1,15 @@
 use Rattle.std.proofs.Common.{◌≡◌, ◌∙◌, ℕ, ◌<◌, List, map, length, get_or, ap, sym, refl, rules}
 use Rattle.std.proofs.Common.{Option, Some, None, position, arith}
+use Rattle.thorin_builder.proofs.Terms.{lookup, DwarfObject, blank, IndexEntry, same_name}
+use Rattle.thorin_builder.proofs.Terms.{in_progress_of}
 use Rattle.std.specs.Prelude.{option_map}
-use Rattle.std.specs.Map.{lookup}
 use Rattle.std.proofs.lemmas.List.{length-map}
 use Rattle.std.proofs.lemmas.Option.{slice_get-map, slice_get-get_or}
 use Rattle.indexmap.proofs.MapLemmas.{Found-position, Missing-position}
 use Rattle.dwp_table.specs.contracts.object.DwarfObjectPartialEq.TheImpl as derived
-use Rattle.dwp_table.specs.declared.object.DwarfObject.{DwarfObject}
-use Rattle.thorin_index.specs.Rows.{blank}
-use Rattle.thorin_index.specs.declared.entry.IndexEntry.{IndexEntry}
-use Rattle.thorin_input.specs.Names.{same_name}
 use Rattle.thorin_join.specs.State.{InProgress, names_of, unit_bytes, held_units}
 use Rattle.thorin_join.proofs.Joined.Source.{keys-held}
-use Rattle.thorin_builder.specs.StateView.{in_progress_of}
-use Rattle.thorin_builder.proofs.Names.{same_name-is}
+use Rattle.thorin_builder.proofs.NewUnitLemmas.{same_name-is}
 use Rattle.thorin_builder.proofs.in_progress.InProgressDwarfPackage.bytes_of.Goals as goal
 
 module _ (made : InProgress) (keys : List DwarfObject) (name : DwarfObject)

@@ -1,8 +1,6 @@
 use Rattle.std.proofs.Common.{◌∙◌, ℕ, ap, sym, map, take, length}
+use Rattle.thorin_builder.proofs.Terms.{DebugTypeSignature, IndexEntry, DwarfObject}
 use Rattle.std.specs.List.{take-map}
-use Rattle.dwp_table.specs.declared.object.DebugTypeSignature.{DebugTypeSignature}
-use Rattle.thorin_index.specs.declared.entry.IndexEntry.{IndexEntry}
-use Rattle.dwp_table.specs.declared.object.DwarfObject.{DwarfObject}
 use Rattle.thorin_builder.proofs.in_progress.InProgressDwarfPackage.restore.Goals as goal
 
 pub invariant_of-self : goal.invariant_of-self

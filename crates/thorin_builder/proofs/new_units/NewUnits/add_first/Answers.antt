@@ -1,8 +1,7 @@
 use Rattle.std.proofs.Common.{◌∙◌, ap, sym, rules}
+use Rattle.thorin_builder.proofs.Terms.{DwarfObject, adding_of}
 use Rattle.indexmap.proofs.CallerLemmas.{insert_entry-new}
-use Rattle.dwp_table.specs.declared.object.DwarfObject.{DwarfObject}
 use Rattle.thorin_input.specs.NewUnits.{with_first}
-use Rattle.thorin_builder.specs.UnitView.{adding_of}
 use Rattle.thorin_builder.proofs.Extending.{either_way}
 use Rattle.thorin_builder.proofs.NewUnitLemmas.{AreNumbered, not_added, added_last}
 use Rattle.thorin_builder.proofs.NewUnitLemmas.{numbered_last, numbered_still}

@@ -1,8 +1,7 @@
 use Rattle.std.proofs.Common.{◌≡◌, ◌&&◌, map, drop, []}
-use Rattle.std.specs.List.{list_all}
+use Rattle.thorin_builder.proofs.Terms.{list_all, new_of, met_of, adding_of}
 use Rattle.thorin_input.specs.Encodings.{section_has, are_alike}
 use Rattle.thorin_input.specs.NewUnits.{none_met, with_each_section}
-use Rattle.thorin_builder.specs.UnitView.{new_of, met_of, adding_of}
 use Rattle.thorin_input.specs.View.{used, source, tables_in}
 use Rattle.thorin_builder.proofs.new_units.NewUnits.read.Given as goal
 

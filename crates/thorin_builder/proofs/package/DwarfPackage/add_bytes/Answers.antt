@@ -1,13 +1,10 @@
 use Rattle.std.proofs.Common.{◌≡◌, ◌∙◌, Bool, true, false, not, cond, sym, refl}
 use Rattle.std.proofs.Common.{Option, Some, None}
-use Rattle.std.specs.Prelude.{is_some}
+use Rattle.thorin_builder.proofs.Terms.{is_some, Encoding, building, begun_of}
 use Rattle.std.proofs.lemmas.Bool.{le-ltb, lt-ltb}
 use Rattle.thorin_builder.specs.declared.in_progress.InProgressDwarfPackage.{InProgressDwarfPackage}
 use Rattle.thorin_join.specs.Builder.{State, with_own, own_after}
 use Rattle.thorin_input.specs.Encodings.{common}
-use Rattle.dwp_bytes.specs.declared.encoding.Encoding.{Encoding}
-use Rattle.thorin_builder.specs.BuilderView.{building}
-use Rattle.thorin_builder.specs.StateView.{begun_of}
 use Rattle.thorin_builder.proofs.AddedAgain.{joined-later, taken-as}
 use Rattle.thorin_builder.proofs.package.DwarfPackage.add_bytes.Goals.{then-unit_count-units}
 use Rattle.thorin_builder.proofs.package.DwarfPackage.add_bytes.Goals.{else-unit_count-units+then-is_first}

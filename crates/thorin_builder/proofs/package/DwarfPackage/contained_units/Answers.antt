@@ -1,6 +1,5 @@
 use Rattle.std.proofs.Common.{◌≡◌, ◌∙◌, ap, sym, Some, rules}
-use Rattle.thorin_join.specs.Builder.{names_in}
-use Rattle.thorin_builder.specs.StateView.{in_progress_of}
+use Rattle.thorin_builder.proofs.Terms.{names_in, in_progress_of}
 use Rattle.thorin_builder.proofs.Running.{names-begun}
 use Rattle.thorin_builder.proofs.package.DwarfPackage.contained_units.Goals as goal
 

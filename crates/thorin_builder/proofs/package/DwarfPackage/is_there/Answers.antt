@@ -1,7 +1,6 @@
 use Rattle.std.proofs.Common.{◌∙◌, ap, refl}
-use Rattle.std.specs.List.{list_any}
-use Rattle.thorin_input.specs.Names.{same_name}
-use Rattle.thorin_builder.proofs.Names.{among-is}
+use Rattle.thorin_builder.proofs.Terms.{list_any, same_name}
+use Rattle.thorin_builder.proofs.NewUnitLemmas.{among-is}
 use Rattle.thorin_builder.proofs.Running.{names-begun}
 use Rattle.thorin_builder.proofs.package.DwarfPackage.is_there.Goals as goal
 

@@ -1,6 +1,5 @@
 use Rattle.std.proofs.Common.{◌∙◌, ap₂, rules}
-use Rattle.std.specs.Prelude.{filter}
-use Rattle.thorin_join.specs.Builder.{is_missing}
+use Rattle.thorin_builder.proofs.Terms.{filter, is_missing}
 use Rattle.thorin_builder.proofs.Running.{names-begun}
 use Rattle.thorin_builder.proofs.package.DwarfPackage.missing_targets.Goals as goal
 

@@ -1,8 +1,7 @@
 use Rattle.std.proofs.Common.{◌≡◌, ◌∙◌, sym, refl, true, true≢false, Some, None}
+use Rattle.thorin_builder.proofs.Terms.{State, building}
 use Rattle.std.specs.Option.{is_some}
 use Rattle.thorin_again.specs.OwnUnits.{HoldsOwn, HasOneEncoding}
-use Rattle.thorin_join.specs.Builder.{State}
-use Rattle.thorin_builder.specs.BuilderView.{building}
 use Rattle.thorin_builder.proofs.package.DwarfPackage.packs_again.Goals as goal
 
 -- a builder whose inputs have one encoding
