@@ -6,12 +6,6 @@ ghost use Rattle.thorin_again.specs.Again.{MeansOnceWritten};
 ghost use Rattle.thorin_join.specs.Builder.{State, finish_test, IsFinishedState};
 ghost use Rattle.thorin_join.specs.Represents.{IsSoundBegun, units_in};
 
-use dwp_dwarf::laws::units_have_all_bytes;
-use dwp_index::laws::contents_are_read;
-use dwp_table::laws::look_up_finds_exactly;
-use thorin_index::laws::{written_index_has_the_entries, written_index_is_read};
-use thorin_packaged::laws::every_row_is_found_by_place;
-
 /// The law of packing again: where each unit of a finished package has the encoding of the first
 /// that is read of its file, the written bytes, wherever they are taken as an input, mean just
 /// these units: each once, with the same bytes, pieces, strings and encoding, in some order (that
@@ -22,11 +16,4 @@ pub fn written_packages_mean_their_units()
         → finish_test state ≡ Ok tt
         → IsFinishedState state file
         → MeansOnceWritten (units_in state) file }
-{
-    units_have_all_bytes();
-    written_index_is_read();
-    written_index_has_the_entries();
-    contents_are_read();
-    look_up_finds_exactly();
-    every_row_is_found_by_place();
-}
+{}

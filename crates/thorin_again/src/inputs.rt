@@ -14,14 +14,6 @@ ghost use Rattle.thorin_again.specs.OwnAccepted.{IsAcceptedByNewOnceWritten, IsA
 ghost use Rattle.thorin_again.specs.PlainInputs.{AreTaken, IsOfPlainObjects};
 ghost use Rattle.thorin_join.specs.Represents.{units_in};
 
-use crate::own::one_encoding_is_kept;
-use crate::plain::{
-    own_packages_are_accepted, own_packages_are_accepted_by_a_new_one, plain_packages_are_kept,
-};
-use dwp_dwarf::laws::units_have_all_bytes;
-use dwp_index::laws::units_are_read_alone;
-use thorin_join::{finished_packages_are_read, inputs_are_joined};
-
 /// The law of packing again, by the inputs: once a new builder took some inputs, `packs_again` is
 /// true exactly where each of them is a plain object that added a unit, all their units have one
 /// encoding, those that were passed over too, and there are abbreviations and, beside string
@@ -29,9 +21,7 @@ use thorin_join::{finished_packages_are_read, inputs_are_joined};
 pub fn plain_objects_pack_again()
     ensures { (accepted : List (List ℕ)) (state : State) → AreTaken accepted start state
         → (packs_again state ≡ true) ↔ IsOfPlainObjects accepted state }
-{
-    inputs_are_joined();
-}
+{}
 
 /// The law of one encoding: once a new builder took some inputs, in each of which all units have
 /// the encoding of the first, those that were passed over too, the file of its package, once it is
@@ -42,12 +32,7 @@ pub fn inputs_of_one_encoding_keep_their_strings()
         → (file : Object) → finish_test state ≡ Ok tt
         → IsFinishedState state file
         → AnswersOnceWritten (units_in state) file }
-{
-    units_have_all_bytes();
-    units_are_read_alone();
-    inputs_are_joined();
-    finished_packages_are_read();
-}
+{}
 
 /// The law of packages of one encoding: once a new builder took inputs all of whose units have one
 /// encoding, those that were passed over too, the first unit that is read of the written package
@@ -58,11 +43,7 @@ pub fn packages_have_the_encoding_of_their_inputs()
         → All (IsOfEncoding encoding) accepted
         → (file : Object) → IsFinishedState state file
         → HaveEncodingOnceWritten (units_in state) file }
-{
-    units_have_all_bytes();
-    units_are_read_alone();
-    inputs_are_joined();
-}
+{}
 
 /// The law of byte order: an input leaves a package the byte order that it has, and begins one with
 /// its own. It does nothing.
@@ -88,10 +69,4 @@ pub fn packages_that_pack_again_are_accepted()
         → finish_test state ≡ Ok tt
         → IsFinishedState state file
         → IsAcceptedByNewOnceWritten state file }
-{
-    inputs_are_joined();
-    one_encoding_is_kept();
-    plain_packages_are_kept();
-    own_packages_are_accepted();
-    own_packages_are_accepted_by_a_new_one();
-}
+{}

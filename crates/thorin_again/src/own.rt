@@ -18,17 +18,12 @@ ghost use Rattle.thorin_again.specs.OwnUnits.{HoldsOwn};
 ghost use Rattle.thorin_join.specs.Represents.{IsSoundBegun};
 ghost use Rattle.thorin_join.specs.State.{InProgress};
 
-use thorin_index::laws::written_index_is_read;
-use thorin_join::inputs_are_joined;
-
 /// The law of the one encoding: where the inputs of a builder have one, there are units, and all of
 /// them come from inputs of it; an input that is taken keeps that so. It does nothing.
 pub fn one_encoding_is_kept()
     ensures { (bytes : List ℕ) (old new : State) → IsSoundBegun old.begun → HoldsOwn old
         → taken bytes old ≡ Ok new → HoldsOwn new }
-{
-    inputs_are_joined();
-}
+{}
 
 /// The law of own packages up to their parts: the bytes of a written package whose units come from
 /// inputs of one encoding pass the tests of the file, its sections, its encoding, its byte order
@@ -42,9 +37,7 @@ pub fn own_packages_are_taken_up_to_their_parts()
     ensures parts { (source : Source) (contents : Contents) (strings : List (List ℕ))
         → source.object.sections ≡ written_used contents → KindsDiffer contents
         → CanTake source contents strings → TakesParts source strings }
-{
-    written_index_is_read();
-}
+{}
 
 /// The law of longer abbreviations: the identity that a unit has by a table of abbreviations it has
 /// too where more bytes follow the table (DWARF 5, 7.5.3). It does nothing.

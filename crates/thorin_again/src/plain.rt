@@ -21,15 +21,6 @@ ghost use Rattle.thorin_again.specs.Plain.{HoldsPlain, IsPlain};
 ghost use Rattle.thorin_join.specs.Represents.{IsSoundBegun};
 ghost use Rattle.thorin_join.specs.State.{InProgress, adding};
 
-use crate::again::written_packages_mean_their_units;
-use dwp_dwarf::laws::units_have_all_bytes;
-use dwp_index::laws::{contents_are_read, units_are_read_alone};
-use dwp_table::laws::look_up_finds_exactly;
-use thorin_index::laws::{written_index_has_the_entries, written_index_is_read};
-use thorin_join::{finished_packages_are_read, inputs_are_joined};
-use thorin_packaged::laws::{every_row_is_found_by_place, packaged_rows_are_read_alike};
-use thorin_strings::laws::rewritten_offsets_name_the_same;
-
 /// The law of plain packages: where the inputs of a builder have one encoding, each section that
 /// units share and that has bytes has a part that a row names; the ranges of string offsets that
 /// rows have fill their section, one directly behind the other, each with whole entries under a
@@ -39,11 +30,7 @@ use thorin_strings::laws::rewritten_offsets_name_the_same;
 pub fn plain_packages_are_kept()
     ensures { (bytes : List ℕ) (old new : State) → IsSoundBegun old.begun → HoldsPlain old
         → taken bytes old ≡ Ok new → HoldsPlain new }
-{
-    rewritten_offsets_name_the_same();
-    units_have_all_bytes();
-    units_are_read_alone();
-}
+{}
 
 /// The law of own string offsets: those of a written package of plain objects of one encoding are
 /// rewritten among whatever strings there are, unless the offset of a string doesn't fit the
@@ -55,11 +42,7 @@ pub fn own_string_offsets_are_rewritten()
         → (strings : List (List ℕ))
         → UnlessStringOffset (rewritten (own_source file encoding indexes)
         (content_of StrOffsets file.contents) strings) }
-{
-    written_index_is_read();
-    written_index_has_the_entries();
-    contents_are_read();
-}
+{}
 
 /// The law of own units: those of a written package of plain objects of one encoding are taken by
 /// any package, each with the name and by the row that it has, unless a compilation unit is there
@@ -71,16 +54,7 @@ pub fn own_units_are_taken()
         → (before : InProgress) (parts : Contents) (after : List (List ℕ)) → IsTable before.strings
         → parts_of (own_source file encoding indexes) before.strings ≡ Ok (parts, after)
         → UnlessForeseen (new_units (adding (own_source file encoding indexes) before parts)) }
-{
-    rewritten_offsets_name_the_same();
-    packaged_rows_are_read_alike();
-    units_have_all_bytes();
-    every_row_is_found_by_place();
-    look_up_finds_exactly();
-    written_index_is_read();
-    written_index_has_the_entries();
-    contents_are_read();
-}
+{}
 
 /// The law of own packages: where `packs_again` is true of a builder, and its package is finished
 /// and written, the written bytes are taken by any package of their byte order and by a new one,
@@ -94,16 +68,7 @@ pub fn own_packages_are_accepted()
         → finish_test state ≡ Ok tt
         → IsFinishedState state file
         → IsAcceptedOnceWritten state file }
-{
-    rewritten_offsets_name_the_same();
-    packaged_rows_are_read_alike();
-    units_have_all_bytes();
-    every_row_is_found_by_place();
-    look_up_finds_exactly();
-    written_index_is_read();
-    written_index_has_the_entries();
-    contents_are_read();
-}
+{}
 
 /// The law of own packages in a new one: where `packs_again` is true of a builder, and its package
 /// is finished and written, the written bytes are taken by a new package: no compilation unit
@@ -117,16 +82,4 @@ pub fn own_packages_are_accepted_by_a_new_one()
         → finish_test state ≡ Ok tt
         → IsFinishedState state file
         → IsAcceptedByNewOnceWritten state file }
-{
-    rewritten_offsets_name_the_same();
-    packaged_rows_are_read_alike();
-    units_have_all_bytes();
-    every_row_is_found_by_place();
-    look_up_finds_exactly();
-    written_index_is_read();
-    written_index_has_the_entries();
-    contents_are_read();
-    inputs_are_joined();
-    written_packages_mean_their_units();
-    finished_packages_are_read();
-}
+{}

@@ -22,7 +22,7 @@ use Rattle.thorin_input.specs.Adjusting.{moved, moved_range, without_column, adj
 use Rattle.thorin_index.specs.Entries.{contribution_to}
 use Rattle.thorin_index.specs.IndexText.{is_used}
 use Rattle.thorin_index.specs.declared.entry.IndexEntry.{IndexEntry}
-use Rattle.thorin_join.specs.Builder.{rows_of}
+use Rattle.thorin_join.specs.Builder.{rows_of, is_chosen}
 use Rattle.thorin_input.specs.Growing.{Contents, range_put, joined_parts}
 use Rattle.thorin_input.specs.Indexes.{Indexes, Source}
 use Rattle.thorin_input.specs.Format.{is_shared}
@@ -34,7 +34,8 @@ use Rattle.thorin_join.proofs.Rows.OfUnits.{own-index, some-index, whole-part}
 use Rattle.thorin_join.proofs.Files.UnitsFound.{part-there}
 use Rattle.thorin_join.proofs.Rows.Ranges.{range-none}
 use Rattle.thorin_join.proofs.Rows.OneAdded.{place-put}
-use Rattle.thorin_again.proofs.Offsets.RewrittenAgain.{each-chosen, at-row, by-passing, used-chosen}
+use Rattle.thorin_again.proofs.Offsets.RewrittenAgain.{at-row, by-passing, used-chosen}
+use Rattle.std.proofs.ByRecursion.{all_kept_by}
 use Rattle.thorin_again.proofs.Opened.Sections.{Unless, and-then, answered, behind, front, Fares}
 use Rattle.thorin_again.proofs.Opened.Sections.{then-fares, rest-differ, section_of}
 use Rattle.std.specs.Map.{lookup}
@@ -54,7 +55,7 @@ use Rattle.thorin_again.specs.Plain.{IsPlain, NamesItself}
 use Rattle.dwp_dwarf.specs.Units.{Unit as Header, units}
 use Rattle.thorin_join.proofs.Rows.StandApart.{sound-inside}
 use Rattle.thorin_join.proofs.Files.Finished.{finished-grows, finished-order}
-use Rattle.thorin_again.proofs.Meant.RowByRow.{IsUnitOf, Laws, of-section, each-place, row-there}
+use Rattle.thorin_again.proofs.Meant.RowByRow.{IsUnitOf, of-section, each-place, row-there}
 use Rattle.thorin_again.proofs.Meant.RowByRow.{place-is, read-alone, place-eq}
 use Rattle.thorin_again.proofs.Opened.Indexes.{finished-shared, IsReadOf, lie-kept}
 use Rattle.thorin_again.proofs.Meant.OneRow.{parts, row-lies, found-range, found-row, row-tested}
@@ -70,7 +71,6 @@ use Rattle.thorin_input.specs.Used.{Used}
 use Rattle.thorin_strings.specs.Strings.{IsTable}
 use Rattle.thorin_join.specs.Laid.{is_at, same_place}
 use Rattle.thorin_join.proofs.Moved.RootEntries.{identity-shifted}
-use Rattle.thorin_join.proofs.Parts.OffsetLaws.{NamesTheSameLaw, PackagedLaw}
 use Rattle.thorin_again.specs.OwnInput.{own_source, written_used}
 use Rattle.thorin_again.proofs.Kept.Names.{keep-names}
 use Rattle.thorin_join.proofs.Parts.OfPackages.{parts-first, rows-read}
@@ -117,12 +117,12 @@ each-fine f fine (x ∷ xs) = and-then (λ e. ⊥) (f x) _ (fine x) (λ y is.
     and-then (λ e. ⊥) (read_each f xs) _ (each-fine f fine xs) (λ ys are. tt))
 
 -- a unit that is read of a written package of plain objects
-module _ (laws : Laws) {encoding : Encoding} {file : File} {indexes : Indexes}
-    {made : InProgress} (is : IsReadOf encoding file indexes made) (plain : IsPlain encoding made)
+module _ {encoding : Encoding} {file : File} {indexes : Indexes} {made : InProgress}
+    (is : IsReadOf encoding file indexes made) (plain : IsPlain encoding made)
     {place : UnitSection} {row : IndexEntry} {later : List IndexEntry} {h : Header}
     (u : IsUnitOf file.order file.contents place made.rows row later h) where
   abbrev found : Ranges
-  found = (parts laws is u).row
+  found = (parts is u).row
 
   -- a section that some row names has a column in the index of that row
   column-there : (kind : SectionKind) (b : Bool) (read : Option Index)
@@ -132,7 +132,7 @@ module _ (laws : Laws) {encoding : Encoding} {file : File} {indexes : Indexes}
       by-passing _ (λ row. is_some (contribution_to kind row)) read (rows_of b made.rows) has used
       (λ index n row there at passes parts.
       let inside = at-row (LieInside made.file.contents) (rows_of b made.rows) n row
-      (each-chosen _ b made.rows (sound-inside made is.own.sound)) at in
+      (all_kept_by (is_chosen b) _ made.rows (sound-inside made is.own.sound)) at in
       rw there (by-bool _ (is_some (column_place index.version index.columns kind)) (λ e. e)
       (λ e. absurd (true≢false (sym passes ∙ ap is_some (sym (part-there (contribution_to kind row)
       (inside.some kind)) ∙ sym (parts.parts kind)
@@ -150,12 +150,12 @@ module _ (laws : Laws) {encoding : Encoding} {file : File} {indexes : Indexes}
       } in
       let own : row_of (own_index a row.id) (identifier_of row.id) ≡ Ok found =
       ap (λ i. row_of i (identifier_of row.id)) (own-index indexes kind row.id)
-      ∙ found-row laws is u in
-      let inside = row-lies laws is u in
+      ∙ found-row is u in
+      let inside = row-lies is u in
       rw (some-index indexes.compilations indexes.types is.again.packed, own)
       (by-bool _ (has_column_for kind (own_index a row.id))
       (λ mine. rw mine (moved-fine kind (identifier_of row.id) (range_in found kind) x before
-      (λ r e. let there = sym (found-range laws is u kind) ∙ e in
+      (λ r e. let there = sym (found-range is u kind) ∙ e in
       let i = inside.inside kind r there in (omega (arith, i, long), inside.some kind r there))))
       (λ none. by-bool _ (has_column_for kind (other_index a row.id))
       (λ others. rw (none, others) tt)
@@ -311,10 +311,10 @@ module _ (E : ErrorValue → Type 0) (add : Adding) (contents : Contents) (P : M
 
 -- the units of a written package, added to one that had no units, or by which a compilation unit
 -- that is there already may be refused
-module _ (names : NamesTheSameLaw) (law : PackagedLaw) (laws : Laws) (Fresh : Type 0)
-    (E : ErrorValue → Type 0) (may : Fresh ⊎ ((id : ℕ) → E (DuplicateUnit id)))
-    {encoding : Encoding} {file : File} {indexes : Indexes} {made : InProgress}
-    (is : IsReadOf encoding file indexes made) (plain : IsPlain encoding made) (before : InProgress)
+module _ (Fresh : Type 0) (E : ErrorValue → Type 0)
+    (may : Fresh ⊎ ((id : ℕ) → E (DuplicateUnit id))) {encoding : Encoding} {file : File}
+    {indexes : Indexes} {made : InProgress} (is : IsReadOf encoding file indexes made)
+    (plain : IsPlain encoding made) (before : InProgress)
     (none_there : Fresh → before.rows ≡ []) (parts_taken : Contents) (after : List (List ℕ))
     (table : IsTable before.strings) (parts_are : parts_of (own_source file encoding indexes)
     before.strings ≡ Ok (parts_taken, after)) where
@@ -383,15 +383,15 @@ module _ (names : NamesTheSameLaw) (law : PackagedLaw) (laws : Laws) (Fresh : Ty
         let at = row-there u in
         let alone = at-row (NamesItself file.order encoding file.contents) made.rows place_at r
         named-all at u.alone u.rest (read-alone u) in
-        let named = named-again laws is u
+        let named = named-again is u
         (identity-shifted _ u.offset u.alone h u.shifted ∙ alone.1) in
         let parts_long = copied-or-offsets
         (λ k. length (joined_parts k parts_taken) ≡ length (content_of k file.contents))
         (λ k copied. ap length (parts-first source is.again.packed before.strings parts_taken after
         parts_are k copied ∙ is.again.held k))
-        ((rows-read names law source is.again.packed before.strings parts_taken after table
+        ((rows-read source is.again.packed before.strings parts_taken after table
         parts_are).size ∙ ap length (is.again.held kinds.StrOffsets)) in
-        let given = row-given laws is plain u add.whole (λ k. joined_parts k parts_taken)
+        let given = row-given is plain u add.whole (λ k. joined_parts k parts_taken)
         before.file.contents parts_long
         (whole-part encoding before.file.contents parts_taken) in
         let free = λ (f : Fresh). left f place_at r at (ap (λ p. is_met p met) (sym (place-is u))
@@ -400,7 +400,7 @@ module _ (names : NamesTheSameLaw) (law : PackagedLaw) (laws : Laws) (Fresh : Ty
         then-fares E (Added r.id new) _ (with_read add from new (Ok h))
         (λ next. with_each_read add from next reads) (rw named_from (unit-fares h new given.0
         (kept_bytes add.held new.units r.id) r.id (λ f. rw (none_there f, free f) refl)
-        (rw from_is (row-tested laws is u)) given.1))
+        (rw from_is (row-tested is u)) given.1))
         (λ next more. later next (λ f n row there to_come last.
         let other : n ≢ place_at = λ same. let one : row ≡ r = same_Some row r (sym there
         ∙ ap (slice_get made.rows) same ∙ at) in
@@ -415,7 +415,7 @@ module _ (names : NamesTheSameLaw) (law : PackagedLaw) (laws : Laws) (Fresh : Ty
     unfolding with_each_read
     section-taken new opened = subst (λ l. Fares E (Open (with_met place met))
         (with_each_read add from new (units place (section file.order l)))) (sym bytes)
-        (of-section laws.taken file.order file.contents place made.rows TakesRows
+        (of-section file.order file.contents place made.rows TakesRows
         (λ new left f n row at free.
         let at_row = place_of row.id row.debug_types in
         let other = neither (same_place place at_row) _ (sym (met-with place at_row met) ∙ free) in

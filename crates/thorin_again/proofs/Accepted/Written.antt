@@ -13,11 +13,11 @@ use Rattle.std.proofs.lemmas.List.Sorted.{sum_by-IsPermutation}
 use Rattle.std.proofs.lemmas.Map.Keys.{IsDistinct-IsPermutation, IsDistinct-from_apart}
 use Rattle.indexmap.proofs.MapLemmas.{lookup_permutation}
 use Rattle.dwp_table.specs.declared.object.DwarfObject.{DwarfObject}
-use Rattle.thorin_again.specs.Again.{all_meant, HaveEncodingOf, MeansOnceWritten}
+use Rattle.thorin_again.specs.Again.{all_meant, HaveEncodingOf}
 use Rattle.thorin_join.specs.Join.{Joins, IsPackageOf, same_sort, limit_of, look_limit}
 use Rattle.thorin_join.specs.Meaning.{Meaning, Members, input_meaning, keys, joining}
 use Rattle.thorin_input.specs.Names.{same_name}
-use Rattle.thorin_again.proofs.Lists.OneEncoding.{Finds, own-encoded, FinishedLaw, first-of}
+use Rattle.thorin_again.proofs.Lists.OneEncoding.{Finds, own-encoded, first-of}
 use Rattle.thorin_again.proofs.Lists.OneEncoding.{AreEncoded, input-order, answers-whole}
 use Rattle.thorin_join.proofs.Units.NamesApart.{same_name-self, same_name-true, same_name-sym}
 use Rattle.thorin_again.proofs.Accepted.OwnUnits.{taken-all, different-sym}
@@ -51,20 +51,20 @@ use Rattle.thorin_again.specs.Plain.{IsPlain, HoldsPlain}
 use Rattle.thorin_join.specs.Represents.{IsSoundBegun, units_of, units_begun, units_in}
 use Rattle.thorin_join.specs.State.{InProgress, adding, abbreviations_test, with_source, names_of}
 use Rattle.thorin_input.specs.Used.{counts_once}
-use Rattle.thorin_join.proofs.Joined.Input.{new-sound}
+use Rattle.thorin_join.proofs.Joined.Input.{new-sound, input-keeps}
 use Rattle.thorin_again.proofs.Opened.Indexes.{finished-shared, own-offsets, own-offsets-alone}
 use Rattle.thorin_again.proofs.Opened.Indexes.{in-format, lie-used, up-to-parts, OwnMade, own-made}
 use Rattle.thorin_again.proofs.Opened.Indexes.{lie-kept, read-of}
 use Rattle.thorin_again.proofs.Opened.Sections.{present-written, info-written, object-written}
 use Rattle.thorin_again.proofs.Opened.Sections.{opened-elf, input-encoding, own-parts-tried, Unless}
 use Rattle.thorin_again.proofs.Opened.Sections.{and-then, answered}
-use Rattle.thorin_again.proofs.Kept.OneEncoding.{InputsJoined, begun-now}
-use Rattle.thorin_join.proofs.Parts.OffsetLaws.{NamesTheSameLaw, PackagedLaw}
+use Rattle.thorin_again.proofs.Kept.OneEncoding.{begun-now}
 use Rattle.thorin_join.proofs.Files.Finished.{finished-own, finished-strings, finished-order}
-use Rattle.thorin_again.proofs.Lists.InOrder.{InputsSound, there-back, meant_or}
+use Rattle.thorin_join.proofs.Files.Finished.{finished-is}
+use Rattle.thorin_again.proofs.Lists.InOrder.{there-back, meant_or}
 use Rattle.thorin_join.proofs.Units.InRows.{keys-units}
 use Rattle.thorin_input.specs.InputStrings.{rewritten}
-use Rattle.thorin_again.proofs.Meant.RowByRow.{Laws}
+use Rattle.thorin_again.proofs.Meant.Package.{again-is}
 
 -- ---- names
 
@@ -146,14 +146,9 @@ own-there : (own : Option Encoding) (b : Bool) → (is_some own && b) ≡ true �
 own-there None b h = absurd cc
 own-there (Some encoding) b h = (encoding, refl, h)
 
--- the law of packing again
-abbrev MeansLaw : Type 0
-MeansLaw = (state : State) (file : File) → IsSoundBegun state.begun → finish_test state ≡ Ok tt
-    → IsFinishedState state file → MeansOnceWritten (units_in state) file
-
 -- the file of a state that packs again
-module _ (names : NamesTheSameLaw) (law : PackagedLaw) (laws : Laws) (state : State) (file : File)
-    (sound : IsSoundBegun state.begun) (holds : HoldsOwn state) (holds_plain : HoldsPlain state)
+module _ (state : State) (file : File) (sound : IsSoundBegun state.begun) (holds : HoldsOwn state)
+    (holds_plain : HoldsPlain state)
     (tested : finish_test state ≡ Ok tt) (f : IsFinishedState state file)
     (packs : packs_again state ≡ true) (differ : KindsDiffer file.contents)
     (back : elf_of (file_text file) ≡ Ok (written_elf file)) where
@@ -189,7 +184,7 @@ module _ (names : NamesTheSameLaw) (law : PackagedLaw) (laws : Laws) (state : St
     holds.some encoding there.1,
     holds.all encoding there.1,
     info,
-    first-of laws.taken made file encoding (rw f.begun at sound) fin differ
+    first-of made file encoding (rw f.begun at sound) fin differ
         (λ k d within. (encoded k d within, all k d within)) info,
   )
 
@@ -242,7 +237,7 @@ module _ (names : NamesTheSameLaw) (law : PackagedLaw) (laws : Laws) (state : St
       → Unless E (taken (file_text file) before)
   unfolding taken with_source_or_new with_source own_encoding file_encoding
   taken-unless E before same takes =
-      let t = up-to-parts laws.read state encoding file own before.begun same in
+      let t = up-to-parts state encoding file own before.begun same in
       let given = takes t.indexes t.read in
       let parts = own-parts-tried E (own_source file encoding t.indexes) file.contents
       (package_or_new (written_elf file) before.begun).strings refl differ (record {
@@ -260,15 +255,15 @@ module _ (names : NamesTheSameLaw) (law : PackagedLaw) (laws : Laws) (state : St
       ) (and-then E _ _
       (and-then E _ _ (and-then E _ _ parts (λ p e. rw abbreviations-tested
       (and-then E _ _ (given.1 p e) (λ new h. tt)))) (λ m h. tt)) (λ now h. tt))
-      -- a package of its byte order takes them, unless it is foreseen otherwise
 
+  -- a package of its byte order takes them, unless it is foreseen otherwise
   pub own-all : IsAccepted file
   own-all before fine same =
       let now = package_or_new (written_elf file) before.begun in
       taken-unless IsForeseen before same (λ indexes read.
-      let is = read-of own laws.read laws.entries indexes read in (
+      let is = read-of own indexes read in (
         foreseen _ (own-offsets is plain now.strings),
-        λ p e. taken-all names law laws ⊥ IsForeseen (inr (λ id. inr (id, refl))) is plain now
+        λ p e. taken-all ⊥ IsForeseen (inr (λ id. inr (id, refl))) is plain now
             (λ never. absurd never) p.0 p.1
             (new-sound (written_elf file) before.begun fine).units.table e,
       ))
@@ -277,34 +272,32 @@ module _ (names : NamesTheSameLaw) (law : PackagedLaw) (laws : Laws) (state : St
   new-accepted : (after : State) × (taken (file_text file) start ≡ Ok after)
   new-accepted =
       answered (taken (file_text file) start) (taken-unless (λ e. ⊥) start refl (λ indexes read.
-      let is = read-of own laws.read laws.entries indexes read in (
+      let is = read-of own indexes read in (
         rw (own-offsets-alone is plain).1 tt,
-        λ p e. taken-all names law laws (Unit {0}) (λ e. ⊥) (inl tt) is plain
-            (begun_by (written_elf file)) (λ fresh. refl) p.0 p.1
+        λ p e. taken-all (Unit {0}) (λ e. ⊥) (inl tt) is plain (begun_by (written_elf file))
+            (λ fresh. refl) p.0 p.1
             (new-sound (written_elf file) None tt).units.table e,
       )))
 
   -- and has their units then
-  pub own-by-new : InputsSound → InputsJoined → MeansLaw → FinishedLaw
-      → IsAcceptedByNew (units_in state) file
-  own-by-new sounds joins means finishes =
+  pub own-by-new : IsAcceptedByNew (units_in state) file
+  own-by-new =
       let after = new-accepted.0 in
       let bytes = file_text file in
       let input = begun-now bytes start after new-accepted.1 in
+      let keeps = input-keeps bytes None after.begun tt input in
       let encodings : HaveEncodingOf bytes (units_in state) = λ k d within.
       input-encoding file differ back ∙ own.first ∙ ap Ok (sym (own.all k d within)) in
       let distinct = subst (λ b. IsDistinct same_name (keys (units_begun b))) (sym f.begun)
       (rw (keys-units made) (IsDistinct-from_apart same_name (names_of made) has.sound.apart)) in
-      let perm = alone-units bytes (units_in state) (units_in after) distinct
-      (joins bytes None after.begun tt input) (means state file sound tested f differ back encodings
-      start after new-accepted.1) in
+      let perm = alone-units bytes (units_in state) (units_in after) distinct keeps.joins
+      (again-is state file sound tested f differ back encodings start after new-accepted.1) in
       record {
         after = after;
         is = new-accepted.1;
         units_are = perm;
         answers = λ alone passed finished kinds_differ read.
-            let p = finishes after alone (sounds bytes None after.begun tt input) passed finished
-            kinds_differ read in
+            let p = finished-is after alone keeps.sound passed finished kinds_differ read in
             let same = finished-order finished.made alone finished.finished
             ∙ sym (ap (λ b. order_of b file.order) finished.begun)
             ∙ input-order bytes (written_elf file) None after.begun file.order

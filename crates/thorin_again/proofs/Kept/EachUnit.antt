@@ -1,34 +1,32 @@
--- What holds of each unit: of those that are read of an input, that are joined, and that are added
--- to a package in turn. Each section that units share has a part that a row names, where plain
--- objects add units.
-use Rattle.std.proofs.Common.{◌≡◌, ℕ, suc, true, List, [], ◌∷◌, ◌++◌, refl, ap, subst, Ok, Option}
-use Rattle.std.proofs.Common.{Some, None, sym, ◌∙◌, eqb, ◌<◌, false, length, arith, true≢false}
+-- What holds of each unit of an input of one encoding, and of those that are added to a package in
+-- turn. Each section that units share has a part that a row names, where plain objects add units.
+use Rattle.std.proofs.Common.{◌≡◌, ℕ, true, List, [], ◌∷◌, ◌++◌, refl, ap, subst, Ok, Option}
+use Rattle.std.proofs.Common.{Some, sym, ◌∙◌, eqb, ◌<◌, false, length, arith, true≢false}
 use Rattle.std.proofs.Common.{length-append}
-use Rattle.std.specs.Prelude.{slice_get, is_some}
+use Rattle.std.specs.Prelude.{is_some}
 use Rattle.std.specs.List.{list_any, list_all}
 use Rattle.std.proofs.lemmas.List.Sums.{AllPass-from_list_all}
 use Rattle.std.proofs.lemmas.Option.{slice_get_within, get_or_from_slice_get, cond_some}
 use Rattle.dwp_base.proofs.Bools.{both, by-bool, or-right}
-use Rattle.dwp_base.proofs.Steps.{bind-was, same-ok}
+use Rattle.dwp_base.proofs.Steps.{same-ok}
 use Rattle.dwp_bytes.specs.Input.{section}
-use Rattle.dwp_dwarf.specs.Units.{Unit as Header, UnitsAreTaken, units}
+use Rattle.dwp_dwarf.specs.Units.{Unit as Header, units}
 use Rattle.dwp_base.specs.declared.section.SectionKind.{SectionKind}
 use Rattle.dwp_dwarf.specs.declared.unit.UnitSection.{UnitSection}
 use Rattle.dwp_table.specs.declared.object.DwarfObject.{DwarfObject}
-use Rattle.thorin_errors.specs.Answers.{as_error}
-use Rattle.thorin_errors.specs.Errors.{ErrorValue, ParseUnitHeader}
+use Rattle.thorin_errors.specs.Errors.{ErrorValue}
 use Rattle.thorin_input.specs.Encodings.{has_encoding, section_has, common}
 use Rattle.thorin_input.specs.Indexes.{Source, is_package}
 use Rattle.thorin_input.specs.Names.{same_name}
-use Rattle.thorin_input.specs.NewUnits.{Adding, NewUnit, name_for, unit_section, New}
+use Rattle.thorin_input.specs.NewUnits.{Adding, NewUnit, New}
 use Rattle.thorin_input.specs.Used.{Used}
-use Rattle.thorin_join.specs.Meaning.{UnitRead, named_unit, named_each, named_at, named_sections}
+use Rattle.thorin_join.specs.Meaning.{UnitRead}
 use Rattle.thorin_join.specs.Meaning.{joining, keys}
 use Rattle.thorin_join.specs.State.{kind_at, InProgress, names_of, with_unit_added, with_new_unit}
 use Rattle.thorin_join.specs.State.{with_new_units, row_at, adding, with_source}
-use Rattle.thorin_join.proofs.Units.HeadersRead.{Listed, Reads, ReadAlone, kind-place}
+use Rattle.thorin_join.proofs.Units.HeadersRead.{Reads}
 use Rattle.thorin_join.proofs.Units.JoinedByName.{IsAdded, AreAdded, UnitsJoined, units-joined}
-use Rattle.thorin_join.proofs.Units.Whole.{IsKnown, known-in, error-ok, Goes, units-go}
+use Rattle.thorin_join.proofs.Units.Whole.{IsKnown, known-in, Goes, units-go}
 use Rattle.std.proofs.lemmas.Bool.{eqb-true, eq-eqb}
 use Rattle.dwp_bytes.specs.declared.encoding.Encoding.{Encoding}
 use Rattle.dwp_bytes.specs.declared.encoding.Format.{Format}
@@ -50,93 +48,15 @@ use Rattle.thorin_join.proofs.Rows.OfUnits.{adjusted-plain, is-unit_row, whole-p
 use Rattle.thorin_join.proofs.Parts.Appended.{content-with_bytes, content-with_parts, differ}
 use Rattle.thorin_join.proofs.Joined.Source.{with_all_parts, source-made}
 use Rattle.thorin_join.proofs.Rows.OneAdded.{row-other}
+use Rattle.thorin_join.proofs.Units.HeadersRead.{AllSo, WasRead, each-all, each-joining}
+use Rattle.thorin_join.proofs.Units.HeadersRead.{sections-are}
+use Rattle.std.specs.List.{AllByRecursion as Each}
 
--- ---- lists
-
-abbrev pub Each : {X : Type 0} → (X → Type 0) → List X → Type 0
-Each P [] = Unit {0}
-Each P (x ∷ xs) = P x × Each P xs
-
-pub each-weaker : {X : Type 0} (P Q : X → Type 0) → ((x : X) → P x → Q x) → (xs : List X)
-    → Each P xs → Each Q xs
-each-weaker P Q f [] h = tt
-each-weaker P Q f (x ∷ xs) h = (f x h.0, each-weaker P Q f xs h.1)
-
-pub each-all : {X : Type 0} (P : X → Type 0) → ((x : X) → P x) → (xs : List X) → Each P xs
-each-all P f [] = tt
-each-all P f (x ∷ xs) = (f x, each-all P f xs)
-
-pub each-both : {X : Type 0} (P Q : X → Type 0) (xs : List X) → Each P xs → Each Q xs
+-- two that hold of each hold together
+each-both : {X : Type 0} (P Q : X → Type 0) (xs : List X) → Each P xs → Each Q xs
     → Each (λ x. P x × Q x) xs
 each-both P Q [] h k = tt
 each-both P Q (x ∷ xs) h k = ((h.0, k.0), each-both P Q xs h.1 k.1)
-
-pub each-append : {X : Type 0} (P : X → Type 0) (xs ys : List X) → Each P xs → Each P ys
-    → Each P (xs ++ ys)
-each-append P [] ys h k = k
-each-append P (x ∷ xs) ys h k = (h.0, each-append P xs ys h.1 k)
-
-pub each-joining : {X : Type 0} (P : DwarfObject × X → Type 0) (names : List DwarfObject)
-    (us : List (DwarfObject × X)) → Each P us → Each P (joining names us)
-each-joining P names [] h = tt
-each-joining P names (u ∷ us) h =
-    by-bool _ (list_any (same_name u.0) names)
-    (λ there. rw there (each-joining P names us h.1))
-    (λ new. rw new (h.0, each-joining P (names ++ u.0 ∷ []) us h.1))
-
--- ---- units that are read
-
--- a unit was read, under its name, of a section of this place, and this is so of it
-pub record WasRead (source : Source) (T : UnitSection → Header → Type 0)
-    (r : DwarfObject × UnitRead) : Type 0 where
-  pub place : UnitSection
-  pub from : r.1.from ≡ kind_at place
-  pub so : T place r.1.unit
-  pub named : name_for source r.1.from r.1.unit ≡ Ok r.0
-
-module _ (source : Source) (T : UnitSection → Header → Type 0) where
-  -- it is so of each unit that is read of a section
-  abbrev pub AllSo : Used → Type 0
-  AllSo used = (place : UnitSection) → unit_section used.kind ≡ Some place → (k : ℕ)
-      (unit : Header) → slice_get (units place (section source.object.order used.bytes)) k
-      ≡ Some (Ok unit) → T place unit
-
-  abbrev Are : Reads → Type 0
-  Are us = Each (WasRead source T) us
-
-  reads-are : (kind : SectionKind) (place : UnitSection) → kind ≡ kind_at place → (reads : Listed)
-      → ((k : ℕ) (unit : Header) → slice_get reads k ≡ Some (Ok unit) → T place unit)
-      → (us : Reads) → named_each source kind reads ≡ Ok us → Are us
-  unfolding named_each named_unit
-  reads-are kind place from [] so us h = subst Are (same-ok {E = ErrorValue} [] us h) tt
-  reads-are kind place from (read ∷ rest) so us h =
-      let a = bind-was (named_unit source kind read) _ us h in
-      let b = bind-was (named_each source kind rest) _ us a.2 in
-      let c = bind-was (as_error ParseUnitHeader read) _ a.0 a.1 in
-      let d = bind-was (name_for source kind c.0) _ a.0 c.2 in
-      let unit = so 0 c.0 (ap Some (error-ok ParseUnitHeader read c.0 c.1)) in
-      subst Are (same-ok {E = ErrorValue} (a.0 ∷ b.0) us b.2) (
-        subst (WasRead source T) (same-ok {E = ErrorValue} _ a.0 d.2)
-            (record { place = place; from = from; so = unit; named = d.1 }),
-        reads-are kind place from rest (λ k. so (suc k)) b.0 b.1,
-      )
-
-  section-are : (used : Used) → AllSo used → (place : Option UnitSection)
-      → unit_section used.kind ≡ place → (us : Reads) → named_at source used place ≡ Ok us → Are us
-  section-are used so None here us h = subst Are (same-ok {E = ErrorValue} [] us h) tt
-  section-are used so (Some place) here us h =
-      reads-are used.kind place (kind-place used.kind place here) _ (so place here) us h
-
-  pub sections-are : (sections : List Used) (us : Reads) → Each AllSo sections
-      → named_sections source sections ≡ Ok us → Are us
-  unfolding named_sections
-  sections-are [] us so h = subst Are (same-ok {E = ErrorValue} [] us h) tt
-  sections-are (used ∷ rest) us so h =
-      let a = bind-was (named_at source used (unit_section used.kind)) _ us h in
-      let b = bind-was (named_sections source rest) _ us a.2 in
-      subst Are (same-ok {E = ErrorValue} (a.0 ++ b.0) us b.2) (each-append (WasRead source T) a.0
-      b.0 (section-are used so.0 (unit_section used.kind) refl a.0 a.1)
-      (sections-are rest b.0 so.1 b.1))
 
 -- ---- encodings that are alike are one
 
@@ -174,22 +94,22 @@ abbrev pub OfOne : Source → UnitSection → Header → Type 0
 OfOne source place unit =
     IsKnown source.object.order place unit × (unit.encoding ≡ source.encoding)
 
-pub of-one : UnitsAreTaken → ReadAlone → (source : Source) (sections : List Used)
+pub of-one : (source : Source) (sections : List Used)
     → list_all (section_has source.encoding source.object.order) sections ≡ true
     → Each (AllSo source (OfOne source)) sections
-of-one taken alone source [] has = tt
-of-one taken alone source (used ∷ rest) has =
+of-one source [] has = tt
+of-one source (used ∷ rest) has =
     let order = source.object.order in
     let two = both (section_has source.encoding order used) _ has in (
       λ place here k unit there.
           let reads = units place (section order used.bytes) in
           let passes = AllPass-from_list_all (has_encoding source.encoding) reads
           (rw here at two.0) k (Ok unit) (slice_get_within reads k (Ok unit) there) in (
-            known-in taken alone order place used.bytes k unit there,
+            known-in order place used.bytes k unit there,
             encoding-eq unit.encoding source.encoding
                 (rw (get_or_from_slice_get reads k (Ok unit) (Ok unit) there) at passes),
           ),
-      of-one taken alone source rest two.1,
+      of-one source rest two.1,
     )
 
 -- ---- units that are added
@@ -316,17 +236,17 @@ module _ {source : Source} {before now : InProgress} (a : PlainAdded source befo
       (subst (λ (p : InProgress). length before.rows < length p.rows) a.is more))
 
   -- what holds of each unit that was added, for the unit that was read
-  pub news-are : UnitsAreTaken → ReadAlone → (T : UnitSection → Header → Type 0)
+  pub news-are : (T : UnitSection → Header → Type 0)
       → Each (AllSo source T) source.object.sections → (P : DwarfObject × NewUnit → Type 0)
       → ((n : DwarfObject × NewUnit) (r : DwarfObject × UnitRead)
       → IsAdded (adding source before a.parts) n r → Goes source.object.order r
       → WasRead source T r → P n) → Each P a.new.units
-  news-are taken alone T read P f =
+  news-are T read P f =
       let held = keys (adding source before a.parts).held in
       let j = a.joined in
       each-new (adding source before a.parts) P _ (λ n r is k. f n r is k.0 k.1) a.new.units
       (joining held j.all) j.are (each-joining _ held j.all (each-both (Goes source.object.order)
-      (WasRead source T) j.all (units-go taken alone source j.all j.is)
+      (WasRead source T) j.all (units-go source j.all j.is)
       (sections-are source T source.object.sections j.all read j.is)))
 
   -- each has the part that was put of a shared section

@@ -11,33 +11,33 @@ use Rattle.dwp_base.specs.declared.section.SectionKind.TheVariants as kinds
 use Rattle.dwp_bytes.specs.Input.{Input, section, number_at, split_at, offset_at}
 use Rattle.dwp_bytes.specs.declared.encoding.Encoding.{Encoding}
 use Rattle.dwp_bytes.specs.declared.error.ReadError.{ReadError}
-use Rattle.dwp_dwarf.specs.Units.{Unit as Header, UnitsAreTaken, unit_at, older_type_at, older_at}
+use Rattle.dwp_dwarf.specs.Units.{Unit as Header, unit_at, older_type_at, older_at}
 use Rattle.dwp_dwarf.specs.Units.{header_at, initial_length_at, address_size_at, units_within}
 use Rattle.dwp_dwarf.specs.Units.{units}
 use Rattle.dwp_dwarf.specs.declared.unit.UnitSection.{UnitSection}
 use Rattle.dwp_dwarf.specs.declared.unit.UnitSection.TheVariants as places
 use Rattle.dwp_table.specs.declared.object.DwarfObject.{DwarfObject}
-use Rattle.dwp_table.specs.declared.object.DwarfObject.TheVariants.{Compilation, TypeUnit}
+use Rattle.dwp_table.specs.declared.object.DwarfObject.TheVariants.{TypeUnit}
 use Rattle.thorin_identity.specs.Identity.{identity}
 use Rattle.thorin_input.specs.Indexes.{Source, is_package}
 use Rattle.thorin_join.specs.Laid.{type_signature, name_signature}
-use Rattle.thorin_join.specs.Meaning.{UnitRead, joined_content, keys, named_unit, named_each}
+use Rattle.thorin_join.specs.Meaning.{UnitRead, joined_content, keys, named_each}
 use Rattle.thorin_join.specs.Meaning.{named_at, named_sections, joining}
 use Rattle.thorin_input.specs.NewUnits.{name_for, place_for, NewUnit, unit_section}
 use Rattle.thorin_input.specs.Rows.{abbreviations_for}
 use Rattle.thorin_join.specs.State.{kind_at, InProgress, row_at, unit_bytes, adding, with_new_units}
 use Rattle.thorin_join.specs.State.{with_source, with_unit_added, names_of, with_new_unit}
 use Rattle.thorin_input.specs.Used.{first, Used}
-use Rattle.thorin_join.proofs.Units.HeadersRead.{ReadAlone, kind-place, Listed, Reads}
-use Rattle.thorin_join.proofs.Units.HeadersRead.{name-identity}
+use Rattle.thorin_join.proofs.Units.HeadersRead.{kind-place, Listed, Reads}
+use Rattle.thorin_join.proofs.Units.HeadersRead.{name-identity, each-named}
 use Rattle.thorin_join.proofs.Units.Sorts.{identity-sort}
-use Rattle.thorin_again.proofs.Kept.EachUnit.{Each, News, WasRead, AllSo, OfOne, of-one, each-added}
-use Rattle.thorin_again.proofs.Kept.EachUnit.{each-append, parted, shared-row, plain-part, news-are}
+use Rattle.thorin_again.proofs.Kept.EachUnit.{News, OfOne, of-one, each-added}
+use Rattle.thorin_again.proofs.Kept.EachUnit.{parted, shared-row, plain-part, news-are}
 use Rattle.thorin_again.proofs.Kept.EachUnit.{plain-added, order-added, each-unit}
 use Rattle.thorin_join.proofs.Moved.RootEntries.{identity-shifted}
-use Rattle.thorin_join.proofs.Units.Whole.{ReadsAlone, IsKnown, known-in, other-alone, five-named}
+use Rattle.thorin_join.proofs.Units.Whole.{known-in, goes-alone}
 use Rattle.thorin_join.proofs.Units.Whole.{Goes}
-use Rattle.thorin_again.proofs.Kept.LongerTables.{ok-some, identity-stays}
+use Rattle.thorin_again.proofs.Kept.LongerTables.{identity-stays}
 use Rattle.thorin_errors.specs.Errors.{NotSplitUnit, ErrorValue}
 use Rattle.dwp_base.proofs.Steps.{bind-was, same-ok}
 use Rattle.std.specs.List.{list_all, list_any}
@@ -72,11 +72,14 @@ use Rattle.dwp_dwarf.proofs.Readings.{Gives, then_gives, test_gives, value_gives
 use Rattle.std.specs.Prelude.{slice_get, Some}
 use Rattle.thorin_input.specs.Names.{same_name}
 use Rattle.thorin_join.proofs.Units.NamesApart.{same_name-self, same_name-true}
-use Rattle.thorin_join.proofs.Steps.{past, unless}
+use Rattle.thorin_join.proofs.Steps.{past, unless, ok_or-some}
 use Rattle.thorin_join.proofs.Moved.Units.{newer-five}
 use Rattle.std.proofs.lemmas.List.Folds.{list_any-append}
 use Rattle.thorin_input.specs.Format.{is_in_format}
 use Rattle.thorin_join.proofs.Rows.AllAdded.{names-added, AllNew, joined-new}
+use Rattle.thorin_join.proofs.Units.HeadersRead.{WasRead, AllSo}
+use Rattle.std.proofs.ByRecursion.{All-append}
+use Rattle.std.specs.List.{AllByRecursion as Each}
 
 -- ---- the abbreviations of a row begin with those of the first section
 
@@ -113,15 +116,6 @@ keep-names order encoding c d grows (row ∷ rows) lie names = (
   keep-names order encoding c d grows rows lie.1 names.1,
 )
 
--- where a unit goes to it is read alone
-goes-alone : (order : Endianness) (place : UnitSection) (name : DwarfObject) (unit : Header)
-    → IsKnown order place unit → type_signature unit.unit_type ≡ name_signature name
-    → ReadsAlone order (place_for name (kind_at place)) unit
-goes-alone order places.Types (Compilation id) unit known sort = other-alone order places.Types
-    places.Info unit (five-named unit sort (known.1 refl)) known.0
-goes-alone order places.Info (Compilation id) unit known sort = known.0
-goes-alone order _ _ unit known sort = known.0
-
 module _ (source : Source) (made : InProgress) (plain : is_package source.indexes ≡ false)
     (parts : Contents) (after : List (List ℕ))
     (parts_are : parts_of source made.strings ≡ Ok (parts, after)) where
@@ -157,7 +151,7 @@ module _ (source : Source) (made : InProgress) (plain : is_package source.indexe
       (contribution_to (kind_at p) row)) place_is ∙ ap (part_of (content_of k d))
       (row-own n.1.row c n.0 x place) ∙ put-stays (content_of k c) x (content-put k x c) (up k) in
       let s = bind-was (identity (section order table) r.1.unit) _ r.0 (rw plain at w.named) in
-      let named = s.1 ∙ ap Ok (ok-some NotSplitUnit s.0 r.0 s.2) in
+      let named = s.1 ∙ ap Ok (ok_or-some NotSplitUnit s.0 r.0 s.2) in
       let a = goes-alone order w.place r.0 r.1.unit w.so.0
       (identity-sort (section order table) r.1.unit r.0 named) in
       let goes_to = place_is ∙ is.place ∙ ap (place_for r.0) w.from in
@@ -191,29 +185,26 @@ module _ (source : Source) (made : InProgress) (plain : is_package source.indexe
       let more = grows-with_bytes (kind_at u.1.place) u.1.bytes c in
       let d : Contents = with_bytes (kind_at u.1.place) u.1.bytes c in (
         grows-trans base c d names.0 more,
-        λ e up. each-append (NamesItself order source.encoding e) p.rows (_ ∷ [])
+        λ e up. All-append (NamesItself order source.encoding e) p.rows (_ ∷ [])
             (names.1 e (grows-trans c d e more up)) (new-names c e u new names.0 up, tt),
       )
 
 grows-self : (c : Contents) → Grows c c
 grows-self c kind = record { rest = []; is = sym (append-nil (content_of kind c)) }
 
-pub names-kept : UnitsAreTaken → ReadAlone → (source : Source) (before now : InProgress)
-    → is_package source.indexes ≡ false → list_all (section_has source.encoding source.object.order)
-    source.object.sections ≡ true
+pub names-kept : (source : Source) (before now : InProgress) → is_package source.indexes ≡ false
+    → list_all (section_has source.encoding source.object.order) source.object.sections ≡ true
     → IsSound before → source.object.order ≡ before.file.order → with_source source before ≡ Ok now
     → HasNamedUnits source.encoding before → HasNamedUnits source.encoding now
-names-kept taken alone source before now plain has sound same h named =
+names-kept source before now plain has sound same h named =
     let a = plain-added source before now h in
     let order = source.object.order in
     let encoding = source.encoding in
     let c = before.file.contents in
     let q = parted a in
     let b = q.file.contents in
-    let new = news-are a taken alone (OfOne source)
-    (of-one taken alone source source.object.sections has)
-    (IsNew source before plain a.parts a.after a.parts_are)
-    (λ n r is goes w. (r, is, goes, w)) in
+    let new = news-are a (OfOne source) (of-one source source.object.sections has)
+    (IsNew source before plain a.parts a.after a.parts_are) (λ n r is goes w. (r, is, goes, w)) in
     let all = each-added (Name source before plain a.parts a.after a.parts_are) _
     (one-named source before plain a.parts a.after a.parts_are) q a.new.units new (
       grows-self b,
@@ -242,11 +233,11 @@ unit-none i = then_gives (was (initial_length_at i)) (λ length _. then_gives
 
 -- what is read first, where its encoding is that
 first-read : (encoding : Encoding) (reads : Listed) → first_encoding reads ≡ Ok encoding
-    → (unit : Header) × (others : Listed) × (reads ≡ Ok unit ∷ others) × (unit.encoding ≡ encoding)
+    → (unit : Header) × (slice_get reads 0 ≡ Some (Ok unit)) × (unit.encoding ≡ encoding)
 first-read encoding [] h = absurd cc
 first-read encoding (Err e ∷ others) h = absurd cc
 first-read encoding (Ok unit ∷ others) h =
-    (unit, others, refl, same-ok {E = ErrorValue} _ encoding h)
+    (unit, refl, same-ok {E = ErrorValue} _ encoding h)
 
 -- ---- its name
 
@@ -266,22 +257,22 @@ there-right : (name : DwarfObject) (xs ys : List DwarfObject) → IsThere name y
     → IsThere name (xs ++ ys)
 there-right name xs ys h = list_any-append (same_name name) xs ys ∙ or-right _ _ h
 
-module _ (taken : UnitsAreTaken) (alone : ReadAlone) (source : Source) (encoding : Encoding) where
-  head-named : (kind : SectionKind) (u : Header) (others : Listed) (us : Reads)
-      → named_each source kind (Ok u ∷ others) ≡ Ok us → (name : DwarfObject)
+module _ (source : Source) (encoding : Encoding) where
+  abbrev HeadNamed : Listed → Reads → Type 0
+  HeadNamed reads us = (u : Header) → slice_get reads 0 ≡ Some (Ok u) → (name : DwarfObject)
       × IsThere name (keys us) × (type_signature u.unit_type ≡ name_signature name)
-  unfolding named_each named_unit
-  head-named kind u others us h =
-      let a = bind-was (named_unit source kind (Ok u)) _ us h in
-      let b = bind-was (named_each source kind others) _ us a.2 in
-      let name = bind-was (name_for source kind u) _ a.0 a.1 in
-      let id = name-identity source kind u name.0 name.1 in (
-        name.0,
-        subst (λ (l : Reads). IsThere name.0 (keys l)) (same-ok {E = ErrorValue} _ us b.2)
-            (subst (λ (x : DwarfObject × UnitRead). IsThere name.0 (x.0 ∷ keys b.0))
-            (same-ok {E = ErrorValue} _ a.0 name.2) (rw (same_name-self name.0) refl)),
-        identity-sort id.0 u name.0 id.1,
-      )
+
+  head-named : (kind : SectionKind) (reads : Listed) (us : Reads)
+      → named_each source kind reads ≡ Ok us → HeadNamed reads us
+  head-named kind = each-named source kind HeadNamed (λ u none. absurd cc)
+      (λ unit name reads us named others u first.
+      let id = name-identity source kind unit name named in
+      let same : unit ≡ u = cc in (
+        name,
+        rw (same_name-self name) refl,
+        ap (λ (h : Header). type_signature h.unit_type) (sym same)
+            ∙ identity-sort id.0 unit name id.1,
+      ))
 
   first-named : (sections : List Used) (all : Reads) → named_sections source sections ≡ Ok all
       → first_encoding (units places.Info (section source.object.order (first kinds.Info sections)))
@@ -295,17 +286,15 @@ module _ (taken : UnitsAreTaken) (alone : ReadAlone) (source : Source) (encoding
       (by-bool _ (same_kind from.kind kinds.Info)
       (λ is.
       let f = first-read encoding _ (rw is at e) in
-      let known = (known-in taken alone source.object.order places.Info from.bytes 0 f.0
-      (ap (λ (l : Listed). slice_get l 0) f.2)).0 in
+      let known = (known-in source.object.order places.Info from.bytes 0 f.0 f.1).0 in
       let read : named_at source from (Some places.Info) ≡ Ok a.0 =
       ap (λ k. named_at source from (unit_section k)) (sym (is-same from.kind kinds.Info is))
       ∙ a.1 in
-      let head = head-named from.kind f.0 f.1 a.0 (ap (named_each source from.kind) (sym f.2)
-      ∙ read) in (
+      let head = head-named from.kind _ a.0 read f.0 f.1 in (
         head.0,
         there-left head.0 (keys a.0) (keys b.0) head.1,
         elim ((unit-none _).gives _ known.read) [
-          | inl five ↦ inl (ap (λ (x : Encoding). x.version) (sym (known.encoding ∙ f.3)) ∙ five)
+          | inl five ↦ inl (ap (λ (x : Encoding). x.version) (sym (known.encoding ∙ f.2)) ∙ five)
           | inr none ↦ inr (sym head.2 ∙ ap type_signature (sym known.type) ∙ none)
         ],
       ))
@@ -391,18 +380,18 @@ module _ (name : DwarfObject) where
       (rw other at there)))
 
 -- once an object with units was added, info has bytes
-pub info-there : UnitsAreTaken → ReadAlone → (source : Source) (before now : InProgress)
+pub info-there : (source : Source) (before now : InProgress)
     → encoding_of source.object ≡ Ok source.encoding → with_source source before ≡ Ok now
     → (0 < length before.rows → 0 < length (content_of kinds.Info before.file.contents))
     → 0 < length (content_of kinds.Info now.file.contents)
 unfolding encoding_of
-info-there taken alone source before now is h info =
+info-there source before now is h info =
     let a = plain-added source before now h in
     let j = a.joined in
     let add = adding source before a.parts in
     let held = keys add.held in
-    let n = first-named taken alone source source.encoding source.object.sections j.all j.is is in
-    let put = news-are a taken alone (InFormat source)
+    let n = first-named source source.encoding source.object.sections j.all j.is is in
+    let put = news-are a (InFormat source)
     (each-format source source.object.sections _ _ a.parts_are) (PutInInfo n.0)
     (λ u r are goes w same. (
       are.place ∙ rw w.from (to-info source.encoding r.0 w.place

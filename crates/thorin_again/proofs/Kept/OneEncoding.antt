@@ -31,24 +31,25 @@ use Rattle.thorin_again.specs.OwnUnits.{AllOf, HoldsOwn}
 use Rattle.thorin_join.specs.Represents.{IsSoundBegun, units_begun}
 use Rattle.thorin_join.specs.State.{InProgress}
 use Rattle.thorin_input.specs.Used.{InputFile, has_info, Used, first}
-use Rattle.thorin_join.proofs.Joined.Input.{new-units, made-order, new-sound}
+use Rattle.thorin_join.proofs.Joined.Input.{new-units, made-order, new-sound, input-keeps}
 use Rattle.thorin_join.proofs.Joined.Source.{all_there}
 use Rattle.thorin_join.proofs.Joined.Taken.{Takes, TakesUnits, takes}
-use Rattle.thorin_join.proofs.Units.HeadersRead.{Reads, ReadAlone}
-use Rattle.thorin_again.proofs.Kept.EachUnit.{Each, each-all, each-joining, common-are, common-self}
+use Rattle.thorin_join.proofs.Units.HeadersRead.{Reads}
+use Rattle.thorin_again.proofs.Kept.EachUnit.{common-are, common-self}
 use Rattle.thorin_again.proofs.Kept.EachUnit.{named-kept}
 use Rattle.thorin_input.specs.Rows.{own_range}
 use Rattle.dwp_base.specs.declared.section.SectionKind.{SectionKind}
 use Rattle.dwp_base.specs.Sections.{same_kind}
-use Rattle.dwp_dwarf.specs.Units.{UnitsAreTaken}
 use Rattle.thorin_index.specs.declared.entry.IndexEntry.{IndexEntry}
 use Rattle.thorin_strings.specs.Strings.{data_of}
 use Rattle.thorin_again.specs.Plain.{IsPlain, HoldsPlain}
-use Rattle.thorin_join.proofs.Parts.OffsetLaws.{NamesTheSameLaw}
 use Rattle.thorin_again.proofs.Kept.Names.{info-there, names-kept}
 use Rattle.thorin_again.proofs.Offsets.RewrittenAgain.{no-turn}
 use Rattle.thorin_again.proofs.Offsets.Tiled.{tiled-kept}
 use Rattle.thorin_join.specs.Strings.{strings_of}
+use Rattle.thorin_join.proofs.Units.HeadersRead.{each-all, each-joining}
+use Rattle.std.specs.List.{AllByRecursion as Each}
+use Rattle.std.proofs.ByRecursion.{All-weaker, All-map as each-mapped}
 
 -- ---- what an input means
 
@@ -96,9 +97,8 @@ module _ (P : Meaning → Type 0) where
 
   each-meant : (source : Source) (reads : Reads) → CanMean source reads
       → Each IfMeant (map {B = DwarfObject × Option Meaning} (meant source) reads)
-  each-meant source [] h = tt
-  each-meant source (r ∷ rs) h =
-      (IfSome_then (unit_meaning source r) (unit-made source r) h.0, each-meant source rs h.1)
+  each-meant source reads can = each-mapped IfMeant (meant source) reads (All-weaker _ _
+      (λ r makes. IfSome_then (unit_meaning source r) (unit-made source r) makes) reads can)
 
   all-of : (added : Members) → Each IfMeant (all_there added) → HoldsOf added
   all-of [] h = All-nil (λ (u : DwarfObject × Meaning). P u.1)
@@ -217,21 +217,17 @@ pub units-names : (begun : Option InProgress) → length (units_begun begun) ≡
 units-names None = refl
 units-names (Some made) = length-map made.rows _ ∙ sym (length-map made.rows _)
 
--- by the law of accepted inputs
-abbrev pub InputsJoined : Type 0
-InputsJoined = (bytes : List ℕ) (begun now : Option InProgress) → IsSoundBegun begun
-    → with_input bytes begun ≡ Ok now → Joins bytes (units_begun begun) (units_begun now)
-
 -- an input that is taken keeps it so
-pub taken-holds : InputsJoined → (bytes : List ℕ) (old new : State) → IsSoundBegun old.begun
+pub taken-holds : (bytes : List ℕ) (old new : State) → IsSoundBegun old.begun
     → HoldsOwn old → taken bytes old ≡ Ok new → HoldsOwn new
-taken-holds joined bytes old new sound holds h = record {
+taken-holds bytes old new sound holds h = record {
   some = λ e k. omega (arith, ((own-adds bytes old new e h).0 k).more, units-names new.begun);
   all = λ e k.
       let now = begun-now bytes old new h in
       let t = takes bytes old.begun new.begun now in
       let a = (own-adds bytes old new e h).0 k in
-      units-hold (λ unit. unit.encoding ≡ e) (joined bytes old.begun new.begun sound now) t
+      let keeps = input-keeps bytes old.begun new.begun sound now in
+      units-hold (λ unit. unit.encoding ≡ e) keeps.joins t
       (λ u all read. each-all _ (λ r unit made. made.0 ∙ (own-units a.found t u).is) all)
       ((elim old.begun as (λ b. Before b old.own e → (old.own ≡ Some e → AllOf e (units_begun b))
       → AllOf e (units_begun b)) [
@@ -282,9 +278,9 @@ plain-before encoding file None own before holds = record {
 plain-before encoding file (Some made) own before holds = holds made (before made refl) refl
 
 -- an input that is taken keeps a package of such objects
-pub taken-plain : NamesTheSameLaw → UnitsAreTaken → ReadAlone → (bytes : List ℕ) (old new : State)
-    → IsSoundBegun old.begun → HoldsPlain old → taken bytes old ≡ Ok new → HoldsPlain new
-taken-plain names reads alone bytes old new sound holds h = record {
+pub taken-plain : (bytes : List ℕ) (old new : State) → IsSoundBegun old.begun
+    → HoldsPlain old → taken bytes old ≡ Ok new → HoldsPlain new
+taken-plain bytes old new sound holds h = record {
   made = λ encoding made own begun.
       let a = (own-adds bytes old new encoding h).0 own in
       let t = takes bytes old.begun new.begun (begun-now bytes old new h) in
@@ -309,10 +305,9 @@ taken-plain names reads alone bytes old new sound holds h = record {
       (plain-before encoding t.file old.begun old.own a.before (holds.made encoding)) in
       subst (IsPlain encoding) now (subst (λ e. IsPlain e u.made) is.is (record {
         named = named-kept source before u.made plain u.with more was.named;
-        offsets = tiled-kept names source before u.made plain before_sound.units.table order u.with
-            more was.offsets;
-        units = names-kept reads alone source before u.made plain is.all before_sound order u.with
-            was.units;
-        info = λ some. info-there reads alone source before u.made u.encoding_is u.with was.info;
+        offsets = tiled-kept source before u.made plain before_sound.units.table order u.with more
+            was.offsets;
+        units = names-kept source before u.made plain is.all before_sound order u.with was.units;
+        info = λ some. info-there source before u.made u.encoding_is u.with was.info;
       }));
 }

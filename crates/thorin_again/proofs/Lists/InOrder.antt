@@ -13,8 +13,9 @@ use Rattle.thorin_again.specs.Plain.{HoldsPlain}
 use Rattle.thorin_again.specs.PlainInputs.{AreTaken, IsPlainOf, EachAdds, IsOfPlainObjects}
 use Rattle.thorin_join.specs.Represents.{IsSoundBegun, units_begun, units_in}
 use Rattle.thorin_join.specs.State.{InProgress}
-use Rattle.thorin_again.proofs.Kept.OneEncoding.{InputsJoined, begun-now, Before, own-adds}
-use Rattle.thorin_again.proofs.Kept.OneEncoding.{own-units, takes-units, units-names}
+use Rattle.thorin_again.proofs.Kept.OneEncoding.{begun-now, Before, own-adds, taken-holds}
+use Rattle.thorin_again.proofs.Kept.OneEncoding.{own-units, takes-units, units-names, taken-plain}
+use Rattle.thorin_join.proofs.Joined.Input.{input-keeps}
 use Rattle.dwp_base.proofs.Bools.{both}
 use Rattle.dwp_bytes.specs.declared.encoding.Encoding.{Encoding}
 use Rattle.thorin_errors.specs.Errors.{ErrorValue}
@@ -39,29 +40,20 @@ in-order Q P free step (bytes ∷ rest) old new are all h =
     (step bytes (record old { targets = are.0 }) are.1 (All-head Q bytes rest all)
     (free old are.0 h) are.2)
 
--- the laws of an input that is taken
-abbrev pub InputsSound : Type 0
-InputsSound = (bytes : List ℕ) (begun now : Option InProgress) → IsSoundBegun begun
-    → with_input bytes begun ≡ Ok now → IsSoundBegun now
-
-abbrev IsKept : (State → Type 0) → Type 0
-IsKept P = (bytes : List ℕ) (old new : State) → IsSoundBegun old.begun → P old
-    → taken bytes old ≡ Ok new → P new
-
 -- what stays so of a sound package
-pub packages-in-order : InputsSound → InputsJoined → (Q : List ℕ → Type 0)
-    (P : Option InProgress → Type 0) → ((bytes : List ℕ) (begun now : Option InProgress) → Q bytes
+pub packages-in-order : (Q : List ℕ → Type 0) (P : Option InProgress → Type 0)
+    → ((bytes : List ℕ) (begun now : Option InProgress) → Q bytes
     → Joins bytes (units_begun begun) (units_begun now) → with_input bytes begun ≡ Ok now
     → P begun → P now)
     → (accepted : List (List ℕ)) (state : State) → AreTaken accepted start state
     → All Q accepted → P None → IsSoundBegun state.begun × P state.begun
-packages-in-order sound joins Q P step accepted state are all none =
+packages-in-order Q P step accepted state are all none =
     in-order Q (λ s. IsSoundBegun s.begun × P s.begun) (λ s targets h. h)
     (λ bytes old new q h took.
-    let now = begun-now bytes old new took in (
-      sound bytes old.begun new.begun h.0 now,
-      step bytes old.begun new.begun q (joins bytes old.begun new.begun h.0 now) now h.1,
-    )) accepted start state are all (tt, none)
+    let now = begun-now bytes old new took in
+    let keeps = input-keeps bytes old.begun new.begun h.0 now in
+    (keeps.sound, step bytes old.begun new.begun q keeps.joins now h.1))
+    accepted start state are all (tt, none)
 
 -- what a builder holds
 pub record Holds (state : State) : Type 0 where
@@ -69,16 +61,15 @@ pub record Holds (state : State) : Type 0 where
   pub own : HoldsOwn state
   pub plain : HoldsPlain state
 
-pub inputs-hold : InputsSound → IsKept HoldsOwn → IsKept HoldsPlain
-    → (accepted : List (List ℕ)) (state : State)
-    → AreTaken accepted start state → Holds state
-inputs-hold sound own plain accepted state are =
+pub inputs-hold : (accepted : List (List ℕ)) (state : State) → AreTaken accepted start state
+    → Holds state
+inputs-hold accepted state are =
     in-order (λ bytes. Unit {0}) Holds
     (λ s targets h. assumption)
     (λ bytes old new q h took. assumption (
-      sound bytes old.begun new.begun h.sound (begun-now bytes old new took),
-      own bytes old new h.sound h.own took,
-      plain bytes old new h.sound h.plain took,
+      (input-keeps bytes old.begun new.begun h.sound (begun-now bytes old new took)).sound,
+      taken-holds bytes old new h.sound h.own took,
+      taken-plain bytes old new h.sound h.plain took,
     )) accepted start state are (λ k d within. tt) (record {
       sound = tt;
       own = record { some = λ e k. absurd cc; all = λ e k. absurd cc };
@@ -153,21 +144,20 @@ record Each (e : Encoding) (accepted : List (List ℕ)) (old new : State) : Type
   before : Before old.begun old.own e
 
 -- what holds at the end says what each input was, and the other way round
-exactly : InputsSound → InputsJoined → (e : Encoding) → (accepted : List (List ℕ))
-    (old new : State) → IsSoundBegun old.begun → AreTaken accepted old new
-    → Before new.begun new.own e ↔ Each e accepted old new
-exactly sound joins e [] old new fine are = (
+exactly : (e : Encoding) (accepted : List (List ℕ)) (old new : State) → IsSoundBegun old.begun
+    → AreTaken accepted old new → Before new.begun new.own e ↔ Each e accepted old new
+exactly e [] old new fine are = (
   λ h. assumption (All-nil (IsPlainOf e), ap units_in are.1, rw are.1 at h),
   λ each. rw are.1 each.before,
 )
-exactly sound joins e (bytes ∷ rest) old new fine are =
+exactly e (bytes ∷ rest) old new fine are =
     let from : State = record old { targets = are.0 } in
     let next = are.1 in
     let took : taken bytes from ≡ Ok next = are.2 in
     let now = begun-now bytes from next took in
-    let j = joins bytes old.begun next.begun fine now in
-    let others = exactly sound joins e rest next new (sound bytes old.begun next.begun fine now)
-    are.3 in (
+    let keeps = input-keeps bytes old.begun next.begun fine now in
+    let j = keeps.joins in
+    let others = exactly e rest next new keeps.sound are.3 in (
       λ h.
           let later = others.0 h in
           let t = takes bytes old.begun next.begun now in
@@ -206,16 +196,16 @@ some-there : {A : Type 0} (test : Option A → Bool) → test None ≡ false →
 some-there test none None h = absurd (true≢false (sym h ∙ none))
 some-there test none (Some x) h = (x, refl)
 
-pub again-exactly : InputsSound → InputsJoined → (accepted : List (List ℕ)) (state : State)
+pub again-exactly : (accepted : List (List ℕ)) (state : State)
     → AreTaken accepted start state → (packs_again state ≡ true) ↔ IsOfPlainObjects accepted state
-again-exactly sound joins accepted state are = (
+again-exactly accepted state are = (
   λ h.
       let two = both (is_some state.own) (has_sections state.begun) h in
       let own = some-there is_some refl state.own two.0 in
-      let each = (exactly sound joins own.0 accepted start state tt are).0 (λ made is. own.1) in
+      let each = (exactly own.0 accepted start state tt are).0 (λ made is. own.1) in
       record { encoding = own.0; plain = each.plain; adds = each.adds; sections = two.1 },
   λ is.
-      let before = (exactly sound joins is.encoding accepted start state tt are).1 (record {
+      let before = (exactly is.encoding accepted start state tt are).1 (record {
         plain = is.plain;
         adds = is.adds;
         before = λ made none. absurd cc;

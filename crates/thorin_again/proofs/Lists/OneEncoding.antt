@@ -11,7 +11,7 @@ use Rattle.dwp_bytes.specs.Input.{Input, section, number_at, split_at, offset_at
 use Rattle.dwp_bytes.specs.declared.encoding.Encoding.{Encoding}
 use Rattle.dwp_bytes.specs.declared.encoding.Format.{Format}
 use Rattle.dwp_bytes.specs.declared.error.ReadError.{ReadError}
-use Rattle.dwp_dwarf.specs.Units.{Unit as Header, UnitsAreTaken, unit_at, units, header_at}
+use Rattle.dwp_dwarf.specs.Units.{Unit as Header, unit_at, units, header_at}
 use Rattle.dwp_dwarf.specs.Units.{older_at, older_type_at, address_size_at, initial_length_at}
 use Rattle.dwp_dwarf.specs.declared.unit.UnitSection.{UnitSection}
 use Rattle.dwp_index.specs.Package.{encoding_in, Package, package_of, found_counted, row_counted}
@@ -21,10 +21,10 @@ use Rattle.dwp_table.specs.declared.object.DwarfObject.{DwarfObject}
 use Rattle.thorin_input.specs.Encodings.{section_has, first_encoding, encoding_of}
 use Rattle.thorin_input.specs.Indexes.{Source}
 use Rattle.thorin_join.specs.Meaning.{Meaning, Members, source_units}
-use Rattle.thorin_join.proofs.Units.HeadersRead.{ReadAlone, Reads}
-use Rattle.thorin_again.proofs.Kept.EachUnit.{WasRead, OfOne, of-one, sections-are, each-weaker}
-use Rattle.thorin_again.proofs.Kept.EachUnit.{each-all, plain-added, order-added}
-use Rattle.thorin_again.proofs.Kept.OneEncoding.{CanMean, InputsJoined, begun-now, units-hold}
+use Rattle.thorin_join.proofs.Units.HeadersRead.{Reads}
+use Rattle.thorin_again.proofs.Kept.EachUnit.{OfOne, of-one}
+use Rattle.thorin_again.proofs.Kept.EachUnit.{plain-added, order-added}
+use Rattle.thorin_again.proofs.Kept.OneEncoding.{CanMean, begun-now, units-hold}
 use Rattle.dwp_base.proofs.Bools.{by-bool}
 use Rattle.dwp_base.proofs.Steps.{bind-was, same-ok}
 use Rattle.std.specs.Map.{lookup}
@@ -46,7 +46,7 @@ use Rattle.thorin_input.specs.Names.{same_name}
 use Rattle.thorin_input.specs.Used.{opened}
 use Rattle.thorin_join.specs.Builder.{State, start, taken, with_input, package_or_new, order_of}
 use Rattle.thorin_join.specs.Builder.{finish_test, IsFinishedState, IsFinished}
-use Rattle.thorin_join.specs.Join.{Joins, IsPackageOnceWritten, GivesUnit, GivesNone, look_limit}
+use Rattle.thorin_join.specs.Join.{Joins, GivesUnit, GivesNone, look_limit}
 use Rattle.thorin_again.specs.OneEncoding.{IsOfOneEncoding, GivesWhole, AnswersAs, IsOfEncoding}
 use Rattle.thorin_again.specs.OneEncoding.{AnswersOnceWritten, HaveEncodingOnceWritten}
 use Rattle.thorin_again.specs.PlainInputs.{AreTaken}
@@ -58,11 +58,11 @@ use Rattle.thorin_join.specs.Represents.{units_in, units_begun}
 use Rattle.thorin_join.specs.StandApart.{EachRow}
 use Rattle.thorin_join.specs.State.{InProgress, unit_bytes, kind_at}
 use Rattle.thorin_index.specs.declared.entry.IndexEntry.{IndexEntry}
-use Rattle.thorin_again.proofs.Lists.InOrder.{InputsSound, packages-in-order}
+use Rattle.thorin_again.proofs.Lists.InOrder.{packages-in-order}
 use Rattle.thorin_join.proofs.Joined.Input.{made-order}
 use Rattle.thorin_again.proofs.Opened.Sections.{opened-elf, input-encoding, first-written}
 use Rattle.thorin_join.proofs.Joined.Taken.{takes}
-use Rattle.thorin_join.proofs.Files.Finished.{finished-order, finished-own}
+use Rattle.thorin_join.proofs.Files.Finished.{finished-order, finished-own, finished-is}
 use Rattle.std.proofs.lemmas.List.{length-map}
 use Rattle.dwp_dwarf.specs.declared.unit.UnitSection.TheVariants as places
 use Rattle.dwp_elf.specs.Contents.{content_of, KindsDiffer}
@@ -72,6 +72,8 @@ use Rattle.thorin_join.specs.Laid.{Lie, rows_at}
 use Rattle.thorin_again.specs.OwnInput.{written_object}
 use Rattle.thorin_again.proofs.Meant.RowByRow.{of-section, read-alone}
 use Rattle.thorin_join.proofs.Files.RowsFound.{members}
+use Rattle.thorin_join.proofs.Units.HeadersRead.{WasRead, sections-are, each-all}
+use Rattle.std.proofs.ByRecursion.{All-weaker}
 
 -- ---- a header has one encoding, in whichever section it is read
 
@@ -111,18 +113,18 @@ IsEncoded order unit = (place : UnitSection) (found : Header) (rest : Input)
     → unit_at place (section order unit.bytes) ≡ Ok (found, rest) → found.encoding ≡ unit.encoding
 
 -- what the units of an input of one encoding mean is encoded
-read-encoded : UnitsAreTaken → ReadAlone → (source : Source) (all : Reads)
+read-encoded : (source : Source) (all : Reads)
     → list_all (section_has source.encoding source.object.order) source.object.sections ≡ true
     → source_units source ≡ Ok all → CanMean (IsEncoded source.object.order) source all
-read-encoded taken alone source all has h =
+read-encoded source all has h =
     let order = source.object.order in
-    each-weaker (WasRead source (OfOne source)) _ (λ r w unit made place found rest is.
+    All-weaker (WasRead source (OfOne source)) _ (λ r w unit made place found rest is.
     let a = w.so.0.0 in
     places-encoding place w.place (section order r.1.unit.whole.bytes) (found, rest)
     (a.alone, a.rest) (ap (λ l. unit_at place (section order l)) (sym made.1) ∙ is) a.read
     ∙ a.encoding ∙ w.so.1 ∙ sym made.0)
     all (sections-are source (OfOne source) source.object.sections all
-    (of-one taken alone source source.object.sections has) h)
+    (of-one source source.object.sections has) h)
 
 -- so of units with all that belongs to each
 abbrev pub AreEncoded : Endianness → Members → Type 0
@@ -167,10 +169,10 @@ encoded-before None own order is h = All-nil (λ (u : DwarfObject × Meaning). I
 encoded-before (Some made) own order is h =
     subst (λ o. AreEncoded o (units_of made)) is (h made refl)
 
-input-encoded : UnitsAreTaken → ReadAlone → (bytes : List ℕ) (begun now : Option InProgress)
+input-encoded : (bytes : List ℕ) (begun now : Option InProgress)
     → IsOfOneEncoding bytes → Joins bytes (units_begun begun) (units_begun now)
     → with_input bytes begun ≡ Ok now → Encoded begun → Encoded now
-input-encoded reads alone bytes begun now one j h before made is =
+input-encoded bytes begun now one j h before made is =
     let t = takes bytes begun now h in
     let order = made.file.order in
     let own : order_of begun t.file.order ≡ order =
@@ -179,7 +181,7 @@ input-encoded reads alone bytes begun now one j h before made is =
     subst (λ b. AreEncoded order (units_begun b)) is (units-hold (IsEncoded order) j t
     (λ u all read. subst (λ o. CanMean (IsEncoded o) u.source all)
     (made-order t.file u.source.object begun u.object_is u.order_is ∙ new-order t.file begun ∙ own)
-    (read-encoded reads alone u.source all
+    (read-encoded u.source all
     (one t.file u.source.object u.source.encoding t.opens u.object_is u.encoding_is) read))
     (encoded-before begun t.file.order order own before))
 
@@ -261,20 +263,14 @@ answers-whole order units file back same are pack parsed finds = record {
         sym (same-ok {E = ReadError} _ _ u.2) ∙ is p.0 u.0.0 u.0.1 u.1 in
         record { gives = g; encoding = encoding; string = g.is.string encoding }
 
--- the law of finished packages
-abbrev pub FinishedLaw : Type 0
-FinishedLaw = (state : State) (file : File) → IsSoundBegun state.begun → finish_test state ≡ Ok tt
-    → IsFinishedState state file → IsPackageOnceWritten (units_in state) file
-
-pub inputs-whole : UnitsAreTaken → ReadAlone → InputsSound → InputsJoined → FinishedLaw
-    → (accepted : List (List ℕ)) (state : State)
+pub inputs-whole : (accepted : List (List ℕ)) (state : State)
     → AreTaken accepted start state → All IsOfOneEncoding accepted → (file : File)
     → finish_test state ≡ Ok tt → IsFinishedState state file
     → AnswersOnceWritten (units_in state) file
-inputs-whole reads alone sound joins finishes accepted state are one file tested f differ back =
-    let is = packages-in-order sound joins IsOfOneEncoding Encoded (input-encoded reads alone)
-    accepted state are one (λ made none. absurd cc) in
-    let p = finishes state file is.0 tested f differ back in
+inputs-whole accepted state are one file tested f differ back =
+    let is = packages-in-order IsOfOneEncoding Encoded input-encoded accepted state are one
+    (λ made none. absurd cc) in
+    let p = finished-is state file is.0 tested f differ back in
     answers-whole f.made.file.order (units_in state) file back
     (finished-order f.made file f.finished) (rw f.begun (is.1 f.made f.begun)) p.pack p.parsed
     p.finds
@@ -322,20 +318,20 @@ abbrev pub IsAlike : Endianness → Encoding → DwarfObject × Meaning → Type
 IsAlike order encoding u = IsEncoded order u.1 × (u.1.encoding ≡ encoding)
 
 -- so has the first unit that is read of info
-pub first-of : UnitsAreTaken → (made : InProgress) (file : File) (encoding : Encoding)
+pub first-of : (made : InProgress) (file : File) (encoding : Encoding)
     → IsSound made → IsFinished made file → KindsDiffer file.contents
     → All (IsAlike made.file.order encoding) (units_of made)
     → 0 < length (content_of (kind_at places.Info) file.contents)
     → encoding_of (written_object file) ≡ Ok encoding
 unfolding encoding_of
-first-of reads made file encoding sound fin differ alike some =
+first-of made file encoding sound fin differ alike some =
     let order = made.file.order in
     let contents = made.file.contents in
     let mean : IndexEntry → Meaning = λ row. meaning_at order contents made.strings row in
     let held = first-written (kind_at places.Info) file.contents differ
     ∙ finished-own made file fin places.Info in
     (λ i. first_encoding (units places.Info (section (finished-order made file fin i) (held i))))
-    ∙ of-section reads order contents places.Info made.rows
+    ∙ of-section order contents places.Info made.rows
     (λ todo got. All (IsAlike order encoding) (members mean todo)
     → 0 < length (rows_at places.Info todo) → first_encoding got ≡ Ok encoding)
     (λ are none. absurd (omega (arith, none)))
@@ -364,12 +360,11 @@ abbrev Filled : Encoding → Option InProgress → Type 0
 Filled e begun = AllOf e (units_begun begun)
     × ((made : InProgress) → begun ≡ Some made → HasInfo made)
 
-input-filled : UnitsAreTaken → ReadAlone → (e : Encoding) (bytes : List ℕ)
-    (begun now : Option InProgress) → IsOfEncoding e bytes
-    → Joins bytes (units_begun begun) (units_begun now) → with_input bytes begun ≡ Ok now
-    → Filled e begun → Filled e now
+input-filled : (e : Encoding) (bytes : List ℕ) (begun now : Option InProgress)
+    → IsOfEncoding e bytes → Joins bytes (units_begun begun) (units_begun now)
+    → with_input bytes begun ≡ Ok now → Filled e begun → Filled e now
 unfolding input_encoding
-input-filled reads alone e bytes begun now one j h before =
+input-filled e bytes begun now one j h before =
     let t = takes bytes begun now h in
     let info = (elim begun as (λ b. ((made : InProgress) → b ≡ Some made → HasInfo made)
     → HasInfo (package_or_new t.file b)) [
@@ -381,21 +376,20 @@ input-filled reads alone e bytes begun now one j h before =
           ∙ one.1 u.source.encoding (rw (t.opens, u.object_is) u.encoding_is)) all)
           before.0,
       λ made is. elim t.does [
-        | inl w ↦ subst HasInfo (same_Some _ made (w.1.is ∙ is)) (λ some. info-there reads alone
-            w.1.source (package_or_new t.file begun) w.1.made w.1.encoding_is w.1.with info)
+        | inl w ↦ subst HasInfo (same_Some _ made (w.1.is ∙ is)) (λ some. info-there w.1.source
+            (package_or_new t.file begun) w.1.made w.1.encoding_is w.1.with info)
         | inr none ↦ subst HasInfo (same_Some _ made (none.1 ∙ is)) info
       ],
     )
 
-pub inputs-alike : UnitsAreTaken → ReadAlone → InputsSound → InputsJoined → (e : Encoding)
-    → (accepted : List (List ℕ)) (state : State)
+pub inputs-alike : (e : Encoding) (accepted : List (List ℕ)) (state : State)
     → AreTaken accepted start state → All (IsOfEncoding e) accepted → (file : File)
     → IsFinishedState state file → HaveEncodingOnceWritten (units_in state) file
-inputs-alike reads alone sound joins e accepted state are one file f differ back k d within =
-    let is = packages-in-order sound joins (IsOfEncoding e) (λ begun. Encoded begun
+inputs-alike e accepted state are one file f differ back k d within =
+    let is = packages-in-order (IsOfEncoding e) (λ begun. Encoded begun
     × Filled e begun) (λ bytes begun now q j h before. (
-      input-encoded reads alone bytes begun now q.0 j h before.0,
-      input-filled reads alone e bytes begun now q j h before.1,
+      input-encoded bytes begun now q.0 j h before.0,
+      input-filled e bytes begun now q j h before.1,
     )) accepted state are one (
       λ made none. absurd cc,
       (All-nil (λ (u : DwarfObject × Meaning). u.1.encoding ≡ e), λ made none. absurd cc),
@@ -406,7 +400,7 @@ inputs-alike reads alone sound joins e accepted state are one file f differ back
     let all : AllOf e (units_of made) = subst (AllOf e) (ap units_begun f.begun) filled.0 in
     let long = ap (λ b. length (units_begun b)) f.begun ∙ length-map made.rows _ in
     let some = filled.1 made f.begun (omega (arith, long, within)) in
-    let first = first-of reads made file e (subst IsSoundBegun f.begun is.0) f.finished differ
+    let first = first-of made file e (subst IsSoundBegun f.begun is.0) f.finished differ
     (λ k d within. (encoded k d within, all k d within))
     (subst (λ l. 0 < length l) (sym (finished-own made file f.finished places.Info)) some) in
     input-encoding file differ back ∙ first ∙ ap Ok (sym (filled.0 k d within))

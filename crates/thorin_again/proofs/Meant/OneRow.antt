@@ -50,7 +50,9 @@ use Rattle.thorin_join.proofs.Units.Sorts.{identity-sort}
 use Rattle.thorin_join.proofs.Files.UnitsFound.{part-there}
 use Rattle.thorin_join.proofs.Files.Indexes.{HasRows}
 use Rattle.thorin_again.proofs.Meant.RowByRow.{at-seam, IsBelow, non_empty-some, range_at, IsUnitOf}
-use Rattle.thorin_again.proofs.Meant.RowByRow.{Laws, bytes-own}
+use Rattle.thorin_again.proofs.Meant.RowByRow.{bytes-own}
+use Rattle.thorin_packaged.proofs.FirstRow.{first_found}
+use Rattle.dwp_table.proofs.Tables.{finds_exactly}
 use Rattle.thorin_join.proofs.Files.RowsFound.{id-at, members}
 use Rattle.thorin_join.proofs.Parts.StringLists.{strings-are}
 use Rattle.thorin_join.proofs.Units.InRows.{pieces-same}
@@ -122,7 +124,7 @@ unit-of order contents strings encoding mean rows (b ∷ bs) later row cut are a
     (rw cut at are).1 (λ k d within. (rw cut at all) (suc k) d (omega (arith, within)))
 
 -- a unit that is read of a written package
-module _ (laws : Laws) {encoding : Encoding} {file : File} {indexes : Indexes} {made : InProgress}
+module _ {encoding : Encoding} {file : File} {indexes : Indexes} {made : InProgress}
     (read : IsReadOf encoding file indexes made) {place : UnitSection} {row : IndexEntry}
     {later : List IndexEntry} {h : Header}
     (u : IsUnitOf file.order file.contents place made.rows row later h) where
@@ -213,7 +215,7 @@ module _ (laws : Laws) {encoding : Encoding} {file : File} {indexes : Indexes} {
       omega arith
 
   row-first : row_by_place (Some index) kind range ≡ Some (number + 1)
-  row-first = laws.first index kind range (number + 1) (record {
+  row-first = first_found index kind range (number + 1) (record {
     row = parts.row;
     there = parts.there;
     has = found-range kind ∙ u.range;
@@ -264,7 +266,7 @@ module _ (laws : Laws) {encoding : Encoding} {file : File} {indexes : Indexes} {
   finds : (name : DwarfObject) → FindsExactly (entry_ids chosen) (identifier_of name)
       (found_row index.signatures index.rows (identifier_of name))
       (look_count index.signatures index.rows (identifier_of name))
-  finds name = laws.find (entry_ids chosen) index.signatures index.rows
+  finds name = finds_exactly (entry_ids chosen) index.signatures index.rows
       (identifier_of name) there.2.1.slots
 
   looked : looked_up (index_for indexes row.id) (identifier_of row.id) ≡ Some (number + 1)

@@ -52,7 +52,7 @@ use Rattle.thorin_join.specs.Laid.{is_at, rows_at, same_place}
 use Rattle.thorin_input.specs.Parts.{parts_of}
 use Rattle.thorin_join.specs.Represents.{IsSound, IsSoundBegun, meaning_at, units_of, units_in}
 use Rattle.thorin_input.specs.Used.{opened, has_info, first}
-use Rattle.thorin_again.proofs.Meant.RowByRow.{each-place, of-section, Laws}
+use Rattle.thorin_again.proofs.Meant.RowByRow.{each-place, of-section}
 use Rattle.thorin_again.proofs.Meant.OneRow.{row-means-again}
 use Rattle.thorin_index.specs.IndexText.{is_used}
 use Rattle.thorin_join.proofs.Parts.Appended.{no-bytes}
@@ -160,7 +160,7 @@ encoding-none file e differ none h =
     let no = rw (first-written kinds.Info file.contents differ, none) at h in absurd cc
 
 -- a file that is taken, with what is read of it
-module _ (laws : Laws) {encoding : Encoding} {file : File} {indexes : Indexes} {made : InProgress}
+module _ {encoding : Encoding} {file : File} {indexes : Indexes} {made : InProgress}
     (is : IsReadOf encoding file indexes made) (all : Reads)
     (units_are : source_units (own_source file encoding indexes) ≡ Ok all)
     (tested : All (IsTested (own_source file encoding indexes)) all) where
@@ -189,7 +189,7 @@ module _ (laws : Laws) {encoding : Encoding} {file : File} {indexes : Indexes} {
   unfolding named_each named_unit
   units-are place =
       let laid = is.own.sound.laid in
-      of-section laws.taken file.order file.contents place made.rows
+      of-section file.order file.contents place made.rows
       (λ todo got. (us : Reads) → named_each source (kind_at place) got ≡ Ok us
       → All (IsTested source) us → units_meant us ≡ all_meant
       (members mean (rows_at place todo)))
@@ -203,7 +203,7 @@ module _ (laws : Laws) {encoding : Encoding} {file : File} {indexes : Indexes} {
       let found : us ≡ unit ∷ s2.0 = sym (same-ok _ us s2.2)
       ∙ ap (λ l. l ∷ s2.0) (sym (same-ok unit _ t.2)) in
       let each = subst (All (IsTested source)) found rest in
-      let means = row-means-again laws is u t.0 t.1 (All-head (IsTested source) unit s2.0 each) in
+      let means = row-means-again is u t.0 t.1 (All-head (IsTested source) unit s2.0 each) in
       rw u.here (ap units_meant found ∙ (λ i. (means.0 i, means.1 i) ∷ later s2.0 s2.1
       (All-tail (IsTested source) unit s2.0 each) i)))
       laid.once (lie-kept made file laid is.finished place) (split.of place)
@@ -224,7 +224,7 @@ module _ (laws : Laws) {encoding : Encoding} {file : File} {indexes : Indexes} {
       (rw joined (IsPermutation-map (meant source) _ all split.are))
 
 -- the file of a finished state
-module _ (laws : Laws) (state : State) (file : File) (begun : IsSoundBegun state.begun)
+module _ (state : State) (file : File) (begun : IsSoundBegun state.begun)
     (passed : finish_test state ≡ Ok tt) (fin : IsFinishedState state file)
     (differ : KindsDiffer file.contents) (back : elf_of (file_text file) ≡ Ok (written_elf file))
     (one : HaveEncodingOf (file_text file) (units_in state)) where
@@ -265,7 +265,7 @@ module _ (laws : Laws) (state : State) (file : File) (begun : IsSoundBegun state
       let all : AllOf encoding (units_in state) = λ k d within.
       same-ok _ _ (sym (one k d within) ∙ input-encoding file differ back ∙ first) in
       let own : IsOwn state encoding file = assumption in
-      read-of own laws.read laws.entries indexes read
+      read-of own indexes read
 
   units-again : (had now : Option InProgress) → has_info (written_elf file) ≡ true
       → with_input (file_text file) had ≡ Ok now → (meaning : List (DwarfObject × Option Meaning))
@@ -288,7 +288,7 @@ module _ (laws : Laws) (state : State) (file : File) (begun : IsSoundBegun state
       let j = units-joined add t3.0 t3.1 in
       subst (IsPermutation (all_meant joined)) (same-ok _ meaning
       (rw (opens, info, object-written file differ, s1.1, s3.1, j.is) at means))
-      (rows-meant laws (is-read s1.0 s3.0 s1.1 s3.1) j.all j.is
+      (rows-meant (is-read s1.0 s3.0 s1.1 s3.1) j.all j.is
       (joined-tested add (keys add.held) j.all t3.0.units j.defined j.are))
 
   pub again-is : MeansWhereTaken (units_in state) (file_text file)

@@ -1,6 +1,5 @@
--- What the rows of a written package are for an input: the laws of looking for them, and which
--- begin before a place. A section of units of such a package is read as the units of its rows, one
--- after another.
+-- What the rows of a written package are for an input, and which begin before a place. A section of
+-- units of such a package is read as the units of its rows, one after another.
 use Rattle.std.proofs.Common.{◌≡◌, ℕ, ◌<◌, true, false, nat_eq, List, length, refl, Option, Some}
 use Rattle.std.proofs.Common.{None, All, ◌∙◌, zero, suc, ◌+◌, ◌-◌, ◌≤◌, ◌∷◌, ◌++◌, ap, sym, subst}
 use Rattle.std.proofs.Common.{Result, Ok, arith, length-append, append_assoc, ne_eqb, []}
@@ -11,10 +10,6 @@ use Rattle.dwp_base.specs.declared.section.SectionKind.TheVariants as kinds
 use Rattle.dwp_dwarf.specs.declared.unit.UnitSection.{UnitSection}
 use Rattle.dwp_dwarf.specs.declared.unit.UnitSection.TheVariants as places
 use Rattle.dwp_elf.specs.Contents.{content_of}
-use Rattle.dwp_index.specs.Index.{Index}
-use Rattle.dwp_table.specs.Probing.{found_row, look_count}
-use Rattle.dwp_table.specs.Table.{IsIndex, FindsExactly}
-use Rattle.thorin_packaged.specs.RowPlaces.{row_by_place, IsFirstWith}
 use Rattle.thorin_index.specs.Entries.{contribution_to}
 use Rattle.thorin_index.specs.ReadRows.{non_empty}
 use Rattle.thorin_index.specs.declared.entry.IndexEntry.{IndexEntry}
@@ -25,14 +20,14 @@ use Rattle.thorin_input.specs.Indexes.{Source, is_package}
 use Rattle.thorin_join.specs.Laid.{same_place, type_signature, name_signature, Lie, HaveOneRange}
 use Rattle.thorin_join.specs.Laid.{is_at, rows_at}
 use Rattle.thorin_input.specs.Used.{first}
-use Rattle.thorin_join.proofs.Files.Indexes.{HasRows, IndexIsRead, IndexHasEntries}
+use Rattle.thorin_join.proofs.Files.Indexes.{HasRows}
 use Rattle.dwp_base.proofs.Bools.{by-bool}
 use Rattle.std.proofs.lemmas.List.Elements.{All-nil, All-push, All-weaker}
 use Rattle.std.proofs.Math.Seq.{drop-append_seam, take-append_seam}
 use Rattle.dwp_base.specs.declared.endian.Endianness.{Endianness}
 use Rattle.dwp_bytes.specs.Input.{Input, section, after}
 use Rattle.dwp_bytes.specs.declared.error.ReadError.{ReadError}
-use Rattle.dwp_dwarf.specs.Units.{Unit as Header, UnitsAreTaken, unit_at, units_within, units}
+use Rattle.dwp_dwarf.specs.Units.{Unit as Header, unit_at, units_within, units}
 use Rattle.dwp_index.specs.Package.{part_of, place_of}
 use Rattle.thorin_join.specs.State.{kind_at, unit_bytes}
 use Rattle.thorin_join.proofs.Moved.Readings.{plain}
@@ -40,23 +35,6 @@ use Rattle.thorin_join.proofs.Moved.RootEntries.{IsShifted}
 use Rattle.thorin_join.proofs.Moved.Units.{unit-moves}
 use Rattle.thorin_join.proofs.Rows.Stay.{part-inside}
 use Rattle.std.specs.Prelude.{slice_get}
-
--- the laws of rows by place and of look-ups
-abbrev pub FirstLaw : Type 0
-FirstLaw = (index : Index) (kind : SectionKind) (range : Contribution) (number : ℕ)
-    → IsFirstWith index kind range number → row_by_place (Some index) kind range ≡ Some number
-
-abbrev pub FindLaw : Type 0
-FindLaw = (ids signatures rows : List ℕ) (x : ℕ) → IsIndex ids signatures rows → FindsExactly ids x
-    (found_row signatures rows x) (look_count signatures rows x)
-
--- what is called upon for an input that was written
-pub record Laws : Type 0 where
-  pub taken : UnitsAreTaken
-  pub first : FirstLaw
-  pub find : FindLaw
-  pub read : IndexIsRead
-  pub entries : IndexHasEntries
 
 -- an input that was read of a written package of these rows
 pub record IsAgain (source : Source) (contents : Contents) (strings : List (List ℕ))
@@ -162,9 +140,8 @@ module _ {order : Endianness} {contents : Contents} {place : UnitSection} {rows 
 
 -- what holds of the end of the rows, of rows behind one that stands elsewhere, and of rows behind
 -- one whose unit is read, holds of all rows and all that is read of the section
-module _ (taken : UnitsAreTaken) (order : Endianness) (contents : Contents) (place : UnitSection)
-    (rows : List IndexEntry) (P : List IndexEntry → List (Result Header ReadError) → Type 0)
-    (none : P [] [])
+module _ (order : Endianness) (contents : Contents) (place : UnitSection) (rows : List IndexEntry)
+    (P : List IndexEntry → List (Result Header ReadError) → Type 0) (none : P [] [])
     (passed : (r : IndexEntry) (rs : List IndexEntry) (reads : List (Result Header ReadError))
     → is_at place r ≡ false → P rs reads → P (r ∷ rs) reads)
     (one : (r : IndexEntry) (rs : List IndexEntry) (h : Header)
@@ -189,7 +166,7 @@ module _ (taken : UnitsAreTaken) (order : Endianness) (contents : Contents) (pla
       let head = l.0 in
       let own = head.own in
       let end = offset + length own in
-      let moved = unit-moves taken order place own head.rest offset head.is.unit head.is.rest
+      let moved = unit-moves order place own head.rest offset head.is.unit head.is.rest
       head.is.read in
       let left : after (length head.is.unit.whole.bytes) (plain order offset (own ++ head.rest)) ≡
       plain order end head.rest =

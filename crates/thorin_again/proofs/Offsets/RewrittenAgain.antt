@@ -15,7 +15,8 @@ use Rattle.std.proofs.lemmas.Bool.{eq-eqb, ne_eqb, le-leb, le-ltb, lt-ltb}
 use Rattle.std.proofs.lemmas.List.FromFn.{length-map-range_with_len, get_or-map-range_with_len}
 use Rattle.std.proofs.lemmas.List.Folds.{list_any-append, Any-from_list_any}
 use Rattle.std.proofs.lemmas.List.Sorted.{list_any-IsPermutation, IsPermutation-filter_both}
-use Rattle.std.proofs.lemmas.Option.{none-some, same_Some, slice_get_cases, slice_get_read}
+use Rattle.std.proofs.lemmas.Option.{slice_get_cases, slice_get_read, get_or_from_slice_get}
+use Rattle.std.proofs.lemmas.Option.{slice_get_within}
 use Rattle.dwp_base.specs.declared.endian.Endianness.{Endianness}
 use Rattle.dwp_base.specs.declared.section.Contribution.{Contribution}
 use Rattle.dwp_base.specs.declared.section.SectionKind.TheVariants.{StrOffsets}
@@ -63,21 +64,15 @@ use Rattle.std.proofs.lemmas.List.{length-drop, drop-append-le}
 use Rattle.thorin_packaged.proofs.OffsetsJoined.{number_front, no_header}
 use Rattle.thorin_join.proofs.Parts.FirstUses.{error-inv}
 use Rattle.thorin_join.proofs.Rows.Stay.{range-front}
+use Rattle.std.proofs.ByRecursion.{all_kept_by}
+use Rattle.std.proofs.lemmas.List.Elements.{All-from_recursion}
 
 -- ---- the rows of compilation units and those of type units
 
-pub each-chosen : (P : IndexEntry → Type 0) (b : Bool) (rows : List IndexEntry) → EachRow P rows
-    → EachRow P (rows_of b rows)
-each-chosen P b [] h = tt
-each-chosen P b (row ∷ rows) h =
-    by-bool _ (is_chosen b row) (λ is. rw is (h.0, each-chosen P b rows h.1))
-    (λ other. rw other (each-chosen P b rows h.1))
-
 pub at-row : (P : IndexEntry → Type 0) (rows : List IndexEntry) (n : ℕ) (row : IndexEntry)
     → EachRow P rows → slice_get rows n ≡ Some row → P row
-at-row P [] n row h at = absurd (none-some row at)
-at-row P (r ∷ rs) zero row h at = subst P (same_Some r row at) h.0
-at-row P (r ∷ rs) (suc n) row h at = at-row P rs n row h.1 at
+at-row P rows n row h at = subst P (get_or_from_slice_get rows n row row at)
+    (All-from_recursion P rows h n row (slice_get_within rows n row at))
 
 -- where some row passes a test, one of either sort does
 pub any-chosen : (test : IndexEntry → Bool) (rows : List IndexEntry) → list_any test rows ≡ true
@@ -263,7 +258,7 @@ module _ (order : Endianness) (encoding : Encoding) where
         → offset_ranges compilations types ≡ ys
     unfolding offset_ranges
     ranges-are compilations types rows c t has named =
-        let chosen = λ (b : Bool). each-chosen (HasOneOf ys) b rows has in
+        let chosen = λ (b : Bool). all_kept_by (is_chosen b) (HasOneOf ys) rows has in
         all-same 0 end ys _ tile (index-part types (rows_of false rows) _ t (chosen false)
         (index-part compilations (rows_of true rows) [] c (chosen true) (none-part ys)))
         (λ r h. ranges-there compilations types rows r c t (tile-lies 0 end ys r tile h).1.some
@@ -361,8 +356,8 @@ module _ (order : Endianness) (encoding : Encoding) where
       (λ range e. and-then IsStringOffset _ _
       (all-rewritten section bytes (r.offset.0 + r.size) rs range.1 (λ x h. can x (inr h)))
       (λ rest f. tt))
-      -- so many entries, rewritten from these strings on, give those
 
+  -- so many entries, rewritten from these strings on, give those
   abbrev pub Lead : (section bytes : List ℕ) → ℕ → (before after : List (List ℕ)) → Type 0
   Lead section bytes n before after = (offsets : List ℕ)
       × (remapped_entries order encoding section bytes n before ≡ Ok (offsets, after))

@@ -26,7 +26,7 @@ use Rattle.thorin_again.proofs.Offsets.RewrittenAgain.{Lead, entries-alike, lead
 use Rattle.thorin_again.proofs.Offsets.RewrittenAgain.{whole-remapped, turn, grown}
 use Rattle.thorin_join.proofs.Parts.Appended.{each-part, joined_parts-more, joined_parts-other}
 use Rattle.thorin_join.proofs.Parts.Appended.{Rewritten, Adds, no-bytes}
-use Rattle.thorin_join.proofs.Parts.OffsetLaws.{NamesTheSameLaw}
+use Rattle.thorin_join.proofs.Parts.OffsetLaws.{names-same}
 use Rattle.thorin_join.proofs.Parts.PlainOffsets.{has-more, has-other, not-there}
 use Rattle.thorin_join.proofs.Parts.Strings.{front-front, rewritten-plain}
 use Rattle.dwp_base.proofs.Steps.{same-ok}
@@ -40,14 +40,14 @@ use Rattle.dwp_elf.specs.Contents.{content_of}
 use Rattle.thorin_index.specs.declared.entry.IndexEntry.{IndexEntry}
 use Rattle.thorin_join.specs.StandApart.{EachRow}
 use Rattle.thorin_join.specs.State.{InProgress, with_source}
-use Rattle.thorin_again.proofs.Kept.EachUnit.{each-added, each-unit, each-weaker, each-append}
+use Rattle.thorin_again.proofs.Kept.EachUnit.{each-added, each-unit}
 use Rattle.thorin_again.proofs.Kept.EachUnit.{PlainAdded, plain-added, parted, order-added, RowHas}
 use Rattle.thorin_again.proofs.Kept.EachUnit.{content-added, rows-share, once-more, row_with}
 use Rattle.thorin_join.proofs.Rows.OneAdded.{place-put, range_for, own-bytes}
+use Rattle.std.proofs.ByRecursion.{All-weaker, All-append}
 
 -- the part of string offsets that a plain object makes is whole
-module _ (names : NamesTheSameLaw) (source : Source) (plain : is_package source.indexes ≡ false)
-    (start : List (List ℕ)) where
+module _ (source : Source) (plain : is_package source.indexes ≡ false) (start : List (List ℕ)) where
   abbrev order : Endianness
   order = source.object.order
 
@@ -93,8 +93,8 @@ module _ (names : NamesTheSameLaw) (source : Source) (plain : is_package source.
             let count = ap (entry_count encoding) none.0 ∙ no-entries encoding in
             rw (← none.1) (inl (refl, count), ([], rw count refl))
         | inr r ↦
-            let law = names order encoding section bytes (length bytes) strings written.0 written.1
-            table h in
+            let law = names-same order encoding section bytes (length bytes) strings written.0
+            written.1 table h in
             let is = ap (λ (w : List ℕ × List (List ℕ)). Ok (r.entries.0, w.1)) r.is in (
               inr (law.long (eqb-false (length bytes) 0 r.some), r.header, r.header_is),
               (r.entries.0, r.entries_are ∙ is),
@@ -117,7 +117,7 @@ module _ (names : NamesTheSameLaw) (source : Source) (plain : is_package source.
       let m = entry_count encoding (length bytes) in
       let rewrites : remapped order encoding section bytes (length bytes) before.1 ≡ Ok w.written =
       sym (rewritten-plain source bytes before.1 plain) ∙ w.rewrites in
-      let law = names order encoding section bytes (length bytes) before.1 own strings
+      let law = names-same order encoding section bytes (length bytes) before.1 own strings
       so_far.table rewrites in
       let one = one-fills bytes before.1 w.written so_far.table rewrites in
       let alone : Again own m before.1 strings = λ final table kept. (
@@ -257,7 +257,7 @@ tile-append o e at (x ∷ rs) end r h from whole =
     (h.0, h.1, tile-append o e (at + x.size) rs end r h.2 from whole)
 
 -- a plain object that was added
-module _ (names : NamesTheSameLaw) (source : Source) (before now : InProgress)
+module _ (source : Source) (before now : InProgress)
     (plain : is_package source.indexes ≡ false) (table : IsTable before.strings)
     (same : source.object.order ≡ before.file.order) (h : with_source source before ≡ Ok now)
     (more : length before.rows < length now.rows)
@@ -277,8 +277,8 @@ module _ (names : NamesTheSameLaw) (source : Source) (before now : InProgress)
   abbrev range : Contribution
   range = range_for StrOffsets joined before.file.contents
 
-  abbrev part : MadeBy names source plain before.strings (a.parts, a.after)
-  part = part-made names source plain before.strings a.parts a.after table a.parts_are
+  abbrev part : MadeBy source plain before.strings (a.parts, a.after)
+  part = part-made source plain before.strings a.parts a.after table a.parts_are
 
   -- what these ranges more are of the section and the strings before them, and of the rows
   made-so : (ranges : List Contribution)
@@ -300,12 +300,12 @@ module _ (names : NamesTheSameLaw) (source : Source) (before now : InProgress)
         ranges = all;
         tile = rw (order_is, content, length-append old joined) tile;
         rows = rw a.is (each-added (λ p. EachRow (HasOneOf all) p.rows) (RowHas (HasOneOf all))
-            (λ p u has rows. each-append (HasOneOf all) p.rows (row_with p.file.contents u ∷ [])
+            (λ p u has rows. All-append (HasOneOf all) p.rows (row_with p.file.contents u ∷ [])
             rows (has p.file.contents, tt)) q a.new.units
             (rows-share a plain StrOffsets refl (λ part. (r : Contribution)
             → part ≡ Some r → IsAmong r all)
             (λ r e. any-right (λ x. r ≡ x) tiled.ranges ranges (new r e)))
-            (each-weaker (HasOneOf tiled.ranges) (HasOneOf all) (λ row has r e.
+            (All-weaker (HasOneOf tiled.ranges) (HasOneOf all) (λ row has r e.
             any-left (λ x. r ≡ x) tiled.ranges ranges (has r e)) before.rows tiled.rows));
         named = λ r h. ⊎_elim (λ k. rw a.is (each-unit (λ p. IsOfSome r p.rows) (λ p u so. any-left
             (λ (row : IndexEntry). row.debug_str_offsets ≡ Some r) p.rows
@@ -316,7 +316,7 @@ module _ (names : NamesTheSameLaw) (source : Source) (before now : InProgress)
       }
 
   pub tiled-kept : HasTiledOffsets source.encoding now
-  tiled-kept = elim (made-fills names source plain before.strings joined a.after
+  tiled-kept = elim (made-fills source plain before.strings joined a.after
       (has_part StrOffsets a.parts) part) [
         | inl none ↦
             made-so [] (rw (append-nil tiled.ranges, none.0, add-zero (length old)) tiled.tile)

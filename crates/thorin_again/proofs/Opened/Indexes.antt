@@ -36,13 +36,15 @@ use Rattle.thorin_again.specs.OwnInput.{written_object, IsOwn, TakesUpToParts, o
 use Rattle.thorin_again.specs.OwnUnits.{AllOf}
 use Rattle.thorin_join.specs.State.{InProgress, kind_at, names_of}
 use Rattle.thorin_input.specs.Used.{first, counts_once}
-use Rattle.thorin_join.proofs.Files.Indexes.{IndexIsRead, IndexHasEntries, HasRows, chosen-fit}
+use Rattle.thorin_join.proofs.Files.Indexes.{HasRows, chosen-fit}
+use Rattle.thorin_index.proofs.ReadAgain.{index_is_read}
+use Rattle.thorin_index.proofs.RowsAgain.{written_rows}
 use Rattle.thorin_join.proofs.Files.Indexes.{no-bytes}
 use Rattle.thorin_again.proofs.Opened.Sections.{info-written, first-written, object-written}
 use Rattle.thorin_again.proofs.Opened.Sections.{opened-elf}
 use Rattle.thorin_join.proofs.Files.Finished.{Tested, tested-state, finished-order, finished-types}
 use Rattle.thorin_join.proofs.Files.Finished.{finished-compilations, finished-own, finished-grows}
-use Rattle.thorin_join.proofs.Files.Finished.{finished-strings}
+use Rattle.thorin_join.proofs.Files.Finished.{finished-strings, finished-content}
 use Rattle.dwp_dwarf.specs.declared.unit.UnitSection.{UnitSection}
 use Rattle.dwp_table.specs.Columns.{column_of}
 use Rattle.thorin_join.specs.Laid.{Lie, is_at, rows_at, IsLaid}
@@ -71,7 +73,6 @@ use Rattle.thorin_input.specs.InputStrings.{rewritten}
 use Rattle.thorin_packaged.specs.PackagedOffsets.{packaged_offsets, rewritten_from}
 use Rattle.thorin_packaged.specs.PackagedReading.{range_bytes}
 use Rattle.thorin_join.proofs.Parts.FirstUses.{slice-long}
-use Rattle.thorin_join.proofs.Parts.Appended.{content-with_bytes}
 use Rattle.thorin_join.proofs.Parts.Strings.{rewritten-package}
 
 -- rows come from inputs of this version
@@ -87,7 +88,7 @@ pub record IndexTaken (order : Endianness) (rows : List IndexEntry) (bytes : Lis
   pub fits : (encoding : Encoding) (kind : SectionKind) → HaveVersion encoding.version rows
       → version_test encoding kind index ≡ Ok tt
   pub there : is_some index ≡ is_some (slice_get rows 0)
-  pub has : IndexHasEntries → AreDistinct (entry_ids rows) → HasRows index rows
+  pub has : AreDistinct (entry_ids rows) → HasRows index rows
 
 some-taken : (order : Endianness) (kind : SectionKind) (bytes : List ℕ) (index : Index)
     → index_of order bytes ≡ Ok index → index_in order kind bytes ≡ Ok (Some index)
@@ -95,30 +96,32 @@ unfolding index_in
 some-taken order kind [] index read = let none = rw (no-bytes order) at read in absurd cc
 some-taken order kind (b ∷ bs) index read = rw (eqb-suc-zero, read) refl
 
-index-taken : IndexIsRead → (order : Endianness) (rows : List IndexEntry) (bytes : List ℕ)
+index-taken : (order : Endianness) (rows : List IndexEntry) (bytes : List ℕ)
     → IsIndexOf order rows bytes → index_tests rows ≡ Ok tt
     → ((r : ℕ) → slice_index (entry_ids rows) r < 2 ^ 64) → IndexTaken order rows bytes
 unfolding index_in
-index-taken is_read order [] bytes text tested fit = record {
+index-taken order [] bytes text tested fit = record {
   index = None;
   taken = λ kind. rw text refl;
   fits = λ encoding kind have. refl;
   there = refl;
-  has = λ law distinct. refl;
+  has = λ distinct. refl;
 }
-index-taken is_read order (row ∷ rows) bytes text tested fit =
+index-taken order (row ∷ rows) bytes text tested fit =
     let version = index_version_of row.encoding.version in
     let index = index_with version (used_sections (row ∷ rows)) (row ∷ rows) text.rows in
-    let read = is_read order row.encoding (row ∷ rows) bytes tested fit text in
+    let read = index_is_read order row.encoding (row ∷ rows) bytes tested fit text in
     record {
       index = Some index;
       taken = λ kind. some-taken order kind bytes index read;
       fits = λ encoding kind have. rw (have 0 row (omega arith)) (by-bool _ (leb 5 encoding.version)
           (λ e. rw e refl) (λ e. rw e refl));
       there = refl;
-      has = λ law distinct.
-          let has = law order row.encoding (row ∷ rows) bytes tested distinct fit text index read in
-          (version, has, omega arith);
+      has = λ distinct. (
+        version,
+        written_rows order row.encoding (row ∷ rows) bytes tested distinct fit text index read,
+        omega arith,
+      );
     }
 
 version-chosen : (b : Bool) (version : ℕ) (rows : List IndexEntry) → HaveVersion version rows
@@ -199,75 +202,74 @@ module _ {state : State} {encoding : Encoding} {file : File} (own : IsOwn state 
   own-plain {other} begun plain =
       subst (IsPlain encoding) (same_Some other made (sym begun ∙ own.finished.begun)) plain
 
-  module _ (is_read : IndexIsRead) where
-    compilations-taken : IndexTaken file.order (rows_of true made.rows)
-        (first kinds.CuIndex (written_object file).sections)
-    compilations-taken =
-        let same = finished-compilations made file f own-made.sound.units.no_compilations in
-        subst (λ o. IndexTaken o (rows_of true made.rows) (first kinds.CuIndex (written_object
-        file).sections)) (sym (finished-order made file f))
-        (rw (first-written kinds.CuIndex file.contents own.kinds, same) (index-taken is_read
-        made.file.order (rows_of true made.rows) f.compilation_index f.compilations
-        own-made.tests.compilation_rows (chosen-fit true made.rows own.finished.identifiers)))
+  compilations-taken : IndexTaken file.order (rows_of true made.rows)
+      (first kinds.CuIndex (written_object file).sections)
+  compilations-taken =
+      let same = finished-compilations made file f own-made.sound.units.no_compilations in
+      subst (λ o. IndexTaken o (rows_of true made.rows) (first kinds.CuIndex (written_object
+      file).sections)) (sym (finished-order made file f))
+      (rw (first-written kinds.CuIndex file.contents own.kinds, same) (index-taken
+      made.file.order (rows_of true made.rows) f.compilation_index f.compilations
+      own-made.tests.compilation_rows (chosen-fit true made.rows own.finished.identifiers)))
 
-    types-taken : IndexTaken file.order (rows_of false made.rows)
-        (first kinds.TuIndex (written_object file).sections)
-    types-taken =
-        let same = finished-types made file f own-made.sound.units.no_types in
-        subst (λ o. IndexTaken o (rows_of false made.rows) (first kinds.TuIndex (written_object
-        file).sections)) (sym (finished-order made file f))
-        (rw (first-written kinds.TuIndex file.contents own.kinds, same) (index-taken is_read
-        made.file.order (rows_of false made.rows) f.type_index f.types
-        own-made.tests.type_rows (chosen-fit false made.rows own.finished.identifiers)))
+  types-taken : IndexTaken file.order (rows_of false made.rows)
+      (first kinds.TuIndex (written_object file).sections)
+  types-taken =
+      let same = finished-types made file f own-made.sound.units.no_types in
+      subst (λ o. IndexTaken o (rows_of false made.rows) (first kinds.TuIndex (written_object
+      file).sections)) (sym (finished-order made file f))
+      (rw (first-written kinds.TuIndex file.contents own.kinds, same) (index-taken
+      made.file.order (rows_of false made.rows) f.type_index f.types
+      own-made.tests.type_rows (chosen-fit false made.rows own.finished.identifiers)))
 
-    abbrev indexes-taken : Indexes
-    indexes-taken = record { compilations = compilations-taken.index; types = types-taken.index }
+  abbrev indexes-taken : Indexes
+  indexes-taken = record { compilations = compilations-taken.index; types = types-taken.index }
 
-    indexes-packed : is_package indexes-taken ≡ true
-    indexes-packed =
-        rw (compilations-taken.there, types-taken.there) (one-is-there made.rows own-made.some)
+  indexes-packed : is_package indexes-taken ≡ true
+  indexes-packed =
+      rw (compilations-taken.there, types-taken.there) (one-is-there made.rows own-made.some)
 
-    indexes-read : indexes_of (written_object file) encoding ≡ Ok indexes-taken
-    unfolding indexes_of
-    indexes-read =
-        let have = own-made.version in
-        let chosen = λ (b : Bool). version-chosen b _ made.rows have in
-        let c = compilations-taken.fits encoding kinds.CuIndex (chosen true) in
-        let t = types-taken.fits encoding kinds.TuIndex (chosen false) in
-        rw (compilations-taken.taken kinds.CuIndex, types-taken.taken kinds.TuIndex, c, t) refl
+  indexes-read : indexes_of (written_object file) encoding ≡ Ok indexes-taken
+  unfolding indexes_of
+  indexes-read =
+      let have = own-made.version in
+      let chosen = λ (b : Bool). version-chosen b _ made.rows have in
+      let c = compilations-taken.fits encoding kinds.CuIndex (chosen true) in
+      let t = types-taken.fits encoding kinds.TuIndex (chosen false) in
+      rw (compilations-taken.taken kinds.CuIndex, types-taken.taken kinds.TuIndex, c, t) refl
 
-    pub read-of : IndexHasEntries → (indexes : Indexes)
-        → indexes_of (written_object file) encoding ≡ Ok indexes
-        → IsReadOf encoding file indexes made
-    read-of has_entries indexes read =
-        let same : indexes ≡ indexes-taken = same-ok _ _ (sym read ∙ indexes-read) in
-        let units = own-made.sound.units in
-        let distinct = λ (b : Bool).
-        distinct_chosen b made.rows (names_of made) refl own-made.sound.apart in
-        let again : IsAgain (own_source file encoding indexes) file.contents made.strings
-        made.rows = rw same (assumption (
-          indexes-packed,
-          (λ (kind : SectionKind). first-written kind file.contents own.kinds),
-          finished-strings made file f units.no_strings,
-          compilations-taken.has has_entries (distinct true),
-          types-taken.has has_entries (distinct false),
-        )) in
-        assumption own-made
+  pub read-of : (indexes : Indexes)
+      → indexes_of (written_object file) encoding ≡ Ok indexes
+      → IsReadOf encoding file indexes made
+  read-of indexes read =
+      let same : indexes ≡ indexes-taken = same-ok _ _ (sym read ∙ indexes-read) in
+      let units = own-made.sound.units in
+      let distinct = λ (b : Bool).
+      distinct_chosen b made.rows (names_of made) refl own-made.sound.apart in
+      let again : IsAgain (own_source file encoding indexes) file.contents made.strings
+      made.rows = rw same (assumption (
+        indexes-packed,
+        (λ (kind : SectionKind). first-written kind file.contents own.kinds),
+        finished-strings made file f units.no_strings,
+        compilations-taken.has (distinct true),
+        types-taken.has (distinct false),
+      )) in
+      assumption own-made
 
 -- an own file is taken up to its parts
-pub up-to-parts : IndexIsRead → (state : State) (encoding : Encoding) (file : File)
+pub up-to-parts : (state : State) (encoding : Encoding) (file : File)
     → IsOwn state encoding file → (before : Option InProgress) → order_of before file.order ≡
     file.order → TakesUpToParts file encoding before
 unfolding with_input with_units order_test
-up-to-parts is_read state encoding file own before same =
+up-to-parts state encoding file own before same =
     let opens = opened-elf (file_text file) (written_elf file) own.read_back in
     let object = object-written file own.kinds in
     let order = elim file.order as (λ o. same_order o o ≡ true) [ Little ↦ refl | Big ↦ refl ] in
-    let read = indexes-read own is_read in
+    let read = indexes-read own in
     record {
       indexes = _;
       read = read;
-      finished = indexes-packed own is_read;
+      finished = indexes-packed own;
       is = rw (opens, info-written file own.info, object, own.first, same, order, read) refl;
     }
 
@@ -312,8 +314,7 @@ pub finished-shared : (made : InProgress) (file : File) → IsFinished made file
 finished-shared made file f kinds.Str shared = absurd cc
 finished-shared made file f kinds.CuIndex shared = absurd cc
 finished-shared made file f kinds.TuIndex shared = absurd cc
-finished-shared made file f kind shared = ap (λ (o : File). content_of kind o.contents) f.contents
-    ∙ rw (content-with_bytes, content-with_bytes, content-with_bytes) refl
+finished-shared made file f kind shared = finished-content made file f kind
 
 -- ---- string offsets
 

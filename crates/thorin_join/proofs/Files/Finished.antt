@@ -54,7 +54,7 @@ module _ (made : InProgress) (file : File) (f : IsFinished made file) where
   abbrev put : SectionKind → SectionKind → List ℕ → List ℕ → List ℕ
   put kind k bytes old = cond (same_kind k kind) (old ++ bytes) old
 
-  finished-content : (kind : SectionKind) → content_of kind file.contents
+  pub finished-content : (kind : SectionKind) → content_of kind file.contents
       ≡ put kind kinds.TuIndex f.type_index (put kind kinds.CuIndex f.compilation_index
       (put kind kinds.Str (data_of made.strings) (content_of kind made.file.contents)))
   finished-content kind = let is = ap (λ (o : File). o.contents) f.contents in

@@ -1,41 +1,18 @@
 -- The indexes of a finished package, as they are read.
 use Rattle.std.proofs.Common.{◌≡◌, ℕ, zero, suc, ◌<◌, ◌^◌, Bool, List, [], ◌∷◌, length, refl, Ok}
 use Rattle.std.proofs.Common.{Err, Option, Some, None, arith, slice_index}
-use Rattle.thorin_join.proofs.Terms.{by-bool, Encoding, Endianness, entry_ids, Index, IndexEntry}
+use Rattle.thorin_join.proofs.Terms.{by-bool, Endianness, entry_ids, Index, IndexEntry}
 use Rattle.thorin_join.proofs.Terms.{is_chosen, IsIndexOf, rows_of, UnexpectedEof}
 use Rattle.dwp_bytes.specs.Encoding.{index_version_of}
 use Rattle.dwp_table.specs.Table.{AreDistinct}
 use Rattle.dwp_index.specs.IndexBytes.{index_of, version_of}
 use Rattle.dwp_index.specs.Package.{index_in_section}
-use Rattle.thorin_index.specs.EntryTests.{tests_under, index_tests}
-use Rattle.thorin_index.specs.IndexText.{IsIndexText, used_sections}
-use Rattle.thorin_index.specs.ReadBack.{index_with}
+use Rattle.thorin_index.specs.EntryTests.{index_tests}
 use Rattle.thorin_index.proofs.ReadAgain.{index_is_read}
 use Rattle.thorin_index.proofs.RowsAgain.{written_rows}
 use Rattle.dwp_index.proofs.HeldContents.{index_there, index_missing}
 use Rattle.thorin_index.specs.ReadRows.{HasEntries}
 use Rattle.thorin_join.specs.Builder.{IdentifiersFit}
-
--- the laws of written indexes
-abbrev pub IndexIsRead : Type 0
-IndexIsRead = (order : Endianness) (encoding : Encoding) (entries : List IndexEntry)
-    (bytes : List ℕ)
-    → tests_under encoding entries ≡ Ok tt
-    → ((r : ℕ) → slice_index (entry_ids entries) r < 2 ^ 64)
-    → (text : IsIndexText order (index_version_of encoding.version) entries bytes)
-    → index_of order bytes ≡ Ok (index_with (index_version_of encoding.version)
-    (used_sections entries) entries text.rows)
-
-abbrev pub IndexHasEntries : Type 0
-IndexHasEntries = (order : Endianness) (encoding : Encoding) (entries : List IndexEntry)
-    (bytes : List ℕ)
-    → tests_under encoding entries ≡ Ok tt
-    → AreDistinct (entry_ids entries)
-    → ((r : ℕ) → slice_index (entry_ids entries) r < 2 ^ 64)
-    → IsIndexText order (index_version_of encoding.version) entries bytes
-    → (index : Index)
-    → index_of order bytes ≡ Ok index
-    → HasEntries (index_version_of encoding.version) entries index
 
 -- what is read of the index of these rows
 abbrev pub HasRows : Option Index → List IndexEntry → Type 0

@@ -7,7 +7,6 @@ use Rattle.thorin_join.proofs.Terms.{IsTable, joined_parts, joining, keys, kind_
 use Rattle.thorin_join.proofs.Terms.{Members, New, parts_of, same-ok, same_kind, SectionKind}
 use Rattle.thorin_join.proofs.Terms.{Source, source_units, units_of}
 use Rattle.dwp_base.specs.declared.section.SectionKind.TheVariants as kinds
-use Rattle.dwp_dwarf.proofs.Units.{unit_taken}
 use Rattle.thorin_input.specs.Growing.{with_parts}
 use Rattle.thorin_join.specs.Meaning.{input_meaning, meant, source_meaning, can_join}
 use Rattle.thorin_input.specs.NewUnits.{new_units}
@@ -23,11 +22,12 @@ use Rattle.thorin_join.proofs.Parts.Appended.{content-with_parts, parts-none}
 use Rattle.thorin_join.proofs.Parts.FirstUses.{parts-follow}
 use Rattle.thorin_join.proofs.Rows.OfUnits.{row-shares, is-unit_row}
 use Rattle.thorin_join.proofs.Rows.AllAdded.{AllNew, joined-new, units-added, AllCanBeAdded}
-use Rattle.thorin_join.proofs.Units.Whole.{AllGo, go-joining, units-go}
-use Rattle.thorin_join.proofs.Units.HeadersRead.{read-alone, News, Reads}
+use Rattle.thorin_join.proofs.Units.Whole.{Goes, units-go}
+use Rattle.thorin_join.proofs.Units.HeadersRead.{each-joining, News, Reads}
 use Rattle.thorin_join.proofs.Units.InRows.{rows-keys, keys-units, units-are}
 use Rattle.thorin_join.proofs.Rows.OneAdded.{not-shared}
 use Rattle.dwp_dwarf.specs.declared.unit.UnitSection.TheVariants as places
+use Rattle.std.specs.List.{AllByRecursion as Each}
 
 -- ---- joining keeps what belongs to units
 
@@ -62,7 +62,7 @@ module _ (source : Source) (before : InProgress) (parts : Contents) (after : Lis
     (table : IsTable before.strings)
     (h : parts_of source before.strings ≡ Ok (parts, after)) where
   ready : (ns : News) (rs : Reads) → AreAdded (adding source before parts) ns rs
-      → AllGo source.object.order rs
+      → Each (Goes source.object.order) rs
       → Ready source (with_parts parts before.file.contents) after ns rs
   ready [] [] are go = record { members = []; are = refl; can = tt }
   ready (n ∷ ns) (r ∷ rs) are go =
@@ -143,9 +143,9 @@ source-joins bytes source before now sound same meaning h =
     let names : held ≡ keys ms = keys-held before ∙ sym (keys-units before) in
     let kept = parts-follow source before.strings parts m.after rep.table m.parts_are in
     let none = parts-none source before.strings parts m.after m.parts_are in
-    let all = units-go unit_taken read-alone source j.all j.is in
+    let all = units-go source j.all j.is in
     let r = ready source before parts m.after rep.table m.parts_are us (joining held j.all) j.are
-    (go-joining source.object.order held j.all all) in
+    (each-joining (Goes source.object.order) held j.all all) in
     let q = with_all_parts before parts m.after (before.differing ++ m.new.differing) in
     let added = added-keys (adding source before parts) us (joining held j.all) j.are in
     let fresh : AllNew (names_of before) (keys us) =

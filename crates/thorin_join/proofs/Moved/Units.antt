@@ -10,7 +10,7 @@ use Rattle.dwp_bytes.specs.Input.{after, split_at, number_at, relocated_at, offs
 use Rattle.dwp_bytes.specs.Input.{is_address_size}
 use Rattle.dwp_bytes.specs.declared.encoding.Format.{Format}
 use Rattle.dwp_bytes.specs.declared.encoding.Format.TheVariants.{Dwarf32, Dwarf64}
-use Rattle.dwp_dwarf.specs.Units.{Unit as Header, UnitsAreTaken, initial_length_at, address_size_at}
+use Rattle.dwp_dwarf.specs.Units.{Unit as Header, initial_length_at, address_size_at}
 use Rattle.dwp_dwarf.specs.Units.{type_at, older_type_at, unit_code_at, unit_type_at, older_at}
 use Rattle.dwp_dwarf.specs.Units.{newer_at, header_at, unit_at}
 use Rattle.dwp_dwarf.specs.declared.unit.UnitSection.TheVariants.{Info, Types}
@@ -163,10 +163,10 @@ pub record Moved (order : Endianness) (place : UnitSection) (own more : List ℕ
   pub entries : unit.entries ≡ shifted d u.entries
 
 -- a unit of some bytes alone is read alike at another place, with more behind them
-pub unit-moves : (taken : UnitsAreTaken) (order : Endianness) (place : UnitSection)
+pub unit-moves : (order : Endianness) (place : UnitSection)
     (own more : List ℕ) (d : ℕ) (u : Header) (r : Input) → unit_at place (plain order 0 own) ≡ Ok
     (u, r) → Moved order place own more d u
-unit-moves taken order place own rest d u r h =
+unit-moves order place own rest d u r h =
     let i = plain order 0 own in
     let t = (unit_takes place i).gives (u, r) h in
     let k = t.goes.taken in

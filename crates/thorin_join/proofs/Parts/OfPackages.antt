@@ -12,7 +12,7 @@ use Rattle.thorin_input.specs.Indexes.{Indexes}
 use Rattle.thorin_input.specs.Parts.{with_each_part}
 use Rattle.thorin_join.proofs.Parts.Appended.{each-part, adds-offsets, adds-copied, adds-other}
 use Rattle.thorin_join.proofs.Parts.Appended.{has-last, joined_parts-more}
-use Rattle.thorin_join.proofs.Parts.OffsetLaws.{NamesTheSameLaw, PackagedLaw}
+use Rattle.thorin_join.proofs.Parts.OffsetLaws.{packaged-alike}
 use Rattle.thorin_join.proofs.Parts.FirstUses.{step-brings, each-brings}
 use Rattle.thorin_join.proofs.Parts.Strings.{front-front, rewritten-package}
 
@@ -57,8 +57,7 @@ pub record RowsRead (source : Source) (old new : List ℕ) (after : List (List �
       → ReadsAlike source.object.order source.encoding (first Str source.object.sections)
       (range_bytes old range) (data_of final) (range_bytes new range) k
 
-module _ (names : NamesTheSameLaw) (law : PackagedLaw) (source : Source)
-    (packed : is_package source.indexes ≡ true) where
+module _ (source : Source) (packed : is_package source.indexes ≡ true) where
   pub rows-read : (strings : List (List ℕ)) (parts : Contents) (after : List (List ℕ))
       → IsTable strings → parts_of source strings ≡ Ok (parts, after)
       → RowsRead source (first StrOffsets source.object.sections)
@@ -80,7 +79,7 @@ module _ (names : NamesTheSameLaw) (law : PackagedLaw) (source : Source)
       (rw w.is (has-last StrOffsets before.0 w.written.0))
       ∙ ap (λ (p : Parts). joined_parts StrOffsets p.0) w.is
       ∙ rw (joined_parts-more StrOffsets before.0 StrOffsets w.written.0, none) refl in
-      let reads = law _ _ _ _ _ _ _ w.written.0 w.written.1 table
+      let reads = packaged-alike _ _ _ _ _ _ _ w.written.0 w.written.1 table
       (sym (rewritten-package source s.bytes before.1 packed) ∙ w.rewrites) in
       let kept : take (length w.written.1) last.1 ≡ w.written.1 =
       ((each-brings source ss _ last (rw w.is at rest)).0.follows reads.table).kept in

@@ -5,19 +5,10 @@ use Rattle.thorin_join.proofs.Terms.{Encoding, Endianness, Index, IsTable}
 use Rattle.thorin_strings.proofs.NamedEntries.{range_named}
 use Rattle.thorin_packaged.specs.PackagedOffsets.{packaged_offsets}
 use Rattle.thorin_packaged.specs.PackagedReading.{PackageReadsAlike}
-use Rattle.thorin_packaged.proofs.ReadAlike.{AlikeLaw, package_reads_alike}
+use Rattle.thorin_packaged.proofs.ReadAlike.{NamesLaw, AlikeLaw, package_reads_alike}
 use Rattle.thorin_packaged.proofs.OffsetsJoined.{strings_again}
-pub use Rattle.thorin_packaged.proofs.ReadAlike.{NamesLaw as NamesTheSameLaw}
 
--- the ranges of a package's rows are read alike
-abbrev pub PackagedLaw : Type 0
-PackagedLaw = (order : Endianness) (encoding : Encoding) (compilations types : Option Index)
-    (section bytes : List ℕ) (before : List (List ℕ)) (written : List ℕ) (after : List (List ℕ))
-    → IsTable before
-    → packaged_offsets order encoding compilations types section bytes before ≡ Ok (written, after)
-    → PackageReadsAlike order encoding compilations types section bytes before written after
-
-pub names-same : NamesTheSameLaw
+pub names-same : NamesLaw
 names-same order encoding section bytes size before written after =
     range_named order encoding section bytes size before (written, after)
 
@@ -26,6 +17,11 @@ reads-alike order encoding section bytes before written after final table h =
     strings_again order encoding section bytes before written after final
     (names-same order encoding section bytes (length bytes) before written after table h)
 
-pub packaged-alike : PackagedLaw
+-- the ranges of a package's rows are read alike
+pub packaged-alike : (order : Endianness) (encoding : Encoding) (compilations types : Option Index)
+    (section bytes : List ℕ) (before : List (List ℕ)) (written : List ℕ) (after : List (List ℕ))
+    → IsTable before
+    → packaged_offsets order encoding compilations types section bytes before ≡ Ok (written, after)
+    → PackageReadsAlike order encoding compilations types section bytes before written after
 packaged-alike order encoding compilations types section bytes =
     package_reads_alike names-same reads-alike order encoding section bytes compilations types

@@ -37,7 +37,6 @@ use Rattle.dwp_base.proofs.Bools.{both}
 use Rattle.thorin_join.proofs.Parts.Appended.{content-with_parts, parts-copied}
 use Rattle.std.specs.List.{list_all, find}
 use Rattle.thorin_join.proofs.Parts.OffsetRanges.{empty-alike}
-use Rattle.thorin_join.proofs.Parts.OffsetLaws.{names-same, packaged-alike}
 use Rattle.thorin_join.proofs.Parts.PlainOffsets.{parts-read}
 use Rattle.thorin_join.proofs.Parts.FirstUses.{parts-follow}
 use Rattle.thorin_join.proofs.EachKind.{copied-or-offsets}
@@ -355,7 +354,7 @@ module _ (source : Source) (before parts : Contents) (read : DwarfObject × Unit
       (λ packed. let has = own test packed in
       let placed = each-placed test packed in
       let firsts = parts-first source packed strings parts after h in
-      let reads = rows-read names-same packaged-alike source packed strings parts after table h in
+      let reads = rows-read source packed strings parts after table h in
       let longs = copied-or-offsets (λ kind. length (first kind source.object.sections) ≡ length
       (joined_parts kind parts)) (λ kind copied. ap length (sym (firsts kind copied)))
       (sym reads.size) in

@@ -1,9 +1,11 @@
--- The names and the headers of units that are read.
+-- The names and the headers of units that are read, and what holds of each of them.
 use Rattle.std.proofs.Common.{◌≡◌, ◌∙◌, ℕ, List, Result, Ok, Err, Some, None, ap, refl, slice_get}
-use Rattle.std.proofs.Common.{[], ◌∷◌, subst}
-use Rattle.thorin_join.proofs.Terms.{bind-was, DwarfObject, Endianness, ErrorValue, Input, kind_at}
-use Rattle.thorin_join.proofs.Terms.{NewUnit, ok_or, ReadError, same-ok, section, SectionKind}
-use Rattle.thorin_join.proofs.Terms.{Source, unit_section, UnitRead, UnitSection}
+use Rattle.std.proofs.Common.{[], ◌∷◌, ◌++◌, subst, suc, Option}
+use Rattle.thorin_join.proofs.Terms.{bind-was, by-bool, DwarfObject, Endianness, ErrorValue}
+use Rattle.thorin_join.proofs.Terms.{Input, joining, kind_at, list_any, NewUnit, ReadError}
+use Rattle.thorin_join.proofs.Terms.{same-ok, same_name, section, SectionKind, Source, unit_section}
+use Rattle.thorin_join.proofs.Terms.{UnitRead, UnitSection, Used}
+use Rattle.thorin_join.proofs.Steps.{ok_or-some}
 use Rattle.dwp_base.specs.declared.section.SectionKind.TheVariants as kinds
 use Rattle.dwp_dwarf.specs.declared.unit.UnitSection.TheVariants as places
 use Rattle.dwp_dwarf.specs.Units.{Unit as Header, units, unit_bytes}
@@ -12,9 +14,11 @@ use Rattle.dwp_index.specs.Package.{encoding_in}
 use Rattle.dwp_index.proofs.TwoPlaces.{units_alone}
 use Rattle.thorin_errors.specs.Errors.{NotSplitUnit}
 use Rattle.thorin_identity.specs.Identity.{identity}
-use Rattle.thorin_join.specs.Meaning.{named_unit, named_each}
+use Rattle.thorin_join.specs.Meaning.{named_unit, named_each, named_at, named_sections}
 use Rattle.thorin_input.specs.NewUnits.{name_for}
 use Rattle.thorin_input.specs.Rows.{abbreviations_for}
+use Rattle.std.specs.List.{AllByRecursion as Each}
+use Rattle.std.proofs.ByRecursion.{All-append}
 
 abbrev pub Listed : Type 0
 Listed = List (Result Header ReadError)
@@ -28,12 +32,9 @@ News = List (DwarfObject × NewUnit)
 -- ---- the units of an object
 
 -- a unit is read from its own bytes alone
-abbrev pub ReadAlone : Type 0
-ReadAlone = (order : Endianness) (place : UnitSection) (bytes : List ℕ) (k : ℕ) (unit : Header)
-    → slice_get (units place (section order bytes)) k ≡ Some (Ok unit)
+pub read-alone : (order : Endianness) (place : UnitSection) (bytes : List ℕ) (k : ℕ)
+    (unit : Header) → slice_get (units place (section order bytes)) k ≡ Some (Ok unit)
     → encoding_in order place (unit_bytes unit) ≡ Ok unit.encoding
-
-pub read-alone : ReadAlone
 read-alone order place bytes k unit = units_alone unit_taken order place unit bytes k
 
 -- what holds of none, and with one more that was read and named before others, holds of those of a
@@ -69,6 +70,65 @@ unfolding name_for
 name-identity source kind unit name h =
     let a = bind-was (abbreviations_for source kind unit) _ name h in
     let b = bind-was (identity (section source.object.order a.0) unit) _ name a.2 in
-    let is = (elim b.0 as (λ o. ok_or o NotSplitUnit ≡ Ok name → o ≡ Some name)
-    [ None ↦ λ h. absurd cc | Some n ↦ λ h. ap Some (same-ok n name h) ]) b.2 in
-    (section source.object.order a.0, b.1 ∙ ap Ok is)
+    (section source.object.order a.0, b.1 ∙ ap Ok (ok_or-some NotSplitUnit b.0 name b.2))
+
+-- ---- what holds of each
+
+pub each-all : {X : Type 0} (P : X → Type 0) → ((x : X) → P x) → (xs : List X) → Each P xs
+each-all P f [] = tt
+each-all P f (x ∷ xs) = (f x, each-all P f xs)
+
+-- those that are joined are among them
+pub each-joining : {X : Type 0} (P : DwarfObject × X → Type 0) (names : List DwarfObject)
+    (us : List (DwarfObject × X)) → Each P us → Each P (joining names us)
+each-joining P names [] h = tt
+each-joining P names (u ∷ us) h =
+    by-bool _ (list_any (same_name u.0) names)
+    (λ there. rw there (each-joining P names us h.1))
+    (λ new. rw new (h.0, each-joining P (names ++ u.0 ∷ []) us h.1))
+
+-- a unit was read, under its name, of a section of this place, and this is so of it
+pub record WasRead (source : Source) (T : UnitSection → Header → Type 0)
+    (r : DwarfObject × UnitRead) : Type 0 where
+  pub place : UnitSection
+  pub from : r.1.from ≡ kind_at place
+  pub so : T place r.1.unit
+  pub named : name_for source r.1.from r.1.unit ≡ Ok r.0
+
+module _ (source : Source) (T : UnitSection → Header → Type 0) where
+  -- it is so of each unit that is read of a section
+  abbrev pub AllSo : Used → Type 0
+  AllSo used = (place : UnitSection) → unit_section used.kind ≡ Some place → (k : ℕ)
+      (unit : Header) → slice_get (units place (section source.object.order used.bytes)) k
+      ≡ Some (Ok unit) → T place unit
+
+  section-are : (used : Used) → AllSo used → (place : Option UnitSection)
+      → unit_section used.kind ≡ place → (us : Reads) → named_at source used place ≡ Ok us
+      → Each (WasRead source T) us
+  section-are used so None at us h =
+      subst (Each (WasRead source T)) (same-ok {E = ErrorValue} [] us h) tt
+  section-are used so (Some place) at us h =
+      each-named source used.kind (λ reads us. ((k : ℕ) (unit : Header)
+      → slice_get reads k ≡ Some (Ok unit) → T place unit) → Each (WasRead source T) us) (λ _. tt)
+      (λ unit name reads us named others so. (
+        record {
+          place = place;
+          from = kind-place used.kind place at;
+          so = so 0 unit refl;
+          named = named;
+        },
+        others (λ k. so (suc k)),
+      )) _ us h (so place at)
+
+  pub sections-are : (sections : List Used) (us : Reads) → Each AllSo sections
+      → named_sections source sections ≡ Ok us → Each (WasRead source T) us
+  unfolding named_sections
+  sections-are [] us so h =
+      subst (Each (WasRead source T)) (same-ok {E = ErrorValue} [] us h) tt
+  sections-are (used ∷ rest) us so h =
+      let a = bind-was (named_at source used (unit_section used.kind)) _ us h in
+      let b = bind-was (named_sections source rest) _ us a.2 in
+      subst (Each (WasRead source T)) (same-ok {E = ErrorValue} (a.0 ++ b.0) us b.2)
+      (All-append (WasRead source T) a.0 b.0
+      (section-are used so.0 (unit_section used.kind) refl a.0 a.1)
+      (sections-are rest b.0 so.1 b.1))

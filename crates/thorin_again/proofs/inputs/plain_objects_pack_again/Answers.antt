@@ -2,4 +2,4 @@ use Rattle.thorin_again.proofs.Lists.InOrder.{again-exactly}
 use Rattle.thorin_again.proofs.inputs.plain_objects_pack_again.Goals as goal
 
 pub returns : goal.returns
-returns c = again-exactly c.inputs_are_joined.ensures.sound c.inputs_are_joined.ensures.joins
+returns c = again-exactly

@@ -2,4 +2,4 @@ use Rattle.thorin_again.proofs.Kept.OneEncoding.{taken-holds}
 use Rattle.thorin_again.proofs.own.one_encoding_is_kept.Goals as goal
 
 pub returns : goal.returns
-returns c = taken-holds c.inputs_are_joined.ensures.joins
+returns c = taken-holds

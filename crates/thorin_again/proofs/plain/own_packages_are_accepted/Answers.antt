@@ -2,5 +2,4 @@ use Rattle.thorin_again.proofs.Accepted.Written.{own-all}
 use Rattle.thorin_again.proofs.plain.own_packages_are_accepted.Goals as goal
 
 pub returns : goal.returns
-returns c = own-all c.rewritten_offsets_name_the_same.ensures
-    c.packaged_rows_are_read_alike.ensures assumption
+returns c = own-all

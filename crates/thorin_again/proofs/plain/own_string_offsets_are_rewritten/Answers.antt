@@ -3,5 +3,4 @@ use Rattle.thorin_again.proofs.plain.own_string_offsets_are_rewritten.Goals as g
 
 pub returns : goal.returns
 returns c state encoding file own made begun plain indexes read =
-    own-offsets (read-of own c.written_index_is_read.ensures c.written_index_has_the_entries.ensures
-    indexes read) (own-plain own begun plain)
+    own-offsets (read-of own indexes read) (own-plain own begun plain)
