@@ -146,13 +146,13 @@ module _ {X : Type 0} where
       let turned : IsPermutation vs (u ∷ rest) =
       IsPermutation-remove vs there.0 u there.1 (sym there.2) in
       let apart = apart-again vs (u ∷ rest) turned d in
+      let past = λ (es : Named X) (name : DwarfObject) (h : IsDistinct same_name (keys (u ∷ es)))
+      (e : same_name name u.0 ≡ true). lookup-none (same_name name) es
+      (none_past_head names-equal name u es h e) in
       let later = same-units us rest (IsDistinct-tail same_name u.0 (keys us) c)
-      (IsDistinct-tail same_name u.0 (keys rest) apart) (λ name.
-      let alike = same name ∙ found-again vs (u ∷ rest) d turned name in
-      by-bool _ (same_name name u.0)
-      (λ e. lookup-none (same_name name) us (none_past_head names-equal name u us c e)
-      ∙ sym (lookup-none (same_name name) rest (none_past_head names-equal name u rest apart e)))
-      (λ e. rw e at alike)) in
+      (IsDistinct-tail same_name u.0 (keys rest) apart) (λ name. by-bool _ (same_name name u.0)
+      (λ e. past us name c e ∙ sym (past rest name apart e))
+      (λ e. rw e at (same name ∙ found-again vs (u ∷ rest) d turned name))) in
       IsPermutation-trans (u ∷ us) (u ∷ rest) vs (IsPermutation-cons u us rest later)
       (IsPermutation-sym vs (u ∷ rest) turned)
 
@@ -189,60 +189,54 @@ module _ {X : Type 0} where
 
   -- ---- groups
 
+  abbrev pub flat : List (Named X) → Named X
+  flat groups = flat_map (λ group. group) groups
+
   -- the same is found in both lists, and they have as many compilation units
   record Alike (us vs : Named X) : Type 0 where
     found : (name : DwarfObject) → lookup (same_name name) us ≡ lookup (same_name name) vs
     many : compilations us ≡ compilations vs
 
   groups-alike : (groups results : List (Named X)) → AreJoined groups results
-      → Alike (flat_map (λ g. g) groups) (flat_map (λ g. g) results)
+      → Alike (flat groups) (flat results)
   groups-alike [] [] are = record { found = λ name. refl; many = refl }
-  groups-alike [] (r ∷ rs) are = absurd are
-  groups-alike (g ∷ gs) [] are = absurd are
   groups-alike (g ∷ gs) (r ∷ rs) are =
-      let all = flat_map (λ (v : Named X). v) gs in
-      let results = flat_map (λ (v : Named X). v) rs in
       let later = groups-alike gs rs are.2 in
       let c = counted [] g in
       record {
-        found = λ name. lookup-append (same_name name) g all
+        found = λ name. lookup-append (same_name name) g (flat gs)
             ∙ ap₂ option_or (sym (found-joined name [] g)
             ∙ found-again (joining [] g) r (joined-apart g) are.1 name) (later.found name)
-            ∙ sym (lookup-append (same_name name) r results);
+            ∙ sym (lookup-append (same_name name) r (flat rs));
         many = omega (
           arith,
-          compilations-append g all,
-          compilations-append r results,
+          compilations-append g (flat gs),
+          compilations-append r (flat rs),
           compilations-again (joining [] g) r are.1,
           later.many,
           c.1,
           none-zero c.0 (sym c.2 ∙ are.0),
         );
       }
+  groups-alike _ _ are = absurd are
 
-  pub groups-joined : (groups results : List (Named X)) → AreJoined groups results
-      → IsPermutation (joining [] (flat_map (λ g. g) groups))
-      (joining [] (flat_map (λ g. g) results))
-  groups-joined groups results are =
-      let all = flat_map (λ (g : Named X). g) groups in
-      let others = flat_map (λ (g : Named X). g) results in
-      same-units (joining [] all) (joining [] others) (joined-apart all) (joined-apart others)
-      (λ name. found-joined name [] all ∙ (groups-alike groups results are).found name
-      ∙ sym (found-joined name [] others))
+  module _ (groups results : List (Named X)) (are : AreJoined groups results) where
+    pub groups-joined : IsPermutation (joining [] (flat groups)) (joining [] (flat results))
+    groups-joined = same-units (joining [] (flat groups)) (joining [] (flat results))
+        (joined-apart (flat groups)) (joined-apart (flat results))
+        (λ name. found-joined name [] (flat groups) ∙ (groups-alike groups results are).found name
+        ∙ sym (found-joined name [] (flat results)))
 
-  pub groups-defined : (groups results : List (Named X)) → AreJoined groups results
-      → can_join [] (flat_map (λ g. g) groups) ≡ can_join [] (flat_map (λ g. g) results)
-  groups-defined groups results are =
-      let all = flat_map (λ (g : Named X). g) groups in
-      let others = flat_map (λ (g : Named X). g) results in
-      let a = counted [] all in
-      let b = counted [] others in
-      let same : a.0 ≡ b.0 = omega (
-        arith,
-        a.1,
-        b.1,
-        (groups-alike groups results are).many,
-        compilations-again (joining [] all) (joining [] others)
-            (groups-joined groups results are),
-      ) in
-      a.2 ∙ ap none same ∙ sym b.2
+    pub groups-defined : can_join [] (flat groups) ≡ can_join [] (flat results)
+    groups-defined =
+        let a = counted [] (flat groups) in
+        let b = counted [] (flat results) in
+        let same : a.0 ≡ b.0 = omega (
+          arith,
+          a.1,
+          b.1,
+          (groups-alike groups results are).many,
+          compilations-again (joining [] (flat groups)) (joining [] (flat results))
+              groups-joined,
+        ) in
+        a.2 ∙ ap none same ∙ sym b.2

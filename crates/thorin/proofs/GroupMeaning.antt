@@ -1,6 +1,6 @@
 -- What packing in groups means: the join of all inputs at once.
-use Rattle.std.proofs.Common.{◌≡◌, ◌∙◌, ℕ, true, List, [], ◌∷◌, ◌++◌, length, map, get_or, Ok}
-use Rattle.std.proofs.Common.{Option, Some, refl, sym, ap, subst, arith, set, swap, flat_map}
+use Rattle.std.proofs.Common.{◌≡◌, ◌∙◌, ℕ, true, List, [], ◌∷◌, ◌++◌, length, map, Ok}
+use Rattle.std.proofs.Common.{Option, Some, refl, sym, ap, subst, arith, swap, flat_map}
 use Rattle.std.proofs.Common.{IsPermutation, take, drop, append_assoc, append-nil, drop_at}
 use Rattle.std.proofs.Common.{take-append-drop}
 use Rattle.std.proofs.Math.ListN.{get_or-map}
@@ -163,14 +163,7 @@ swap-map : {A B : Type 0} (f : A → B) (xs : List A) (i j : ℕ)
     → swap (map f xs) i j ≡ map f (swap xs i j)
 swap-map f [] i j = refl
 swap-map f (x ∷ xs) i j =
-    let at = get_or (x ∷ xs) i x in
-    let to = get_or (x ∷ xs) j x in
-    rw (
-      get_or-map f (x ∷ xs) j x,
-      get_or-map f (x ∷ xs) i x,
-      map-set f (set (x ∷ xs) i to) j at,
-      map-set f (x ∷ xs) i to,
-    ) refl
+    rw (get_or-map f (x ∷ xs) j x, get_or-map f (x ∷ xs) i x, map-set, map-set) refl
 
 -- another order of what is made of a list is made of the list in another order
 lifted : {A B : Type 0} (f : A → B) (xs : List A) (ys : List B) → IsPermutation (map f xs) ys
@@ -203,8 +196,6 @@ module _ (keeps : KeepsSound) (again : MeansAgain) where
   unfolding taken_each
   grouped [] [] old new all packed has took mean =
       record { lists = []; results = []; meant = refl; are = tt; whole = mean }
-  grouped [] (p ∷ ps) old new all packed has took mean = absurd packed
-  grouped (g ∷ gs) [] old new all packed has took mean = absurd packed
   grouped (g ∷ gs) (p ∷ ps) old new all packed has took (here, later, meaning, others, whole) =
       let alone = packed.0 in
       let w = alone.written in
@@ -230,6 +221,7 @@ module _ (keeps : KeepsSound) (again : MeansAgain) where
         );
         whole = whole ∙ ap (λ l. here ++ l) rest.whole;
       }
+  grouped _ _ old new all packed has took mean = absurd packed
 
   -- what is packed in groups is a package of all inputs
   pub means-all : (groups : List (List (List ℕ))) (file : List ℕ)

@@ -1,33 +1,34 @@
--- A run, one input after the other, and the join of what it accepted.
-use Rattle.std.proofs.Common.{◌≡◌, ◌∙◌, ℕ, List, [], ◌∷◌, ◌++◌, refl, sym, ap, Option, Result, Ok}
-use Rattle.std.proofs.Common.{Err, inl, inr, append_assoc, append-nil, subst}
+-- A run, one input after the other, what it accepted, and groups that are packed one by one.
+use Rattle.std.proofs.Common.{◌≡◌, ◌∙◌, ℕ, ◌<◌, ◌+◌, List, [], ◌∷◌, ◌++◌, length, take, drop}
+use Rattle.std.proofs.Common.{get_or, map, refl, sym, ap, Option, Result, Ok, Err, IfOk, inl, inr}
+use Rattle.std.proofs.Common.{subst, append_assoc, append-nil, take-append-drop}
+use Rattle.std.proofs.lemmas.List.{map-append, drop_more}
 use Rattle.std.specs.declared.io.Error.{Error as IoError}
+use Rattle.dwp_base.proofs.Steps.{bind-was, bind-ok, same-ok}
+use Rattle.dwp_elf.specs.Contents.{KindsDiffer}
+use Rattle.dwp_elf.specs.FileText.{file_text}
+use Rattle.dwp_elf.specs.Written.{written_elf}
+use Rattle.dwp_elf_read.specs.Elf.{elf_of}
 use Rattle.dwp_table.specs.declared.object.DwarfObject.{DwarfObject}
 use Rattle.dwp_table.specs.declared.object.DwarfObject.TheVariants.{Compilation, TypeUnit}
 use Rattle.thorin_errors.specs.Errors.{ErrorValue}
 use Rattle.thorin_errors.specs.declared.error.InputError.{InputError}
 use Rattle.thorin_errors.specs.declared.error.InputError.TheVariants.{Io, Memory as no_memory}
 use Rattle.thorin_errors.specs.declared.error.MissingReferencedObjectBehaviour.{MissingReferencedObjectBehaviour}
-use Rattle.thorin_executable.specs.View.{named}
-use Rattle.thorin.specs.declared.packing.Input.{Input}
-use Rattle.thorin.specs.declared.packing.Input.TheVariants as inputs
+use Rattle.thorin_executable.specs.Skeletons.{Listed, skeletons_of, named_skeletons_of}
+use Rattle.thorin_input.specs.Encodings.{own_encoding}
 use Rattle.thorin_join.specs.Builder.{State, taken, with_input}
 use Rattle.thorin_join.specs.Join.{JoinAll}
 use Rattle.thorin_join.specs.Meaning.{Members}
 use Rattle.thorin_join.specs.Represents.{units_in}
+use Rattle.thorin_again.specs.PlainInputs.{AreTaken}
 use Rattle.thorin_builder.specs.Taking.{Outcome, Takes, accepted_of, TakesRead, with_target}
 use Rattle.thorin_builder.specs.Taking.{TakesReferred, TakesSkeleton, TakesSkeletons}
 use Rattle.thorin_builder.specs.Taking.{TakesExecutableRead}
-use Rattle.thorin_executable.specs.Skeletons.{Listed, skeletons_of, named_skeletons_of}
+use Rattle.thorin.specs.declared.packing.Input.{Input}
+use Rattle.thorin.specs.declared.packing.Input.TheVariants as inputs
+use Rattle.thorin.specs.Groups.{taken_each, IsPackedAlone, ArePackedAlone}
 use Rattle.thorin.specs.Run.{TakesInput, Ran, IsWritten}
-use Rattle.dwp_elf.specs.Contents.{KindsDiffer}
-use Rattle.dwp_elf.specs.FileText.{file_text}
-use Rattle.dwp_elf.specs.Written.{written_elf}
-use Rattle.dwp_elf_read.specs.Elf.{elf_of}
-use Rattle.thorin_input.specs.Encodings.{own_encoding}
-use Rattle.thorin_again.specs.PlainInputs.{AreTaken}
-use Rattle.thorin.specs.Groups.{taken_each}
-use Rattle.dwp_base.proofs.Steps.{bind-was, same-ok}
 
 abbrev pub Offer : Type 1
 Offer = List ℕ → Result (List ℕ) IoError → Type 0
@@ -43,129 +44,127 @@ ran-next offer [] input old middle new [] outcome before here ran took = (
   (refl, refl),
   ap (λ l. l ++ here) ran.1 ∙ sym (append-nil here),
 )
-ran-next offer [] input old middle new (o ∷ os) outcome before here ran took = absurd ran
-ran-next offer (i ∷ is) input old middle new [] outcome before here ran took = absurd ran
 ran-next offer (i ∷ is) input old middle new (o ∷ os) outcome before here ran took = (
   record { middle = ran.0.middle; here = ran.0.here; later = ran.0.later ++ here },
   ran.1,
   ran-next offer is input ran.0.middle middle new os outcome ran.0.later here ran.2 took,
   ap (λ l. l ++ here) ran.3 ∙ append_assoc ran.0.here ran.0.later here,
 )
+ran-next offer _ input old middle new _ outcome before here ran took = absurd ran
 
 -- ---- what was accepted
 
--- a relation of what was accepted, and of the builder before and after, that goes on by inputs
-pub record GoesByInputs (R : List (List ℕ) → State → State → Type 0) : Type 0 where
-  pub none : (state : State) → R [] state state
-  pub one : (bytes : List ℕ) (old new : State) → Takes bytes old (Ok tt) new
-      → R (bytes ∷ []) old new
-  pub more : (a b : List (List ℕ)) (x y z : State) → R a x y → R b y z → R (a ++ b) x z
-  pub target : (name : DwarfObject) (a : List (List ℕ)) (old new : State)
-      → R a (with_target name old) new → R a old new
+-- inputs were accepted, one after the other: each was taken, and their units are joined
+abbrev pub Accepts : List (List ℕ) → State → State → Type 0
+Accepts accepted old new =
+    AreTaken accepted old new × JoinAll accepted (units_in old) (units_in new)
 
-module _ (R : List (List ℕ) → State → State → Type 0) (by : GoesByInputs R) where
-  -- so it does by what came of something
-  abbrev Goes : (State → Outcome → State → List (List ℕ) → Type 0) → Type 0
-  Goes takes = (old new : State) (outcome : Outcome) (accepted : List (List ℕ))
-      → takes old outcome new accepted → R accepted old new
+-- other units that executables refer to
+other-targets : (list : List (List ℕ)) (targets : List DwarfObject) (old new : State)
+    → AreTaken list (record old { targets = targets }) new → AreTaken list old new
+other-targets [] targets old new h = h
+other-targets (bytes ∷ rest) targets old new h = h
 
-  none-goes : (accepted : List (List ℕ)) (old new : State) → new ≡ old → accepted ≡ []
-      → R accepted old new
-  none-goes accepted old new same none = rw (none, same) (by.none old)
+from-target : (name : DwarfObject) (list : List (List ℕ)) (old new : State)
+    → Accepts list (with_target name old) new → Accepts list old new
+from-target (Compilation id) list old new h = (other-targets list _ old new h.0, h.1)
+from-target (TypeUnit signature) list old new h = h
 
-  bytes-go : (bytes : List ℕ) → Goes (λ old outcome new accepted. Takes bytes old outcome new
-      × (accepted ≡ accepted_of outcome bytes))
-  bytes-go bytes old new (Ok x) accepted takes = rw takes.1 (by.one bytes old new takes.0)
-  bytes-go bytes old new (Err e) accepted takes =
-      none-goes accepted old new takes.0.unchanged takes.1
-
-  read-goes : (read : Result (List ℕ) InputError) → Goes (TakesRead read)
-  read-goes (Ok bytes) old new outcome accepted takes = bytes-go bytes old new
-      outcome accepted takes
-  read-goes (Err e) old new outcome accepted takes = none-goes accepted old new takes.1 takes.2
-
-  module _ (missing : MissingReferencedObjectBehaviour) where
-    referred-goes : (read : Result (List ℕ) InputError) → Goes (TakesReferred missing read)
-    referred-goes (Ok bytes) old new outcome accepted takes =
-        bytes-go bytes old new outcome accepted takes
-    referred-goes (Err (Io cause)) old new outcome accepted takes =
-        none-goes accepted old new takes.1 takes.2
-    referred-goes (Err no_memory) old new outcome accepted takes =
-        none-goes accepted old new takes.1 takes.2
-
-    module _ (offer : Offer) where
-      skeleton-goes : (named : DwarfObject × List ℕ) → Goes (TakesSkeleton offer missing named)
-      skeleton-goes named old new outcome accepted (inl there) =
-          none-goes accepted old new there.2 there.3
-      skeleton-goes named old new outcome accepted (inr (inl takes)) =
-          let file = takes.file in
-          rw takes.accepted_is (by.target named.0 file.accepted old new (referred-goes file.read
-          (with_target named.0 old) new outcome file.accepted file.taken))
-      skeleton-goes named old new outcome accepted (inr (inr none)) =
-          none-goes accepted old new none.1 none.2
-
-      skeletons-go : (list : List (DwarfObject × List ℕ)) (error : Option ErrorValue)
-          → Goes (TakesSkeletons offer missing list error)
-      skeletons-go [] error old new outcome accepted takes =
-          none-goes accepted old new takes.1 takes.2
-      skeletons-go (n ∷ ns) error old new outcome accepted (s, Ok x, takes, goes) =
-          rw goes.1 (by.more s.here s.later old s.middle new
-          (skeleton-goes n old s.middle (Ok x) s.here takes)
-          (skeletons-go ns error s.middle new outcome s.later goes.0))
-      skeletons-go (n ∷ ns) error old new outcome accepted (s, Err e, takes, goes) =
-          rw (goes.2, goes.1) (skeleton-goes n old s.middle (Err e) s.here takes)
-
-      executable-goes : (names : List ℕ → Listed) (read : Result (List ℕ) InputError)
-          → Goes (TakesExecutableRead names offer missing read)
-      executable-goes names (Ok bytes) old new outcome accepted takes =
-          skeletons-go takes.named takes.error old new outcome accepted takes.taken
-      executable-goes names (Err e) old new outcome accepted takes =
-          none-goes accepted old new takes.1 takes.2
-
-  input-goes : (offer : Offer) (input : Input) → Goes (TakesInput offer input)
-  input-goes offer (inputs.Object path) old new outcome accepted (t, is) =
-      rw is (read-goes t.read old new outcome t.accepted t.taken)
-  input-goes offer (inputs.Bytes bytes) old new outcome accepted takes =
-      bytes-go bytes.now old new outcome accepted takes
-  input-goes offer (inputs.Executable path missing) old new outcome accepted (t, is) =
-      rw is (executable-goes missing offer skeletons_of t.read old new outcome t.accepted t.taken)
-  input-goes offer (inputs.ExecutableSkippingNameless path missing) old new outcome accepted takes =
-      rw takes.1 (executable-goes missing offer named_skeletons_of takes.0.read old new outcome
-      takes.0.accepted takes.0.taken)
-
-  pub run-goes : (offer : Offer) (list : List Input) (old new : State) (outcomes : List Outcome)
-      (accepted : List (List ℕ)) → Ran offer list old outcomes new accepted → R accepted old new
-  run-goes offer [] old new [] accepted ran = none-goes accepted old new ran.0 ran.1
-  run-goes offer [] old new (o ∷ os) accepted ran = absurd ran
-  run-goes offer (i ∷ is) old new [] accepted ran = absurd ran
-  run-goes offer (i ∷ is) old new (o ∷ os) accepted (s, takes, rest, all) =
-      rw all (by.more s.here s.later old s.middle new
-      (input-goes offer i old s.middle o s.here takes)
-      (run-goes offer is s.middle new os s.later rest))
-
--- ---- what was accepted is joined
+taken-append : (a b : List (List ℕ)) (x y z : State) → AreTaken a x y → AreTaken b y z
+    → AreTaken (a ++ b) x z
+taken-append [] b x y z h k = other-targets b h.0 x z (rw h.1 at k)
+taken-append (bytes ∷ a) b x y z h k = (h.0, h.1, h.2, taken-append a b h.1 y z h.3 k)
 
 pub join-append : (a b : List (List ℕ)) (x y z : Members) → JoinAll a x y → JoinAll b y z
     → JoinAll (a ++ b) x z
 join-append [] b x y z h k = rw (← h) k
 join-append (bytes ∷ a) b x y z h k = (h.0, h.1, join-append a b h.0 y z h.2 k)
 
-same-units : (name : DwarfObject) (state : State) → units_in (with_target name state)
-    ≡ units_in state
-same-units (Compilation id) state = refl
-same-units (TypeUnit signature) state = refl
+more-accepted : (a b all : List (List ℕ)) (x y z : State) → all ≡ a ++ b → Accepts a x y
+    → Accepts b y z → Accepts all x z
+more-accepted a b all x y z is h k = rw is (taken-append a b x y z h.0 k.0,
+    join-append a b (units_in x) (units_in y) (units_in z) h.1 k.1)
 
-pub run-joined : (offer : Offer) (list : List Input) (old new : State) (outcomes : List Outcome)
+none-accepted : (accepted : List (List ℕ)) (old new : State) → new ≡ old → accepted ≡ []
+    → Accepts accepted old new
+none-accepted accepted old new same none = rw (none, same) ((old.targets, refl), refl)
+
+-- so it is by what came of something
+abbrev Accepting : (State → Outcome → State → List (List ℕ) → Type 0) → Type 0
+Accepting takes = (old new : State) (outcome : Outcome) (accepted : List (List ℕ))
+    → takes old outcome new accepted → Accepts accepted old new
+
+of-bytes : (bytes : List ℕ) → Accepting (λ old outcome new accepted. Takes bytes old outcome new
+    × (accepted ≡ accepted_of outcome bytes))
+of-bytes bytes old new (Ok x) accepted takes = rw takes.1 (
+  (old.targets, new, takes.0.meaning, (new.targets, refl)),
+  (units_in new, takes.0.joins, refl),
+)
+of-bytes bytes old new (Err e) accepted takes =
+    none-accepted accepted old new takes.0.unchanged takes.1
+
+of-read : (read : Result (List ℕ) InputError) → Accepting (TakesRead read)
+of-read (Ok bytes) old new outcome accepted takes = of-bytes bytes old new outcome accepted takes
+of-read (Err e) old new outcome accepted takes = none-accepted accepted old new takes.1 takes.2
+
+module _ (offer : Offer) (missing : MissingReferencedObjectBehaviour) where
+  of-referred : (read : Result (List ℕ) InputError) → Accepting (TakesReferred missing read)
+  of-referred (Ok bytes) old new outcome accepted takes =
+      of-bytes bytes old new outcome accepted takes
+  of-referred (Err (Io cause)) old new outcome accepted takes =
+      none-accepted accepted old new takes.1 takes.2
+  of-referred (Err no_memory) old new outcome accepted takes =
+      none-accepted accepted old new takes.1 takes.2
+
+  of-skeleton : (named : DwarfObject × List ℕ) → Accepting (TakesSkeleton offer missing named)
+  of-skeleton named old new outcome accepted (inl there) =
+      none-accepted accepted old new there.2 there.3
+  of-skeleton named old new outcome accepted (inr (inl takes)) =
+      let file = takes.file in
+      rw takes.accepted_is (from-target named.0 file.accepted old new (of-referred file.read
+      (with_target named.0 old) new outcome file.accepted file.taken))
+  of-skeleton named old new outcome accepted (inr (inr none)) =
+      none-accepted accepted old new none.1 none.2
+
+  of-skeletons : (list : List (DwarfObject × List ℕ)) (error : Option ErrorValue)
+      → Accepting (TakesSkeletons offer missing list error)
+  of-skeletons [] error old new outcome accepted takes =
+      none-accepted accepted old new takes.1 takes.2
+  of-skeletons (n ∷ ns) error old new outcome accepted (s, Ok x, takes, goes) =
+      more-accepted s.here s.later accepted old s.middle new goes.1
+      (of-skeleton n old s.middle (Ok x) s.here takes)
+      (of-skeletons ns error s.middle new outcome s.later goes.0)
+  of-skeletons (n ∷ ns) error old new outcome accepted (s, Err e, takes, goes) =
+      rw (goes.2, goes.1) (of-skeleton n old s.middle (Err e) s.here takes)
+
+  of-executable : (names : List ℕ → Listed) (read : Result (List ℕ) InputError)
+      → Accepting (TakesExecutableRead names offer missing read)
+  of-executable names (Ok bytes) old new outcome accepted takes =
+      of-skeletons takes.named takes.error old new outcome accepted takes.taken
+  of-executable names (Err e) old new outcome accepted takes =
+      none-accepted accepted old new takes.1 takes.2
+
+of-input : (offer : Offer) (input : Input) → Accepting (TakesInput offer input)
+of-input offer (inputs.Object path) old new outcome accepted (t, is) =
+    rw is (of-read t.read old new outcome t.accepted t.taken)
+of-input offer (inputs.Bytes bytes) old new outcome accepted takes =
+    of-bytes bytes.now old new outcome accepted takes
+of-input offer (inputs.Executable path missing) old new outcome accepted (t, is) =
+    rw is (of-executable offer missing skeletons_of t.read old new outcome t.accepted t.taken)
+of-input offer (inputs.ExecutableSkippingNameless path missing) old new outcome accepted (t, is) =
+    rw is (of-executable offer missing named_skeletons_of t.read old new outcome t.accepted t.taken)
+
+pub run-accepts : (offer : Offer) (list : List Input) (old new : State) (outcomes : List Outcome)
     (accepted : List (List ℕ)) → Ran offer list old outcomes new accepted
-    → JoinAll accepted (units_in old) (units_in new)
-run-joined = run-goes (λ accepted old new. JoinAll accepted (units_in old) (units_in new)) (record {
-  none = λ state. refl;
-  one = λ bytes old new takes. (units_in new, takes.joins, refl);
-  more = λ a b x y z. join-append a b (units_in x) (units_in y) (units_in z);
-  target = λ name a old new joined. rw (← same-units name old) joined;
-})
+    → Accepts accepted old new
+run-accepts offer [] old new [] accepted ran = none-accepted accepted old new ran.0 ran.1
+run-accepts offer (i ∷ is) old new (o ∷ os) accepted (s, takes, rest, all) =
+    more-accepted s.here s.later accepted old s.middle new all
+    (of-input offer i old s.middle o s.here takes)
+    (run-accepts offer is s.middle new os s.later rest)
+run-accepts offer _ old new _ accepted ran = absurd ran
 
--- ---- what was accepted was taken, one input after another
+-- ---- inputs that are all taken
 
 -- what one input made of a package
 pub begun-then : (bytes : List ℕ) (old new : State) → taken bytes old ≡ Ok new
@@ -185,31 +184,35 @@ each-taken (bytes ∷ rest) old new h =
     let s = bind-was (taken bytes old) _ new h in
     (old.targets, s.0, s.1, each-taken rest s.0 new s.2)
 
--- other units that executables refer to
-other-targets : (list : List (List ℕ)) (targets : List DwarfObject) (old new : State)
-    → AreTaken list (record old { targets = targets }) new → AreTaken list old new
-other-targets [] targets old new h = h
-other-targets (bytes ∷ rest) targets old new h = h
+-- once some inputs were taken, the others are
+pub taken-then : (done rest : List (List ℕ)) (old middle : State) → taken_each done old ≡ Ok middle
+    → taken_each (done ++ rest) old ≡ taken_each rest middle
+unfolding taken_each
+taken-then [] rest old middle h = ap (taken_each rest) (same-ok old middle h)
+taken-then (bytes ∷ done) rest old middle h =
+    let next = bind-was (taken bytes old) _ middle h in
+    bind-ok (taken bytes old) next.0 _ next.1 ∙ taken-then done rest next.0 middle next.2
 
-taken-append : (a b : List (List ℕ)) (x y z : State) → AreTaken a x y → AreTaken b y z
-    → AreTaken (a ++ b) x z
-taken-append [] b x y z h k = other-targets b h.0 x z (rw h.1 at k)
-taken-append (bytes ∷ a) b x y z h k = (h.0, h.1, h.2, taken-append a b h.1 y z h.3 k)
+-- a list up to one element, that one, and what follows
+pub mapped-around : {A B : Type 0} (f : A → B) (xs : List A) (i : ℕ) (d : A) → i < length xs
+    → map f xs ≡ map f (take i xs) ++ f (get_or xs i d) ∷ map f (drop (i + 1) xs)
+mapped-around f xs i d h =
+    ap (map f) (sym (take-append-drop i xs)) ∙ map-append f (take i xs) (drop i xs)
+    ∙ rw (drop_more xs i d h) refl
 
-from-target : (name : DwarfObject) (list : List (List ℕ)) (old new : State)
-    → AreTaken list (with_target name old) new → AreTaken list old new
-from-target (Compilation id) list old new h = other-targets list _ old new h
-from-target (TypeUnit signature) list old new h = h
+-- one more group is packed
+pub packed-more : (groups : List (List (List ℕ))) (packages : List (List ℕ)) (group : List (List ℕ))
+    (file : List ℕ) → ArePackedAlone groups packages → IsPackedAlone group file
+    → ArePackedAlone (groups ++ group ∷ []) (packages ++ file ∷ [])
+packed-more [] [] group file all one = (one, tt)
+packed-more (g ∷ gs) (p ∷ ps) group file all one = (all.0, packed-more gs ps group file all.1 one)
+packed-more _ _ group file all one = absurd all
 
-pub run-taken : (offer : Offer) (list : List Input) (old new : State) (outcomes : List Outcome)
-    (accepted : List (List ℕ)) → Ran offer list old outcomes new accepted → AreTaken accepted old
-    new
-run-taken = run-goes AreTaken (record {
-  none = λ state. (state.targets, refl);
-  one = λ bytes old new takes. (old.targets, new, takes.meaning, (new.targets, refl));
-  more = taken-append;
-  target = from-target;
-})
+-- what is so of every value is so of an answer that is Ok
+pub if-ok : {V E : Type 0} (P : V → Type 0) (result : Result V E) → ((value : V) → P value)
+    → IfOk result P
+if-ok P (Ok value) law = law value
+if-ok P (Err e) law = tt
 
 -- ---- what was written
 

@@ -1,7 +1,6 @@
 -- Packages that are packed again, and inputs of one encoding, as packing has them.
 use Rattle.std.proofs.Common.{◌≡◌, ◌∙◌, ℕ, List, [], ◌∷◌, refl, sym, ap, Result, Ok, Err, inl, inr}
-use Rattle.std.proofs.Common.{⊎_elim, All, IfOk}
-use Rattle.std.proofs.lemmas.List.Elements.{All-head, All-tail}
+use Rattle.std.proofs.Common.{⊎_elim, IfOk}
 use Rattle.dwp_base.specs.Reading.{◌>>=◌}
 use Rattle.dwp_base.proofs.Steps.{bind-was, same-ok}
 use Rattle.dwp_base.specs.declared.endian.Endianness.{Endianness}
@@ -14,17 +13,17 @@ use Rattle.thorin_errors.specs.declared.error.Error.{Error}
 use Rattle.thorin_input.specs.Encodings.{encoding_of}
 use Rattle.thorin_input.specs.Used.{InputFile, opened, input_file_of}
 use Rattle.thorin_join.specs.Builder.{State, start, taken, order_of, finish_test, IsFinishedState}
-use Rattle.thorin_again.specs.Again.{HaveEncodingOf, input_encoding}
-use Rattle.thorin_again.specs.OneEncoding.{IsOfEncoding, HaveEncodingOnceWritten}
+use Rattle.thorin_again.specs.Again.{input_encoding}
+use Rattle.thorin_again.specs.OneEncoding.{IsOfEncoding}
 use Rattle.thorin_again.specs.OwnAccepted.{IsAcceptedOnceWritten}
 use Rattle.thorin_again.specs.OwnRefusals.{UnlessForeseen}
 use Rattle.thorin_again.specs.PlainInputs.{AreTaken, IsPlainOf}
-use Rattle.thorin_join.specs.Represents.{IsSoundBegun, units_in}
-use Rattle.thorin.specs.Again.{CanBePackedAgain, IsLeft, HasCommonEncoding}
-use Rattle.thorin.specs.Groups.{taken_each, ArePackedAlone, RefusesPackages, HaveTheirEncodings}
+use Rattle.thorin_join.specs.Represents.{IsSoundBegun}
+use Rattle.thorin.specs.Again.{CanBePackedAgain, IsLeft}
+use Rattle.thorin.specs.Groups.{taken_each, ArePackedAlone, RefusesPackages}
 use Rattle.thorin.specs.Run.{IsWritten, Writes}
 use Rattle.thorin.proofs.GroupMeaning.{KeepsSound}
-use Rattle.thorin.proofs.Running.{begun-then, each-taken, read-text, as-written}
+use Rattle.thorin.proofs.Running.{begun-then, each-taken, read-text}
 
 -- of a file that may have been written
 pub if-written : {V : Type 0} (view : V → List ℕ) (state : State) (P : List ℕ → Type 0)
@@ -59,8 +58,6 @@ module _ (keeps : KeepsSound) (any : AcceptedLaw) (orders : OrderLaw) (order : E
       → UnlessForeseen (taken_each packages old)
   unfolding taken_each
   each-foreseen [] [] each can old sound same = tt
-  each-foreseen [] (file ∷ files) each can old sound same = absurd can
-  each-foreseen (group ∷ groups) [] each can old sound same = absurd can
   each-foreseen (group ∷ groups) (bytes ∷ files) each can old sound same =
       let state = each.0.state in
       let w = each.0.written in
@@ -71,6 +68,7 @@ module _ (keeps : KeepsSound) (any : AcceptedLaw) (orders : OrderLaw) (order : E
       each-foreseen groups files each.1 can.2 next
       (keeps bytes old.begun next.begun sound (begun-then bytes old next took))
       (orders bytes (written_elf w.file) old next order w.read_back took ∙ rw can.1 same))
+  each-foreseen _ _ each can old sound same = absurd can
 
   pub groups-left : (groups : List (List (List ℕ))) (error : ErrorValue)
       (refused : RefusesPackages groups error)
@@ -102,23 +100,3 @@ module _ (encoding : Encoding) (bytes : List ℕ) (p : IsPlainOf encoding bytes)
         let s2 = bind-was (input_file_of s1.0) _ e s1.2 in
         (one-reading s1.0 s2.0 e s1.1 s2.1 s2.2).1,
   )
-
-abbrev pub EncodingLaw : Type 0
-EncodingLaw = (encoding : Encoding) (accepted : List (List ℕ)) (state : State)
-    → AreTaken accepted start state → All (IsOfEncoding encoding) accepted → (file : File)
-    → IsFinishedState state file → HaveEncodingOnceWritten (units_in state) file
-
-pub theirs : EncodingLaw → (groups : List (List (List ℕ))) (packages : List (List ℕ))
-    (each : ArePackedAlone groups packages) → All HasCommonEncoding groups
-    → HaveTheirEncodings groups packages each
-theirs law [] [] each all = tt
-theirs law [] (file ∷ files) each all = absurd each
-theirs law (group ∷ groups) [] each all = absurd each
-theirs law (group ∷ groups) (bytes ∷ files) each all =
-    let state = each.0.state in
-    let w = each.0.written in
-    let here = All-head HasCommonEncoding group groups all in (
-      as-written state bytes w (λ b. HaveEncodingOf b (units_in state)) (law here.0 group state
-          (each-taken group start state each.0.taken) here.1 w.file w.finished),
-      theirs law groups files each.1 (All-tail HasCommonEncoding group groups all),
-    )

@@ -2,7 +2,7 @@ use Rattle.thorin_join.specs.Builder.{start}
 use Rattle.thorin_again.specs.OneEncoding.{AnswersAs}
 use Rattle.thorin_join.specs.Represents.{units_in}
 use Rattle.thorin.specs.Again.{IsTakenAgain}
-use Rattle.thorin.proofs.Running.{run-taken}
+use Rattle.thorin.proofs.Running.{run-accepts}
 use Rattle.thorin.proofs.TakenAgain.{if-written}
 use Rattle.thorin.proofs.again.packed_files_are_taken_again.Goals as goal
 
@@ -10,12 +10,12 @@ pub returns-clause-again : goal.returns-clause-again
 returns-clause-again g c inputs packed is packs = if-written (λ bytes. bytes.items) is.state
     (IsTakenAgain (units_in is.state)) packed.file is.written (λ bytes w.
     c.written_packages_are_taken_again.ensures.again is.accepted is.state bytes
-    (run-taken (g.Sess.Session.offer c.args.session.now) inputs start is.state
-    packed.outcomes.items is.accepted is.ran) packs w)
+    (run-accepts (g.Sess.Session.offer c.args.session.now) inputs start is.state
+    packed.outcomes.items is.accepted is.ran).0 packs w)
 
 pub returns-clause-answers : goal.returns-clause-answers
 returns-clause-answers g c inputs packed is one = if-written (λ bytes. bytes.items) is.state
     (AnswersAs (units_in is.state)) packed.file is.written (λ bytes w.
     c.written_packages_are_taken_again.ensures.answers is.accepted is.state bytes
-    (run-taken (g.Sess.Session.offer c.args.session.now) inputs start is.state
-    packed.outcomes.items is.accepted is.ran) one w)
+    (run-accepts (g.Sess.Session.offer c.args.session.now) inputs start is.state
+    packed.outcomes.items is.accepted is.ran).0 one w)

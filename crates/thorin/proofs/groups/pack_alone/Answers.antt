@@ -8,8 +8,7 @@ use Rattle.thorin_join.specs.Join.{JoinAll, IsPackageOf}
 use Rattle.thorin_join.specs.Represents.{units_in}
 use Rattle.thorin.specs.Groups.{taken_each, bytes_in, PacksAlone}
 use Rattle.thorin.specs.Run.{Writes}
-use Rattle.thorin.proofs.Grouping.{taken-then, mapped-around}
-use Rattle.thorin.proofs.Running.{join-append}
+use Rattle.thorin.proofs.Running.{join-append, taken-then, mapped-around}
 use Rattle.thorin.proofs.groups.pack_alone.Goals as goal
 
 abbrev none : Bor (List ℕ)

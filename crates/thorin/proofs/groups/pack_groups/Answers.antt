@@ -3,7 +3,7 @@ use Rattle.std.proofs.Common.{Ok, Err, inr, subst₂, sym, rules, take_all}
 use Rattle.std.proofs.lemmas.List.{map-append, map_more}
 use Rattle.std.proofs.lemmas.Result.{err_from_is_err_and}
 use Rattle.thorin.specs.Groups.{PacksAlone, PacksInGroups, bytes_in, groups_in, ArePackedAlone}
-use Rattle.thorin.proofs.Grouping.{mapped-around, packed-more, if-ok}
+use Rattle.thorin.proofs.Running.{mapped-around, packed-more, if-ok}
 use Rattle.thorin.proofs.groups.pack_groups.Goals as goal
 
 abbrev none : Bor (List (Bor (List ℕ)))

@@ -1,17 +1,42 @@
-use Rattle.thorin.proofs.Limits.{large_file, large_refusal, large_written, many_units, far_string}
+use Rattle.std.proofs.Common.{◌≡◌, ◌*◌, ◌^◌, true, false, ltb, [], ◌∷◌, length, arith, refl}
+use Rattle.std.proofs.Common.{lt-ltb, le-ltb}
+use Rattle.dwp_elf_read.specs.declared.error.WriteError.TheVariants as written
+use Rattle.dwp_elf.specs.Numbers.{Fits}
+use Rattle.thorin_index.specs.EntryTests.{tests_under}
+use Rattle.thorin_strings.specs.StringOffsets.{offset_limit, fitting_offset, remapped_entry}
+use Rattle.thorin_strings.specs.Strings.{offset_of}
 use Rattle.thorin.proofs.laws.numbers_past_limits_are_refused.Goals as goal
 
 pub returns-clause-elf_32_file : goal.returns-clause-elf_32_file
-returns-clause-elf_32_file c = large_file
+unfolding Fits
+returns-clause-elf_32_file c o is past fits =
+    let limits = rw is at fits in
+    let first = limits 0 0 (omega arith) in
+    let far = rw is at past in
+    absurd (omega (arith, first, far))
 
 pub returns-clause-elf_32_bytes : goal.returns-clause-elf_32_bytes
-returns-clause-elf_32_bytes c = large_refusal
+returns-clause-elf_32_bytes c o written.NumberTooLarge is past h = refl
+returns-clause-elf_32_bytes c o written.Memory is past h =
+    absurd (returns-clause-elf_32_file c o is past h)
+returns-clause-elf_32_bytes c o (written.Io e) is past h = absurd h
 
 pub returns-clause-elf_32_writer : goal.returns-clause-elf_32_writer
-returns-clause-elf_32_writer c = large_written
+returns-clause-elf_32_writer c o old new written.NumberTooLarge is past h = refl
+returns-clause-elf_32_writer c o old new written.Memory is past h = absurd h
+returns-clause-elf_32_writer c o old new (written.Io e) is past h =
+    absurd (returns-clause-elf_32_file c o is past h.0)
 
 pub returns-clause-unit_count : goal.returns-clause-unit_count
-returns-clause-unit_count c = many_units
+unfolding tests_under
+returns-clause-unit_count c [] past = absurd (omega (arith, past))
+returns-clause-unit_count c (x ∷ xs) past =
+    let many : ltb (3 * length (x ∷ xs)) (2 ^ 32) ≡ false = le-ltb _ _ past in
+    rw many refl
 
 pub returns-clause-string_offset : goal.returns-clause-string_offset
-returns-clause-string_offset c = far_string
+unfolding remapped_entry fitting_offset
+returns-clause-string_offset c order encoding section bytes index strings string named far =
+    let past : ltb (offset_limit encoding.format) (offset_of strings string) ≡ true =
+    lt-ltb _ _ far in
+    rw (named, past) refl

@@ -4,7 +4,7 @@ use Rattle.thorin.specs.declared.packing.Input.{Input}
 use Rattle.thorin.specs.declared.packing.Input.TheVariants.{Object}
 use Rattle.std.proofs.lemmas.List.{take_more}
 use Rattle.thorin.specs.Run.{Ran, Took}
-use Rattle.thorin.proofs.Running.{ran-next, run-joined}
+use Rattle.thorin.proofs.Running.{ran-next, run-accepts}
 use Rattle.thorin.proofs.packing.pack.Goals as goal
 
 pub loop-input-preserved : goal.loop-input-preserved
@@ -36,8 +36,8 @@ returns-clause-packed g c =
       state = c.loop-input.builder.state;
       accepted = accepted;
       ran = ran;
-      joined = run-joined offer c.args.inputs.now start c.loop-input.builder.state
-          c.loop-input.outcomes.items accepted ran;
+      joined = (run-accepts offer c.args.inputs.now start c.loop-input.builder.state
+          c.loop-input.outcomes.items accepted ran).1;
       written = c.written-file.ensures.writes;
       package_of = c.written-file.ensures.packaged;
       differing = c.written-file.ensures.differing;
