@@ -82,8 +82,10 @@ join-append (bytes ∷ a) b x y z h k = (h.0, h.1, join-append a b h.0 y z h.2 k
 
 more-accepted : (a b all : List (List ℕ)) (x y z : State) → all ≡ a ++ b → Accepts a x y
     → Accepts b y z → Accepts all x z
-more-accepted a b all x y z is h k = rw is (taken-append a b x y z h.0 k.0,
-    join-append a b (units_in x) (units_in y) (units_in z) h.1 k.1)
+more-accepted a b all x y z is h k = rw is (
+  taken-append a b x y z h.0 k.0,
+  join-append a b (units_in x) (units_in y) (units_in z) h.1 k.1,
+)
 
 none-accepted : (accepted : List (List ℕ)) (old new : State) → new ≡ old → accepted ≡ []
     → Accepts accepted old new
