@@ -1,4 +1,3 @@
-mod Left
 mod Opened
 mod Prefixing
 mod Puts

@@ -1,36 +1,32 @@
 -- What was put under a name, or begun, and what came of packing.
-use Rattle.std.proofs.Common.{◌≡◌, ℕ, Bool, true, false, List, [], ◌∷◌, ◌++◌, length, take, sym}
-use Rattle.std.proofs.Common.{◌∙◌, inl, inr, subst, arith}
-use Rattle.std.specs.Prelude.{Option, Some, None, Result, Ok, Err, ◌⊎◌, map, codes}
+use Rattle.std.proofs.Common.{◌≡◌, ℕ, Bool, true, false, List, [], ◌∷◌, ◌++◌, length, take, inl}
+use Rattle.std.proofs.Common.{inr, arith}
+use Rattle.std.specs.Prelude.{Option, Some, None, Result, Ok, Err, map, codes}
 use Rattle.std.specs.Borrow.{Bor}
 use Rattle.std.specs.Str.{bytes_eq}
 use Rattle.std.specs.declared.io.Error.{Error as IoError}
 use Rattle.std.specs.Io.KnownBytes.{Appends, Keeps}
-use Rattle.std.proofs.lemmas.List.{append-nil, take_all}
+use Rattle.std.proofs.KnownBytes.{Appends-nil, Appends-kept}
+use Rattle.std.proofs.lemmas.List.{take_all}
+use Rattle.dwp_base.proofs.Bools.{by-bool}
 use Rattle.dwp_elf_read.specs.declared.error.WriteError.{WriteError}
 use Rattle.dwp_elf_read.specs.declared.error.WriteError.TheVariants.{NumberTooLarge, Memory, Io}
-use Rattle.dwp_elf.specs.FileText.{Object, file_text, Object as File}
+use Rattle.dwp_elf.specs.FileText.{Object, Object as File, file_text}
 use Rattle.dwp_elf.specs.Refusals.{RefusesWriter}
 use Rattle.thorin.specs.declared.packing.Input.{Input}
 use Rattle.thorin_queries.specs.declared.output.Failure.{Failure}
-use Rattle.thorin_commands.specs.Files.{HasBeginning, Begun, Adds, IsOfWriting, PutIn, BeginsIn}
-use Rattle.thorin_commands.specs.Files.{Put, Begins}
+use Rattle.thorin_commands.specs.Files.{HasBeginning, Begun, Adds, IsOfWriting, Put, Begins}
 use Rattle.thorin_commands.specs.Packing.{asked, asks, out_of, IsPackedFrom, IsPackageFor, Packs}
 use Rattle.thorin_commands.specs.Packing.{paths_in, reads, Comes, Fails}
 use Rattle.thorin_commands.specs.declared.output.Refusal.{Refusal}
 use Rattle.thorin_commands.specs.declared.output.Refusal.TheVariants as refusals
 use Rattle.thorin_commands.specs.declared.packing.Packing.{Packing}
 
--- bytes that stay have nothing behind them
-kept : (old new : Option (List ℕ)) → Keeps old new → Appends old new []
-kept None new h = tt
-kept (Some xs) None h = h
-kept (Some xs) (Some ys) h = h ∙ sym (append-nil xs)
-
+-- a package whose writing was refused was begun
 pub begun : (o : Object) (old new : Option (List ℕ)) (e : WriteError) → RefusesWriter o old new e
     → HasBeginning old new (file_text o)
 unfolding HasBeginning
-begun o old new NumberTooLarge h = (0, kept old new h.1)
+begun o old new NumberTooLarge h = (0, Appends-kept old old new [] (Appends-nil old) h.1)
 begun o old new Memory h = absurd h
 begun o old new (Io e) h = (h.1.count, h.1.appended)
 
@@ -38,18 +34,12 @@ begun o old new (Io e) h = (h.1.count, h.1.appended)
 pub whole : (old new : Option (List ℕ)) (bytes : List ℕ) → Appends old new bytes
     → HasBeginning old new bytes
 unfolding HasBeginning
-whole old new bytes h = (
-  length bytes,
-  subst (λ bs. Appends old new bs) (sym (take_all (length bytes) bytes (omega arith))) h,
-)
+whole old new bytes h = (length bytes, rw (take_all (length bytes) bytes (omega arith)) h)
 
 -- the same after bytes that were flushed
 pub stay : (old middle new : Option (List ℕ)) (bytes : List ℕ) → Appends old middle bytes
     → Keeps middle new → Appends old new bytes
-stay None middle new bytes a k = tt
-stay (Some xs) None new bytes a k = absurd a
-stay (Some xs) (Some ys) None bytes a k = absurd k
-stay (Some xs) (Some ys) (Some zs) bytes a k = k ∙ a
+stay = Appends-kept
 
 module _ {F O : Type 0} (begins : F → Option (List Begun)) (contents : O → Option (List ℕ))
     (files files' : F) (out out' : O) (name text : List ℕ) where
@@ -79,15 +69,12 @@ module _ {F O : Type 0} (begins : F → Option (List Begun)) (contents : O → O
   begins_file e added same = rw e (inr added, same)
 
   -- what was put was begun
-  begins_in : (b : Bool) → PutIn begins contents files files' out out' b name text
-      → BeginsIn begins contents files files' out out' b name text
-  begins_in true h = (h.0, whole (contents out) (contents out') text h.1)
-  begins_in false h = (inl h.0, h.1)
-
   pub put_begins : Put begins contents files files' out out' name text
       → Begins begins contents files files' out out' name text
   unfolding Put Begins
-  put_begins h = begins_in (bytes_eq name (codes "-")) h
+  put_begins h = by-bool _ (bytes_eq name (codes "-"))
+      (λ e. let was = rw e at h in rw e (was.0, whole (contents out) (contents out') text was.1))
+      (λ e. let was = rw e at h in rw e (inl was.0, was.1))
 
 -- ---- what came of packing
 
@@ -98,22 +85,14 @@ module _ {X : Type 0} (offers : X → List ℕ → Result (List ℕ) IoError →
       → IsPackedFrom packing.partial reading.opens_archives reading.decompresses
       (reads reading (offers x)) list object
       → IsPackageFor (reads packing (offers y)) packing object
-  for_packing list object f p are packed = record {
-    list = list;
-    are = inl are;
-    packed = subst (λ (q : Packing). IsPackedFrom packing.partial q.opens_archives q.decompresses
-        (reads q (offers y)) list object) p
-        (subst (λ (z : X). IsPackedFrom packing.partial reading.opens_archives
-        reading.decompresses (reads reading (offers z)) list object) f packed);
-  }
+  for_packing list object f p are packed =
+      record { list = list; are = inl are; packed = rw (f, p) at packed }
 
   -- a package is one of what is taken, however that is written
   pub packed_alike : (object : File) → x ≡ y → reading ≡ packing
       → IsPackageFor (reads reading (offers x)) packing object
       → IsPackageFor (reads packing (offers y)) packing object
-  packed_alike object f p h =
-      subst (λ (q : Packing). IsPackageFor (reads q (offers y)) packing object) p
-      (subst (λ (z : X). IsPackageFor (reads reading (offers z)) packing object) f h)
+  packed_alike object f p h = rw (f, p) at h
 
 -- the same with the first executable as an object behind them
 pub for_unsplit : (offer : List ℕ → Result (List ℕ) IoError → Type 0) (packing : Packing)
@@ -140,38 +119,25 @@ pub late : (N B : Type 0) (failure : Failure) → IsOfWriting failure → B → 
 unfolding Fails
 late N B failure w b = inr (w, b)
 
-packs : (offer : List ℕ → Result (List ℕ) IoError → Type 0) (packing : Packing)
-    (Puts : (name text : List ℕ) → Type 0) (object : File) (name : List ℕ)
-    → IsPackageFor offer packing object → out_of packing ≡ Some name → Puts name (file_text object)
-    → Packs offer packing Puts
-packs offer packing Puts object name is named put =
-    record { object = object; is = is; name = name; named = named; put = put }
+-- with an object under a name
+module _ (N X : Type 0) (offer : List ℕ → Result (List ℕ) IoError → Type 0) (packing : Packing)
+    (Puts : (name text : List ℕ) → Type 0) (object : File) (name : List ℕ) where
+  packs : IsPackageFor offer packing object → out_of packing ≡ Some name
+      → Puts name (file_text object) → Packs offer packing Puts
+  packs is named put = record { object = object; is = is; name = name; named = named; put = put }
 
-pub done_packing : (N B : Type 0) (offer : List ℕ → Result (List ℕ) IoError → Type 0)
-    (packing : Packing) (Puts : (name text : List ℕ) → Type 0) (object : File) (name : List ℕ)
-    (x : Unit {0}) → IsPackageFor offer packing object → out_of packing ≡ Some name
-    → Puts name (file_text object) → Comes (Ok x) N B (Packs offer packing Puts)
-unfolding Comes
-done_packing N B offer packing Puts object name x is named put =
-    packs offer packing Puts object name is named put
+  pub done_packing : (x : Unit {0}) → IsPackageFor offer packing object
+      → out_of packing ≡ Some name → Puts name (file_text object)
+      → Comes (Ok x) N X (Packs offer packing Puts)
+  unfolding Comes
+  done_packing x is named put = packs is named put
 
-begun_packing : {N : Type 0} (offer : List ℕ → Result (List ℕ) IoError → Type 0)
-    (packing : Packing) (Puts : (name text : List ℕ) → Type 0) (object : File) (name : List ℕ)
-    (failure : Failure) → IsPackageFor offer packing object → out_of packing ≡ Some name
-    → N ⊎ (IsOfWriting failure × Puts name (file_text object))
-    → N ⊎ (IsOfWriting failure × Packs offer packing Puts)
-begun_packing offer packing Puts object name failure is named (inl n) = inl n
-begun_packing offer packing Puts object name failure is named (inr h) =
-    inr (h.0, packs offer packing Puts object name is named h.1)
-
-pub failed_packing : (N D : Type 0) (offer : List ℕ → Result (List ℕ) IoError → Type 0)
-    (packing : Packing) (Puts : (name text : List ℕ) → Type 0) (object : File) (name : List ℕ)
-    (failure : Failure) → IsPackageFor offer packing object → out_of packing ≡ Some name
-    → Fails failure N (Puts name (file_text object))
-    → Comes (Err (refusals.Command failure)) N (Packs offer packing Puts) D
-unfolding Comes Fails
-failed_packing N D offer packing Puts object name failure is named h =
-    begun_packing offer packing Puts object name failure is named h
+  pub failed_packing : (failure : Failure) → IsPackageFor offer packing object
+      → out_of packing ≡ Some name → Fails failure N (Puts name (file_text object))
+      → Comes (Err (refusals.Command failure)) N (Packs offer packing Puts) X
+  unfolding Comes Fails
+  failed_packing failure is named (inl n) = inl n
+  failed_packing failure is named (inr h) = inr (h.0, packs is named h.1)
 
 module _ (N B D : Type 0) where
   -- where nothing was written, any refusal says so

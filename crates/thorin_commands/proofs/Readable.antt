@@ -12,17 +12,13 @@ use Rattle.thorin_join.specs.Join.{IsPackageOf, IsPackageOnceWritten}
 use Rattle.thorin_join.specs.Meaning.{Members}
 use Rattle.thorin_join.proofs.Files.Contents.{fitting}
 
--- ---- what is written is read back
-
--- the law of written files
-abbrev pub ReadBack : Type 0
-ReadBack =
-    (o : Object) → o.machine < 256 ^ 2 → headers_place o.class o.contents < 256 ^ word_size o.class
-    → length o.contents < 60000 → elf_of (file_text o) ≡ Ok (written_elf o)
-
-pub readable : ReadBack → (o : Object) → KindsDiffer o.contents → o.machine < 2 ^ 16 → Fits o
-    → (units : Members) → IsPackageOnceWritten units o → IsPackageOf units (file_text o)
+-- by the law of written files, what is written is read back
+pub readable : ((o : Object) → o.machine < 256 ^ 2
+    → headers_place o.class o.contents < 256 ^ word_size o.class → length o.contents < 60000
+    → elf_of (file_text o) ≡ Ok (written_elf o)) → (o : Object) → KindsDiffer o.contents
+    → o.machine < 2 ^ 16 → Fits o → (units : Members) → IsPackageOnceWritten units o
+    → IsPackageOf units (file_text o)
 readable law o distinct machine fits units once =
-    let small : o.machine < 256 ^ 2 = omega (arith, machine) in
-    let few : length o.contents < 60000 = omega (arith, length-KindsDiffer o.contents distinct) in
-    once distinct (law o small (fitting o.class o.machine o.order o.contents fits) few)
+    once distinct (law o (omega (arith, machine))
+    (fitting o.class o.machine o.order o.contents fits)
+    (omega (arith, length-KindsDiffer o.contents distinct)))

@@ -1,11 +1,9 @@
 -- What is taken for a file that was read.
-use Rattle.std.proofs.Common.{◌≡◌, ℕ, List, [], ◌∷◌, Bool, true, false, refl, sym, ◌⊎◌, inl, inr}
-use Rattle.std.proofs.Common.{subst}
-use Rattle.std.specs.Prelude.{Result, Ok, Err, Option, Some, None}
+use Rattle.std.proofs.Common.{◌≡◌, ℕ, List, [], ◌∷◌, Bool, true, false, refl, ◌⊎◌, inl, inr}
+use Rattle.std.specs.Prelude.{Result, Ok, Err, Some, None}
 use Rattle.std.specs.declared.io.Error.{Error as IoError}
 use Rattle.std.specs.Borrow.{Bor}
-use Rattle.dwp_elf_read.specs.Elf.{Elf, elf_of}
-use Rattle.dwp_elf_read.specs.declared.error.ReadError.{ReadError}
+use Rattle.dwp_elf_read.specs.Elf.{elf_of}
 use Rattle.dwp_macros.specs.Last.{last_macros_of}
 use Rattle.thorin_errors.specs.declared.error.InputError.{InputError}
 use Rattle.thorin_errors.specs.declared.error.InputError.TheVariants as input
@@ -59,16 +57,14 @@ module _ (offer : Offer) (path : List ℕ) where
 pub is_last : (file taken : List ℕ) → Some (elf_of taken) ≡ last_macros_of file
     → IsLastOf file taken
 unfolding IsLastOf
-is_last file taken e = let is : last_macros_of file ≡ Some (elf_of taken) = sym e in
-    rw is (inl refl)
-
-stays_so : (file : List ℕ) (last : Option (Result Elf ReadError)) → IsLast file file last
-stays_so file None = refl
-stays_so file (Some last) = inr refl
+is_last file taken e = rw (← e) (inl refl)
 
 pub stays : (file : List ℕ) → IsLastOf file file
 unfolding IsLastOf
-stays file = stays_so file (last_macros_of file)
+stays file = elim (last_macros_of file) as (λ last. IsLast file file last) [
+  None ↦ refl
+  | Some last ↦ inr refl
+]
 
 -- where a path is read
 module _ (objects executables : List (Bor (List ℕ))) (offer : Offer) (path : List ℕ)
@@ -103,4 +99,4 @@ module _ (objects executables : List (Bor (List ℕ))) (offer : Offer) (path : L
   through_mapped [] other e some h = absurd (some refl)
   through_mapped (word ∷ words) other e some h =
       over (offer other) (through (word ∷ words) objects executables offer path)
-      (λ answer o. inl (subst (λ p. offer p answer) e o)) result h
+      (λ answer o. inl (rw e at o)) result h

@@ -1,8 +1,11 @@
-use Rattle.thorin_commands.proofs.Prefixing.{replaced_is}
+use Rattle.std.proofs.Common.{refl}
+use Rattle.thorin_commands.specs.Prefixes.{replaced}
+use Rattle.thorin_commands.proofs.Prefixing.{behind-prefix}
 use Rattle.thorin_commands.proofs.prefixes.replaced.Goals as goal
 
 pub returns : goal.returns
+unfolding replaced
 returns c =
     let parts = c.in_ok-from.ensures in
-    replaced_is c.args.path.now c.args.word.now c.in_ok-from.from.now c.in_ok-from.to.now
-    c.in_ok-rest.rest.now parts.0 parts.1 parts.2 c.in_ok-rest.ensures.cases
+    let cases = c.in_ok-rest.ensures.cases in
+    rw (parts.0, ← parts.1, cases.1.1, ← cases.2, behind-prefix, parts.2) refl
