@@ -62,7 +62,7 @@ is_last file taken e = rw (← e) (inl refl)
 pub stays : (file : List ℕ) → IsLastOf file file
 unfolding IsLastOf
 stays file = elim (last_macros_of file) as (λ last. IsLast file file last) [
-  None ↦ refl
+  | None ↦ refl
   | Some last ↦ inr refl
 ]
 

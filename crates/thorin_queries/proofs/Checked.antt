@@ -11,7 +11,7 @@ use Rattle.dwp_index.specs.Package.{Package, package_of}
 use Rattle.dwp_index.specs.declared.units.UnitEntry.{UnitEntry}
 use Rattle.thorin_executable.specs.Skeletons.{skeletons_by}
 use Rattle.thorin_queries.specs.Answers.{FailsToRead}
-use Rattle.thorin_queries.specs.Checking.{has_no_index, IsTaken, TellsTaken, TellsExecutable}
+use Rattle.thorin_queries.specs.Checking.{has_no_index, TellsTaken, TellsExecutable}
 use Rattle.thorin_queries.specs.Checking.{TellsPackage, FailsOne, IsOfReading, IsOfChecking}
 use Rattle.thorin_queries.specs.Checking.{Finishes, ChecksIndexed, ChecksPackage, ChecksBytes}
 use Rattle.thorin_queries.specs.Checking.{Checks}
@@ -22,7 +22,7 @@ use Rattle.thorin_queries.specs.Telling.{TellsOr, Tells}
 use Rattle.thorin_queries.specs.declared.executables.Reading.{Reading}
 use Rattle.thorin_queries.specs.declared.output.Failure.{Failure}
 use Rattle.thorin_queries.specs.declared.output.Failure.TheVariants as failures
-use Rattle.thorin_queries.proofs.Told.{told_as, stopped_behind, none_grown, counted_from}
+use Rattle.thorin_queries.proofs.Told.{told_as, tells_as, stopped_behind, none_grown, counted_from}
 
 module _ (offer : List ℕ → Result (List ℕ) IoError → Type 0) where
   -- ---- failures
@@ -70,23 +70,20 @@ module _ (offer : List ℕ → Result (List ℕ) IoError → Type 0) where
 -- ---- what is taken for an executable
 
 module _ (reading : Reading) (pack : Package) (executable bytes : List ℕ) (a b : Progress) where
-  taken_for_it : (result : Outcome) (taken : List ℕ) → IsTaken reading.decompresses bytes taken
-      → Tells (TellsListed pack executable (skeletons_by reading.nameless taken)) a b result
-      → Tells (TellsTaken reading pack executable bytes) a b result
-  taken_for_it (Ok done) taken is h =
-      told_as h (λ lines k. record { taken = taken; is_taken = is; listed = k })
-  taken_for_it (Err failure) taken is h = h
-
   pub taken_as_it_is : (result : Outcome)
       → Tells (TellsListed pack executable (skeletons_by reading.nameless bytes)) a b result
       → Tells (TellsTaken reading pack executable bytes) a b result
-  taken_as_it_is result = taken_for_it result bytes
-      (by-bool _ reading.decompresses (λ e. rw e tt) (λ e. rw e refl))
+  taken_as_it_is result = tells_as a b result (λ lines k. record {
+    taken = bytes;
+    is_taken = by-bool _ reading.decompresses (λ e. rw e tt) (λ e. rw e refl);
+    listed = k;
+  })
 
   pub taken_plain : (result : Outcome) (plain : List ℕ) → reading.decompresses ≡ true
       → Tells (TellsListed pack executable (skeletons_by reading.nameless plain)) a b result
       → Tells (TellsTaken reading pack executable bytes) a b result
-  taken_plain result plain e = taken_for_it result plain (rw e tt)
+  taken_plain result plain e =
+      tells_as a b result (λ lines k. record { taken = plain; is_taken = rw e tt; listed = k })
 
 -- ---- a package
 
@@ -111,7 +108,7 @@ module _ (offer : List ℕ → Result (List ℕ) IoError → Type 0) (reading : 
         status_is = rw all at f.1;
       }
   checked pack entries a b c (Err failure) by_row none begun t f =
-      (of_printing offer executables failure f.0, stopped_behind c t f.1)
+      stopped_behind c t (of_printing offer executables failure f.0, f.1)
 
   pub no_memory_left : (pack : Package) (a : Option (List ℕ))
       → ChecksIndexed offer reading executables pack a a (Err failures.Memory)

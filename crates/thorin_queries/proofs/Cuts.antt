@@ -1,11 +1,14 @@
--- Names that are cut.
+-- Names that are cut, and what is read at most.
 use Rattle.std.proofs.Common.{◌≡◌, ◌∙◌, ⊎_elim, ℕ, zero, suc, ◌-◌, ◌<◌, ◌≤◌, List, [], ◌++◌, codes}
 use Rattle.std.proofs.Common.{length, take, drop, slice_range, IsCharBoundary, true, false, refl}
-use Rattle.std.proofs.Common.{sym, ap, subst, arith, append-nil, le-leb, lt-ltb, le-ltb}
+use Rattle.std.proofs.Common.{sym, ap, subst, arith, append-nil, le-leb, lt-ltb, le-ltb, take_all}
+use Rattle.std.proofs.Common.{Err}
 use Rattle.std.proofs.lemmas.Bool.{lt-leb, cases_lt}
 use Rattle.std.proofs.Math.Nat.{sub-zero}
 use Rattle.std.specs.Fmt.{is_char_start}
 use Rattle.std.specs.Fmt.Cut.{floor_char_boundary}
+use Rattle.dwp_bytes.specs.Input.{Input, front, truncate_at}
+use Rattle.dwp_bytes.specs.declared.error.ReadError.{ReadError}
 use Rattle.thorin_queries.specs.Shown.{cut}
 
 -- `IsCharBoundary`'s fact on a byte decides `is_char_start`
@@ -53,3 +56,12 @@ module _ (name front back : List ℕ) (first last : ℕ) (long : 4096 < length n
       b,
     )
         refl
+
+-- what has fewer bytes is its own beginning
+pub kept_whole : (n : ℕ) (i j : Input) (e : ReadError) → truncate_at n i ≡ Err e → j ≡ i
+    → j ≡ front n i
+unfolding truncate_at
+kept_whole n i j e short_of same = ⊎_elim
+    (λ short. rw (same, take_all n i.bytes (omega arith)) refl)
+    (λ long. absurd (let q = rw (le-ltb (length i.bytes) n long) at short_of in cc))
+    (cases_lt (length i.bytes) n)

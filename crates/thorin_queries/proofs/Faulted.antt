@@ -3,7 +3,6 @@ use Rattle.std.proofs.Common.{◌≡◌, ◌≢◌, ℕ, Bool, true, false, ◌&
 use Rattle.std.proofs.Common.{Option, Some, None, is_none, Result, Ok, Err, IfOk, OnOk, String}
 use Rattle.std.proofs.Common.{string_bytes, Global, decimal, refl, sym, inl, inr}
 use Rattle.std.proofs.lemmas.List.{map-append}
-use Rattle.std.specs.List.{range_with_len}
 use Rattle.dwp_base.specs.declared.section.SectionKind.{SectionKind}
 use Rattle.dwp_base.specs.declared.section.SectionKind.TheVariants.{Abbrev}
 use Rattle.dwp_bytes.specs.declared.error.ReadError.{ReadError}
@@ -17,7 +16,7 @@ use Rattle.thorin_queries.specs.Checking.{TellsSomeStrings}
 use Rattle.thorin_queries.specs.Ends.{fault_of}
 use Rattle.thorin_queries.specs.Faults.{fault_line, TellsText, IsTextOf, IsSomeText, IsUnreadText}
 use Rattle.thorin_queries.specs.Faults.{IsOwnText, TellsOwn, TellsItself, TellsFound, TellsUnit}
-use Rattle.thorin_queries.specs.Faults.{has_abbreviations, is_bare, string_text, string_of}
+use Rattle.thorin_queries.specs.Faults.{has_abbreviations, is_bare, string_text}
 use Rattle.thorin_queries.specs.Faults.{TellsString, TellsStrings, TellsStringsOf, row_line}
 use Rattle.thorin_queries.specs.Faults.{AreRows, broken_line, IsBroken}
 use Rattle.thorin_queries.specs.Overlaps.{IsClash, overlap_text}
@@ -25,7 +24,8 @@ use Rattle.thorin_queries.specs.Telling.{Outcome, Progress, Told, Tells, IsLine,
 use Rattle.thorin_queries.specs.Telling.{IsOfPrinting, Grows, PassesOn}
 use Rattle.thorin_queries.specs.declared.output.Failure.{Failure}
 use Rattle.thorin_queries.specs.declared.output.Failure.TheVariants as failures
-use Rattle.thorin_queries.proofs.Told.{none_told, told_as, stopped_behind, then_or, in_turn, passed}
+use Rattle.thorin_queries.proofs.Told.{none_told, tells_as, stopped_behind, then_or, in_turn}
+use Rattle.thorin_queries.proofs.Told.{passed}
 
 -- ---- texts
 
@@ -33,8 +33,7 @@ module _ {E : Type 0} (P : List (List ℕ) → Type 0) (object : DwarfObject) wh
   -- what is made for a fault was told
   pub text_told : (text : Result (Option (String Global)) E) (a b : Progress) (result : Outcome)
       → IsTextOf P object text → TellsText object text a b result → Tells P a b result
-  text_told (Ok text) a b (Ok done) is h = told_as h (λ lines e. rw e is)
-  text_told (Ok text) a b (Err failure) is h = h
+  text_told (Ok text) a b result is h = tells_as a b result (λ lines e. rw e is) h
   text_told (Err cause) a b result is h = rw h.0 (tt, h.1)
 
   -- a text of which something holds was made
@@ -49,9 +48,9 @@ module _ {E : Type 0} (P : List (List ℕ) → Type 0) (object : DwarfObject) wh
 pub text_stopped : {E : Type 0} {P : List (List ℕ) → Type 0} {a b : Progress} (object : DwarfObject)
     (text : Result (Option (String Global)) E) (c : Progress) (failure : Failure) → Told P a b
     → TellsText object text b c (Err failure) → IsOfPrinting failure × Grows a.written c.written
-text_stopped object (Ok text) c failure p h = (h.0, stopped_behind c.written p h.1)
+text_stopped object (Ok text) c failure p h = stopped_behind c.written p h
 text_stopped object (Err cause) c failure p h =
-    let same : failure ≡ failures.Memory = cc h.0 in (rw same tt, stopped_behind c.written p h.1)
+    let same : failure ≡ failures.Memory = cc h.0 in (rw same tt, (stopped_behind c.written p h).1)
 
 -- ---- units
 
@@ -83,21 +82,21 @@ module _ (pack : Package) (entry : UnitEntry) where
         → TellsFound pack entry unit (fault_line entry.object text ∷ [])
     other_row e text is = inl (e, rw is refl)
 
-    pub in_bare_row : (has bare : Bool) → has ≡ has_abbreviations pack
-        → bare ≡ (has && is_none (range_in unit.row Abbrev)) → bare ≡ true
-        → unit.number ≡ entry.row → (text : List ℕ) → text ≡ codes "its row has no abbreviations"
-        → TellsFound pack entry unit (fault_line entry.object text ∷ [])
-    in_bare_row has bare some is e row text so =
-        let bare_row : true ≡ is_bare pack unit = cc in inr (row, rw (← bare_row, so) refl)
+    module _ (has bare : Bool) (some : has ≡ has_abbreviations pack)
+        (is : bare ≡ (has && is_none (range_in unit.row Abbrev))) (row : unit.number ≡ entry.row)
+      where
+        pub in_bare_row : bare ≡ true → (text : List ℕ)
+            → text ≡ codes "its row has no abbreviations"
+            → TellsFound pack entry unit (fault_line entry.object text ∷ [])
+        in_bare_row e text so =
+            let bare_row : true ≡ is_bare pack unit = cc in inr (row, rw (← bare_row, so) refl)
 
-    pub in_whole_row : {E : Type 0} (text : Result (Option (String Global)) E) (has bare : Bool)
-        → has ≡ has_abbreviations pack → bare ≡ (has && is_none (range_in unit.row Abbrev))
-        → bare ≡ false → unit.number ≡ entry.row
-        → IsTextOf (TellsItself pack entry.object unit) entry.object text
-        → IsTextOf (TellsFound pack entry unit) entry.object text
-    in_whole_row (Ok text) has bare some is e row h =
-        let whole_row : false ≡ is_bare pack unit = cc in inr (row, rw (← whole_row) h)
-    in_whole_row (Err cause) has bare some is e row h = tt
+        pub in_whole_row : {E : Type 0} (text : Result (Option (String Global)) E) → bare ≡ false
+            → IsTextOf (TellsItself pack entry.object unit) entry.object text
+            → IsTextOf (TellsFound pack entry unit) entry.object text
+        in_whole_row (Ok text) e h =
+            let whole_row : false ≡ is_bare pack unit = cc in inr (row, rw (← whole_row) h)
+        in_whole_row (Err cause) e h = tt
 
 module _ (pack : Package) (object : DwarfObject) (unit : FoundUnit) where
   pub overlapped : (kind : SectionKind) (other : DwarfObject) → IsClash pack unit kind other
@@ -146,8 +145,7 @@ row_or kind row {a} {b} c more put result p e q =
 pub broken : (executable : List ℕ) (a b : Progress) (result : Outcome) (text : List ℕ)
     → Tells (IsLine (broken_line executable text)) a b result
     → Tells (IsBroken executable) a b result
-broken executable a b (Ok done) text h = told_as h (λ lines e. (text, e))
-broken executable a b (Err failure) text h = h
+broken executable a b result text = tells_as a b result (λ lines e. (text, e))
 
 -- ---- strings
 
@@ -168,10 +166,6 @@ pub strings_some : (object : DwarfObject) (looked : Result (Option FoundUnit) Pa
     → Tells (TellsStrings object unit) a b result → Tells (TellsStringsOf object looked) a b result
 strings_some object looked a b result unit e h = rw e h
 
--- the first strings of a unit, each with its number
-abbrev pub first_strings : FoundUnit → ℕ → List (ℕ × Result (Option (List ℕ)) ReadError)
-first_strings unit i = map (λ k. (k, string_of unit k)) (range_with_len 0 i)
-
 for_each_of : {X Y : Type 0} (P : Y → List (List ℕ) → Type 0) (f : X → Y) (xs : List X)
     (lines : List (List ℕ)) → ForEach (λ x. P (f x)) xs lines → ForEach P (map f xs) lines
 for_each_of P f [] lines h = h
@@ -182,8 +176,7 @@ pub some_strings : {R : Type 0} (pack : Package) (strings : List (R × DwarfObje
     (a b : Progress) (result : Outcome)
     → Tells (ForEach (λ s. TellsStringsOf s.1 (found pack s.1)) strings) a b result
     → Tells (TellsSomeStrings pack) a b result
-some_strings pack strings a b (Ok done) t = told_as t (λ lines l. (
+some_strings pack strings a b result = tells_as a b result (λ lines l. (
   map (λ s. s.1) strings,
   for_each_of (λ o. TellsStringsOf o (found pack o)) (λ s. s.1) strings lines l,
 ))
-some_strings pack strings a b (Err failure) t = t

@@ -1,6 +1,6 @@
 -- The indexes of a package, and the sections that they stand in.
 use Rattle.std.proofs.Common.{◌≡◌, ◌∙◌, ℕ, Bool, true, false, List, [], length, ◌==◌, not, Option}
-use Rattle.std.proofs.Common.{Some, None, Result, Ok, Err, is_none, is_some, refl, sym, ap, subst}
+use Rattle.std.proofs.Common.{Some, None, Result, Ok, Err, is_none, is_some, refl, sym, subst}
 use Rattle.dwp_base.specs.declared.endian.Endianness.{Endianness}
 use Rattle.dwp_base.specs.declared.section.SectionKind.TheVariants.{Abbrev, StrOffsets, Str}
 use Rattle.dwp_base.specs.declared.section.SectionKind.TheVariants.{CuIndex, TuIndex}
@@ -32,21 +32,20 @@ index_told file kind index bytes told h = rw (told h.bytes h.content)
     let some : Some found.0 ≡ index = cc in rw (e, ← some) refl))
 
 lacks : (index : Option Index) (b : Bool) → b ≡ is_some index → is_none index ≡ not b
-lacks None b e = ap not (sym e)
-lacks (Some i) b e = ap not (sym e)
+lacks None b e = rw e refl
+lacks (Some i) b e = rw e refl
 
-pub has_first : (file : Elf) (pack : Package) (b : Bool)
-    → ((index : Option Index) → IsIndexIn file CuIndex index → b ≡ is_some index) → b ≡ true
-    → HasIndexes file pack → false ≡ has_no_index pack
-has_first file pack b told e h = rw (lacks pack.compilations b (told _ h.compilations), e) refl
+module _ (file : Elf) (pack : Package) (b : Bool)
+    (told : (index : Option Index) → IsIndexIn file CuIndex index → b ≡ is_some index)
+    (h : HasIndexes file pack) where
+  pub has_first : b ≡ true → false ≡ has_no_index pack
+  has_first e = rw (lacks pack.compilations b (told _ h.compilations), e) refl
 
-pub has_none_first : (file : Elf) (pack : Package) (b d : Bool)
-    → ((index : Option Index) → IsIndexIn file CuIndex index → b ≡ is_some index) → b ≡ false
-    → ((index : Option Index) → IsIndexIn file TuIndex index → d ≡ is_some index)
-    → HasIndexes file pack → not d ≡ has_no_index pack
-has_none_first file pack b d told e other h =
-    rw (lacks pack.compilations b (told _ h.compilations), e)
-    (rw (lacks pack.types d (other _ h.types)) refl)
+  pub has_none_first : b ≡ false → (d : Bool)
+      → ((index : Option Index) → IsIndexIn file TuIndex index → d ≡ is_some index)
+      → not d ≡ has_no_index pack
+  has_none_first e d other = rw (lacks pack.compilations b (told _ h.compilations), e,
+      lacks pack.types d (other _ h.types)) refl
 
 -- ---- a package's indexes are those of its file
 

@@ -7,7 +7,6 @@ pub mod Hex
 pub mod Indexed
 pub mod Lines
 pub mod Listed
-pub mod Naming
 pub mod Printed
 pub mod Reached
 pub mod Skeletons

@@ -14,29 +14,28 @@ use Rattle.thorin_queries.specs.declared.output.Failure.TheVariants as failures
 
 -- ---- the text of a list
 
-module _ (form : ListForm) (lines : Lines) (is_all : Bool) (old text : List ℕ) where
+module _ (form : ListForm) (lines : Lines) (is_all : Bool) (old text : List ℕ) (none : old ≡ [])
+    (added : text ≡ old ++ lines.printed) (all : is_all ≡ lines.is_all) where
   -- up to a unit that can't be looked up
-  pub listed_part : old ≡ [] → text ≡ old ++ lines.printed → is_all ≡ lines.is_all
-      → is_all ≡ false
+  pub listed_part : is_all ≡ false
       → IsListed form lines (record { printed = text; answer = Err failures.Malformed })
-  listed_part none added all ends =
+  listed_part ends =
       record { totals = []; no_totals = λ e. refl; is = rw (← all, ends, added, none) refl }
 
   -- without totals
-  pub listed_plain : old ≡ [] → text ≡ old ++ lines.printed → is_all ≡ lines.is_all
-      → is_all ≡ true → IsListed form lines (record { printed = text; answer = Ok 0 })
-  listed_plain none added all goes = record {
+  pub listed_plain : is_all ≡ true
+      → IsListed form lines (record { printed = text; answer = Ok 0 })
+  listed_plain goes = record {
     totals = [];
     no_totals = λ e. refl;
     is = rw (← all, goes, added, none, append-nil) refl;
   }
 
   -- with totals
-  pub listed_sized : (new : List ℕ) → old ≡ [] → text ≡ old ++ lines.printed
-      → is_all ≡ lines.is_all → is_all ≡ true → form.sizes ≡ true
+  pub listed_sized : (new : List ℕ) → is_all ≡ true → form.sizes ≡ true
       → ((totals : List ℕ) × (new ≡ text ++ totals))
       → IsListed form lines (record { printed = new; answer = Ok 0 })
-  listed_sized new none added all goes asked more = record {
+  listed_sized new goes asked more = record {
     totals = more.0;
     no_totals = λ e. absurd (true≢false (sym asked ∙ e));
     is = rw (← all, goes, more.1, added, none) refl;

@@ -15,7 +15,6 @@ use Rattle.dwp_base.proofs.Steps.{bind-was, same-ok}
 use Rattle.dwp_bytes.specs.StringOffsets.{string_at, entry_count}
 use Rattle.dwp_bytes.specs.declared.encoding.Encoding.{Encoding}
 use Rattle.dwp_bytes.specs.declared.error.ReadError.{ReadError}
-use Rattle.dwp_bytes.specs.declared.error.ReadError.TheVariants.{OffsetOutOfRange, NoTerminator}
 use Rattle.dwp_index.specs.Contents.{content}
 use Rattle.dwp_index.specs.Index.{Ranges, range_in}
 use Rattle.dwp_index.specs.Package.{Package, FoundUnit, as_error, first_outside, all_inside}
@@ -36,17 +35,12 @@ module _ (strings : List ℕ) where
       (omega (arith, lt, length-drop offset strings))
       (rw (get_or_default (drop offset strings) k d 0 lt, get_or-drop) at zero)))
 
-  before : (last offset : ℕ) → last < length strings → Passes (is_byte 0) strings last
-      → offset ≤ last → list_any (λ b. eqb b 0) (drop offset strings) ≡ true
-  before last offset within zero le =
-      let same : offset + (last - offset) ≡ last = omega arith in
-      list_any_at (λ b. eqb b 0) (drop offset strings) (last - offset) 0
-      (omega (arith, length-drop offset strings)) (rw (get_or-drop, same) zero)
-
   pub reached : (last : ℕ) → IsLastByte (is_byte 0) strings (Some last)
       → IsReach strings (last + 1)
   reached last h offset = ⊎_elim
-      (λ inside. before last offset h.0.high h.1 (omega arith)
+      (λ inside. let same : offset + (last - offset) ≡ last = omega arith in
+      list_any_at (λ b. eqb b 0) (drop offset strings) (last - offset) 0
+      (omega (arith, h.0.high, length-drop offset strings)) (rw (get_or-drop, same) h.1)
       ∙ sym (lt-ltb offset (last + 1) inside))
       (λ past. behind (last + 1) offset h.0.after past ∙ sym (le-ltb offset (last + 1) past))
       (cases_lt offset (last + 1))
@@ -62,17 +56,6 @@ module _ (ends : Ends) (order : Endianness) (strings : List ℕ) (offset : ℕ)
   unfolding string_at
   ended_at lt = rw (le-ltb (length strings) offset (omega (arith, h.inside)))
       (rw (h.reach offset, lt-ltb offset ends.reach lt) refl)
-
-  pub outside_at : ends.size < offset
-      → Some OffsetOutOfRange ≡ fault_of (string_at strings offset)
-  unfolding string_at
-  outside_at lt = rw (lt-ltb (length strings) offset (omega (arith, h.size))) refl
-
-  pub unended_at : ends.reach ≤ offset → offset ≤ ends.size
-      → Some NoTerminator ≡ fault_of (string_at strings offset)
-  unfolding string_at
-  unended_at le within = rw (le-ltb (length strings) offset (omega (arith, h.size)))
-      (rw (h.reach offset, le-ltb offset ends.reach le) refl)
 
 -- what is known holds in its own byte order
 pub own_order : (ends : Ends) (order : Endianness) (strings : List ℕ) → HasEnds ends order strings

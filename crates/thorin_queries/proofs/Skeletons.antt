@@ -75,5 +75,4 @@ module _ (pack : Package) (executable : List ℕ) where
         → Tells (TellsListed pack executable all) a c result
     end_broken before c error (Ok done) aside known p q =
         told_then (λ ls ms h k. h.on ms (at_end before ms (aside known) k)) p q
-    end_broken before c error (Err failure) aside known p q =
-        (q.0, stopped_behind c.written p q.1)
+    end_broken before c error (Err failure) aside known p q = stopped_behind c.written p q

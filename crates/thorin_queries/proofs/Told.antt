@@ -85,10 +85,17 @@ pub told_as : {P Q : List (List ℕ) → Type 0} {a b : Progress} → Told P a b
 told_as {b = b} t goes = told_then {Q = IsNone}
     (λ xs ys h none. rw (none, append-nil) (goes xs h)) t (none_told IsNone refl b)
 
+-- the same, where telling them may have stopped
+pub tells_as : {P Q : List (List ℕ) → Type 0} (a b : Progress) (result : Outcome)
+    → ((lines : List (List ℕ)) → P lines → Q lines) → Tells P a b result → Tells Q a b result
+tells_as a b (Ok done) goes t = told_as t goes
+tells_as a b (Err failure) goes t = t
+
 -- what comes next stopped
-pub stopped_behind : {P : List (List ℕ) → Type 0} {a b : Progress} (c : Option (List ℕ))
-    → Told P a b → Grows b.written c → Grows a.written c
-stopped_behind {a = a} {b = b} c p q = grown a.written b.written c (p.handed, p.added) q
+pub stopped_behind : {P : List (List ℕ) → Type 0} {Why : Type 0} {a b : Progress}
+    (c : Option (List ℕ)) → Told P a b → Why × Grows b.written c → Why × Grows a.written c
+stopped_behind {a = a} {b = b} c p q =
+    (q.0, grown a.written b.written c (p.handed, p.added) q.1)
 
 pub in_turn : {P Q : List (List ℕ) → Type 0} (xs ys : List (List ℕ)) → P xs → Q ys
     → InTurn P Q (xs ++ ys)
@@ -100,7 +107,7 @@ module _ (P Q : List (List ℕ) → Type 0) (Stops : Failure → Type 0) (a b c 
       → ((xs ys : List (List ℕ)) → P xs → Q ys → R (xs ++ ys)) → (result : Outcome) → Told P a b
       → TellsOr Stops Q b c result → TellsOr Stops R a c result
   then_or R joins (Ok done) p q = told_then joins p q
-  then_or R joins (Err failure) p q = (q.0, stopped_behind c.written p q.1)
+  then_or R joins (Err failure) p q = stopped_behind c.written p q
 
   pub in_turn_or : (result : Outcome) → Told P a b → TellsOr Stops Q b c result
       → TellsOr Stops (InTurn P Q) a c result

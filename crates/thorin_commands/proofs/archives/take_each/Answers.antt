@@ -16,8 +16,12 @@ loop-member-preserved g c =
       named = record { ref_ptr = (0, 0); now = [] };
       content = record { ref_ptr = (0, 0); now = [] };
     } in
-    rw (take_more c.args.members.now c.loop-member.member-index none c.loop-member-test.true,
-    map-append, map-append, filter-append)
+    rw (
+      take_more c.args.members.now c.loop-member.member-index none c.loop-member-test.true,
+      map-append,
+      map-append,
+      filter-append,
+    )
     (each_append c.loop-member.invariant c.in_ok-take_split.ensures)
 
 pub returns : goal.returns

@@ -7,10 +7,10 @@ use Rattle.thorin_commands.proofs.archives.take_split.Goals as goal
 pub returns-then-not-is_split : goal.returns-then-not-is_split
 returns-then-not-is_split g c =
     let is : is_split (member c.args.member).content ≡ false =
-        cc (c.content-content.ensures, c.is_split.ensures) in rw is each_none
+    cc (c.content-content.ensures, c.is_split.ensures) in rw is each_none
 
 pub returns-in-Ok : goal.returns-in-Ok
 returns-in-Ok g c =
     let is : is_split (member c.args.member).content ≡ true =
-        cc (c.content-content.ensures, c.is_split.ensures) in
+    cc (c.content-content.ensures, c.is_split.ensures) in
     rw is (rw c.content-content.ensures at c.in-Ok.ensures)

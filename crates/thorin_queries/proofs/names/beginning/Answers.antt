@@ -1,4 +1,4 @@
-use Rattle.thorin_queries.proofs.Naming.{kept_whole}
+use Rattle.thorin_queries.proofs.Cuts.{kept_whole}
 use Rattle.thorin_queries.proofs.names.beginning.Goals as goal
 
 pub returns-in-Err : goal.returns-in-Err

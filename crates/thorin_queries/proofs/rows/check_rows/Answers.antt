@@ -7,8 +7,7 @@ loop-i-preserved g c =
     told_then (rows_then c.args.rows.kind.now) c.loop-i.invariant c.in-Ok.ensures
 
 pub returns-in-Err : goal.returns-in-Err
-returns-in-Err g c =
-    (c.in-Err.ensures.0, stopped_behind _ c.loop-i.invariant c.in-Err.ensures.1)
+returns-in-Err g c = stopped_behind _ c.loop-i.invariant c.in-Err.ensures
 
 pub returns : goal.returns
 returns g c =

@@ -6,5 +6,4 @@ loop-i-preserved g c =
     told_next _ _ c.loop-i.i _ c.loop-i-test.true c.loop-i.invariant c.in-Ok.ensures
 
 pub returns-in-Err : goal.returns-in-Err
-returns-in-Err g c =
-    (c.in-Err.ensures.0, stopped_behind _ c.loop-i.invariant c.in-Err.ensures.1)
+returns-in-Err g c = stopped_behind _ c.loop-i.invariant c.in-Err.ensures

@@ -1,10 +1,12 @@
-use Rattle.thorin_queries.specs.Faults.{TellsNumbered}
+use Rattle.std.proofs.Common.{map}
+use Rattle.std.specs.List.{range_with_len}
+use Rattle.thorin_queries.specs.Faults.{TellsNumbered, string_of}
 use Rattle.thorin_queries.specs.Telling.{progress, Told, ForEach}
-use Rattle.thorin_queries.proofs.Faulted.{first_strings}
 use Rattle.thorin_queries.proofs.strings.check_each_string.Given as goal
 
 -- the faults of the strings so far
 abbrev pub invariant-loop-i : goal.invariant-loop-i
-invariant-loop-i g l = Told (ForEach (TellsNumbered l.object) (first_strings l.unit l.i))
+invariant-loop-i g l = Told
+    (ForEach (TellsNumbered l.object) (map (λ k. (k, string_of l.unit k)) (range_with_len 0 l.i)))
     (progress (g.O.Write.contents l.initial.out) l.initial.faults)
     (progress (g.O.Write.contents l.out) l.faults)

@@ -11,5 +11,4 @@ returns-in-Ok-check_section g c =
 
 pub returns-in-Err-check_section : goal.returns-in-Err-check_section
 returns-in-Err-check_section g c =
-    let stops = c.in-Err-check_section.ensures in
-    (stops.0, stopped_behind _ c.in-Ok.ensures stops.1)
+    stopped_behind _ c.in-Ok.ensures c.in-Err-check_section.ensures
