@@ -44,8 +44,11 @@ module _ (file : Elf) (pack : Package) (b : Bool)
   pub has_none_first : b ≡ false → (d : Bool)
       → ((index : Option Index) → IsIndexIn file TuIndex index → d ≡ is_some index)
       → not d ≡ has_no_index pack
-  has_none_first e d other = rw (lacks pack.compilations b (told _ h.compilations), e,
-      lacks pack.types d (other _ h.types)) refl
+  has_none_first e d other = rw (
+    lacks pack.compilations b (told _ h.compilations),
+    e,
+    lacks pack.types d (other _ h.types),
+  ) refl
 
 -- ---- a package's indexes are those of its file
 
