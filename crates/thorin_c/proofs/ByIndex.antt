@@ -18,40 +18,33 @@ in_turn : {A B C E : Type 0} (r : Result A E) (f : A → Result B E) (g : B → 
 in_turn (Ok x) f g = refl
 in_turn (Err e) f g = refl
 
-row_by_number : (pack : Package) (index : Index) (found : Option ℕ) (count : ℕ)
-    → row_found pack index found count ≡ (row_numbered index found count >>= inside pack)
-row_by_number pack index None count = refl
-row_by_number pack index (Some n) count =
-    in_turn (as_error errors.Index (row_in index n)) (λ r. Ok (Some (n, r), count)) (inside pack)
+module _ (pack : Package) (object : DwarfObject) where
+  by_number : (index : Index) (found : Option ℕ) (count : ℕ)
+      → (row_found pack index found count ≡ (row_numbered index found count >>= inside pack))
+      × (unit_found pack object index found count
+      ≡ (row_numbered index found count >>= unit_of_row pack object))
+  unfolding unit_at_row
+  by_number index None count = (refl, refl)
+  by_number index (Some n) count =
+      let row = as_error errors.Index (row_in index n) in (
+        in_turn row (λ r. Ok (Some (n, r), count)) (inside pack),
+        in_turn row (λ r. Ok (Some (n, r), count)) (unit_of_row pack object),
+      )
 
-row_by_index : (pack : Package) (object : DwarfObject) (index : Option Index)
-    → row_by pack object index ≡ (row_named object index >>= inside pack)
-row_by_index pack object None = refl
-row_by_index pack object (Some index) = row_by_number pack index
-    (found_row index.signatures index.rows (identifier_of object))
-    (look_count index.signatures index.rows (identifier_of object))
+  by_index : (index : Option Index)
+      → (row_by pack object index ≡ (row_named object index >>= inside pack))
+      × (found_by pack object index ≡ (row_named object index >>= unit_of_row pack object))
+  by_index None = (refl, refl)
+  by_index (Some index) =
+      by_number index (found_row index.signatures index.rows (identifier_of object))
+      (look_count index.signatures index.rows (identifier_of object))
 
-pub row_is : (pack : Package) (object : DwarfObject)
-    → row_counted pack object ≡ (row_named object (index_for pack object) >>= inside pack)
-unfolding row_counted
-row_is pack object = row_by_index pack object (index_for pack object)
+  pub row_is : row_counted pack object
+      ≡ (row_named object (index_for pack object) >>= inside pack)
+  unfolding row_counted
+  row_is = (by_index (index_for pack object)).0
 
-unit_by_number : (pack : Package) (object : DwarfObject) (index : Index) (found : Option ℕ)
-    (count : ℕ) → unit_found pack object index found count
-    ≡ (row_numbered index found count >>= unit_of_row pack object)
-unfolding unit_at_row
-unit_by_number pack object index None count = refl
-unit_by_number pack object index (Some n) count = in_turn (as_error errors.Index (row_in index n))
-    (λ r. Ok (Some (n, r), count)) (unit_of_row pack object)
-
-unit_by_index : (pack : Package) (object : DwarfObject) (index : Option Index)
-    → found_by pack object index ≡ (row_named object index >>= unit_of_row pack object)
-unit_by_index pack object None = refl
-unit_by_index pack object (Some index) = unit_by_number pack object index
-    (found_row index.signatures index.rows (identifier_of object))
-    (look_count index.signatures index.rows (identifier_of object))
-
-pub unit_is : (pack : Package) (object : DwarfObject) → found_counted pack object
-    ≡ (row_named object (index_for pack object) >>= unit_of_row pack object)
-unfolding found_counted
-unit_is pack object = unit_by_index pack object (index_for pack object)
+  pub unit_is : found_counted pack object
+      ≡ (row_named object (index_for pack object) >>= unit_of_row pack object)
+  unfolding found_counted
+  unit_is = (by_index (index_for pack object)).1

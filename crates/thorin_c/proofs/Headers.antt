@@ -1,14 +1,13 @@
 -- Sections and their headers.
-use Rattle.std.proofs.Common.{◌≡◌, ◌∙◌, ℕ, zero, suc, ◌+◌, ◌*◌, ◌<◌, ◌≤◌, Bool, true, false, cond}
+use Rattle.std.proofs.Common.{◌≡◌, ◌∙◌, ℕ, ◌+◌, ◌*◌, ◌<◌, ◌≤◌, Bool, true, false, cond}
 use Rattle.std.proofs.Common.{not, ◌||◌, ◌&&◌, List, [], length, Some, None, Ok, Err}
-use Rattle.std.proofs.Common.{Option, refl, sym, ap, subst, arith, map, IsTrue}
+use Rattle.std.proofs.Common.{Option, refl, sym, ap, subst, arith, IsTrue}
 use Rattle.std.specs.Prelude.{slice_get, slice_range, ◌==◌}
-use Rattle.std.specs.List.{range_with_len}
 use Rattle.std.specs.Option.{ok_or}
 use Rattle.std.proofs.lemmas.Bool.{leb-true}
 use Rattle.std.proofs.lemmas.List.{drop-drop}
-use Rattle.std.proofs.lemmas.List.FromFn.{length-map-range_with_len}
-use Rattle.std.proofs.lemmas.Option.{slice_get_within}
+use Rattle.std.proofs.lemmas.List.FromFn.{length-map-range_with_len, get_or-map-range_with_len}
+use Rattle.std.proofs.lemmas.Option.{slice_get_within, get_or_from_slice_get}
 use Rattle.dwp_base.specs.Numbers.{number}
 use Rattle.dwp_base.specs.declared.class.Class.{Class}
 use Rattle.dwp_base.specs.declared.class.Class.TheVariants.{Elf32, Elf64}
@@ -24,7 +23,6 @@ use Rattle.dwp_elf_read.specs.declared.error.ReadError.TheVariants.{SectionRange
 use Rattle.dwp_index.specs.Contents.{is_of_kind, has_older_name, used_bytes}
 use Rattle.thorin_c.specs.Headers.{table_in, offset_in}
 use Rattle.thorin_c.specs.Opening.{bytes_at}
-use Rattle.dwp_base.proofs.Bools.{both, neither, is-false}
 use Rattle.dwp_base.proofs.Steps.{bind-was, same-ok}
 
 -- a file that could be read: its sections are those that the headers describe, and these lie in it
@@ -66,17 +64,6 @@ read_of bytes elf e =
       inside = counted a.0.0 a.0.1 bytes b.0 b.1;
     })
 
-pub slice_get-range : {X : Type 0} (f : ℕ → X) (a n i : ℕ) → i < n
-    → slice_get (map f (range_with_len a n)) i ≡ Some (f (a + i))
-slice_get-range f a zero i h = absurd (omega arith)
-slice_get-range f a (suc n) zero h =
-    let e : a ≡ a + 0 = omega arith in
-    ap (λ (k : ℕ). Some (f k)) e
-slice_get-range f a (suc n) (suc i) h =
-    let below : i < n = omega arith in
-    let e : (a + 1) + i ≡ a + suc i = omega arith in
-    slice_get-range f (a + 1) n i below ∙ ap (λ (k : ℕ). Some (f k)) e
-
 count_of : (bytes : List ℕ) (elf : Elf) (r : IsRead bytes elf) → length elf.sections ≡ r.count
 unfolding sections_from
 count_of bytes elf r = ap length r.sections ∙ length-map-range_with_len _ 0 r.count
@@ -92,22 +79,13 @@ pub table_inside : (bytes : List ℕ) (elf : Elf) (i : ℕ) → elf_of bytes ≡
     → table_in elf bytes + (i * entry_size elf.class + entry_size elf.class) ≤ length bytes
 table_inside bytes elf i e h =
     let r = read_of bytes elf e in
-    let within : i < r.count = subst (λ n. i < n) (count_of bytes elf r) h in
-    sum_below (table_in elf bytes) (i * entry_size elf.class + entry_size elf.class)
-    (r.count * entry_size elf.class) (length bytes) (times_more elf.class i r.count within) r.inside
-  where
-    sum_below : (a b c len : ℕ) → b ≤ c → a + c ≤ len → a + b ≤ len
-    sum_below a b c len h k = omega (arith, h, k)
+    let below = times_more elf.class i r.count (omega (arith, h, count_of bytes elf r)) in
+    omega (arith, below, r.inside)
 
 -- and in it, where the section's bytes begin; as in the file's header, where the table does
 pub room : (class : Class) → 24 + 3 * word_size class ≤ entry_size class
 room Elf32 = omega arith
 room Elf64 = omega arith
-
-pub table_there : (bytes : List ℕ) (elf : Elf) → number_at elf.order (word_size elf.class) bytes
-    (24 + 2 * word_size elf.class) ≡ table_in elf bytes
-unfolding file_header_of
-table_there bytes elf = refl
 
 pub offset_there : (bytes : List ℕ) (elf : Elf) (i : ℕ) → offset_in elf bytes i
     ≡ number_at elf.order (word_size elf.class) bytes (table_in elf bytes
@@ -116,35 +94,24 @@ unfolding section_header_of
 offset_there bytes elf i = ap (number elf.order (word_size elf.class))
     (drop-drop (8 + 2 * word_size elf.class) (table_in elf bytes + i * entry_size elf.class) bytes)
 
-some_of : {A : Type 0} (x y : A) → Some x ≡ Some y → x ≡ y
-some_of x y e = cc
-
 section_there : (bytes : List ℕ) (elf : Elf) (r : IsRead bytes elf) (i : ℕ) (s : SectionMeaning)
     → slice_get elf.sections i ≡ Some s → section_of bytes r.names i
     (section_header_at elf.class elf.order bytes (table_in elf bytes) i) ≡ s
 unfolding sections_from
-section_there bytes elf r i s at =
-    let within : i < length elf.sections = slice_get_within elf.sections i s at in
+section_there bytes elf r i s there =
+    let within = slice_get_within elf.sections i s there in
     let inside : i < r.count = omega (arith, count_of bytes elf r, within) in
-    let same = sym (slice_get-range _ 0 r.count i inside) ∙ ap (λ l. slice_get l i)
-    (sym r.sections) ∙ at in
-    let zero_more : 0 + i ≡ i = omega arith in
-    subst (λ k. section_of bytes r.names k
-    (section_header_at elf.class elf.order bytes (table_in elf bytes) k) ≡ s) zero_more
-    (some_of _ s same)
+    sym (get_or-map-range_with_len _ 0 r.count i i s inside (omega arith))
+    ∙ get_or_from_slice_get _ i s s (ap (λ l. slice_get l i) (sym r.sections) ∙ there)
 
-content_by : (nobits inside : Bool) (xs : List ℕ) → nobits ≡ false
+content_by : (empty nobits named inside : Bool) (xs : List ℕ)
+    → (not (empty || nobits) && named) ≡ true
     → ok_or (cond nobits (Some []) (cond inside (Some xs) None)) SectionRange
     ≡ cond inside (Ok (cond inside xs [])) (Err SectionRange)
-content_by true inside xs e = absurd cc
-content_by false true xs e = refl
-content_by false false xs e = refl
-
-kind_apart : (empty nobits named : Bool) → (not (empty || nobits) && named) ≡ true
-    → nobits ≡ false
-kind_apart empty nobits named e =
-    let filled = is-false (empty || nobits) (both (not (empty || nobits)) named e).0 in
-    (neither empty nobits filled).1
+content_by true nobits named inside xs e = absurd cc
+content_by false true named inside xs e = absurd cc
+content_by false false named true xs e = refl
+content_by false false named false xs e = refl
 
 -- its bytes are those at that place
 pub content_there : (bytes : List ℕ) (elf : Elf) (i : ℕ) (s : SectionMeaning) (kind : SectionKind)
@@ -159,9 +126,8 @@ content_there bytes elf i s kind e at filled =
     let h = section_header_at elf.class elf.order bytes (table_in elf bytes) i in
     let is = section_there bytes elf r i s at in
     let of_kind = rw (← is) at filled in
-    rw (← is) (content_by (h.kind == SHT_NOBITS) (is_inside bytes h.offset h.size)
-    (slice_range bytes h.offset (h.offset + h.size))
-    (kind_apart (h.size == 0) (h.kind == SHT_NOBITS) _ of_kind))
+    rw (← is) (content_by (h.size == 0) (h.kind == SHT_NOBITS) _ (is_inside bytes h.offset h.size)
+    (slice_range bytes h.offset (h.offset + h.size)) of_kind)
 
 -- a section that is used, by its place
 pub used_there : (bytes : List ℕ) (elf : Elf) (i : ℕ) (s : SectionMeaning) (kind : SectionKind)
@@ -173,55 +139,3 @@ pub used_there : (bytes : List ℕ) (elf : Elf) (i : ℕ) (s : SectionMeaning) (
 unfolding used_bytes
 used_there bytes elf i s kind offset size inside e at filled plain newer is_offset is_size is =
     rw (← is, is_offset, is_size, plain, newer) (content_there bytes elf i s kind e at filled)
-
--- what is read for these numbers
-pub table_read : (bytes : List ℕ) (elf : Elf) (class : Class) (order : Endianness) (word table : ℕ)
-    → class ≡ elf.class → order ≡ elf.order → word ≡ word_size elf.class
-    → table ≡ number_at order (word_size class) bytes (24 + 2 * word) → table ≡ table_in elf bytes
-table_read bytes elf class order word table a b w read =
-    rw (read, a, b, w) (table_there bytes elf)
-
-pub offset_read : (bytes : List ℕ) (elf : Elf) (i : ℕ) (class : Class) (order : Endianness)
-    (word entry table offset : ℕ) → class ≡ elf.class → order ≡ elf.order
-    → word ≡ word_size elf.class → entry ≡ entry_size elf.class → table ≡ table_in elf bytes
-    → offset ≡ number_at order (word_size class) bytes (table + i * entry + (8 + 2 * word))
-    → offset ≡ offset_in elf bytes i
-offset_read bytes elf i class order word entry table offset a b w s t read =
-    rw (read, a, b, w, s, t) (sym (offset_there bytes elf i))
-
--- where these numbers are read, all lies in the file
-pub record IsInside (len table i entry word : ℕ) : Type 0 where
-  pub product : i * entry ≤ len
-  pub header : table + i * entry ≤ len
-  pub place : table + i * entry + (8 + 2 * word) + word ≤ len
-
-inside_by : (len table i entry word product : ℕ) → i * entry ≡ product
-    → table + (product + entry) ≤ len → 24 + 3 * word ≤ entry → IsInside len table i entry word
-inside_by len table i entry word product e h room = record {
-  product = subst (λ n. n ≤ len) (sym e) (omega (arith, h));
-  header = subst (λ n. table + n ≤ len) (sym e) (omega (arith, h));
-  place = subst (λ n. table + n + (8 + 2 * word) + word ≤ len) (sym e) (omega (arith, h, room));
-}
-
-pub all_inside : (bytes : List ℕ) (elf : Elf) (i : ℕ) (class : Class) (order : Endianness)
-    (word entry table : ℕ) → elf_of bytes ≡ Ok elf → i < length elf.sections → class ≡ elf.class
-    → order ≡ elf.order → word ≡ word_size elf.class → entry ≡ entry_size elf.class
-    → table ≡ number_at order (word_size class) bytes (24 + 2 * word)
-    → IsInside (length bytes) table i entry word
-all_inside bytes elf i class order word entry table e h a b w s read =
-    let t = table_read bytes elf class order word table a b w read in
-    rw (t, s, w) (inside_by (length bytes) (table_in elf bytes) i (entry_size elf.class)
-    (word_size elf.class) (i * entry_size elf.class) refl (table_inside bytes elf i e h)
-    (room elf.class))
-
--- the header itself has room for where the table is
-pub first_inside : (bytes : List ℕ) (elf : Elf) (i : ℕ) (class : Class) (word : ℕ)
-    → elf_of bytes ≡ Ok elf → i < length elf.sections → class ≡ elf.class
-    → word ≡ word_size elf.class → 24 + 2 * word + word_size class ≤ length bytes
-first_inside bytes elf i class word e h a w = rw (w, a)
-    (first_by (length bytes) (table_in elf bytes) (i * entry_size elf.class)
-    (entry_size elf.class) (word_size elf.class) (table_inside bytes elf i e h) (room elf.class))
-  where
-    first_by : (len table product entry word : ℕ) → table + (product + entry) ≤ len
-        → 24 + 3 * word ≤ entry → 24 + 2 * word + word ≤ len
-    first_by len table product entry word h room = omega (arith, h, room)

@@ -6,6 +6,5 @@ pub mod SplitHeaders
 pub mod Headers
 pub mod ByIndex
 pub mod RowsTold
-pub mod ByPlaces
 pub mod PlacesRead
 pub mod SkeletonLists

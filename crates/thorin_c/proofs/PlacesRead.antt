@@ -1,5 +1,5 @@
--- The places of sections that are read for each kind, one kind after another.
-use Rattle.std.proofs.Common.{◌≡◌, ℕ, List}
+-- The places of sections that are read for each kind, and a package by them.
+use Rattle.std.proofs.Common.{◌≡◌, ℕ, List, refl}
 use Rattle.std.specs.Prelude.{Some, Result, Ok, Err, IfOk, slice_get}
 use Rattle.std.proofs.lemmas.Option.{get_or_from_slice_get}
 use Rattle.dwp_base.specs.ByKind.{value_of}
@@ -9,10 +9,13 @@ use Rattle.dwp_base.specs.declared.section.SectionKind.{SectionKind}
 use Rattle.dwp_base.proofs.EveryKind.{value-of}
 use Rattle.dwp_base.proofs.KindsRead.{ReadBelow, read-all, answers-each}
 use Rattle.dwp_base.proofs.Steps.{each-read}
-use Rattle.dwp_elf_read.specs.Elf.{SectionMeaning}
+use Rattle.dwp_elf_read.specs.Elf.{Elf, SectionMeaning, elf_of}
 use Rattle.dwp_elf_read.specs.declared.error.ReadError.{ReadError}
 use Rattle.dwp_index.specs.Contents.{content, content_among, contents_of}
-use Rattle.thorin_c.specs.Opening.{bytes_at, nowhere, IsPlaceIn, place_in, sections_at}
+use Rattle.dwp_index.specs.Package.{as_error, package_of}
+use Rattle.dwp_index.specs.declared.error.PackageError.TheVariants as errors
+use Rattle.thorin_c.specs.Opening.{bytes_at, nowhere, IsPlaceIn, place_in, sections_at, order_of}
+use Rattle.thorin_c.specs.Opening.{package_in}
 use Rattle.thorin_c.specs.declared.types.ThorinPackage.{ThorinPackage}
 use Rattle.thorin_c.specs.declared.types.ThorinRange.{ThorinRange}
 
@@ -65,3 +68,11 @@ pub content_placed : (places : ThorinPackage) (bytes : List ℕ) (kind : Section
     → content (sections_at places bytes) kind ≡ bytes_at bytes (place_in places kind)
 unfolding sections_at
 content_placed places bytes kind = value-of (λ k. bytes_at bytes (place_in places k)) _ kind
+
+-- a package is what stands at the places of its sections
+pub package_by : (bytes : List ℕ) (places : ThorinPackage) (file : Elf)
+    → as_error errors.Elf (elf_of bytes) ≡ Ok file
+    → as_error errors.Elf (contents_of file.sections) ≡ Ok (sections_at places bytes)
+    → order_of places.big_endian ≡ file.order → package_of bytes ≡ package_in places bytes
+unfolding package_of package_in
+package_by bytes places file read contents order = rw (read, contents, order) refl

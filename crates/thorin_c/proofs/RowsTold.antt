@@ -1,5 +1,5 @@
 -- What the exports tell of a name, by its row in the index of its kind.
-use Rattle.std.proofs.Common.{◌≡◌, ℕ, Result, Ok, Err, true, false, refl}
+use Rattle.std.proofs.Common.{◌≡◌, ℕ, Result, Ok, Err, Bool, cond, refl}
 use Rattle.std.specs.Prelude.{ℤ, pos, Option, Some, None, is_some}
 use Rattle.dwp_base.specs.Reading.{◌>>=◌}
 use Rattle.dwp_base.specs.declared.section.SectionKind.{SectionKind}
@@ -22,14 +22,11 @@ use Rattle.thorin_c.proofs.ByIndex.{row_is, unit_is}
 abbrev Named : Type 0
 Named = Result (Option (ℕ × Ranges) × ℕ) PackageError
 
--- ---- whether all ranges lie inside
-pub outside : (o : Option SectionKind) → is_some o ≡ true → as_status (all_inside o) ≡ Err (pos 5)
-outside None e = absurd cc
-outside (Some kind) e = refl
-
-pub kept : (o : Option SectionKind) → is_some o ≡ false → as_status (all_inside o) ≡ Ok tt
-kept None e = refl
-kept (Some kind) e = absurd cc
+-- whether all ranges lie inside, by the test
+pub all_by : (o : Option SectionKind) (outside : Bool) → outside ≡ is_some o
+    → as_status (all_inside o) ≡ cond outside (Err (pos 5)) (Ok tt)
+all_by None outside e = rw e refl
+all_by (Some kind) outside e = rw e refl
 
 -- ---- rows
 -- the answer by a row that is present
@@ -66,9 +63,7 @@ row_is_told read pack kind id object is named = rw (is, ← named) (by object)
         → (object >>= λ o. (as_status (row_counted pack o) >>= λ found. (present found >>= λ row.
         Ok (row_of row.0.0 row.0.1 row.1))))
         ≡ (object >>= λ o. (row_present pack o >>= row_told pack))
-    by (Ok o) =
-        let counted = row_is pack o in
-        rw counted (row_of_name pack (row_named o (index_for pack o)))
+    by (Ok o) = rw (row_is pack o) (row_of_name pack (row_named o (index_for pack o)))
     by (Err status) = refl
 
 -- ---- units
@@ -110,7 +105,5 @@ unit_is_told read pack kind id object is named = rw (is, ← named) (by object)
     by : (object : Result DwarfObject ℤ)
         → ((object >>= λ o. (as_status (found_counted pack o) >>= present)) >>= λ found.
         Ok (unit_of found.0 found.1)) ≡ (object >>= λ o. (row_present pack o >>= unit_told pack o))
-    by (Ok o) =
-        let counted = unit_is pack o in
-        rw counted (unit_of_name pack o (row_named o (index_for pack o)))
+    by (Ok o) = rw (unit_is pack o) (unit_of_name pack o (row_named o (index_for pack o)))
     by (Err status) = refl

@@ -1,8 +1,8 @@
 -- Inputs taken one after the other.
-use Rattle.std.proofs.Common.{◌≡◌, ◌∙◌, ℕ, ◌+◌, true, List, [], ◌∷◌, ◌++◌, refl, sym, ap, subst}
+use Rattle.std.proofs.Common.{◌≡◌, ◌∙◌, ℕ, ◌+◌, true, List, [], ◌∷◌, ◌++◌, refl, sym, ap}
 use Rattle.std.proofs.Common.{Ok, Err, ◌<◌, if◌then◌else◌, inl, length, take, get_or, map}
 use Rattle.std.proofs.Common.{arith}
-use Rattle.std.proofs.lemmas.List.{take_more, map-append, length-map}
+use Rattle.std.proofs.lemmas.List.{map_more, length-map}
 use Rattle.std.proofs.Math.Seq.{take-append_seam}
 use Rattle.dwp_base.specs.Reading.{◌>>=◌}
 use Rattle.thorin_errors.specs.Errors.{error_of, NoOutputObjectCreated}
@@ -15,43 +15,45 @@ use Rattle.thorin_c.specs.Listing.{written_over}
 use Rattle.thorin_c.specs.declared.packing.RefusedInput.{RefusedInput}
 use Rattle.thorin_c.specs.declared.types.ThorinReport.{ThorinReport}
 use Rattle.thorin_join.specs.Builder.{State, start, taken, differing_in, finish_test, targets_test}
-use Rattle.thorin_join.specs.Join.{Joins, JoinAll, IsPackageOf}
-use Rattle.thorin_join.specs.Meaning.{Members}
+use Rattle.thorin_join.specs.Join.{Joins, IsPackageOf}
 use Rattle.thorin_join.specs.Represents.{units_in}
 use Rattle.thorin_again.specs.Own.{packs_again}
 use Rattle.thorin_again.specs.PlainInputs.{AreTaken}
 use Rattle.thorin.specs.Again.{IsTakenAgain}
+use Rattle.thorin.specs.Groups.{taken_each}
+use Rattle.thorin.proofs.Grouping.{taken-then}
+use Rattle.thorin.proofs.Running.{each-taken, join-append}
 use Rattle.thorin_c.specs.Packing.{bytes_of, all_taken, Accepts, StopsAt, Leaves}
 use Rattle.thorin_c.specs.Packing.{TellsRefused, TellsLeft, TellsUnfinished, Refuses, RunsOutAt}
 use Rattle.thorin_c.specs.Packing.{RunsOutAfter, IsPackage, ArePackedAgain, Differ}
 use Rattle.thorin_c.specs.declared.types.ThorinBytes.{ThorinBytes}
-use Rattle.dwp_base.proofs.Steps.{bind-was, same-ok}
+use Rattle.dwp_base.proofs.Steps.{bind-ok}
 
-taken-next : (done : List ThorinBytes) (input : ThorinBytes) (old middle new : State)
-    → all_taken done old ≡ Ok middle → taken input.bytes.now middle ≡ Ok new
-    → all_taken (done ++ input ∷ []) old ≡ Ok new
-taken-next [] input old middle new h k = rw (same-ok old middle h, k) refl
-taken-next (x ∷ done) input old middle new h k =
-    let first = bind-was (taken x.bytes.now old) _ middle h in
-    rw first.1 (taken-next done input first.0 middle new first.2 k)
-
-joined-next : (done : List (List ℕ)) (bytes : List ℕ) (old middle new : Members)
-    → JoinAll done old middle → Joins bytes middle new → JoinAll (done ++ bytes ∷ []) old new
-joined-next [] bytes old middle new h k = (new, subst (λ m. Joins bytes m new) h k, refl)
-joined-next (x ∷ done) bytes old middle new h k =
-    (h.0, h.1, joined-next done bytes h.0 middle new h.2 k)
+-- taking all is taking the bytes of each
+all-taken-each : (inputs : List ThorinBytes) (old : State)
+    → all_taken inputs old ≡ taken_each (bytes_of inputs) old
+unfolding taken_each
+all-taken-each [] old = refl
+all-taken-each (x ∷ rest) old =
+    λ i. taken x.bytes.now old >>= λ next. all-taken-each rest next i
 
 -- one more input is accepted
 pub accepts-next : (inputs : List ThorinBytes) (i : ℕ) (d : ThorinBytes) (old middle new : State)
     → i < length inputs → Accepts (take i inputs) old middle
     → taken (get_or inputs i d).bytes.now middle ≡ Ok new → Joins (get_or inputs i d).bytes.now
     (units_in middle) (units_in new) → Accepts (take (i + 1) inputs) old new
-accepts-next inputs i d old middle new h before now joins = rw (take_more inputs i d h) (record {
-  taken = taken-next (take i inputs) (get_or inputs i d) old middle new before.taken now;
-  joined = rw (map-append (λ input. input.bytes.now) (take i inputs) (get_or inputs i d ∷ []))
-      (joined-next (bytes_of (take i inputs)) (get_or inputs i d).bytes.now (units_in old)
-      (units_in middle) (units_in new) before.joined joins);
-})
+unfolding taken_each
+accepts-next inputs i d old middle new h before now joins =
+    let done = bytes_of (take i inputs) in
+    let bytes = (get_or inputs i d).bytes.now in
+    let more = map_more (λ (input : ThorinBytes). input.bytes.now) inputs i d h in
+    let first = sym (all-taken-each (take i inputs) old) ∙ before.taken in
+    record {
+      taken = all-taken-each (take (i + 1) inputs) old ∙ ap (λ l. taken_each l old) more
+          ∙ taken-then done (bytes ∷ []) old middle first ∙ bind-ok (taken bytes middle) new _ now;
+      joined = rw more (join-append done (bytes ∷ []) (units_in old) (units_in middle)
+          (units_in new) before.joined (units_in new, joins, refl));
+    }
 
 -- what is told of a refused input
 pub refuses : (inputs : List ThorinBytes) (old : State) (refusal : RefusedInput)
@@ -113,13 +115,6 @@ packs inputs old state signatures bytes is accepted written joined differ = reco
 
 -- ---- a package that is taken again
 
-each-taken : (inputs : List ThorinBytes) (old new : State) → all_taken inputs old ≡ Ok new
-    → AreTaken (bytes_of inputs) old new
-each-taken [] old new h = (old.targets, sym (same-ok old new h))
-each-taken (x ∷ rest) old new h =
-    let s = bind-was (taken x.bytes.now old) _ new h in
-    (old.targets, s.0, s.1, each-taken rest s.0 new s.2)
-
 abbrev pub AgainLaw : Type 0
 AgainLaw = (accepted : List (List ℕ)) (state : State) (bytes : List ℕ)
     → AreTaken accepted start state → packs_again state ≡ true → IsWritten state bytes
@@ -134,8 +129,8 @@ taken_again law inputs old state bytes is accepted written packs =
     record {
       units = units_in state;
       joined = from.joined;
-      again = law (bytes_of inputs) state bytes (each-taken inputs start state from.taken) packs
-          written;
+      again = law (bytes_of inputs) state bytes (each-taken (bytes_of inputs) start state
+          (sym (all-taken-each inputs start) ∙ from.taken)) packs written;
     }
 
 -- and so are the bytes in the caller's room

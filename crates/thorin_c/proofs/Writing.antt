@@ -1,8 +1,8 @@
 -- A list written over another, from its beginning on.
-use Rattle.std.proofs.Common.{◌≡◌, ◌∙◌, ℕ, suc, List, [], ◌∷◌, ◌++◌, refl, sym, ap, ◌<◌, ◌≤◌}
+use Rattle.std.proofs.Common.{◌≡◌, ◌∙◌, ℕ, List, [], ◌∷◌, ◌++◌, refl, sym, ap, ◌<◌, ◌≤◌}
 use Rattle.std.proofs.Common.{length, take, drop, set, get_or, min, map, ◌+◌, arith}
 use native.Mathlib.Numerals.{unary_clauses}
-use Rattle.std.proofs.lemmas.List.{append_assoc, map-append, length-append, length-map}
+use Rattle.std.proofs.lemmas.List.{map-append, length-map}
 use Rattle.std.proofs.lemmas.List.{length-take-le, take_more, set_past}
 use Rattle.thorin_c.specs.Listing.{written_over}
 
@@ -15,12 +15,6 @@ module _ {A : Type 0} where
   one_more (y ∷ old) [] x = refl
   one_more (y ∷ old) (z ∷ list) x = ap (λ l. z ∷ l) (one_more old list x)
 
-  -- the length stays
-  pub same_length : (old list : List A) → length (written_over old list) ≡ length old
-  same_length old [] = refl
-  same_length [] (x ∷ list) = refl
-  same_length (y ∷ old) (x ∷ list) = ap suc (same_length old list)
-
   -- a copy of as many as there is room for
   copied : (old list : List A) → take (min (length list) (length old)) list ++ drop
       (min (length list) (length old)) old ≡ written_over old list
@@ -32,25 +26,7 @@ module _ {A : Type 0} where
       (length old) → copy ≡ take n whole → copy ++ drop n old ≡ written_over old list
   copied-by old list whole copy n h k m = rw (m, k, h) (copied old list)
 
-  -- the next of what a call yields
-  pub yields-next : (done rest left all : List A) (x : A) → left ≡ x ∷ rest → done ++ left ≡ all
-      → (done ++ x ∷ []) ++ rest ≡ all
-  yields-next done rest left all x h k = append_assoc done (x ∷ []) rest ∙ ap (λ l.
-      done ++ l) (sym h) ∙ k
-
--- a count that stops at the largest number
-capped : (a m : ℕ) → min (min a m + 1) m ≡ min (a + 1) m
-capped a m = omega arith
-
 module _ {A B : Type 0} where
-  pub count-next : (f : A → B) (done : List A) (x : A) (m count next : ℕ)
-      → count ≡ min (length (map f done)) m → next ≡ min (count + 1) m
-      → next ≡ min (length (map f (done ++ x ∷ []))) m
-  count-next f done x m count next h k =
-      k ∙ ap (λ n. min (n + 1) m) h ∙ capped (length (map f done)) m
-      ∙ ap (λ n. min n m) (sym (ap length (map-append f done (x ∷ [])) ∙ length-append
-      (map f done) (f x ∷ [])))
-
   -- one more is written
   pub put-next : (f : A → B) (old now : List B) (done : List A) (x : A) (y : B) (i : ℕ)
       → now ≡ written_over old (map f done) → i ≡ length (map f done) → y ≡ f x

@@ -1,6 +1,5 @@
-use Rattle.std.proofs.Common.{rules, refl, sym, ◌∙◌}
-use Rattle.dwp_index.specs.Package.{first_outside}
-use Rattle.thorin_c.proofs.RowsTold.{row_is_told, outside, kept}
+use Rattle.std.proofs.Common.{rules, refl}
+use Rattle.thorin_c.proofs.RowsTold.{row_is_told, all_by}
 use Rattle.thorin_c.proofs.inside.find_row.Goals as goal
 
 pub returns-in-Err-object_of : goal.returns-in-Err-object_of
@@ -19,24 +18,12 @@ pub returns-then-is_outside : goal.returns-then-is_outside
 returns-then-is_outside c =
     let told = row_is_told _ c.in-Ok.pack c.args.kind c.args.id _ c.in-Ok.ensures
     c.object_of.ensures in
-    let all = first_outside c.in-Ok.pack.contents c.in-Ok-row_present.present.0.1 in
-    rw (
-      told,
-      c.in-Ok-object_of.is,
-      c.in-Ok-row_present.ensures,
-      outside all (sym c.is_outside.ensures
-          ∙ c.if-is_outside.true),
-    ) (refl, refl)
+    rw (told, c.in-Ok-object_of.is, c.in-Ok-row_present.ensures, all_by _ _ c.is_outside.ensures,
+    c.if-is_outside.true) (refl, refl)
 
 pub returns : goal.returns
 returns c =
     let told = row_is_told _ c.in-Ok.pack c.args.kind c.args.id _ c.in-Ok.ensures
     c.object_of.ensures in
-    let all = first_outside c.in-Ok.pack.contents c.in-Ok-row_present.present.0.1 in
-    rw (
-      told,
-      c.in-Ok-object_of.is,
-      c.in-Ok-row_present.ensures,
-      kept all (sym c.is_outside.ensures
-          ∙ c.if-is_outside.false),
-    ) (refl, c.write_row.ensures)
+    rw (told, c.in-Ok-object_of.is, c.in-Ok-row_present.ensures, all_by _ _ c.is_outside.ensures,
+    c.if-is_outside.false) (refl, c.write_row.ensures)
