@@ -38,8 +38,12 @@ pub status_left : (pack : Package) (lookups : List ThorinLookup) (i : ℕ) (d : 
     (looked pack) lookups
 status_left pack lookups i d s h =
     let asked = get_or lookups i d in
-    rw (map-set, untold asked (unit_found (Ok pack) asked.kind asked.id),
-    ← get_or-map (looked pack) lookups i d d h, set-get_or) refl
+    rw (
+      map-set,
+      untold asked (unit_found (Ok pack) asked.kind asked.id),
+      ← get_or-map (looked pack) lookups i d d h,
+      set-get_or,
+    ) refl
   where
     untold : (asked : ThorinLookup) (found : Result ThorinUnit ℤ)
         → told (record asked { status = s }) found ≡ told asked found

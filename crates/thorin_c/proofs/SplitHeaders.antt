@@ -29,11 +29,16 @@ header_goes place whole i rest h version five eight =
     let three = length-drop 1 (drop 2 i.bytes) in
     let four = length-drop 1 (drop 1 (drop 2 i.bytes)) in
     let last = length-drop 4 (drop 1 (drop 1 (drop 2 i.bytes))) in
-    rw (le-ltb (length i.bytes) 2 (omega arith), version,
-    le-ltb (length (drop 2 i.bytes)) 1 (omega arith), five,
-    le-ltb (length (drop 1 (drop 2 i.bytes))) 1 (omega arith), eight,
-    le-ltb (length (drop 1 (drop 1 (drop 2 i.bytes)))) 4 (omega arith),
-    le-ltb (length (drop 4 (drop 1 (drop 1 (drop 2 i.bytes))))) 8 (omega arith)) refl
+    rw (
+      le-ltb (length i.bytes) 2 (omega arith),
+      version,
+      le-ltb (length (drop 2 i.bytes)) 1 (omega arith),
+      five,
+      le-ltb (length (drop 1 (drop 2 i.bytes))) 1 (omega arith),
+      eight,
+      le-ltb (length (drop 1 (drop 1 (drop 2 i.bytes)))) 4 (omega arith),
+      le-ltb (length (drop 4 (drop 1 (drop 1 (drop 2 i.bytes))))) 8 (omega arith),
+    ) refl
 
 -- the encoding of such a unit, wherever it stands
 pub split_encoding : (order : Endianness) (place : UnitSection) (bytes body : List ℕ) (n : ℕ)
@@ -45,9 +50,14 @@ unfolding encoding_in unit_at initial_length_at split_at number_at
 split_encoding order place bytes body n length_is narrow enough fits same version five eight =
     let left = length-drop 4 bytes in
     let long = ap length same ∙ length-take-le n (drop 4 bytes) (omega arith) in
-    rw (le-ltb (length bytes) 4 (omega arith), length_is, lt-ltb n 0xfffffff0 narrow,
-    le-ltb (length (drop 4 bytes)) n (omega arith),
-    le-ltb (length bytes) (0 + 4 + n - 0) (omega arith), ← same)
+    rw (
+      le-ltb (length bytes) 4 (omega arith),
+      length_is,
+      lt-ltb n 0xfffffff0 narrow,
+      le-ltb (length (drop 4 bytes)) n (omega arith),
+      le-ltb (length bytes) (0 + 4 + n - 0) (omega arith),
+      ← same,
+    )
     (header_goes place _ (record (section order bytes) { place = 0 + 4; bytes = body }) _
     (omega arith) version (get_or-drop 2 body 0 0 ∙ five)
     (get_or_after_one (drop 2 body) 0 0 ∙ get_or-drop 2 body 1 0 ∙ eight))

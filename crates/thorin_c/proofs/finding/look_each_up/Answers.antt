@@ -17,5 +17,8 @@ loop-i-preserved c =
     c.complete.ensures kept
 
 pub returns : goal.returns
-returns c = (refl, replaced-all (looked c.args.file.now) c.loop-i.lookups _ c.loop-i.i (omega arith)
-    c.loop-i.invariant)
+returns c = (
+  refl,
+  replaced-all (looked c.args.file.now) c.loop-i.lookups _ c.loop-i.i (omega arith)
+      c.loop-i.invariant,
+)

@@ -16,12 +16,18 @@ loop-i-preserved c =
     let long = c.loop-i.invariant.0 in
     let written : SectionKind → ThorinRange = λ kind. range_of (range_in c.args.row.now kind) in (
       length-set c.loop-i.ranges i c.range_of.result ∙ long,
-      rw (take_more_set c.loop-i.ranges i c.range_of.result (omega (arith, c.loop-i-test.true)),
-          c.loop-i.invariant.1, c.range_of.ensures, c.range.ensures)
+      rw (
+        take_more_set c.loop-i.ranges i c.range_of.result (omega (arith, c.loop-i-test.true)),
+        c.loop-i.invariant.1,
+        c.range_of.ensures,
+        c.range.ensures,
+      )
           (sym (map_more written contribution_kinds i _ (omega (arith, c.loop-i-test.true)))),
     )
 
 pub returns : goal.returns
-returns c = rw (take_all c.loop-i.i c.loop-i.ranges (omega (arith, c.loop-i.invariant.0)),
-    take_all c.loop-i.i contribution_kinds (omega (arith, c.loop-i-test.false))) at
+returns c = rw (
+  take_all c.loop-i.i c.loop-i.ranges (omega (arith, c.loop-i.invariant.0)),
+  take_all c.loop-i.i contribution_kinds (omega (arith, c.loop-i-test.false)),
+) at
     c.loop-i.invariant.1

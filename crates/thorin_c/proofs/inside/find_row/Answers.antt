@@ -18,12 +18,22 @@ pub returns-then-is_outside : goal.returns-then-is_outside
 returns-then-is_outside c =
     let told = row_is_told _ c.in-Ok.pack c.args.kind c.args.id _ c.in-Ok.ensures
     c.object_of.ensures in
-    rw (told, c.in-Ok-object_of.is, c.in-Ok-row_present.ensures, all_by _ _ c.is_outside.ensures,
-    c.if-is_outside.true) (refl, refl)
+    rw (
+      told,
+      c.in-Ok-object_of.is,
+      c.in-Ok-row_present.ensures,
+      all_by _ _ c.is_outside.ensures,
+      c.if-is_outside.true,
+    ) (refl, refl)
 
 pub returns : goal.returns
 returns c =
     let told = row_is_told _ c.in-Ok.pack c.args.kind c.args.id _ c.in-Ok.ensures
     c.object_of.ensures in
-    rw (told, c.in-Ok-object_of.is, c.in-Ok-row_present.ensures, all_by _ _ c.is_outside.ensures,
-    c.if-is_outside.false) (refl, c.write_row.ensures)
+    rw (
+      told,
+      c.in-Ok-object_of.is,
+      c.in-Ok-row_present.ensures,
+      all_by _ _ c.is_outside.ensures,
+      c.if-is_outside.false,
+    ) (refl, c.write_row.ensures)

@@ -9,5 +9,8 @@ loop-i-preserved c =
     c.complete_row.new.lookup (omega arith) c.complete_row.ensures c.loop-i.invariant
 
 pub returns : goal.returns
-returns c = (refl, replaced-all (row_looked c.args.file.now) c.loop-i.lookups _ c.loop-i.i
-    (omega arith) c.loop-i.invariant)
+returns c = (
+  refl,
+  replaced-all (row_looked c.args.file.now) c.loop-i.lookups _ c.loop-i.i
+      (omega arith) c.loop-i.invariant,
+)
