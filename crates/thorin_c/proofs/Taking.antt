@@ -21,8 +21,7 @@ use Rattle.thorin_again.specs.Own.{packs_again}
 use Rattle.thorin_again.specs.PlainInputs.{AreTaken}
 use Rattle.thorin.specs.Again.{IsTakenAgain}
 use Rattle.thorin.specs.Groups.{taken_each}
-use Rattle.thorin.proofs.Running.{taken-then}
-use Rattle.thorin.proofs.Running.{each-taken, join-append}
+use Rattle.thorin.proofs.Running.{taken-then, each-taken, join-append}
 use Rattle.thorin_c.specs.Packing.{bytes_of, all_taken, Accepts, StopsAt, Leaves}
 use Rattle.thorin_c.specs.Packing.{TellsRefused, TellsLeft, TellsUnfinished, Refuses, RunsOutAt}
 use Rattle.thorin_c.specs.Packing.{RunsOutAfter, IsPackage, ArePackedAgain, Differ}
