@@ -16,14 +16,14 @@ use Rattle.dwp_bytes.specs.declared.encoding.Format.{Format}
 use Rattle.dwp_bytes.specs.Encoding.{offset_size}
 use Rattle.thorin_errors.specs.Errors.{ErrorValue}
 use Rattle.thorin_errors.specs.Answers.{as_error}
-use Rattle.thorin_strings.specs.Strings.{offset_of, IsZeroFree, IsTable}
+use Rattle.dwp_strings.specs.Strings.{offset_of, IsZeroFree, IsTable}
 use Rattle.thorin_strings.specs.StringOffsets.{offset_limit, named_at, fitting_offset}
 use Rattle.thorin_strings.specs.StringOffsets.{remapped_entry, remapped_entries, entry_at, remapped}
 use Rattle.thorin_strings.specs.StringOffsets.{entry_bytes, header_of, offset_at}
 use Rattle.thorin_strings.specs.Rewritten.{NamesTheSame, NamesOneString}
-use Rattle.thorin_strings.proofs.Named.{has, there_later, string_was, read_free, used, read_later}
+use Rattle.dwp_strings.proofs.Named.{has, there_later, string_was, read_free, used, read_later}
 use Rattle.thorin_strings.proofs.RemapLemmas.{kept_more}
-use Rattle.thorin_strings.proofs.OffsetLemmas.{has_Decides}
+use Rattle.dwp_strings.proofs.OffsetLemmas.{has_Decides}
 use Rattle.thorin_strings.proofs.NamedBytes.{entry_read, entries_long, header_long}
 
 pub as_error_ok : {A E : Type 0} (f : E → ErrorValue) (r : Result A E) (x : A)

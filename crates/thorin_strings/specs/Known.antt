@@ -2,7 +2,7 @@
 use Rattle.std.specs.Prelude.{◌≡◌, ℕ, List, All, Result, Ok}
 use Rattle.dwp_base.specs.Reading.{◌>>=◌}
 use Rattle.thorin_errors.specs.Errors.{ErrorValue}
-use Rattle.thorin_strings.specs.Strings.{offset_of, with_string}
+use Rattle.dwp_strings.specs.Strings.{offset_of, with_string}
 use Rattle.thorin_strings.specs.StringOffsets.{string_read}
 
 -- the offset of the string at an offset of a section once it is among the distinct ones, and these

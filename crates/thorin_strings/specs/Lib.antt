@@ -1,10 +1,4 @@
-pub mod Strings
 pub mod StringOffsets
-pub mod Marks
-pub mod Chunks
 pub mod Rewritten
 pub mod Known
-pub mod Places
-pub mod Hashed
-pub mod Ends
 pub mod Written

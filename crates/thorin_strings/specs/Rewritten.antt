@@ -4,7 +4,7 @@ use Rattle.std.specs.Prelude.{◌≡◌, ◌≢◌, ℕ, ◌+◌, ◌*◌, ◌<�
 use Rattle.dwp_base.specs.declared.endian.Endianness.{Endianness}
 use Rattle.dwp_bytes.specs.Encoding.{offset_size}
 use Rattle.dwp_bytes.specs.declared.encoding.Encoding.{Encoding}
-use Rattle.thorin_strings.specs.Strings.{data_of, IsTable}
+use Rattle.dwp_strings.specs.Strings.{data_of, IsTable}
 use Rattle.dwp_bytes.specs.StringOffsets.{header_size, entry_count}
 use Rattle.thorin_strings.specs.StringOffsets.{named_at}
 

@@ -15,7 +15,7 @@ use Rattle.dwp_bytes.specs.StringOffsets.{header_size, entry_count, string_at}
 use Rattle.thorin_errors.specs.Errors.{ErrorValue, OffsetAtIndex, StrAtOffset, NumberTooLarge}
 use Rattle.thorin_errors.specs.Errors.{BadStringOffsets}
 use Rattle.thorin_errors.specs.Answers.{as_error}
-use Rattle.thorin_strings.specs.Strings.{offset_of, with_string}
+use Rattle.dwp_strings.specs.Strings.{offset_of, with_string}
 
 -- the largest length that an initial length of the format holds, and the largest offset (7.4)
 abbrev pub length_limit : Format → ℕ

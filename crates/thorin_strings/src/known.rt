@@ -5,15 +5,15 @@ ghost use Rattle.std.specs.Prelude.{IsSomeAnd};
 ghost use Rattle.dwp_bytes.specs.Encoding.{offset_size};
 ghost use Rattle.dwp_bytes.specs.StringOffsets.{header_size};
 ghost use Rattle.thorin_strings.specs.StringOffsets.{entry_at, string_read};
-ghost use Rattle.thorin_strings.specs.Strings.{IsZeroFree};
+ghost use Rattle.dwp_strings.specs.Strings.{IsZeroFree};
 ghost use Rattle.thorin_strings.specs.Known.{offset_read, AreKnown};
 
-use crate::ends::{ROUNDS, end_of, short_end};
 use crate::offsets::offset_at;
 use crate::repeats::Repeats;
 use crate::table::PackageStringTable;
 use dwp_base::Endianness;
 use dwp_bytes::Encoding;
+use dwp_strings::{ROUNDS, end_of, short_end};
 
 /// The offset that the entry of a number has, where it can be read.
 #[inline(always)]
@@ -80,7 +80,7 @@ impl PackageStringTable {
         if limit < self.data().len() as u64 {
             return None;
         }
-        let Ok(offset) = self.place(string) else {
+        let Ok(offset) = self.strings.place(string) else {
             return None;
         };
         Some(offset as u64)
@@ -138,7 +138,7 @@ impl PackageStringTable {
         if limit < self.data().len() as u64 {
             return None;
         }
-        let Ok(place) = self.place(string) else {
+        let Ok(place) = self.strings.place(string) else {
             return None;
         };
         let offset = place as u64;

@@ -5,7 +5,7 @@ ghost use Rattle.dwp_base.specs.declared.endian.Endianness.{Endianness};
 ghost use Rattle.dwp_bytes.specs.declared.encoding.Encoding.{Encoding};
 ghost use Rattle.thorin_strings.specs.Rewritten.{NamesTheSame};
 ghost use Rattle.thorin_strings.specs.StringOffsets.{remapped};
-ghost use Rattle.thorin_strings.specs.Strings.{IsTable};
+ghost use Rattle.dwp_strings.specs.Strings.{IsTable};
 
 /// The law of rewriting: a range of string offsets that was rewritten has as many entries as
 /// before, and each names the same string, in the section of any table that begins with the strings

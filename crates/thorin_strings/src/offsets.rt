@@ -11,7 +11,7 @@ ghost use Rattle.dwp_bytes.specs.StringOffsets.{header_size};
 ghost use Rattle.thorin_strings.specs.StringOffsets.{length_limit, offset_limit, header_of};
 ghost use Rattle.thorin_strings.specs.StringOffsets.{offset_at, entry_at, string_read};
 ghost use Rattle.thorin_strings.specs.StringOffsets.{remapped_entry, remapped};
-ghost use Rattle.thorin_strings.specs.Strings.{IsZeroFree};
+ghost use Rattle.dwp_strings.specs.Strings.{IsZeroFree};
 ghost use Rattle.thorin_strings.specs.Known.{offset_read, AreKnown};
 
 use crate::known::known_entry;
@@ -198,7 +198,7 @@ impl PackageStringTable {
         ensures kept { take (length self.old) self.new ≡ self.old }
         ensures err { OnErr result (self.new ≡ self.old) }
     {
-        let mut repeats = Repeats::new(self.allocator());
+        let mut repeats = Repeats::new(self.alloc);
         let range = StringOffsets {
             strings: debug_str,
             offsets: debug_str_offsets,
@@ -297,7 +297,7 @@ impl PackageStringTable {
             offsets,
             ..
         } = *range;
-        let alloc = self.allocator();
+        let alloc = self.alloc;
         if section_size == 0 {
             return Ok(Vec::new(alloc));
         }

@@ -1,16 +1,12 @@
 //! The table of distinct strings of a package (DWARF 5, 7.26).
 
-ghost use Rattle.std.specs.Prelude.{◌≡◌, ◌↔◌, ◌<◌, ℕ, List, [], length, take, OnOk, IfOk, IfErr};
-ghost use Rattle.std.specs.Prelude.{IsSome, IfSome, IsTrue, Contains};
-ghost use Rattle.thorin_strings.specs.Strings.{data_of, offset_of, with_string, IsZeroFree};
-ghost use Rattle.thorin_strings.specs.Strings.{IsTable, IsWithinDigits};
-ghost use Rattle.thorin_strings.specs.Marks.{mark_of};
+ghost use Rattle.std.specs.Prelude.{◌≡◌, ◌↔◌, [], length, take, OnOk, IfOk, IfErr, IsSome, IfSome};
+ghost use Rattle.std.specs.Prelude.{IsTrue, Contains};
+ghost use Rattle.dwp_strings.specs.Strings.{data_of, offset_of, with_string, IsZeroFree, IsTable};
+ghost use Rattle.dwp_strings.specs.Strings.{IsWithinDigits};
+ghost use Rattle.dwp_strings.specs.Marks.{mark_of};
 
-use crate::entries::Entries;
-use crate::hash::hash;
-use crate::places::SHARED;
-use crate::search::{search, stands_at};
-use memchr::memchr;
+use dwp_strings::{StringTable, TableMark};
 use std::alloc::Global;
 use std::marker::Model;
 use thorin_errors::Error;
@@ -19,44 +15,20 @@ use thorin_errors::Error;
 #[derive(Clone, Copy, Debug, PartialEq, Eq, Hash)]
 pub struct PackageStringOffset(pub usize);
 
-/// How much a table held at some time: how many strings, and how many bytes of data.
-#[derive(Clone, Copy, Debug, PartialEq, Eq, Hash)]
-pub struct TableMark {
-    /// How many strings.
-    pub strings: usize,
-    /// How many bytes they and the zero bytes at their ends take.
-    pub bytes: usize,
-}
-
 /// The distinct strings of a package, in order of first use. In clauses the table is the list of
 /// these strings.
-///
-/// No string is copied but into the data. A string is found by its hash, which has the string's
-/// place. Those that share a hash, and new ones where no more hashes get places, are kept by their
-/// order too, and found by that. So one string at most is compared with another, or as many as
-/// halving those in order takes.
-///
-/// The place behind the string that was found last is looked at first: inputs that share strings
-/// often use them in the same order. In the loop over string offsets that is done while it is right.
 #[derive(Drop)]
 pub struct PackageStringTable {
     pub(crate) alloc: Global,
-    pub(crate) entries: Entries,
-    /// The place behind the string that was found last, where four bytes hold it.
-    pub(crate) next: u32,
-    /// Whether strings were found there lately.
-    pub(crate) is_next: bool,
+    pub(crate) strings: StringTable,
 }
 
 impl Model for PackageStringTable {
     ghost use Rattle.std.specs.Prelude.{List, ℕ};
-    ghost use Rattle.thorin_strings.specs.Hashed.{held, IsHashed};
 
     ghost Value = { List (List ℕ) };
 
-    ghost view = { λ t. held t.entries };
-
-    ghost invariant = { λ t. IsHashed t.entries };
+    ghost view = { λ t. t.strings };
 }
 
 impl PackageStringTable {
@@ -66,9 +38,7 @@ impl PackageStringTable {
     {
         PackageStringTable {
             alloc,
-            entries: Entries::new(alloc),
-            next: 0,
-            is_next: false,
+            strings: StringTable::new(alloc),
         }
     }
 
@@ -76,14 +46,14 @@ impl PackageStringTable {
     pub fn len(&self) -> usize
         ensures { result ≡ length self.now }
     {
-        self.entries.count
+        self.strings.len()
     }
 
     /// Whether there are none.
     pub fn is_empty(&self) -> bool
         ensures { IsTrue result ↔ (self.now ≡ []) }
     {
-        self.len() == 0
+        self.strings.is_empty()
     }
 
     /// The content of `.debug_str.dwo`: each string and a zero byte.
@@ -91,12 +61,7 @@ impl PackageStringTable {
         ensures whole { result.now ≡ data_of self.now }
         ensures table { IsTable self.now }
     {
-        &self.entries.bytes
-    }
-
-    /// Where the allocator of the table's memory is.
-    pub(crate) fn allocator(&self) -> Global {
-        self.alloc
+        self.strings.data()
     }
 
     /// The offset of a string, where the table has it, and how many strings were compared.
@@ -105,28 +70,9 @@ impl PackageStringTable {
         ensures offset { IfSome result.0 (λ o. o.0 ≡ offset_of self.now string.now) }
         ensures count { IsWithinDigits result.1 (length self.now) }
     {
-        if self.entries.count == 0 {
-            return (None, 0);
-        }
-        if memchr(0, string).is_some() {
-            return (None, 0);
-        }
-        let place = match self.entries.places.seek(hash(string)) {
-            Ok(place) => place,
-            Err(_) if self.entries.places.is_full => SHARED,
-            Err(_) => return (None, 0),
-        };
-        if place == SHARED {
-            let found = search(self.entries.bytes.as_slice(), &self.entries.ordered, string);
-            return match found.place {
-                Ok(place) => (Some(PackageStringOffset(place)), found.compared),
-                Err(_) => (None, found.compared),
-            };
-        }
-        if stands_at(&self.entries.bytes, place, string) {
-            (Some(PackageStringOffset(place)), 1)
-        } else {
-            (None, 1)
+        match self.strings.find_counted(string) {
+            (Some(offset), compared) => (Some(PackageStringOffset(offset)), compared),
+            (None, compared) => (None, compared),
         }
     }
 
@@ -141,7 +87,7 @@ impl PackageStringTable {
         ensures kept { take (length self.old) self.new ≡ self.old }
         ensures err { IfErr result (λ e. (e ≡ Error.Memory) × (self.new ≡ self.old)) }
     {
-        match self.place(string) {
+        match self.strings.place(string) {
             Ok(offset) => Ok(PackageStringOffset(offset)),
             Err(_) => Err(Error::Memory),
         }
@@ -151,23 +97,15 @@ impl PackageStringTable {
     pub fn mark(&self) -> TableMark
         ensures { result ≡ mark_of self.now }
     {
-        TableMark {
-            strings: self.entries.count,
-            bytes: self.entries.bytes.len(),
-        }
+        self.strings.mark()
     }
 
-    /// Forgets every string that came after a mark. The place of its hash stays, until a string of that
-    /// hash comes.
+    /// Forgets every string that came after a mark.
     pub fn truncate(&mut self, mark: TableMark)
         requires { mark ≡ mark_of (take mark.strings self.old) }
         ensures { self.new ≡ take mark.strings self.old }
     {
-        if mark.bytes < self.entries.bytes.len() {
-            self.entries.bytes.truncate(mark.bytes);
-            self.entries.count = mark.strings;
-            self.entries.ordered.keep_below(mark.bytes as u64);
-        }
+        self.strings.truncate(mark);
     }
 
     /// The content of `.debug_str.dwo`.
@@ -175,8 +113,7 @@ impl PackageStringTable {
         ensures whole { result.items ≡ data_of self }
         ensures table { IsTable self }
     {
-        let PackageStringTable { entries, .. } = self;
-        let Entries { bytes, .. } = entries;
-        bytes
+        let PackageStringTable { strings, .. } = self;
+        strings.finish()
     }
 }

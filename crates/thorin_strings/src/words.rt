@@ -142,7 +142,7 @@ impl PackageStringTable {
         ensures kept { take (length self.old) self.new ≡ self.old }
         ensures known { AreKnown debug_str.now self.new repeats.new }
     {
-        let alloc = self.allocator();
+        let alloc = self.alloc;
         if section_size == 0 {
             return Ok(Vec::new(alloc));
         }

@@ -1,0 +1,306 @@
+-- Strings of entries, which are found by their hashes, or else by their order.
+use Rattle.std.proofs.Common.{◌≡◌, ◌≢◌, ℕ, suc, ◌+◌, ◌^◌, ◌<◌, ◌≤◌, Bool, true, false, ltb, List}
+use Rattle.std.proofs.Common.{[], ◌∷◌, ◌++◌, length, take, map, filter, get_or, Contains, insert}
+use Rattle.std.proofs.Common.{Some, None, Option, inl, inr, ⊎_elim, ap, sym, refl, ◌∙◌, arith}
+use Rattle.std.proofs.Common.{length-append, Result, Ok, Err, IfErr, OnOk, OnErr}
+use Rattle.std.specs.declared.alloc.AllocError.{AllocError}
+use Rattle.std.proofs.lemmas.List.{get_or_append_left, get_or_push, get_or-map, get_or-take}
+use Rattle.std.proofs.lemmas.List.{length-map, length-take, map-append, take-map, take_at}
+use Rattle.std.proofs.lemmas.List.Elements.{All-contains, Contains-get_or}
+use Rattle.std.proofs.lemmas.List.Sorted.{IsPermutation-insert, Contains-permutation}
+use Rattle.std.proofs.lemmas.Bool.{cases_lt, lt-ltb}
+use Rattle.dwp_bytes.specs.StringOffsets.{string_from}
+use Rattle.dwp_strings.specs.Places.{hash, place_of, shared, IsOrdered, IsFound, AreRelated}
+use Rattle.dwp_strings.specs.Places.{AreFound}
+use Rattle.dwp_strings.specs.Strings.{terminated, data_of, offset_of, strings_in, offsets_from}
+use Rattle.dwp_strings.specs.Strings.{IsZeroFree, IsTable, IsIndexed, StandsAt, BeginsAt}
+use Rattle.dwp_strings.specs.declared.entries.Entries.{Entries}
+use Rattle.dwp_strings.specs.declared.places.Slot.{Slot}
+use Rattle.dwp_strings.specs.Hashed.{IsFindable, IsHashed, IsPlaced, held}
+use Rattle.dwp_strings.proofs.StringLemmas.{zero_free-strings_in}
+use Rattle.dwp_strings.proofs.Filters.{Contains-filter}
+use Rattle.dwp_strings.proofs.OffsetLemmas.{has_Decides, offset_of-at, offsets_from-append}
+use Rattle.dwp_strings.proofs.OffsetLemmas.{offsets_from-below, offsets_from-take}
+use Rattle.dwp_strings.proofs.OffsetLemmas.{length-offsets_from}
+use Rattle.dwp_strings.proofs.TableLemmas.{strings_push, strings_few, positions_few}
+use Rattle.dwp_strings.proofs.TableLemmas.{stands_apart, indexed_more, indexed_take}
+use Rattle.dwp_strings.proofs.PlacesLemmas.{same_or}
+use Rattle.dwp_strings.proofs.UsedLemmas.{used_new}
+use Rattle.dwp_strings.proofs.Named.{begins_there}
+
+-- the place that a hash has among those of entries
+abbrev pub place_in : Entries → ℕ → Option ℕ
+place_in e h = place_of e.places.slots.items e.places.size h
+
+abbrev pub IsFoundIn : Entries → ℕ → ℕ → Type 0
+IsFoundIn e h n = IsFound e.places.slots.items e.places.size e.places.is_full e.ordered h n
+
+-- in each of the ways in which a string is found
+found_by : (P : Type 0) (e : Entries) (h n : ℕ) → IsFoundIn e h n
+    → (place_in e h ≡ Some n → n < shared → P)
+    → (Contains e.ordered n → place_in e h ≡ Some shared → P)
+    → (Contains e.ordered n → e.places.is_full ≡ true → place_in e h ≡ None → P) → P
+found_by P e h n found own common late =
+    ⊎_elim (λ here. own here.0 here.1)
+    (λ among. ⊎_elim (common among.0) (λ l. late among.0 l.0 l.1) among.1) found
+
+-- there are no more strings than bytes, so that one more can be counted
+pub entries_few : (e : Entries) → IsHashed e → (e.count + 1 < 2 ^ 64)
+    × (length e.ordered + 1 < 2 ^ 64)
+entries_few e table =
+    let long : length (held e) ≤ e.bytes.len = omega (
+      arith,
+      strings_few (held e),
+      ap length table.findable.indexed.ended,
+      e.bytes.ok.0,
+    ) in
+    let small = e.bytes.small in
+    (omega (arith, table.counted), omega (arith, positions_few _ _ table.findable.indexed))
+
+module _ (e : Entries) (table : IsHashed e) where
+  -- a string of the section stands where its offset says
+  stands_there : (s : List ℕ) → Contains (held e) s → BeginsAt e.bytes.items (offset_of (held e) s)
+      × (string_from e.bytes.items (offset_of (held e) s) ≡ s)
+  stands_there s there =
+      rw table.findable.indexed.ended at (begins_there (held e) s
+      (All-contains IsZeroFree (held e) s (zero_free-strings_in e.bytes.items) there)
+      ((has_Decides (held e) s).1 there))
+
+  -- a string begins where one is said to
+  pub begins_at_offset : (p : ℕ) → Contains (offsets_from 0 (held e)) p → BeginsAt e.bytes.items p
+  begins_at_offset p there =
+      let k = there.0 in
+      let within : k < length (held e) = omega (arith, there.1, length-offsets_from 0 (held e)) in
+      let s = get_or (held e) k [] in
+      let at = offset_of-at (held e) 0 k [] p table.findable.indexed.distinct within ∙ there.2 in
+      let same : offset_of (held e) s ≡ p = omega (arith, at) in
+      rw same at (stands_there s (Contains-get_or (held e) k [] within)).0
+
+module _ (e : Entries) (table : IsHashed e) (s : List ℕ) (h : ℕ) (is_hash : h ≡ hash s) where
+  -- it is found
+  found_at : Contains (held e) s → IsFoundIn e h (offset_of (held e) s)
+  found_at there =
+      let k = there.0 in
+      let same : get_or (map hash (held e)) k 0 ≡ h =
+      get_or-map hash (held e) k s 0 there.1 ∙ ap hash there.2 ∙ sym is_hash in
+      let place : get_or (offsets_from 0 (held e)) k 0 ≡ offset_of (held e) s = omega (
+        arith,
+        offset_of-at (held e) 0 k s 0 table.findable.indexed.distinct there.1,
+        ap (offset_of (held e)) there.2,
+      ) in
+      rw (same, place) at (table.findable.found k
+      (omega (arith, there.1, length-map (held e) hash)))
+
+  -- a string whose hash has no place isn't there, where more get one
+  pub unplaced : e.places.is_full ≡ false → place_in e h ≡ None → Contains (held e) s → ⊥
+  unplaced gets none there =
+      found_by ⊥ e h _ (found_at there) (λ own _. cc) (λ _ common. cc) (λ _ full _. cc)
+
+  -- nor one that doesn't stand at the place of its hash, where strings don't share that
+  pub misplaced : (p : ℕ) → place_in e h ≡ Some p → p ≢ shared
+      → (BeginsAt e.bytes.items p × (string_from e.bytes.items p ≡ s) → ⊥) → Contains (held e) s → ⊥
+  misplaced p has own other there =
+      found_by ⊥ e h _ (found_at there)
+      (λ found _. let same : p ≡ offset_of (held e) s = cc in
+      other (rw same (stands_there e table s there)))
+      (λ _ common. let same : p ≡ shared = cc in own same)
+      (λ _ _ none. cc)
+
+  -- nor one that isn't among those in order, where it is looked for there
+  pub unordered : (r : ℕ) → IsOrdered e.places.slots.items e.places.size e.places.is_full h
+      → StandsAt e.bytes.items e.ordered s r → Contains (held e) s → ⊥
+  unordered r leads stands there =
+      let here = stands_there e table s there in
+      found_by ⊥ e h _ (found_at there)
+      (λ own low. ⊎_elim
+      (λ common. let same : offset_of (held e) s ≡ shared = cc in absurd (omega (arith, low, same)))
+      (λ late. let none = late.1 in cc)
+      leads)
+      (λ among _. stands_apart e.bytes.items e.ordered s r _ stands among here.1)
+      (λ among _ _. stands_apart e.bytes.items e.ordered s r _ stands among here.1)
+
+-- what is found among entries is so among others
+abbrev pub Carries : Entries → Entries → Type 0
+Carries e new = (g m : ℕ) → Contains (offsets_from 0 (held e)) m → IsFoundIn e g m
+    → IsFoundIn new g m
+
+-- where each place that a hash has is kept, and no more are full
+pub carried_kept : (e new : Entries) → e.places.is_full ≡ false
+    → ((h n : ℕ) → place_in e h ≡ Some n → place_in new h ≡ Some n) → new.ordered ≡ e.ordered
+    → Carries e new
+carried_kept e new gets kept same = λ g m _ found.
+    rw same (found_by _ e g m found (λ own low. inl (kept g m own, low))
+    (λ among common. inr (among, inl (kept g shared common))) (λ _ full _. cc))
+
+-- where more are among those in order
+pub carried_among : (e new : Entries) → new.places ≡ e.places
+    → ((p : ℕ) → Contains e.ordered p → Contains new.ordered p) → Carries e new
+carried_among e new same more = λ g m _ found.
+    rw same (⊎_elim (λ own. inl own) (λ among. inr (more m among.0, among.1)) found)
+
+-- where the place of one hash alone is another
+module _ (e new : Entries) (h p : ℕ) (full : new.places.is_full ≡ e.places.is_full)
+    (ordered : new.ordered ≡ e.ordered) (has : place_in e h ≡ Some p)
+    (others : (g : ℕ) → g ≢ h → place_in new g ≡ place_in e g) where
+  carried_by : ((m : ℕ) → Contains (offsets_from 0 (held e)) m → IsFoundIn e h m
+      → IsFoundIn new h m) → Carries e new
+  carried_by here = λ g m begun found. same_or _ g h
+      (λ same. rw same (here m begun (rw same at found)))
+      (λ other. rw (others g other, full, ordered) found)
+
+  -- that of strings which share it, and the one there is among those in order
+  pub carried_shared : place_in new h ≡ Some shared
+      → (Contains (offsets_from 0 (held e)) p → Contains e.ordered p) → Carries e new
+  carried_shared is there = carried_by (λ m begun found.
+      let among = found_by (Contains e.ordered m) e h m found
+      (λ own _. let same : m ≡ p = cc in rw same (there (rw same at begun)))
+      (λ among _. among) (λ among _ _. among) in
+      inr (rw ordered among, inl is))
+
+  -- the one there was forgotten
+  pub carried_over : p ≢ shared → (Contains (offsets_from 0 (held e)) p → ⊥) → Carries e new
+  carried_over own gone = carried_by (λ m begun found. found_by _ e h m found
+      (λ here _. let same : m ≡ p = cc in absurd (gone (rw same at begun)))
+      (λ _ common. let same : p ≡ shared = cc in absurd (own same))
+      (λ _ _ none. cc))
+
+-- each string is found where each was
+found_each : (e new : Entries) → IsHashed e → Carries e new → AreRelated (IsFoundIn new)
+    (map hash (held e)) (offsets_from 0 (held e))
+found_each e new table more = λ k less. more _ _
+    (Contains-get_or (offsets_from 0 (held e)) k 0
+    (omega (arith, less, length-map (held e) hash, length-offsets_from 0 (held e))))
+    (table.findable.found k less)
+
+-- the strings stay, and are found in another way
+pub hashed_kept : (e new : Entries) → IsHashed e → new.bytes.items ≡ e.bytes.items
+    → new.count ≡ e.count → IsIndexed e.bytes.items new.ordered → Carries e new → IsHashed new
+hashed_kept e new table is_new is_count indexed more = record {
+  findable = rw is_new (record {
+    indexed = indexed;
+    found = found_each e new table more;
+  });
+  counted = is_count ∙ table.counted ∙ sym (ap (λ l. length (strings_in l)) is_new);
+}
+
+-- lists that are related one by one, and one more of each
+related_push : (R : ℕ → ℕ → Type 0) (xs ys : List ℕ) (x y : ℕ) → length ys ≡ length xs
+    → AreRelated R xs ys → R x y → AreRelated R (xs ++ x ∷ []) (ys ++ y ∷ [])
+related_push R xs ys x y long related last = λ k less. ⊎_elim
+    (λ old. rw (
+      get_or_append_left xs (x ∷ []) 0 k old,
+      get_or_append_left ys (y ∷ []) 0 k
+          (omega (arith, long)),
+    ) (related k old))
+    (λ past.
+    let end : length xs ≡ k = omega (arith, less, past, length-append xs (x ∷ [])) in
+    rw (get_or_push xs x 0 k end, get_or_push ys y 0 k (long ∙ end)) last)
+    (cases_lt k (length xs))
+
+-- entries with a new string behind all others
+pub record IsAdded (e new : Entries) (s : List ℕ) (n : ℕ) : Type 0 where
+  pub table : IsHashed new
+  pub placed : IsPlaced (held e) (held new) s n
+  pub kept : take (length (held e)) (held new) ≡ held e
+
+pub added : (e new : Entries) (s : List ℕ) (h n : ℕ) → IsHashed e → IsZeroFree s → h ≡ hash s
+    → (Contains (held e) s → ⊥) → new.bytes.items ≡ e.bytes.items ++ terminated s
+    → n ≡ e.bytes.len → new.count ≡ e.count + 1
+    → IsIndexed (e.bytes.items ++ terminated s) new.ordered → Carries e new → IsFoundIn new h n
+    → IsAdded e new s n
+added e new s h n table free is_hash absent is_new is_long is_count indexed more last =
+    let ss = held e in
+    let ended = table.findable.indexed.ended in
+    let push : held new ≡ ss ++ s ∷ [] = ap strings_in is_new
+    ∙ (strings_push e.bytes.items s ended free).0 in
+    let long : n ≡ length e.bytes.items = omega (arith, is_long, e.bytes.ok.0) in
+    let far : 0 + length (data_of ss) ≡ n = omega (arith, ap length ended, long) in
+    record {
+      table = record {
+        findable = record {
+          indexed = rw is_new indexed;
+          found = rw (push, map-append, ← is_hash, offsets_from-append, far)
+              (related_push (IsFoundIn new) (map hash ss) (offsets_from 0 ss) h n
+              (length-offsets_from 0 ss ∙ sym (length-map ss hash))
+              (found_each e new table more) last);
+        };
+        counted = omega (
+          arith,
+          is_count,
+          table.counted,
+          ap length push,
+          length-append ss (s ∷ []),
+        );
+      };
+      placed = used_new e.bytes.items new.bytes.items s n ended free is_new long absent;
+      kept = ap (take (length ss)) push ∙ take_at ss (s ∷ []) _ refl;
+    }
+
+-- what a search that found no string says
+pub absent_there : (bytes now ordered s : List ℕ) (r : ℕ) (answer : Result ℕ ℕ) → now ≡ bytes
+    → answer ≡ Err r → IfErr answer (StandsAt now ordered s) → StandsAt bytes ordered s r
+absent_there bytes now ordered s r answer same is_err absent =
+    rw (is_err, same) at absent
+
+-- what is in a list is so when one more goes in
+pub among_more : (xs : List ℕ) (r y p : ℕ) → Contains xs p → Contains (insert xs r y) p
+among_more xs r y p there = Contains-permutation (y ∷ xs) (insert xs r y) p
+    (IsPermutation-insert xs r y) (suc there.0, omega (arith, there.1), there.2)
+
+pub among_one : (xs : List ℕ) (r y : ℕ) → Contains (insert xs r y) y
+among_one xs r y = Contains-permutation (y ∷ xs) (insert xs r y) y (IsPermutation-insert xs r y)
+    (0, omega arith, refl)
+
+-- a position of a string went to its rank, or none did
+pub inserted_or : (bytes ordered s : List ℕ) (r p : ℕ) (new : List ℕ)
+    (answer : Result (Unit {0}) AllocError) → IsIndexed bytes ordered → StandsAt bytes ordered s r
+    → Contains (offsets_from 0 (strings_in bytes)) p → string_from bytes p ≡ s
+    → OnOk answer (new ≡ insert ordered r p) → OnErr answer (new ≡ ordered)
+    → IsIndexed bytes new × ((q : ℕ) → Contains ordered q → Contains new q)
+inserted_or bytes ordered s r p new (Ok u) table stands there is ok err =
+    rw ok (indexed_more bytes ordered s r p table stands there is, among_more ordered r p)
+inserted_or bytes ordered s r p new (Err e) table stands there is ok err =
+    rw err (table, λ q among. among)
+
+-- back to the first strings
+pub findable_take : (bytes kept : List ℕ) (slots : List Slot) (size : ℕ) (is_full : Bool)
+    (ordered ordered' : List ℕ) (strings : List (List ℕ)) (n m : ℕ)
+    → IsFindable bytes slots size is_full ordered → strings_in bytes ≡ strings
+    → m ≡ length (data_of (take n strings)) → kept ≡ take m bytes
+    → ordered' ≡ filter (λ p. ltb p m) ordered
+    → (strings_in kept ≡ take n strings) × IsFindable kept slots size is_full ordered'
+findable_take bytes kept slots size is_full ordered ordered' strings n m table is_strings is_mark
+    is_kept is_ordered =
+    let ss = strings_in bytes in
+    let long : m ≡ length (data_of (take n ss)) = is_mark ∙ ap (λ l. length (data_of (take n l)))
+    (sym is_strings) in
+    let new = indexed_take bytes ordered n m table.indexed long in
+    let strings' : strings_in kept ≡ take n ss = ap strings_in is_kept ∙ new.0 in
+    let found : AreFound kept slots size is_full ordered' = λ k less.
+    let front : k < length (take n ss) =
+    omega (arith, less, length-map (strings_in kept) hash, ap length strings') in
+    let first : k < n = omega (arith, length-take n ss) in
+    let place = get_or (offsets_from 0 (take n ss)) k 0 in
+    let is_place : get_or (offsets_from 0 ss) k 0 ≡ place = rw (offsets_from-take n 0 ss)
+    (sym (get_or-take n (offsets_from 0 ss) k 0 first)) in
+    let below : place < m = omega (
+      arith,
+      offsets_from-below 0 (take n ss) k 0
+          (omega (arith, length-offsets_from 0 (take n ss))),
+      long,
+    ) in
+    rw (strings', ← take-map hash n ss, get_or-take n (map hash ss) k 0 first)
+    (⊎_elim (λ own. inl own)
+    (λ among. inr (
+      rw is_ordered (Contains-filter (λ p. ltb p m) ordered _ among.0.0 among.0.1 among.0.2
+          (lt-ltb _ m below)),
+      among.1,
+    ))
+    (rw is_place at (table.found k (omega (arith, length-take n ss, length-map ss hash))))) in (
+      strings' ∙ ap (take n) is_strings,
+      record { indexed = rw (is_kept, is_ordered) new.1; found = found },
+    )
+
+pub findable_table : (bytes : List ℕ) (slots : List Slot) (size : ℕ) (is_full : Bool)
+    (ordered : List ℕ) → IsFindable bytes slots size is_full ordered → IsTable (strings_in bytes)
+findable_table bytes slots size is_full ordered table = search (zero_free-strings_in)

@@ -1,0 +1,70 @@
+-- The strings of a section in which each is ended by a zero byte.
+use Rattle.std.proofs.Common.{◌≡◌, ◌≢◌, ℕ, true, false, eqb, List, [], ◌∷◌, ◌++◌, length, take}
+use Rattle.std.proofs.Common.{Option, Some, None, All, ap, sym, refl, ◌∙◌, arith, append_assoc}
+use Rattle.std.proofs.Common.{length-append, take_at, drop_at, ne_eqb, eq-eqb, eqb-true}
+use Rattle.std.specs.Option.{is_some}
+use Rattle.std.specs.List.{before_first, onto_first}
+use Rattle.std.proofs.lemmas.List.{get_or_at, get_or_append_left}
+use Rattle.std.proofs.lemmas.List.Sums.{position_or_len_is}
+use Rattle.std.proofs.lemmas.List.Elements.{All-nil, All-cons, All-head, All-tail}
+use Rattle.std.proofs.lemmas.Bool.{eqb-false}
+use Rattle.memchr.specs.Find.{IsFirstByte, is_byte}
+use Rattle.dwp_base.proofs.Bools.{by-bool}
+use Rattle.dwp_bytes.specs.StringOffsets.{string_from}
+use Rattle.dwp_strings.specs.Strings.{data_of, IsZeroFree, strings_in}
+
+pub before_first-ended : (s rest : List ℕ) → IsZeroFree s → before_first (λ b. eqb b 0)
+    (s ++ 0 ∷ rest) ≡ s
+before_first-ended s rest free =
+    ap (λ n. take n (s ++ 0 ∷ rest)) (position_or_len_is (λ b. eqb b 0) (s ++ 0 ∷ rest) (length s) 0
+    (omega (arith, length-append s (0 ∷ rest)))
+    (λ k below. ne_eqb _ 0 (λ e.
+    free k 0 below (sym (get_or_append_left s (0 ∷ rest) 0 k below) ∙ e)))
+    (λ _. eq-eqb _ 0 (get_or_at s 0 rest 0 (length s) refl)))
+    ∙ take_at s (0 ∷ rest) (length s) refl
+
+-- the string behind some bytes
+pub string_from-ended : (front s rest : List ℕ) (n : ℕ) → length front ≡ n → IsZeroFree s
+    → string_from (front ++ (s ++ 0 ∷ rest)) n ≡ s
+string_from-ended front s rest n long free =
+    ap (before_first (λ b. eqb b 0)) (drop_at front (s ++ 0 ∷ rest) n long) ∙
+    before_first-ended s rest free
+
+pub strings_in-ended : (s rest : List ℕ) → IsZeroFree s → strings_in (s ++ 0 ∷ rest) ≡ s
+    ∷ strings_in rest
+strings_in-ended [] rest free = refl
+strings_in-ended (b ∷ s) rest free =
+    let other : eqb b 0 ≡ false = ne_eqb b 0 (All-head (λ b. b ≢ 0) b s free) in
+    rw other (ap (onto_first b) (strings_in-ended s rest (All-tail (λ b. b ≢ 0) b s free)))
+
+pub data_of-cons : (s : List ℕ) (ss : List (List ℕ)) → data_of (s ∷ ss) ≡ s ++ 0 ∷ data_of ss
+data_of-cons s ss = append_assoc s (0 ∷ []) (data_of ss)
+
+pub strings_in-data_of : (ss : List (List ℕ)) → All IsZeroFree ss → strings_in (data_of ss) ≡ ss
+strings_in-data_of [] free = refl
+strings_in-data_of (s ∷ ss) free =
+    ap strings_in (data_of-cons s ss)
+    ∙ strings_in-ended s (data_of ss) (All-head IsZeroFree s ss free)
+    ∙ ap (λ l. s ∷ l) (strings_in-data_of ss (All-tail IsZeroFree s ss free))
+
+onto_first-zero_free : (b : ℕ) (ss : List (List ℕ)) → b ≢ 0 → All IsZeroFree ss
+    → All IsZeroFree (onto_first b ss)
+onto_first-zero_free b [] other free = All-cons IsZeroFree (b ∷ []) [] (All-cons (λ c. c ≢ 0) b []
+    other (All-nil _)) (All-nil _)
+onto_first-zero_free b (s ∷ ss) other free =
+    All-cons IsZeroFree (b ∷ s) ss (All-cons (λ c. c ≢ 0) b s other (All-head IsZeroFree s ss free))
+    (All-tail IsZeroFree s ss free)
+
+pub zero_free-strings_in : (bytes : List ℕ) → All IsZeroFree (strings_in bytes)
+zero_free-strings_in [] = All-nil _
+zero_free-strings_in (b ∷ bytes) =
+    let ss = strings_in bytes in
+    let rest = zero_free-strings_in bytes in
+    by-bool _ (eqb b 0) (λ e. rw e (All-cons IsZeroFree [] ss (All-nil _) rest))
+    (λ e. rw e (onto_first-zero_free b ss (eqb-false b 0 e) rest))
+
+-- bytes in which one was found aren't a table's string
+pub zero_within : (xs : List ℕ) (r : Option ℕ) → IsFirstByte (is_byte 0) xs r → is_some r ≡ true
+    → IsZeroFree xs → ⊥
+zero_within xs None h some free = cc
+zero_within xs (Some end) h some free = free end 0 h.0.high (eqb-true _ 0 h.1)

@@ -1,0 +1,261 @@
+-- Some positions of a table's strings, in the strings' order.
+use Rattle.std.proofs.Common.{◌≡◌, ◌≢◌, zero, suc, ◌+◌, List, ◌++◌, take, drop, refl, ⊎_elim, arith}
+use Rattle.std.proofs.Common.{ℕ, ◌<◌, ◌≤◌, ltb, [], ◌∷◌, All, ap, sym, ◌∙◌}
+use Rattle.std.proofs.Common.{length, get_or, filter, insert, AllPairs, Contains, take_at, ltb-true}
+use Rattle.std.proofs.Common.{length-append, append-nil, take-append-drop, length-take, get_or-take}
+use Rattle.std.proofs.lemmas.List.{get_or-map, get_or_default, flat_map_more, nil_from_length}
+use Rattle.std.proofs.lemmas.List.Elements.{All-cons, All-take, All-push, All-contains, All-filter}
+use Rattle.std.proofs.lemmas.List.Elements.{filter_passes, Contains-get_or, Contains-append_left}
+use Rattle.std.proofs.lemmas.List.Elements.{Contains-push, Contains-append_cases}
+use Rattle.std.proofs.lemmas.List.Kept.{AllPairs-cons, AllPairs-filter}
+use Rattle.std.proofs.lemmas.List.Sorted.{IsPermutation-insert, All-permutation}
+use Rattle.std.proofs.lemmas.Map.Made.{length-le_from_is_member, IsDistinct-from_AllPairs}
+use Rattle.std.proofs.lemmas.Map.Made.{is_member-Decides}
+use Rattle.std.proofs.lemmas.Bool.{cases_lt}
+use Rattle.std.proofs.lemmas.Bool.Decides.{Decides-eqb}
+use Rattle.std.proofs.lemmas.Cmp.{nat_list_cmp_total, nat_eq_equiv, tied_itself}
+use Rattle.std.proofs.lemmas.List.Concat.{flat_map-append}
+use Rattle.dwp_bytes.specs.StringOffsets.{string_from}
+use Rattle.dwp_strings.specs.Strings.{terminated, data_of, offset_of, IsZeroFree, strings_in}
+use Rattle.dwp_strings.specs.Strings.{offsets_from, IsBefore, IsIndexed, StandsAt}
+use Rattle.dwp_strings.proofs.StringLemmas.{strings_in-data_of, zero_free-strings_in}
+use Rattle.dwp_strings.proofs.StringLemmas.{string_from-ended}
+use Rattle.dwp_strings.proofs.OffsetLemmas.{map-string_from, length-offsets_from, offset_of-at}
+use Rattle.dwp_strings.proofs.OffsetLemmas.{AllPairs-rest, length-data_of-cons}
+use Rattle.dwp_strings.proofs.OffsetLemmas.{offsets_from-append, offsets_from-below}
+use Rattle.dwp_strings.proofs.OffsetLemmas.{distinct_push, offsets_from-above}
+
+-- a string that begins at an offset is the section's, whatever comes behind
+string_there : (bytes rest : List ℕ) (p : ℕ) → data_of (strings_in bytes) ≡ bytes
+    → (there : Contains (offsets_from 0 (strings_in bytes)) p)
+    → string_from (bytes ++ rest) p ≡ get_or (strings_in bytes) there.0 []
+string_there bytes rest p ended there =
+    let f = string_from (bytes ++ rest) in
+    let all = map-string_from [] (strings_in bytes) rest 0 refl (zero_free-strings_in bytes) in
+    sym (get_or-map f (offsets_from 0 (strings_in bytes)) there.0 p [] there.1 ∙ ap f there.2)
+    ∙ ap (λ l. get_or l there.0 []) (rw ended at all)
+
+-- each position is within the section
+pub positions_within : (bytes positions : List ℕ) → IsIndexed bytes positions
+    → All (λ p. p ≤ length bytes) positions
+positions_within bytes positions table = λ i d within.
+    let ss = strings_in bytes in
+    let low = All-contains (λ p. p < 0 + length (data_of ss)) (offsets_from 0 ss) _
+    (offsets_from-below 0 ss) (table.begun i d within) in
+    omega (arith, low, ap length table.ended)
+
+-- no string comes before itself
+not_before_itself : (s : List ℕ) → IsBefore s s → ⊥
+not_before_itself s less = let own = tied_itself nat_list_cmp_total s in cc
+
+-- the string that begins at an offset has that offset
+pub known_offset_in : (bytes s : List ℕ) (p : ℕ) → data_of (strings_in bytes) ≡ bytes
+    → AllPairs (λ s t. s ≢ t) (strings_in bytes) → Contains (offsets_from 0 (strings_in bytes)) p
+    → string_from bytes p ≡ s → Contains (strings_in bytes) s × (p ≡ offset_of (strings_in bytes) s)
+known_offset_in bytes s p ended distinct there is =
+    let ss = strings_in bytes in
+    let i = there.0 in
+    let within : i < length ss = omega (arith, there.1, length-offsets_from 0 ss) in
+    let string = sym (rw (append-nil bytes) at (string_there bytes [] p ended there)) ∙ is in
+    let offset = offset_of-at ss 0 i [] p distinct within in
+    rw (← string) (Contains-get_or ss i [] within, omega (arith, offset, there.2))
+
+-- a position is such an offset
+pub known_position : (bytes positions s : List ℕ) (r p : ℕ) → IsIndexed bytes positions
+    → r < length positions → p ≡ get_or positions r 0 → string_from bytes p ≡ s
+    → Contains (strings_in bytes) s × (p ≡ offset_of (strings_in bytes) s)
+known_position bytes positions s r p table within is_position is =
+    known_offset_in bytes s p table.ended table.distinct (rw is_position (table.begun r 0 within))
+    is
+
+-- a string that would stand at a rank isn't at any position
+pub stands_apart : (bytes positions s : List ℕ) (r p : ℕ) → StandsAt bytes positions s r
+    → Contains positions p → string_from bytes p ≡ s → ⊥
+stands_apart bytes positions s r p stands there is =
+    let k = there.0 in
+    let same : string_from bytes (get_or positions k 0) ≡ s =
+    ap (string_from bytes) (get_or_default positions k 0 p there.1 ∙ there.2) ∙ is in
+    ⊎_elim (λ less. not_before_itself s (rw same at (stands.before k less)))
+    (λ more. not_before_itself s (rw same at (stands.behind k more there.1))) (cases_lt k r)
+
+-- no more positions than strings
+pub positions_few : (bytes positions : List ℕ) → IsIndexed bytes positions
+    → length positions ≤ length (strings_in bytes)
+positions_few bytes positions table =
+    let offsets = offsets_from 0 (strings_in bytes) in
+    let few = length-le_from_is_member nat_eq_equiv positions offsets
+    (IsDistinct-from_AllPairs Decides-eqb positions (λ i j d less within same.
+    not_before_itself (string_from bytes (get_or positions j d))
+    (rw same at (table.sorted i j d less within))))
+    (λ q there. (is_member-Decides Decides-eqb offsets q).1 (All-contains (Contains offsets)
+    positions q table.begun ((is_member-Decides Decides-eqb positions q).0 there))) in
+    omega (arith, few, length-offsets_from 0 (strings_in bytes))
+
+-- a list stays in order when a number goes between what is before it and what is behind
+pub insert_in_order : (R : ℕ → ℕ → Type 0) (xs : List ℕ) (r y : ℕ) → AllPairs R xs → r ≤ length xs
+    → ((k : ℕ) → k < r → R (get_or xs k 0) y) → ((k : ℕ) → r ≤ k → k < length xs
+    → R y (get_or xs k 0)) → AllPairs R (insert xs r y)
+insert_in_order R xs zero y apart fits before behind = AllPairs-cons R y xs (λ k d within.
+    rw (get_or_default xs k d 0 within) (behind k (omega arith) within)) apart
+insert_in_order R [] (suc r) y apart fits before behind = absurd (omega arith)
+insert_in_order R (x ∷ xs) (suc r) y apart fits before behind =
+    let rest = AllPairs-rest R x xs apart in
+    AllPairs-cons R x (insert xs r y)
+    (All-permutation (R x) (y ∷ xs) (insert xs r y) (IsPermutation-insert xs r y)
+    (All-cons (R x) y xs (before 0 (omega arith)) (λ k d within.
+    apart 0 (suc k) d (omega arith) (omega arith))))
+    (insert_in_order R xs r y rest (omega arith) (λ k less. before (suc k) (omega arith))
+    (λ k low within. behind (suc k) (omega arith) (omega arith)))
+
+-- strings stay where they are when bytes come behind them
+agree_longer : (bytes rest positions : List ℕ) → data_of (strings_in bytes) ≡ bytes
+    → All (λ p. Contains (offsets_from 0 (strings_in bytes)) p) positions
+    → All (λ p. string_from bytes p ≡ string_from (bytes ++ rest) p) positions
+agree_longer bytes rest positions ended begun = λ k d within.
+    let there = begun k d within in
+    rw (append-nil bytes) at (string_there bytes [] _ ended there)
+    ∙ sym (string_there bytes rest _ ended there)
+
+order_agrees : (f g : ℕ → List ℕ) (xs : List ℕ) → All (λ x. f x ≡ g x) xs
+    → AllPairs (λ p q. IsBefore (f p) (f q)) xs → AllPairs (λ p q. IsBefore (g p) (g q)) xs
+order_agrees f g xs agree h = λ i j d less within.
+    rw (agree i d (omega arith), agree j d within) at (h i j d less within)
+
+-- a string goes last
+pub strings_push : (bytes s : List ℕ) → data_of (strings_in bytes) ≡ bytes → IsZeroFree s
+    → (strings_in (bytes ++ terminated s) ≡ strings_in bytes ++ s ∷ [])
+    × (data_of (strings_in (bytes ++ terminated s)) ≡ bytes ++ terminated s)
+strings_push bytes s ended free =
+    let ss = strings_in bytes in
+    let whole : data_of (ss ++ s ∷ []) ≡ bytes ++ terminated s =
+    sym (flat_map_more terminated [] ss s) ∙ ap (λ l. l ++ terminated s) ended in
+    let free = All-push IsZeroFree ss s (zero_free-strings_in bytes) free in
+    let strings = rw whole at (strings_in-data_of (ss ++ s ∷ []) free) in
+    (strings, ap data_of strings ∙ whole)
+
+-- where its strings begin
+grown_offsets : (bytes s : List ℕ) → data_of (strings_in bytes) ≡ bytes → IsZeroFree s
+    → offsets_from 0 (strings_in (bytes ++ terminated s)) ≡ offsets_from 0 (strings_in bytes)
+    ++ length bytes ∷ []
+grown_offsets bytes s ended free =
+    let far : 0 + length (data_of (strings_in bytes)) ≡ length bytes =
+    omega (arith, ap length ended) in
+    rw ((strings_push bytes s ended free).0, offsets_from-append 0 (strings_in bytes) (s ∷ []), far)
+    refl
+
+-- a new string goes last
+pub indexed_push : (bytes positions s : List ℕ) → IsIndexed bytes positions → IsZeroFree s
+    → (Contains (strings_in bytes) s → ⊥) → IsIndexed (bytes ++ terminated s) positions
+indexed_push bytes positions s table free absent =
+    let ss = strings_in bytes in
+    let push = strings_push bytes s table.ended free in
+    let offsets = offsets_from 0 ss in
+    record {
+      ended = push.1;
+      distinct = rw push.0 (distinct_push ss s table.distinct absent);
+      begun = rw (grown_offsets bytes s table.ended free) (λ i d within.
+          Contains-append_left offsets (length bytes ∷ []) _ (table.begun i d within));
+      sorted = order_agrees (string_from bytes) (string_from (bytes ++ terminated s)) positions
+          (agree_longer bytes (terminated s) positions table.ended table.begun) table.sorted;
+    }
+
+-- a position of a string of the section goes to its rank
+pub indexed_more : (bytes positions s : List ℕ) (r p : ℕ) → IsIndexed bytes positions
+    → StandsAt bytes positions s r → Contains (offsets_from 0 (strings_in bytes)) p
+    → string_from bytes p ≡ s → IsIndexed bytes (insert positions r p)
+indexed_more bytes positions s r p table stands there is = record {
+  ended = table.ended;
+  distinct = table.distinct;
+  begun = All-permutation (λ q. Contains (offsets_from 0 (strings_in bytes)) q) (p ∷ positions) _
+      (IsPermutation-insert positions r p)
+      (All-cons (λ q. Contains (offsets_from 0 (strings_in bytes)) q) p positions there
+      table.begun);
+  sorted = insert_in_order (λ p q. IsBefore (string_from bytes p) (string_from bytes q)) positions r
+      p table.sorted stands.within
+      (λ k below. rw is (stands.before k below))
+      (λ k above within. rw is (stands.behind k above within));
+}
+
+-- a new string goes last, and its position to its rank
+pub indexed_both : (bytes positions s : List ℕ) (r : ℕ) → IsIndexed bytes positions → IsZeroFree s
+    → StandsAt bytes positions s r → (Contains (strings_in bytes) s → ⊥)
+    → IsIndexed (bytes ++ terminated s) (insert positions r (length bytes))
+indexed_both bytes positions s r table free stands absent =
+    let offsets = offsets_from 0 (strings_in bytes) in
+    let agree = agree_longer bytes (terminated s) positions table.ended table.begun in
+    indexed_more (bytes ++ terminated s) positions s r (length bytes)
+    (indexed_push bytes positions s table free absent)
+    (record {
+      within = stands.within;
+      before = λ k below. rw (agree k 0 (omega (arith, stands.within))) at (stands.before k below);
+      behind = λ k above within. rw (agree k 0 within) at (stands.behind k above within);
+    })
+    (rw (grown_offsets bytes s table.ended free) (Contains-push offsets (length bytes)))
+    (string_from-ended bytes s [] (length bytes) refl free)
+
+-- back to the first strings
+pub indexed_take : (bytes positions : List ℕ) (n m : ℕ) → IsIndexed bytes positions
+    → m ≡ length (data_of (take n (strings_in bytes)))
+    → (strings_in (take m bytes) ≡ take n (strings_in bytes)) × IsIndexed (take m bytes)
+    (filter (λ p. ltb p m) positions)
+indexed_take bytes positions n m table long =
+    let ss = strings_in bytes in
+    let front = take n ss in
+    let back = drop n ss in
+    let short = take m bytes in
+    let few = filter (λ p. ltb p m) positions in
+    let parts : data_of front ++ data_of back ≡ bytes =
+    sym (flat_map-append terminated front back) ∙ ap data_of (take-append-drop n ss)
+    ∙ table.ended in
+    let kept : data_of front ≡ short =
+    sym (take_at (data_of front) (data_of back) m (sym long)) ∙ ap (take m) parts in
+    let free = All-take IsZeroFree n ss (zero_free-strings_in bytes) in
+    let strings = rw kept at (strings_in-data_of front free) in
+    let whole : data_of (strings_in short) ≡ short = ap data_of strings ∙ kept in
+    let parted = rw (take-append-drop n ss) at (offsets_from-append 0 front back) in
+    let begun : All (λ p. Contains (offsets_from 0 (strings_in short)) p) few = λ i d within.
+    let low = ltb-true _ m (filter_passes (λ p. ltb p m) positions i d within) in
+    let there = All-filter (λ p. ltb p m) (λ p. Contains (offsets_from 0 ss) p) positions
+    table.begun i d within in
+    let end = 0 + length (data_of front) in
+    rw strings (⊎_elim (λ here. here) (λ far. absurd (omega (
+      arith,
+      low,
+      long,
+      All-contains
+          (λ p. end ≤ p) (offsets_from end back) _ (offsets_from-above end back) far,
+    )))
+    (Contains-append_cases (offsets_from 0 front) _ _ (rw parted at there))) in
+    let agree = rw (take-append-drop m bytes)
+    at (agree_longer short (drop m bytes) few whole begun) in (
+      strings,
+      record {
+        ended = whole;
+        distinct = rw strings (λ i j d less within. let long = length-take n ss in
+            rw (get_or-take n ss i d (omega arith), get_or-take n ss j d (omega arith))
+            (table.distinct i j d less (omega arith)));
+        begun = begun;
+        sorted = order_agrees (string_from bytes) (string_from short) few
+            (λ i d within. sym (agree i d within))
+            (AllPairs-filter (λ p q. IsBefore (string_from bytes p) (string_from bytes q))
+            (λ p. ltb p m) positions table.sorted);
+      },
+    )
+
+pub strings_few : (ss : List (List ℕ)) → length ss ≤ length (data_of ss)
+strings_few [] = omega arith
+strings_few (s ∷ ss) = omega (arith, strings_few ss, length-data_of-cons s ss)
+
+-- nothing came after a mark of so many bytes
+pub nothing_after : (bytes : List ℕ) (strings : List (List ℕ)) (n m : ℕ)
+    → data_of (strings_in bytes) ≡ bytes → strings_in bytes ≡ strings
+    → m ≡ length (data_of (take n strings)) → length bytes ≤ m → strings ≡ take n strings
+nothing_after bytes strings n m ended is_strings is_mark long =
+    let front = take n strings in
+    let back = drop n strings in
+    let parts = take-append-drop n strings in
+    let whole = ap length (flat_map-append terminated front back)
+    ∙ length-append (data_of front) (data_of back) in
+    let few = ap length (ap data_of parts ∙ rw is_strings at ended) in
+    let none = nil_from_length back (omega (arith, strings_few back, whole, few)) in
+    sym parts ∙ ap (λ l. front ++ l) none ∙ append-nil front

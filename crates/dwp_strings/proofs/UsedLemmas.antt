@@ -1,0 +1,48 @@
+-- A string of a section that is used.
+use Rattle.std.proofs.Common.{◌≡◌, ℕ, false, List, [], ◌∷◌, ◌++◌, length, Ok, Err, Contains, ap}
+use Rattle.std.proofs.Common.{sym, ◌∙◌, append_assoc, Result, Some}
+use Rattle.std.specs.Result.{result_ok}
+use Rattle.std.specs.List.{list_any}
+use Rattle.std.specs.Str.{bytes_eq}
+use Rattle.std.proofs.lemmas.Bool.{false_from_ne_true, cond-true, cond-false}
+use Rattle.dwp_bytes.specs.StringOffsets.{string_from}
+use Rattle.dwp_strings.specs.Strings.{terminated, data_of, offset_of, strings_in, IsZeroFree}
+use Rattle.dwp_strings.specs.Strings.{BeginsAt, IsIndexed}
+use Rattle.dwp_strings.specs.Hashed.{IsPlaced}
+use Rattle.dwp_strings.proofs.OffsetLemmas.{offset_of-absent, has_Decides}
+use Rattle.dwp_strings.proofs.TableLemmas.{strings_push}
+use Rattle.dwp_strings.proofs.PlaceLemmas.{known_place_in}
+
+-- a string that is there
+pub used_found : (ss : List (List ℕ)) (s : List ℕ) (p : ℕ) → Contains ss s → p ≡ offset_of ss s
+    → IsPlaced ss ss s p
+used_found ss s p there is = (is, sym (cond-true _ _ _ ((has_Decides ss s).1 there)))
+
+-- a string that stands where it was looked for
+pub used_there : (bytes positions s : List ℕ) (at : ℕ) → IsIndexed bytes positions
+    → BeginsAt bytes at × (string_from bytes at ≡ s)
+    → IsPlaced (strings_in bytes) (strings_in bytes) s at
+used_there bytes positions s at table here =
+    let known = known_place_in bytes s at table.ended table.distinct here.0 here.1 in
+    used_found (strings_in bytes) s at known.0 known.1
+
+-- a new one, which went last
+pub used_new : (bytes new s : List ℕ) (n : ℕ) → data_of (strings_in bytes) ≡ bytes → IsZeroFree s
+    → new ≡ bytes ++ terminated s → n ≡ length bytes → (Contains (strings_in bytes) s → ⊥)
+    → IsPlaced (strings_in bytes) (strings_in new) s n
+used_new bytes new s n ended free is_new is_long absent =
+    let none : list_any (λ t. bytes_eq t s) (strings_in bytes) ≡ false =
+    false_from_ne_true _ (λ e. absent ((has_Decides (strings_in bytes) s).0 e)) in (
+      is_long ∙ ap length (sym ended) ∙ sym (offset_of-absent (strings_in bytes) s none),
+      ap strings_in is_new ∙ (strings_push bytes s ended free).0 ∙ sym (cond-false _ _ _ none),
+    )
+
+-- the bytes of a string and of its end, one after the other
+pub two_pushes : (bytes kept longer new s : List ℕ) → kept ≡ bytes → longer ≡ kept ++ s
+    → new ≡ longer ++ 0 ∷ [] → new ≡ bytes ++ terminated s
+two_pushes bytes kept longer new s e1 e2 e3 = rw (e3, e2, e1) (append_assoc bytes s (0 ∷ []))
+
+-- a result whose value was taken
+pub ok_from_some : {A E : Type 0} (r : Result A E) (x : A) → result_ok r ≡ Some x → r ≡ Ok x
+ok_from_some (Ok y) x is = cc
+ok_from_some (Err e) x is = cc

@@ -1,0 +1,35 @@
+use Rattle.std.proofs.Common.{◌+◌, ◌∙◌, inl, sym, refl, arith, rules}
+use Rattle.std.proofs.lemmas.Bool.{false≢true}
+use Rattle.dwp_strings.specs.Strings.{BeginsAt}
+use Rattle.dwp_strings.proofs.UsedLemmas.{two_pushes}
+use Rattle.dwp_strings.proofs.HashedLemmas.{added, entries_few, misplaced, carried_over}
+use Rattle.dwp_strings.proofs.HashedLemmas.{begins_at_offset}
+use Rattle.dwp_strings.proofs.TableLemmas.{indexed_push}
+use Rattle.dwp_strings.proofs.entries.Entries.add_over.Goals as goal
+
+pub overflow_add-self : goal.overflow_add-self
+overflow_add-self c = omega (arith, (entries_few c.args.self.now c.requires.table).0)
+
+pub returns : goal.returns
+returns c =
+    let e = c.args.self.now in
+    let new = record e {
+      bytes = c.push.new.self;
+      count = e.count + 1;
+      places = c.give.new.self;
+    } in
+    let s = c.args.string.now in
+    let table = c.requires.table in
+    let gone : BeginsAt e.bytes.items c.args.place → ⊥ = λ begins. false≢true
+    (sym c.if-begins_at.false ∙ c.begins_at.ensures.1 (rw c.as_slice.ensures.value begins)) in
+    let absent = misplaced e table s c.args.hash c.requires.hashed c.args.place c.requires.has
+    c.requires.own (λ here. gone here.0) in
+    let done = added e new s c.args.hash _ table c.requires.zero_free c.requires.hashed absent
+    (two_pushes _ _ _ _ _ c.reserve.ensures.items (rw c.unwrap.ensures at
+    c.extend_from_slice.ensures.items) (rw c.unwrap-2.ensures at c.push.ensures.items))
+    c.len-last.ensures refl
+    (indexed_push e.bytes.items e.ordered s table.findable.indexed c.requires.zero_free absent)
+    (carried_over e new c.args.hash c.args.place c.give.ensures.full refl c.requires.has
+    c.give.ensures.others c.requires.own (λ begun. gone (begins_at_offset e table _ begun)))
+    (inl (c.if-not-give.ensures.given refl _ c.requires.has, c.if-not-give.ensures.fits refl)) in
+    search rules

@@ -1,0 +1,18 @@
+use Rattle.std.proofs.Common.{◌∙◌, ap, refl}
+use Rattle.dwp_strings.specs.declared.places.Places.{Places}
+use Rattle.dwp_strings.specs.Places.{place_of}
+use Rattle.dwp_strings.proofs.HashedLemmas.{hashed_kept, carried_shared, begins_at_offset}
+use Rattle.dwp_strings.proofs.entries.Entries.share.Goals as goal
+
+pub returns-clause-table : goal.returns-clause-table
+returns-clause-table c =
+    let e = c.keep_ordered.new.self in
+    let table = c.keep_ordered.ensures.table in
+    let has = ap (λ (p : Places). place_of p.slots.items p.size c.args.hash)
+    c.keep_ordered.ensures.places
+    ∙ c.requires.has in
+    let new = record e { places = c.share.new.self } in
+    hashed_kept e new table refl refl table.findable.indexed
+    (carried_shared e new c.args.hash c.args.place c.share.ensures.full refl has
+    c.share.ensures.others (c.share.ensures.shared _ has)
+    (λ begun. c.in_ok-keep_ordered.ensures.there (begins_at_offset e table _ begun)))

@@ -1,0 +1,11 @@
+use Rattle.std.proofs.Common.{◌≡◌, ◌≢◌, ℕ, ◌<◌, ◌-◌, Some, length, get_or}
+use Rattle.dwp_strings.specs.Places.{free, place_of}
+use Rattle.dwp_strings.proofs.places.put_again.Given as goal
+
+abbrev pub invariant-loop-number : goal.invariant-loop-number
+invariant-loop-number l = record {
+  same : (j : ℕ) → j < l.number → (get_or l.others j free).behind ≢ 0
+      → place_of l.slots l.size (get_or l.others j free).hash
+      ≡ Some ((get_or l.others j free).behind - 1);
+  long : length l.slots ≡ length l.initial.slots;
+}

@@ -1,0 +1,78 @@
+use Rattle.std.proofs.Common.{◌≡◌, ◌↔◌, ◌∙◌, false, true, Contains, Some, inl, inr, ap, sym, refl}
+use Rattle.std.proofs.Common.{arith}
+use Rattle.std.proofs.lemmas.List.Elements.{All-contains}
+use Rattle.std.proofs.lemmas.Bool.{false≢true}
+use Rattle.dwp_strings.specs.Strings.{IsZeroFree, offset_of}
+use Rattle.dwp_strings.specs.Places.{place_of, IsOrdered}
+use Rattle.dwp_strings.specs.Hashed.{held}
+use Rattle.dwp_strings.proofs.StringLemmas.{zero_within, zero_free-strings_in}
+use Rattle.dwp_strings.proofs.PlaceLemmas.{known_place_in}
+use Rattle.dwp_strings.proofs.HashedLemmas.{misplaced, unplaced, unordered, absent_there}
+use Rattle.dwp_strings.proofs.TableLemmas.{positions_few}
+use Rattle.dwp_strings.proofs.table.StringTable.find_counted.Goals as goal
+use Rattle.dwp_strings.proofs.table.StringTable.find_counted.Goals.{in-Ok, in-Err}
+
+is_absent : {P : Type 0} → (P → ⊥) → (false ≡ true) ↔ P
+is_absent absent = (λ e. absurd (false≢true e), λ there. absurd (absent there))
+
+pub returns-then-is_some-clause-found : goal.returns-then-is_some-clause-found
+returns-then-is_some-clause-found c = rw (← c.self.view_is) (is_absent (λ there. zero_within _ _
+    c.memchr.ensures (sym c.is_some.ensures ∙ c.if-is_some.true) (All-contains IsZeroFree _ _
+    (zero_free-strings_in c.self.inside.entries.bytes.items) there)))
+
+pub returns-in-Err-2-clause-found : goal.returns-in-Err-2-clause-found
+returns-in-Err-2-clause-found c = rw (← c.self.view_is) (is_absent (unplaced _ c.self.invariant
+    c.args.string.now c.hash.result c.hash.ensures c.if-self.false c.in-Err-2.ensures.none))
+
+pub returns-in-Ok-place-clause-count : goal.returns-in-Ok-place-clause-count
+returns-in-Ok-place-clause-count c = rw (← c.self.view_is) (λ k few. c.search-found.ensures.count
+    k (omega (arith, positions_few _ _ c.self.invariant.findable.indexed)))
+
+pub returns-in-Err-place-clause-count : goal.returns-in-Err-place-clause-count
+returns-in-Err-place-clause-count c = rw (← c.self.view_is) (λ k few. c.search-found.ensures.count
+    k (omega (arith, positions_few _ _ c.self.invariant.findable.indexed)))
+
+pub returns-in-Err-place-clause-found : goal.returns-in-Err-place-clause-found
+returns-in-Err-place-clause-found c =
+    let e = c.self.inside.entries in
+    let stands = absent_there e.bytes.items _ e.ordered c.args.string.now _
+    c.search-found.result.place c.as_slice.ensures.value c.in-Err-place.is
+    c.search-found.ensures.absent in
+    let leads : IsOrdered e.places.slots.items e.places.size e.places.is_full c.hash.result =
+    elim c.match-seek.branch [
+      | in-Ok w ↦ inl (w.in-Ok.ensures.found ∙ ap Some (omega (
+        arith,
+        w.place-is,
+        c.if-place-eq-SHARED.true,
+      )))
+      | in-Err w ↦ inr (w.if-self.true, w.in-Err.ensures.none)
+    ] in
+    rw (← c.self.view_is) (is_absent (unordered e c.self.invariant c.args.string.now c.hash.result
+    c.hash.ensures _ leads stands))
+
+-- the string stands where its hash says
+known : (c : goal.Then-stands_at) → Contains (held c.self.inside.entries) c.args.string.now
+    × (c.match-seek.place ≡ offset_of (held c.self.inside.entries) c.args.string.now)
+known c =
+    let here = rw c.deref.ensures.value at (c.stands_at.ensures.0 c.if-stands_at.true) in
+    let table = c.self.invariant.findable.indexed in
+    known_place_in _ _ _ table.ended table.distinct here.0 here.1
+
+pub returns-then-stands_at-clause-found : goal.returns-then-stands_at-clause-found
+returns-then-stands_at-clause-found c = rw (← c.self.view_is) (λ _. (known c).0, λ _. refl)
+
+pub returns-then-stands_at-clause-offset : goal.returns-then-stands_at-clause-offset
+returns-then-stands_at-clause-offset c = rw (← c.self.view_is) (known c).1
+
+pub returns-else-stands_at-clause-found : goal.returns-else-stands_at-clause-found
+returns-else-stands_at-clause-found c =
+    let e = c.self.inside.entries in
+    let has : place_of e.places.slots.items e.places.size c.hash.result ≡ Some c.match-seek.place =
+    elim c.match-seek.branch [
+      | in-Ok w ↦ w.in-Ok.ensures.found ∙ ap Some (sym w.place-is)
+      | in-Err w ↦ absurd (c.if-place-eq-SHARED.false w.place-is)
+    ] in
+    rw (← c.self.view_is) (is_absent (misplaced e c.self.invariant c.args.string.now c.hash.result
+    c.hash.ensures c.match-seek.place has (λ same. c.if-place-eq-SHARED.false (omega (arith, same)))
+    (λ here. false≢true (sym c.if-stands_at.false ∙ c.stands_at.ensures.1
+    (rw c.deref.ensures.value here)))))

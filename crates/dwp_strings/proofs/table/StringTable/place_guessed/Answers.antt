@@ -1,0 +1,12 @@
+use Rattle.dwp_strings.proofs.UsedLemmas.{used_there}
+use Rattle.dwp_strings.proofs.table.StringTable.place_guessed.Goals as goal
+
+pub returns-then-begins_alike-clause-placed : goal.returns-then-begins_alike-clause-placed
+returns-then-begins_alike-clause-placed c =
+    rw (← c.self.view_is) (used_there _ _ _ _ c.self.invariant.findable.indexed
+    (rw c.deref.ensures.value at (c.begins_alike.ensures c.if-begins_alike.true)))
+
+pub returns-then-begins_alike-2-clause-placed : goal.returns-then-begins_alike-2-clause-placed
+returns-then-begins_alike-2-clause-placed c =
+    rw (← c.self.view_is) (used_there _ _ _ _ c.self.invariant.findable.indexed
+    (rw c.deref-in-Ok.ensures.value at (c.begins_alike-in-Ok.ensures c.if-begins_alike-2.true)))

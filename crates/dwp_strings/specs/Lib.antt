@@ -1,0 +1,6 @@
+pub mod Strings
+pub mod Marks
+pub mod Chunks
+pub mod Places
+pub mod Hashed
+pub mod Ends

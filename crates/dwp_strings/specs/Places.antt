@@ -1,0 +1,67 @@
+-- Places of strings by their hashes. A slot keeps a hash, which tells where its search begins.
+use Rattle.std.specs.Prelude.{◌≡◌, ◌≢◌, ◌≤◌, ℕ, zero, suc, ◌+◌, ◌-◌, ◌*◌, ◌/◌, ◌%◌, ◌^◌, ◌<◌, ◌==◌}
+use Rattle.std.specs.Prelude.{◌⊎◌, if◌then◌else◌, Bool, true, List, Option, None, Some, length, map}
+use Rattle.std.specs.Prelude.{slice_index, slice_index_or, Contains}
+use Rattle.std.specs.Hash.FoldHasher.{initial, write, finish}
+use Rattle.dwp_strings.specs.declared.places.Slot.{Slot}
+use Rattle.dwp_strings.specs.Strings.{strings_in, offsets_from}
+
+-- std's hash of a string, 64 bits, and the lower half of it, by which a place is kept
+unfoldable pub wide : List ℕ → ℕ
+wide s = finish (write initial s)
+
+abbrev pub hash : List ℕ → ℕ
+hash s = wide s % 2 ^ 32
+
+-- a slot without a place
+abbrev pub free : Slot
+free = record { hash = 0; behind = 0 }
+
+-- the place that the first slot of a hash has, of so many from one on, and before a free one
+abbrev pub place_from : List Slot → ℕ → ℕ → ℕ → Option ℕ
+place_from slots at zero h = None
+place_from slots at (suc n) h =
+    if (slice_index_or slots at free).behind == 0
+    then None
+    else (if (slice_index_or slots at free).hash == h
+    then Some ((slice_index_or slots at free).behind - 1)
+    else place_from slots (at + 1) n h)
+
+-- the first slot of a hash: that is a part of 2 ^ 32, and this the same part of so many slots
+abbrev pub home : ℕ → ℕ → ℕ
+home size h = h * size / 2 ^ 32
+
+-- the place that a hash has
+unfoldable pub place_of : List Slot → ℕ → ℕ → Option ℕ
+place_of slots size h = place_from slots (home size h) 128 h
+
+-- the place of a hash that strings share, at which none of them is kept
+abbrev pub shared : ℕ
+shared = 2 ^ 32 - 2
+
+-- a slot is the next for a hash: a free one of its own, behind used ones
+pub record IsNext (slots : List Slot) (size h number : ℕ) : Type 0 where
+  pub unused : (slice_index_or slots number free).behind ≡ 0
+  pub from : home size h ≤ number
+  pub within : number < home size h + 128
+  pub used : (j : ℕ) → home size h ≤ j → j < number → (slice_index_or slots j free).behind ≢ 0
+
+-- strings of a hash are looked for in their order: they share it, or it has no place where no more
+-- get one
+abbrev pub IsOrdered : List Slot → ℕ → Bool → ℕ → Type 0
+IsOrdered slots size is_full h =
+    (place_of slots size h ≡ Some shared) ⊎ ((is_full ≡ true) × (place_of slots size h ≡ None))
+
+-- a string of a hash at a place is found: the hash has the place, or that is among those in order
+abbrev pub IsFound : List Slot → ℕ → Bool → List ℕ → ℕ → ℕ → Type 0
+IsFound slots size is_full ordered h n = ((place_of slots size h ≡ Some n) × (n < shared))
+    ⊎ (Contains ordered n × IsOrdered slots size is_full h)
+
+-- numbers of two lists are related one by one
+abbrev pub AreRelated : (ℕ → ℕ → Type 0) → List ℕ → List ℕ → Type 0
+AreRelated R xs ys = (k : ℕ) → k < length xs → R (slice_index xs k) (slice_index ys k)
+
+-- each string of a section is found
+abbrev pub AreFound : List ℕ → List Slot → ℕ → Bool → List ℕ → Type 0
+AreFound bytes slots size is_full ordered = AreRelated (IsFound slots size is_full ordered)
+    (map hash (strings_in bytes)) (offsets_from 0 (strings_in bytes))

@@ -1,0 +1,342 @@
+//! Places of strings by their hashes, none of which is lost.
+
+ghost use Rattle.std.specs.Prelude.{◌≡◌, ◌≢◌, ◌<◌, ◌≤◌, ◌+◌, ◌-◌, ◌^◌, ℕ, length, Some, None};
+ghost use Rattle.std.specs.Prelude.{IfSome, IsTrue, OnErr, IfOk, IfErr, true, false};
+ghost use Rattle.std.specs.Prelude.{slice_index_or};
+ghost use Rattle.dwp_strings.specs.Places.{free, place_of, home, shared, IsNext};
+
+use std::alloc::Global;
+
+/// How many slots are looked at for a hash.
+const PROBES: usize = 128;
+
+/// How many slots hashes begin at, at first.
+const FIRST_SIZE: u32 = 1024;
+
+/// At how many then.
+const SOME: u32 = 3 << 14;
+
+/// And then; three times as many after that, and from there on twice as many.
+const MANY: u32 = 1 << 18;
+
+/// A free slot: `behind` alone tells that. (Not all of its bytes are zero: so many are written 16 bytes
+/// at a time.)
+const FREE: Slot = Slot { hash: 1, behind: 0 };
+
+/// The place of a hash that strings share, at which none of them is kept.
+pub(crate) const SHARED: usize = 0xffff_fffe;
+
+/// A hash, and one more than the place that it has; 0 in a free slot.
+#[derive(Clone, Copy)]
+pub(crate) struct Slot {
+    hash: u32,
+    behind: u32,
+}
+
+/// One more than a place, where a slot has room for it.
+fn behind(place: usize) -> Option<u32>
+    ensures value { IfSome result (λ behind. behind ≡ place + 1) }
+    ensures fits { IfSome result (λ _. place < shared) }
+{
+    if place >= SHARED {
+        return None;
+    }
+    Some(place as u32 + 1)
+}
+
+/// The first slot of a hash.
+fn home(size: u32, hash: u32) -> usize
+    ensures value { result ≡ home size hash }
+    ensures small { result < 2 ^ 32 }
+{
+    (u64::from(hash) * u64::from(size) >> 32) as usize
+}
+
+/// The slot behind the last one of a hash.
+#[inline(always)]
+fn behind_last(slots: &[Slot], home: usize) -> usize
+    requires { home < 2 ^ 32 }
+    ensures within { result ≤ length slots.now }
+    ensures near { result ≤ home + 128 }
+    ensures far { result < home + 128 → result ≡ length slots.now }
+{
+    if slots.len() < home + PROBES {
+        slots.len()
+    } else {
+        home + PROBES
+    }
+}
+
+/// The place that a hash has in these slots; the slot that is next for it where it has none, which is
+/// past all of them where none of the hash's is free.
+#[inline(always)]
+fn seek(slots: &[Slot], size: u32, hash: u32) -> Result<usize, usize>
+    ensures found { IfOk result (λ place. place_of slots.now size hash ≡ Some place) }
+    ensures fits { IfOk result (λ place. place < 2 ^ 32) }
+    ensures none { OnErr result (place_of slots.now size hash ≡ None) }
+    ensures next { IfErr result (λ number. number < length slots.now
+        → IsNext slots.now size hash number) }
+{
+    let home = home(size, hash);
+    let last = behind_last(slots, home);
+    for number in home..last {
+        let slot = slots[number];
+        if slot.behind == 0 {
+            return Err(number);
+        }
+        if slot.hash == hash {
+            return Ok(slot.behind as usize - 1);
+        }
+    }
+    Err(slots.len())
+}
+
+/// Puts a slot where it is next for its hash, if there is a free one.
+#[inline(always)]
+fn put_next(slots: &mut [Slot], number: usize, slot: Slot) -> bool
+    requires some { slot.behind ≢ 0 }
+    requires free { number < length slots.old → (slice_index_or slots.old number free).behind ≡ 0 }
+    ensures put { IsTrue result → (size n : ℕ) → IsNext slots.old size slot.hash number
+        → place_of slots.old size slot.hash ≡ None → n + 1 ≡ slot.behind
+        → place_of slots.new size slot.hash ≡ Some n }
+    ensures within { IsTrue result → number < length slots.old }
+    ensures kept { (size h n : ℕ) → place_of slots.old size h ≡ Some n
+        → place_of slots.new size h ≡ Some n }
+    ensures same { result ≡ false → slots.new ≡ slots.old }
+    ensures long { length slots.new ≡ length slots.old }
+{
+    if number >= slots.len() {
+        return false;
+    }
+    slots[number] = slot;
+    true
+}
+
+/// Puts a slot into the first free one of its hash, where one is free and the hash has no place.
+fn put(slots: &mut [Slot], size: u32, slot: Slot) -> bool
+    requires some { slot.behind ≢ 0 }
+    ensures put { IsTrue result → (n : ℕ) → n + 1 ≡ slot.behind
+        → place_of slots.new size slot.hash ≡ Some n }
+    ensures kept { (h n : ℕ) → place_of slots.old size h ≡ Some n
+        → place_of slots.new size h ≡ Some n }
+    ensures long { length slots.new ≡ length slots.old }
+{
+    match seek(slots, size, slot.hash) {
+        Ok(_) => false,
+        Err(number) => put_next(slots, number, slot),
+    }
+}
+
+/// Puts the used ones of other slots into slots; how many there are. None where one can't be put.
+fn put_again(slots: &mut [Slot], size: u32, others: &[Slot]) -> Option<usize>
+    ensures kept { IfSome result (λ _. (other h n : ℕ) → place_of others.now other h ≡ Some n
+        → place_of slots.new size h ≡ Some n) }
+    ensures long { length slots.new ≡ length slots.old }
+{
+    let mut used: usize = 0;
+    for number in 0..others.len() {
+        let slot = others[number];
+        if slot.behind == 0 {
+            continue;
+        }
+        if !put(slots, size, slot) {
+            return None;
+        }
+        used = used.saturating_add(1);
+    }
+    Some(used)
+}
+
+/// Gives a hash that has a place another one, which is one less than `behind`.
+fn put_over(slots: &mut [Slot], size: u32, hash: u32, behind: u32)
+    requires some { behind ≢ 0 }
+    ensures given { (n : ℕ) → place_of slots.old size hash ≡ Some n
+        → place_of slots.new size hash ≡ Some (behind - 1) }
+    ensures others { (h : ℕ) → h ≢ hash → place_of slots.new size h ≡ place_of slots.old size h }
+    ensures long { length slots.new ≡ length slots.old }
+{
+    let home = home(size, hash);
+    let last = behind_last(slots, home);
+    for number in home..last {
+        if slots[number].behind == 0 {
+            return;
+        }
+        if slots[number].hash == hash {
+            slots[number].behind = behind;
+            return;
+        }
+    }
+}
+
+/// How many slots hashes are to begin at, where they begin at so many now.
+fn more_than(size: u32) -> u32 {
+    if size == 0 {
+        FIRST_SIZE
+    } else if size < SOME {
+        SOME
+    } else if size < MANY {
+        MANY
+    } else if size == MANY {
+        MANY * 3
+    } else {
+        size.saturating_mul(2)
+    }
+}
+
+/// How many slots are used at most, where hashes begin at so many: five of eight.
+fn most(size: u32) -> usize {
+    size as usize / 8 * 5
+}
+
+/// Places of strings by their hashes.
+///
+/// What has a place keeps it, and one of a hash is found by at most 128 slots. Where a new one would
+/// need more, where four bytes don't hold it, or there is no memory for more slots, it isn't entered,
+/// and none is from then on.
+#[derive(Drop)]
+pub(crate) struct Places {
+    pub alloc: Global,
+    pub slots: Vec<Slot>,
+    pub size: u32,
+    /// How many more slots may be used.
+    pub left: usize,
+    /// Whether no more places are entered.
+    pub is_full: bool,
+}
+
+impl Places {
+    /// No places, which take no memory.
+    pub fn new(alloc: Global) -> Self {
+        Places {
+            alloc,
+            slots: Vec::new(alloc),
+            size: 0,
+            left: 0,
+            is_full: false,
+        }
+    }
+
+    /// The place that a hash has, or the slot that is next for it.
+    #[inline(always)]
+    pub fn seek(&self, hash: u32) -> Result<usize, usize>
+        ensures found { IfOk result (λ place.
+            place_of self.now.slots.items self.now.size hash ≡ Some place) }
+        ensures fits { IfOk result (λ place. place < 2 ^ 32) }
+        ensures none { OnErr result (place_of self.now.slots.items self.now.size hash ≡ None) }
+        ensures next { IfErr result (λ number. number < length self.now.slots.items
+            → IsNext self.now.slots.items self.now.size hash number) }
+    {
+        seek(&self.slots, self.size, hash)
+    }
+
+    /// The same in more slots, with one more. None where they don't fit or there is no memory.
+    fn grown(&self, slot: Slot) -> Option<Places>
+        requires some { slot.behind ≢ 0 }
+        ensures entered { IfSome result (λ new. (n : ℕ) → n + 1 ≡ slot.behind
+            → place_of new.slots.items new.size slot.hash ≡ Some n) }
+        ensures kept { IfSome result (λ new. (h n : ℕ)
+            → place_of self.now.slots.items self.now.size h ≡ Some n
+            → place_of new.slots.items new.size h ≡ Some n) }
+    {
+        let size = more_than(self.size);
+        let count = (size as usize).saturating_add(PROBES);
+        let mut slots = Vec::from_elem(self.alloc, FREE, count).ok()?;
+        let used = put_again(&mut slots, size, &self.slots)?;
+        if !put(&mut slots, size, slot) {
+            return None;
+        }
+        Some(Places {
+            alloc: self.alloc,
+            slots,
+            size,
+            left: most(size).saturating_sub(used).saturating_sub(1),
+            is_full: false,
+        })
+    }
+
+    /// Enters a slot among more slots, where those that there are have no room for it and a quarter is
+    /// used (of fewer, such hashes were chosen); false where that can't be.
+    #[inline(never)]
+    fn enter_in_more(&mut self, slot: Slot) -> bool
+        requires some { slot.behind ≢ 0 }
+        ensures entered { IsTrue result → (n : ℕ) → n + 1 ≡ slot.behind
+            → place_of self.new.slots.items self.new.size slot.hash ≡ Some n }
+        ensures kept { (h n : ℕ) → place_of self.old.slots.items self.old.size h ≡ Some n
+            → place_of self.new.slots.items self.new.size h ≡ Some n }
+        ensures slots { result ≡ false → self.new.slots.items ≡ self.old.slots.items }
+        ensures size { result ≡ false → self.new.size ≡ self.old.size }
+        ensures full { result ≡ false → self.new.is_full ≡ true }
+    {
+        let used = most(self.size).saturating_sub(self.left);
+        if self.left == 0 || used >= self.size as usize / 4 {
+            if let Some(more) = self.grown(slot) {
+                *self = more;
+                return true;
+            }
+        }
+        self.is_full = true;
+        false
+    }
+
+    /// Enters the place of a hash that has none, by the slot that is next for it; false where that
+    /// can't be, and then no more are entered. At most five of eight slots are used, and where none
+    /// is free for a hash there are made more, if a quarter is used.
+    pub fn enter(&mut self, hash: u32, next: usize, place: usize) -> bool
+        requires open { self.old.is_full ≡ false }
+        requires none { place_of self.old.slots.items self.old.size hash ≡ None }
+        requires next { next < length self.old.slots.items
+            → IsNext self.old.slots.items self.old.size hash next }
+        ensures entered { IsTrue result
+            → place_of self.new.slots.items self.new.size hash ≡ Some place }
+        ensures fits { IsTrue result → place < shared }
+        ensures kept { (h n : ℕ) → place_of self.old.slots.items self.old.size h ≡ Some n
+            → place_of self.new.slots.items self.new.size h ≡ Some n }
+        ensures none { result ≡ false
+            → place_of self.new.slots.items self.new.size hash ≡ None }
+        ensures full { result ≡ false → self.new.is_full ≡ true }
+    {
+        let Some(behind) = behind(place) else {
+            self.is_full = true;
+            return false;
+        };
+        let slot = Slot { hash, behind };
+        if self.left == 0 {
+            return self.enter_in_more(slot);
+        }
+        if put_next(&mut self.slots, next, slot) {
+            self.left -= 1;
+            return true;
+        }
+        self.enter_in_more(slot)
+    }
+
+    /// Gives a hash that has a place the one of hashes that strings share.
+    pub fn share(&mut self, hash: u32)
+        ensures shared { (n : ℕ) → place_of self.old.slots.items self.old.size hash ≡ Some n
+            → place_of self.new.slots.items self.new.size hash ≡ Some shared }
+        ensures others { (h : ℕ) → h ≢ hash → place_of self.new.slots.items self.new.size h
+            ≡ place_of self.old.slots.items self.old.size h }
+        ensures full { self.new.is_full ≡ self.old.is_full }
+    {
+        put_over(&mut self.slots, self.size, hash, u32::MAX);
+    }
+
+    /// Gives a hash that has a place another one; false where four bytes don't hold that.
+    pub fn give(&mut self, hash: u32, place: usize) -> bool
+        ensures given { IsTrue result → (n : ℕ)
+            → place_of self.old.slots.items self.old.size hash ≡ Some n
+            → place_of self.new.slots.items self.new.size hash ≡ Some place }
+        ensures fits { IsTrue result → place < shared }
+        ensures others { (h : ℕ) → h ≢ hash → place_of self.new.slots.items self.new.size h
+            ≡ place_of self.old.slots.items self.old.size h }
+        ensures full { self.new.is_full ≡ self.old.is_full }
+        ensures same { result ≡ false → self.new.slots.items ≡ self.old.slots.items }
+        ensures size { self.new.size ≡ self.old.size }
+    {
+        let Some(behind) = behind(place) else {
+            return false;
+        };
+        put_over(&mut self.slots, self.size, hash, behind);
+        true
+    }
+}

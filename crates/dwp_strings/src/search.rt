@@ -1,0 +1,180 @@
+//! Looking a string up among positions in the order of their strings.
+
+ghost use Rattle.std.specs.Prelude.{◌≡◌, ◌≤◌, ◌<◌, ◌+◌, ◌^◌, ◌↔◌, ℕ, length, take, slice_index};
+ghost use Rattle.std.specs.Prelude.{IfOk, IfErr, IsTrue, Contains};
+ghost use Rattle.std.specs.Ordering.{nat_cmp};
+ghost use Rattle.std.specs.Cmp.Lexicographic.{slice_cmp};
+ghost use Rattle.dwp_bytes.specs.StringOffsets.{string_from};
+ghost use Rattle.dwp_strings.specs.Strings.{strings_in, offset_of, IsZeroFree, IsIndexed};
+ghost use Rattle.dwp_strings.specs.Strings.{BeginsAt, StandsAt, IsWithinDigits};
+
+use crate::positions::Positions;
+use memchr::arch::all::is_equal;
+use std::cmp::Ordering;
+use std::simd::prelude::*;
+
+/// How many bytes of a string are looked at together.
+const LANES: usize = 32;
+
+/// How the string at a place stands to one without zero bytes. Its end isn't looked for: as many
+/// bytes as the other has decide, and where they are the same, whether a zero follows them.
+pub(crate) fn compare_at(bytes: &[u8], at: usize, string: &[u8]) -> Ordering
+    requires within { at ≤ length bytes.now }
+    requires zero_free { IsZeroFree string.now }
+    ensures { result ≡ slice_cmp nat_cmp (string_from bytes.now at) string.now }
+{
+    let rest = &bytes[at..];
+    if rest.len() <= string.len() {
+        return rest.cmp(&string);
+    }
+    match rest[..string.len()].cmp(&string) {
+        Ordering::Equal => rest[string.len()].cmp(&0),
+        order => order,
+    }
+}
+
+/// Whether a string begins at a place of a section of ended strings.
+pub(crate) fn begins_at(bytes: &[u8], at: usize) -> bool
+    ensures { IsTrue result ↔ BeginsAt bytes.now at }
+{
+    at < bytes.len() && (at == 0 || bytes[at - 1] == 0)
+}
+
+/// Whether the string at a place is one without zero bytes, which is told faster than their order.
+#[inline(always)]
+fn is_at(bytes: &[u8], at: usize, string: &[u8]) -> bool
+    requires within { at ≤ length bytes.now }
+    requires zero_free { IsZeroFree string.now }
+    ensures { IsTrue result ↔ (string_from bytes.now at ≡ string.now) }
+{
+    let rest = &bytes[at..];
+    if rest.len() <= string.len() {
+        return compare_at(bytes, at, string).is_eq();
+    }
+    rest[string.len()] == 0 && is_equal(&rest[..string.len()], string)
+}
+
+/// Whether a string begins at a place of a section of ended strings and is this one.
+#[inline(always)]
+pub(crate) fn stands_at(bytes: &[u8], at: usize, string: &[u8]) -> bool
+    requires { IsZeroFree string.now }
+    ensures { IsTrue result ↔ (BeginsAt bytes.now at × (string_from bytes.now at ≡ string.now)) }
+{
+    begins_at(bytes, at) && is_at(bytes, at, string)
+}
+
+/// Whether the next 32 bytes of both are the same.
+#[inline(always)]
+fn are_same(bytes: &[u8], other: &[u8], at: usize) -> bool
+    requires first { at + 32 ≤ length bytes.now }
+    requires second { at + 32 ≤ length other.now }
+    ensures { IsTrue result → (k : ℕ) → k < 32
+        → slice_index bytes.now (at + k) ≡ slice_index other.now (at + k) }
+{
+    let first = u8x32::from_slice(&bytes[at..]);
+    let second = u8x32::from_slice(&other[at..]);
+    first.simd_ne(second).to_bitmask() == 0
+}
+
+/// Whether so many first bytes of both are the same, which are fewer than 32.
+#[inline(always)]
+fn few_same(bytes: &[u8], other: &[u8], count: usize) -> bool
+    requires first { count ≤ length bytes.now }
+    requires second { 32 ≤ length other.now }
+    requires few { count < 32 }
+    ensures { IsTrue result → take count bytes.now ≡ take count other.now }
+{
+    if bytes.len() < LANES {
+        return is_equal(&bytes[..count], &other[..count]);
+    }
+    let first = u8x32::from_slice(bytes);
+    let second = u8x32::from_slice(other);
+    first.simd_ne(second).to_bitmask().trailing_zeros() as usize >= count
+}
+
+/// Whether so many first bytes of both are the same.
+#[inline(always)]
+fn begins_same(bytes: &[u8], other: &[u8], count: usize) -> bool
+    requires first { count ≤ length bytes.now }
+    requires second { count ≤ length other.now }
+    requires long { 32 ≤ length other.now }
+    ensures { IsTrue result → take count bytes.now ≡ take count other.now }
+{
+    if count < LANES {
+        return few_same(bytes, other, count);
+    }
+    let last = count - LANES;
+    let mut at = 0;
+    while at < last {
+        if !are_same(bytes, other, at) {
+            return false;
+        }
+        at += LANES;
+    }
+    // (some are looked at again where fewer are left)
+    are_same(bytes, other, last)
+}
+
+/// Whether a string begins at a place of a section of ended strings and is the one that some bytes
+/// begin with, of which one is zero: they are the same as far as that byte, so wherever they end. No
+/// where they differ behind an earlier end, which may be the same string.
+#[inline(always)]
+pub(crate) fn begins_alike(bytes: &[u8], at: usize, other: &[u8], end: usize) -> bool
+    requires at { at < 2 ^ 32 }
+    requires within { end < length other.now }
+    requires long { 32 ≤ length other.now }
+    requires ended { slice_index other.now end ≡ 0 }
+    ensures { IsTrue result
+        → BeginsAt bytes.now at × (string_from bytes.now at ≡ string_from other.now 0) }
+{
+    // (most that differ are told by this byte)
+    if at + end >= bytes.len() || bytes[at + end] != 0 {
+        return false;
+    }
+    (at == 0 || bytes[at - 1] == 0) && begins_same(&bytes[at..], other, end)
+}
+
+/// What a search found: where the string begins, or the rank at which it would stand, and how many
+/// strings were compared.
+#[derive(Drop)]
+pub(crate) struct Found {
+    pub place: Result<usize, usize>,
+    pub compared: u32,
+}
+
+/// Looks for a string among those at positions by halving these, which are in the strings' order.
+pub(crate) fn search(bytes: &[u8], positions: &Positions, string: &[u8]) -> Found
+    requires table { IsIndexed bytes.now positions.now }
+    requires zero_free { IsZeroFree string.now }
+    ensures found { IfOk result.place (λ place. Contains (strings_in bytes.now) string.now
+        × (place ≡ offset_of (strings_in bytes.now) string.now)) }
+    ensures there { IfOk result.place (Contains positions.now) }
+    ensures absent { IfErr result.place (StandsAt bytes.now positions.now string.now) }
+    ensures count { IsWithinDigits result.compared (length positions.now) }
+{
+    let mut low = 0;
+    let mut high = positions.len();
+    let mut chunk = 0;
+    let mut compared = 0;
+    while low < high {
+        let middle = low + (high - low) / 2;
+        let (position, at) = positions.get_near(middle, chunk);
+        let place = position as usize;
+        chunk = at;
+        compared += 1;
+        match compare_at(bytes, place, string) {
+            Ordering::Less => low = middle + 1,
+            Ordering::Equal => {
+                return Found {
+                    place: Ok(place),
+                    compared,
+                };
+            }
+            Ordering::Greater => high = middle,
+        }
+    }
+    Found {
+        place: Err(low),
+        compared,
+    }
+}

@@ -1,0 +1,151 @@
+//! The table of distinct strings (DWARF 5, 7.26).
+
+ghost use Rattle.std.specs.Prelude.{◌≡◌, ◌↔◌, [], length, take, IsSome, IfSome, IsTrue, Contains};
+ghost use Rattle.dwp_strings.specs.Strings.{data_of, offset_of, IsTable, IsWithinDigits};
+ghost use Rattle.dwp_strings.specs.Marks.{mark_of};
+
+use crate::entries::Entries;
+use crate::hash::hash;
+use crate::places::SHARED;
+use crate::search::{search, stands_at};
+use memchr::memchr;
+use std::alloc::Global;
+use std::marker::Model;
+
+/// How much a table held at some time: how many strings, and how many bytes of data.
+#[derive(Clone, Copy, Debug, PartialEq, Eq, Hash)]
+pub struct TableMark {
+    /// How many strings.
+    pub strings: usize,
+    /// How many bytes they and the zero bytes at their ends take.
+    pub bytes: usize,
+}
+
+/// Distinct strings, in order of first use. In clauses the table is the list of
+/// these strings.
+///
+/// No string is copied but into the data. A string is found by its hash, which has the string's
+/// place. Those that share a hash, and new ones where no more hashes get places, are kept by their
+/// order too, and found by that. So one string at most is compared with another, or as many as
+/// halving those in order takes.
+///
+/// The place behind the string that was found last is looked at first: inputs that share strings
+/// often use them in the same order. In the loop over string offsets that is done while it is right.
+#[derive(Drop)]
+pub struct StringTable {
+    pub(crate) entries: Entries,
+    /// The place behind the string that was found last, where four bytes hold it.
+    pub(crate) next: u32,
+    /// Whether strings were found there lately.
+    pub(crate) is_next: bool,
+}
+
+impl Model for StringTable {
+    ghost use Rattle.std.specs.Prelude.{List, ℕ};
+    ghost use Rattle.dwp_strings.specs.Hashed.{held, IsHashed};
+
+    ghost Value = { List (List ℕ) };
+
+    ghost view = { λ t. held t.entries };
+
+    ghost invariant = { λ t. IsHashed t.entries };
+}
+
+impl StringTable {
+    /// A table without strings, which takes no memory.
+    pub fn new(alloc: Global) -> Self
+        ensures { result ≡ [] }
+    {
+        StringTable {
+            entries: Entries::new(alloc),
+            next: 0,
+            is_next: false,
+        }
+    }
+
+    /// How many strings there are.
+    pub fn len(&self) -> usize
+        ensures { result ≡ length self.now }
+    {
+        self.entries.count
+    }
+
+    /// Whether there are none.
+    pub fn is_empty(&self) -> bool
+        ensures { IsTrue result ↔ (self.now ≡ []) }
+    {
+        self.len() == 0
+    }
+
+    /// The content of `.debug_str.dwo`: each string and a zero byte.
+    pub fn data(&self) -> &[u8]
+        ensures whole { result.now ≡ data_of self.now }
+        ensures table { IsTable self.now }
+    {
+        &self.entries.bytes
+    }
+
+    /// The offset of a string, where the table has it, and how many strings were compared.
+    pub fn find_counted(&self, string: &[u8]) -> (Option<usize>, u32)
+        ensures found { IsSome result.0 ↔ Contains self.now string.now }
+        ensures offset { IfSome result.0 (λ offset. offset ≡ offset_of self.now string.now) }
+        ensures count { IsWithinDigits result.1 (length self.now) }
+    {
+        if self.entries.count == 0 {
+            return (None, 0);
+        }
+        if memchr(0, string).is_some() {
+            return (None, 0);
+        }
+        let place = match self.entries.places.seek(hash(string)) {
+            Ok(place) => place,
+            Err(_) if self.entries.places.is_full => SHARED,
+            Err(_) => return (None, 0),
+        };
+        if place == SHARED {
+            let found = search(self.entries.bytes.as_slice(), &self.entries.ordered, string);
+            return match found.place {
+                Ok(place) => (Some(place), found.compared),
+                Err(_) => (None, found.compared),
+            };
+        }
+        if stands_at(&self.entries.bytes, place, string) {
+            (Some(place), 1)
+        } else {
+            (None, 1)
+        }
+    }
+
+    /// How much the table holds now: hand it to `truncate` to come back to this.
+    pub fn mark(&self) -> TableMark
+        ensures { result ≡ mark_of self.now }
+    {
+        TableMark {
+            strings: self.entries.count,
+            bytes: self.entries.bytes.len(),
+        }
+    }
+
+    /// Forgets every string that came after a mark. The place of its hash stays, until a string of that
+    /// hash comes.
+    pub fn truncate(&mut self, mark: TableMark)
+        requires { mark ≡ mark_of (take mark.strings self.old) }
+        ensures { self.new ≡ take mark.strings self.old }
+    {
+        if mark.bytes < self.entries.bytes.len() {
+            self.entries.bytes.truncate(mark.bytes);
+            self.entries.count = mark.strings;
+            self.entries.ordered.keep_below(mark.bytes as u64);
+        }
+    }
+
+    /// The content of `.debug_str.dwo`.
+    pub fn finish(self) -> Vec<u8>
+        ensures whole { result.items ≡ data_of self }
+        ensures table { IsTable self }
+    {
+        let StringTable { entries, .. } = self;
+        let Entries { bytes, .. } = entries;
+        bytes
+    }
+}

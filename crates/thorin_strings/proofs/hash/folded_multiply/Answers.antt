@@ -1,7 +1,0 @@
-use Rattle.std.proofs.Common.{refl}
-use Rattle.std.specs.Hash.FoldHasher.{folded_multiply}
-use Rattle.thorin_strings.proofs.hash.folded_multiply.Goals as goal
-
-pub returns : goal.returns
-unfolding folded_multiply
-returns c = refl

@@ -1,7 +1,0 @@
--- How much a table of these strings holds.
-use Rattle.std.specs.Prelude.{ℕ, List, length}
-use Rattle.thorin_strings.specs.declared.table.TableMark.{TableMark}
-use Rattle.thorin_strings.specs.Strings.{data_of}
-
-abbrev pub mark_of : List (List ℕ) → TableMark
-mark_of strings = record { strings = length strings; bytes = length (data_of strings) }
