@@ -13,10 +13,10 @@ use Rattle.dwp_bytes.specs.StringOffsets.{string_from}
 use Rattle.dwp_strings.specs.Places.{hash, place_of, shared, IsOrdered, IsFound, AreRelated}
 use Rattle.dwp_strings.specs.Places.{AreFound}
 use Rattle.dwp_strings.specs.Strings.{terminated, data_of, offset_of, strings_in, offsets_from}
-use Rattle.dwp_strings.specs.Strings.{IsZeroFree, IsTable, IsIndexed, StandsAt, BeginsAt}
+use Rattle.dwp_strings.specs.Strings.{IsZeroFree, IsTable, IsIndexed, StandsAt, BeginsAt, IsPlaced}
 use Rattle.dwp_strings.specs.declared.entries.Entries.{Entries}
 use Rattle.dwp_strings.specs.declared.places.Slot.{Slot}
-use Rattle.dwp_strings.specs.Hashed.{IsFindable, IsHashed, IsPlaced, held}
+use Rattle.dwp_strings.specs.Hashed.{IsFindable, IsHashed, held}
 use Rattle.dwp_strings.proofs.StringLemmas.{zero_free-strings_in}
 use Rattle.dwp_strings.proofs.Filters.{Contains-filter}
 use Rattle.dwp_strings.proofs.OffsetLemmas.{has_Decides, offset_of-at, offsets_from-append}

@@ -21,9 +21,8 @@ use Rattle.dwp_strings.specs.Strings.{offsets_from, IsBefore, IsIndexed, StandsA
 use Rattle.dwp_strings.proofs.StringLemmas.{strings_in-data_of, zero_free-strings_in}
 use Rattle.dwp_strings.proofs.StringLemmas.{string_from-ended}
 use Rattle.dwp_strings.proofs.OffsetLemmas.{map-string_from, length-offsets_from, offset_of-at}
-use Rattle.dwp_strings.proofs.OffsetLemmas.{AllPairs-rest, length-data_of-cons}
-use Rattle.dwp_strings.proofs.OffsetLemmas.{offsets_from-append, offsets_from-below}
-use Rattle.dwp_strings.proofs.OffsetLemmas.{distinct_push, offsets_from-above}
+use Rattle.dwp_strings.proofs.OffsetLemmas.{AllPairs-rest, length-data_of-cons, offsets_from-append}
+use Rattle.dwp_strings.proofs.OffsetLemmas.{offsets_from-below, distinct_push, offsets_from-above}
 
 -- a string that begins at an offset is the section's, whatever comes behind
 string_there : (bytes rest : List ℕ) (p : ℕ) → data_of (strings_in bytes) ≡ bytes

@@ -7,8 +7,7 @@ use Rattle.std.specs.Str.{bytes_eq}
 use Rattle.std.proofs.lemmas.Bool.{false_from_ne_true, cond-true, cond-false}
 use Rattle.dwp_bytes.specs.StringOffsets.{string_from}
 use Rattle.dwp_strings.specs.Strings.{terminated, data_of, offset_of, strings_in, IsZeroFree}
-use Rattle.dwp_strings.specs.Strings.{BeginsAt, IsIndexed}
-use Rattle.dwp_strings.specs.Hashed.{IsPlaced}
+use Rattle.dwp_strings.specs.Strings.{BeginsAt, IsIndexed, IsPlaced}
 use Rattle.dwp_strings.proofs.OffsetLemmas.{offset_of-absent, has_Decides}
 use Rattle.dwp_strings.proofs.TableLemmas.{strings_push}
 use Rattle.dwp_strings.proofs.PlaceLemmas.{known_place_in}

@@ -27,6 +27,10 @@ offset_of (t ∷ ts) s = if bytes_eq t s then 0 else length t + 1 + offset_of ts
 abbrev pub with_string : List (List ℕ) → List ℕ → List (List ℕ)
 with_string strings s = if list_any (λ t. bytes_eq t s) strings then strings else strings ++ s ∷ []
 
+-- a string was used and has this offset
+abbrev pub IsPlaced : List (List ℕ) → List (List ℕ) → List ℕ → ℕ → Type 0
+IsPlaced old new s place = (place ≡ offset_of old s) × (new ≡ with_string old s)
+
 -- no byte is zero, so that the string can be ended by one
 abbrev pub IsZeroFree : List ℕ → Type 0
 IsZeroFree s = All (λ b. b ≢ 0) s

@@ -3,8 +3,8 @@
 ghost use Rattle.std.specs.Prelude.{◌≡◌, ◌≢◌, ◌<◌, ◌≤◌, ◌^◌, [], length, take, OnOk, OnErr, IfOk};
 ghost use Rattle.std.specs.Prelude.{IfSome, IsNone, Contains, slice_index, None, Some, false};
 ghost use Rattle.dwp_bytes.specs.StringOffsets.{string_from};
-ghost use Rattle.dwp_strings.specs.Strings.{IsZeroFree, BeginsAt};
-ghost use Rattle.dwp_strings.specs.Hashed.{held, IsHashed, IsPlaced};
+ghost use Rattle.dwp_strings.specs.Strings.{IsZeroFree, BeginsAt, IsPlaced};
+ghost use Rattle.dwp_strings.specs.Hashed.{held, IsHashed};
 ghost use Rattle.dwp_strings.specs.Places.{hash as hash_of, place_of, shared, IsNext, IsOrdered};
 
 use crate::ends::ends_at;

@@ -3,8 +3,7 @@
 ghost use Rattle.std.specs.Prelude.{◌≡◌, ◌<◌, ◌≤◌, ◌^◌, length, take, OnErr, IfOk, IfSome, IsNone};
 ghost use Rattle.std.specs.Prelude.{slice_index};
 ghost use Rattle.dwp_bytes.specs.StringOffsets.{string_from};
-ghost use Rattle.dwp_strings.specs.Strings.{IsZeroFree};
-ghost use Rattle.dwp_strings.specs.Hashed.{IsPlaced};
+ghost use Rattle.dwp_strings.specs.Strings.{IsZeroFree, IsPlaced};
 
 use crate::hash::{hash, hash_here};
 use crate::places::SHARED;

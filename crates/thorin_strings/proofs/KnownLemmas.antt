@@ -21,9 +21,8 @@ use Rattle.thorin_strings.specs.StringOffsets.{header_of, remapped_entry, remapp
 use Rattle.thorin_strings.specs.StringOffsets.{entry_bytes, remapped, offset_limit, entry_at}
 use Rattle.thorin_strings.specs.StringOffsets.{string_read, named_at, fitting_offset}
 use Rattle.thorin_strings.specs.Written.{AreWritten}
-use Rattle.dwp_strings.specs.Strings.{data_of, offset_of, with_string}
+use Rattle.dwp_strings.specs.Strings.{data_of, offset_of, with_string, IsPlaced}
 use Rattle.thorin_strings.specs.Known.{offset_read, IsKnown, AreKnown}
-use Rattle.dwp_strings.specs.Hashed.{IsPlaced}
 use Rattle.dwp_strings.proofs.Named.{there_later, there_once_used}
 use Rattle.dwp_strings.proofs.OffsetLemmas.{length-data_of-cons}
 

@@ -80,7 +80,7 @@ impl PackageStringTable {
         if limit < self.data().len() as u64 {
             return None;
         }
-        let Ok(offset) = self.strings.place(string) else {
+        let Ok(offset) = self.place(string) else {
             return None;
         };
         Some(offset as u64)
@@ -138,7 +138,7 @@ impl PackageStringTable {
         if limit < self.data().len() as u64 {
             return None;
         }
-        let Ok(place) = self.strings.place(string) else {
+        let Ok(place) = self.place(string) else {
             return None;
         };
         let offset = place as u64;

@@ -1,6 +1,5 @@
 use Rattle.std.proofs.Common.{◌∙◌, refl, arith}
-use Rattle.dwp_strings.proofs.PlacesLemmas.{none_of, free_past, passed_more, shared_of}
-use Rattle.dwp_strings.proofs.PlacesLemmas.{others_of}
+use Rattle.dwp_strings.proofs.PlacesLemmas.{none_of, free_past, passed_more, shared_of, others_of}
 use Rattle.dwp_strings.proofs.places.put_over.Goals as goal
 
 pub loop-number-preserved : goal.loop-number-preserved
