@@ -1,33 +1,28 @@
 -- Digits taken one after the other.
-use Rattle.std.proofs.Common.{◌≡◌, ℕ, ◌+◌, ◌-◌, ◌*◌, ◌^◌, ◌<◌, ◌≤◌, ◌==◌, Bool, true, false}
-use Rattle.std.proofs.Common.{cond, List, ◌∷◌, length, drop, get_or, Some, None, Option, sym, ap}
-use Rattle.std.proofs.Common.{refl, ◌∙◌, arith, drop-cons, add-one}
+use Rattle.std.proofs.Common.{◌≡◌, ℕ, ◌+◌, ◌-◌, ◌*◌, ◌^◌, ◌<◌, ◌≤◌, ◌==◌, Bool, true, false, cond}
+use Rattle.std.proofs.Common.{List, length, drop, get_or, Some, None, Option, sym, ap, refl, ◌∙◌}
+use Rattle.std.proofs.Common.{arith, pow-add}
 use Rattle.std.proofs.Math.Nat.{pow-le-pow_right}
 use Rattle.std.specs.List.{list_all}
 use Rattle.std.proofs.lemmas.Bool.Decides.{nat_tests}
-use Rattle.std.proofs.lemmas.List.{drop_all}
-use Rattle.std.proofs.lemmas.Nat.{pow-add}
+use Rattle.std.proofs.lemmas.List.{drop_all, drop_more}
 use Rattle.dwp_archive.specs.Headers.{is_digit, decimal_from}
 
 abbrev Number : Type 0
 Number = Option ℕ
-
-from_here : (field : List ℕ) (i : ℕ) → i < length field
-    → drop i field ≡ get_or field i 0 ∷ drop (i + 1) field
-from_here field i h = rw (add-one i) (drop-cons field i 0 h)
 
 module _ (field : List ℕ) (n i : ℕ) where
   pub decimal_step : i < length field → is_digit (get_or field i 0) ≡ true
       → decimal_from n (drop i field)
       ≡ decimal_from (10 * n + (get_or field i 0 - 48)) (drop (i + 1) field)
   unfolding decimal_from
-  decimal_step h d = rw (from_here field i h, d) refl
+  decimal_step h d = rw (drop_more field i 0 h, d) refl
 
   decimal_stop : i < length field → is_digit (get_or field i 0) ≡ false
       → decimal_from n (drop i field)
       ≡ cond (list_all (λ b. b == 32) (drop i field)) (Some n) None
   unfolding decimal_from
-  decimal_stop h d = rw (from_here field i h, d) refl
+  decimal_stop h d = rw (drop_more field i 0 h, d) refl
 
   pub decimal_end : length field ≤ i → decimal_from n (drop i field) ≡ Some n
   unfolding decimal_from

@@ -1,8 +1,6 @@
 -- Entries taken one after the other.
-use Rattle.std.proofs.Common.{◌≡◌, ℕ, zero, suc, ◌+◌, ◌-◌, ◌<◌, ◌≤◌, ◌==◌, true, false, List, []}
-use Rattle.std.proofs.Common.{◌∷◌, ◌++◌, length, Result, Ok, Err, sym, ap, ◌∙◌, refl, arith}
-use Rattle.std.proofs.Common.{append_assoc, append-nil}
-use Rattle.std.proofs.lemmas.Bool.Decides.{nat_tests}
+use Rattle.std.proofs.Common.{◌≡◌, ℕ, zero, suc, ◌+◌, ◌-◌, ◌<◌, ◌≤◌, List, [], ◌∷◌, ◌++◌, length}
+use Rattle.std.proofs.Common.{Result, Ok, Err, sym, ap, ◌∙◌, refl, arith, append_assoc, append-nil}
 use Rattle.dwp_base.specs.Reading.{◌>>=◌}
 use Rattle.dwp_archive.specs.declared.error.ArchiveError.{ArchiveError}
 use Rattle.dwp_archive.specs.Entries.{Member, Entry, entry_at}
@@ -27,12 +25,6 @@ some_more : (front more : List Member) (rest : Members)
     → behind front (rest >>= λ members. Ok (more ++ members)) ≡ behind (front ++ more) rest
 some_more front more (Ok members) = ap whole (sym (append_assoc front more members))
 some_more front more (Err e) = refl
-
-pub some_left : (n : ℕ) → (n == 0) ≡ false → 0 < n
-some_left n h = grind (arith, nat_tests)
-
-pub none_left : (n : ℕ) → (n == 0) ≡ true → n ≡ 0
-none_left n h = grind (arith, nat_tests)
 
 module _ (n i : ℕ) (names bytes : List ℕ) (front : List Member) where
   -- one entry of those that are left

@@ -1,16 +1,18 @@
 -- What holds of each kind of section in the list of them holds of every kind.
-use Rattle.std.proofs.Common.{◌≡◌, ℕ, zero, suc, ◌+◌, eqb, Bool, true, false, ◌&&◌, not, List, []}
-use Rattle.std.proofs.Common.{◌∷◌, map, get_or, refl, sym, ap, ◌∙◌, subst, arith}
-use Rattle.std.specs.Prelude.{Some, slice_get}
+use Rattle.std.proofs.Common.{◌≡◌, ℕ, zero, suc, Bool, true, false, not, List, [], ◌∷◌, map, get_or}
+use Rattle.std.proofs.Common.{refl, sym, ap, ◌∙◌, subst, arith, Some, option_map, slice_get}
+use Rattle.std.proofs.Common.{eqb-true}
 use Rattle.std.specs.List.{list_all}
 use Rattle.std.specs.Str.{bytes_eq}
-use Rattle.std.proofs.lemmas.Bool.{eqb-true}
-use Rattle.std.proofs.lemmas.Option.{same_Some}
+use Rattle.std.proofs.lemmas.List.FromFn.{get_or-range_with_len}
+use Rattle.std.proofs.lemmas.List.Sums.{AllPass-from_list_all}
+use Rattle.std.proofs.lemmas.Option.{same_Some, slice_get-map, slice_get_within}
+use Rattle.std.proofs.lemmas.Option.{get_or_from_slice_get}
 use Rattle.dwp_base.specs.Sections.{name_of, compressed_name_of, is_named, all_kinds, rank_of}
 use Rattle.dwp_base.specs.Sections.{same_kind, kind_named}
 use Rattle.dwp_base.specs.declared.section.SectionKind.{SectionKind}
 use Rattle.dwp_base.specs.declared.section.SectionKind.TheVariants as kinds
-use Rattle.dwp_base.proofs.Bools.{both, is-false}
+use Rattle.dwp_base.proofs.Bools.{is-false}
 
 pub at-rank : (kind : SectionKind) → slice_get all_kinds (rank_of kind) ≡ Some kind
 at-rank kinds.Info = refl
@@ -27,19 +29,12 @@ at-rank kinds.Str = refl
 at-rank kinds.CuIndex = refl
 at-rank kinds.TuIndex = refl
 
--- kinds of ranks that follow each other
-abbrev ranks-from : ℕ → List SectionKind → Bool
-ranks-from n [] = true
-ranks-from n (k ∷ ks) = eqb (rank_of k) n && ranks-from (suc n) ks
-
 -- a test that each of a list passes is passed by what stands at a place of it
 passes-at : {X : Type 0} (test : X → Bool) (xs : List X) (i : ℕ) (x : X)
     → list_all test xs ≡ true → slice_get xs i ≡ Some x → test x ≡ true
-passes-at test [] i x all at = absurd cc
-passes-at test (y ∷ ys) zero x all at = let same : y ≡ x = cc in ap test (sym same) ∙
-    (both (test y) (list_all test ys) all).0
-passes-at test (y ∷ ys) (suc i) x all at = passes-at test ys i x
-    (both (test y) (list_all test ys) all).1 at
+passes-at test xs i x all there =
+    rw (get_or_from_slice_get xs i x x there) at
+    (AllPass-from_list_all test xs all i x (slice_get_within xs i x there))
 
 -- a test that is seen to pass for each of the kinds, as by `refl`, passes for every kind
 pub every : (test : SectionKind → Bool) → list_all test all_kinds ≡ true → (kind : SectionKind)
@@ -67,20 +62,18 @@ holds-at P (y ∷ ys) (suc i) x all at = holds-at P ys i x all.1 at
 pub each : (P : SectionKind → Type 0) → HoldsAll P all_kinds → (kind : SectionKind) → P kind
 each P all kind = holds-at P all_kinds (rank_of kind) kind all (at-rank kind)
 
+-- what is made of an item of a list
+value-at : {X Y : Type 0} (f : X → Y) (xs : List X) (i : ℕ) (x : X) (default : Y)
+    → slice_get xs i ≡ Some x → get_or (map f xs) i default ≡ f x
+value-at f xs i x default at =
+    get_or_from_slice_get (map f xs) i (f x) default (slice_get-map f xs i ∙ ap (option_map f) at)
+
 -- a kind's rank is the place that it stands at
 pub rank-at : (place : ℕ) (kind : SectionKind) → slice_get all_kinds place ≡ Some kind
     → rank_of kind ≡ place
-rank-at place kind at = from 0 all_kinds refl place at ∙ omega arith
-  where
-    from : (n : ℕ) (ks : List SectionKind) → ranks-from n ks ≡ true → (i : ℕ)
-        → slice_get ks i ≡ Some kind → rank_of kind ≡ n + i
-    from n [] all i at = absurd cc
-    from n (k ∷ ks) all zero at =
-        let same : k ≡ kind = cc in
-        ap rank_of (sym same) ∙ eqb-true (rank_of k) n (both (eqb (rank_of k) n) _ all).0
-        ∙ omega arith
-    from n (k ∷ ks) all (suc i) at = from (suc n) ks (both (eqb (rank_of k) n) _ all).1 i at
-        ∙ omega arith
+rank-at place kind at =
+    sym (value-at rank_of all_kinds place kind 0 at)
+    ∙ get_or-range_with_len 0 13 place 0 (slice_get_within all_kinds place kind at) ∙ omega arith
 
 -- ---- equal kinds
 
@@ -92,12 +85,6 @@ is-same a b e = same_Some _ _ (sym (at-rank a) ∙ ap (slice_get all_kinds)
     (eqb-true (rank_of a) (rank_of b) e) ∙ at-rank b)
 
 -- ---- a value of each kind
-
-value-at : {X Y : Type 0} (f : X → Y) (xs : List X) (i : ℕ) (x : X) (default : Y)
-    → slice_get xs i ≡ Some x → get_or (map f xs) i default ≡ f x
-value-at f [] i x default at = absurd cc
-value-at f (y ∷ ys) zero x default at = let same : y ≡ x = cc in ap f same
-value-at f (y ∷ ys) (suc i) x default at = value-at f ys i x default at
 
 -- the value of a kind among the values of all
 pub value-of : {Y : Type 0} (f : SectionKind → Y) (default : Y) (kind : SectionKind)

@@ -1,21 +1,14 @@
 -- The first item of a list that passes a test, looked for one after the other.
 use Rattle.std.proofs.Common.{◌≡◌, ℕ, zero, suc, ◌+◌, ◌<◌, ◌≤◌, Bool, true, false, cond, List, []}
-use Rattle.std.proofs.Common.{◌∷◌, length, drop, Some, None, sym, ap, ◌∙◌, arith}
-use Rattle.std.specs.Prelude.{slice_get}
+use Rattle.std.proofs.Common.{◌∷◌, length, drop, Some, None, ap, ◌∙◌, arith, slice_get}
 use Rattle.std.specs.List.{find}
-use Rattle.std.proofs.lemmas.List.{drop_all}
+use Rattle.std.proofs.lemmas.List.{drop_all, drop_more}
+use Rattle.std.proofs.lemmas.Option.{slice_get_within, get_or_from_slice_get}
 
 pub find_at : {X : Type 0} (p : X → Bool) (xs : List X) (i : ℕ) (x : X) → slice_get xs i ≡ Some x
     → find p (drop i xs) ≡ cond (p x) (Some x) (find p (drop (i + 1) xs))
-find_at p xs i x e = let one : i + 1 ≡ suc i = omega arith in at_suc p xs i x e ∙ ap (λ n.
-    cond (p x) (Some x) (find p (drop n xs))) (sym one)
-  where
-    at_suc : {X : Type 0} (p : X → Bool) (xs : List X) (i : ℕ) (x : X) → slice_get xs i ≡ Some x
-        → find p (drop i xs) ≡ cond (p x) (Some x) (find p (drop (suc i) xs))
-    at_suc p [] i x e = absurd cc
-    at_suc p (y ∷ ys) zero x e = let same : y ≡ x = cc in
-        ap (λ z. cond (p z) (Some z) (find p ys)) same
-    at_suc p (y ∷ ys) (suc i) x e = at_suc p ys i x e
+find_at p xs i x e = ap (find p) (drop_more xs i x (slice_get_within xs i x e)
+    ∙ ap (λ y. y ∷ drop (i + 1) xs) (get_or_from_slice_get xs i x x e))
 
 pub find_hit : {X : Type 0} (p : X → Bool) (xs : List X) (i : ℕ) (x : X) → slice_get xs i ≡ Some x
     → p x ≡ true → find p (drop i xs) ≡ Some x

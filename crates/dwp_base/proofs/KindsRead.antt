@@ -1,10 +1,10 @@
 -- Values that are read for each kind, one kind after another.
-use Rattle.std.proofs.Common.{◌≡◌, ℕ, zero, suc, ◌+◌, ◌<◌, List, [], ◌∷◌, map, length, refl, sym}
-use Rattle.std.proofs.Common.{ap, subst, ◌∙◌, ◌⊎◌, inl, inr, Bool, true, false, eqb, arith}
-use Rattle.std.specs.Prelude.{Some, Result, Ok, Err, slice_get, slice_set}
-use Rattle.std.proofs.lemmas.Bool.{eqb-true, eqb-false}
+use Rattle.std.proofs.Common.{◌≡◌, ℕ, zero, suc, ◌+◌, ◌<◌, ◌≤◌, List, [], ◌∷◌, map, length, refl}
+use Rattle.std.proofs.Common.{sym, ap, subst, ◌∙◌, ⊎_elim, arith}
+use Rattle.std.specs.Prelude.{Some, Result, Ok, Err, option_map, slice_get, slice_set}
+use Rattle.std.proofs.lemmas.Bool.{cases_lt}
 use Rattle.std.proofs.lemmas.List.{length-set, get_or-set_same, get_or-set_other, length-map}
-use Rattle.std.proofs.lemmas.Option.{same_Some, slice_get_within, slice_get-get_or}
+use Rattle.std.proofs.lemmas.Option.{same_Some, slice_get_within, slice_get_read, slice_get-map}
 use Rattle.std.proofs.lemmas.Option.{get_or_from_slice_get}
 use Rattle.dwp_base.specs.ByKind.{values_of, value_of, ReadsEach}
 use Rattle.dwp_base.specs.Reading.{Answers, read_each}
@@ -23,23 +23,15 @@ ReadBelow reads values count = (place : ℕ) (kind : SectionKind) → place < co
 set-here : {T : Type 0} (values : List T) (i : ℕ) (value : T) → i < length values
     → slice_get (slice_set values i value) i ≡ Some value
 set-here values i value within =
-    let long = length-set values i value in
-    slice_get-get_or (slice_set values i value) i value (omega (arith, long, within))
-    ∙ ap Some (get_or-set_same values i value value within)
+    slice_get_read (slice_set values i value) (length values) i value
+    (sym (length-set values i value)) within (sym (get_or-set_same values i value value within))
 
 set-elsewhere : {T : Type 0} (values : List T) (i j : ℕ) (value old : T) → (j ≡ i → ⊥)
     → slice_get values j ≡ Some old → slice_get (slice_set values i value) j ≡ Some old
 set-elsewhere values i j value old other at =
-    let long = length-set values i value in
-    let within = slice_get_within values j old at in
-    slice_get-get_or (slice_set values i value) j old (omega (arith, long, within))
-    ∙ ap Some (get_or-set_other values i j value old other
-    ∙ get_or_from_slice_get values j old old at)
-
-last-or-before : (place i : ℕ) (b : Bool) → eqb place i ≡ b → place < i + 1
-    → (place ≡ i) ⊎ (place < i)
-last-or-before place i true e lt = inl (eqb-true place i e)
-last-or-before place i false e lt = inr (omega (arith, lt, eqb-false place i e))
+    slice_get_read (slice_set values i value) (length values) j old
+    (sym (length-set values i value)) (slice_get_within values j old at)
+    (sym (get_or-set_other values i j value old other ∙ get_or_from_slice_get values j old old at))
 
 -- one more is read
 pub read-more : {T E : Type 0} (reads : SectionKind → Result T E → Type 0) (values new : List T)
@@ -47,33 +39,29 @@ pub read-more : {T E : Type 0} (reads : SectionKind → Result T E → Type 0) (
     → slice_get all_kinds i ≡ Some kind → new ≡ slice_set values (rank_of kind) value
     → reads kind (Ok value) → ReadBelow reads values i
     → (length new ≡ 13) × ReadBelow reads new (i + 1)
-read-more {T} {E} reads values new i kind value long within at is read before =
+read-more reads values new i kind value long within at is read before =
     let put : new ≡ slice_set values i value = is ∙ ap (λ n. slice_set values n value)
-    (rank-at i kind at) in (
-      ap length put ∙ length-set values i value ∙ long,
-      λ place other lt there. by place other there (last-or-before place i (eqb place i) refl lt),
+    (rank-at i kind at) in
+    rw put (
+      length-set values i value ∙ long,
+      λ place other lt there. ⊎_elim
+          (λ (earlier : place < i).
+          let old = before place other earlier there in (
+            old.0,
+            set-elsewhere values i place value old.0 (λ e. omega (arith, e, earlier)) old.1,
+            old.2,
+          ))
+          (λ (later : i ≤ place).
+          let same : place ≡ i = omega arith in
+          let this : kind ≡ other = same_Some _ _ (sym at ∙ ap (slice_get all_kinds) (sym same)
+          ∙ there) in (
+            value,
+            ap (slice_get (slice_set values i value)) same
+                ∙ set-here values i value (omega (arith, long, within)),
+            subst (λ k. reads k (Ok value)) this read,
+          ))
+          (cases_lt place i),
     )
-  where
-    by : (place : ℕ) (other : SectionKind) → slice_get all_kinds place ≡ Some other
-        → (place ≡ i) ⊎ (place < i)
-        → (x : T) × (slice_get new place ≡ Some x) × reads other (Ok x)
-    by place other there (inl same) =
-        let this : kind ≡ other = same_Some _ _ (sym at ∙ ap (slice_get all_kinds) (sym same)
-        ∙ there) in (
-          value,
-          ap (λ l. slice_get l place) (is ∙ ap (λ n. slice_set values n value)
-              (rank-at i kind at)) ∙ ap (slice_get (slice_set values i value)) same
-              ∙ set-here values i value (omega (arith, long, within)),
-          subst (λ k. reads k (Ok value)) this read,
-        )
-    by place other there (inr lt) =
-        let old = before place other lt there in (
-          old.0,
-          ap (λ l. slice_get l place) (is ∙ ap (λ n. slice_set values n value)
-              (rank-at i kind at))
-              ∙ set-elsewhere values i place value old.0 (λ e. omega (arith, e, lt)) old.1,
-          old.2,
-        )
 
 -- all are read
 pub read-all : {T E : Type 0} (reads : SectionKind → Result T E → Type 0) (values : List T)
@@ -103,9 +91,7 @@ map-at f (x ∷ xs) (suc i) y at = map-at f xs i y at
 
 at-map : {X Y : Type 0} (f : X → Y) (xs : List X) (i : ℕ) (x : X) → slice_get xs i ≡ Some x
     → slice_get (map f xs) i ≡ Some (f x)
-at-map f [] i x at = absurd cc
-at-map f (y ∷ ys) zero x at = ap (λ z. Some (f z)) (same_Some _ _ at)
-at-map f (y ∷ ys) (suc i) x at = at-map f ys i x at
+at-map f xs i x at = slice_get-map f xs i ∙ ap (option_map f) at
 
 stops : {X Y E : Type 0} (f : X → Result Y E) (xs : List X) (place : ℕ) (x : X) (e : E)
     → slice_get xs place ≡ Some x → f x ≡ Err e

@@ -1,8 +1,7 @@
 -- Steps that read: what one that answered says of those before it, and what is read for each of a
 -- list.
 use Rattle.std.proofs.Common.{◌≡◌, ℕ, zero, suc, Bool, true, false, cond, List, [], ◌∷◌, map, refl}
-use Rattle.std.proofs.Common.{sym, ap, ◌∙◌, ◌⊎◌, inl, inr}
-use Rattle.std.specs.Prelude.{Some, Result, Ok, Err, slice_get}
+use Rattle.std.proofs.Common.{sym, ap, ◌∙◌, ◌⊎◌, inl, inr, Some, Result, Ok, Err, slice_get}
 use Rattle.dwp_base.specs.Reading.{◌>>=◌, read_each}
 
 -- a step that answered goes on

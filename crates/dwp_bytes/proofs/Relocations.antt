@@ -1,8 +1,11 @@
 -- An ascending list of relocations is searched by halves.
-use Rattle.std.proofs.Common.{◌≡◌, ◌≢◌, inl, inr, ℕ, zero, suc, ◌<◌, ◌≤◌, true, false, eqb, List}
-use Rattle.std.proofs.Common.{[], ◌∷◌, length, get_or, Some, None, Ok, Err, refl, arith, sym, ◌∙◌}
-use Rattle.std.proofs.lemmas.Bool.{ltb-true, cases_lt}
+use Rattle.std.proofs.Common.{◌≡◌, ◌≢◌, inl, inr, ℕ, zero, suc, ◌+◌, ◌<◌, true, false, eqb, List}
+use Rattle.std.proofs.Common.{◌∷◌}
+use Rattle.std.proofs.Common.{length, get_or, Some, None, Ok, Err, refl, arith, sym, ◌∙◌}
+use Rattle.std.proofs.lemmas.Bool.{ltb-true, cases_lt, ne_eqb}
 use Rattle.std.proofs.lemmas.Bool.Decides.{nat_tests}
+use Rattle.std.proofs.lemmas.List.Recursion.{found_at, found_nowhere}
+use Rattle.std.proofs.lemmas.List.Sorted.{IsNonDecreasingBy-from_all_adjacent}
 use Rattle.std.specs.Ordering.{nat_cmp, ordering_index}
 use Rattle.std.specs.declared.cmp.Ordering.{Ordering}
 use Rattle.std.specs.declared.cmp.Ordering.TheVariants.{Less, Equal, Greater}
@@ -11,58 +14,28 @@ use Rattle.dwp_bytes.specs.declared.relocation.RelocationEntry.{RelocationEntry}
 use Rattle.dwp_bytes.specs.Relocation.{ascends, begins_past, relocation_at, relocated_by, value_of}
 use Rattle.dwp_base.proofs.Bools.{both}
 
-past_all : (n : ℕ) (xs : List RelocationEntry) (k : ℕ) (d : RelocationEntry) → begins_past n xs ≡
-    true → ascends xs ≡ true → k < length xs → n < (get_or xs k d).offset
-past_all n [] k d begins ordered lt = absurd (omega arith)
-past_all n (x ∷ xs) zero d begins ordered lt = ltb-true _ _ begins
-past_all n (x ∷ xs) (suc k) d begins ordered lt =
+-- each offset is below those further on
+rising : (xs : List RelocationEntry) (i j : ℕ) (d : RelocationEntry) → ascends xs ≡ true → i < j
+    → j < length xs → (get_or xs i d).offset < (get_or xs j d).offset
+rising (x ∷ y ∷ xs) zero (suc zero) d ordered lt within = ltb-true _ _ (both _ _ ordered).0
+rising (x ∷ y ∷ xs) zero (suc (suc j)) d ordered lt within =
     let parts = both _ _ ordered in
-    let first : n < x.offset = ltb-true _ _ begins in
-    let rest : x.offset < (get_or xs k d).offset = past_all x.offset xs k d parts.0 parts.1
-    (omega arith) in
+    let first : x.offset < y.offset = ltb-true _ _ parts.0 in
+    let rest : y.offset < (get_or xs j d).offset = rising (y ∷ xs) zero (suc j) d parts.1
+    (omega arith) (omega arith) in
     omega arith
-
-rising : (xs : List RelocationEntry) (i j : ℕ) (d : RelocationEntry) → ascends xs ≡ true → i ≤ j
-    → j < length xs → (get_or xs i d).offset ≤ (get_or xs j d).offset
-rising [] i j d ordered le lt = absurd (omega arith)
-rising (x ∷ xs) zero zero d ordered le lt = omega arith
-rising (x ∷ xs) zero (suc j) d ordered le lt =
-    let parts = both _ _ ordered in
-    let rest : x.offset < (get_or xs j d).offset = past_all x.offset xs j d parts.0 parts.1
-    (omega arith) in
-    omega arith
-rising (x ∷ xs) (suc i) zero d ordered le lt = absurd (omega arith)
-rising (x ∷ xs) (suc i) (suc j) d ordered le lt = rising xs i j d (both _ _ ordered).1
-    (omega arith) (omega arith)
-
-found : (xs : List RelocationEntry) (i offset : ℕ) (d : RelocationEntry) → ascends xs ≡ true
-    → i < length xs → (get_or xs i d).offset ≡ offset → relocation_at xs offset ≡ Some
-    (get_or xs i d).relocation
-found [] i offset d ordered lt at = absurd (omega arith)
-found (x ∷ xs) zero offset d ordered lt at = let e : eqb x.offset offset ≡ true =
-    grind (arith, nat_tests) in rw e refl
-found (x ∷ xs) (suc i) offset d ordered lt at =
-    let parts = both _ _ ordered in
-    let rest : x.offset < (get_or xs i d).offset = past_all x.offset xs i d parts.0 parts.1
-    (omega arith) in
-    let e : eqb x.offset offset ≡ false = grind (arith, nat_tests) in
-    rw e (found xs i offset d parts.1 (omega arith) at)
-
-missing : (xs : List RelocationEntry) (offset : ℕ) → ((k : ℕ) (d : RelocationEntry) → k < length xs
-    → (get_or xs k d).offset ≢ offset) → relocation_at xs offset ≡ None
-missing [] offset nowhere = refl
-missing (x ∷ xs) offset nowhere =
-    let here : x.offset ≢ offset = nowhere 0 x (omega arith) in
-    let e : eqb x.offset offset ≡ false = grind (arith, nat_tests) in
-    rw e (missing xs offset (λ k d lt. nowhere (suc k) d (omega arith)))
+rising (x ∷ xs) (suc i) (suc j) d ordered lt within = rising xs i j d
+    (both (begins_past x.offset xs) (ascends xs) ordered).1 (omega arith) (omega arith)
+rising xs i j d ordered lt within = absurd (omega arith)
 
 not_equal : (a b : ℕ) (o : Ordering) → nat_cmp a b ≡ o → (o ≡ Equal → ⊥) → a ≢ b
 not_equal a b o is other same = other (sym is ∙ grind (arith, nat_tests))
 
 searchable : (xs : List RelocationEntry) (offset : ℕ) → ascends xs ≡ true → IsNonDecreasingBy (λ y.
     ordering_index (nat_cmp y.offset offset)) xs
-searchable xs offset ordered = λ i j d le lt.
-    (let rises = rising xs i j d ordered le lt in grind (arith, nat_tests))
+searchable xs offset ordered = IsNonDecreasingBy-from_all_adjacent
+    (λ y. ordering_index (nat_cmp y.offset offset)) xs (λ k d lt.
+    let rises = rising xs k (k + 1) d ordered (omega arith) lt in grind (arith, nat_tests))
 
 pub searched_Ok : (xs : List RelocationEntry) (offset stored i : ℕ) (d : RelocationEntry)
     → ascends xs ≡ true → i < length xs → IsBinarySearchResult (λ y.
@@ -72,7 +45,10 @@ unfolding relocated_by
 searched_Ok xs offset stored i d ordered lt h =
     let here = h d in
     let at : (get_or xs i d).offset ≡ offset = grind (arith, nat_tests) in
-    rw (found xs i offset d ordered lt at) refl
+    rw (found_at (λ (l : List RelocationEntry). relocation_at l offset) (λ x. eqb x.offset offset)
+    (λ x. Some x.relocation) None refl (λ x l. refl) xs i d lt
+    (λ k before. let less = rising xs k i d ordered before lt in grind (arith, nat_tests))
+    (grind (arith, nat_tests))) refl
 
 pub searched_Err : (xs : List RelocationEntry) (offset stored i : ℕ) → ascends xs ≡ true
     → IsBinarySearchResult (λ y. nat_cmp y.offset offset) xs (Err i) → stored ≡ relocated_by
@@ -80,7 +56,11 @@ pub searched_Err : (xs : List RelocationEntry) (offset stored i : ℕ) → ascen
 unfolding relocated_by
 searched_Err xs offset stored i ordered h =
     let parts = h (searchable xs offset ordered) in
-    rw (missing xs offset (λ k d lt. elim (cases_lt k i) [
+    let d : RelocationEntry =
+    record { offset = 0; relocation = record { addend = 0; implicit_addend = false } } in
+    rw (found_nowhere (λ (l : List RelocationEntry). relocation_at l offset)
+    (λ x. eqb x.offset offset) (λ x. Some x.relocation) None refl (λ x l. refl) xs d
+    (λ k lt. ne_eqb _ _ (elim (cases_lt k i) [
       | inl low ↦ not_equal _ _ Less (parts.0 k d (omega arith) low) (λ e. absurd cc)
       | inr high ↦ not_equal _ _ Greater (parts.1 k d high lt) (λ e. absurd cc)
-    ])) refl
+    ]))) refl

@@ -1,11 +1,10 @@
 -- Sections that are compared.
 use Rattle.std.proofs.Common.{◌≡◌, ℕ, ◌+◌, ◌<◌, ◌≤◌, true, false, List, ◌++◌, length, take, drop}
-use Rattle.std.proofs.Common.{get_or, Some, None, Option, Ok, Err, sym, ap, ◌∙◌, refl, [], ◌∷◌}
-use Rattle.std.proofs.Common.{Result, append_assoc, append-nil}
+use Rattle.std.proofs.Common.{get_or, Some, Option, Ok, Err, sym, ap, ◌∙◌, refl, [], ◌∷◌, Result}
+use Rattle.std.proofs.Common.{append_assoc, append-nil, slice_get, option_map, codes}
+use Rattle.std.proofs.Common.{take-append-drop, ap₂}
 use Rattle.std.specs.Global.{Vec}
-use Rattle.std.specs.Prelude.{slice_get, option_map, codes}
-use Rattle.std.specs.Option.{ok_or}
-use Rattle.std.proofs.lemmas.List.{drop_all, take-append-drop, drop_more, map-append}
+use Rattle.std.proofs.lemmas.List.{drop_all, drop_more, map-append}
 use Rattle.std.proofs.lemmas.Option.{slice_get-map, slice_get_read, slice_get_within}
 use Rattle.std.proofs.lemmas.Option.{get_or_from_slice_get}
 use Rattle.dwp_elf_read.specs.Elf.{Elf, SectionMeaning}
@@ -101,18 +100,6 @@ pub adds_none : (section : SectionMeaning) → is_compressed section ≡ false
 unfolding added_name_of
 adds_none section h = rw h refl
 
-pub some_of : {X E : Type 0} (o : Option X) (e : E) (x : X) → ok_or o e ≡ Ok x → o ≡ Some x
-some_of None e x h = absurd cc
-some_of (Some y) e x h = let same : y ≡ x = cc in ap Some same
-
-pub none_of : {X E : Type 0} (o : Option X) (e f : E) → ok_or o e ≡ Err f → o ≡ None
-none_of None e f h = refl
-none_of (Some y) e f h = absurd cc
-
--- a list of two parts
-pub joined : (n : ℕ) (xs a b : List ℕ) → take n xs ≡ a → drop n xs ≡ b → xs ≡ a ++ b
-joined n xs a b p q = rw (← p, ← q) (sym (take-append-drop n xs))
-
 -- a section whose other numbers are those of another
 pub is_own : (new old : SectionMeaning) (name : Option (List ℕ)) (flags size : ℕ)
     (content : Option (List ℕ)) → new ≡ with_own new old → new.name ≡ name → new.flags ≡ flags
@@ -159,7 +146,7 @@ same_file new old sections c o m s = rw (← c, ← o, ← m, ← s) refl
 pub renamed : (old new : List ℕ) → is_older old ≡ true → take 7 new ≡ codes ".debug_"
     → drop 7 new ≡ drop 8 old → new ≡ plain_name old
 unfolding plain_name
-renamed old new h p q = rw h (joined 7 new (codes ".debug_") (drop 8 old) p q)
+renamed old new h p q = rw h (sym (take-append-drop 7 new) ∙ ap₂ (λ (a b : List ℕ). a ++ b) p q)
 
 pub kept : (old new : List ℕ) → is_older old ≡ false → new ≡ old → new ≡ plain_name old
 unfolding plain_name

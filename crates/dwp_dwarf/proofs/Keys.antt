@@ -1,10 +1,8 @@
 -- A map from numbers: what it has for each of them, where it has none, or one more than before.
-use Rattle.std.proofs.Common.{◌≡◌, ◌≢◌, ℕ, [], Option, Some, None, Result, Ok, Err, OnOk, true}
-use Rattle.std.proofs.Common.{false, eqb, refl, arith, IfSome, nat_cmp, BTreeMap, is_ok, eqb-true}
-use Rattle.std.specs.BTreeMap.{get, is_at}
-use Rattle.std.proofs.lemmas.Bool.{eqb-false}
-use Rattle.std.proofs.lemmas.Grind.{common_steps}
-use Rattle.dwp_base.proofs.Bools.{by-bool}
+use Rattle.dwp_dwarf.proofs.Terms
+use Terms.{[], arith, BTreeMap, by-bool, common_steps, eqb, eqb-false, eqb-true, Err, false, get}
+use Terms.{IfSome, is_ok, nat_cmp, None, Ok, OnOk, Option, refl, Result, Some, true, ℕ, ◌≡◌, ◌≢◌}
+use Rattle.std.specs.BTreeMap.{is_at}
 
 -- by whether it is the key
 pub by_key : {P : Type 0} (k q : ℕ) → (q ≡ k → P) → (q ≢ k → P) → P

@@ -1,3 +1,4 @@
+pub mod Terms
 pub mod Keys
 pub mod Units
 pub mod Readings

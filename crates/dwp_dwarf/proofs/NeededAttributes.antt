@@ -1,30 +1,22 @@
 -- Attributes whose values have no bytes have no number and name no place, so the attributes that
 -- are needed tell what all tell.
-use Rattle.std.proofs.Common.{◌≡◌, ℕ, false, List, [], ◌∷◌, length, Result, Ok, Option, Some, None}
-use Rattle.std.proofs.Common.{eqb, refl, ap, sym, ◌∙◌, arith, add-zero, eqb-true, le-ltb, Bool}
-use Rattle.std.proofs.Common.{true, cond, find, ◌&&◌, if◌then◌else◌, is_none}
+use Rattle.dwp_dwarf.proofs.Terms
+use Terms.{◌&&◌, ◌>>=◌, [], add-zero, ap, arith, attribute_at, attributes, Bool, by-bool, cond}
+use Terms.{DebugAttribute, Encoding, eqb, eqb-true, false, find, first_number, Fixed, Format, front}
+use Terms.{has_bytes, if◌then◌else◌, Input, is_needed, is_none, is_unmet, layout_of, le-ltb, length}
+use Terms.{List, met, named_form_at, named_number, needed, neither, None, none_met, number_or, Ok}
+use Terms.{Option, past_value, ReadError, refl, Result, skip_at, Some, Specification, split_at}
+use Terms.{split_in, SplitAttributes, sym, value_at, ℕ, ◌∙◌, ◌∷◌, ◌≡◌}
 use Rattle.std.proofs.Math.Nat.{sub_self}
-use Rattle.dwp_bytes.specs.Input.{Input, front, skip_at, split_at}
-use Rattle.dwp_bytes.specs.declared.encoding.Encoding.{Encoding}
-use Rattle.dwp_bytes.specs.declared.encoding.Format.{Format}
-use Rattle.dwp_bytes.specs.declared.error.ReadError.{ReadError}
-use Rattle.dwp_dwarf.specs.declared.form.Layout.TheVariants.{Fixed}
-use Rattle.dwp_dwarf.specs.Abbreviations.{Specification}
-use Rattle.dwp_dwarf.specs.Forms.{layout_of, past_value, value_at, named_form_at}
-use Rattle.dwp_dwarf.specs.Entries.{DebugAttribute, attribute_at, attributes, number_of, place_of}
-use Rattle.dwp_dwarf.specs.Needed.{is_needed, met, needed, is_unmet, none_met}
+use Rattle.dwp_dwarf.specs.Entries.{number_of, place_of}
 use Rattle.dwp_dwarf.specs.declared.needed.UnmetNames.{UnmetNames}
-use Rattle.dwp_dwarf.specs.Numbers.{named_number, number_or, first_number, has_bytes}
 use Rattle.dwp_dwarf.proofs.Readings.{after-zero, bind-bind, bind_alike, by-result}
 use Rattle.dwp_dwarf.proofs.Values.{named_form-cases, attribute_lies}
 use Rattle.std.proofs.lemmas.List.Folds.{find-append}
-use Rattle.dwp_base.proofs.Bools.{by-bool, neither}
 use Rattle.std.specs.Option.{option_or}
-use Rattle.dwp_base.specs.Reading.{◌>>=◌}
-use Rattle.dwp_dwarf.specs.Split.{SplitAttributes, split_attributes, split_in, with_attribute}
-use Rattle.dwp_dwarf.specs.Split.{all_read, base_in, first_base, is_attribute, none_found}
-use Rattle.dwp_dwarf.specs.Split.{DW_AT_dwo_name, DW_AT_GNU_dwo_name, DW_AT_comp_dir}
-use Rattle.dwp_dwarf.specs.Split.{DW_AT_str_offsets_base}
+use Rattle.dwp_dwarf.specs.Split.{split_attributes, with_attribute, all_read, base_in, first_base}
+use Rattle.dwp_dwarf.specs.Split.{is_attribute, none_found, DW_AT_dwo_name, DW_AT_GNU_dwo_name}
+use Rattle.dwp_dwarf.specs.Split.{DW_AT_comp_dir, DW_AT_str_offsets_base}
 
 -- ---- an attribute whose value has no bytes
 
@@ -66,8 +58,7 @@ is_empty encoding s i none = by-bool _ (eqb s.form 0x19)
 
 numberless_or : (name : ℕ) (a : DebugAttribute) (others : Result (Option ℕ) ReadError)
     → number_of a ≡ None → number_or (named_number name a) others ≡ others
-numberless_or name a others none = by-bool _ (eqb a.name name) (λ e. rw (e, none) refl)
-    (λ e. rw e refl)
+numberless_or name a others none = grind arith
 
 -- it is among those that are needed
 pub first_needed : (name : ℕ) (encoding : Encoding) (unmet : UnmetNames) (ss : List Specification)
@@ -101,12 +92,10 @@ after format before rest = all_read rest >>= λ attributes.
 
 or-assoc : {T : Type 0} (x y z : Option T) → option_or x (option_or y z) ≡ option_or
     (option_or x y) z
-or-assoc None y z = refl
-or-assoc (Some x) y z = refl
+or-assoc x y z = grind arith
 
 or-none : {T : Type 0} (x : Option T) → option_or x None ≡ x
-or-none None = refl
-or-none (Some x) = refl
+or-none x = grind arith
 
 or-find : {T : Type 0} (x : Option T) (p : T → Bool) (a : T) (rest : List T)
     → option_or x (find p (a ∷ rest)) ≡ option_or (option_or x (find p (a ∷ []))) (find p rest)
@@ -142,10 +131,7 @@ unmet_of before = record {
 
 none_or : {T : Type 0} (x : Option T) (b : Bool) (a : T) → is_none (option_or x
     (cond b (Some a) None)) ≡ (if b then false else is_none x)
-none_or None true a = refl
-none_or None false a = refl
-none_or (Some x) true a = refl
-none_or (Some x) false a = refl
+none_or x b a = grind arith
 
 -- an attribute takes its name out
 unmet_behind : (format : Format) (before : SplitAttributes) (a : DebugAttribute)
@@ -159,14 +145,11 @@ unmet_behind format before a = rw (
 -- an attribute that isn't the first of its name counts for nothing
 not_first : {T : Type 0} (x : Option T) (b : Bool) (a : T) → (b && is_none x) ≡ false
     → option_or x (cond b (Some a) None) ≡ x
-not_first (Some x) b a e = refl
-not_first None false a e = refl
-not_first None true a e = absurd cc
+not_first x b a e = grind arith
 
 no_place : (b : Bool) (place : Option ℕ) → place ≡ None
     → (if b then place else None) ≡ None
-no_place true place e = e
-no_place false place e = refl
+no_place b place e = grind arith
 
 passed_over : (format : Format) (before : SplitAttributes) (a : DebugAttribute)
     → place_of format a ≡ None → is_unmet (unmet_of before) a.name ≡ false

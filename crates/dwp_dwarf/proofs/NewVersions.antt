@@ -1,14 +1,11 @@
 -- A new version has what the older one has but for one key, and older versions stay.
-use Rattle.std.proofs.Common.{◌≡◌, ◌≢◌, ℕ, zero, suc, ◌<◌, ◌≤◌, ◌-◌, ◌%◌, cond, List, [], ◌∷◌, ◌++◌}
-use Rattle.std.proofs.Common.{length, Option, Some, None, eqb, ltb, refl, ap, sym, ◌∙◌, arith}
-use Rattle.std.proofs.Common.{append_assoc, slice_get, eqb-true, ne_eqb, lt-ltb, ltb-true}
-use Rattle.std.proofs.Common.{length-append, append-nil, eq-eqb}
-use Rattle.std.proofs.lemmas.Bool.{eqb-false}
+use Rattle.dwp_dwarf.proofs.Terms
+use Terms.{◌%◌, ◌++◌, ◌-◌, ◌<◌, [], ap, append-nil, append_assoc, arith, by-bool, cond, eq-eqb, eqb}
+use Terms.{eqb-false, eqb-true, length, length-append, List, lt-ltb, ltb, ltb-true, ne_eqb, Node}
+use Terms.{None, Option, refl, slice_get, Some, suc, sym, zero, ℕ, ◌∙◌, ◌∷◌, ◌≡◌, ◌≢◌, ◌≤◌}
 use Rattle.std.proofs.lemmas.Option.{slice_get_within}
 use Rattle.dwp_dwarf.specs.Versions.{node_of, held, side_of, half, older, copy_by, copy_of}
 use Rattle.dwp_dwarf.specs.Versions.{value_below, value_by, Grows}
-use Rattle.dwp_dwarf.specs.declared.versions.Node.{Node}
-use Rattle.dwp_base.proofs.Bools.{by-bool}
 
 pub grows_none : (nodes : List Node) → Grows nodes nodes
 grows_none nodes = record { more = []; is = sym (append-nil nodes) }

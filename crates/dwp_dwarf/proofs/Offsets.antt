@@ -1,9 +1,8 @@
 -- What stands at an offset of a section.
-use Rattle.std.proofs.Common.{◌≡◌, ℕ, ◌<◌, ◌≤◌, length, Ok, Err, ltb, refl, lt-ltb, arith}
-use Rattle.std.proofs.Common.{ltb-false, le-ltb}
-use Rattle.dwp_bytes.specs.declared.error.ReadError.TheVariants.{OffsetOutOfRange}
-use Rattle.dwp_bytes.specs.Input.{Input, after, skip_at}
-use Rattle.dwp_dwarf.specs.Offsets.{from_at}
+use Rattle.dwp_dwarf.proofs.Terms
+use Terms.{◌<◌, arith, Err, from_at, Input, le-ltb, length, lt-ltb, ltb, ltb-false}
+use Terms.{OffsetOutOfRange, Ok, refl, skip_at, ℕ, ◌≡◌, ◌≤◌}
+use Rattle.dwp_bytes.specs.Input.{after}
 use Rattle.dwp_dwarf.proofs.Readings.{value_gives, error_gives, test_gives, after-zero}
 
 -- past the end nothing stands

@@ -1,32 +1,23 @@
 -- What is remembered of a place of a section of abbreviations, from what is remembered of the next.
-use Rattle.std.proofs.Common.{◌≡◌, ◌≢◌, ℕ, ◌≤◌, ◌-◌, List, [], length, Bool, true, false, Option}
-use Rattle.std.proofs.Common.{Some, None, Result, Ok, refl, ap, sym, subst, ◌∙◌, arith, IfSome}
-use Rattle.std.proofs.Common.{nat_cmp, ◌+◌, length-take, length-drop}
-use Rattle.std.specs.BTreeMap.{get}
-use Rattle.dwp_base.proofs.Bools.{by-bool}
-use Rattle.dwp_bytes.specs.Input.{Input, Goes, front, after}
-use Rattle.dwp_bytes.specs.declared.error.ReadError.{ReadError}
-use Rattle.dwp_dwarf.specs.Abbreviations.{Declaration, declaration}
-use Rattle.dwp_dwarf.specs.Chains.{from_end, absent_by, StandsAt, DeclaredAt, SaidBy, EndsBefore}
-use Rattle.dwp_dwarf.specs.Chains.{StaysBehind, RemembersPlace, RemembersPlaces, RemembersChains}
-use Rattle.dwp_dwarf.specs.Chains.{FirstAt, first_by, first_in, ListsPlaces, StaysBefore}
-use Rattle.dwp_dwarf.specs.Declarations.{found_of}
+use Rattle.dwp_dwarf.proofs.Terms
+use Terms.{◌+◌, ◌-◌, [], Abbreviation, Answers, ap, arith, Bool, by-bool, Declaration, declaration}
+use Terms.{drop-take, false, found_of, from_at, front, get, Goes, IfSome, Input, length}
+use Terms.{length-drop, length-take, List, nat_cmp, next_at, Node, None, Ok, Option, ReadError}
+use Terms.{refl, RemembersPlaces, Result, Some, StandsAt, subst, sym, true, ℕ, ◌∙◌, ◌≡◌, ◌≢◌, ◌≤◌}
+use Rattle.dwp_bytes.specs.Input.{after}
+use Rattle.dwp_dwarf.specs.Chains.{from_end, absent_by, DeclaredAt, SaidBy, EndsBefore, StaysBehind}
+use Rattle.dwp_dwarf.specs.Chains.{RemembersPlace, RemembersChains, FirstAt, first_by, first_in}
+use Rattle.dwp_dwarf.specs.Chains.{ListsPlaces, StaysBefore}
 use Rattle.dwp_dwarf.specs.Codes.{Numbered, KeptOrNew, GrowsCodes}
-use Rattle.dwp_dwarf.specs.Grammar.{next_at}
 use Rattle.dwp_dwarf.specs.Versions.{value_in, Grows}
-use Rattle.dwp_dwarf.specs.declared.abbrev.Abbreviation.{Abbreviation}
 use Rattle.dwp_dwarf.specs.declared.chains.Chains.{Chains}
 use Rattle.dwp_dwarf.specs.declared.chains.Place.{Place}
 use Rattle.dwp_dwarf.specs.declared.codes.Codes.{Codes}
-use Rattle.dwp_dwarf.specs.declared.versions.Node.{Node}
-use Rattle.dwp_base.specs.Reading.{Answers}
 use Rattle.dwp_dwarf.proofs.Keys.{by_key, one_more, if_map, none_there}
 use Rattle.dwp_dwarf.proofs.Readings.{one_answer, goes_then, takes_front, size}
 use Rattle.dwp_dwarf.proofs.Tables.{Next, Found, look_up-here, look_up-other, next_shorter}
 use Rattle.dwp_dwarf.proofs.Tables.{next_takes}
 use Rattle.dwp_dwarf.proofs.NewVersions.{value_stays, grows_length, none_below}
-use Rattle.dwp_dwarf.specs.Offsets.{from_at}
-use Rattle.std.proofs.lemmas.List.{drop-take}
 use Rattle.dwp_dwarf.proofs.Offsets.{from_is, from_within}
 
 -- ---- what a table says of a code doesn't need the bytes behind the code's declaration

@@ -1,29 +1,23 @@
 -- A table of abbreviations: its readings go forward, and its lists and look-ups go by what stands
 -- first.
-use Rattle.std.proofs.Common.{◌≡◌, [], ◌∙◌, ℕ, zero, suc, ◌<◌, Bool, false, cond, eqb, List, ◌∷◌}
-use Rattle.std.proofs.Common.{length, Option, Some, None, Result, Ok, Err, refl, ap, arith, subst}
-use Rattle.std.proofs.Common.{◌++◌, ◌≢◌, eq-eqb, IfSome, ne_eqb, take, ◌↔◌, sym, eqb-true}
-use Rattle.dwp_base.specs.Reading.{◌>>=◌}
-use Rattle.dwp_bytes.specs.Input.{Input, Goes, byte_at}
-use Rattle.dwp_bytes.specs.Leb.{leb_at, uleb_at}
-use Rattle.dwp_bytes.specs.declared.error.ReadError.{ReadError}
-use Rattle.dwp_bytes.specs.declared.error.ReadError.TheVariants.{UnexpectedEof}
-use Rattle.dwp_dwarf.specs.Abbreviations.{Specification, Declaration, constant_at, specification_at}
-use Rattle.dwp_dwarf.specs.Abbreviations.{specifications_within, specifications_at, is_last, tag_at}
-use Rattle.dwp_dwarf.specs.Abbreviations.{children_at, declaration_at, code_at, past_specifications}
-use Rattle.dwp_dwarf.specs.Abbreviations.{pairs_from, pairs_within, pairs_in, declaration_within}
-use Rattle.dwp_dwarf.specs.Abbreviations.{declaration}
-use Rattle.dwp_dwarf.specs.Grammar.{next_at, DeclarationsLie, IsBehindOthers}
+use Rattle.dwp_dwarf.proofs.Terms
+use Terms.{◌++◌, ◌<◌, ◌>>=◌, [], ap, arith, Bool, by-bool, byte_at, cond, Declaration, declaration}
+use Terms.{declaration_at, eq-eqb, eqb, eqb-false, eqb-true, Err, false, Goes, IfSome, Input}
+use Terms.{leb_at, length, List, ne_eqb, next_at, None, Ok, Option, pairs_in, past_specifications}
+use Terms.{ReadError, refl, Result, Some, Specification, subst, suc, sym, take, uleb_at}
+use Terms.{UnexpectedEof, zero, ℕ, ◌↔◌, ◌∙◌, ◌∷◌, ◌≡◌, ◌≢◌}
+use Rattle.dwp_dwarf.specs.Abbreviations.{constant_at, specification_at, specifications_within}
+use Rattle.dwp_dwarf.specs.Abbreviations.{specifications_at, is_last, tag_at, children_at, code_at}
+use Rattle.dwp_dwarf.specs.Abbreviations.{pairs_from, pairs_within, declaration_within}
+use Rattle.dwp_dwarf.specs.Grammar.{DeclarationsLie, IsBehindOthers}
 use Rattle.dwp_dwarf.proofs.Readings.{Steps, by_step, Answer, Gives, then_gives, value_gives}
 use Rattle.dwp_dwarf.proofs.Readings.{error_gives, test_gives, more_gives, was, bind_alike}
 use Rattle.dwp_dwarf.proofs.Readings.{bind-bind, bind-cond, size, goes_none, goes_some, goes_length}
 use Rattle.dwp_dwarf.proofs.Readings.{Reads, then_reads, value_reads, error_reads, test_reads}
 use Rattle.dwp_dwarf.proofs.Readings.{some_reads, reads_byte, reads_uleb, reads_sleb, shorter}
-use Rattle.dwp_dwarf.proofs.Readings.{takes_then, Takes, goes, by-result}
+use Rattle.dwp_dwarf.proofs.Readings.{takes_then, Takes, goes, by-result, told_there}
 use Rattle.dwp_base.proofs.Steps.{bind-was}
 use Rattle.std.specs.List.{AllByRecursion}
-use Rattle.std.proofs.lemmas.Bool.{eqb-false}
-use Rattle.dwp_base.proofs.Bools.{by-bool}
 
 reads_constant : (form : ℕ) → Reads 0 (Unit {0}) (constant_at form)
 unfolding constant_at
@@ -128,14 +122,25 @@ list_takes (suc n) i less = rw (specifications-cases i) (then_gives (reads_speci
     (λ first t. test_gives (is_last first.0)
     (λ last. value_gives (record {
       goes = t.goes;
-      anyway = λ rest. specifications-cases _ ∙ rw (t.anyway rest, last) refl;
+      anyway = λ j rest. specifications-cases _ ∙ rw (t.anyway j rest, last) refl;
     }))
     (λ other. then_gives (list_takes n first.1 (omega (arith, goes_length t.goes)))
     (λ others u. value_gives (takes_then t u
     (λ a b c p q. specifications-cases a ∙ rw (p, other, q) refl))))))
 
+reads_within : (n : ℕ) → Reads 1 (List Specification) (specifications_within n)
+unfolding specifications_within
+reads_within zero = error_reads
+reads_within (suc n) = then_reads _ reads_specification (λ first. test_reads (is_last first)
+    value_reads (some_reads (then_reads _ (reads_within n) (λ others. value_reads))))
+
 reads_specifications : Reads 1 (List Specification) specifications_at
-reads_specifications = record { reads = λ i. list_takes (suc (size i)) i (omega arith) }
+unfolding specifications_at
+reads_specifications = record {
+  reads = λ i. list_takes (suc (size i)) i (omega arith);
+  fails = λ i j same e h. ap (λ bytes. specifications_within (length bytes) j) same
+      ∙ (reads_within (size i)).fails i j same e h;
+}
 
 pub reads_declaration : Reads 1 Declaration declaration_at
 unfolding declaration_at
@@ -158,9 +163,9 @@ unfolding code_at
 code_takes i = test_gives (eqb (size i) 0) (λ _. value_gives (λ never. absurd cc))
     (λ _. more_gives (reads_uleb.reads i) (λ x t _. record {
       goes = t.goes;
-      anyway = λ rest. let less = shorter reads_uleb _ _ (t.anyway rest) in
+      anyway = λ j rest. let less = shorter reads_uleb _ _ (t.anyway j rest) in
           rw (ne_eqb (length (take t.goes.taken i.bytes ++ rest)) 0 (λ e. omega (arith, e, less)))
-          (t.anyway rest);
+          (t.anyway j rest);
     }))
 
 next_gives : (i : Input) → Gives (Option Next) (next_at i) (λ o. IfSome o (λ x. Takes 1 i x.1
@@ -304,3 +309,24 @@ said code i found = (
   (λ e. subst (SaidBehind code i) e (by_next (suc (size i)) code i (next_at i) refl (omega arith))),
   (λ s. passed_over code s.1.others i s.0 s.1.lie s.1.other ∙ says code s.0 found s.2),
 )
+
+-- ---- what a table declares depends on its bytes alone: not on the place in a section at which it
+-- stands, on the order of the bytes of a number, or on relocations
+
+within_anywhere : (n wanted : ℕ) (i j : Input) → j.bytes ≡ i.bytes
+    → declaration_within n wanted j ≡ declaration_within n wanted i
+unfolding declaration_within code_at
+within_anywhere zero wanted i j same = refl
+within_anywhere (suc n) wanted i j same = by-bool _ (eqb (length i.bytes) 0)
+    (λ none. rw (ap (λ bytes. eqb (length bytes) 0) same ∙ none, none) refl)
+    (λ some. rw (ap (λ bytes. eqb (length bytes) 0) same ∙ some, some)
+    (told_there reads_uleb _ (λ code k l e. ap (cond (eqb code 0) (Ok None))
+    (told_there reads_declaration _ (λ d v w f. ap (cond (eqb code wanted) (Ok (Some d)))
+    (within_anywhere n wanted v w f)) k l e)) i j same))
+
+-- tables of the same bytes declare the same
+pub declared_anywhere : (wanted : ℕ) (i j : Input) → i.bytes ≡ j.bytes
+    → declaration wanted i ≡ declaration wanted j
+unfolding declaration
+declared_anywhere wanted i j e = ap (λ bytes. declaration_within (length bytes) wanted i) e
+    ∙ within_anywhere (length j.bytes) wanted j i e

@@ -1,31 +1,28 @@
 -- A unit's bytes are those that stood before the rest, and its entries lie in them behind the
 -- header; the units of a section one after the other.
-use Rattle.std.proofs.Common.{◌≡◌, ℕ, ◌+◌, ◌-◌, ◌≤◌, List, length, Result, Ok, Err, ltb, leb, eqb}
-use Rattle.std.proofs.Common.{◌∷◌, ◌&&◌, refl, ap, sym, arith, length-take-le, ◌<◌, true, false}
-use Rattle.std.proofs.Common.{cond, [], ◌++◌, drop, map, append_assoc, length-append, ◌∙◌, is_err}
-use Rattle.std.proofs.Common.{flat_map, take-append-drop, append-nil, eqb-true, ne_eqb}
-use Rattle.std.proofs.lemmas.List.{drop-take, nil_from_length}
-use Rattle.dwp_bytes.specs.Input.{Input, Goes, front, offset_at, is_address_size, after}
+use Rattle.dwp_dwarf.proofs.Terms
+use Terms.{◌&&◌, ◌+◌, ◌++◌, ◌-◌, ◌<◌, [], ap, append-nil, append_assoc, arith, by-bool, cond, drop}
+use Terms.{drop-take, eqb, eqb-true, Err, false, flat_map, Format, front, Goes, Input, is_err, leb}
+use Terms.{length, length-append, length-take-le, List, ltb, map, ne_eqb, nil_from_length, Ok}
+use Terms.{ReadError, refl, Result, sym, take-append-drop, true, Unit, ℕ, ◌∙◌, ◌∷◌, ◌≡◌, ◌≤◌}
+use Rattle.dwp_bytes.specs.Input.{offset_at, is_address_size, after}
 use Rattle.dwp_bytes.specs.Encoding.{offset_size}
-use Rattle.dwp_bytes.specs.declared.encoding.Format.{Format}
 use Rattle.dwp_dwarf.specs.declared.unit.UnitType.{UnitType}
 use Rattle.dwp_dwarf.specs.declared.unit.UnitSection.{UnitSection}
 use Rattle.dwp_dwarf.specs.declared.unit.UnitSection.TheVariants.{Info, Types}
-use Rattle.dwp_dwarf.specs.Units.{Unit, initial_length_at, address_size_at, type_at, older_type_at}
+use Rattle.dwp_dwarf.specs.Units.{initial_length_at, address_size_at, type_at, older_type_at}
 use Rattle.dwp_dwarf.specs.Units.{unit_code_at, unit_type_at, older_at, newer_at, header_at}
 use Rattle.dwp_dwarf.specs.Units.{unit_at, listed, unit_of, unit_seen, units_left, units}
 use Rattle.dwp_dwarf.specs.Units.{units_within, unit_bytes, UnitsLie}
 use Rattle.dwp_dwarf.proofs.Readings.{Answer, Gives, then_gives, value_gives, error_gives}
 use Rattle.dwp_dwarf.proofs.Readings.{test_gives, more_gives, goes_none, goes_some, goes_then}
-use Rattle.dwp_dwarf.proofs.Readings.{goes_after, byte_goes, number_goes, relocated_goes}
+use Rattle.dwp_dwarf.proofs.Readings.{goes_after, reads_byte, goes, number_goes, relocated_goes}
 use Rattle.dwp_dwarf.proofs.Readings.{then_split, goes_least, size, goes_length, after-zero}
 use Rattle.dwp_dwarf.proofs.Readings.{after-after, by-result, Steps, by_step}
 use Rattle.std.proofs.lemmas.List.Concat.{flat_map-cons}
 use Rattle.dwp_base.specs.Reading.{Reads}
-use Rattle.dwp_bytes.specs.declared.error.ReadError.{ReadError}
 use Rattle.dwp_dwarf.specs.declared.unit.UnitHeader.{UnitHeader}
 use Rattle.dwp_dwarf.specs.declared.unit.UnitHeaders.{UnitHeaders}
-use Rattle.dwp_base.proofs.Bools.{by-bool}
 
 -- what was read leaves what stands behind it
 abbrev pub Onward : (A : Type 0) → Input → Answer A → Type 0
@@ -48,7 +45,7 @@ offset_goes format i = more_gives (relocated_goes (offset_size format) i) (λ x 
 
 address_size_goes : (i : Input) → Onward ℕ i (address_size_at i)
 unfolding address_size_at
-address_size_goes i = then_gives (byte_goes i) (λ n p. test_gives (is_address_size n.0)
+address_size_goes i = then_gives (goes reads_byte i) (λ n p. test_gives (is_address_size n.0)
     (λ _. value_gives (goes_some p)) (λ _. error_gives))
 
 type_goes : (format : Format) (i : Input) → Onward (ℕ × ℕ) i (type_at format i)
@@ -64,7 +61,7 @@ older_type_goes Types format i = then_gives (type_goes format i) (λ t p. value_
 
 unit_code_goes : (i : Input) → Onward ℕ i (unit_code_at i)
 unfolding unit_code_at
-unit_code_goes i = then_gives (byte_goes i) (λ n p. test_gives (leb 1 n.0 && leb n.0 6)
+unit_code_goes i = then_gives (goes reads_byte i) (λ n p. test_gives (leb 1 n.0 && leb n.0 6)
     (λ _. value_gives (goes_some p)) (λ _. error_gives))
 
 unit_type_goes : (code : ℕ) (format : Format) (i : Input)

@@ -1,33 +1,26 @@
 -- The values of a root entry lie in its unit: each part that is read stands right behind the one
 -- before it.
-use Rattle.std.proofs.Common.{◌≡◌, [], ◌∙◌, ℕ, List, ◌∷◌, ◌++◌, map, Option, Some, None, Result, Ok}
-use Rattle.std.proofs.Common.{eqb, refl, ap, sym, ok_or, IfSome, ◌≢◌, zero, suc, ◌-◌, cond, Err}
-use Rattle.std.proofs.Common.{arith, eqb-true}
-use Rattle.dwp_bytes.specs.Input.{Input, Goes, front, byte_at, found_at, after}
-use Rattle.dwp_bytes.specs.declared.encoding.Encoding.{Encoding}
-use Rattle.dwp_bytes.specs.declared.error.ReadError.{ReadError}
-use Rattle.dwp_bytes.specs.declared.error.ReadError.TheVariants.{UnknownCode, UnexpectedEof}
-use Rattle.dwp_bytes.specs.declared.error.ReadError.TheVariants.{UnknownForm}
-use Rattle.dwp_dwarf.specs.Abbreviations.{Specification, Declaration, declaration}
-use Rattle.dwp_dwarf.specs.Entries.{DebugAttribute, DebugEntry, attribute_at, attributes, entry}
+use Rattle.dwp_dwarf.proofs.Terms
+use Terms.{◌++◌, ◌-◌, ◌>>=◌, [], ap, arith, attribute_at, attributes, byte_at, cond, DebugAttribute}
+use Terms.{DebugEntry, Declaration, declaration, Encoding, entry, eqb, eqb-true, Err, Fixed, front}
+use Terms.{Goes, IfSome, Input, layout_of, leb_at, List, map, named_form_at, None, Ok, ok_or}
+use Terms.{Option, past_value, ReadError, refl, Result, Some, Specification, suc, sym, uleb_at}
+use Terms.{UnexpectedEof, Unit, UnknownCode, UnknownForm, value_at, zero, ℕ, ◌∙◌, ◌∷◌, ◌≡◌, ◌≢◌}
+use Rattle.dwp_bytes.specs.Input.{found_at, after}
 use Rattle.dwp_dwarf.specs.Entries.{root_code_at, entry_at, root_of_code, root_at}
-use Rattle.dwp_dwarf.specs.Units.{Unit}
 use Rattle.dwp_dwarf.specs.Values.{LiesFirst, ValuesLie, RootValuesLie}
 use Rattle.dwp_dwarf.proofs.Readings.{Gives, then_gives, value_gives, error_gives, test_gives, was}
 use Rattle.dwp_dwarf.proofs.Readings.{goes_then, Answer, more_gives, then_split, bind_alike, size}
-use Rattle.dwp_dwarf.proofs.Readings.{shorter, goes_some, goes_after, byte_goes, skip_goes}
+use Rattle.dwp_dwarf.proofs.Readings.{shorter, goes_some, goes_after, reads_byte, skip_goes}
 use Rattle.dwp_dwarf.proofs.Readings.{number_goes, reads_uleb, reads_sleb, goes, goes_none, Steps}
 use Rattle.dwp_dwarf.proofs.Readings.{by_step}
 use Rattle.dwp_dwarf.proofs.Tables.{code_goes}
 use Rattle.dwp_dwarf.proofs.Units.{unit_takes, listed_ok, Onward}
-use Rattle.dwp_base.specs.Reading.{◌>>=◌}
-use Rattle.dwp_bytes.specs.Leb.{leb_at, uleb_at}
 use Rattle.dwp_dwarf.specs.declared.form.Layout.{Layout}
-use Rattle.dwp_dwarf.specs.declared.form.Layout.TheVariants.{Fixed, Block, Text, Unsigned, Signed}
+use Rattle.dwp_dwarf.specs.declared.form.Layout.TheVariants.{Block, Text, Unsigned, Signed}
 use Rattle.dwp_dwarf.specs.declared.form.BlockLength.{BlockLength}
 use Rattle.dwp_dwarf.specs.declared.form.BlockLength.TheVariants.{One, Two, Four, Leb}
-use Rattle.dwp_dwarf.specs.Forms.{layout_of, block_length_at, text_at, past_value, value_at}
-use Rattle.dwp_dwarf.specs.Forms.{named_within, named_form_at}
+use Rattle.dwp_dwarf.specs.Forms.{block_length_at, text_at, named_within}
 
 -- ---- the names of forms
 
@@ -90,7 +83,7 @@ text_goes i = then_gives (was (found_at 0 i.bytes)) (λ n _. then_split _ n i (�
 
 block_length_goes : (wide : BlockLength) (i : Input) → Onward ℕ i (block_length_at wide i)
 unfolding block_length_at
-block_length_goes One i = more_gives (byte_goes i) (λ x p. goes_some p)
+block_length_goes One i = more_gives (goes reads_byte i) (λ x p. goes_some p)
 block_length_goes Two i = more_gives (number_goes 2 i) (λ x p. goes_some p)
 block_length_goes Four i = more_gives (number_goes 4 i) (λ x p. goes_some p)
 block_length_goes Leb i = more_gives (goes reads_uleb i) (λ x p. goes_some p)

@@ -1,17 +1,11 @@
 -- Lemmas on how the contents of sections change.
-use Rattle.std.proofs.Common.{◌≡◌, ℕ, zero, suc, ◌+◌, ◌<◌, ◌≤◌, Bool, true, false, cond, List, []}
-use Rattle.std.proofs.Common.{◌∷◌, ◌++◌, length, take, drop, get_or, set, Some, None, refl, sym}
-use Rattle.std.proofs.Common.{ap, ◌∙◌, subst, arith, add-one, append-nil}
-use Rattle.std.specs.Prelude.{Option, MatchOption, position}
-use Rattle.std.specs.List.{position_from}
-use Rattle.std.specs.Global.{Vec}
+use Rattle.std.proofs.Common.{set, ltb, one-add, position, take_all, ltb-false}
+use Rattle.dwp_elf.proofs.Terms
+use Terms.{◌+◌, ◌++◌, ◌<◌, [], add-one, ap, append-nil, appended, arith, Bool, by-bool, content_of}
+use Terms.{contents_of, drop, drop_all, get_or, length, length-map, List, ltb-true, map-set}
+use Terms.{map-set_same, None, position_or_len, refl, same_kind, SectionKind, Some, suc, sym, take}
+use Terms.{take-map, truncated, Vec, zero, ℕ, ◌∙◌, ◌∷◌, ◌≡◌, ◌≤◌}
 use Rattle.std.proofs.Math.ListN.{get_or-map}
-use Rattle.std.proofs.Math.Seq.{map-set_same}
-use Rattle.std.proofs.lemmas.List.{length-map, map-set, take-map, take_all, drop_all}
-use Rattle.std.proofs.lemmas.Iterator.Adapters.{position_from-zero}
-use Rattle.dwp_base.specs.declared.section.SectionKind.{SectionKind}
-use Rattle.dwp_base.specs.Sections.{same_kind}
-use Rattle.dwp_elf.specs.Contents.{contents_of, content_of, appended, truncated}
 
 abbrev pub Sections : Type 0
 Sections = List (SectionKind × Vec ℕ)
@@ -34,53 +28,48 @@ pub record AtFirst (kind : SectionKind) (xs : Sections) (i : ℕ) : Type 0 where
       → y.1.items ≡ x.1.items ++ bytes
       → contents_of (set xs i y) ≡ appended kind bytes (contents_of xs)
 
--- what a search for the first section of a kind answers, where places count from `base` on
-abbrev Found : SectionKind → Sections → ℕ → Option ℕ → Type 0
-Found kind xs base r = MatchOption r (Absent kind xs) (λ j. (i : ℕ) × (j ≡ base + i)
-    × AtFirst kind xs i)
+-- a section is of a kind
+abbrev is_of : SectionKind → SectionKind × Vec ℕ → Bool
+is_of kind s = same_kind s.0 kind
 
-found_from : (kind : SectionKind) (xs : Sections) (base : ℕ)
-    → Found kind xs base (position_from (λ s. same_kind s.0 kind) base xs)
-found_from kind [] base = record { content = refl; added = λ bytes y k v. rw (k, v) refl }
-found_from kind (z ∷ zs) base = step (same_kind z.0 kind) refl _ (found_from kind zs (base + 1))
-  where
-    step : (b : Bool) → same_kind z.0 kind ≡ b → (r : Option ℕ) → Found kind zs (base + 1) r
-        → Found kind (z ∷ zs) base (cond b (Some base) r)
-    step true same r later = (
-      zero,
-      omega arith,
-      record {
-        content = λ x e. rw same (ap (λ p. p.1.items) (sym e));
-        added = λ bytes x y e k v. rw same (ap (λ p. p ∷ contents_of zs)
-            (pair_of _ _ _ _ (k ∙ ap (λ p. p.0) e) (v ∙ ap (λ p. p.1.items ++ bytes) e)));
-      },
-    )
-    step false same None later = record {
-      content = rw same later.content;
-      added = λ bytes y k v. rw (same, later.added bytes y k v) refl;
-    }
-    step false same (Some j) later = (
-      suc later.0,
-      omega (arith, later.1),
-      record {
-        content = λ x e. rw same (later.2.content x e);
-        added = λ bytes x y e k v. rw (same, later.2.added bytes x y e k v) refl;
-      },
-    )
+first_of_kind : (kind : SectionKind) (xs : Sections) → position_or_len (is_of kind) xs < length xs
+    → AtFirst kind xs (position_or_len (is_of kind) xs)
+first_of_kind kind [] h = absurd (omega arith)
+first_of_kind kind (z ∷ zs) h = by-bool _ (same_kind z.0 kind)
+    (λ here. rw here (record {
+      content = λ x e. rw here (ap (λ p. p.1.items) (sym e));
+      added = λ bytes x y e k v. rw here (ap (λ p. p ∷ contents_of zs)
+          (pair_of _ _ _ _ (k ∙ ap (λ p. p.0) e) (v ∙ ap (λ p. p.1.items ++ bytes) e)));
+    }))
+    (λ other.
+    let later = first_of_kind kind zs (omega (arith, rw other at h)) in
+    rw (other, one-add) (record {
+      content = λ x e. rw other (later.content x e);
+      added = λ bytes x y e k v. rw (other, later.added bytes x y e k v) refl;
+    }))
 
-found : (kind : SectionKind) (xs : Sections) (r : Option ℕ)
-    → r ≡ position (λ s. same_kind s.0 kind) xs → Found kind xs 0 r
-found kind xs r e = subst (Found kind xs 0) (sym (e ∙ position_from-zero
-    (λ (s : SectionKind × Vec ℕ). same_kind s.0 kind) xs)) (found_from kind xs 0)
+none_of_kind : (kind : SectionKind) (xs : Sections) → length xs ≤ position_or_len (is_of kind) xs
+    → Absent kind xs
+none_of_kind kind [] h = record { content = refl; added = λ bytes y k v. rw (k, v) refl }
+none_of_kind kind (z ∷ zs) h = by-bool _ (same_kind z.0 kind)
+    (λ here. absurd (omega (arith, rw here at h)))
+    (λ other. let later = none_of_kind kind zs (omega (arith, rw other at h)) in record {
+      content = rw other later.content;
+      added = λ bytes y k v. rw (other, later.added bytes y k v) refl;
+    })
 
 pub at_first : (kind : SectionKind) (xs : Sections) (i : ℕ)
     → Some i ≡ position (λ s. same_kind s.0 kind) xs → AtFirst kind xs i
-at_first kind xs i e = let f = found kind xs (Some i) e in
-    subst (AtFirst kind xs) (omega (arith, f.1)) f.2
+at_first kind xs i e = by-bool _ (ltb (position_or_len (is_of kind) xs) (length xs))
+    (λ inside. let at : i ≡ position_or_len (is_of kind) xs = cc (rw inside at e) in
+    rw at (first_of_kind kind xs (ltb-true _ _ inside)))
+    (λ past. absurd (cc (rw past at e)))
 
 pub absent : (kind : SectionKind) (xs : Sections) → None ≡ position (λ s. same_kind s.0 kind) xs
     → Absent kind xs
-absent kind xs e = found kind xs None e
+absent kind xs e = by-bool _ (ltb (position_or_len (is_of kind) xs) (length xs))
+    (λ inside. absurd (cc (rw inside at e)))
+    (λ past. none_of_kind kind xs (ltb-false _ _ past))
 
 -- a write that leaves the content as it was
 pub contents_of-set_same : (xs : Sections) (i : ℕ) (x y : SectionKind × Vec ℕ)

@@ -1,37 +1,20 @@
 -- No two contents are of one kind, whatever is appended or cut, so there are at most 13.
-use Rattle.std.proofs.Common.{◌≡◌, ℕ, ◌+◌, ◌≤◌, true, false, cond, List, [], ◌∷◌, length}
-use Rattle.std.proofs.Common.{refl, eqb, arith, ◌⊎◌, inl, inr}
-use Rattle.std.specs.Prelude.{Result, Ok, Err, is_ok, OnOk}
-use Rattle.std.proofs.lemmas.Bool.{eqb-true}
-use Rattle.dwp_base.specs.declared.section.SectionKind.{SectionKind}
-use Rattle.dwp_base.specs.Sections.{same_kind, all_kinds}
-use Rattle.dwp_base.proofs.Bools.{by-bool}
-use Rattle.dwp_base.proofs.EveryKind.{every, is-same}
-use Rattle.dwp_elf.specs.Contents.{count_of, KindsDiffer, appended, truncated, contents_of}
+use Rattle.std.proofs.Common.{cond, eqb, ◌⊎◌, eqb-true}
+use Rattle.dwp_elf.proofs.Terms
+use Terms.{◌+◌, [], all_kinds, appended, arith, contents_of, count_of, every, is-same, KindsDiffer}
+use Terms.{length, List, refl, same_kind, SectionKind, true, truncated, Vec, ℕ, ◌∷◌, ◌≡◌, ◌≤◌}
 use Rattle.dwp_elf.proofs.Changes.{length-contents_of}
-use Rattle.std.specs.Global.{Vec}
 
 -- an append changes no count, or its kind is new and stands once
 count_of-appended : (kind k : SectionKind) (bytes : List ℕ) (cs : List (SectionKind × List ℕ))
     → (count_of k (appended kind bytes cs) ≡ count_of k cs)
     ⊎ ((same_kind kind k ≡ true) × (count_of k (appended kind bytes cs) ≡ 1))
-count_of-appended kind k bytes [] = by-bool _ (same_kind kind k) (λ e. inr (e, rw e refl))
-    (λ e. inl (rw e refl))
-count_of-appended kind k bytes (c ∷ cs) = by-bool _ (same_kind c.0 kind)
-    (λ here. inl (rw here refl))
-    (λ other. elim (count_of-appended kind k bytes cs) [
-      | inl same ↦ inl (rw (other, same) refl)
-      | inr new ↦
-          let differs : same_kind c.0 k ≡ false = rw (← is-same kind k new.0) other in
-          inr (new.0, rw (other, new.1, differs) refl)
-    ])
+count_of-appended kind k bytes [] = grind arith
+count_of-appended kind k bytes (c ∷ cs) = grind (arith, count_of-appended kind k bytes cs, is-same)
 
 pub KindsDiffer-appended : (kind : SectionKind) (bytes : List ℕ) (cs : List (SectionKind × List ℕ))
     → KindsDiffer cs → KindsDiffer (appended kind bytes cs)
-KindsDiffer-appended kind bytes cs h k = elim (count_of-appended kind k bytes cs) [
-  | inl same ↦ omega (arith, same, h k)
-  | inr new ↦ omega (arith, new.1)
-]
+KindsDiffer-appended kind bytes cs h k = omega (arith, count_of-appended kind k bytes cs, h k)
 
 count_of-truncated : (k : SectionKind) (cs : List (SectionKind × List ℕ)) (ns : List ℕ)
     → count_of k (truncated cs ns) ≤ count_of k cs
@@ -65,8 +48,3 @@ pub few_sections : (sections : List (SectionKind × Vec ℕ)) → KindsDiffer (c
     → length sections ≤ 13
 few_sections sections h =
     omega (arith, length-KindsDiffer (contents_of sections) h, length-contents_of sections)
-
--- what holds at `Ok`
-pub at_ok : {T E : Type 0} (r : Result T E) (P : Type 0) → is_ok r ≡ true → OnOk r P → P
-at_ok (Ok x) P e h = h
-at_ok (Err x) P e h = cc

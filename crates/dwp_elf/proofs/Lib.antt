@@ -1,3 +1,4 @@
+pub mod Terms
 pub mod Changes
 pub mod KindCounts
 pub mod Limits

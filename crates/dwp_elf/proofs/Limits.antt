@@ -1,27 +1,14 @@
 -- The greatest of a file's numbers decides whether all of them fit its class.
-use Rattle.std.proofs.Common.{◌≡◌, ℕ, ◌+◌, ◌*◌, ◌^◌, ◌<◌, List, [], ◌∷◌}
-use Rattle.std.proofs.Common.{length, refl, arith, length-append}
-use Rattle.std.specs.Prelude.{Option, None, Some, MatchOption, OnOk, IfErr}
-use Rattle.std.specs.Option.{ok_or}
-use Rattle.std.specs.List.{All}
-use Rattle.std.proofs.lemmas.List.{length-replicate}
+use Rattle.dwp_elf.proofs.Terms
+use Terms.{◌*◌, ◌+◌, ◌<◌, [], ◌^◌, All, arith, Big, Class, content_bytes, Elf32, Elf64, Endianness}
+use Terms.{entry_size, file_length, header_size, headers_from, length, length-append}
+use Terms.{length-replicate, List, Little, name_of, name_table, number_bytes, PassesLimit}
+use Terms.{SectionKind, word_size, ℕ, ◌∷◌, ◌≡◌}
 use Rattle.std.proofs.lemmas.List.Elements.{All-cons, All-nil}
 use Rattle.byteorder.specs.Numbers.{length-bytes_high_first, length-bytes_low_first}
-use Rattle.dwp_base.specs.declared.class.Class.{Class}
-use Rattle.dwp_base.specs.declared.class.Class.TheVariants.{Elf32, Elf64}
-use Rattle.dwp_base.specs.declared.endian.Endianness.{Endianness}
-use Rattle.dwp_base.specs.declared.endian.Endianness.TheVariants.{Little, Big}
-use Rattle.dwp_base.specs.declared.section.SectionKind.{SectionKind}
-use Rattle.dwp_base.specs.Numbers.{number_bytes}
-use Rattle.dwp_base.specs.Sections.{name_of}
-use Rattle.dwp_elf_read.specs.Layout.{word_size, header_size, entry_size}
-use Rattle.dwp_elf.specs.FileText.{Object, file_header, section_header, content_bytes, name_table}
-use Rattle.dwp_elf.specs.FileText.{headers_from, null_header, section_count, names_end, zeros_after}
-use Rattle.dwp_elf.specs.FileText.{headers_place, file_text}
+use Rattle.dwp_elf.specs.FileText.{Object, file_header, section_header, null_header, section_count}
+use Rattle.dwp_elf.specs.FileText.{names_end, zeros_after, headers_place, file_text}
 use Rattle.dwp_elf.specs.Numbers.{places_from, offsets_and_sizes, limited_by, Fits}
-use Rattle.dwp_elf_read.specs.declared.error.WriteError.{WriteError}
-use Rattle.dwp_elf.specs.declared.places.Places.{Places}
-use Rattle.dwp_elf.specs.Places.{file_length, PassesLimit, ArePlaces}
 
 pub length-number_bytes : (order : Endianness) (n x : ℕ) → length (number_bytes order n x) ≡ n
 length-number_bytes Little n x = length-bytes_low_first 0 n x
@@ -30,14 +17,14 @@ length-number_bytes Big n x = length-bytes_high_first n x
 pub length-section_header : (class : Class) (order : Endianness) (name type place size : ℕ)
     → length (section_header class order name type place size) ≡ entry_size class
 unfolding section_header
-length-section_header Elf32 order name type place size = simp (length-append, length-number_bytes)
-length-section_header Elf64 order name type place size = simp (length-append, length-number_bytes)
+length-section_header class order name type place size =
+    simp (length-append, length-number_bytes) (grind arith)
 
 pub length-file_header : (class : Class) (order : Endianness) (machine headers count : ℕ)
     → length (file_header class order machine headers count) ≡ header_size class
 unfolding file_header
-length-file_header Elf32 order machine headers count = simp (length-append, length-number_bytes)
-length-file_header Elf64 order machine headers count = simp (length-append, length-number_bytes)
+length-file_header class order machine headers count =
+    simp (length-append, length-number_bytes) (grind arith)
 
 pub length-headers_from : (class : Class) (order : Endianness) (size name place : ℕ)
     (cs : List (SectionKind × List ℕ))
@@ -51,8 +38,7 @@ length-headers_from class order size name place (c ∷ cs) =
     simp (length-append, length-section_header, rest) (omega arith)
 
 pub length-null_header : (class : Class) → length (null_header class) ≡ entry_size class
-length-null_header Elf32 = refl
-length-null_header Elf64 = refl
+length-null_header class = length-replicate (entry_size class) 0
 
 pub length-file_text : (o : Object) → length (file_text o) ≡ file_length o.class o.contents
 unfolding file_text
@@ -69,15 +55,11 @@ places_from-lt : (size place limit : ℕ) (cs : List (SectionKind × List ℕ))
     → place + length (content_bytes cs) < limit → size < limit
     → All (λ n. n < limit) (places_from size place cs)
 unfolding content_bytes
-places_from-lt size place limit [] h k =
-    let below = λ (n : ℕ). n < limit in
-    All-cons below place (size ∷ []) (omega arith) (All-cons below size [] k (All-nil below))
+places_from-lt size place limit [] h k = search (All-cons, All-nil, arith)
 places_from-lt size place limit (c ∷ cs) h k =
-    let below = λ (n : ℕ). n < limit in
     let split = length-append c.1 (content_bytes cs) in
-    let rest = places_from size (place + length c.1) cs in
-    All-cons below place (length c.1 ∷ rest) (omega arith) (All-cons below (length c.1) rest
-    (omega arith) (places_from-lt size (place + length c.1) limit cs (omega arith) k))
+    let rest = places_from-lt size (place + length c.1) limit cs (omega arith) k in
+    search (All-cons, arith)
 
 offsets_and_sizes-lt : (o : Object) (limit : ℕ) → headers_place o.class o.contents < limit
     → All (λ n. n < limit) (offsets_and_sizes o)
@@ -97,7 +79,8 @@ Fits-from o h k = limited-lt o.class h
     limited-lt Elf64 h = All-cons (λ n. n < 2 ^ 64) (length (file_text o)) (offsets_and_sizes o)
         (omega (arith, length-file_text o)) (offsets_and_sizes-lt o (2 ^ 64) h)
 
-refused_of : (class : Class) (machine : ℕ) (order : Endianness) (cs : List (SectionKind × List ℕ))
+pub refused_of : (class : Class) (machine : ℕ) (order : Endianness)
+    (cs : List (SectionKind × List ℕ))
     → PassesLimit class cs
     → ¬ Fits (record { class = class; machine = machine; order = order; contents = cs })
 unfolding Fits
@@ -106,19 +89,3 @@ refused_of Elf32 machine order cs h fits = let first = fits 0 0 (omega arith) in
 refused_of Elf64 machine order cs h fits =
     let o : Object = record { class = Elf64; machine = machine; order = order; contents = cs } in
     let first = fits 0 0 (omega arith) in absurd (omega (arith, first, length-file_text o))
-
--- what follows from the places of a file, where it has some
-pub of-places : (o : Object) (r : Option Places) (e : WriteError) (P : Type 0)
-    → (headers_place o.class o.contents < 2 ^ (8 * word_size o.class)
-    → file_length o.class o.contents < 2 ^ 64 → P)
-    → MatchOption r (PassesLimit o.class o.contents) (ArePlaces o.class o.contents)
-    → OnOk (ok_or r e) P
-of-places o None e P f h = tt
-of-places o (Some p) e P f h = f h.place_fits h.length_fits
-
--- a file that has none doesn't fit
-pub places-refused : (o : Object) (r : Option Places) (e : WriteError)
-    → MatchOption r (PassesLimit o.class o.contents) (ArePlaces o.class o.contents)
-    → IfErr (ok_or r e) (λ x. (x ≡ e) × ¬ Fits o)
-places-refused o None e h = (refl, refused_of o.class o.machine o.order o.contents h)
-places-refused o (Some p) e h = tt

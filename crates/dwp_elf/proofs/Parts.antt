@@ -1,26 +1,16 @@
 -- Lemmas on the parts of a file, section by section, and one after the other.
-use Rattle.std.proofs.Common.{◌≡◌, ℕ, ◌+◌, ◌*◌, ◌^◌, ◌<◌, ◌≤◌, List, [], ◌∷◌, ◌++◌, replicate}
-use Rattle.std.proofs.Common.{length, drop, get_or, refl, sym, ◌∙◌, arith, add-one, length-append}
-use Rattle.std.proofs.Common.{append_assoc, nat_le, subst}
-use Rattle.std.specs.Global.{Vec}
-use Rattle.std.proofs.Math.Seq.{drop-cons}
-use Rattle.std.proofs.lemmas.List.{at_drop_all}
-use Rattle.std.proofs.lemmas.Bool.{leb-true}
-use Rattle.dwp_base.specs.declared.section.SectionKind.{SectionKind}
-use Rattle.dwp_base.specs.declared.class.Class.{Class}
-use Rattle.dwp_base.specs.declared.class.Class.TheVariants.{Elf32, Elf64}
-use Rattle.dwp_base.specs.declared.endian.Endianness.{Endianness}
-use Rattle.dwp_base.specs.Sections.{name_of}
-use Rattle.dwp_base.proofs.EveryKind.{every}
-use Rattle.dwp_elf_read.specs.Layout.{word_size, header_size, entry_size}
+use Rattle.std.proofs.Common.{nat_le, subst, leb-true}
+use Rattle.dwp_elf.proofs.Terms
+use Terms.{◌*◌, ◌+◌, ◌++◌, ◌<◌, [], ◌^◌, add-one, append_assoc, ArePlaces, arith, at_drop_all}
+use Terms.{Class, content_bytes, contents_of, drop, drop-cons, Elf32, Elf64, Endianness, entry_size}
+use Terms.{every, get_or, header_size, headers_from, length, length-append, List, name_of}
+use Terms.{name_table, names_of, refl, replicate, SectionKind, sym, Vec, word_size, ℕ, ◌∙◌, ◌∷◌}
+use Terms.{◌≡◌, ◌≤◌}
 use Rattle.dwp_elf.specs.declared.places.Places.{Places}
 use Rattle.dwp_elf.specs.declared.object.WritableObject.TheInside.{Inside}
-use Rattle.dwp_elf.specs.Contents.{contents_of}
-use Rattle.dwp_elf.specs.FileText.{Object, file_header, content_bytes, names_of, name_table}
-use Rattle.dwp_elf.specs.FileText.{names_end, zeros_after, headers_place, section_count}
-use Rattle.dwp_elf.specs.FileText.{section_headers, headers_from, section_header, file_text}
+use Rattle.dwp_elf.specs.FileText.{Object, file_header, names_end, zeros_after, headers_place}
+use Rattle.dwp_elf.specs.FileText.{section_count, section_headers, section_header, file_text}
 use Rattle.dwp_elf.specs.Object.{object_of}
-use Rattle.dwp_elf.specs.Places.{ArePlaces}
 use Rattle.dwp_elf.proofs.Changes.{Sections, length-contents_of}
 
 -- what stands from a section on is its part and what stands from the next on

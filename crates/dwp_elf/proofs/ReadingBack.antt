@@ -1,41 +1,28 @@
 -- A written file means the contents that it was written from.
-use Rattle.std.proofs.Common.{◌≡◌, ℕ, zero, suc, ◌+◌, ◌-◌, ◌*◌, ◌^◌, ◌<◌, ◌≤◌, ◌==◌, nat_lt, nat_eq}
-use Rattle.std.proofs.Common.{Bool, true, false, not, ◌&&◌, List, [], ◌∷◌, ◌++◌, Ok, Some, length}
-use Rattle.std.proofs.Common.{take, drop, map, replicate, slice_index, refl, sym, ap, ◌∙◌, arith}
-use Rattle.std.proofs.Common.{length-append, append_assoc, append-nil, lit<}
-use Rattle.std.specs.Prelude.{codes, slice_get}
-use Rattle.std.specs.List.{starts_with, list_all, position_or_len, range_with_len}
+use Rattle.std.proofs.Common.{◌-◌, ◌==◌, nat_lt, false, not, ◌&&◌, Ok, map, lit<, slice_get, lt-ltb}
+use Rattle.std.proofs.Common.{le-leb, ne_eqb, eq-eqb, drop-drop}
+use Rattle.dwp_elf.proofs.Terms
+use Terms.{◌*◌, ◌+◌, ◌++◌, ◌<◌, [], ◌^◌, ap, append-nil, append_assoc, arith, Big, Bool, both}
+use Terms.{Class, codes, content_bytes, drop, drop-append-add, drop-append_seam, Elf32, Elf64}
+use Terms.{Endianness, entry_size, every, file_length, header_size, headers_from, KindsDiffer}
+use Terms.{length, length-append, length-replicate, List, list_all, Little, ltb-true, name_of}
+use Terms.{name_table, names_of, number, number_bytes, position_or_len, range_with_len, refl}
+use Terms.{replicate, SectionKind, Some, suc, sym, take, take-append_seam, true, word_size, zero, ℕ}
+use Terms.{◌∙◌, ◌∷◌, ◌≡◌, ◌≤◌}
 use Rattle.std.specs.Str.{IsAscii}
 use Rattle.std.proofs.Math.Nat.{mul_comm}
-use Rattle.std.proofs.Math.Seq.{take-append_seam, drop-append_seam, drop-append-add}
-use Rattle.std.proofs.lemmas.Bool.{lt-ltb, le-ltb, ltb-true, le-leb, ne_eqb}
-use Rattle.std.proofs.lemmas.List.{drop-drop, length-replicate}
 use Rattle.std.proofs.lemmas.Str.{IsUtf8-from_ascii, is_utf8-from_IsUtf8}
 use Rattle.std.proofs.lemmas.Str.Ascii.{IsAscii-nil, IsAscii-cons}
 use Rattle.byteorder.specs.Numbers.{little_number-reads_back, big_number-reads_back}
-use Rattle.dwp_base.specs.declared.class.Class.{Class}
-use Rattle.dwp_base.specs.declared.class.Class.TheVariants.{Elf32, Elf64}
-use Rattle.dwp_base.specs.declared.endian.Endianness.{Endianness}
-use Rattle.dwp_base.specs.declared.endian.Endianness.TheVariants.{Little, Big}
-use Rattle.dwp_base.specs.declared.section.SectionKind.{SectionKind}
-use Rattle.dwp_base.specs.Numbers.{number, number_bytes}
-use Rattle.dwp_base.specs.Sections.{name_of}
-use Rattle.dwp_base.proofs.Bools.{both}
-use Rattle.dwp_base.proofs.EveryKind.{every}
-use Rattle.dwp_elf_read.specs.Layout.{header_size, word_size, entry_size, file_header_of, is_inside}
-use Rattle.dwp_elf_read.specs.Layout.{section_header_of}
-use Rattle.dwp_elf_read.specs.Identification.{archive_magic, thin_magic, elf_magic, kind_of}
-use Rattle.dwp_elf_read.specs.Identification.{order_of, identity_of}
-use Rattle.dwp_elf_read.specs.Elf.{SectionMeaning, section_header_at, section_content, section_of}
-use Rattle.dwp_elf_read.specs.Elf.{text_of, text_at, named_count, name_table_number, elf_of}
-use Rattle.dwp_elf_read.specs.Elf.{name_table_numbered, sections_from}
-use Rattle.dwp_elf_read.specs.Elf.{section_count as read_count, name_table as read_table}
-use Rattle.dwp_elf.specs.Contents.{KindsDiffer}
-use Rattle.dwp_elf.specs.FileText.{identification, class_byte, order_byte, Object, file_header}
-use Rattle.dwp_elf.specs.FileText.{content_bytes, names_of, name_table, section_count, names_place}
-use Rattle.dwp_elf.specs.FileText.{names_end, headers_place, zeros_after, headers_from, null_header}
+use Rattle.dwp_elf_read.specs.Layout.{file_header_of, section_header_of}
+use Rattle.dwp_elf_read.specs.Identification.{kind_of, identity_of}
+use Rattle.dwp_elf_read.specs.Elf.{section_header_at, section_content, section_of, text_of, text_at}
+use Rattle.dwp_elf_read.specs.Elf.{named_count, name_table_number, elf_of, name_table_numbered}
+use Rattle.dwp_elf_read.specs.Elf.{sections_from, section_count as read_count}
+use Rattle.dwp_elf_read.specs.Elf.{name_table as read_table}
+use Rattle.dwp_elf.specs.FileText.{identification, Object, file_header, section_count, names_place}
+use Rattle.dwp_elf.specs.FileText.{names_end, headers_place, zeros_after, null_header}
 use Rattle.dwp_elf.specs.FileText.{section_header, section_headers, file_text}
-use Rattle.dwp_elf.specs.Places.{file_length}
 use Rattle.dwp_elf.specs.Written.{plain_section, written_sections, written_elf}
 use Rattle.dwp_elf.proofs.KindCounts.{length-KindsDiffer}
 use Rattle.dwp_elf.proofs.Limits.{length-number_bytes, length-section_header, length-file_header}
@@ -66,11 +53,10 @@ field-back : (front : List ℕ) (order : Endianness) (fs : List (ℕ × ℕ)) (r
     → x < 256 ^ n → number order n (drop k (front ++ spelled order fs rest)) ≡ x
 field-back front order [] rest i n x k at place h = absurd cc
 field-back front order (f ∷ fs) rest zero n x k at place h =
-    let width : f.0 ≡ n = cc in
-    let value : f.1 ≡ x = cc in
-    ap (λ m. number order n (drop m (front ++ spelled order (f ∷ fs) rest))) place
-    ∙ ap (number order n) (drop-append-add front (spelled order (f ∷ fs) rest) 0)
-    ∙ rw (width, value) (number-back order n x (spelled order fs rest) h)
+    cc (
+      drop-append-add front (spelled order (f ∷ fs) rest) 0,
+      number-back order n x (spelled order fs rest) h,
+    )
 field-back front order (f ∷ fs) rest (suc i) n x k at place h =
     let here = number_bytes order f.0 f.1 in
     let sizes = length-append front here in
@@ -84,8 +70,7 @@ section_fields w name type place size = (4, name) ∷ (4, type) ∷ (w, 0) ∷ (
     (w, size) ∷ (4, 0) ∷ (4, 0) ∷ (w, 1) ∷ (w, 0) ∷ []
 
 positive : (class : Class) → 0 < 256 ^ word_size class
-positive Elf32 = lit< tt
-positive Elf64 = lit< tt
+positive class = grind arith
 
 -- the section header that the bytes begin with
 section_header-back : (class : Class) (order : Endianness)
@@ -125,10 +110,6 @@ file_fields w machine headers own entry count =
     (2, 1) ∷ (2, machine) ∷ (4, 1) ∷ (w, 0) ∷ (w, 0) ∷ (w, headers) ∷ (4, 0) ∷ (2, own) ∷ (2, 0) ∷
     (2, 0) ∷ (2, entry) ∷ (2, count) ∷ (2, count - 1) ∷ []
 
-entry_small : (class : Class) → entry_size class < 256 ^ 2
-entry_small Elf32 = lit< tt
-entry_small Elf64 = lit< tt
-
 -- the file header that the bytes begin with
 file_header-back : (class : Class) (order : Endianness)
     (machine headers count : ℕ) (rest : List ℕ)
@@ -149,7 +130,7 @@ file_header-back class order machine headers count rest a b c =
     simp append_assoc (cc (
       back 1 2 machine 18 refl refl a,
       back 5 w headers (24 + 2 * w) refl (omega arith) b,
-      back 10 2 (entry_size class) (34 + 3 * w) refl (omega arith) (entry_small class),
+      back 10 2 (entry_size class) (34 + 3 * w) refl (omega arith) (grind arith),
       back 11 2 count (36 + 3 * w) refl (omega arith) c,
       back 12 2 (count - 1) (38 + 3 * w) refl (omega arith) (omega arith),
     ))
@@ -201,9 +182,7 @@ text_at-name table text more place e h =
 -- what stands behind a front
 past : (bytes front rest : List ℕ) (k n j : ℕ) → drop k bytes ≡ front ++ rest → length front ≡ n
     → j ≡ k + n → drop j bytes ≡ rest
-past bytes front rest k n j e len at =
-    ap (λ (m : ℕ). drop m bytes) at ∙ sym (drop-drop n k bytes) ∙ ap (drop n) e
-    ∙ ap (λ (m : ℕ). drop m (front ++ rest)) (sym len) ∙ drop-append_seam front rest
+past bytes front rest k n j e len at = cc (drop-drop n k bytes, drop-append_seam front rest)
 
 -- the null section's header is that of no name, type, place and size
 null-header : (class : Class) (order : Endianness) (rest : List ℕ)
@@ -292,69 +271,14 @@ module _ (class : Class) (order : Endianness) (bytes table after : List ℕ) (he
 
 -- ---- the class and the byte order of a written file are read back
 
-order-back : (order : Endianness) → order_of (order_byte order) ≡ Ok order
-order-back Little = refl
-order-back Big = refl
-
--- the class and the order that some bytes name
-identity-facts : (class : Class) (order : Endianness) (bytes : List ℕ)
-    → header_size class ≤ length bytes
-    → starts_with nat_eq bytes archive_magic ≡ false → starts_with nat_eq bytes thin_magic ≡ false
-    → starts_with nat_eq bytes elf_magic ≡ true
-    → slice_index bytes 4 ≡ class_byte class → slice_index bytes 5 ≡ order_byte order
-    → slice_index bytes 6 ≡ 1 → identity_of bytes ≡ Ok (class, order)
-unfolding kind_of identity_of
-identity-facts Elf32 order bytes long a t e c o v =
-    let some = le-ltb (length bytes) 16 (omega arith) in
-    rw (some, a, t, e, c, le-ltb (length bytes) 52 long, o, order-back order, v) refl
-identity-facts Elf64 order bytes long a t e c o v =
-    let some = le-ltb (length bytes) 16 (omega arith) in
-    rw (some, a, t, e, c, le-ltb (length bytes) 64 long, o, order-back order, v) refl
-
 identity-back : (class : Class) (order : Endianness) (rest : List ℕ)
     → header_size class ≤ length (identification class order ++ rest)
     → identity_of (identification class order ++ rest) ≡ Ok (class, order)
-identity-back class order rest long = identity-facts class order (identification class order ++
-    rest) long refl refl refl refl refl refl
+unfolding kind_of identity_of
+identity-back class order rest long = grind arith
 
 not-zero : (n : ℕ) → 0 < n → (n == 0) ≡ false
 not-zero n h = ne_eqb n 0 (λ e. absurd (omega arith))
-
-own-size : (class : Class) → (entry_size class == entry_size class) ≡ true
-own-size Elf32 = refl
-own-size Elf64 = refl
-
--- the meaning of bytes, from what each step of reading them gives
-elf_of-facts : (class : Class) (order : Endianness) (bytes content : List ℕ)
-    (machine table count names : ℕ) (sections : List SectionMeaning)
-    → identity_of bytes ≡ Ok (class, order)
-    → file_header_of (word_size class) order bytes ≡ record {
-      machine = machine;
-      table = table;
-      entry_size = entry_size class;
-      count = count;
-      names = names;
-    }
-    → 0 < table → 0 < names → names < count → names < 0xffff
-    → is_inside bytes table (count * entry_size class) ≡ true
-    → section_content bytes (section_header_at class order bytes table names) ≡ Some content
-    → sections_from class order bytes table (Some content) 0 count ≡ sections
-    → elf_of bytes ≡ Ok (record {
-      class = class;
-      order = order;
-      machine = machine;
-      sections = sections;
-    })
-unfolding named_count read_count name_table_number name_table_numbered read_table elf_of
-elf_of-facts class order bytes content machine table count names sections
-    identified read some numbered named plain within got all =
-    let counted = not-zero count (omega arith) in
-    let known = ne_eqb names 0xffff (λ e. absurd (omega arith)) in
-    let found = lt-ltb names count named in
-    let placed = not-zero table some in
-    let other = not-zero names numbered in
-    let sized = own-size class in
-    rw (identified, read, placed, sized, counted, within, known, other, found, got, all) refl
 
 -- ---- a written file means the contents that it was written from
 
@@ -414,6 +338,7 @@ module _ (o : Object) where
   -- The meaning of the text: class, machine, order, and the contents under their names, in order.
   pub elf_of-file_text : o.machine < 256 ^ 2 → headers < 256 ^ word_size o.class
       → length o.contents < 60000 → elf_of text ≡ Ok (written_elf o)
+  unfolding named_count read_count name_table_number name_table_numbered read_table elf_of
   elf_of-file_text small fits few =
       let count = section_count o.contents in
       let header = file_header-begins o.class o.order o.machine headers count (from_contents o) in
@@ -421,32 +346,30 @@ module _ (o : Object) where
       let size = length-file_text o in
       let last : 1 + length o.contents ≡ count - 1 = omega arith in
       let sections = all-sections fits few in
-      elf_of-facts o.class o.order text names o.machine headers count (count - 1) _
-      (ap identity_of shape ∙ identity-back o.class o.order header.0
-      (omega (arith, size, ap length shape)))
-      (ap (file_header_of (word_size o.class) o.order) (file_text-split o)
+      let positive : 0 < header_size o.class = grind arith in
+      let identified = ap identity_of shape ∙ identity-back o.class o.order header.0
+      (omega (arith, size, ap length shape)) in
+      let read = ap (file_header_of (word_size o.class) o.order) (file_text-split o)
       ∙ file_header-back o.class o.order o.machine headers count (from_contents o) small fits
-      (omega arith))
-      (omega (arith, header_positive o.class)) (omega arith) (omega arith) (omega arith)
-      (le-leb (headers + count * entry_size o.class) (length text)
-      (omega (arith, size, mul_comm count (entry_size o.class))))
-      (rw (← last) sections.1) sections.0
-    where
-      header_positive : (class : Class) → 0 < header_size class
-      header_positive Elf32 = lit< tt
-      header_positive Elf64 = lit< tt
+      (omega arith) in
+      let inside = le-leb (headers + count * entry_size o.class) (length text)
+      (omega (arith, size, mul_comm count (entry_size o.class))) in
+      let known = ne_eqb (count - 1) 0xffff (λ e. absurd (omega arith)) in
+      let found = lt-ltb (count - 1) count (omega arith) in
+      let placed = not-zero headers (omega arith) in
+      let other = not-zero (count - 1) (omega arith) in
+      let counted = not-zero count (omega arith) in
+      let sized = eq-eqb (entry_size o.class) _ refl in
+      let got = rw last at sections.1 in
+      rw (identified, read, placed, sized, counted, inside, known, other, found, got, sections.0)
+      refl
 
 -- ---- a file that can be written is read back
-
--- the limit of a class, in bits and in bytes
-limit : (class : Class) (n : ℕ) → n < 2 ^ (8 * word_size class) → n < 256 ^ word_size class
-limit Elf32 n h = h
-limit Elf64 n h = h
 
 -- a file whose places fit its class is read back
 pub written-back : (o : Object) → o.machine < 2 ^ 16 → KindsDiffer o.contents
     → headers_place o.class o.contents < 2 ^ (8 * word_size o.class)
     → file_length o.class o.contents < 2 ^ 64 → elf_of (file_text o) ≡ Ok (written_elf o)
 written-back o small differ fits length_fits =
-    elf_of-file_text o small (limit o.class (headers_place o.class o.contents) fits)
+    elf_of-file_text o small (grind arith)
     (omega (arith, length-KindsDiffer o.contents differ))

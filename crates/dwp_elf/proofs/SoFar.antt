@@ -1,9 +1,8 @@
 -- Lemmas on bytes that are written piece by piece.
-use Rattle.std.proofs.Common.{◌≡◌, ℕ, ◌+◌, ◌<◌, List, [], ◌++◌, length, take, Some, None, refl, sym}
-use Rattle.std.proofs.Common.{ap, ◌∙◌, arith, append_assoc, append-nil, length-append}
+use Rattle.dwp_elf.proofs.Terms
+use Terms.{◌+◌, ◌++◌, ◌<◌, [], ap, append-nil, append_assoc, arith, length, length-append, List}
+use Terms.{None, refl, Some, sym, take, take-append-add, take-append-le, ℕ, ◌∙◌, ◌≡◌}
 use Rattle.std.specs.Prelude.{Option, Result, Ok, Err, IsErrAnd}
-use Rattle.std.proofs.Math.Seq.{take-append-add}
-use Rattle.std.proofs.lemmas.List.{take-append-le}
 use Rattle.std.specs.Io.KnownBytes.{Appends, Keeps}
 use Rattle.std.proofs.KnownBytes.{Appends-nil, Appends-trans, Appends-kept}
 use Rattle.dwp_elf.specs.Writing.{AppendsPart, Writes}

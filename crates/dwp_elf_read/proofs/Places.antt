@@ -1,11 +1,11 @@
 -- The sections of a file by number, and the entries of a table.
-use Rattle.std.proofs.Common.{◌≡◌, ℕ, zero, suc, ◌+◌, ◌-◌, ◌*◌, ◌<◌, ◌≤◌, Bool, true, false, List}
+use Rattle.std.proofs.Common.{◌≡◌, ℕ, suc, ◌+◌, ◌-◌, ◌*◌, ◌<◌, ◌≤◌, Bool, true, false, List}
 use Rattle.std.proofs.Common.{[], ◌∷◌, Some, None, Result, Ok, length, map, slice_get, find, ap}
-use Rattle.std.proofs.Common.{refl, ◌∙◌, arith}
+use Rattle.std.proofs.Common.{refl, sym, ◌∙◌, arith}
 use Rattle.std.specs.List.{range_with_len}
 use Rattle.std.proofs.lemmas.List.{length-map}
-use Rattle.std.proofs.lemmas.List.FromFn.{length-map-range_with_len}
-use Rattle.std.proofs.lemmas.Option.{slice_get_past}
+use Rattle.std.proofs.lemmas.List.FromFn.{length-map-range_with_len, get_or-map-range_with_len}
+use Rattle.std.proofs.lemmas.Option.{slice_get_past, slice_get_read}
 use Rattle.dwp_elf_read.specs.declared.error.ReadError.{ReadError}
 use Rattle.dwp_elf_read.specs.declared.file.ElfFile.{ElfFile}
 use Rattle.dwp_elf_read.specs.declared.relocation.RawRelocation.{RawRelocation}
@@ -26,15 +26,6 @@ range-more i n h = let e : n - i ≡ suc (n - (i + 1)) = omega arith in ap (rang
 range-done : (i n : ℕ) → n ≤ i → range_with_len i (n - i) ≡ []
 range-done i n h = let e : n - i ≡ 0 = omega arith in ap (range_with_len i) e
 
-slice_get-range : {X : Type 0} (f : ℕ → X) → (a n i : ℕ) → i < n
-    → slice_get (map f (range_with_len a n)) i ≡ Some (f (a + i))
-slice_get-range f a zero i h = absurd (omega arith)
-slice_get-range f a (suc n) zero h =
-    let e : a ≡ a + 0 = omega arith in ap (λ (k : ℕ). Some (f k)) e
-slice_get-range f a (suc n) (suc i) h =
-    let e : (a + 1) + i ≡ a + suc i = omega arith in
-    slice_get-range f (a + 1) n i (omega arith) ∙ ap (λ (k : ℕ). Some (f k)) e
-
 -- ---- the sections by number
 
 pub length_sections : (f : ElfFile) → length (elf f).sections ≡ f.count
@@ -54,9 +45,9 @@ pub slice_get_sections : (f : ElfFile) (i : ℕ) → i < f.count → slice_get (
     ≡ Some (nth f i)
 unfolding elf sections_after sections_from
 slice_get_sections f i h =
-    let within : i < f.count - 0 = omega arith in
-    let e : 0 + i ≡ i = omega arith in
-    slice_get-range (nth f) 0 (f.count - 0) i within ∙ ap (λ (k : ℕ). Some (nth f k)) e
+    slice_get_read (elf f).sections f.count i (nth f i) (sym (length_sections f)) h
+    (sym (get_or-map-range_with_len (nth f) 0 (f.count - 0) i i (nth f i) (omega arith)
+    (omega arith)))
 
 pub slice_get_sections_past : (f : ElfFile) (i : ℕ) → f.count ≤ i
     → slice_get (elf f).sections i ≡ None

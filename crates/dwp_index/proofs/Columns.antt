@@ -2,27 +2,19 @@
 use Rattle.std.proofs.Common.{◌≡◌, ℕ, suc, ◌+◌, ◌-◌, ◌*◌, ◌<◌, ◌≤◌, true, false, eqb, ltb, List}
 use Rattle.std.proofs.Common.{length, drop, refl, arith, Bool, cond, [], ◌∷◌, ◌++◌, map, sym, ap}
 use Rattle.std.proofs.Common.{◌∙◌, eq-eqb, add-zero, zero-add}
+use Rattle.dwp_index.proofs.Terms
+use Terms.{all_kinds, ArePlaces, by-bool, column_place, columns_at, contribution_kinds, Endianness}
+use Terms.{is-same, kind_of_column, list_any, new_column, NO_COLUMN, number, numbers, position_from}
+use Terms.{ReadError, same-each, same-self, same_kind, same_Some, SectionKind, UnexpectedEof}
 use Rattle.std.specs.Prelude.{is_none, Result, Ok, Err, Option, Some, None, is_some, unwrap_or}
-use Rattle.std.specs.List.{list_any, find, position_from}
+use Rattle.std.specs.List.{find}
 use Rattle.std.proofs.lemmas.Bool.{lt-ltb, le-ltb, ne_eqb, eqb-true, false≢true}
 use Rattle.std.proofs.lemmas.List.{drop-drop, length-drop}
-use Rattle.dwp_base.specs.declared.endian.Endianness.{Endianness}
-use Rattle.dwp_base.specs.Numbers.{number}
-use Rattle.dwp_bytes.specs.declared.error.ReadError.{ReadError}
-use Rattle.dwp_bytes.specs.declared.error.ReadError.TheVariants.{UnexpectedEof, UnknownColumn}
-use Rattle.dwp_bytes.specs.declared.error.ReadError.TheVariants.{RepeatedColumn}
-use Rattle.dwp_table.specs.Columns.{kind_of_column, standard_column, gnu_column, column_of}
-use Rattle.dwp_table.specs.Columns.{is_number, kind_with, contribution_kinds}
-use Rattle.dwp_index.specs.IndexBytes.{numbers, new_column, columns_at}
+use Rattle.dwp_bytes.specs.declared.error.ReadError.TheVariants.{UnknownColumn, RepeatedColumn}
+use Rattle.dwp_table.specs.Columns.{standard_column, gnu_column, column_of, is_number, kind_with}
 use Rattle.dwp_index.proofs.NumberLists.{numbers_more, is_some-position}
-use Rattle.std.proofs.lemmas.Option.{same_Some}
 use Rattle.std.specs.Option.{option_and_then, option_or}
-use Rattle.dwp_base.specs.Sections.{all_kinds, same_kind}
-use Rattle.dwp_base.proofs.Bools.{by-bool}
-use Rattle.dwp_base.proofs.EveryKind.{same-each, is-same, same-self}
-use Rattle.dwp_base.specs.declared.section.SectionKind.{SectionKind}
-use Rattle.dwp_index.specs.Index.{column_place}
-use Rattle.dwp_index.specs.Places.{NO_COLUMN, IsPlace, ArePlaces, place_held}
+use Rattle.dwp_index.specs.Places.{IsPlace, place_held}
 use Rattle.dwp_base.specs.declared.by_kind.ByKind.{ByKind}
 
 -- what reading the columns gives behind the first i of them
@@ -51,43 +43,34 @@ module _ (order : Endianness) (version : ℕ) (bytes : List ℕ) (count i : ℕ)
       there : ltb (length (drop (4 * i) bytes)) 4 ≡ false
       there = le-ltb (length (drop (4 * i) bytes)) 4 (omega (arith, length-drop (4 * i) bytes))
 
-      pub unknown : is_none (kind_of_column version (number order 4 (drop (4 * i) bytes))) ≡ true
-          → Behind order version bytes count i ≡ Err UnknownColumn
+      -- it is refused where the version hasn't it, or where it stood before
+      pub further : (unknown repeated : Bool)
+          → is_none (kind_of_column version (number order 4 (drop (4 * i) bytes))) ≡ unknown
+          → list_any (λ c. eqb c (number order 4 (drop (4 * i) bytes))) (numbers order 4 i bytes)
+          ≡ repeated
+          → Behind order version bytes count i ≡ cond unknown (Err UnknownColumn)
+          (cond repeated (Err RepeatedColumn) (Behind order version bytes count (i + 1)))
       unfolding columns_at new_column
-      unknown e = rw (more, there, e) refl
-
-      -- a column that the version has
-      module _ (known : is_none (kind_of_column version (number order 4 (drop (4 * i) bytes)))
-          ≡ false) where
-        pub repeated : list_any (λ c. eqb c (number order 4 (drop (4 * i) bytes)))
-            (numbers order 4 i bytes) ≡ true
-            → Behind order version bytes count i ≡ Err RepeatedColumn
-        unfolding columns_at new_column
-        repeated e = rw (more, there, known, e) refl
-
-        pub goes_on : list_any (λ c. eqb c (number order 4 (drop (4 * i) bytes)))
-            (numbers order 4 i bytes) ≡ false
-            → Behind order version bytes count i ≡ Behind order version bytes count (i + 1)
-        unfolding columns_at new_column
-        goes_on e =
-            let next : 4 * (i + 1) ≡ 4 * i + 4 = omega arith in
-            rw (more, there, known, e, numbers_more order 4 i bytes, next, drop-drop) refl
+      further true repeated e f = rw (more, there, e) refl
+      further false true e f = rw (more, there, e, f) refl
+      further false false e f =
+          let next : 4 * (i + 1) ≡ 4 * i + 4 = omega arith in
+          rw (more, there, e, f, numbers_more order 4 i bytes, next, drop-drop) refl
 
 -- ---- the numbers of columns: each is that of one section
 abbrev again : (SectionKind → Option ℕ) → SectionKind → Option SectionKind
 again column kind =
     cond (is_some (column kind)) (kind_with column (unwrap_or (column kind) 0)) (Some kind)
 
-one_of : (column : SectionKind → Option ℕ) → map (again column) all_kinds ≡ map Some all_kinds
-    → (n : ℕ) (a b : SectionKind) → column a ≡ Some n → column b ≡ Some n → a ≡ b
-one_of column all n a b e f = same_Some a b (sym (rw e at (same-each (again column) Some all a))
-    ∙ rw f at (same-each (again column) Some all b))
+named_by : (column : SectionKind → Option ℕ) → map (again column) all_kinds ≡ map Some all_kinds
+    → (n : ℕ) (kind : SectionKind) → column kind ≡ Some n → kind_with column n ≡ Some kind
+named_by column all n kind e = rw e at (same-each (again column) Some all kind)
 
-one_section : (version n : ℕ) (a b : SectionKind) → column_of version a ≡ Some n
-    → column_of version b ≡ Some n → a ≡ b
-one_section version n a b e f = by-bool (a ≡ b) (eqb version 5)
-    (λ five. one_of standard_column refl n a b (rw five at e) (rw five at f))
-    (λ two. one_of gnu_column refl n a b (rw two at e) (rw two at f))
+kind_of_number : (version n : ℕ) (kind : SectionKind) → column_of version kind ≡ Some n
+    → kind_of_column version n ≡ Some kind
+kind_of_number version n kind e = by-bool _ (eqb version 5)
+    (λ five. rw five (named_by standard_column refl n kind (rw five at e)))
+    (λ two. rw two (named_by gnu_column refl n kind (rw two at e)))
 
 -- the section of a number has that number
 is_number_of : (o : Option ℕ) (n : ℕ) → is_number o n ≡ true → o ≡ Some n
@@ -168,7 +151,6 @@ pub one_more : (old new : ByKind ℕ) (version count n : ℕ) (columns more : Li
     → place_held old kind ≡ NO_COLUMN → ((other : SectionKind) → place_held new other ≡ cond
     (same_kind other kind) count (place_held old other)) → ArePlaces new version (count + 1) more
 one_more old new version count n columns more kind longer long small are named none put other =
-    let number = number_of_kind version n kind named in
     let absent : position_from (λ x. eqb x n) 0 columns ≡ None =
     sym (number_place version n columns kind named) ∙ says_none count (place_held old kind)
     (place_held old kind) (column_place version columns kind) (are kind) refl none in
@@ -181,8 +163,8 @@ one_more old new version count n columns more kind longer long small are named n
     (λ e. let same = is-same other kind e in
     rw (put other, e, same, found) (refl, omega arith, small))
     (λ e. let apart : (column_of version other ≡ Some n → ⊥) =
-    λ f. false≢true (sym e ∙ ap (λ k. same_kind k kind)
-    (one_section version n other kind f number) ∙ same-self kind) in
+    λ f. false≢true (sym e ∙ ap (λ k. same_kind k kind) (same_Some other kind
+    (sym (kind_of_number version n other f) ∙ named)) ∙ same-self kind) in
     rw (put other, e, same_place version n columns other apart)
     (wider count (place_held old other) (column_place version columns other) (are other))))
 

@@ -1,16 +1,11 @@
 -- The first unit of a section.
-use Rattle.std.proofs.Common.{◌≡◌, ℕ, zero, suc, List, [], ◌∷◌, length, Result, Ok, Err, refl, sym}
-use Rattle.std.proofs.Common.{ap, ◌∙◌, arith}
-use Rattle.std.proofs.lemmas.Bool.{ne_eqb}
-use Rattle.dwp_base.specs.Reading.{◌>>=◌}
-use Rattle.dwp_base.specs.declared.endian.Endianness.{Endianness}
+use Rattle.std.proofs.Common.{◌≡◌, ℕ, List, [], ◌∷◌, length, Result, Ok, Err, refl, sym, eqb, ap}
+use Rattle.std.proofs.Common.{◌∙◌, eqb-true}
+use Rattle.dwp_index.proofs.Terms
+use Terms.{◌>>=◌, by-bool, Encoding, encoding_in, Endianness, ReadError, UnexpectedEof, UnitSection}
 use Rattle.dwp_bytes.specs.Input.{Input, section, number_at}
-use Rattle.dwp_bytes.specs.declared.encoding.Encoding.{Encoding}
-use Rattle.dwp_bytes.specs.declared.error.ReadError.{ReadError}
-use Rattle.dwp_bytes.specs.declared.error.ReadError.TheVariants.{UnexpectedEof}
-use Rattle.dwp_dwarf.specs.Units.{Unit, unit_at, initial_length_at, listed, units, units_within}
-use Rattle.dwp_dwarf.specs.declared.unit.UnitSection.{UnitSection}
-use Rattle.dwp_index.specs.Package.{encoding_in}
+use Rattle.dwp_dwarf.specs.Units.{Unit, unit_at, initial_length_at, listed, units}
+use Rattle.dwp_dwarf.proofs.Units.{units-cases}
 
 -- the encoding of the first of these units
 abbrev first_encoding : List (Result Unit ReadError) → Result Encoding ReadError
@@ -28,20 +23,18 @@ no_unit : (place : UnitSection) (i : Input) → length i.bytes ≡ 0
 unfolding unit_at initial_length_at number_at
 no_unit place i e = rw e refl
 
-within-first : (n : ℕ) (place : UnitSection) (i : Input) → length i.bytes ≡ n
-    → first_encoding (units_within n place i) ≡ (unit_at place i >>= λ unit. Ok unit.0.encoding)
-unfolding units_within
-within-first zero place i e = rw (no_unit place i e) refl
-within-first (suc n) place i e = rw (ne_eqb (length i.bytes) 0 (λ z. omega arith))
-    (listed-first (unit_at place i) (units_within n place))
-
 -- it is what is read of the bytes
 encoding-first : (order : Endianness) (place : UnitSection) (bytes : List ℕ)
     (all : List (Result Unit ReadError)) → units place (section order bytes) ≡ all
     → encoding_in order place bytes ≡ first_encoding all
-unfolding encoding_in units
+unfolding encoding_in
 encoding-first order place bytes all e =
-    sym (within-first (length bytes) place (section order bytes) refl) ∙ ap first_encoding e
+    let i = section order bytes in
+    by-bool _ (eqb (length bytes) 0)
+    (λ none. let empty = rw none at (units-cases place i) in
+    rw (no_unit place i (eqb-true _ _ none)) (ap first_encoding (sym empty ∙ e)))
+    (λ some. let more = rw some at (units-cases place i) in
+    sym (listed-first (unit_at place i) (units place)) ∙ ap first_encoding (sym more ∙ e))
 
 pub encoding-none : (order : Endianness) (place : UnitSection) (bytes : List ℕ)
     → units place (section order bytes) ≡ [] → encoding_in order place bytes ≡ Err UnexpectedEof

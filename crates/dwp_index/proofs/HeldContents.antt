@@ -1,22 +1,15 @@
 -- Reading the contents of a file whose sections hold them as they stand.
 use Rattle.std.proofs.Common.{◌≡◌, ℕ, zero, suc, ◌<◌, Bool, false, not, ◌||◌, inl, inr, List, []}
-use Rattle.std.proofs.Common.{◌∷◌, length, refl, sym, ap, subst, ◌∙◌, arith}
-use Rattle.std.specs.Prelude.{Option, Some, None, Ok, slice_get}
-use Rattle.std.specs.List.{find}
-use Rattle.std.proofs.lemmas.Bool.{ne_eqb, and_right}
-use Rattle.dwp_base.specs.Sections.{name_of, is_named, kind_named, all_kinds, same_kind, rank_of}
-use Rattle.dwp_base.specs.declared.section.SectionKind.{SectionKind}
+use Rattle.std.proofs.Common.{◌∷◌, length, refl, sym, ap, subst, ◌∙◌, arith, Option, Some, None, Ok}
+use Rattle.std.proofs.Common.{slice_get, find, ne_eqb}
+use Rattle.dwp_index.proofs.Terms
+use Terms.{all_kinds, at-rank, by-bool, content, content_among, contents_of, each-read, Endianness}
+use Terms.{every-two, has_name, Index, index_of, is-false, is-same, is_of_kind, name_of}
+use Terms.{named-itself, not-older, same_kind, SectionKind, used_bytes, value-of}
+use Rattle.std.proofs.lemmas.Bool.{and_right}
+use Rattle.dwp_base.specs.Sections.{is_named, kind_named, rank_of}
 use Rattle.dwp_base.specs.declared.section.SectionKind.TheVariants.{CuIndex, TuIndex}
-use Rattle.dwp_base.proofs.Bools.{is-false, by-bool}
-use Rattle.dwp_base.proofs.EveryKind.{every-two, at-rank, is-same, named-itself, not-older}
-use Rattle.dwp_base.proofs.EveryKind.{value-of}
-use Rattle.dwp_base.proofs.Steps.{each-read}
 use Rattle.dwp_elf_read.specs.Elf.{Elf, SectionMeaning, SHT_NOBITS, elf_of}
-use Rattle.dwp_index.specs.Contents.{content, has_name, is_of_kind, used_bytes, content_among}
-use Rattle.dwp_index.specs.Contents.{contents_of}
-use Rattle.dwp_base.specs.declared.endian.Endianness.{Endianness}
-use Rattle.dwp_index.specs.Index.{Index}
-use Rattle.dwp_index.specs.IndexBytes.{index_of}
 use Rattle.dwp_index.specs.Package.{index_in_section, package_of}
 use Rattle.dwp_index.specs.Holding.{Holds, HasContent, HoldsInOrder, held_of, sections_of}
 

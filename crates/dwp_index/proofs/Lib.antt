@@ -1,3 +1,4 @@
+pub mod Terms
 pub mod Columns
 pub mod NumberLists
 pub mod Views

@@ -1,13 +1,9 @@
 -- Numbers one after the other.
 use Rattle.std.proofs.Common.{◌≡◌, ℕ, zero, suc, ◌+◌, ◌-◌, ◌*◌, ◌<◌, Bool, cond, eqb, List, [], ◌∷◌}
-use Rattle.std.proofs.Common.{◌++◌, length, get_or, drop, refl, ap, arith, add-one}
-use Rattle.std.specs.Prelude.{Some, is_some}
-use Rattle.std.specs.List.{position_from, list_any}
-use Rattle.std.proofs.lemmas.List.{drop-drop}
-use Rattle.dwp_base.proofs.Bools.{by-bool}
-use Rattle.dwp_base.specs.declared.endian.Endianness.{Endianness}
-use Rattle.dwp_base.specs.Numbers.{number}
-use Rattle.dwp_index.specs.IndexBytes.{numbers, number_rows}
+use Rattle.std.proofs.Common.{◌++◌, length, get_or, drop, refl, ap, arith, add-one, Some, is_some}
+use Rattle.std.proofs.Common.{drop-drop}
+use Rattle.dwp_index.proofs.Terms
+use Terms.{by-bool, Endianness, list_any, number, number_rows, numbers, position_from}
 
 pub length-numbers : (order : Endianness) (width n : ℕ) (bytes : List ℕ)
     → length (numbers order width n bytes) ≡ n

@@ -1,26 +1,15 @@
 -- What looking a unit up in a package gives.
 use Rattle.std.proofs.Common.{◌≡◌, ℕ, ◌+◌, ◌≤◌, Bool, false, not, List, [], ◌∷◌, length, refl, sym}
-use Rattle.std.proofs.Common.{ap, subst, ◌∙◌, arith}
-use Rattle.std.specs.Prelude.{Option, Some, None, Result, Ok, Err, IfOk, slice_range}
-use Rattle.std.specs.List.{find}
-use Rattle.std.proofs.lemmas.Bool.{le-leb}
-use Rattle.std.proofs.lemmas.Option.{same_Some}
-use Rattle.dwp_base.specs.Reading.{Answers}
-use Rattle.dwp_base.proofs.Steps.{bind-was, same-ok}
-use Rattle.dwp_base.specs.declared.section.SectionKind.{SectionKind}
+use Rattle.std.proofs.Common.{ap, subst, ◌∙◌, arith, Option, Some, None, Result, Ok, Err, IfOk}
+use Rattle.std.proofs.Common.{slice_range, find, le-leb}
+use Rattle.dwp_index.proofs.Terms
+use Terms.{Answers, bind-was, content, contribution_kinds, DwarfObject, Encoding, encoding_in}
+use Terms.{FindsExactly, found_row, identifier_of, Index, index_for, IsIndex, look_count, Package}
+use Terms.{range_in, Ranges, row_in, same-ok, same_Some, SectionKind, Sections}
 use Rattle.dwp_base.specs.declared.section.Contribution.{Contribution}
-use Rattle.dwp_bytes.specs.declared.encoding.Encoding.{Encoding}
-use Rattle.dwp_table.specs.Columns.{contribution_kinds}
-use Rattle.dwp_table.specs.Objects.{identifier_of}
-use Rattle.dwp_table.specs.Probing.{found_row, look_count}
-use Rattle.dwp_table.specs.Table.{IsIndex, FindsExactly}
-use Rattle.dwp_table.specs.declared.object.DwarfObject.{DwarfObject}
 use Rattle.dwp_index.specs.declared.error.PackageError.{PackageError}
-use Rattle.dwp_index.specs.Contents.{Sections, content}
-use Rattle.dwp_index.specs.Index.{Index, Ranges, row_in, range_in}
-use Rattle.dwp_index.specs.Package.{Package, FoundUnit, as_error, is_outside, first_outside}
-use Rattle.dwp_index.specs.Package.{all_inside, encoding_in, row_bytes, unit_in, unit_at_row}
-use Rattle.dwp_index.specs.Package.{index_for, found_counted, found}
+use Rattle.dwp_index.specs.Package.{FoundUnit, as_error, is_outside, first_outside, all_inside}
+use Rattle.dwp_index.specs.Package.{row_bytes, unit_in, unit_at_row, found_counted, found}
 use Rattle.dwp_index.specs.Finding.{own_place, own_bytes, LiesInside, unit_of, HasIndex, IsUnitOf}
 use Rattle.dwp_index.specs.Finding.{IsNotNamed, GivesWithin, row_number}
 use Rattle.dwp_index.specs.declared.error.PackageError.TheVariants as errors

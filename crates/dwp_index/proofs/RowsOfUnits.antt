@@ -1,18 +1,13 @@
 -- A unit is found by its row.
-use Rattle.std.proofs.Common.{◌≡◌, ℕ, refl, sym, ap}
-use Rattle.std.specs.Prelude.{Option, Some, None, Result, Ok, Err}
-use Rattle.dwp_base.specs.Reading.{◌>>=◌}
-use Rattle.dwp_base.specs.declared.section.SectionKind.{SectionKind}
-use Rattle.dwp_bytes.specs.declared.error.ReadError.{ReadError}
-use Rattle.dwp_table.specs.Objects.{identifier_of}
-use Rattle.dwp_table.specs.Probing.{found_row, look_count}
-use Rattle.dwp_table.specs.declared.object.DwarfObject.{DwarfObject}
+use Rattle.std.proofs.Common.{◌≡◌, ℕ, refl, sym, ap, Option, Some, None, Ok}
+use Rattle.dwp_index.proofs.Terms
+use Terms.{◌>>=◌, DwarfObject, found_row, identifier_of, Index, index_for, look_count, Package}
+use Terms.{Ranges, row_in, SectionKind}
+use Rattle.dwp_dwarf.proofs.Readings.{by-result}
+use Rattle.dwp_index.specs.Package.{first_outside, all_inside, unit_in, unit_at_row, unit_found}
+use Rattle.dwp_index.specs.Package.{found_by, found_counted, row_inside, row_found, row_by}
+use Rattle.dwp_index.specs.Package.{row_counted, unit_of_row, found_by_row}
 use Rattle.dwp_index.specs.declared.error.PackageError.TheVariants as errors
-use Rattle.dwp_index.specs.Index.{Index, Ranges, row_in}
-use Rattle.dwp_index.specs.Package.{Package, as_error, first_outside, all_inside, unit_in}
-use Rattle.dwp_index.specs.Package.{unit_at_row, unit_found, found_by, index_for, found_counted}
-use Rattle.dwp_index.specs.Package.{row_inside, row_found, row_by, row_counted, unit_of_row}
-use Rattle.dwp_index.specs.Package.{found_by_row}
 
 module _ (pack : Package) (object : DwarfObject) where
   -- a range outside is told by both
@@ -25,20 +20,14 @@ module _ (pack : Package) (object : DwarfObject) where
       (all_inside o >>= λ inside. Ok (Some (number, row), count)) >>= unit_of_row pack object) e)
   ranged number count row (Some kind) e = rw e refl
 
-  rowed : (number count : ℕ) (row : Result Ranges ReadError)
-      → (as_error errors.Index row >>= λ x. unit_in pack object number x >>= λ unit.
-      Ok (Some unit, count))
-      ≡ ((as_error errors.Index row >>= row_inside pack number count)
-      >>= unit_of_row pack object)
-  rowed number count (Ok row) = ranged number count row (first_outside pack.contents row) refl
-  rowed number count (Err e) = refl
-
   numbered : (index : Index) (number : Option ℕ) (count : ℕ)
       → unit_found pack object index number count
       ≡ (row_found pack index number count >>= unit_of_row pack object)
   unfolding unit_at_row
   numbered index None count = refl
-  numbered index (Some number) count = rowed number count (row_in index number)
+  numbered index (Some number) count = by-result _ (row_in index number)
+      (λ row e. rw e (ranged number count row (first_outside pack.contents row) refl))
+      (λ cause e. rw e refl)
 
   indexed : (index : Option Index)
       → found_by pack object index ≡ (row_by pack object index >>= unit_of_row pack object)

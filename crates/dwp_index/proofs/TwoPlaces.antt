@@ -3,36 +3,25 @@
 use Rattle.std.proofs.Common.{◌≡◌, ℕ, ◌+◌, ◌-◌, ◌≤◌, Bool, true, false, cond, ltb, leb, eqb, ◌&&◌}
 use Rattle.std.proofs.Common.{List, length, take, drop, Result, Ok, Err, refl, subst, arith}
 use Rattle.std.proofs.Common.{add-zero, add_assoc, zero, suc, sym, ap, ◌∙◌}
+use Rattle.dwp_index.proofs.Terms
+use Terms.{◌>>=◌, bind-was, Encoding, encoding_in, Endianness, number, ReadError, UnexpectedEof}
+use Terms.{UnitSection}
 use Rattle.std.proofs.lemmas.Bool.{le-ltb, ltb-false, eqb-false}
 use Rattle.std.proofs.lemmas.List.{get_or-take, drop-take, drop-drop, length-take, length-drop}
 use Rattle.std.proofs.lemmas.List.{length-take-le, take-take}
-use Rattle.dwp_base.specs.Numbers.{number}
-use Rattle.dwp_base.specs.Reading.{◌>>=◌}
-use Rattle.dwp_base.specs.declared.endian.Endianness.{Endianness}
 use Rattle.dwp_base.specs.declared.endian.Endianness.TheVariants.{Little, Big}
-use Rattle.dwp_base.proofs.Bools.{by-bool}
-use Rattle.dwp_base.proofs.Steps.{bind-was, by-choice, guard-ok, same-ok}
+use Rattle.dwp_bytes.specs.declared.encoding.Format.TheVariants.{Dwarf32, Dwarf64}
+use Rattle.dwp_dwarf.proofs.Readings.{Gives, then_gives, then_split, test_gives, value_gives}
+use Rattle.dwp_dwarf.proofs.Readings.{error_gives, more_gives, was}
 use Rattle.dwp_bytes.specs.Input.{Input, after, byte_at, number_at, relocated_at, offset_at}
 use Rattle.dwp_bytes.specs.Input.{is_address_size, section, split_at}
 use Rattle.dwp_bytes.specs.Encoding.{offset_size}
-use Rattle.dwp_bytes.specs.declared.encoding.Encoding.{Encoding}
 use Rattle.dwp_bytes.specs.declared.encoding.Format.{Format}
-use Rattle.dwp_bytes.specs.declared.encoding.Format.TheVariants.{Dwarf32, Dwarf64}
-use Rattle.dwp_bytes.specs.declared.error.ReadError.{ReadError}
-use Rattle.dwp_bytes.specs.declared.error.ReadError.TheVariants.{UnexpectedEof, UnknownVersion}
 use Rattle.dwp_dwarf.specs.Units.{Unit, initial_length_at, address_size_at, type_at, older_type_at}
 use Rattle.dwp_dwarf.specs.Units.{unit_code_at, unit_type_at, older_at, newer_at, header_at}
 use Rattle.dwp_dwarf.specs.Units.{unit_at, listed, units_within, units, UnitsAreTaken}
-use Rattle.dwp_dwarf.specs.declared.unit.UnitSection.{UnitSection}
 use Rattle.dwp_dwarf.specs.declared.unit.UnitSection.TheVariants.{Info, Types}
 use Rattle.std.specs.Prelude.{[], Some, slice_get}
-use Rattle.dwp_index.specs.Package.{encoding_in}
-
--- a relation of two answers holds of either of two
-pub choice : {C : Type 0} (T : Result C ReadError → Result C ReadError → Type 0) (b : Bool)
-    (r s r' s' : Result C ReadError) → T r s → T r' s' → T (cond b r r') (cond b s s')
-choice T true r s r' s' h h' = h
-choice T false r s r' s' h h' = h'
 
 -- bytes that nothing relocates, from a place on
 abbrev pub plain : Endianness → ℕ → List ℕ → Input
@@ -46,24 +35,24 @@ Reading B = Input → Result B ReadError
 
 -- it took so many bytes at place p, and the other reading gives the same of these alone at place q;
 -- the view of an answer is what was read, and what was left
-pub record IsAgain {A B : Type 0} (order : Endianness) (view : B → A × Input) (other : Reading B)
+record IsAgain {A B : Type 0} (order : Endianness) (view : B → A × Input) (other : Reading B)
     (p q : ℕ) (bytes : List ℕ) (x : B) : Type 0 where
-  pub taken : ℕ
-  pub fits : taken ≤ length bytes
-  pub left : (view x).1 ≡ plain order (p + taken) (drop taken bytes)
-  pub again : (k : ℕ) → taken ≤ k → (y : B) × (other (plain order q (take k bytes)) ≡ Ok y)
+  taken : ℕ
+  fits : taken ≤ length bytes
+  left : (view x).1 ≡ plain order (p + taken) (drop taken bytes)
+  again : (k : ℕ) → taken ≤ k → (y : B) × (other (plain order q (take k bytes)) ≡ Ok y)
       × (view y ≡ ((view x).0, plain order (q + taken) (drop taken (take k bytes))))
 
-pub record Again {A B : Type 0} (order : Endianness) (view : B → A × Input)
+record Again {A B : Type 0} (order : Endianness) (view : B → A × Input)
     (read other : Reading B) : Type 0 where
-  pub at : (p q : ℕ) (bytes : List ℕ) (x : B) → read (plain order p bytes) ≡ Ok x
-      → IsAgain order view other p q bytes x
+  at : (p q : ℕ) (bytes : List ℕ)
+      → Gives B (read (plain order p bytes)) (IsAgain order view other p q bytes)
 
-abbrev pub Alone : {A : Type 0} → Endianness → Reading (A × Input) → Type 0
+abbrev Alone : {A : Type 0} → Endianness → Reading (A × Input) → Type 0
 Alone {A} order read = Again order (λ (x : A × Input). x) read read
 
 -- a unit's encoding, and what its header leaves
-abbrev pub header_view : Unit → Encoding × Input
+abbrev header_view : Unit → Encoding × Input
 header_view u = (u.encoding, u.entries)
 
 -- a number of so many bytes is read of these alone
@@ -93,12 +82,9 @@ module _ {order : Endianness} where
       → value (plain order q (take k bytes)) ≡ value (plain order p bytes))
       → Alone order (λ i. cond (ltb (length i.bytes) n) (Err UnexpectedEof)
       (Ok (value i, after n i)))
-  takes {A} n value same = record {
-    at = λ p q bytes x e.
-        let i = plain order p bytes in
-        let test = guard-ok (ltb (length bytes) n) UnexpectedEof (value i, after n i) x e in
-        let fits : n ≤ length bytes = ltb-false _ _ test.0 in
-        subst (IsAgain order (λ (x : A × Input). x) _ p q bytes) test.1 (record {
+  takes n value same = record {
+    at = λ p q bytes. test_gives (ltb (length bytes) n) (λ _. error_gives)
+        (λ some. let fits : n ≤ length bytes = ltb-false _ _ some in value_gives (record {
           taken = n;
           fits = fits;
           left = refl;
@@ -110,26 +96,24 @@ module _ {order : Endianness} where
             ) refl,
             refl,
           );
-        });
+        }));
   }
 
   -- nothing is read
   value : {A B : Type 0} {view : B → A × Input} {f g : Input → B} (a : A)
       → ((i : Input) → view (f i) ≡ (a, i)) → ((i : Input) → view (g i) ≡ (a, i))
       → Again order view (λ i. Ok (f i)) (λ i. Ok (g i))
-  value {A} {B} {view} {f} {g} a here there = record {
-    at = λ p q bytes x e.
-        let same : f (plain order p bytes) ≡ x = cc in
-        subst (IsAgain order view (λ i. Ok (g i)) p q bytes) same (record {
-          taken = 0;
-          fits = omega arith;
-          left = rw (here (plain order p bytes), add-zero) refl;
-          again = λ k h. (
-            g (plain order q (take k bytes)),
-            refl,
-            rw (here (plain order p bytes), there (plain order q (take k bytes)), add-zero) refl,
-          );
-        });
+  value {g = g} a here there = record {
+    at = λ p q bytes. value_gives (record {
+      taken = 0;
+      fits = omega arith;
+      left = rw (here (plain order p bytes), add-zero) refl;
+      again = λ k h. (
+        g (plain order q (take k bytes)),
+        refl,
+        rw (here (plain order p bytes), there (plain order q (take k bytes)), add-zero) refl,
+      );
+    });
   }
 
   plain_value : {A : Type 0} {a : A} → Alone order (λ i. Ok (a, i))
@@ -137,7 +121,7 @@ module _ {order : Endianness} where
 
   refused : {A B : Type 0} {view : B → A × Input} {e : ReadError}
       → Again order view (λ i. Err e) (λ i. Err e)
-  refused = record { at = λ p q bytes x e. absurd cc }
+  refused = record { at = λ p q bytes. error_gives }
 
   -- either of two readings
   either : {A B : Type 0} {view : B → A × Input} {r s r' s' : Reading B} (b : Bool)
@@ -151,14 +135,12 @@ module _ {order : Endianness} where
       (f g : A × Input → Result C ReadError) → Alone order read
       → ((a : A) → Again order view (λ i. f (a, i)) (λ i. g (a, i)))
       → Again order view (λ i. read i >>= f) (λ i. read i >>= g)
-  then {read = read} f g first second = record {
-    at = λ p q bytes x e.
-        let a = bind-was (read (plain order p bytes)) f x e in
-        let one = first.at p q bytes a.0 a.1 in
+  then {C = C} {view = view} {read = read} f g first second = record {
+    at = λ p q bytes. then_gives (first.at p q bytes) (λ a one.
         let m = one.taken in
-        let two = (second a.0.0).at (p + m) (q + m) (drop m bytes) x
-        (subst (λ (i : Input). f (a.0.0, i) ≡ Ok x) one.left a.2) in
-        record {
+        subst (λ (i : Input). Gives C (f (a.0, i)) (IsAgain order view (λ j. read j >>= g) p q
+        bytes)) (sym one.left)
+        (more_gives ((second a.0).at (p + m) (q + m) (drop m bytes)) (λ x two. record {
           taken = m + two.taken;
           fits = omega (arith, one.fits, two.fits, length-drop m bytes);
           left = rw (two.left, drop-drop, add_assoc) refl;
@@ -172,7 +154,7 @@ module _ {order : Endianness} where
                 rw (here.1, here.2, begins) rest.1,
                 rw (rest.2, ← begins, drop-drop, add_assoc) refl,
               );
-        };
+        })));
   }
 
   -- ---- the parts of a unit
@@ -189,7 +171,7 @@ module _ {order : Endianness} where
   unfolding offset_at relocated_at
   offset_alone format = takes (offset_size format) _ (λ p q. offset_front format order)
 
-  pub length_alone : Alone order initial_length_at
+  length_alone : Alone order initial_length_at
   unfolding initial_length_at
   length_alone = then _ _ (number_alone 4 four) (λ n. either (ltb n 0xfffffff0) plain_value
       (either (eqb n 0xffffffff) (then _ _ (number_alone 8 eight) (λ m. plain_value)) refused))
@@ -239,7 +221,7 @@ module _ {order : Endianness} where
         (λ size. then _ _ (offset_alone format) (λ offset. then _ _ (unit_type_alone code format)
         (λ t. value _ (λ i. refl) (λ i. refl)))))
 
-    pub header_again : Again order header_view (header_at place format whole)
+    header_again : Again order header_view (header_at place format whole)
         (header_at place format other)
     unfolding header_at
     header_again = then _ _ (number_alone 2 two) (λ version. either (eqb version 5) newer_again
@@ -249,57 +231,37 @@ module _ {order : Endianness} where
 abbrev Units : Type 0
 Units = Result (Unit × Input) ReadError
 
--- `taken` is the lower crate's law
-unit_alone : (order : Endianness) (place : UnitSection) (p : ℕ) (bytes : List ℕ) → UnitsAreTaken
-    → (u : Unit) (rest : Input) → unit_at place (plain order p bytes) ≡ Ok (u, rest)
-    → encoding_in order place u.whole.bytes ≡ Ok u.encoding
+unit_alone : (order : Endianness) (place : UnitSection) (p : ℕ) (bytes : List ℕ)
+    → Gives (Unit × Input) (unit_at place (plain order p bytes)) (λ x. (k : ℕ)
+    → x.1.place ≡ p + k → encoding_in order place (take k bytes) ≡ Ok x.0.encoding)
 unfolding unit_at encoding_in split_at
-unit_alone order place p bytes taken u rest e =
-    let i = plain order p bytes in
-    let a = bind-was (initial_length_at i) _ _ e in
-    let format = a.0.0.0 in
-    let n = a.0.0.1 in
-    let first = length_alone.at p 0 bytes a.0 a.1 in
+unit_alone order place p bytes = then_gives (length_alone.at p 0 bytes) (λ len first.
+    let n = len.0.1 in
     let m = first.taken in
-    let b = bind-was (split_at n a.0.1) _ _ a.2 in
-    let body = take n (drop m bytes) in
-    let inverse = guard-ok (ltb (length (drop m bytes)) n) UnexpectedEof
-    (plain order (p + m) body, plain order (p + m + n) (drop n (drop m bytes))) b.0
-    (subst (λ (x : Input). split_at n x ≡ Ok b.0) first.left b.1) in
-    let few : n ≤ length (drop m bytes) = ltb-false _ _ inverse.0 in
-    let c = bind-was (split_at (b.0.1.place - p) i) _ _ b.2 in
-    let d = bind-was (header_at place format c.0.0 b.0.0) _ _ c.2 in
-    let same : ◌≡◌ {A = Unit × Input} (d.0, b.0.1) (u, rest) = same-ok _ _ d.2 in
-    let fits : m + n ≤ length bytes = omega (arith, few, first.fits, length-drop m bytes) in
-    let total = taken place i rest u e in
-    let count : total.0.taken ≡ m + n = omega (
-      arith,
-      ap (λ (x : Input). x.place) total.0.is,
-      ap (λ (x : Unit × Input). x.1.place) same,
-      ap (λ (x : Input × Input). x.1.place) inverse.1,
-    ) in
-    let own : u.whole.bytes ≡ take (m + n) bytes = ap (λ (x : Input). x.bytes) total.1 ∙
-    ap (λ k. take k bytes) count in
-    let own' = take (m + n) bytes in
-    let all : length own' ≡ m + n = length-take-le (m + n) bytes fits in
+    let own = take (m + n) bytes in
+    rw first.left (then_split _ n (plain order (p + m) (drop m bytes)) (λ few. then_split _ _
+    (plain order p bytes) (λ _. then_gives ((header_again place len.0.0 _ (plain order 0 own)).at
+    (p + m) (0 + m) (take n (drop m bytes))) (λ u head. value_gives (λ k end.
+    let long : n ≤ length (drop m bytes) = few in
+    let body : length (take n (drop m bytes)) ≡ n = length-take-le n (drop m bytes) long in
+    let all : length own ≡ m + n =
+    length-take-le (m + n) bytes (omega (arith, first.fits, length-drop m bytes)) in
+    let size : k ≡ m + n = omega arith in
     let length' = first.again (m + n) (omega arith) in
-    let size : 0 + m + n - 0 ≡ m + n = omega arith in
-    let head = (header_again place format c.0.0 (plain order 0 own')).at (p + m) (0 + m) body d.0
-    (ap (λ (x : Input × Input). header_at place format c.0.0 x.0) inverse.1 ∙ d.1) in
-    let head' = head.again n (omega (arith, head.fits, length-take-le n (drop m bytes) few)) in
+    let place' : 0 + m + n - 0 ≡ m + n = omega arith in
+    let head' = head.again n (omega (arith, head.fits)) in
     rw (
-      own,
+      size,
       length'.1,
       length'.2,
       drop-take m n bytes,
-      le-ltb (length body) n (omega (arith, length-take-le n (drop m bytes) few)),
-      size,
-      le-ltb (length own') (m + n) (omega (arith, all)),
+      le-ltb (length (take n (drop m bytes))) n (omega arith),
+      place',
+      le-ltb (length own) (m + n) (omega arith),
       take-take (m + n) (m + n) bytes (omega arith),
       head'.1,
       ap (λ (v : Encoding × Input). v.0) head'.2,
-      ap (λ (x : Unit × Input). x.0.encoding) same,
-    ) refl
+    ) refl))))))
 
 -- ---- the units of a section
 abbrev Listed : Type 0
@@ -317,7 +279,11 @@ module _ (taken : UnitsAreTaken) (order : Endianness) (place : UnitSection) (u :
   listed_alone others p bytes true r k go e given = absurd cc
   listed_alone others p bytes false (Ok x) zero go e given =
       let same : x.0 ≡ u = cc in
-      unit_alone order place p bytes taken u x.1 (sym e ∙ ap (λ (v : Unit). Ok (v, x.1)) same)
+      let read : unit_at place (plain order p bytes) ≡ Ok (u, x.1) =
+      sym e ∙ ap (λ (v : Unit). Ok (v, x.1)) same in
+      let total = taken place (plain order p bytes) x.1 u read in
+      rw total.1 ((unit_alone order place p bytes).gives (u, x.1) read total.0.taken
+      (ap (λ (i : Input). i.place) total.0.is))
   listed_alone others p bytes false (Ok x) (suc k) go e given =
       let n = (taken place (plain order p bytes) x.1 x.0 (sym e)).0 in
       go (p + n.taken) (drop n.taken bytes) k (subst (λ (i : Input). slice_get (others i) k ≡ Some
@@ -339,42 +305,32 @@ module _ (taken : UnitsAreTaken) (order : Endianness) (place : UnitSection) (u :
   units_alone bytes k given = within_alone (length bytes) 0 bytes k given
 
 -- ---- a unit of version 5 is read the same in either section
--- what a step goes on to, in place of something else that gave y
-instead : {A B : Type 0} (r : Result A ReadError) (f g : A → Result B ReadError) (y : B)
-    → ((x : A) → f x ≡ Ok y → g x ≡ Ok y) → (r >>= f) ≡ Ok y → (r >>= g) ≡ Ok y
-instead (Ok x) f g y h e = h x e
-instead (Err d) f g y h e = absurd cc
-
-older_version : (place : UnitSection) (format : Format) (version : ℕ) (whole i : Input) (u : Unit)
-    → older_at place format version whole i ≡ Ok u → u.encoding.version ≡ version
+older_version : (place : UnitSection) (format : Format) (version : ℕ) (whole i : Input)
+    → Gives Unit (older_at place format version whole i) (λ u. u.encoding.version ≡ version)
 unfolding older_at
-older_version place format version whole i u e =
-    let a = bind-was (offset_at format i) _ u e in
-    let b = bind-was (address_size_at a.0.1) _ u a.2 in
-    let c = bind-was (older_type_at place format b.0.1) _ u b.2 in
-    sym (ap (λ (x : Unit). x.encoding.version) (same-ok _ u c.2))
+older_version place format version whole i = then_gives (was (offset_at format i)) (λ a _.
+    then_gives (was (address_size_at a.1)) (λ b _. then_gives
+    (was (older_type_at place format b.1)) (λ c _. value_gives refl)))
 
-header_anywhere : (place other : UnitSection) (format : Format) (whole i : Input) (u : Unit)
-    → u.encoding.version ≡ 5 → header_at place format whole i ≡ Ok u
-    → header_at other format whole i ≡ Ok u
+header_anywhere : (place other : UnitSection) (format : Format) (whole i : Input)
+    → Gives Unit (header_at place format whole i) (λ u. u.encoding.version ≡ 5
+    → header_at other format whole i ≡ Ok u)
 unfolding header_at
-header_anywhere place other format whole i u five = instead (number_at 2 i) _ _ u
-    (λ v e. by-bool _ (eqb v.0 5) (λ is. rw is (rw is at e))
-    (λ no. by-choice _ _ (older_at place format v.0 whole v.1) (Err UnknownVersion) (Ok u)
-    (rw no at e) (λ older. absurd (eqb-false v.0 5 no
-    (sym (older_version place format v.0 whole v.1 u older) ∙ five))) (λ unknown. absurd cc)))
+header_anywhere place other format whole i = then_gives (was (number_at 2 i)) (λ v is. test_gives
+    (eqb v.0 5)
+    (λ yes. more_gives (was (newer_at format whole v.1)) (λ u read five. rw (is, yes) read))
+    (λ no. test_gives (leb 2 v.0 && leb v.0 4) (λ _.
+    more_gives (older_version place format v.0 whole v.1) (λ u old five.
+    absurd (eqb-false v.0 5 no (sym old ∙ five)))) (λ _. error_gives)))
 
-unit_anywhere : (place other : UnitSection) (i : Input) (x : Unit × Input)
-    → x.0.encoding.version ≡ 5 → unit_at place i ≡ Ok x → unit_at other i ≡ Ok x
+unit_anywhere : (place other : UnitSection) (i : Input) → Gives (Unit × Input) (unit_at place i)
+    (λ x. x.0.encoding.version ≡ 5 → unit_at other i ≡ Ok x)
 unfolding unit_at
-unit_anywhere place other i x five = instead (initial_length_at i) _ _ x
-    (λ length. instead (split_at length.0.1 length.1) _ _ x
-    (λ body. instead (split_at (body.1.place - i.place) i) _ _ x
-    (λ whole e.
-    let d = bind-was (header_at place length.0.0 whole.0 body.0) (λ unit. Ok (unit, body.1)) x e in
-    let version : d.0.encoding.version ≡ 5 = ap (λ (y : Unit × Input). y.0.encoding.version)
-    (same-ok (d.0, body.1) x d.2) ∙ five in
-    rw (header_anywhere place other length.0.0 whole.0 body.0 d.0 version d.1) d.2)))
+unit_anywhere place other i = then_gives (was (initial_length_at i)) (λ length first. then_gives
+    (was (split_at length.0.1 length.1)) (λ body second. then_gives
+    (was (split_at (body.1.place - i.place) i)) (λ whole third. then_gives
+    (header_anywhere place other length.0.0 whole.0 body.0) (λ u fourth. value_gives (λ five.
+    rw (first, second, third, fourth five) refl)))))
 
 pub encoding_anywhere : (order : Endianness) (place other : UnitSection) (bytes : List ℕ)
     (encoding : Encoding) → encoding.version ≡ 5 → encoding_in order place bytes ≡ Ok encoding
@@ -384,5 +340,5 @@ encoding_anywhere order place other bytes encoding five e =
     let a = bind-was (unit_at place (section order bytes)) (λ unit.
     Ok unit.0.encoding) encoding e in
     let same : a.0.0.encoding ≡ encoding = cc in
-    rw (unit_anywhere place other (section order bytes) a.0 (ap (λ (x : Encoding). x.version) same
-    ∙ five) a.1) a.2
+    rw ((unit_anywhere place other (section order bytes)).gives a.0 a.1
+    (ap (λ (x : Encoding). x.version) same ∙ five)) a.2

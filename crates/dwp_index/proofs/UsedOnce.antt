@@ -1,23 +1,20 @@
 -- The used slots of an index of distinct identifiers.
-use Rattle.std.proofs.Common.{◌≡◌, ℕ, zero, suc, ◌+◌, ◌-◌, ◌<◌, ◌≤◌, Bool, true, false, cond, not}
-use Rattle.std.proofs.Common.{eqb, List, [], ◌∷◌, ◌++◌, length, map, get_or, take, drop, set, refl}
-use Rattle.std.proofs.Common.{sym, ap, subst, ◌∙◌, ◌⊎◌, inl, inr, arith, append_assoc, add-one}
-use Rattle.std.proofs.Common.{length-append}
-use Rattle.std.specs.Prelude.{Option, Some, None, filter}
-use Rattle.std.specs.List.{range_with_len}
+use Rattle.std.proofs.Common.{◌≡◌, ℕ, zero, suc, ◌+◌, ◌-◌, ◌<◌, ◌≤◌, Bool, not, eqb, List, [], ◌∷◌}
+use Rattle.std.proofs.Common.{◌++◌, length, map, get_or, take, drop, set, refl, sym, ap, subst, ◌∙◌}
+use Rattle.std.proofs.Common.{◌⊎◌, inl, inr, arith, append_assoc, add-one, length-append, Option}
+use Rattle.std.proofs.Common.{Some, None, filter, ne_eqb, get_or-set_same, get_or-set_other}
+use Rattle.std.proofs.Common.{length-set, map-id}
+use Rattle.dwp_index.proofs.Terms.{by-bool, Index, IsIndex, place, range_with_len}
 use Rattle.std.specs.List.Sorted.{IsPermutation}
 use Rattle.std.proofs.Math.Seq.{get_or-append_seam}
-use Rattle.std.proofs.lemmas.Bool.{ne_eqb, cases_eq, cases_lt}
-use Rattle.std.proofs.lemmas.List.{set_split, set-get_or, get_or-set_same, get_or-set_other}
-use Rattle.std.proofs.lemmas.List.{length-set, length-map, get_or-map, get_or_past, map-id}
+use Rattle.std.proofs.lemmas.Bool.{cases_eq}
+use Rattle.std.proofs.lemmas.List.{set_split, set-get_or, length-map, get_or-map, get_or_past}
 use Rattle.std.proofs.lemmas.List.Elements.{filter-append}
 use Rattle.std.proofs.lemmas.List.FromFn.{map-range_with_len_more, fill_by_all}
 use Rattle.std.proofs.lemmas.List.Sorted.{IsPermutation-refl, IsPermutation-sym}
 use Rattle.std.proofs.lemmas.List.Sorted.{IsPermutation-push_more, IsPermutation-middle}
 use Rattle.std.proofs.lemmas.List.Sorted.{IsPermutation-map, IsPermutation-append}
-use Rattle.dwp_table.specs.Table.{IsHashTable, IsIndex, signature_of}
-use Rattle.dwp_table.specs.Probing.{place}
-use Rattle.dwp_index.specs.Index.{Index}
+use Rattle.dwp_table.specs.Table.{IsHashTable, signature_of}
 use Rattle.dwp_index.specs.Used.{slot_at, used_in, used_from}
 use Rattle.dwp_index.specs.Entries.{compilation_entry, type_entry, entries_from}
 use Rattle.dwp_index.specs.Naming.{numbered, entries_of, IsIndexOfIds}
@@ -60,28 +57,10 @@ one_fewer n xs has =
     ] in
     record {
       each = λ r h.
-          let k = has.each r (omega arith) in (
-            k.0,
-            omega (arith, length-set xs at 0, k.1),
-            elim (read k.0) [
-              | inl e ↦ absurd (omega (arith, k.2, last.2, ap (λ m. get_or xs m 0) e.0))
-              | inr other ↦ other.1 ∙ k.2
-            ],
-          );
-      most = λ k. elim (read k) [
-        | inl e ↦ omega (arith, e.1)
-        | inr other ↦
-            let apart : get_or xs k 0 ≡ suc n → ⊥ =
-            λ e. other.0 (has.once k at (omega (arith, e)) (e ∙ sym last.2)) in
-            omega (arith, other.1, has.most k, apart)
-      ];
-      once = λ k l some same. elim (read k) [
-        | inl e ↦ absurd (omega (arith, e.1, some))
-        | inr one ↦ elim (read l) [
-          | inl e ↦ absurd (omega (arith, e.1, some, same))
-          | inr two ↦ has.once k l (omega (arith, one.1, some)) (sym one.1 ∙ same ∙ two.1)
-        ]
-      ];
+          let k = has.each r (omega arith) in
+          (k.0, omega (arith, length-set xs at 0, k.1), grind (arith, read k.0));
+      most = λ k. grind (arith, read k, has.most k, has.once k at);
+      once = λ k l some same. grind (arith, read k, read l, has.once k l);
     }
 
 each_once : (n : ℕ) (xs : List ℕ) → HasEach n xs
@@ -101,10 +80,7 @@ named ids r = (signature_of ids r, r)
 
 -- a slot with a row is one of the slots
 slot-within : (rows : List ℕ) (k : ℕ) → 0 < get_or rows k 0 → k < length rows
-slot-within rows k some = elim (cases_lt k (length rows)) [
-  | inl lt ↦ lt
-  | inr le ↦ absurd (omega (arith, some, get_or_past rows k 0 le))
-]
+slot-within rows k some = grind (arith, get_or_past rows k 0)
 
 rows_have_each : (ids rows : List ℕ) → IsHashTable ids rows → HasEach (length ids) rows
 rows_have_each ids rows table = record {
@@ -121,12 +97,8 @@ rows_have_each ids rows table = record {
 used-map : (ids rows : List ℕ)
     → filter (λ s. used s.1) (map (named ids) rows) ≡ map (named ids) (filter used rows)
 used-map ids [] = refl
-used-map ids (r ∷ rows) = elim (used r) as (λ b. cond b (named ids r ∷ filter (λ s. used s.1)
-    (map (named ids) rows)) (filter (λ s. used s.1) (map (named ids) rows))
-    ≡ map (named ids) (cond b (r ∷ filter used rows) (filter used rows))) [
-      | true ↦ ap (λ l. named ids r ∷ l) (used-map ids rows)
-      | false ↦ used-map ids rows
-    ]
+used-map ids (r ∷ rows) = by-bool _ (used r) (λ e. rw (e, used-map ids rows) refl)
+    (λ e. rw (e, used-map ids rows) refl)
 
 -- the used slots are the used rows with their names
 used-named : (ids : List ℕ) (index : Index) → IsIndex ids index.signatures index.rows
@@ -142,10 +114,8 @@ used-named ids index is =
 -- ---- the identifiers
 named-at : (before ids : List ℕ) (x r : ℕ) → r ≡ suc (length before)
     → named (before ++ x ∷ ids) r ≡ (x, r)
-named-at before ids x zero e = absurd (omega arith)
-named-at before ids x (suc r) e =
-    let same : r ≡ length before = omega arith in
-    rw same (ap (λ s. (s, suc (length before))) (get_or-append_seam before x ids 0))
+named-at before ids x r e =
+    rw e (ap (λ s. (s, suc (length before))) (get_or-append_seam before x ids 0))
 
 numbered-from : (before ids : List ℕ) (r : ℕ) → r ≡ suc (length before) → numbered r ids ≡ map
     (named (before ++ ids)) (range_with_len r (length ids))
@@ -163,8 +133,8 @@ pub slots_once : (ids : List ℕ) (index : Index) → IsIndex ids index.signatur
     → IsPermutation (numbered 1 ids) (used_in index 0)
 slots_once ids index is =
     rw (numbered-from [] ids 1 (omega arith), used-named ids index is)
-    (IsPermutation-map (named ids) (range_with_len 1 (length ids)) (filter used index.rows)
-    (each_once (length ids) index.rows (rows_have_each ids index.rows is.table)))
+    (IsPermutation-map (named ids) _ _ (each_once (length ids) index.rows
+    (rows_have_each ids index.rows is.table)))
 
 used_once : (index : Option Index) (ids : List ℕ) → IsIndexOfIds index ids
     → IsPermutation (numbered 1 ids) (used_from index 0)
@@ -175,10 +145,6 @@ pub entries_once : (compilations types : Option Index) (ids signatures : List �
     → IsIndexOfIds compilations ids → IsIndexOfIds types signatures
     → IsPermutation (entries_of ids signatures) (entries_from compilations types 0 0)
 entries_once compilations types ids signatures c t =
-    IsPermutation-append (map compilation_entry (numbered 1 ids))
-    (map compilation_entry (used_from compilations 0)) (map type_entry (numbered 1 signatures))
-    (map type_entry (used_from types 0))
-    (IsPermutation-map compilation_entry (numbered 1 ids) (used_from compilations 0)
-    (used_once compilations ids c))
-    (IsPermutation-map type_entry (numbered 1 signatures) (used_from types 0)
-    (used_once types signatures t))
+    IsPermutation-append _ _ _ _
+    (IsPermutation-map compilation_entry _ _ (used_once compilations ids c))
+    (IsPermutation-map type_entry _ _ (used_once types signatures t))

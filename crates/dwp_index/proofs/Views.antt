@@ -1,16 +1,13 @@
 -- What the fields of an index and of a row hold, and where a look-up ends.
 use Rattle.std.proofs.Common.{◌≡◌, ℕ, ◌-◌, ◌<◌, ◌≤◌, List, length, get_or, refl, arith, zero, suc}
-use Rattle.std.proofs.Common.{◌+◌, Bool, true, false, cond, ◌∙◌, ◌⊎◌, inl, inr, eq-eqb}
-use Rattle.std.specs.Prelude.{Option, Some, None}
-use Rattle.std.specs.Option.{option_and_then}
-use Rattle.std.proofs.lemmas.Bool.{ne_eqb, or_right}
-use Rattle.dwp_base.specs.declared.section.SectionKind.{SectionKind}
+use Rattle.std.proofs.Common.{◌+◌, Bool, true, false, cond, ◌∙◌, ◌⊎◌, inl, inr, eq-eqb, Option}
+use Rattle.std.proofs.Common.{Some, None, option_and_then, ne_eqb, find}
+use Rattle.dwp_index.proofs.Terms
+use Terms.{column_place, contribution, first_end, found_row, Index, index_in, is_end, look_count}
+use Terms.{place, range_in, range_with_len, Ranges, row_of, SectionKind}
+use Rattle.std.proofs.lemmas.Bool.{or_right}
 use Rattle.dwp_index.specs.declared.unit_index.UnitIndex.TheInside.{Inside}
-use Rattle.dwp_index.specs.Index.{Index, Ranges, column_place, contribution, range_in}
-use Rattle.dwp_index.specs.Fields.{index_in}
 use Rattle.dwp_index.proofs.NumberLists.{length-numbers, length-number_rows}
-use Rattle.std.specs.List.{find, range_with_len}
-use Rattle.dwp_table.specs.Probing.{place, is_end, first_end, found_row, look_count, row_of}
 
 -- as many slots and rows as the fields say
 pub slots-length : (u : Inside) (v : Index) → index_in u ≡ v → length v.rows ≡ u.slot_count
@@ -48,14 +45,18 @@ module _ (signatures rows : List ℕ) (x : ℕ) where
       let end : first_end signatures rows x ≡ None = rest ∙ rw none refl in
       (rw end refl, rw end refl)
 
-  -- at the i-th place
-  module _ (i at : ℕ) (within : i < length rows) (rest : first_end signatures rows x ≡ end_from i)
-      (same : at ≡ place (length rows) x i) where
+  -- it went on to the i-th place
+  pub record IsLooking (i at : ℕ) : Type 0 where
+    pub at_place : at ≡ place (length rows) x i
+    pub within : at < length rows
+    pub rest : first_end signatures rows x ≡ end_from i
+
+  module _ {i at : ℕ} (looking : IsLooking i at) (within : i < length rows) where
     end-by : (b : Bool) → is_end signatures rows x at ≡ b
         → first_end signatures rows x ≡ cond b (Some i) (end_from (i + 1))
     end-by b e =
         let more : length rows - i ≡ suc (length rows - (i + 1)) = omega arith in
-        rest ∙ rw (more, ← same, e) refl
+        looking.rest ∙ rw (more, ← looking.at_place, e) refl
 
     -- a slot with a row ends the look-up of its signature alone, one without it each
     pub end-on : (get_or rows at 0 ≡ 0 → ⊥) → (get_or signatures at 0 ≡ x → ⊥)
@@ -70,7 +71,7 @@ module _ (signatures rows : List ℕ) (x : ℕ) where
     ended ends =
         let end = end-by true
         (elim ends [ inl e ↦ rw e refl | inr e ↦ or_right _ _ (eq-eqb _ _ e) ]) in
-        (rw (end, ← same) refl, rw end (omega arith))
+        (rw (end, ← looking.at_place) refl, rw end (omega arith))
 
 pub row_of-used : (r : ℕ) → (r ≡ 0 → ⊥) → row_of r ≡ Some r
 row_of-used zero ne = absurd (ne refl)

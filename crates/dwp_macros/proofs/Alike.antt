@@ -14,6 +14,4 @@ is_own new old size content e n s c = e ∙ rw (n, s, c) refl
 pub same_file : (new old : Elf) (sections : List SectionMeaning) → new.class ≡ old.class
     → new.order ≡ old.order → new.machine ≡ old.machine → new.sections ≡ sections
     → new ≡ record old { sections = sections }
-same_file new old sections c o m s =
-    let same : record new { sections = new.sections } ≡ record old { sections = sections } =
-    rw (c, o, m, s) refl in same
+same_file new old sections c o m s = rw (← c, ← o, ← m, ← s) refl

@@ -1,22 +1,18 @@
 -- Sections taken one after the other, from the last.
-use Rattle.std.proofs.Common.{◌≡◌, ℕ, zero, suc, ◌+◌, ◌≤◌, Bool, false, ◌||◌, ◌&&◌, List, [], ◌∷◌}
-use Rattle.std.proofs.Common.{length, drop, Some, refl, ap, arith}
-use Rattle.std.specs.Prelude.{slice_get, if◌then◌else◌}
+use Rattle.std.proofs.Common.{◌≡◌, ℕ, ◌+◌, ◌≤◌, Bool, false, ◌||◌, ◌&&◌, List, ◌∷◌, length, drop}
+use Rattle.std.proofs.Common.{Some, refl, ap, ◌∙◌, slice_get, if◌then◌else◌}
 use Rattle.std.specs.List.{list_any}
-use Rattle.std.proofs.lemmas.List.{drop_all}
+use Rattle.std.proofs.lemmas.List.{drop_all, drop_more}
+use Rattle.std.proofs.lemmas.Option.{slice_get_within, get_or_from_slice_get}
 use Rattle.dwp_elf_read.specs.Elf.{SectionMeaning}
 use Rattle.dwp_macros.specs.Last.{has_macros, emptied, kept_section, kept_sections, has_several}
-
-at_suc : {X : Type 0} (xs : List X) (i : ℕ) (x : X) → slice_get xs i ≡ Some x
-    → drop i xs ≡ x ∷ drop (suc i) xs
-at_suc [] i x e = absurd cc
-at_suc (y ∷ ys) zero x e = let same : y ≡ x = cc in ap (λ z. z ∷ ys) same
-at_suc (y ∷ ys) (suc i) x e = at_suc ys i x e
 
 -- the items from the i-th on are it and those from the j-th on
 pub drop_step : {X : Type 0} (xs : List X) (i j : ℕ) (x : X) → j ≡ i + 1 → slice_get xs i ≡ Some x
     → drop i xs ≡ x ∷ drop j xs
-drop_step xs i j x n e = let one : j ≡ suc i = omega arith in rw one (at_suc xs i x e)
+drop_step xs i j x n e =
+    rw n (drop_more xs i x (slice_get_within xs i x e)
+    ∙ ap (λ y. y ∷ drop (i + 1) xs) (get_or_from_slice_get xs i x x e))
 
 -- an item from the i-th on passes
 pub any_step : {X : Type 0} (p : X → Bool) (xs : List X) (i j : ℕ) (x : X) (here behind : Bool)

@@ -1,22 +1,20 @@
 -- The string at the front of some bytes, up to the first zero.
-use Rattle.std.proofs.Common.{◌≡◌, ℕ, ◌<◌, ◌≤◌, true, false, ltb, eqb, List, length, take, drop, Ok}
-use Rattle.std.proofs.Common.{ap, sym, ◌∙◌, arith, ◌+◌, [], ◌∷◌, ◌++◌, get_or, add-one, zero, suc}
-use Rattle.std.proofs.Math.Seq.{take-suc}
-use Rattle.std.proofs.lemmas.Bool.{le-ltb, eq-eqb, ne_eqb}
-use Rattle.std.proofs.lemmas.List.{get_or_default, get_or-take, length-take}
+use Rattle.std.proofs.Common.{get_or-take, length-take}
+use Rattle.dwp_strings.proofs.Terms
+use Terms.{◌+◌, ◌++◌, ◌<◌, [], add-one, ap, arith, eq-eqb, eqb, get_or, get_or_default, IsFirstZero}
+use Terms.{IsZeroFree, length, List, ne_eqb, position_or_len_is, suc, take, take-suc, terminated}
+use Terms.{zero, ℕ, ◌∙◌, ◌∷◌, ◌≡◌}
 use Rattle.dwp_strings.proofs.CompareLemmas.{front_string, front_string-cons}
-use Rattle.std.specs.List.{list_any}
-use Rattle.std.proofs.lemmas.List.Folds.{list_any_at}
-use Rattle.std.proofs.lemmas.List.Sums.{position_or_len_is}
-use Rattle.dwp_strings.specs.Ends.{IsFirstZero}
-use Rattle.dwp_strings.specs.Strings.{IsZeroFree, terminated}
 
 -- no byte of it is zero
 pub ended_free : (rest : List ℕ) (end : ℕ) → IsFirstZero rest end → IsZeroFree (take end rest)
-ended_free rest end is_zero = λ k d below same.
-    (let short : k < end = omega (arith, length-take end rest) in
-    is_zero.before k short (get_or_default rest k 0 d (omega (arith, is_zero.within)) ∙ sym
-    (get_or-take end rest k d short) ∙ same))
+ended_free rest end is_zero = λ k d below same. grind (
+  arith,
+  length-take end rest,
+  is_zero.before k,
+  get_or_default rest k 0 d,
+  get_or-take end rest k d,
+)
 
 -- bytes that are the same as far as a zero begin with the same string
 pub alike_front : (xs ys : List ℕ) (end : ℕ) → end < length xs → end < length ys
@@ -27,10 +25,7 @@ alike_front (x ∷ xs) [] end within within' is_zero is_zero' same = absurd (ome
 alike_front (x ∷ xs) (y ∷ ys) zero within within' is_zero is_zero' same =
     rw (front_string-cons x xs, front_string-cons y ys, is_zero, is_zero')
 alike_front (x ∷ xs) (y ∷ ys) (suc end) within within' is_zero is_zero' same =
-    let head : x ≡ y = cc in
-    let tail : take end xs ≡ take end ys = cc in
-    let rest = alike_front xs ys end (omega arith) (omega arith) is_zero is_zero' tail in
-    rw (front_string-cons x xs, front_string-cons y ys, head, rest)
+    rw (front_string-cons x xs, front_string-cons y ys) (grind (arith, alike_front xs ys end))
 
 -- the first zero ends it
 pub ended_front : (rest : List ℕ) (end : ℕ) → IsFirstZero rest end → front_string rest ≡ take end

@@ -1,10 +1,8 @@
 -- The hash of a string, made of blocks of sixteen bytes.
-use Rattle.std.proofs.Common.{◌≡◌, ℕ, suc, ◌+◌, ◌-◌, ◌*◌, ◌/◌, ◌%◌, ◌<◌, ◌^◌, List, length, arith}
-use Rattle.std.proofs.Common.{drop, get_or}
-use Rattle.std.proofs.lemmas.List.{get_or-drop}
-use Rattle.std.proofs.lemmas.Bool.{lt-leb}
+use Rattle.dwp_strings.proofs.Terms
+use Terms.{◌%◌, ◌*◌, ◌+◌, ◌-◌, ◌/◌, ◌<◌, ◌^◌, arith, drop, get_or-drop, length, List, lt-leb, suc}
+use Terms.{wide, ℕ, ◌≡◌}
 use Rattle.std.specs.Hash.FoldHasher.{mix, mix_blocks, write, initial, read_u32}
-use Rattle.dwp_strings.specs.Places.{wide}
 
 -- the state after the blocks before a place
 unfoldable pub mixed_to : List ℕ → ℕ → ℕ
@@ -42,11 +40,4 @@ pub read_behind : (bytes rest : List ℕ) (at k to : ℕ) → rest ≡ drop at b
     → read_u32 rest k ≡ read_u32 bytes to
 unfolding read_u32
 read_behind bytes rest at k to is there =
-    let byte : (j i : ℕ) → i ≡ at + j → get_or rest j 0 ≡ get_or bytes i 0 =
-    λ j i e. rw (is, e) (get_or-drop at bytes j 0) in
-    rw (
-      byte k to there,
-      byte (k + 1) (to + 1) (omega (arith, there)),
-      byte (k + 2) (to + 2) (omega (arith, there)),
-      byte (k + 3) (to + 3) (omega (arith, there)),
-    )
+    grind (arith, is, there, get_or-drop)

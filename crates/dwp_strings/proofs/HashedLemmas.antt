@@ -1,29 +1,25 @@
 -- Strings of entries, which are found by their hashes, or else by their order.
-use Rattle.std.proofs.Common.{◌≡◌, ◌≢◌, ℕ, suc, ◌+◌, ◌^◌, ◌<◌, ◌≤◌, Bool, true, false, ltb, List}
-use Rattle.std.proofs.Common.{[], ◌∷◌, ◌++◌, length, take, map, filter, get_or, Contains, insert}
-use Rattle.std.proofs.Common.{Some, None, Option, inl, inr, ⊎_elim, ap, sym, refl, ◌∙◌, arith}
-use Rattle.std.proofs.Common.{length-append, Result, Ok, Err, IfErr, OnOk, OnErr}
+use Rattle.dwp_strings.proofs.Terms
+use Terms.{◌+◌, ◌++◌, ◌<◌, [], ◌^◌, All-contains, ap, arith, BeginsAt, Bool, cases_lt, Contains}
+use Terms.{data_of, Err, false, filter, get_or, get_or-map, held, IfErr, insert, IsFindable}
+use Terms.{IsHashed, IsIndexed, IsOrdered, IsPermutation-insert, IsPlaced, IsTable, IsZeroFree}
+use Terms.{length, length-append, List, lt-ltb, ltb, map, None, not, offset_of, offsets_from, Ok}
+use Terms.{OnErr, OnOk, Option, place_of, refl, Result, Slot, Some, StandsAt, string_from}
+use Terms.{strings_in, suc, sym, take, terminated, true, ℕ, ◌∙◌, ◌∷◌, ◌≡◌, ◌≢◌, ◌≤◌, ⊎_elim}
 use Rattle.std.specs.declared.alloc.AllocError.{AllocError}
-use Rattle.std.proofs.lemmas.List.{get_or_append_left, get_or_push, get_or-map, get_or-take}
-use Rattle.std.proofs.lemmas.List.{length-map, length-take, map-append, take-map, take_at}
-use Rattle.std.proofs.lemmas.List.Elements.{All-contains, Contains-get_or}
-use Rattle.std.proofs.lemmas.List.Sorted.{IsPermutation-insert, Contains-permutation}
-use Rattle.std.proofs.lemmas.Bool.{cases_lt, lt-ltb}
-use Rattle.dwp_bytes.specs.StringOffsets.{string_from}
-use Rattle.dwp_strings.specs.Places.{hash, place_of, shared, IsOrdered, IsFound, AreRelated}
-use Rattle.dwp_strings.specs.Places.{AreFound}
-use Rattle.dwp_strings.specs.Strings.{terminated, data_of, offset_of, strings_in, offsets_from}
-use Rattle.dwp_strings.specs.Strings.{IsZeroFree, IsTable, IsIndexed, StandsAt, BeginsAt, IsPlaced}
+use Rattle.std.proofs.lemmas.List.{get_or-take, length-map, length-take, map-append, take-map}
+use Rattle.std.proofs.lemmas.List.{take_at}
+use Rattle.std.proofs.lemmas.List.Elements.{Contains-get_or, filter_passes, Contains-append_cases}
+use Rattle.std.proofs.lemmas.List.Sorted.{Contains-permutation, IsPermutation-filter_both}
+use Rattle.std.proofs.lemmas.Grind.{common_steps}
+use Rattle.dwp_strings.specs.Places.{hash, shared, IsFound, AreRelated, AreFound}
 use Rattle.dwp_strings.specs.declared.entries.Entries.{Entries}
-use Rattle.dwp_strings.specs.declared.places.Slot.{Slot}
-use Rattle.dwp_strings.specs.Hashed.{IsFindable, IsHashed, held}
 use Rattle.dwp_strings.proofs.StringLemmas.{zero_free-strings_in}
-use Rattle.dwp_strings.proofs.Filters.{Contains-filter}
 use Rattle.dwp_strings.proofs.OffsetLemmas.{has_Decides, offset_of-at, offsets_from-append}
 use Rattle.dwp_strings.proofs.OffsetLemmas.{offsets_from-below, offsets_from-take}
 use Rattle.dwp_strings.proofs.OffsetLemmas.{length-offsets_from}
-use Rattle.dwp_strings.proofs.TableLemmas.{strings_push, strings_few, positions_few}
-use Rattle.dwp_strings.proofs.TableLemmas.{stands_apart, indexed_more, indexed_take}
+use Rattle.dwp_strings.proofs.TableLemmas.{strings_push, strings_few, positions_few, stands_apart}
+use Rattle.dwp_strings.proofs.TableLemmas.{indexed_more, indexed_take}
 use Rattle.dwp_strings.proofs.PlacesLemmas.{same_or}
 use Rattle.dwp_strings.proofs.UsedLemmas.{used_new}
 use Rattle.dwp_strings.proofs.Named.{begins_there}
@@ -34,15 +30,6 @@ place_in e h = place_of e.places.slots.items e.places.size h
 
 abbrev pub IsFoundIn : Entries → ℕ → ℕ → Type 0
 IsFoundIn e h n = IsFound e.places.slots.items e.places.size e.places.is_full e.ordered h n
-
--- in each of the ways in which a string is found
-found_by : (P : Type 0) (e : Entries) (h n : ℕ) → IsFoundIn e h n
-    → (place_in e h ≡ Some n → n < shared → P)
-    → (Contains e.ordered n → place_in e h ≡ Some shared → P)
-    → (Contains e.ordered n → e.places.is_full ≡ true → place_in e h ≡ None → P) → P
-found_by P e h n found own common late =
-    ⊎_elim (λ here. own here.0 here.1)
-    (λ among. ⊎_elim (common among.0) (λ l. late among.0 l.0 l.1) among.1) found
 
 -- there are no more strings than bytes, so that one more can be counted
 pub entries_few : (e : Entries) → IsHashed e → (e.count + 1 < 2 ^ 64)
@@ -69,12 +56,11 @@ module _ (e : Entries) (table : IsHashed e) where
   -- a string begins where one is said to
   pub begins_at_offset : (p : ℕ) → Contains (offsets_from 0 (held e)) p → BeginsAt e.bytes.items p
   begins_at_offset p there =
-      let k = there.0 in
-      let within : k < length (held e) = omega (arith, there.1, length-offsets_from 0 (held e)) in
-      let s = get_or (held e) k [] in
-      let at = offset_of-at (held e) 0 k [] p table.findable.indexed.distinct within ∙ there.2 in
-      let same : offset_of (held e) s ≡ p = omega (arith, at) in
-      rw same at (stands_there s (Contains-get_or (held e) k [] within)).0
+      let within : there.0 < length (held e) =
+      omega (arith, there.1, length-offsets_from 0 (held e)) in
+      let at = offset_of-at (held e) 0 there.0 [] p table.findable.indexed.distinct within in
+      let same : offset_of (held e) (get_or (held e) there.0 []) ≡ p = omega (arith, at, there.2) in
+      rw same at (stands_there _ (Contains-get_or (held e) there.0 [] within)).0
 
 module _ (e : Entries) (table : IsHashed e) (s : List ℕ) (h : ℕ) (is_hash : h ≡ hash s) where
   -- it is found
@@ -82,42 +68,31 @@ module _ (e : Entries) (table : IsHashed e) (s : List ℕ) (h : ℕ) (is_hash : 
   found_at there =
       let k = there.0 in
       let same : get_or (map hash (held e)) k 0 ≡ h =
-      get_or-map hash (held e) k s 0 there.1 ∙ ap hash there.2 ∙ sym is_hash in
-      let place : get_or (offsets_from 0 (held e)) k 0 ≡ offset_of (held e) s = omega (
-        arith,
-        offset_of-at (held e) 0 k s 0 table.findable.indexed.distinct there.1,
-        ap (offset_of (held e)) there.2,
-      ) in
+      grind (arith, get_or-map hash (held e) k s 0, there.1, there.2, is_hash) in
+      let at = offset_of-at (held e) 0 k s 0 table.findable.indexed.distinct there.1 in
+      let place : get_or (offsets_from 0 (held e)) k 0 ≡ offset_of (held e) s =
+      grind (arith, at, there.2) in
       rw (same, place) at (table.findable.found k
       (omega (arith, there.1, length-map (held e) hash)))
 
   -- a string whose hash has no place isn't there, where more get one
   pub unplaced : e.places.is_full ≡ false → place_in e h ≡ None → Contains (held e) s → ⊥
-  unplaced gets none there =
-      found_by ⊥ e h _ (found_at there) (λ own _. cc) (λ _ common. cc) (λ _ full _. cc)
+  unplaced gets none there = grind (arith, found_at there)
 
   -- nor one that doesn't stand at the place of its hash, where strings don't share that
   pub misplaced : (p : ℕ) → place_in e h ≡ Some p → p ≢ shared
       → (BeginsAt e.bytes.items p × (string_from e.bytes.items p ≡ s) → ⊥) → Contains (held e) s → ⊥
   misplaced p has own other there =
-      found_by ⊥ e h _ (found_at there)
-      (λ found _. let same : p ≡ offset_of (held e) s = cc in
-      other (rw same (stands_there e table s there)))
-      (λ _ common. let same : p ≡ shared = cc in own same)
-      (λ _ _ none. cc)
+      grind (arith, found_at there, stands_there e table s there, other)
 
   -- nor one that isn't among those in order, where it is looked for there
   pub unordered : (r : ℕ) → IsOrdered e.places.slots.items e.places.size e.places.is_full h
       → StandsAt e.bytes.items e.ordered s r → Contains (held e) s → ⊥
   unordered r leads stands there =
       let here = stands_there e table s there in
-      found_by ⊥ e h _ (found_at there)
-      (λ own low. ⊎_elim
-      (λ common. let same : offset_of (held e) s ≡ shared = cc in absurd (omega (arith, low, same)))
-      (λ late. let none = late.1 in cc)
-      leads)
-      (λ among _. stands_apart e.bytes.items e.ordered s r _ stands among here.1)
-      (λ among _ _. stands_apart e.bytes.items e.ordered s r _ stands among here.1)
+      let apart : Contains e.ordered (offset_of (held e) s) → ⊥ =
+      λ among. stands_apart e.bytes.items e.ordered s r _ stands among here.1 in
+      grind (arith, found_at there, leads, apart)
 
 -- what is found among entries is so among others
 abbrev pub Carries : Entries → Entries → Type 0
@@ -129,14 +104,12 @@ pub carried_kept : (e new : Entries) → e.places.is_full ≡ false
     → ((h n : ℕ) → place_in e h ≡ Some n → place_in new h ≡ Some n) → new.ordered ≡ e.ordered
     → Carries e new
 carried_kept e new gets kept same = λ g m _ found.
-    rw same (found_by _ e g m found (λ own low. inl (kept g m own, low))
-    (λ among common. inr (among, inl (kept g shared common))) (λ _ full _. cc))
+    rw same (grind (arith, found, kept g m, kept g shared))
 
 -- where more are among those in order
 pub carried_among : (e new : Entries) → new.places ≡ e.places
     → ((p : ℕ) → Contains e.ordered p → Contains new.ordered p) → Carries e new
-carried_among e new same more = λ g m _ found.
-    rw same (⊎_elim (λ own. inl own) (λ among. inr (more m among.0, among.1)) found)
+carried_among e new same more = λ g m _ found. rw same (grind (arith, found, more m))
 
 -- where the place of one hash alone is another
 module _ (e new : Entries) (h p : ℕ) (full : new.places.is_full ≡ e.places.is_full)
@@ -151,18 +124,13 @@ module _ (e new : Entries) (h p : ℕ) (full : new.places.is_full ≡ e.places.i
   -- that of strings which share it, and the one there is among those in order
   pub carried_shared : place_in new h ≡ Some shared
       → (Contains (offsets_from 0 (held e)) p → Contains e.ordered p) → Carries e new
-  carried_shared is there = carried_by (λ m begun found.
-      let among = found_by (Contains e.ordered m) e h m found
-      (λ own _. let same : m ≡ p = cc in rw same (there (rw same at begun)))
-      (λ among _. among) (λ among _ _. among) in
-      inr (rw ordered among, inl is))
+  carried_shared is there =
+      carried_by (λ m begun found. grind (arith, found, has, ordered, is, there, begun))
 
   -- the one there was forgotten
   pub carried_over : p ≢ shared → (Contains (offsets_from 0 (held e)) p → ⊥) → Carries e new
-  carried_over own gone = carried_by (λ m begun found. found_by _ e h m found
-      (λ here _. let same : m ≡ p = cc in absurd (gone (rw same at begun)))
-      (λ _ common. let same : p ≡ shared = cc in absurd (own same))
-      (λ _ _ none. cc))
+  carried_over own gone =
+      carried_by (λ m begun found. grind (arith, found, has, own, gone, begun))
 
 -- each string is found where each was
 found_each : (e new : Entries) → IsHashed e → Carries e new → AreRelated (IsFoundIn new)
@@ -187,14 +155,8 @@ hashed_kept e new table is_new is_count indexed more = record {
 related_push : (R : ℕ → ℕ → Type 0) (xs ys : List ℕ) (x y : ℕ) → length ys ≡ length xs
     → AreRelated R xs ys → R x y → AreRelated R (xs ++ x ∷ []) (ys ++ y ∷ [])
 related_push R xs ys x y long related last = λ k less. ⊎_elim
-    (λ old. rw (
-      get_or_append_left xs (x ∷ []) 0 k old,
-      get_or_append_left ys (y ∷ []) 0 k
-          (omega (arith, long)),
-    ) (related k old))
-    (λ past.
-    let end : length xs ≡ k = omega (arith, less, past, length-append xs (x ∷ [])) in
-    rw (get_or_push xs x 0 k end, get_or_push ys y 0 k (long ∙ end)) last)
+    (λ old. grind (arith, common_steps, related k old))
+    (λ past. grind (arith, common_steps, last))
     (cases_lt k (length xs))
 
 -- entries with a new string behind all others
@@ -262,6 +224,19 @@ inserted_or bytes ordered s r p new (Ok u) table stands there is ok err =
 inserted_or bytes ordered s r p new (Err e) table stands there is ok err =
     rw err (table, λ q among. among)
 
+-- a number below a limit stays
+kept_below : (xs : List ℕ) (m y : ℕ) → y < m → Contains xs y
+    → Contains (filter (λ x. ltb x m) xs) y
+kept_below xs m y below there =
+    let low : ℕ → Bool = λ x. ltb x m in
+    let high : ℕ → Bool = λ x. not (ltb x m) in
+    ⊎_elim (λ kept. kept)
+    (λ gone.
+    let above = All-contains (λ x. high x ≡ true) _ y (filter_passes high xs) gone in
+    grind (arith, above, lt-ltb y m below))
+    (Contains-append_cases (filter low xs) (filter high xs) y (Contains-permutation xs _ y
+    (IsPermutation-filter_both low high (λ x. refl) xs) there))
+
 -- back to the first strings
 pub findable_take : (bytes kept : List ℕ) (slots : List Slot) (size : ℕ) (is_full : Bool)
     (ordered ordered' : List ℕ) (strings : List (List ℕ)) (n m : ℕ)
@@ -277,26 +252,21 @@ findable_take bytes kept slots size is_full ordered ordered' strings n m table i
     let new = indexed_take bytes ordered n m table.indexed long in
     let strings' : strings_in kept ≡ take n ss = ap strings_in is_kept ∙ new.0 in
     let found : AreFound kept slots size is_full ordered' = λ k less.
-    let front : k < length (take n ss) =
-    omega (arith, less, length-map (strings_in kept) hash, ap length strings') in
-    let first : k < n = omega (arith, length-take n ss) in
+    let first : (k < n) × (k < length (take n ss)) =
+    grind (arith, less, length-map, length-take, strings') in
     let place = get_or (offsets_from 0 (take n ss)) k 0 in
     let is_place : get_or (offsets_from 0 ss) k 0 ≡ place = rw (offsets_from-take n 0 ss)
-    (sym (get_or-take n (offsets_from 0 ss) k 0 first)) in
+    (sym (get_or-take n (offsets_from 0 ss) k 0 first.0)) in
     let below : place < m = omega (
       arith,
       offsets_from-below 0 (take n ss) k 0
           (omega (arith, length-offsets_from 0 (take n ss))),
       long,
     ) in
-    rw (strings', ← take-map hash n ss, get_or-take n (map hash ss) k 0 first)
-    (⊎_elim (λ own. inl own)
-    (λ among. inr (
-      rw is_ordered (Contains-filter (λ p. ltb p m) ordered _ among.0.0 among.0.1 among.0.2
-          (lt-ltb _ m below)),
-      among.1,
-    ))
-    (rw is_place at (table.found k (omega (arith, length-take n ss, length-map ss hash))))) in (
+    let here =
+    rw is_place at (table.found k (omega (arith, length-take n ss, length-map ss hash))) in
+    rw (strings', ← take-map hash n ss, get_or-take n (map hash ss) k 0 first.0)
+    (grind (arith, here, is_ordered, kept_below ordered m place below)) in (
       strings' ∙ ap (take n) is_strings,
       record { indexed = rw (is_kept, is_ordered) new.1; found = found },
     )

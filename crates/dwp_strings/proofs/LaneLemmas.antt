@@ -1,9 +1,10 @@
 -- What a mask of at most 64 bytes says of each, and what holds of the bytes of one range after
 -- another.
-use Rattle.std.proofs.Common.{◌≡◌, ◌≢◌, ℕ, ◌+◌, ◌-◌, ◌%◌, ◌^◌, ◌<◌, ◌≤◌, List, Bool, true, false}
-use Rattle.std.proofs.Common.{ltb, cond, eqb, length, get_or, map, replicate, sym, ap, subst, ◌∙◌}
-use Rattle.std.proofs.Common.{arith, w8, w64, ap₂, ⊎_elim, take, drop, not}
-use Rattle.std.proofs.lemmas.List.{ext_get_or, get_or-take, length-take-le, length-replicate}
+use Rattle.dwp_strings.proofs.Terms
+use Terms.{◌%◌, ◌+◌, ◌-◌, ◌<◌, ◌^◌, ap, ap₂, arith, Bool, cases_lt, cond, drop, eqb, eqb-false}
+use Terms.{false, get_or, length, List, ltb, map, nat_tests, not, replicate, subst, sym, take, true}
+use Terms.{w64, w8, ℕ, ◌∙◌, ◌≡◌, ◌≢◌, ◌≤◌, ⊎_elim}
+use Rattle.std.proofs.lemmas.List.{ext_get_or, get_or-take, length-take, length-replicate}
 use Rattle.std.specs.Int.{bit_at, trailing_zeros}
 use Rattle.std.specs.Int.Count.{trailing_of_zero}
 use Rattle.std.specs.Simd.Lanes.{zip2, sel_l, mask_l, top}
@@ -11,8 +12,7 @@ use Rattle.std.proofs.lemmas.Simd.{length-zip2, get_or-zip2, get_or-replicate, b
 use Rattle.std.proofs.lemmas.Simd.{tops_compared, mask_l-mod, length-sel_l, get_or-sel_l}
 use Rattle.std.proofs.lemmas.Simd.{length-chunk, get_or-chunk}
 use Rattle.std.proofs.lemmas.Nat.Bits.{bit_at-trailing_zeros}
-use Rattle.std.proofs.lemmas.Bool.{eqb-false, eqb-true, ltb-false, ltb-true, cases_lt, not-false}
-use Rattle.std.proofs.lemmas.Bool.{false_from_ne_true, true_from_ne_false}
+use Rattle.std.proofs.lemmas.Bool.{eqb-true}
 
 -- the mask of a test of two vectors of bytes, as it is computed
 abbrev mask_of : (ℕ → ℕ → Bool) → List ℕ → List ℕ → ℕ
@@ -22,11 +22,9 @@ module _ (f : ℕ → ℕ → Bool) (l m : List ℕ) (same : length l ≡ length
   bit : (k : ℕ) → k < length l → cond (f (get_or l k 0) (get_or m k 0)) 1 0 ≡ bit_at
       (mask_of f l m) k
   bit k within =
-      let lanes : mask_of f l m ≡ mask_l (zip2 f l m) =
-      ap (λ bs. mask_l bs % 2 ^ 64) {y = zip2 f l m} (tops_compared w8 f l m)
-      ∙ mask_l-mod (zip2 f l m) 64 (omega (arith, length-zip2 f l m same)) in
-      ap (λ b. cond b 1 0) (sym (get_or-zip2 f l m k 0 0 false within (omega arith)))
-      ∙ sym (bit_mask_l (zip2 f l m) k) ∙ ap (λ n. bit_at n k) (sym lanes)
+      let long = length-zip2 f l m same in
+      rw (tops_compared w8 f l m, mask_l-mod (zip2 f l m) 64 (omega (arith, long)))
+      (grind (arith, get_or-zip2, bit_mask_l))
 
   lowest : (k : ℕ) → k < length l → (k < trailing_zeros w64 (mask_of f l m)
       → bit_at (mask_of f l m) k ≡ 0) × (k ≡ trailing_zeros w64 (mask_of f l m)
@@ -43,14 +41,12 @@ module _ (f : ℕ → ℕ → Bool) (l m : List ℕ) (same : length l ≡ length
   -- the test fails below the lowest bit that is set
   clear : (k : ℕ) → k < length l → k < trailing_zeros w64 (mask_of f l m)
       → f (get_or l k 0) (get_or m k 0) ≡ false
-  clear k within less = false_from_ne_true _ (λ set.
-      omega (arith, (lowest k within).0 less, rw set at (bit k within)))
+  clear k within less = grind (arith, (lowest k within).0 less, bit k within)
 
   -- and passes at that bit
   first_set : (k : ℕ) → k < length l → k ≡ trailing_zeros w64 (mask_of f l m)
       → f (get_or l k 0) (get_or m k 0) ≡ true
-  first_set k within is = true_from_ne_false _ (λ unset.
-      omega (arith, (lowest k within).1 is, rw unset at (bit k within)))
+  first_set k within is = grind (arith, (lowest k within).1 is, bit k within)
 
 -- so many bytes from a place on, compared with zero
 module _ (bytes : List ℕ) (at n : ℕ) (few : n ≤ 64) (room : at + n ≤ length bytes) (k : ℕ)
@@ -79,11 +75,6 @@ module _ (bytes : List ℕ) (at n : ℕ) (few : n ≤ 64) (room : at + n ≤ len
   lanes_zero is = eqb-true _ 0 (sym lane ∙ first_set eqb next (replicate n 0)
       (long ∙ sym (length-replicate n 0)) (omega (arith, long)) k (omega (arith, long)) is)
 
--- two numbers of which the lesser isn't zero
-neither : (a b : ℕ) (t : Bool) → ltb a b ≡ t → cond t a b ≢ 0 → (a ≢ 0) × (b ≢ 0)
-neither a b true less some = (some, λ e. absurd (omega (arith, ltb-true a b less, e)))
-neither a b false more some = (λ e. some (omega (arith, ltb-false a b more, e)), some)
-
 -- 32 bytes from one place on, and as many from another
 module _ (bytes other : List ℕ) (at to : ℕ) (room : at + 32 ≤ length bytes)
     (room' : to + 32 ≤ length other) (k : ℕ) (within : k < 32) where
@@ -111,23 +102,33 @@ module _ (bytes other : List ℕ) (at to : ℕ) (room : at + 32 ≤ length bytes
       let none : mask_of eqb least (replicate 32 0) ≡ 0 =
       ap (λ ls. mask_of eqb (sel_l ls l m) (replicate 32 0)) {x = less}
       (sym (tops_compared w8 ltb l m)) ∙ is in
-      let some : eqb (get_or least k 0) (get_or (replicate 32 0) k 0) ≡ false =
-      clear eqb least (replicate 32 0) long_least (omega arith) k (omega arith)
-      (rw none (omega (arith, trailing_of_zero 64))) in
-      let both = neither (get_or l k 0) (get_or m k 0) (get_or less k false)
-      (sym (get_or-zip2 ltb l m k 0 0 false (omega (arith, long_l)) (omega (arith, long_m))))
-      (λ z. eqb-false _ _ some (get_or-sel_l less l m k 0 (omega (arith, long_less))
-      (omega (arith, long_l)) (omega (arith, long_m)) ∙ z ∙ sym (get_or-replicate 32 k 0 0 within)))
-      in
-      rw (get_or-chunk at 32 bytes k 0 within, get_or-chunk to 32 other k 0 within) at both
+      let some = eqb-false _ _ (clear eqb least (replicate 32 0) long_least (omega arith) k
+      (omega arith) (rw none (omega (arith, trailing_of_zero 64)))) in
+      grind (
+        arith,
+        nat_tests,
+        some,
+        long_less,
+        long_l,
+        long_m,
+        get_or-sel_l less l m k 0,
+        get_or-zip2 ltb l m k 0 0 false,
+        get_or-replicate {A = ℕ} 32 k 0 0 within,
+        get_or-chunk at 32 bytes k 0 within,
+        get_or-chunk to 32 other k 0 within,
+      )
 
   -- those before the first that differ
   pub lanes_same_before : k < trailing_zeros w64 (mask_of (λ a b. not (eqb a b)) l m)
       → get_or bytes (at + k) 0 ≡ get_or other (to + k) 0
-  lanes_same_before less =
-      sym (get_or-chunk at 32 bytes k 0 within) ∙ eqb-true _ _ (not-false _ (clear
-      (λ a b. not (eqb a b)) l m (long_l ∙ sym long_m) (omega (arith, long_l)) k
-      (omega (arith, long_l)) less)) ∙ get_or-chunk to 32 other k 0 within
+  lanes_same_before less = grind (
+    arith,
+    nat_tests,
+    get_or-chunk at 32 bytes k 0 within,
+    get_or-chunk to 32 other k 0 within,
+    clear (λ a b. not (eqb a b)) l m (omega (arith, long_l, long_m)) (omega (arith, long_l)) k
+        (omega (arith, long_l)) less,
+  )
 
   -- all of them where none do
   pub lanes_same : mask_of (λ a b. not (eqb a b)) l m ≡ 0
@@ -147,8 +148,5 @@ range_more P at next n to earlier more low high k less = ⊎_elim (earlier k)
 pub same_fronts : (xs ys : List ℕ) (n : ℕ) → n ≤ length xs → n ≤ length ys
     → ((k : ℕ) → k < n → get_or xs k 0 ≡ get_or ys k 0) → take n xs ≡ take n ys
 same_fronts xs ys n within within' same =
-    ext_get_or 0 (take n xs) (take n ys)
-    (length-take-le n xs within ∙ sym (length-take-le n ys within'))
-    (λ k less.
-    let low : k < n = omega (arith, length-take-le n xs within) in
-    get_or-take n xs k 0 low ∙ same k low ∙ sym (get_or-take n ys k 0 low))
+    ext_get_or 0 _ _ (grind (arith, length-take))
+    (λ k less. grind (arith, length-take, get_or-take))

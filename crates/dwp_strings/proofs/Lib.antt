@@ -1,6 +1,6 @@
+pub mod Terms
 pub mod CompareLemmas
 pub mod StringLemmas
-pub mod Filters
 pub mod OffsetLemmas
 pub mod TableLemmas
 pub mod PlaceLemmas

@@ -1,9 +1,9 @@
 -- What the vectors of a list hold, as one of them changes or is cut in two.
-use Rattle.std.proofs.Common.{◌≡◌, ℕ, ◌+◌, ◌-◌, ◌/◌, ◌<◌, List, [], ◌∷◌, ◌++◌, length, take, drop}
-use Rattle.std.proofs.Common.{get_or, set, insert, Vec, ap, ap₂, sym, ◌∙◌, arith, add-one}
-use Rattle.std.proofs.lemmas.List.{map-append, map-set, take-map, drop-map, get_or-map, set-get_or}
-use Rattle.std.proofs.lemmas.List.{length-map, take_rest}
-use Rattle.dwp_strings.specs.Chunks.{pieces, IsHalved}
+use Rattle.dwp_strings.proofs.Terms
+use Terms.{◌+◌, ◌++◌, ◌-◌, ◌/◌, ◌<◌, [], add-one, ap, ap₂, arith, drop, get_or, get_or-map, insert}
+use Terms.{length, List, pieces, set, sym, take, take_rest, Vec, ℕ, ◌∙◌, ◌∷◌, ◌≡◌}
+use Rattle.std.proofs.lemmas.List.{map-append, map-set, take-map, drop-map, set-get_or, length-map}
+use Rattle.dwp_strings.specs.Chunks.{IsHalved}
 use Rattle.dwp_strings.proofs.ChunkLemmas.{length-starts_from}
 
 pub length-pieces : {A B : Type 0} (chunks : Vec (Vec ℕ A) B) → length (pieces chunks.items) ≡

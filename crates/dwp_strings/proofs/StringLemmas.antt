@@ -1,17 +1,14 @@
 -- The strings of a section in which each is ended by a zero byte.
-use Rattle.std.proofs.Common.{◌≡◌, ◌≢◌, ℕ, true, false, eqb, List, [], ◌∷◌, ◌++◌, length, take}
-use Rattle.std.proofs.Common.{Option, Some, None, All, ap, sym, refl, ◌∙◌, arith, append_assoc}
-use Rattle.std.proofs.Common.{length-append, take_at, drop_at, ne_eqb, eq-eqb, eqb-true}
+use Rattle.std.proofs.Common.{take_at, eqb-true}
+use Rattle.dwp_strings.proofs.Terms
+use Terms.{◌++◌, [], All, All-cons, All-head, All-tail, ap, append_assoc, arith, before_first}
+use Terms.{by-bool, data_of, drop_at, eq-eqb, eqb, eqb-false, false, IsZeroFree, length}
+use Terms.{length-append, List, ne_eqb, None, onto_first, Option, position_or_len_is, refl, Some}
+use Terms.{string_from, strings_in, sym, take, true, ℕ, ◌∙◌, ◌∷◌, ◌≡◌, ◌≢◌}
 use Rattle.std.specs.Option.{is_some}
-use Rattle.std.specs.List.{before_first, onto_first}
 use Rattle.std.proofs.lemmas.List.{get_or_at, get_or_append_left}
-use Rattle.std.proofs.lemmas.List.Sums.{position_or_len_is}
-use Rattle.std.proofs.lemmas.List.Elements.{All-nil, All-cons, All-head, All-tail}
-use Rattle.std.proofs.lemmas.Bool.{eqb-false}
+use Rattle.std.proofs.lemmas.List.Elements.{All-nil}
 use Rattle.memchr.specs.Find.{IsFirstByte, is_byte}
-use Rattle.dwp_base.proofs.Bools.{by-bool}
-use Rattle.dwp_bytes.specs.StringOffsets.{string_from}
-use Rattle.dwp_strings.specs.Strings.{data_of, IsZeroFree, strings_in}
 
 pub before_first-ended : (s rest : List ℕ) → IsZeroFree s → before_first (λ b. eqb b 0)
     (s ++ 0 ∷ rest) ≡ s

@@ -1,23 +1,20 @@
 -- Some positions of a table's strings, in the strings' order.
-use Rattle.std.proofs.Common.{◌≡◌, ◌≢◌, zero, suc, ◌+◌, List, ◌++◌, take, drop, refl, ⊎_elim, arith}
-use Rattle.std.proofs.Common.{ℕ, ◌<◌, ◌≤◌, ltb, [], ◌∷◌, All, ap, sym, ◌∙◌}
-use Rattle.std.proofs.Common.{length, get_or, filter, insert, AllPairs, Contains, take_at, ltb-true}
-use Rattle.std.proofs.Common.{length-append, append-nil, take-append-drop, length-take, get_or-take}
-use Rattle.std.proofs.lemmas.List.{get_or-map, get_or_default, flat_map_more, nil_from_length}
-use Rattle.std.proofs.lemmas.List.Elements.{All-cons, All-take, All-push, All-contains, All-filter}
-use Rattle.std.proofs.lemmas.List.Elements.{filter_passes, Contains-get_or, Contains-append_left}
-use Rattle.std.proofs.lemmas.List.Elements.{Contains-push, Contains-append_cases}
+use Rattle.std.proofs.Common.{take_at, append-nil, take-append-drop, length-take, get_or-take}
+use Rattle.dwp_strings.proofs.Terms
+use Terms.{◌+◌, ◌++◌, ◌<◌, [], All, All-cons, All-contains, All-permutation, AllPairs, ap, arith}
+use Terms.{Contains, data_of, Decides-eqb, drop, filter, get_or, get_or-map, get_or_default, insert}
+use Terms.{IsBefore, IsIndexed, IsPermutation-insert, IsZeroFree, length, length-append, List, ltb}
+use Terms.{ltb-true, nat_eq_equiv, nat_list_cmp_total, offset_of, offsets_from, refl, StandsAt}
+use Terms.{string_from, strings_in, suc, sym, take, terminated, tied_itself, zero, ℕ, ◌∙◌, ◌∷◌, ◌≡◌}
+use Terms.{◌≢◌, ◌≤◌, ⊎_elim}
+use Rattle.std.proofs.lemmas.List.{flat_map_more, nil_from_length}
+use Rattle.std.proofs.lemmas.List.Elements.{All-take, All-push, All-filter, filter_passes}
+use Rattle.std.proofs.lemmas.List.Elements.{Contains-get_or, Contains-append_left, Contains-push}
+use Rattle.std.proofs.lemmas.List.Elements.{Contains-append_cases}
 use Rattle.std.proofs.lemmas.List.Kept.{AllPairs-cons, AllPairs-filter}
-use Rattle.std.proofs.lemmas.List.Sorted.{IsPermutation-insert, All-permutation}
 use Rattle.std.proofs.lemmas.Map.Made.{length-le_from_is_member, IsDistinct-from_AllPairs}
 use Rattle.std.proofs.lemmas.Map.Made.{is_member-Decides}
-use Rattle.std.proofs.lemmas.Bool.{cases_lt}
-use Rattle.std.proofs.lemmas.Bool.Decides.{Decides-eqb}
-use Rattle.std.proofs.lemmas.Cmp.{nat_list_cmp_total, nat_eq_equiv, tied_itself}
 use Rattle.std.proofs.lemmas.List.Concat.{flat_map-append}
-use Rattle.dwp_bytes.specs.StringOffsets.{string_from}
-use Rattle.dwp_strings.specs.Strings.{terminated, data_of, offset_of, IsZeroFree, strings_in}
-use Rattle.dwp_strings.specs.Strings.{offsets_from, IsBefore, IsIndexed, StandsAt}
 use Rattle.dwp_strings.proofs.StringLemmas.{strings_in-data_of, zero_free-strings_in}
 use Rattle.dwp_strings.proofs.StringLemmas.{string_from-ended}
 use Rattle.dwp_strings.proofs.OffsetLemmas.{map-string_from, length-offsets_from, offset_of-at}
@@ -71,11 +68,8 @@ known_position bytes positions s r p table within is_position is =
 pub stands_apart : (bytes positions s : List ℕ) (r p : ℕ) → StandsAt bytes positions s r
     → Contains positions p → string_from bytes p ≡ s → ⊥
 stands_apart bytes positions s r p stands there is =
-    let k = there.0 in
-    let same : string_from bytes (get_or positions k 0) ≡ s =
-    ap (string_from bytes) (get_or_default positions k 0 p there.1 ∙ there.2) ∙ is in
-    ⊎_elim (λ less. not_before_itself s (rw same at (stands.before k less)))
-    (λ more. not_before_itself s (rw same at (stands.behind k more there.1))) (cases_lt k r)
+    let same = get_or_default positions there.0 0 p there.1 ∙ there.2 in
+    grind (arith, same, is, not_before_itself s, stands.before there.0, stands.behind there.0)
 
 -- no more positions than strings
 pub positions_few : (bytes positions : List ℕ) → IsIndexed bytes positions
@@ -203,11 +197,9 @@ indexed_take bytes positions n m table long =
     let back = drop n ss in
     let short = take m bytes in
     let few = filter (λ p. ltb p m) positions in
-    let parts : data_of front ++ data_of back ≡ bytes =
-    sym (flat_map-append terminated front back) ∙ ap data_of (take-append-drop n ss)
-    ∙ table.ended in
+    let parts = flat_map-append terminated front back in
     let kept : data_of front ≡ short =
-    sym (take_at (data_of front) (data_of back) m (sym long)) ∙ ap (take m) parts in
+    grind (arith, take_at, parts, take-append-drop n ss, table.ended, long) in
     let free = All-take IsZeroFree n ss (zero_free-strings_in bytes) in
     let strings = rw kept at (strings_in-data_of front free) in
     let whole : data_of (strings_in short) ≡ short = ap data_of strings ∙ kept in
@@ -230,9 +222,8 @@ indexed_take bytes positions n m table long =
       strings,
       record {
         ended = whole;
-        distinct = rw strings (λ i j d less within. let long = length-take n ss in
-            rw (get_or-take n ss i d (omega arith), get_or-take n ss j d (omega arith))
-            (table.distinct i j d less (omega arith)));
+        distinct = rw strings (λ i j d less within.
+            grind (arith, length-take, get_or-take, table.distinct i j d less));
         begun = begun;
         sorted = order_agrees (string_from bytes) (string_from short) few
             (λ i d within. sym (agree i d within))
@@ -250,11 +241,9 @@ pub nothing_after : (bytes : List ℕ) (strings : List (List ℕ)) (n m : ℕ)
     → data_of (strings_in bytes) ≡ bytes → strings_in bytes ≡ strings
     → m ≡ length (data_of (take n strings)) → length bytes ≤ m → strings ≡ take n strings
 nothing_after bytes strings n m ended is_strings is_mark long =
-    let front = take n strings in
     let back = drop n strings in
     let parts = take-append-drop n strings in
-    let whole = ap length (flat_map-append terminated front back)
-    ∙ length-append (data_of front) (data_of back) in
-    let few = ap length (ap data_of parts ∙ rw is_strings at ended) in
-    let none = nil_from_length back (omega (arith, strings_few back, whole, few)) in
-    sym parts ∙ ap (λ l. front ++ l) none ∙ append-nil front
+    let whole = flat_map-append terminated (take n strings) back in
+    let none : length back ≡ 0 =
+    grind (arith, strings_few back, parts, whole, ended, length-append) in
+    grind (arith, parts, nil_from_length back none, append-nil)

@@ -1,13 +1,9 @@
 -- A string of a section that is used.
-use Rattle.std.proofs.Common.{◌≡◌, ℕ, false, List, [], ◌∷◌, ◌++◌, length, Ok, Err, Contains, ap}
-use Rattle.std.proofs.Common.{sym, ◌∙◌, append_assoc, Result, Some}
+use Rattle.dwp_strings.proofs.Terms
+use Terms.{◌++◌, [], append_assoc, arith, BeginsAt, cond-true, Contains, data_of, IsIndexed}
+use Terms.{IsPlaced, IsZeroFree, length, List, offset_of, Ok, Result, Some, string_from, strings_in}
+use Terms.{sym, terminated, ℕ, ◌∷◌, ◌≡◌}
 use Rattle.std.specs.Result.{result_ok}
-use Rattle.std.specs.List.{list_any}
-use Rattle.std.specs.Str.{bytes_eq}
-use Rattle.std.proofs.lemmas.Bool.{false_from_ne_true, cond-true, cond-false}
-use Rattle.dwp_bytes.specs.StringOffsets.{string_from}
-use Rattle.dwp_strings.specs.Strings.{terminated, data_of, offset_of, strings_in, IsZeroFree}
-use Rattle.dwp_strings.specs.Strings.{BeginsAt, IsIndexed, IsPlaced}
 use Rattle.dwp_strings.proofs.OffsetLemmas.{offset_of-absent, has_Decides}
 use Rattle.dwp_strings.proofs.TableLemmas.{strings_push}
 use Rattle.dwp_strings.proofs.PlaceLemmas.{known_place_in}
@@ -30,10 +26,11 @@ pub used_new : (bytes new s : List ℕ) (n : ℕ) → data_of (strings_in bytes)
     → new ≡ bytes ++ terminated s → n ≡ length bytes → (Contains (strings_in bytes) s → ⊥)
     → IsPlaced (strings_in bytes) (strings_in new) s n
 used_new bytes new s n ended free is_new is_long absent =
-    let none : list_any (λ t. bytes_eq t s) (strings_in bytes) ≡ false =
-    false_from_ne_true _ (λ e. absent ((has_Decides (strings_in bytes) s).0 e)) in (
-      is_long ∙ ap length (sym ended) ∙ sym (offset_of-absent (strings_in bytes) s none),
-      ap strings_in is_new ∙ (strings_push bytes s ended free).0 ∙ sym (cond-false _ _ _ none),
+    grind (
+      arith,
+      has_Decides (strings_in bytes) s,
+      offset_of-absent (strings_in bytes) s,
+      strings_push bytes s ended free,
     )
 
 -- the bytes of a string and of its end, one after the other
@@ -43,5 +40,4 @@ two_pushes bytes kept longer new s e1 e2 e3 = rw (e3, e2, e1) (append_assoc byte
 
 -- a result whose value was taken
 pub ok_from_some : {A E : Type 0} (r : Result A E) (x : A) → result_ok r ≡ Some x → r ≡ Ok x
-ok_from_some (Ok y) x is = cc
-ok_from_some (Err e) x is = cc
+ok_from_some r x is = grind arith

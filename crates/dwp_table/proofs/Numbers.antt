@@ -1,17 +1,17 @@
 -- Powers of two, odd steps round them, and what is one to one.
 use Rattle.std.proofs.Common.{◌≡◌, ℕ, zero, suc, ◌+◌, ◌-◌, ◌*◌, ◌/◌, ◌%◌, ◌^◌, ◌<◌, ◌≤◌, cond, ltb}
-use Rattle.std.proofs.Common.{eqb, ◌≢◌, ⊎_elim, inl, inr, refl, sym, ap, ◌∙◌, arith, ◌⊎◌, eq-eqb}
-use Rattle.std.specs.Prelude.{count_ones, bit_or, IsTrue}
+use Rattle.std.proofs.Common.{refl, eqb, ◌≢◌, inl, inr, sym, ap, ◌∙◌, arith, ◌⊎◌, eq-eqb}
+use Rattle.std.proofs.Common.{count_ones}
+use Rattle.std.proofs.Common.{bit_or, IsTrue, eqb-true, pow_pos, pow-suc, mod-lt, pow_mono}
 use Rattle.std.specs.Int.{is_power_of_two}
-use Rattle.std.proofs.lemmas.Bool.{cases_order, eqb-true, eqb-false}
+use Rattle.std.proofs.lemmas.Bool.{eqb-false}
 use Rattle.std.proofs.lemmas.Bool.Decides.{nat_tests}
-use Rattle.std.proofs.lemmas.Nat.{zero_from_ones, ones_le_self, pow_pos, or_mod, ones_cat}
-use Rattle.std.proofs.Math.Nat.{pow-suc, mul-sub, mod-lt, div-add-mod, le_of_dvd, dvd-mul_right}
+use Rattle.std.proofs.lemmas.Nat.{zero_from_ones, ones_le_self, ones_cat, or_mod}
+use Rattle.std.proofs.Math.Nat.{mul-sub, div-add-mod, le_of_dvd, dvd-mul_right}
 use Rattle.std.specs.Int.Count.{ones_step}
 use Rattle.std.proofs.Math.Decide.{dec_lt}
 use Rattle.dwp_table.specs.Table.{VisitsEachOnce, HasSlots}
 use Rattle.dwp_table.proofs.Finding.{first_or_none}
-use Rattle.std.proofs.Math.Pow.{pow_mono}
 
 -- ---- what has one set bit is a power of two
 exponent_by : (d n : ℕ) → n ≤ d → count_ones n ≡ 1 → (k : ℕ) × (n ≡ 2 ^ k)
@@ -66,10 +66,9 @@ pub one_slot : (size start step i j : ℕ) → IsTrue (is_power_of_two size) →
     → j < size → (start + i * step) % size ≡ (start + j * step) % size → i ≡ j
 one_slot size start step i j power odd in_i in_j same =
     let k = exponent size power in
-    ⊎_elim (λ equal. equal)
-    (⊎_elim (λ less. absurd (apart size k.0 start step i j k.1 odd less in_j same))
-    (λ more. absurd (apart size k.0 start step j i k.1 odd more in_i (sym same))))
-    (cases_order i j)
+    let below = apart size k.0 start step i j k.1 odd in
+    let above = apart size k.0 start step j i k.1 odd in
+    grind (arith, below, above)
 
 or_one : (r : ℕ) → r < 2 → bit_or r 1 ≡ 1
 or_one zero h = refl

@@ -1,19 +1,18 @@
 -- Placing one more identifier keeps all earlier placements.
 use Rattle.std.proofs.Common.{◌≡◌, ◌≢◌, ℕ, ◌+◌, ◌^◌, ◌<◌, ◌⊎◌, inl, inr, List, [], ◌∷◌, ◌++◌}
-use Rattle.std.proofs.Common.{length, get_or, set, eqb, eq-eqb, Some, None, refl, ap}
-use Rattle.std.proofs.Common.{◌∙◌, arith, ⊎_elim}
-use Rattle.std.specs.Prelude.{IsTrue, replicate}
+use Rattle.std.proofs.Common.{length, get_or, set, eqb, eq-eqb, Some, None, refl, ap, ◌∙◌, arith}
+use Rattle.std.proofs.Common.{⊎_elim, IsTrue, replicate, ne_eqb, length-set, get_or-set_same}
+use Rattle.std.proofs.Common.{get_or-set_other, length-append}
 use Rattle.std.specs.Int.{is_power_of_two}
-use Rattle.std.proofs.lemmas.Bool.{cases_eq, ne_eqb}
+use Rattle.std.proofs.lemmas.Bool.{cases_eq}
 use Rattle.std.proofs.lemmas.Grind.{get_or-set_at}
-use Rattle.std.proofs.lemmas.List.{length-replicate, get_or-replicate, get_or_past, length-set}
-use Rattle.std.proofs.lemmas.List.{get_or-set_same, get_or-set_other, length-append}
+use Rattle.std.proofs.lemmas.List.{length-replicate, get_or-replicate, get_or_past}
 use Rattle.std.proofs.Math.ListN.{get_or-append}
 use Rattle.std.proofs.Math.Seq.{get_or-append_seam}
 use Rattle.std.proofs.Math.Decide.{dec_lt}
 use Rattle.dwp_table.specs.Probing.{place}
 use Rattle.dwp_table.specs.Table.{IsPlacedAfter, IsHashTable, first_unused, rows_with}
-use Rattle.dwp_table.proofs.Finding.{find-first, find-none}
+use Rattle.dwp_table.proofs.Finding.{find_first, find_none}
 use Rattle.dwp_table.proofs.Tables.{row_at, IsFree, has_free}
 use Rattle.dwp_table.proofs.Places.{place-lt, positive}
 
@@ -116,8 +115,8 @@ module _ (ids rows : List ℕ) (x i : ℕ) (table : IsHashTable ids rows) (free 
 -- ---- the first unused place
 pub first_unused-free : (rows : List ℕ) (x i : ℕ) → IsFree rows x i → first_unused rows x ≡ Some i
 unfolding first_unused
-first_unused-free rows x i free = find-first (λ j. eqb (row_at rows x j) 0)
-    (length rows) i (record {
+first_unused-free rows x i free = find_first (λ j. eqb (row_at rows x j) 0)
+    0 (length rows) (length rows) i (omega arith) (omega arith) (record {
       within = free.within;
       here = eq-eqb _ _ free.here;
       earlier = λ j h. ne_eqb _ _ (λ e. omega (arith, free.earlier j h));
@@ -134,8 +133,8 @@ AllUsed rows x = (j : ℕ) → j < length rows → 0 < row_at rows x j
 
 pub first_unused-none : (rows : List ℕ) (x : ℕ) → AllUsed rows x → first_unused rows x ≡ None
 unfolding first_unused
-first_unused-none rows x used = find-none (λ j. eqb (row_at rows x j) 0) (length rows) (λ j h.
-    ne_eqb _ _ (λ e. omega (arith, used j h)))
+first_unused-none rows x used = find_none (λ j. eqb (row_at rows x j) 0) 0 (length rows)
+    (length rows) (omega arith) (λ j h. ne_eqb _ _ (λ e. omega (arith, used j h)))
 
 pub rows_with-none : (rows : List ℕ) (x r : ℕ) → AllUsed rows x → rows_with rows x r ≡ rows
 unfolding rows_with

@@ -5,7 +5,7 @@ use Rattle.std.specs.Prelude.{Some}
 use Rattle.std.proofs.lemmas.Bool.{eqb-true, eqb-false, ne_eqb, or_from}
 use Rattle.dwp_table.specs.Probing.{place, is_end, first_end, found_row, look_count}
 use Rattle.dwp_table.specs.Table.{IsPlacedAfter, IsHashTable, IsIndex, FindsExactly, signature_of}
-use Rattle.dwp_table.proofs.Finding.{first_or_none, find-first, find-none}
+use Rattle.dwp_table.proofs.Finding.{first_or_none, find_first, find_none}
 use Rattle.dwp_table.proofs.Numbers.{pigeonhole}
 use Rattle.dwp_table.proofs.Places.{place-lt, places_apart}
 use Rattle.dwp_base.proofs.Bools.{or-right}
@@ -94,7 +94,7 @@ module _ (ids signatures rows : List ℕ) (x : ℕ) (index : IsIndex ids signatu
       let i = placed.0 in
       let at : IsPlacedAfter rows x (r + 1) i = rw same at placed.1 in (
         i,
-        find-first ends (length rows) i (record {
+        find_first ends 0 (length rows) (length rows) i (omega arith) (omega arith) (record {
           within = at.within;
           here = or-right (eqb (row_at rows x i) 0) _ (eq-eqb _ x (beside i
               ∙ beside_row ids (row_at rows x i) r at.here ∙ same));
@@ -112,7 +112,7 @@ module _ (ids signatures rows : List ℕ) (x : ℕ) (index : IsIndex ids signatu
   absent nowhere =
       let free = has_free ids rows x index.table in (
         free.0,
-        find-first ends (length rows) free.0 (record {
+        find_first ends 0 (length rows) (length rows) free.0 (omega arith) (omega arith) (record {
           within = free.1.within;
           here = rw free.1.here refl;
           earlier = λ j h. used_goes_on j (free.1.earlier j h) (λ r within row. nowhere r within);
@@ -139,8 +139,11 @@ unfolding look_count first_end
 count_within signatures rows x =
     let ends = λ (i : ℕ). is_end signatures rows x (place (length rows) x i) in
     elim (first_or_none ends (length rows)) [
-      | inl w ↦ let e = find-first ends (length rows) w.0 w.1 in rw e (omega (arith, w.1.within))
-      | inr none ↦ let e = find-none ends (length rows) none in rw e (omega arith)
+      | inl w ↦
+          let e = find_first ends 0 (length rows) _ w.0 (omega arith) (omega arith) w.1 in
+          rw e (omega (arith, w.1.within))
+      | inr none ↦
+          let e = find_none ends 0 (length rows) _ (omega arith) none in rw e (omega arith)
     ]
 
 -- at most one more than there are identifiers, whether one is there or not

@@ -1,32 +1,22 @@
 -- The type units that an input's steps pass over and find to differ are those of its list of units.
-use Rattle.std.proofs.Common.{◌≡◌, ◌∙◌, ℕ, ◌==◌, List, [], ◌∷◌, ◌++◌, map, refl, sym, ap, inl, inr}
-use Rattle.std.proofs.Common.{Ok, Option, Some, None, append_assoc, append-nil, bytes_eq}
-use Rattle.std.specs.List.{list_any}
-use Rattle.std.specs.Map.{lookup}
-use Rattle.std.proofs.lemmas.List.{map-append}
+use Rattle.thorin.proofs.Terms
+use Terms.{◌++◌, ◌==◌, [], ap, append-nil, append_assoc, bind-was, Compilation, DwarfObject, Elf}
+use Terms.{inl, InProgress, inr, List, lookup, map, map-append, Meaning, None, Ok, Option, refl}
+use Terms.{row_test, rules, same-ok, same_name, Some, Source, source_units, State, sym, taken}
+use Terms.{TypeUnit, unit_row, UnitRead, units_in, Used, ℕ, ◌∙◌, ◌∷◌, ◌≡◌}
 use Rattle.std.proofs.lemmas.Simd.{map-map}
-use Rattle.dwp_base.proofs.Bools.{by-bool}
-use Rattle.dwp_base.proofs.Steps.{bind-was, same-ok}
 use Rattle.dwp_dwarf.specs.Units.{Unit as Header}
-use Rattle.dwp_elf_read.specs.Elf.{Elf}
-use Rattle.dwp_table.specs.declared.object.DwarfObject.{DwarfObject}
-use Rattle.dwp_table.specs.declared.object.DwarfObject.TheVariants.{Compilation, TypeUnit}
 use Rattle.thorin_index.specs.declared.entry.IndexEntry.{IndexEntry}
-use Rattle.thorin_input.specs.Indexes.{Source}
-use Rattle.thorin_input.specs.Names.{same_name}
 use Rattle.thorin_input.specs.NewUnits.{NewUnit, New, Adding, or_held, kept_bytes, with_first}
 use Rattle.thorin_input.specs.NewUnits.{with_unit, new_units}
 use Rattle.thorin_input.specs.Parts.{parts_of}
-use Rattle.thorin_input.specs.Rows.{unit_row, row_test}
-use Rattle.thorin_input.specs.Used.{Used}
-use Rattle.thorin_join.specs.Meaning.{UnitRead, Meaning, source_units}
 use Rattle.thorin.specs.Differing.{Bytes, read_bytes, or_there, differing_by, differing, own_bytes}
 use Rattle.thorin.specs.Differing.{object_units, input_units}
-use Rattle.thorin_join.specs.Builder.{State, taken, package_or_new, differing_begun, differing_in}
-use Rattle.thorin_join.specs.Represents.{meaning_at, units_begun, units_in}
-use Rattle.thorin_join.specs.State.{InProgress, names_of, held_units, with_unit_added}
-use Rattle.thorin_join.specs.State.{adding as adding_to, abbreviations_test, with_new_unit}
-use Rattle.thorin_join.specs.State.{with_new_units, with_all, with_source}
+use Rattle.thorin_join.specs.Builder.{package_or_new, differing_begun, differing_in}
+use Rattle.thorin_join.specs.Represents.{meaning_at, units_begun}
+use Rattle.thorin_join.specs.State.{held_units, with_unit_added, adding as adding_to}
+use Rattle.thorin_join.specs.State.{abbreviations_test, with_new_unit, with_new_units, with_all}
+use Rattle.thorin_join.specs.State.{with_source}
 use Rattle.thorin_join.proofs.Joined.Taken.{takes}
 use Rattle.thorin_join.proofs.Steps.{kept}
 use Rattle.thorin_join.proofs.Units.ReadInTurn.{Steps, units-read}
@@ -42,9 +32,7 @@ lookup-bytes : (name : DwarfObject) (us : List (DwarfObject × NewUnit)) (held :
     → or_held (lookup (same_name name) us) held
     ≡ or_there (lookup (same_name name) (new_bytes us)) held
 lookup-bytes name [] held = refl
-lookup-bytes name (u ∷ us) held = by-bool _ (same_name name u.0)
-    (λ e. rw e refl)
-    (λ e. rw e (lookup-bytes name us held))
+lookup-bytes name (u ∷ us) held = grind (rules, lookup-bytes name us held)
 
 module _ (adding : Adding) where
   -- a unit is passed over, or brought; `later` says what is found to differ behind it
@@ -58,10 +46,7 @@ module _ (adding : Adding) where
   unfolding with_unit with_first
   one-step (Some old) from (Compilation id) unit before after later h = absurd cc
   one-step (Some old) from (TypeUnit signature) unit before after later h =
-      rw (← same-ok _ after h) (by-bool _ (bytes_eq old unit.whole.bytes)
-      (λ e. rw e refl)
-      (λ e. rw e (append_assoc before.differing (signature.0 ∷ [])
-      (later (new_bytes before.units)))))
+      grind (rules, append_assoc)
   one-step None from name unit before after later h =
       let there = kept (from.address == 0) _ _ after h in
       let s1 = bind-was (row_test adding.source.indexes from.kind name unit) _ after there.1 in
@@ -92,9 +77,8 @@ units-keep : (made : InProgress) (us : List (DwarfObject × NewUnit))
     → (with_new_units made us).differing ≡ made.differing
 unfolding with_new_units with_new_unit
 units-keep made [] = refl
-units-keep made (u ∷ us) = by-bool _ (list_any (same_name u.0) (names_of made))
-    (λ e. rw (e, with_new_units) (units-keep made us))
-    (λ e. rw (e, with_new_units) (units-keep (with_unit_added made u) us))
+units-keep made (u ∷ us) =
+    grind (rules, units-keep made us, units-keep (with_unit_added made u) us)
 
 source-differs : (source : Source) (before now : InProgress) (all : List (DwarfObject × UnitRead))
     → with_source source before ≡ Ok now → source_units source ≡ Ok all

@@ -1,45 +1,33 @@
 -- Joining in groups: joining what groups joined is joining all of them.
-use Rattle.std.proofs.Common.{◌≡◌, ◌∙◌, ℕ, zero, suc, ◌+◌, Bool, true, false, cond, ◌&&◌, List, []}
-use Rattle.std.proofs.Common.{◌∷◌, ◌++◌, length, filter, flat_map, remove, Option, Some, None, ap}
-use Rattle.std.proofs.Common.{ap₂, sym, refl, append_assoc, append-nil, arith, IsPermutation}
-use Rattle.std.proofs.Common.{length-append}
-use Rattle.std.specs.Cmp.{IsEquivalence, nat_eq_equiv}
+use Rattle.thorin.proofs.Terms
+use Terms.{◌&&◌, ◌+◌, ◌++◌, ◌==◌, [], ap, append-nil, append_assoc, ap₂, AreJoined, arith, Bool}
+use Terms.{by-bool, can_join, cond, DwarfObject, eqb-true, filter, filter-append, flat_map}
+use Terms.{IsPermutation, IsPermutation-sym, joining, keys, length, length-append, List, lookup}
+use Terms.{None, Option, refl, remove, rules, same_name, Some, sym, true, ℕ, ◌∙◌, ◌∷◌, ◌≡◌}
+use Rattle.std.specs.Cmp.{IsEquivalence}
 use Rattle.std.specs.List.{IsDistinct, list_any}
-use Rattle.std.specs.Map.{lookup}
 use Rattle.std.specs.Option.{option_or}
-use Rattle.std.proofs.Math.Bool.{or-false}
-use Rattle.std.proofs.lemmas.List.Elements.{filter-append}
 use Rattle.std.proofs.lemmas.List.Folds.{list_any-append}
-use Rattle.std.proofs.lemmas.List.Sorted.{IsPermutation-refl, IsPermutation-sym, IsPermutation-cons}
+use Rattle.std.proofs.lemmas.List.Sorted.{IsPermutation-refl, IsPermutation-cons}
 use Rattle.std.proofs.lemmas.List.Sorted.{IsPermutation-trans, IsPermutation-map}
 use Rattle.std.proofs.lemmas.List.Sorted.{IsPermutation-remove, Contains-permutation}
 use Rattle.std.proofs.lemmas.List.Sorted.{sum_by-IsPermutation}
 use Rattle.std.proofs.lemmas.List.Sums.{length-filter}
 use Rattle.std.proofs.lemmas.Map.{lookup-none}
 use Rattle.std.proofs.lemmas.Map.Entries.{none_past_head}
+use Rattle.std.proofs.lemmas.Option.{none-some}
 use Rattle.std.proofs.lemmas.Map.Keys.{IsDistinct-IsPermutation, IsDistinct-from_apart}
 use Rattle.std.proofs.lemmas.Map.Keys.{IsDistinct-tail}
 use Rattle.std.proofs.lemmas.Map.Views.{Contains-from_lookup, lookup-from_Contains}
-use Rattle.std.proofs.lemmas.Option.{none-some}
-use Rattle.dwp_base.proofs.Bools.{by-bool}
-use Rattle.dwp_table.specs.declared.object.DwarfObject.{DwarfObject}
-use Rattle.dwp_table.specs.declared.object.DwarfObject.TheVariants.{Compilation, TypeUnit}
-use Rattle.thorin.specs.Groups.{AreJoined}
-use Rattle.thorin_input.specs.Names.{same_name, is_compilation}
-use Rattle.thorin_join.proofs.Units.NamesApart.{same_name-self, same_name-true, joined_distinct}
-use Rattle.thorin_join.proofs.Units.NamesApart.{apart-none}
-use Rattle.thorin_join.specs.Meaning.{keys, joining, can_join}
-
-flips : (a b : DwarfObject) → same_name a b ≡ same_name b a
-flips (Compilation a) (Compilation b) = nat_eq_equiv.symm a.0 b.0
-flips (TypeUnit a) (TypeUnit b) = nat_eq_equiv.symm a.0 b.0
-flips (Compilation a) (TypeUnit b) = refl
-flips (TypeUnit a) (Compilation b) = refl
+use Rattle.std.proofs.lemmas.Bool.Decides.{nat_tests}
+use Rattle.thorin_input.specs.Names.{is_compilation}
+use Rattle.thorin_join.proofs.Units.NamesApart.{same_name-self, same_name-true, same_name-sym}
+use Rattle.thorin_join.proofs.Units.NamesApart.{apart-none, joined_distinct}
 
 names-equal : IsEquivalence same_name
 names-equal = record {
   refl = same_name-self;
-  symm = flips;
+  symm = λ a b. grind (rules, same_name-sym a b, same_name-sym b a);
   congr = λ x y z h. ap (λ n. same_name n z) (same_name-true x y h);
 }
 
@@ -48,14 +36,6 @@ same-option : {X : Type 0} (a b : Option X) → ((x : X) → a ≡ Some x → b 
 same-option (Some x) b there back = sym (there x refl)
 same-option None (Some y) there back = back y refl
 same-option None None there back = refl
-
-abbrev none : ℕ → Bool
-none zero = true
-none (suc n) = false
-
-none-zero : (n : ℕ) → none n ≡ true → n ≡ 0
-none-zero zero h = refl
-none-zero (suc n) h = absurd cc
 
 abbrev pub Named : Type 0 → Type 0
 Named X = List (DwarfObject × X)
@@ -69,14 +49,9 @@ module _ {X : Type 0} where
       ≡ (can_join names us && can_join (names ++ keys (joining names us)) vs))
   joined-append names [] vs = rw (append-nil names) (refl, refl)
   joined-append names (u ∷ us) vs =
-      by-bool _ (list_any (same_name u.0) names)
-      (λ there. let h = joined-append names us vs in rw there (
-        h.0,
-        by-bool _ (is_compilation u.0) (λ e. rw e refl) (λ e. rw e h.1),
-      ))
-      (λ new. let h = rw (append_assoc names (u.0 ∷ [])
-      (keys (joining (names ++ u.0 ∷ []) us))) at (joined-append (names ++ u.0 ∷ []) us vs) in
-      rw new (ap (λ l. u ∷ l) h.0, h.1))
+      let there = joined-append names us vs in
+      let new = rw append_assoc at (joined-append (names ++ u.0 ∷ []) us vs) in
+      (grind rules, grind rules)
 
   -- ---- look-ups
 
@@ -84,28 +59,20 @@ module _ {X : Type 0} where
   found-joined : (name : DwarfObject) (names : List DwarfObject) (us : Named X)
       → lookup (same_name name) (joining names us)
       ≡ cond (list_any (same_name name) names) None (lookup (same_name name) us)
-  found-joined name names [] =
-      by-bool _ (list_any (same_name name) names) (λ e. rw e refl) (λ e. rw e refl)
+  found-joined name names [] = grind rules
   found-joined name names (u ∷ us) =
-      by-bool _ (list_any (same_name u.0) names)
-      (λ there. rw (there, found-joined name names us) (by-bool _ (same_name name u.0)
-      (λ e. rw (e, same_name-true name u.0 e, there) refl)
-      (λ e. rw e refl)))
-      (λ new. rw new (by-bool _ (same_name name u.0)
-      (λ e. rw (e, same_name-true name u.0 e, new) refl)
-      (λ e. rw (
-        e,
+      grind (
+        rules,
+        found-joined name names us,
         found-joined name (names ++ u.0 ∷ []) us,
         list_any-append (same_name name) names (u.0 ∷ []),
-        e,
-        or-false,
-      ) refl)))
+        same_name-true name u.0,
+      )
 
   lookup-append : (test : DwarfObject → Bool) (us vs : Named X)
       → lookup test (us ++ vs) ≡ option_or (lookup test us) (lookup test vs)
   lookup-append test [] vs = refl
-  lookup-append test (u ∷ us) vs =
-      by-bool _ (test u.0) (λ e. rw e refl) (λ e. rw e (lookup-append test us vs))
+  lookup-append test (u ∷ us) vs = grind (rules, lookup-append test us vs)
 
   -- ---- units whose names are distinct
 
@@ -115,7 +82,7 @@ module _ {X : Type 0} where
 
   apart-again : (us vs : Named X) → IsPermutation us vs → IsDistinct same_name (keys us)
       → IsDistinct same_name (keys vs)
-  apart-again us vs h = IsDistinct-IsPermutation same_name flips (keys us) (keys vs)
+  apart-again us vs h = IsDistinct-IsPermutation same_name names-equal.symm (keys us) (keys vs)
       (IsPermutation-map (λ (u : DwarfObject × X). u.0) us vs h)
 
   still-found : (us vs : Named X) → IsDistinct same_name (keys vs) → IsPermutation us vs
@@ -166,26 +133,23 @@ module _ {X : Type 0} where
 
   compilations-append : (us vs : Named X)
       → compilations (us ++ vs) ≡ compilations us + compilations vs
-  compilations-append us vs = ap length (filter-append is_one us vs)
-      ∙ length-append (filter is_one us) (filter is_one vs)
+  compilations-append us vs = simp (filter-append, length-append)
 
   compilations-again : (us vs : Named X) → IsPermutation us vs → compilations us ≡ compilations vs
-  compilations-again us vs h = length-filter is_one us
-      ∙ sym (sum_by-IsPermutation (λ u. cond (is_one u) 1 0) us vs h)
-      ∙ sym (length-filter is_one vs)
+  compilations-again us vs h =
+      simp length-filter (sym (sum_by-IsPermutation (λ u. cond (is_one u) 1 0) us vs h))
 
   -- so many of them are passed over; a list can be joined where none is
   counted : (names : List DwarfObject) (us : Named X) → (n : ℕ)
-      × (n + compilations (joining names us) ≡ compilations us) × (can_join names us ≡ none n)
+      × (n + compilations (joining names us) ≡ compilations us) × (can_join names us ≡ (n == 0))
   counted names [] = (0, refl, refl)
   counted names (u ∷ us) =
-      by-bool _ (list_any (same_name u.0) names)
-      (λ there. let h = counted names us in rw there (by-bool _ (is_compilation u.0)
-      (λ e. rw e (suc h.0, omega (arith, h.1), refl))
-      (λ e. rw e h)))
-      (λ new. let h = counted (names ++ u.0 ∷ []) us in rw new (by-bool _ (is_compilation u.0)
-      (λ e. rw e (h.0, omega (arith, h.1), h.2))
-      (λ e. rw e h)))
+      let there = counted names us in
+      let new = counted (names ++ u.0 ∷ []) us in (
+        cond (list_any (same_name u.0) names) (there.0 + cond (is_compilation u.0) 1 0) new.0,
+        grind arith,
+        grind (arith, nat_tests),
+      )
 
   -- ---- groups
 
@@ -215,7 +179,7 @@ module _ {X : Type 0} where
           compilations-again (joining [] g) r are.1,
           later.many,
           c.1,
-          none-zero c.0 (sym c.2 ∙ are.0),
+          eqb-true c.0 0 (sym c.2 ∙ are.0),
         );
       }
   groups-alike _ _ are = absurd are
@@ -239,4 +203,4 @@ module _ {X : Type 0} where
           compilations-again (joining [] (flat groups)) (joining [] (flat results))
               groups-joined,
         ) in
-        a.2 ∙ ap none same ∙ sym b.2
+        a.2 ∙ ap (λ n. n == 0) same ∙ sym b.2

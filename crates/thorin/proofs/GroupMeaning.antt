@@ -1,33 +1,21 @@
 -- What packing in groups means: the join of all inputs at once.
-use Rattle.std.proofs.Common.{◌≡◌, ◌∙◌, ℕ, true, List, [], ◌∷◌, ◌++◌, length, map, Ok}
-use Rattle.std.proofs.Common.{Option, Some, refl, sym, ap, subst, arith, swap, flat_map}
-use Rattle.std.proofs.Common.{IsPermutation, take, drop, append_assoc, append-nil, drop_at}
-use Rattle.std.proofs.Common.{take-append-drop}
+use Rattle.thorin.proofs.Terms
+use Terms.{◌++◌, [], ap, append-nil, append_assoc, AreJoined, ArePackedAlone, AreTaken, bind-was}
+use Terms.{both-true, can_join, drop, drop_at, DwarfObject, File, finish_test, flat_map}
+use Terms.{HaveTheirEncodings, InProgress, input_meaning, inputs_of, IsFinishedState, IsPackageOf}
+use Terms.{IsPackageOfAll, IsPackedInGroups, IsPermutation, IsPermutation-sym, IsSoundBegun}
+use Terms.{JoinAll, joining, keys, length, length-map, List, map, map-append, map-set, Meaning}
+use Terms.{Members, Ok, Option, refl, same_name, Some, start, State, subst, swap, sym, take}
+use Terms.{take-append-drop, taken, taken_each, true, units_in, with_input, ℕ, ◌∙◌, ◌∷◌, ◌≡◌}
 use Rattle.std.proofs.Math.ListN.{get_or-map}
 use Rattle.std.specs.List.{IsDistinct, take-map, drop-map}
-use Rattle.std.proofs.lemmas.List.{length-map, map-set, map-append}
-use Rattle.std.proofs.lemmas.List.Sorted.{IsPermutation-refl, IsPermutation-sym}
-use Rattle.std.proofs.lemmas.List.Sorted.{IsPermutation-trans, IsPermutation-swap}
-use Rattle.std.proofs.lemmas.List.Sorted.{IsPermutation-keeps}
+use Rattle.std.specs.List.Sorted.{apply_swaps}
 use Rattle.std.proofs.lemmas.Map.Made.{keys_of-map_values}
-use Rattle.dwp_elf.specs.FileText.{Object as File}
-use Rattle.thorin_join.specs.Builder.{State, start, taken, with_input, finish_test, IsFinishedState}
-use Rattle.thorin_join.specs.Join.{IsPackageOf, JoinAll}
-use Rattle.thorin_join.specs.Meaning.{keys, joining, can_join, Meaning, Members, input_meaning}
-use Rattle.thorin_input.specs.Names.{same_name}
-use Rattle.thorin_join.specs.Represents.{IsSoundBegun, units_in}
-use Rattle.thorin_join.specs.State.{InProgress}
 use Rattle.thorin_again.specs.Again.{HaveEncodingOf, all_meant, MeansWhereTaken, MeansOnceWritten}
-use Rattle.thorin.specs.Groups.{taken_each, ArePackedAlone, IsPackedInGroups, AreJoined}
-use Rattle.thorin.specs.Groups.{HaveTheirEncodings, inputs_of, IsPackageOfAll}
 use Rattle.thorin.proofs.GroupJoins.{groups-defined, groups-joined, joined-apart, found-again}
 use Rattle.thorin.proofs.GroupJoins.{joined-append}
-use Rattle.thorin_again.specs.PlainInputs.{AreTaken}
 use Rattle.thorin.proofs.Running.{begun-then, each-taken, as-written}
-use Rattle.dwp_base.proofs.Steps.{bind-was}
 use Rattle.std.proofs.Math.Seq.{take-append_seam}
-use Rattle.dwp_table.specs.declared.object.DwarfObject.{DwarfObject}
-use Rattle.dwp_base.proofs.Bools.{both as both-true}
 
 -- ---- inputs, and the list of all their units
 
@@ -165,18 +153,19 @@ swap-map f [] i j = refl
 swap-map f (x ∷ xs) i j =
     rw (get_or-map f (x ∷ xs) j x, get_or-map f (x ∷ xs) i x, map-set, map-set) refl
 
+swaps-map : {A B : Type 0} (f : A → B) (xs : List A) (moves : List (ℕ × ℕ))
+    → apply_swaps (map f xs) moves ≡ map f (apply_swaps xs moves)
+swaps-map f xs [] = refl
+swaps-map f xs (m ∷ ms) = rw (swaps-map f xs ms) (swap-map f (apply_swaps xs ms) m.0 m.1)
+
 -- another order of what is made of a list is made of the list in another order
 lifted : {A B : Type 0} (f : A → B) (xs : List A) (ys : List B) → IsPermutation (map f xs) ys
     → (zs : List A) × (ys ≡ map f zs) × IsPermutation xs zs
-lifted {A} f xs ys h = IsPermutation-keeps (map f xs)
-    (λ l. (zs : List A) × (l ≡ map f zs) × IsPermutation xs zs)
-    (xs, refl, IsPermutation-refl xs) (λ l i j hi hj was.
-    let long : length l ≡ length was.0 = ap length was.1 ∙ length-map was.0 f in (
-      swap was.0 i j,
-      ap (λ m. swap m i j) was.1 ∙ swap-map f was.0 i j,
-      IsPermutation-trans xs was.0 (swap was.0 i j) was.2
-          (IsPermutation-swap was.0 (swap was.0 i j) i j (omega arith) (omega arith) refl),
-    )) ys h
+lifted f xs ys h = (
+  apply_swaps xs h.moves,
+  h.is ∙ swaps-map f xs h.moves,
+  record { moves = h.moves; below = rw (← length-map xs f) h.below; is = refl },
+)
 
 -- ---- groups
 

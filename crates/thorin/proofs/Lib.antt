@@ -1,3 +1,4 @@
+pub mod Terms
 pub mod Running
 pub mod GroupJoins
 pub mod GroupMeaning

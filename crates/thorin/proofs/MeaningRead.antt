@@ -1,64 +1,53 @@
 -- What a package means as an input is what a reader of packages finds in it.
-use Rattle.std.proofs.Common.{◌≡◌, ◌∙◌, ℕ, Bool, true, false, cond, ◌||◌, nat_eq, List, [], map}
-use Rattle.std.proofs.Common.{length, refl, sym, ap, Option, Some, None, Result, Ok, Err, is_none}
-use Rattle.std.proofs.Common.{is_some, find, ◌⊎◌, inl, inr, option_and_then, ◌&&◌, ◌∷◌, ◌++◌}
-use Rattle.std.proofs.Common.{bytes_eq}
-use Rattle.dwp_base.specs.Reading.{◌>>=◌}
+use Rattle.thorin.proofs.Terms
+use Terms.{◌&&◌, ◌++◌, ◌>>=◌, [], ap, bind-was, Bool, both, by-bool, by-choice, Compilation, cond}
+use Terms.{DwarfObject, Elf, elf_of, Encoding, encoding_of, Endianness, Err, false, find, inl}
+use Terms.{input_file_of, input_meaning, InputFile, inr, is-false, is_none, is_some, List, map}
+use Terms.{Meaning, None, Ok, opened, Option, option_and_then, own_range, ParseFileKind, refl}
+use Terms.{Result, rules, same-ok, SectionMeaning, Some, Source, source_units, sym, true, TypeUnit}
+use Terms.{UnitRead, Used, ◌||◌, ℕ, ◌∙◌, ◌∷◌, ◌≡◌, ◌⊎◌}
 use Rattle.dwp_base.specs.Sections.{name_of, compressed_name_of, all_kinds, kind_named, same_kind}
-use Rattle.dwp_base.specs.declared.endian.Endianness.{Endianness}
 use Rattle.dwp_base.specs.declared.section.SectionKind.{SectionKind}
 use Rattle.dwp_base.specs.declared.section.SectionKind.TheVariants.{StrOffsets, Str, CuIndex}
 use Rattle.dwp_base.specs.declared.section.SectionKind.TheVariants.{TuIndex}
 use Rattle.dwp_base.proofs.KindsRead.{read-kind}
-use Rattle.dwp_bytes.specs.declared.encoding.Encoding.{Encoding}
 use Rattle.dwp_bytes.specs.declared.error.ReadError.{ReadError}
-use Rattle.dwp_elf_read.specs.Elf.{Elf, SectionMeaning, elf_of}
-use Rattle.dwp_elf_read.specs.Identification as identification
 use Rattle.dwp_elf_read.specs.declared.kind.FileKind.{FileKind}
-use Rattle.dwp_elf_read.specs.declared.kind.FileKind.TheVariants.{Archive, Elf32, Elf64}
 use Rattle.dwp_index.specs.Contents.{content, content_among, contents_of, has_name, is_of_kind}
 use Rattle.dwp_index.specs.Index.{Index, Ranges, range_in}
-use Rattle.dwp_index.specs.IndexBytes.{index_of}
-use Rattle.dwp_index.specs.Package as reader
 use Rattle.dwp_index.specs.Package.{Package, package_of, index_in_section, row_bytes, part_of}
 use Rattle.dwp_index.specs.Package.{is_outside}
-use Rattle.dwp_index.specs.declared.error.PackageError.TheVariants as errors
-use Rattle.dwp_table.specs.declared.object.DwarfObject.{DwarfObject}
-use Rattle.dwp_table.specs.declared.object.DwarfObject.TheVariants.{Compilation, TypeUnit}
-use Rattle.thorin_errors.specs.Errors.{ParseFileKind, ParseIndex}
 use Rattle.thorin_errors.specs.Answers.{as_error}
-use Rattle.thorin_input.specs.Encodings.{encoding_of}
-use Rattle.thorin_input.specs.Indexes.{Indexes, Source, is_package, index_for, index_in}
-use Rattle.thorin_input.specs.Indexes.{version_test, indexes_of}
-use Rattle.thorin_input.specs.Rows.{own_range}
-use Rattle.thorin_input.specs.Used.{InputFile, opened, elf_in, has_info, input_file_of, used_from}
-use Rattle.thorin_input.specs.Used.{first, Used, used_kind, counts_once, unusable, used_bytes}
-use Rattle.thorin_input.specs.Used.{has_kind, with_used, bytes_of}
-use Rattle.thorin_join.specs.Meaning.{Meaning, UnitRead, pieces_by, shared_kinds, placed_row}
-use Rattle.thorin_join.specs.Meaning.{source_units, meaning_with, meaning_by, unit_meaning}
-use Rattle.thorin_join.specs.Meaning.{source_meaning, object_meaning, input_meaning}
+use Rattle.thorin_input.specs.Indexes.{Indexes, is_package, index_for, index_in, version_test}
+use Rattle.thorin_input.specs.Indexes.{indexes_of}
+use Rattle.thorin_input.specs.Used.{elf_in, has_info, used_from, first, used_kind, counts_once}
+use Rattle.thorin_input.specs.Used.{unusable, used_bytes, has_kind, with_used, bytes_of}
+use Rattle.thorin_join.specs.Meaning.{pieces_by, shared_kinds, placed_row, meaning_with, meaning_by}
+use Rattle.thorin_join.specs.Meaning.{unit_meaning, source_meaning, object_meaning}
 use Rattle.thorin_join.specs.Strings.{strings_of}
 use Rattle.thorin.specs.MeaningRead.{has_index, lies_in, unit_with, unit_of_row, unit_of_package}
 use Rattle.thorin.specs.MeaningRead.{MeansByReader}
-use Rattle.dwp_base.proofs.Steps.{same-ok, bind-was, by-choice}
 use Rattle.std.proofs.Math.Bool.{and-false}
-use Rattle.std.proofs.lemmas.Option.{same_Some}
 use Rattle.std.proofs.lemmas.Slice.Eq.{bytes_eq-Decides}
 use Rattle.std.proofs.lemmas.List.Folds.{find-append}
-use Rattle.dwp_base.proofs.Bools.{both, by-bool, is-false}
 use Rattle.dwp_base.proofs.EveryKind.{is-same, same-self, same-each, kind-named}
 use Rattle.thorin_input.proofs.Walking.{kind-full}
+use Rattle.dwp_elf_read.specs.Identification as identification
+use Rattle.dwp_index.specs.Package as reader
+use Rattle.dwp_index.specs.declared.error.PackageError.TheVariants as errors
 
 -- ---- the kind of a section
 
 named-of : (k : SectionKind) (name : Option (List ℕ)) → has_name k name ≡ true
     → option_and_then kind_named name ≡ Some k
 named-of k None h = absurd cc
-named-of k (Some name) h =
-    by-bool _ (bytes_eq name (name_of k))
-    (λ e. ap kind_named ((bytes_eq-Decides name (name_of k)).0 e) ∙ kind-named k)
-    (λ e. ap kind_named ((bytes_eq-Decides name (compressed_name_of k)).0 (rw e at h))
-    ∙ same-each (λ j. kind_named (compressed_name_of j)) Some refl k)
+named-of k (Some name) h = grind (
+  rules,
+  bytes_eq-Decides name (name_of k),
+  bytes_eq-Decides name (compressed_name_of k),
+  kind-named k,
+  same-each (λ j. kind_named (compressed_name_of j)) Some refl k,
+)
 
 used-of : (s : SectionMeaning) (k : SectionKind) → is_of_kind k s ≡ true → used_kind s ≡ Some k
 unfolding is_of_kind
@@ -67,18 +56,14 @@ used-of s k h = let is = both _ (has_name k s.name) h in
 
 found-passes : {X : Type 0} (p : X → Bool) (xs : List X) (x : X) → find p xs ≡ Some x → p x ≡ true
 found-passes p [] x h = absurd cc
-found-passes p (y ∷ ys) x h =
-    by-bool _ (p y)
-    (λ e. rw (← same_Some y x (rw e at h)) e)
-    (λ e. found-passes p ys x (rw e at h))
+found-passes p (y ∷ ys) x h = grind (rules, found-passes p ys x)
 
 -- a section of another kind
 apart : (s : SectionMeaning) (j k : SectionKind) → used_kind s ≡ Some j → is_of_kind k s ≡ false
     → same_kind j k ≡ false
 unfolding used_kind
 apart s j k h other =
-    let this = found-passes (λ kind. is_of_kind kind s) all_kinds j h in
-    by-bool _ (same_kind j k) (λ e. absurd (let same = rw (is-same j k e) at this in cc)) (λ e. e)
+    grind (rules, found-passes (λ kind. is_of_kind kind s) all_kinds j h, is-same j k)
 
 -- ---- the used sections
 
@@ -141,30 +126,18 @@ module _ (k : SectionKind) (bytes : List ℕ) where
 
 error-was : {X E F : Type 0} (f : E → F) (r : Result X E) (x : X) → reader.as_error f r ≡ Ok x
     → r ≡ Ok x
-error-was f (Ok y) x h = ap Ok (same-ok y x h)
-error-was f (Err e) x h = absurd cc
+error-was f r x h = grind rules
 
 -- ---- the input
 
 elf-by : (bytes : List ℕ) (kind : FileKind) (file w : Elf) → elf_in bytes kind ≡ Ok file
     → elf_of bytes ≡ Ok w → file ≡ w
-elf-by bytes Archive file w h k = absurd cc
-elf-by bytes Elf32 file w h k = sym (same-ok w file (rw k at h))
-elf-by bytes Elf64 file w h k = sym (same-ok w file (rw k at h))
+elf-by bytes kind file w h k = grind rules
 
 index-same : (order : Endianness) (kind : SectionKind) (bytes : List ℕ) (a b : Option Index)
     → index_in order kind bytes ≡ Ok a → index_in_section order bytes ≡ Ok b → a ≡ b
 unfolding index_in index_in_section
-index-same order kind bytes a b h k = by (nat_eq (length bytes) 0) (index_of order bytes) h k
-  where
-    by : (e : Bool) (r : Result Index ReadError)
-        → cond e (Ok None) (as_error (λ f. ParseIndex f (name_of kind)) r >>= λ index.
-        Ok (Some index)) ≡ Ok a
-        → cond e (Ok None) (reader.as_error errors.Index r >>= λ index. Ok (Some index)) ≡ Ok b
-        → a ≡ b
-    by true r x y = cc
-    by false (Ok i) x y = cc
-    by false (Err f) x y = absurd cc
+index-same order kind bytes a b h k = grind rules
 
 -- the sections, the order and the indexes of an input are those that a reader has
 record IsReadAs (object : InputFile) (indexes : Indexes) (pack : Package) : Type 0 where

@@ -1,37 +1,20 @@
 -- A run, one input after the other, what it accepted, and groups that are packed one by one.
-use Rattle.std.proofs.Common.{◌≡◌, ◌∙◌, ℕ, ◌<◌, ◌+◌, List, [], ◌∷◌, ◌++◌, length, take, drop}
-use Rattle.std.proofs.Common.{get_or, map, refl, sym, ap, Option, Result, Ok, Err, IfOk, inl, inr}
-use Rattle.std.proofs.Common.{subst, append_assoc, append-nil, take-append-drop}
-use Rattle.std.proofs.lemmas.List.{map-append, drop_more}
-use Rattle.std.specs.declared.io.Error.{Error as IoError}
-use Rattle.dwp_base.proofs.Steps.{bind-was, bind-ok, same-ok}
+use Rattle.thorin.proofs.Terms
+use Terms.{◌+◌, ◌++◌, ◌<◌, [], accepted_of, ap, append-nil, append_assoc, ArePackedAlone, AreTaken}
+use Terms.{bind-was, Compilation, drop, drop_more, DwarfObject, elf_of, Err, ErrorValue, file_text}
+use Terms.{get_or, IfOk, inl, Input, inr, IsPackedAlone, IsWritten, JoinAll, length, List, map}
+use Terms.{map-append, Members, Ok, Option, Ran, refl, Result, rules, same-ok, State, subst, sym}
+use Terms.{take, take-append-drop, taken, taken_each, TakesInput, TypeUnit, units_in, with_input}
+use Terms.{written_elf, ℕ, ◌∙◌, ◌∷◌, ◌≡◌}
 use Rattle.dwp_elf.specs.Contents.{KindsDiffer}
-use Rattle.dwp_elf.specs.FileText.{file_text}
-use Rattle.dwp_elf.specs.Written.{written_elf}
-use Rattle.dwp_elf_read.specs.Elf.{elf_of}
-use Rattle.dwp_table.specs.declared.object.DwarfObject.{DwarfObject}
-use Rattle.dwp_table.specs.declared.object.DwarfObject.TheVariants.{Compilation, TypeUnit}
-use Rattle.thorin_errors.specs.Errors.{ErrorValue}
 use Rattle.thorin_errors.specs.declared.error.InputError.{InputError}
 use Rattle.thorin_errors.specs.declared.error.InputError.TheVariants.{Io, Memory as no_memory}
 use Rattle.thorin_errors.specs.declared.error.MissingReferencedObjectBehaviour.{MissingReferencedObjectBehaviour}
 use Rattle.thorin_executable.specs.Skeletons.{Listed, skeletons_of, named_skeletons_of}
-use Rattle.thorin_input.specs.Encodings.{own_encoding}
-use Rattle.thorin_join.specs.Builder.{State, taken, with_input}
-use Rattle.thorin_join.specs.Join.{JoinAll}
-use Rattle.thorin_join.specs.Meaning.{Members}
-use Rattle.thorin_join.specs.Represents.{units_in}
-use Rattle.thorin_again.specs.PlainInputs.{AreTaken}
-use Rattle.thorin_builder.specs.Taking.{Outcome, Takes, accepted_of, TakesRead, with_target}
-use Rattle.thorin_builder.specs.Taking.{TakesReferred, TakesSkeleton, TakesSkeletons}
-use Rattle.thorin_builder.specs.Taking.{TakesExecutableRead}
-use Rattle.thorin.specs.declared.packing.Input.{Input}
+use Rattle.thorin_builder.specs.Taking.{Outcome, Takes, TakesRead, with_target, TakesReferred}
+use Rattle.thorin_builder.specs.Taking.{TakesSkeleton, TakesSkeletons, TakesExecutableRead}
+use Rattle.thorin_builder.proofs.Running.{Offer}
 use Rattle.thorin.specs.declared.packing.Input.TheVariants as inputs
-use Rattle.thorin.specs.Groups.{taken_each, IsPackedAlone, ArePackedAlone}
-use Rattle.thorin.specs.Run.{TakesInput, Ran, IsWritten}
-
-abbrev pub Offer : Type 1
-Offer = List ℕ → Result (List ℕ) IoError → Type 0
 
 -- a run goes on with one more input
 pub ran-next : (offer : Offer) (done : List Input) (input : Input) (old middle new : State)
@@ -172,10 +155,7 @@ run-accepts offer _ old new _ accepted ran = absurd ran
 pub begun-then : (bytes : List ℕ) (old new : State) → taken bytes old ≡ Ok new
     → with_input bytes old.begun ≡ Ok new.begun
 unfolding taken
-begun-then bytes old new h =
-    let s = bind-was (with_input bytes old.begun) _ new h in
-    let t = bind-was (own_encoding bytes) _ new s.2 in
-    s.1 ∙ ap (λ (x : State). Ok x.begun) (same-ok _ new t.2)
+begun-then bytes old new h = grind rules
 
 -- those that are all taken
 pub each-taken : (list : List (List ℕ)) (old new : State) → taken_each list old ≡ Ok new
@@ -191,9 +171,7 @@ pub taken-then : (done rest : List (List ℕ)) (old middle : State) → taken_ea
     → taken_each (done ++ rest) old ≡ taken_each rest middle
 unfolding taken_each
 taken-then [] rest old middle h = ap (taken_each rest) (same-ok old middle h)
-taken-then (bytes ∷ done) rest old middle h =
-    let next = bind-was (taken bytes old) _ middle h in
-    bind-ok (taken bytes old) next.0 _ next.1 ∙ taken-then done rest next.0 middle next.2
+taken-then (bytes ∷ done) rest old middle h = grind (rules, taken-then done rest)
 
 -- a list up to one element, that one, and what follows
 pub mapped-around : {A B : Type 0} (f : A → B) (xs : List A) (i : ℕ) (d : A) → i < length xs

@@ -1,27 +1,15 @@
 -- Packages that are packed again, and inputs of one encoding, as packing has them.
-use Rattle.std.proofs.Common.{◌≡◌, ◌∙◌, ℕ, List, [], ◌∷◌, refl, sym, ap, Result, Ok, Err, inl, inr}
-use Rattle.std.proofs.Common.{⊎_elim, IfOk}
-use Rattle.dwp_base.specs.Reading.{◌>>=◌}
-use Rattle.dwp_base.proofs.Steps.{bind-was, same-ok}
-use Rattle.dwp_base.specs.declared.endian.Endianness.{Endianness}
-use Rattle.dwp_bytes.specs.declared.encoding.Encoding.{Encoding}
-use Rattle.dwp_elf.specs.FileText.{Object as File}
-use Rattle.dwp_elf.specs.Written.{written_elf}
-use Rattle.dwp_elf_read.specs.Elf.{Elf, elf_of}
-use Rattle.thorin_errors.specs.Errors.{ErrorValue}
+use Rattle.thorin.proofs.Terms
+use Terms.{◌>>=◌, [], ArePackedAlone, AreTaken, bind-was, CanBePackedAgain, Elf, elf_of, Encoding}
+use Terms.{encoding_of, Endianness, Err, ErrorValue, File, finish_test, IfOk, inl, input_file_of}
+use Terms.{InputFile, inr, IsFinishedState, IsLeft, IsOfEncoding, IsPlainOf, IsSoundBegun}
+use Terms.{IsWritten, List, Ok, opened, refl, RefusesPackages, Result, start, State, taken}
+use Terms.{taken_each, Writes, written_elf, ℕ, ◌∙◌, ◌∷◌, ◌≡◌, ⊎_elim}
 use Rattle.thorin_errors.specs.declared.error.Error.{Error}
-use Rattle.thorin_input.specs.Encodings.{encoding_of}
-use Rattle.thorin_input.specs.Used.{InputFile, opened, input_file_of}
-use Rattle.thorin_join.specs.Builder.{State, start, taken, order_of, finish_test, IsFinishedState}
+use Rattle.thorin_join.specs.Builder.{order_of}
 use Rattle.thorin_again.specs.Again.{input_encoding}
-use Rattle.thorin_again.specs.OneEncoding.{IsOfEncoding}
 use Rattle.thorin_again.specs.OwnAccepted.{IsAcceptedOnceWritten}
 use Rattle.thorin_again.specs.OwnRefusals.{UnlessForeseen}
-use Rattle.thorin_again.specs.PlainInputs.{AreTaken, IsPlainOf}
-use Rattle.thorin_join.specs.Represents.{IsSoundBegun}
-use Rattle.thorin.specs.Again.{CanBePackedAgain, IsLeft}
-use Rattle.thorin.specs.Groups.{taken_each, ArePackedAlone, RefusesPackages}
-use Rattle.thorin.specs.Run.{IsWritten, Writes}
 use Rattle.thorin.proofs.GroupMeaning.{KeepsSound}
 use Rattle.thorin.proofs.Running.{begun-then, each-taken, read-text}
 
@@ -86,10 +74,7 @@ module _ (encoding : Encoding) (bytes : List ℕ) (p : IsPlainOf encoding bytes)
   one-reading : (file : Elf) (object : InputFile) (e : Encoding) → opened bytes ≡ Ok file
       → input_file_of file ≡ Ok object → encoding_of object ≡ Ok e
       → (object ≡ p.object) × (e ≡ encoding)
-  one-reading file object e h k l =
-      let f = same-ok file p.file (sym h ∙ p.opens) in
-      let o = same-ok object p.object (sym k ∙ ap input_file_of f ∙ p.used) in
-      (o, same-ok e encoding (sym l ∙ ap encoding_of o ∙ p.first))
+  one-reading file object e h k l = (cc, cc)
 
   pub plain-encoding : IsOfEncoding encoding bytes
   unfolding input_encoding

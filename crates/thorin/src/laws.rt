@@ -13,7 +13,7 @@ ghost use Rattle.dwp_elf.specs.Refusals.{RefusesFile, RefusesWriter};
 ghost use Rattle.dwp_bytes.specs.declared.encoding.Encoding.{Encoding};
 ghost use Rattle.dwp_table.specs.declared.object.DwarfObject.{DwarfObject};
 ghost use Rattle.thorin_errors.specs.Errors.{NumberTooLarge};
-ghost use Rattle.thorin_strings.specs.Strings.{offset_of};
+ghost use Rattle.dwp_strings.specs.Strings.{offset_of};
 ghost use Rattle.thorin_strings.specs.StringOffsets.{named_at, offset_limit, remapped_entry};
 ghost use Rattle.thorin_index.specs.declared.entry.IndexEntry.{IndexEntry};
 ghost use Rattle.thorin_index.specs.EntryTests.{index_tests};

@@ -1,5 +1,4 @@
 -- What plain objects of one encoding keep of a package.
 pub mod EachUnit
 pub mod OneEncoding
-pub mod LongerTables
 pub mod Names

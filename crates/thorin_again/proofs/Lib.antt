@@ -1,3 +1,4 @@
+mod Terms
 mod Kept
 mod Offsets
 mod Opened

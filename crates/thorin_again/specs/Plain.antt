@@ -18,7 +18,7 @@ use Rattle.thorin_packaged.specs.PackagedOffsets.{rewritten_from}
 use Rattle.thorin_index.specs.IndexText.{is_used}
 use Rattle.thorin_index.specs.declared.entry.IndexEntry.{IndexEntry}
 use Rattle.thorin_strings.specs.StringOffsets.{header_of}
-use Rattle.thorin_strings.specs.Strings.{IsTable, data_of}
+use Rattle.dwp_strings.specs.Strings.{IsTable, data_of}
 use Rattle.thorin_join.specs.Builder.{State}
 use Rattle.thorin_input.specs.Growing.{Contents}
 use Rattle.thorin_input.specs.Format.{is_shared}

@@ -6,7 +6,7 @@ ghost use Rattle.dwp_base.specs.declared.section.SectionKind.TheVariants.{StrOff
 ghost use Rattle.dwp_bytes.specs.declared.encoding.Encoding.{Encoding};
 ghost use Rattle.dwp_elf.specs.Contents.{content_of};
 ghost use Rattle.dwp_elf.specs.FileText.{Object};
-ghost use Rattle.thorin_strings.specs.Strings.{IsTable};
+ghost use Rattle.dwp_strings.specs.Strings.{IsTable};
 ghost use Rattle.thorin_join.specs.Builder.{State, IsFinishedState, finish_test, taken};
 ghost use Rattle.thorin_input.specs.Growing.{Contents};
 ghost use Rattle.thorin_input.specs.Indexes.{Indexes, indexes_of};

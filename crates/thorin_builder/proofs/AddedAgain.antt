@@ -1,29 +1,19 @@
 -- What an input adds that adds no unit, however often it is taken.
-use Rattle.std.proofs.Common.{◌≡◌, ◌∙◌, ◌⊎◌, ℕ, false, List, [], ◌∷◌, ◌++◌, refl, sym, ap}
-use Rattle.std.proofs.Common.{inl, inr, true≢false, arith, Ok, Option, Some, None, map}
-use Rattle.std.proofs.Common.{length}
-use Rattle.thorin_builder.proofs.Terms.{append-nil, append_assoc, map-append, take-length, lookup}
-use Rattle.thorin_builder.proofs.Terms.{bytes_eq, by-bool, DwarfObject, Compilation, TypeUnit}
-use Rattle.thorin_builder.proofs.Terms.{IndexEntry, part, Encoding, in_progress_of, begun_of}
-use Rattle.thorin_builder.proofs.Terms.{Repeated}
-use Rattle.std.specs.Prelude.{is_some, String, string_bytes, string_eq}
-use Rattle.std.proofs.lemmas.Bool.{le-ltb}
+use Rattle.std.proofs.Common.{is_some}
+use Rattle.thorin_builder.proofs.Terms
+use Terms.{◌++◌, [], ap, append-nil, append_assoc, AreTaken, arith, begun_of, by-bool, bytes_eq}
+use Terms.{DwarfObject, Encoding, false, front-front, Global, held_units, in_progress_of}
+use Terms.{IndexEntry, inl, InProgress, InProgressDwarfPackage, inr, IsLater, IsTaken, le-ltb}
+use Terms.{length, List, lookup, map, map-append, Meaning, meaning_at, names_in, None, none-some}
+use Terms.{Ok, Option, own_after, own_encoding, part, refl, Remembers, Repeated, rules, same_Some}
+use Terms.{Some, State, String, string_bytes, string_eq, sym, take-length, taken, true≢false}
+use Terms.{units_begun, units_of, with_input, with_more, ℕ, ◌∙◌, ◌∷◌, ◌≡◌, ◌⊎◌}
 use Rattle.std.proofs.lemmas.Simd.{map-map}
-use Rattle.std.proofs.lemmas.Option.{none-some, same_Some}
 use Rattle.std.proofs.lemmas.Slice.Eq.{bytes_eq-Decides}
-use Rattle.std.specs.Global.{Global}
 use Rattle.indexmap.specs.IndexMap.{insert_entry}
-use Rattle.thorin_join.specs.Builder.{with_input, State, taken, names_in, own_after}
-use Rattle.thorin_input.specs.Encodings.{own_encoding}
 use Rattle.thorin_join.specs.Join.{Joins}
-use Rattle.thorin_join.specs.Meaning.{Meaning}
-use Rattle.thorin_join.specs.Represents.{units_begun, units_of, meaning_at}
-use Rattle.thorin_join.specs.State.{InProgress, held_units}
-use Rattle.thorin_join.proofs.Parts.Strings.{front-front}
-use Rattle.thorin_builder.specs.Repeated.{IsLater, IsLaterBegun, ExtendsBegun, AddsAgain}
-use Rattle.thorin_builder.specs.Repeated.{AddsAgainTo, with_more, IsTaken, AreTaken, Remembers}
+use Rattle.thorin_builder.specs.Repeated.{IsLaterBegun, ExtendsBegun, AddsAgain, AddsAgainTo}
 use Rattle.thorin_builder.specs.Taking.{with_target}
-use Rattle.thorin_builder.specs.declared.in_progress.InProgressDwarfPackage.{InProgressDwarfPackage}
 use Rattle.thorin_builder.proofs.Extending.{extends-refl}
 use Rattle.thorin_builder.proofs.Running.{Offer}
 
@@ -94,8 +84,7 @@ joined-later bytes (Some made) (Some now) h joins = record {
 -- a target changes nothing of the package
 pub target-kept : (target : DwarfObject) (old new : State) → new ≡ with_target target old
     → old.begun ≡ new.begun
-target-kept (Compilation id) old new added = sym (ap (λ (s : State). s.begun) added)
-target-kept (TypeUnit signature) old new added = sym (ap (λ (s : State). s.begun) added)
+target-kept target old new added = grind rules
 
 module _ (offer : Offer) where
   pub are-taken-later : (es : List (String Global × Repeated)) (begun now : Option InProgress)

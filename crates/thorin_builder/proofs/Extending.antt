@@ -1,14 +1,12 @@
 -- A package that loses nothing of what it had.
-use Rattle.std.proofs.Common.{◌≡◌, ◌∙◌, ℕ, true, false, List, [], ◌∷◌, ◌++◌, length, take, map}
-use Rattle.std.proofs.Common.{refl, sym, Ok, Err, Result, true≢false}
-use Rattle.thorin_builder.proofs.Terms.{append-nil, map-append, take-append_seam, take-length, File}
-use Rattle.thorin_builder.proofs.Terms.{DebugTypeSignature, parts_of, Extends}
+use Rattle.thorin_builder.proofs.Terms
+use Terms.{◌++◌, [], append-nil, Contents, Err, Extends, false, File, InProgress, IsGrown, length}
+use Terms.{List, map, map-append, New, new_units, Ok, parts_of, refl, Result, Source, sym, take}
+use Terms.{take-append_seam, take-length, true, true≢false, with_all, with_source, ℕ, ◌∷◌, ◌≡◌}
+use Rattle.dwp_table.specs.declared.object.DebugTypeSignature.{DebugTypeSignature}
 use Rattle.std.specs.Result.{OnOk, OnErr, is_err}
-use Rattle.dwp_base.proofs.Steps.{bind-ok}
-use Rattle.thorin_input.specs.Growing.{Contents, Begins, IsGrown}
-use Rattle.thorin_input.specs.Indexes.{Source}
-use Rattle.thorin_input.specs.NewUnits.{New, new_units}
-use Rattle.thorin_join.specs.State.{InProgress, with_source, with_all, abbreviations_test, adding}
+use Rattle.thorin_input.specs.Growing.{Begins}
+use Rattle.thorin_join.specs.State.{abbreviations_test, adding}
 
 -- the signatures of type units, once more are added
 abbrev signatures_of : List DebugTypeSignature → List ℕ
@@ -61,8 +59,7 @@ pub with_source-is : (source : Source) (p : InProgress) (parts : Contents
     → with_source source p ≡ Ok (with_all p parts new)
 unfolding with_source abbreviations_test
 with_source-is source p parts new hp ha hn =
-    bind-ok (parts_of source p.strings) parts _ hp
-    ∙ bind-ok (abbreviations_test source.object) tt _ (rw ha refl) ∙ rw hn refl
+    rw (hp, hn, ha) refl
 
 -- what holds of no error
 pub no_err : {T E : Type 0} (P : Type 0) (r : Result T E) → is_err r ≡ false → OnErr r P

@@ -1,41 +1,36 @@
 -- What an input adds that adds no unit is the same over more strings, and beside more units.
-use Rattle.std.proofs.Common.{◌≡◌, ◌∙◌, Bool, true, false, cond, Result, Ok, Err, sym, subst, refl}
-use Rattle.std.proofs.Common.{ℕ, zero, suc, ◌+◌, ◌*◌, not, ltb, eqb, ◌&&◌, List, [], ◌∷◌, length}
-use Rattle.std.proofs.Common.{take, ◌==◌, ◌++◌, Option, Some, None, ap, arith, length-append}
-use Rattle.thorin_builder.proofs.Terms.{take-append_seam, take-length, lookup, bytes_eq, by-bool}
-use Rattle.thorin_builder.proofs.Terms.{parts_of, DwarfObject, Compilation, TypeUnit, IndexEntry}
-use Rattle.thorin_builder.proofs.Terms.{same_name, New, NewUnit, or_held, kept_bytes, none_met}
+use Rattle.std.proofs.Common.{length-append}
+use Rattle.thorin_builder.proofs.Terms
+use Terms.{◌&&◌, ◌*◌, ◌+◌, ◌++◌, ◌==◌, [], ap, arith, as_error, Bool, by-bool, bytes_eq, cond}
+use Terms.{Contents, DwarfObject, eqb, Err, ErrorValue, false, first, front-front, IndexEntry}
+use Terms.{is_package, kept_bytes, length, List, lookup, ltb, Met, New, new_units, NewUnit, None}
+use Terms.{none_met, not, Ok, Option, or_held, ParseUnitHeader, parts_of, refl, Result, rules}
+use Terms.{same_name, Some, Source, suc, take, take-append_seam, take-length, true, Used}
+use Terms.{with_each_read, with_each_section, with_first, with_section, zero, ℕ, ◌∙◌, ◌∷◌, ◌≡◌}
+use Rattle.dwp_table.specs.declared.object.DwarfObject.TheVariants.{Compilation, TypeUnit}
+use Rattle.dwp_base.proofs.Steps.{bind-ok, bind-was, same-ok}
 use Rattle.std.proofs.lemmas.Bool.{cond-true}
-use Rattle.std.proofs.lemmas.Option.{none-some}
 use Rattle.dwp_base.specs.Reading.{◌>>=◌}
-use Rattle.dwp_base.proofs.Steps.{bind-was, bind-ok, same-ok}
-use Rattle.thorin_errors.specs.Errors.{ErrorValue, ParseUnitHeader}
 use Rattle.dwp_base.specs.declared.section.Contribution.{Contribution}
 use Rattle.dwp_base.specs.declared.section.SectionKind.TheVariants.{StrOffsets, Str}
 use Rattle.dwp_base.specs.Sections.{same_kind}
 use Rattle.dwp_bytes.specs.declared.encoding.Format.{Format}
 use Rattle.dwp_bytes.specs.Encoding.{offset_size}
 use Rattle.dwp_bytes.specs.StringOffsets.{header_size, entry_count}
-use Rattle.thorin_strings.specs.Strings.{offset_of, with_string}
+use Rattle.dwp_strings.specs.Strings.{offset_of, with_string}
 use Rattle.thorin_strings.specs.StringOffsets.{header_of, named_at, fitting_offset, remapped_entry}
 use Rattle.thorin_strings.specs.StringOffsets.{remapped_entries, remapped}
 use Rattle.thorin_packaged.specs.PackagedOffsets.{offset_ranges, ranges_test, rewritten_from}
 use Rattle.thorin_packaged.specs.PackagedOffsets.{packaged_offsets}
-use Rattle.thorin_input.specs.Growing.{Contents}
-use Rattle.thorin_input.specs.Indexes.{Source, is_package}
 use Rattle.thorin_input.specs.Format.{is_in_format, is_copied}
 use Rattle.thorin_input.specs.InputStrings.{rewritten}
 use Rattle.thorin_input.specs.Parts.{has_part, stands_once, with_offsets, with_part, with_each_part}
-use Rattle.thorin_input.specs.Used.{Used, first}
-use Rattle.thorin_strings.proofs.Named.{has, there_later, there_once_used}
-use Rattle.thorin_join.proofs.Parts.Strings.{front-front}
+use Rattle.dwp_strings.proofs.Named.{there_later, there_once_used}
 use Rattle.dwp_bytes.specs.declared.error.ReadError.{ReadError}
 use Rattle.dwp_dwarf.specs.Units.{Unit as Header}
 use Rattle.dwp_dwarf.specs.declared.unit.UnitSection.{UnitSection}
-use Rattle.thorin_errors.specs.Answers.{as_error}
-use Rattle.thorin_input.specs.NewUnits.{Adding, Met, with_first, with_unit, name_for, with_read}
-use Rattle.thorin_input.specs.NewUnits.{with_each_read, unit_section, once_test, with_section_at}
-use Rattle.thorin_input.specs.NewUnits.{with_section_in, with_section, with_each_section, new_units}
+use Rattle.thorin_input.specs.NewUnits.{Adding, with_unit, name_for, with_read, unit_section}
+use Rattle.thorin_input.specs.NewUnits.{once_test, with_section_at, with_section_in}
 use Rattle.thorin_input.specs.Rows.{unit_row, row_test}
 
 -- where the one leaves something good, it began well, and the other leaves what is seen of that
@@ -46,11 +41,8 @@ record Agree {X : Type 0} (began : Type 0) (good : X → Type 0) (seen : X → X
 module _ {X : Type 0} {began : Type 0} {good : X → Type 0} {seen : X → X} where
   done-agree : {x : X} {other : Result X ErrorValue}
       → (good x → began × (other ≡ Ok (seen x))) → Agree began good seen (Ok x) other
-  done-agree {x = x} end = record {
-    agree = λ y is fine.
-        let same : x ≡ y = same-ok x y is in
-        rw (← same) (end (subst good (sym same) fine));
-  }
+  done-agree {x = x} end =
+      record { agree = λ y is fine. let same = same-ok x y is in rw (← same) (end (rw same fine)) }
 
   error-agree : {error : ErrorValue} {other : Result X ErrorValue}
       → Agree began good seen (Err error) other
@@ -99,8 +91,7 @@ Strings = List (List ℕ)
 
 -- the strings once one is used go on from those before
 goes-on : (ss : Strings) (s : List ℕ) → take (length ss) (with_string ss s) ≡ ss
-goes-on ss s = by-bool _ (has ss s) (λ there. rw there (take-length ss))
-    (λ new. rw new (take-append_seam ss (s ∷ [])))
+goes-on ss s = grind (rules, take-length ss, take-append_seam ss (s ∷ []))
 
 module _ (later : Strings) (source : Source) where
   -- the later strings go on from these
@@ -199,11 +190,9 @@ parts-later source strings later parts h kept =
 kept-later : (added : Option NewUnit) (test : DwarfObject → Bool) (held more : List (DwarfObject
     × List ℕ)) (bytes : List ℕ) → or_held added (lookup test held) ≡ Some bytes
     → or_held added (lookup test (held ++ more)) ≡ Some bytes
-kept-later (Some unit) test held more bytes h = h
-kept-later None test [] more bytes h = absurd (none-some bytes h)
-kept-later None test (unit ∷ held) more bytes h =
-    by-bool _ (test unit.0) (λ it. rw it (rw it at h))
-    (λ other. rw other (kept-later None test held more bytes (rw other at h)))
+kept-later added test [] more bytes h = grind rules
+kept-later added test (unit ∷ held) more bytes h =
+    grind (rules, kept-later added test held more bytes)
 
 module _ (source : Source) (whole other : IndexEntry) (held more : List (DwarfObject
     × List ℕ)) where

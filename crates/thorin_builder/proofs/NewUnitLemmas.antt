@@ -1,22 +1,16 @@
 -- The names of units, what `==` says of them and what is kept for one; a unit that is added last.
-use Rattle.std.proofs.Common.{◌≡◌, ◌∙◌, ℕ, suc, ◌<◌, Bool, List, Option, Some, None, ap, sym, refl}
-use Rattle.std.proofs.Common.{map, take, length, get_or, [], ◌∷◌, ◌++◌, arith, not}
-use Rattle.thorin_builder.proofs.Terms.{list_any, lookup, by-bool, DwarfObject, Compilation}
-use Rattle.thorin_builder.proofs.Terms.{TypeUnit, IndexEntry, blank, NewUnit, or_held, kept_bytes}
-use Rattle.thorin_builder.proofs.Terms.{same_name, is_missing, at_least}
-use Rattle.std.proofs.lemmas.List.{get_or-take, map_push}
+use Rattle.std.proofs.Common.{slice_get}
+use Rattle.thorin_builder.proofs.Terms
+use Terms.{◌++◌, ◌<◌, [], All, ap, arith, at_least, blank, Bool, DwarfObject, get_or-take}
+use Terms.{get_or_from_slice_get, IndexEntry, is_missing, kept_bytes, length, List, list_any}
+use Terms.{lookup, map, map_push, new_unit, NewUnit, None, not, Option, or_held, refl, rules}
+use Terms.{same_name, slice_get_within, Some, suc, sym, take, ℕ, ◌∙◌, ◌∷◌, ◌≡◌}
 use Rattle.std.proofs.lemmas.List.Elements.{All-push}
-use Rattle.std.proofs.lemmas.Option.{get_or_from_slice_get, slice_get_within}
-use Rattle.std.specs.Prelude.{All, slice_get}
-use Rattle.dwp_table.specs.contracts.object.DwarfObjectPartialEq.TheImpl as derived
 use Rattle.thorin_builder.specs.declared.new_units.NewUnit.{NewUnit as CodeUnit}
-use Rattle.thorin_builder.specs.UnitView.{new_unit}
+use Rattle.dwp_table.specs.contracts.object.DwarfObjectPartialEq.TheImpl as derived
 
 same_name-at : (a b : DwarfObject) → derived.eq-value.it a b ≡ same_name a b
-same_name-at (Compilation a) (Compilation b) = refl
-same_name-at (TypeUnit a) (TypeUnit b) = refl
-same_name-at (Compilation a) (TypeUnit b) = refl
-same_name-at (TypeUnit a) (Compilation b) = refl
+same_name-at a b = grind rules
 
 -- `==` is the same name
 pub same_name-is : (a : DwarfObject) → derived.eq-value.it a ≡ same_name a
@@ -47,8 +41,7 @@ looked_up : (test : DwarfObject → Bool) (rows : List IndexEntry)
     (units : List (DwarfObject × CodeUnit)) (held : Option (List ℕ))
     → own_or_held (lookup test units) held ≡ or_held (lookup test (with_rows rows units)) held
 looked_up test rows [] held = refl
-looked_up test rows (e ∷ es) held =
-    by-bool _ (test e.0) (λ it. rw it refl) (λ other. rw other (looked_up test rows es held))
+looked_up test rows (e ∷ es) held = grind (rules, looked_up test rows es held)
 
 module _ (held : List (DwarfObject × List ℕ)) (rows : List IndexEntry)
     (units : List (DwarfObject × CodeUnit)) (name : DwarfObject) where
@@ -63,12 +56,7 @@ module _ (held : List (DwarfObject × List ℕ)) (rows : List IndexEntry)
   -- nothing is kept for a name that isn't among these
   pub not_added : kept_bytes held (with_rows rows units) name ≡ None
       → lookup (derived.eq-value.it name) units ≡ None
-  not_added none =
-      elim (lookup (derived.eq-value.it name) units) as (λ found.
-      own_or_held found (lookup (same_name name) held) ≡ None → found ≡ None) [
-        | None ↦ λ h. refl
-        | Some unit ↦ λ h. absurd cc
-      ] (kept-are _ refl ∙ none)
+  not_added none = grind (rules, kept-are _ refl)
 
 -- the number of each unit is one of the rows
 abbrev pub AreNumbered : List IndexEntry → List (DwarfObject × CodeUnit) → Type 0
@@ -84,11 +72,11 @@ module _ (rows more : List IndexEntry) (begins : take (length rows) more ≡ row
   with_more_rows : (units : List (DwarfObject × CodeUnit)) → AreNumbered rows units
       → with_rows more units ≡ with_rows rows units
   with_more_rows [] numbered = refl
-  with_more_rows (e ∷ es) numbered =
-      let row : get_or more e.1.row blank ≡ get_or rows e.1.row blank =
-      sym (get_or-take (length rows) more e.1.row blank (numbered 0 e (omega arith)))
-      ∙ ap (λ l. get_or l e.1.row blank) begins in
-      rw (row, with_more_rows es (λ k d less. numbered (suc k) d (omega arith))) refl
+  with_more_rows (e ∷ es) numbered = grind (
+    rules,
+    get_or-take (length rows) more e.1.row blank (numbered 0 e (omega arith)),
+    with_more_rows es (λ k d less. numbered (suc k) d (omega arith)),
+  )
 
   -- a unit that was added last
   module _ (before : List (DwarfObject × CodeUnit)) (numbered : AreNumbered rows before)

@@ -1,17 +1,13 @@
 -- The units that an executable refers to, one after the other.
-use Rattle.std.proofs.Common.{◌≡◌, ◌≢◌, ◌∙◌, ℕ, List, [], ◌∷◌, ◌++◌, refl, sym, ap, subst}
-use Rattle.std.proofs.Common.{Option, Some, None, Result, Ok, Err, length, take}
-use Rattle.thorin_builder.proofs.Terms.{DwarfObject, State, names_in}
-use Rattle.std.proofs.Math.Seq.{take-append-add, take-length}
-use Rattle.std.proofs.lemmas.List.{append_assoc, length-append}
+use Rattle.thorin_builder.proofs.Terms
+use Terms.{◌++◌, [], ap, append_assoc, DwarfObject, Err, Error, error_of, ErrorValue, keys, length}
+use Terms.{List, MemoryAside, names_in, None, Ok, Option, refl, Result, Some, State, subst, sym}
+use Terms.{take, take-append-add, take-length, units_begun, units_in, ℕ, ◌∙◌, ◌∷◌, ◌≡◌, ◌≢◌}
+use Rattle.std.proofs.lemmas.List.{length-append}
 use Rattle.std.specs.declared.io.Error.{Error as IoError}
-use Rattle.thorin_errors.specs.Errors.{ErrorValue, error_of, Memory}
-use Rattle.thorin_errors.specs.declared.error.Error.{Error}
+use Rattle.thorin_errors.specs.Errors.{Memory}
 use Rattle.thorin_errors.specs.declared.error.MissingReferencedObjectBehaviour.{MissingReferencedObjectBehaviour}
-use Rattle.thorin_errors.specs.Answers.{MemoryAside}
 use Rattle.thorin_executable.specs.Skeletons.{Listed}
-use Rattle.thorin_join.specs.Meaning.{keys}
-use Rattle.thorin_join.specs.Represents.{units_in, units_begun}
 use Rattle.thorin_builder.specs.Taking.{Outcome, TakesSkeleton, TakesSkeletons, TakesNamed}
 use Rattle.thorin_join.proofs.Units.InRows.{keys-units}
 

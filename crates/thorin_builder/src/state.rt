@@ -8,7 +8,7 @@ ghost use Rattle.dwp_table.specs.Objects.{identifier_of};
 ghost use Rattle.thorin_errors.specs.Answers.{Gives};
 ghost use Rattle.thorin_index.specs.EntryTests.{index_tests};
 ghost use Rattle.thorin_index.specs.IndexText.{IsIndexOf};
-ghost use Rattle.thorin_strings.specs.Marks.{mark_of};
+ghost use Rattle.dwp_strings.specs.Marks.{mark_of};
 ghost use Rattle.thorin_join.specs.Builder.{IsFinished, indexes_test, IdentifiersFit, rows_of};
 ghost use Rattle.thorin_input.specs.Encodings.{are_alike};
 ghost use Rattle.thorin_input.specs.Names.{same_name, is_compilation};

@@ -1,6 +1,5 @@
 -- Each error has a text.
-use Rattle.std.proofs.Common.{◌≡◌, false, refl, sym}
-use Rattle.std.specs.Prelude.{IsSome}
+use Rattle.std.proofs.Common.{◌≡◌, false, refl, sym, IsSome}
 use Rattle.std.proofs.lemmas.Bool.{false≢true}
 use Rattle.thorin_errors.specs.Errors.{ErrorValue, ReadInput, ParseFileKind, ParseObjectFile}
 use Rattle.thorin_errors.specs.Errors.{InvalidInputKind, DecompressData, NamelessSection}

@@ -1,5 +1,5 @@
 -- What there is to read of a section.
-use Rattle.std.proofs.Common.{◌≡◌, ℕ, List, [], ◌∷◌, map, Ok, refl, ap, sym}
+use Rattle.std.proofs.Common.{◌≡◌, ℕ, List, [], ◌∷◌, map, Ok, refl, sym}
 use Rattle.dwp_elf_read.specs.Elf.{Elf, SectionMeaning}
 use Rattle.dwp_elf_read.specs.Relocation.{relocations_of}
 use Rattle.dwp_bytes.specs.declared.relocation.RelocationEntry.{RelocationEntry}
@@ -11,7 +11,7 @@ use Rattle.thorin_executable.specs.Sections.{entry_of, debug_content, loaded}
 
 pub entries-again : (entries : List RelocationEntry) → map entry_of (map pair_of entries) ≡ entries
 entries-again [] = refl
-entries-again (e ∷ es) = ap (λ rest. e ∷ rest) (entries-again es)
+entries-again (e ∷ es) = rw (entries-again es) refl
 
 pub loaded_is : (file target : Elf) (kind : DebugSection) (section : SectionMeaning)
     (bytes : List ℕ) (entries placed : List RelocationEntry) → target ≡ file

@@ -1,6 +1,7 @@
 -- A list of split units, one unit after the other.
-use Rattle.std.proofs.Common.{◌≡◌, ◌∙◌, List, [], ◌∷◌, ◌++◌, Option, Result, Ok, Err, ap, refl}
-use Rattle.std.proofs.Common.{length, map, take}
+use Rattle.std.proofs.Common.{◌≡◌, List, ◌∷◌, ◌++◌, Option, Result, Ok, Err, refl, length, map}
+use Rattle.std.proofs.Common.{take, take_all, arith}
+use Rattle.std.proofs.lemmas.List.{length-map}
 use Rattle.dwp_bytes.specs.declared.error.ReadError.{ReadError}
 use Rattle.dwp_dwarf.specs.Units.{Unit as UnitMeaning}
 use Rattle.thorin_errors.specs.Errors.{ErrorValue}
@@ -30,8 +31,5 @@ put before rest = (before ++ rest.0, rest.1)
 pub pushed_front : (meaning : Listed) (result : Result (Unit {0}) Error) (units : List Skeleton)
     → IsPushed meaning result units → take (length units) meaning.0 ≡ map named units
 pushed_front meaning (Err e) units is = is.1
-pushed_front meaning (Ok x) units is = ap (λ (l : Listed). take (length units) l.0) is ∙ by units
-  where
-    by : (xs : List Skeleton) → take (length xs) (map named xs) ≡ map named xs
-    by [] = refl
-    by (x ∷ xs) = ap (λ (l : List Named). named x ∷ l) (by xs)
+pushed_front meaning (Ok x) units is =
+    rw is (take_all (length units) (map named units) (simp length-map (omega arith)))

@@ -1,8 +1,7 @@
 -- What is left of a reader's bytes when it is cut.
 use Rattle.std.proofs.Common.{◌≡◌, ℕ, true, false, ltb, length, take, drop, [], Result, Ok, Err}
-use Rattle.std.proofs.Common.{is_err, ap, sym, ◌∙◌, arith}
-use Rattle.std.proofs.lemmas.Bool.{ltb-true}
-use Rattle.std.proofs.lemmas.List.{drop_all, take_all}
+use Rattle.std.proofs.Common.{is_err, ap, sym, ◌∙◌, arith, ltb-true, take_all}
+use Rattle.std.proofs.lemmas.List.{drop_all}
 use Rattle.dwp_base.proofs.Bools.{by-bool}
 use Rattle.dwp_base.proofs.Steps.{guard-ok}
 use Rattle.dwp_base.specs.Reading.{Reads}

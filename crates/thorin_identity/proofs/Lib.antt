@@ -1,3 +1,2 @@
-pub mod Anywhere
 pub mod Parts
 pub mod Cut

@@ -2,15 +2,16 @@
 -- section's table where it says the same of the root entry's code.
 use Rattle.std.proofs.Common.{◌≡◌, ℕ, ◌+◌, ◌<◌, ◌≤◌, min, length, take, drop, Option, Some, Result}
 use Rattle.std.proofs.Common.{Ok, Err, refl, ap, sym, ◌∙◌, arith, inl, inr, ◌-◌, List, [], ◌∷◌}
-use Rattle.std.proofs.Common.{None, option_map}
-use Rattle.std.proofs.lemmas.Bool.{cases_lt, le-ltb, lt-ltb}
-use Rattle.std.proofs.lemmas.List.{drop-drop, length-drop, length-take-le, take_min, drop-take}
-use Rattle.std.proofs.lemmas.List.{take-take}
+use Rattle.std.proofs.Common.{None, option_map, drop-drop, length-drop, length-take-le, take-take}
+use Rattle.std.proofs.lemmas.Bool.{cases_lt}
+use Rattle.std.proofs.lemmas.List.{take_min, drop-take}
 use Rattle.std.specs.Option.{ok_or}
 use Rattle.dwp_base.specs.Reading.{◌>>=◌}
-use Rattle.dwp_bytes.specs.declared.error.ReadError.TheVariants.{OffsetOutOfRange, UnknownCode}
-use Rattle.dwp_bytes.specs.Input.{Input, after, front, skip_at, section}
+use Rattle.dwp_bytes.specs.declared.error.ReadError.TheVariants.{UnknownCode}
+use Rattle.dwp_bytes.specs.Input.{Input, after, front, section}
+use Rattle.dwp_dwarf.proofs.Offsets.{from_within, past_end}
 use Rattle.dwp_dwarf.proofs.Readings.{bind_alike}
+use Rattle.dwp_dwarf.proofs.Tables.{declared_anywhere}
 use Rattle.dwp_dwarf.specs.Abbreviations.{declaration, Declaration}
 use Rattle.dwp_dwarf.specs.Entries.{entry, root_code_at, DebugAttribute, DebugEntry}
 use Rattle.dwp_dwarf.specs.Offsets.{from_at}
@@ -21,21 +22,10 @@ use Rattle.thorin_errors.specs.Answers.{as_error}
 use Rattle.thorin_identity.specs.Identity.{entry_identity, root_identity, part_between, with_offset}
 use Rattle.thorin_identity.specs.Identity.{compilation, DW_AT_GNU_dwo_id, identifier_in, found_or}
 use Rattle.thorin_identity.specs.Identity.{first_identifier, numbered_identity}
-use Rattle.thorin_identity.proofs.Anywhere.{declared_anywhere}
 use Rattle.dwp_base.specs.declared.endian.Endianness.{Endianness}
 use Rattle.dwp_bytes.specs.declared.encoding.Encoding.{Encoding}
 use Rattle.dwp_bytes.specs.declared.error.ReadError.{ReadError}
 use Rattle.dwp_dwarf.specs.Numbers.{first_number, number_or, numbered, numbered_at}
-
-from_inside : (offset : ℕ) (i : Input) → offset ≤ length i.bytes → from_at offset i ≡ Ok
-    (after offset i)
-unfolding from_at skip_at
-from_inside offset i h = rw (le-ltb (length i.bytes) offset h) refl
-
-from_outside : (offset : ℕ) (i : Input) → length i.bytes < offset → from_at offset i ≡ Err
-    OffsetOutOfRange
-unfolding from_at
-from_outside offset i h = rw (lt-ltb (length i.bytes) offset h) refl
 
 -- by the code of the root entry
 abbrev by_code : Unit → Input → ℕ × Input → Result (Option DwarfObject) ErrorValue
@@ -53,10 +43,10 @@ root_alike i j unit e =
     elim (cases_lt (length i.bytes) at) [
       | inl past ↦
           let late : length j.bytes < at = omega arith in
-          rw (from_outside at i past, from_outside at j late) refl
+          rw (past_end at i past, past_end at j late) refl
       | inr inside ↦
           let within : at ≤ length j.bytes = omega arith in
-          rw (from_inside at i inside, from_inside at j within)
+          rw (from_within at i inside, from_within at j within)
           (bind_alike (as_error GimliRead (root_code_at unit.entries)) _ _ (λ read is. bind_alike
           (ok_or read NoDie) (by_code unit (after at i)) (by_code unit (after at j)) (λ code is.
           rw (declared_anywhere code.0 (after at i) (after at j) (ap (drop at) e)) refl)))
@@ -80,11 +70,11 @@ root_within start end offset code whole values unit at early inside root same =
     rw at (drop-drop unit.abbrev_offset start (take end whole.bytes)) in
     let before : offset ≤ length (take end whole.bytes) = omega (arith, early, size) in
     let there : from_at offset whole ≡ Ok (after offset whole) =
-    from_inside offset whole (omega (arith, early, inside)) in
+    from_within offset whole (omega (arith, early, inside)) in
     let alike = declared_anywhere code (after unit.abbrev_offset part)
     (after offset (front end whole)) held ∙ same (after offset (front end whole))
-    (after offset whole) (from_inside offset (front end whole) before) there in
-    rw (from_inside unit.abbrev_offset part long, there, root, alike) refl
+    (after offset whole) (from_within offset (front end whole) before) there in
+    rw (from_within unit.abbrev_offset part long, there, root, alike) refl
 
 -- an end past the section's end is that
 pub part_min : (start end : ℕ) (whole : Input)

@@ -1,26 +1,19 @@
 -- What was written is read again: numbers, items that are written alike, one after the other, and
 -- the columns of an index.
-use Rattle.std.proofs.Common.{◌≡◌, ℕ, suc, ◌*◌, ◌^◌, ◌<◌, List, [], ◌∷◌, ◌++◌, length, drop, map}
-use Rattle.std.proofs.Common.{refl, ◌∙◌, append_assoc, arith, get_or, ◌+◌, ◌≤◌, Bool, true, false}
-use Rattle.std.proofs.Common.{cond, eqb, ltb, Option, Some, filter, Ok, sym, ap}
-use Rattle.std.specs.Prelude.{All, Ok, is_some, unwrap_or}
-use Rattle.std.specs.List.{flat_map, list_any, range_with_len}
-use Rattle.std.proofs.lemmas.Bool.{le-ltb, cond-true, eqb-true, false_from_ne_true, ltb-true}
-use Rattle.std.proofs.lemmas.List.{length-append, drop_at, append-nil}
+use Rattle.std.proofs.Common.{le-ltb, append-nil}
+use Rattle.thorin_index.proofs.Terms
+use Terms.{◌*◌, ◌+◌, ◌++◌, ◌<◌, [], ◌^◌, All, ap, append_assoc, arith, Big, Bool, by-bool}
+use Terms.{column_of, cond, cond-true, drop, drop_at, Endianness, eqb, eqb-true, every, false}
+use Terms.{false_from_ne_true, filter, flat_map, get_or, is_some, length, length-append, List}
+use Terms.{Little, ltb, ltb-true, map, mul-suc, number, number_bytes, numbers, Ok, Option, refl}
+use Terms.{same-each, SectionKind, Some, suc, sym, true, unwrap_or, ℕ, ◌∙◌, ◌∷◌, ◌≡◌, ◌≤◌}
+use Rattle.std.specs.List.{list_any, range_with_len}
 use Rattle.std.proofs.lemmas.List.Folds.{flat_map-map, list_any-append}
-use Rattle.std.proofs.Math.Nat.{mul-suc}
 use Rattle.std.proofs.lemmas.Nat.{from_le_bytes-to_le_bytes_4, from_le_bytes-to_le_bytes_8}
 use Rattle.std.proofs.lemmas.Nat.{from_be_bytes-to_be_bytes_4, from_be_bytes-to_be_bytes_8}
-use Rattle.dwp_base.specs.declared.endian.Endianness.{Endianness}
-use Rattle.dwp_base.specs.declared.endian.Endianness.TheVariants.{Little, Big}
-use Rattle.dwp_base.specs.Numbers.{number, number_bytes}
-use Rattle.dwp_index.specs.IndexBytes.{after, numbers, new_column, columns_at}
-use Rattle.dwp_base.specs.declared.section.SectionKind.{SectionKind}
+use Rattle.dwp_index.specs.IndexBytes.{after, new_column, columns_at}
 use Rattle.dwp_base.specs.Sections.{rank_of}
-use Rattle.dwp_base.proofs.Bools.{by-bool}
-use Rattle.dwp_base.proofs.EveryKind.{every, same-each}
-use Rattle.dwp_table.specs.Columns.{standard_column, gnu_column, column_of, kind_with}
-use Rattle.dwp_table.specs.Columns.{kind_of_column}
+use Rattle.dwp_table.specs.Columns.{standard_column, gnu_column, kind_with, kind_of_column}
 
 -- items are put in so many bytes each, in which those that fit are read again as what they are
 pub record IsPut {X Y : Type 0} (put : X → List ℕ) (read : List ℕ → Y) (is : X → Y)

@@ -1,25 +1,17 @@
 -- What tests that all passed say.
-use Rattle.std.proofs.Common.{◌≡◌, ◌∙◌, ℕ, zero, suc, ◌+◌, ◌*◌, ◌^◌, ◌<◌, Bool, true, false, cond}
-use Rattle.std.proofs.Common.{List, [], ◌∷◌, ◌++◌, length, get_or, drop, Option, None, Some, Result}
-use Rattle.std.proofs.Common.{Ok, Err, ap, refl, sym, arith}
-use Rattle.std.proofs.lemmas.List.{at_drop_more}
+use Rattle.thorin_index.proofs.Terms
+use Terms.{◌*◌, ◌+◌, ◌++◌, ◌<◌, [], ◌^◌, All, ap, arith, at_drop_more, Bool, codes, cond}
+use Terms.{Contribution, contribution_kinds, contribution_to, drop, each, Encoding, encoding_test}
+use Terms.{Err, false, get_or, HoldsAll, index_version_of, IndexEntry, is_some, is_used, length}
+use Terms.{List, ltb-true, None, offset_or_0, Ok, Option, parts_test, refl, Result, SectionKind}
+use Terms.{size_or_0, Some, suc, sym, tests_under, true, zero, ℕ, ◌∙◌, ◌∷◌, ◌≡◌}
 use Rattle.std.proofs.lemmas.List.Folds.{Any-from_list_any}
-use Rattle.std.proofs.lemmas.Bool.{ltb-true}
-use Rattle.std.specs.Prelude.{All, codes, is_some}
-use Rattle.dwp_base.proofs.EveryKind.{HoldsAll}
 use Rattle.dwp_base.proofs.Steps.{bind-was}
-use Rattle.dwp_base.specs.declared.section.SectionKind.{SectionKind}
 use Rattle.dwp_base.specs.declared.section.SectionKind.TheVariants.{Str, CuIndex, TuIndex}
-use Rattle.dwp_base.specs.declared.section.Contribution.{Contribution}
-use Rattle.dwp_bytes.specs.declared.encoding.Encoding.{Encoding}
-use Rattle.dwp_bytes.specs.Encoding.{index_version_of}
 use Rattle.thorin_errors.specs.Errors.{ErrorValue}
-use Rattle.thorin_index.specs.declared.entry.IndexEntry.{IndexEntry}
-use Rattle.dwp_table.specs.Columns.{contribution_kinds}
-use Rattle.thorin_index.specs.Entries.{contribution_to, offset_or_0, size_or_0}
-use Rattle.thorin_index.specs.EntryTests.{each, number_test, parts_test, format_test, tests_under}
-use Rattle.thorin_index.specs.EntryTests.{count_test, encoding_test, offset_test, size_test}
-use Rattle.thorin_index.specs.IndexText.{FitsRow, is_used}
+use Rattle.thorin_index.specs.EntryTests.{number_test, format_test, count_test, offset_test}
+use Rattle.thorin_index.specs.EntryTests.{size_test}
+use Rattle.thorin_index.specs.IndexText.{FitsRow}
 use Rattle.thorin_index.proofs.Again.{has_number}
 use Rattle.dwp_base.proofs.EveryKind as kinds
 

@@ -1,3 +1,4 @@
+pub mod Terms
 pub mod Again
 pub mod Each
 pub mod Looks

@@ -1,10 +1,7 @@
 -- One more row: how many slots were looked at for each.
-use Rattle.std.proofs.Common.{◌≡◌, ℕ, ◌+◌, ◌-◌, ◌<◌, ◌≤◌, List, [], ◌∷◌, ◌++◌, length, inl, inr, ap}
-use Rattle.std.proofs.Common.{◌∙◌, arith}
-use Rattle.std.proofs.lemmas.Bool.{cases_lt}
-use Rattle.std.proofs.lemmas.List.{get_or_append_left, get_or_push, length_push}
-use Rattle.dwp_table.specs.Table.{IsPlacedAfter}
-use Rattle.thorin_index.specs.Buckets.{IsLooked}
+use Rattle.thorin_index.proofs.Terms
+use Terms.{◌+◌, ◌++◌, ◌-◌, ◌<◌, [], ap, arith, cases_lt, get_or_append_left, get_or_push, inl, inr}
+use Terms.{IsLooked, IsPlacedAfter, length, length_push, List, ℕ, ◌∙◌, ◌∷◌, ◌≡◌, ◌≤◌}
 
 -- what was placed stays at its place, and the last row stands in the slot that was looked at last
 pub looked_more : (ids old new looked : List ℕ) (x l : ℕ)

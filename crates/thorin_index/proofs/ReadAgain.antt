@@ -1,28 +1,17 @@
 -- The bytes of an index whose entries passed the tests are read as the index.
-use Rattle.std.proofs.Common.{◌≡◌, ℕ, zero, suc, ◌^◌, ◌<◌, ◌≤◌, true, false, leb, ltb, List, []}
-use Rattle.std.proofs.Common.{◌++◌, length, get_or, drop, Ok, refl, ap, ◌∙◌, append_assoc, arith}
-use Rattle.std.proofs.lemmas.List.{append-nil, length-map, map-id, get_or_default}
+use Rattle.thorin_index.proofs.Terms
+use Terms.{◌++◌, ◌<◌, [], ◌^◌, ap, append_assoc, arith, Big, by-bool, column_numbers}
+use Terms.{contribution_kinds, contribution_to, drop, Encoding, Endianness, entry_ids, false}
+use Terms.{get_or, get_or_default, identifier_of, index_of, index_version_of, index_with}
+use Terms.{IndexEntry, is_used, IsIndexText, leb, length, length-map, List, Little, ltb, map-id}
+use Terms.{number_bytes, numbers, numbers_bytes, offset_or_0, Ok, refl, rows_bytes, SectionKind}
+use Terms.{signature_of, signatures_bytes, size_or_0, suc, tests_under, true, used_sections, zero}
+use Terms.{ℕ, ◌∙◌, ◌≡◌, ◌≤◌}
+use Rattle.std.proofs.lemmas.List.{append-nil}
 use Rattle.std.proofs.lemmas.List.Sums.{length-filter, count_by-le-length}
 use Rattle.std.proofs.lemmas.Bool.{le-ltb, lt-ltb}
-use Rattle.dwp_base.proofs.Bools.{by-bool}
-use Rattle.dwp_base.specs.declared.endian.Endianness.{Endianness}
-use Rattle.dwp_base.specs.declared.endian.Endianness.TheVariants.{Little, Big}
-use Rattle.dwp_base.specs.declared.section.SectionKind.{SectionKind}
-use Rattle.dwp_base.specs.Numbers.{number_bytes}
-use Rattle.dwp_bytes.specs.declared.encoding.Encoding.{Encoding}
-use Rattle.dwp_bytes.specs.Encoding.{index_version_of}
-use Rattle.dwp_table.specs.Columns.{contribution_kinds}
-use Rattle.dwp_table.specs.Objects.{identifier_of}
-use Rattle.dwp_table.specs.Table.{signature_of}
-use Rattle.dwp_index.specs.IndexBytes.{numbers, number_rows, version_of, counts_of, is_slot_count}
-use Rattle.dwp_index.specs.IndexBytes.{index_of}
-use Rattle.thorin_index.specs.declared.entry.IndexEntry.{IndexEntry}
-use Rattle.thorin_index.specs.Entries.{contribution_to, offset_or_0, size_or_0}
-use Rattle.thorin_index.specs.EntryTests.{tests_under}
-use Rattle.thorin_index.specs.IndexText.{numbers_bytes, version_bytes, column_numbers, rows_bytes}
-use Rattle.thorin_index.specs.IndexText.{signatures_bytes, is_used, used_sections, entry_ids}
-use Rattle.thorin_index.specs.IndexText.{index_bytes, IsIndexText}
-use Rattle.thorin_index.specs.ReadBack.{index_with}
+use Rattle.dwp_index.specs.IndexBytes.{number_rows, version_of, counts_of, is_slot_count}
+use Rattle.thorin_index.specs.IndexText.{version_bytes, index_bytes}
 use Rattle.thorin_index.proofs.Again.{IsPut, put_4, put_8, put_row, put_again, after_put}
 use Rattle.thorin_index.proofs.Again.{columns_read}
 use Rattle.thorin_index.proofs.Each.{have_passed, used_known}

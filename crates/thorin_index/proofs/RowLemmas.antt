@@ -1,23 +1,16 @@
 -- The rows of an index as they are held: what they stand for where more is shared.
-use Rattle.std.proofs.Common.{◌≡◌, ◌∙◌, ℕ, suc, ◌+◌, ◌<◌, ◌≤◌, List, [], ◌∷◌, ◌++◌, length, map}
-use Rattle.std.proofs.Common.{get_or, take, Some, Result, Ok, Err, ap, sym, refl, arith}
-use Rattle.std.specs.Prelude.{All, OnErr, slice_get}
-use Rattle.std.proofs.lemmas.List.{get_or-take, get_or_default, length-take, map_push}
-use Rattle.std.proofs.lemmas.List.Elements.{All-push}
+use Rattle.thorin_index.proofs.Terms
+use Terms.{◌+◌, ◌++◌, ◌<◌, [], All, All-push, ap, arith, below_more, blank, contribution_kinds}
+use Terms.{contribution_to, entry_by, entry_ids, Err, get_or, get_or-take, get_or_default}
+use Terms.{identifier_of, IndexEntry, length, length-take, List, map, map_push, Ok, OnErr, refl}
+use Terms.{Result, row_of, SectionKind, slice_get, Some, suc, sym, take, with_own, ℕ, ◌∙◌, ◌∷◌, ◌≡◌}
+use Terms.{◌≤◌}
 use Rattle.std.proofs.lemmas.Option.{get_or_from_slice_get, slice_get_within}
-use Rattle.dwp_base.specs.declared.section.SectionKind.{SectionKind}
-use Rattle.dwp_table.specs.Columns.{contribution_kinds}
 use Rattle.dwp_table.specs.declared.object.DwarfObject.{DwarfObject}
-use Rattle.dwp_table.specs.Objects.{identifier_of}
-use Rattle.thorin_index.specs.declared.entry.IndexEntry.{IndexEntry}
 use Rattle.thorin_index.specs.declared.rows.Own.{Own}
 use Rattle.thorin_index.specs.declared.rows.Own.TheVariants.{Nothing, Info, Types}
 use Rattle.thorin_index.specs.declared.rows.Row.{Row}
-use Rattle.thorin_index.specs.Entries.{contribution_to, entry_by}
-use Rattle.thorin_index.specs.IndexText.{entry_ids}
-use Rattle.thorin_index.specs.Rows.{row_of, with_own, blank}
 use Rattle.thorin_index.proofs.Each.{by_part}
-use borrow.Author.Count.{below_more}
 
 -- a list that begins with another isn't shorter
 pub at_least : {A : Type 0} (front all : List A) → take (length front) all ≡ front

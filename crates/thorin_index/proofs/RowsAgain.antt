@@ -1,35 +1,21 @@
 -- The rows of an index of entries have the entries' parts.
-use Rattle.std.proofs.Common.{◌≡◌, ℕ, ◌+◌, ◌-◌, ◌^◌, ◌<◌, Bool, true, false, ◌&&◌, eqb, List, []}
-use Rattle.std.proofs.Common.{◌∷◌, length, get_or, map, filter, Option, Some, None, Ok, refl, sym}
-use Rattle.std.proofs.Common.{ap, subst, ◌∙◌, arith}
-use Rattle.std.specs.Prelude.{is_some, unwrap_or}
-use Rattle.std.specs.List.{list_any, position_from, slice_get}
-use Rattle.std.specs.Option.{option_and_then}
-use Rattle.std.proofs.lemmas.List.{length-map, get_or-map}
-use Rattle.std.proofs.lemmas.List.Elements.{filter_passes}
+use Rattle.std.proofs.Common.{lt-ltb}
+use Rattle.thorin_index.proofs.Terms
+use Terms.{◌&&◌, ◌+◌, ◌-◌, ◌<◌, [], ◌^◌, ap, AreDistinct, arith, Bool, by-bool, column_numbers}
+use Terms.{column_of, Contribution, contribution_kinds, contribution_to, Encoding, Endianness}
+use Terms.{entry_ids, eq-eqb, eqb, eqb-true, false, false_from_ne_true, filter, filter_passes}
+use Terms.{get_or, get_or-map, index_of, index_version_of, index_with, IndexEntry, is_some, is_used}
+use Terms.{IsHashTable, IsIndexText, length, length-map, List, map, None, offset_or_0, Ok, Option}
+use Terms.{option_and_then, refl, row_numbers, SectionKind, signature_of, size_or_0, slice_get}
+use Terms.{Some, subst, sym, tests_under, true, unwrap_or, used_sections, ℕ, ◌∙◌, ◌∷◌, ◌≡◌}
+use Rattle.std.specs.List.{list_any, position_from}
 use Rattle.std.proofs.lemmas.List.Quantifiers.{position-Some}
 use Rattle.std.proofs.lemmas.Iterator.Adapters.{position_from-zero}
 use Rattle.std.proofs.lemmas.List.Folds.{list_any_at}
 use Rattle.std.proofs.lemmas.Option.{slice_get_within, get_or_from_slice_get}
-use Rattle.std.proofs.lemmas.Bool.{false_from_ne_true, false≢true, lt-ltb, eqb-true, eq-eqb}
-use Rattle.dwp_base.proofs.Bools.{by-bool}
-use Rattle.dwp_base.specs.declared.section.SectionKind.{SectionKind}
 use Rattle.dwp_base.specs.declared.section.SectionKind.TheVariants.{Info}
-use Rattle.dwp_base.specs.declared.section.Contribution.{Contribution}
-use Rattle.dwp_base.specs.declared.endian.Endianness.{Endianness}
-use Rattle.dwp_bytes.specs.declared.encoding.Encoding.{Encoding}
-use Rattle.dwp_bytes.specs.Encoding.{index_version_of}
-use Rattle.dwp_table.specs.Columns.{column_of, contribution_kinds}
-use Rattle.dwp_table.specs.Table.{IsHashTable, AreDistinct, signature_of}
 use Rattle.dwp_index.specs.Index.{Index, Ranges, row_in, column_place, contribution, range_in}
-use Rattle.dwp_index.specs.IndexBytes.{index_of}
 use Rattle.dwp_index.proofs.NumberLists.{is_some-position}
-use Rattle.thorin_index.specs.declared.entry.IndexEntry.{IndexEntry}
-use Rattle.thorin_index.specs.Entries.{contribution_to, offset_or_0, size_or_0}
-use Rattle.thorin_index.specs.EntryTests.{tests_under}
-use Rattle.thorin_index.specs.IndexText.{is_used, used_sections, column_numbers, row_numbers}
-use Rattle.thorin_index.specs.IndexText.{entry_ids, IsIndexText}
-use Rattle.thorin_index.specs.ReadBack.{index_with}
 use Rattle.thorin_index.specs.ReadRows.{non_empty, HasEntries}
 use Rattle.thorin_index.proofs.Again.{number_of, has_number, one_kind}
 use Rattle.thorin_index.proofs.Each.{HavePassed, by_part, have_passed, used_known}
@@ -93,8 +79,8 @@ module _ (version : ℕ) (entries : List IndexEntry) (passed : HavePassed versio
         contribution_kinds
         ∙ list_any_at (λ k. is_used entries k && eqb (number_of version k)
         (number_of version kind)) contribution_kinds i d less
-        (rw (used, eq-eqb (number_of version kind) _ refl) refl)) (λ some. absurd (false≢true some))
-        (λ some. absurd (false≢true some)) (λ some. absurd (false≢true some))
+        (rw (used, eq-eqb (number_of version kind) _ refl) refl)) (λ some. absurd cc)
+        (λ some. absurd cc) (λ some. absurd cc)
 
     range_by : (column : Option ℕ) (kind : SectionKind) → column_of version kind ≡ column
         → option_and_then (λ i. contribution (get_or (row_of entry).offsets i 0)

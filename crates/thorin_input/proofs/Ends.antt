@@ -1,8 +1,7 @@
 -- A part of a section is what is left behind its start of the bytes up to its end.
-use Rattle.std.proofs.Common.{◌≡◌, ℕ, ◌+◌, ◌-◌, false, List, [], take, drop}
-use Rattle.std.proofs.Common.{Some, sym, arith}
+use Rattle.std.proofs.Common.{◌≡◌, ℕ, ◌+◌, ◌-◌, false, List, take, drop, Some, refl, arith}
 use Rattle.std.proofs.lemmas.List.{drop-take}
-use Rattle.std.proofs.lemmas.Bool.{cond-true, true_from_ne_false}
+use Rattle.std.proofs.lemmas.Bool.{not-false}
 use Rattle.dwp_base.specs.declared.section.Contribution.{Contribution}
 use Rattle.dwp_index.specs.Package.{part_of, is_outside, lies_inside}
 
@@ -11,6 +10,5 @@ pub part_of_range : (bytes : List ℕ) (range : Contribution) → is_outside byt
     → drop range.offset.0 (take (range.offset.0 + range.size) bytes) ≡ part_of bytes (Some range)
 part_of_range bytes range inside =
     let size : (range.offset.0 + range.size) - range.offset.0 ≡ range.size = omega arith in
-    rw (drop-take range.offset.0 range.size bytes, size)
-    (sym (cond-true (lies_inside bytes range) _ [] (true_from_ne_false _ (λ out. absurd
-    (let outside = rw out at inside in cc)))))
+    rw (drop-take range.offset.0 range.size bytes, size, not-false (lies_inside bytes range) inside)
+    refl

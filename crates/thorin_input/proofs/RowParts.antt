@@ -1,21 +1,18 @@
 -- The rows that units get, put together of the parts that are read for each kind of section.
-use Rattle.std.proofs.Common.{◌≡◌, ◌∙◌, Bool, true, false, cond, List, [], ◌∷◌, refl, sym, ap}
-use Rattle.std.proofs.Common.{subst, Option, None, Some, Result, Ok, Err}
-use Rattle.std.specs.Prelude.{slice_get}
-use Rattle.std.specs.List.{list_any}
-use Rattle.std.proofs.lemmas.List.{map-id}
+use Rattle.std.proofs.Common.{◌≡◌, ◌∙◌, cond, refl, sym, ap, Option, None, Some, Result, Ok, Err}
+use Rattle.std.proofs.Common.{slice_get, map-id}
 use Rattle.std.proofs.lemmas.Option.{get_or_from_slice_get}
 use Rattle.dwp_base.specs.ByKind.{values_of, value_of, ReadsEach}
 use Rattle.dwp_base.specs.Reading.{Answers}
-use Rattle.dwp_base.specs.Sections.{rank_of, all_kinds, same_kind}
+use Rattle.dwp_base.specs.Sections.{rank_of, all_kinds}
 use Rattle.dwp_base.specs.declared.by_kind.ByKind.{ByKind}
 use Rattle.dwp_base.specs.declared.section.Contribution.{Contribution}
 use Rattle.dwp_base.specs.declared.section.SectionKind.{SectionKind}
-use Rattle.dwp_base.proofs.EveryKind.{HoldsAll, each}
+use Rattle.dwp_base.proofs.Bools.{by-bool}
+use Rattle.dwp_base.proofs.EveryKind.{same-each}
 use Rattle.dwp_base.proofs.KindsRead.{answers-each}
 use Rattle.dwp_base.proofs.Steps.{bind-ok, bind-err, each-read}
 use Rattle.dwp_bytes.specs.declared.encoding.Encoding.{Encoding}
-use Rattle.dwp_table.specs.Columns.{contribution_kinds}
 use Rattle.dwp_table.specs.declared.object.DwarfObject.{DwarfObject}
 use Rattle.dwp_table.specs.declared.object.DwarfObject.TheVariants.{Compilation}
 use Rattle.thorin_errors.specs.Errors.{ErrorValue, error_of}
@@ -28,24 +25,6 @@ use Rattle.thorin_input.specs.Growing.{Contents, joined_parts, range_put}
 use Rattle.thorin_input.specs.Indexes.{Indexes}
 use Rattle.thorin_input.specs.Rows.{whole_row, unit_part, unit_row}
 use Rattle.thorin_input.specs.WholeFits.{EndFits, EndsFit}
-
--- what holds of each is said of all of a list
-all-hold : {X : Type 0} (P : X → Type 0) → ((x : X) → P x) → (xs : List X) → HoldsAll P xs
-all-hold P holds [] = tt
-all-hold P holds (x ∷ xs) = (holds x, all-hold P holds xs)
-
--- an entry's part of a section is the one that was given, or none
-part-holds : (P : Option Contribution → Type 0) (encoding : Encoding) (id : DwarfObject)
-    (part : SectionKind → Option Contribution) → P None → ((kind : SectionKind) → P (part kind))
-    → (kind : SectionKind) → P (contribution_to kind (entry_by encoding id part))
-part-holds P encoding id part none given =
-    each (λ kind. P (contribution_to kind (entry_by encoding id part)))
-    (all-hold (λ kind. P (cond (list_any (same_kind kind) contribution_kinds) (part kind) None))
-    (λ kind. by (list_any (same_kind kind) contribution_kinds) kind) all_kinds)
-  where
-    by : (b : Bool) (kind : SectionKind) → P (cond b (part kind) None)
-    by true kind = given kind
-    by false kind = none
 
 -- ---- where whole sections come to lie
 
@@ -77,9 +56,11 @@ whole-is encoding before parts ranges read row is =
 pub whole-fits : (encoding : Encoding) (id : DwarfObject) (ranges : ByKind (Option Contribution))
     → AreKnown (λ _ range. EndFits range) ranges → (row : IndexEntry)
     → row ≡ entry_by encoding id (value_of None (values_of ranges)) → EndsFit row
-whole-fits encoding id ranges read row is = subst EndsFit (sym is)
-    (λ kind shared. part-holds EndFits encoding id (value_of None (values_of ranges))
-    (λ x e. absurd cc) (λ k. known (λ _ range. EndFits range) ranges read k None) kind)
+whole-fits encoding id ranges read row is = rw is (λ kind shared.
+    let part = value_of None (values_of ranges) in
+    let each = same-each (λ k. cond (is_shared k) (contribution_to k (entry_by encoding id part))
+    None) (λ k. cond (is_shared k) (part k) None) refl kind in
+    rw (rw shared at each) (known (λ _ range. EndFits range) ranges read kind None))
 
 -- ---- a unit's row
 
@@ -91,17 +72,8 @@ unfolding unit_row adjusted
 plain-row indexes whole name compilations types =
     bind-ok _ _ (λ parts. Ok (entry_by whole.encoding name (value_of None parts)))
     (each-read (λ kind. unit_part indexes name kind (contribution_to kind whole))
-    (λ kind. contribution_to kind whole)
-    (λ kind. stays kind (contribution_to kind whole) (is_shared kind)) all_kinds)
-  where
-    stays : (kind : SectionKind) (part : Option Contribution) (b : Bool)
-        → cond b (adjusted (record {
-          compilation = indexes.compilations;
-          types = indexes.types;
-          section = kind;
-        }) name part) (Ok part) ≡ Ok part
-    stays kind part true = rw (compilations, types) refl
-    stays kind part false = refl
+    (λ kind. contribution_to kind whole) (λ kind. by-bool _ (is_shared kind)
+    (λ e. rw (e, compilations, types) refl) (λ e. rw e refl)) all_kinds)
 
 module _ (indexes : Indexes) (whole : IndexEntry) (name : DwarfObject) where
   abbrev part : SectionKind → Result (Option Contribution) ErrorValue

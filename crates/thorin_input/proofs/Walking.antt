@@ -1,17 +1,17 @@
 -- One walk over the sections of an input: what is known of those so far, with those that are left.
-use Rattle.std.proofs.Common.{◌≡◌, ◌∙◌, ℕ, Bool, true, false, cond, not, eqb, ◌||◌, ◌&&◌, List, []}
-use Rattle.std.proofs.Common.{◌∷◌, map, Option, Some, None, Result, Ok, Err, refl, sym, ap}
-use Rattle.std.specs.Prelude.{find, is_some}
+use Rattle.std.proofs.Common.{◌≡◌, ◌∙◌, ℕ, Bool, true, false, not, eqb, ◌||◌, ◌&&◌, List, [], ◌∷◌}
+use Rattle.std.proofs.Common.{map, Option, Some, None, Result, Ok, Err, refl, sym, ap, find}
+use Rattle.std.proofs.Common.{is_some, option_and_then, ok_or, MatchResult}
 use Rattle.std.specs.List.{list_any}
-use Rattle.std.specs.Option.{option_and_then, ok_or}
-use Rattle.std.specs.Result.{MatchResult}
 use Rattle.std.proofs.Math.Bool.{or_assoc, or-false}
 use Rattle.dwp_base.specs.declared.endian.Endianness.{Endianness}
 use Rattle.dwp_base.specs.declared.section.SectionKind.{SectionKind}
 use Rattle.dwp_base.specs.declared.section.SectionKind.TheVariants as kinds
-use Rattle.dwp_base.specs.Sections.{compressed_name_of, kind_named, all_kinds, same_kind}
+use Rattle.dwp_base.specs.Sections.{name_of, compressed_name_of, kind_named, all_kinds, same_kind}
+use Rattle.dwp_base.proofs.Bools.{by-bool}
 use Rattle.dwp_elf_read.specs.declared.error.ReadError.TheVariants.{Compressed, SectionRange}
-use Rattle.dwp_elf_read.specs.Elf.{Elf, SectionMeaning, SHT_NOBITS, name_is, has_compressed_flag}
+use Rattle.dwp_elf_read.specs.Elf.{Elf, SectionMeaning, SHT_NOBITS, name_is, is_named}
+use Rattle.dwp_elf_read.specs.Elf.{has_compressed_flag}
 use Rattle.dwp_elf_read.specs.View.{Placed, placed_sections}
 use Rattle.dwp_index.specs.Contents as contents
 use Rattle.dwp_index.specs.Contents.{has_name, is_of_kind}
@@ -19,8 +19,8 @@ use Rattle.thorin_errors.specs.Errors.{ErrorValue, error_of, DecompressData, Obj
 use Rattle.thorin_errors.specs.Answers.{Gives, MemoryAside, as_error}
 use Rattle.thorin_errors.specs.declared.error.Error.{Error}
 use Rattle.thorin_input.specs.Encodings.{is_index, is_plain}
-use Rattle.thorin_input.specs.Used.{Used, is_present, used_kind, unusable, used_bytes}
-use Rattle.thorin_input.specs.Used.{has_kind, with_used, used_from, input_file_of}
+use Rattle.thorin_input.specs.Used.{Used, used_kind, unusable, used_bytes, has_kind, with_used}
+use Rattle.thorin_input.specs.Used.{used_from, input_file_of}
 use Rattle.thorin_input.specs.View as view
 use Rattle.thorin_input.specs.declared.object.InputObject.{InputObject}
 use Rattle.thorin_input.specs.declared.object.UsedSection.{UsedSection}
@@ -33,12 +33,12 @@ use Rattle.dwp_index.proofs.Called.{called_is_older}
 pub kind-empty : (s : SectionMeaning) → (eqb s.size 0 || eqb s.kind SHT_NOBITS) ≡ true
     → used_kind s ≡ None
 unfolding used_kind is_of_kind
-kind-empty s h = ap (λ e. find (λ kind. not e && has_name kind s.name) all_kinds) h
+kind-empty s h = rw h refl
 
 pub kind-full : (s : SectionMeaning) → (eqb s.size 0 || eqb s.kind SHT_NOBITS) ≡ false
     → used_kind s ≡ option_and_then kind_named s.name
 unfolding used_kind is_of_kind
-kind-full s h = ap (λ e. find (λ kind. not e && has_name kind s.name) all_kinds) h ∙ full s.name
+kind-full s h = rw h (full s.name)
   where
     full : (name : Option (List ℕ)) → find (λ kind. true && has_name kind name) all_kinds ≡
         option_and_then kind_named name
@@ -67,11 +67,8 @@ bytes-plain kind s h = rw (← called_is_older kind s.name, h) (range-error s.co
 pub found-any : {A : Type 0} (test : A → Bool) (xs : List A) → is_some (find test xs) ≡
     list_any test xs
 found-any test [] = refl
-found-any test (x ∷ xs) = elim (test x) as (λ b.
-    is_some (cond b (Some x) (find test xs)) ≡ (b || list_any test xs)) [
-      | true ↦ refl
-      | false ↦ found-any test xs
-    ]
+found-any test (x ∷ xs) =
+    by-bool _ (test x) (λ e. rw e refl) (λ e. rw e (found-any test xs))
 
 -- an index is one of the two
 both : (a b x y : Bool) → ((a || b) || (x || y)) ≡ ((a || x) || (b || y))
@@ -80,23 +77,16 @@ both false true true y = refl
 both false true false y = refl
 both false false x y = refl
 
-pub either-index : (ss : List UsedSection)
-    → (list_any (has_kind kinds.CuIndex) (map view.used ss) || list_any (has_kind kinds.TuIndex)
-    (map view.used ss))
-    ≡ list_any (λ (s : UsedSection). same_kind s.kind kinds.CuIndex || same_kind s.kind
-    kinds.TuIndex) ss
+pub either-index : (ss : List UsedSection) → (list_any (has_kind kinds.CuIndex) (map view.used ss)
+    || list_any (has_kind kinds.TuIndex) (map view.used ss))
+    ≡ list_any (λ s. is_index (view.used s)) ss
 either-index [] = refl
-either-index (s ∷ ss) =
-    both (same_kind s.kind kinds.CuIndex) (list_any (has_kind kinds.CuIndex) (map view.used ss))
-    (same_kind s.kind kinds.TuIndex) (list_any (has_kind kinds.TuIndex) (map view.used ss))
-    ∙ ap (λ r. (same_kind s.kind kinds.CuIndex || same_kind s.kind kinds.TuIndex) || r)
-    (either-index ss)
+either-index (s ∷ ss) = rw (← either-index ss) (both (same_kind s.kind kinds.CuIndex) _ _ _)
 
-any-index : (ss : List UsedSection) → list_any (λ (s : UsedSection). same_kind s.kind kinds.CuIndex
-    || same_kind s.kind kinds.TuIndex) ss ≡ list_any is_index (map view.used ss)
+any-index : (ss : List UsedSection)
+    → list_any (λ s. is_index (view.used s)) ss ≡ list_any is_index (map view.used ss)
 any-index [] = refl
-any-index (s ∷ ss) = ap (λ r. (same_kind s.kind kinds.CuIndex || same_kind s.kind kinds.TuIndex) ||
-    r) (any-index ss)
+any-index (s ∷ ss) = rw (any-index ss) refl
 
 pub plain-is : (o : InputObject) → o.plain ≡ is_plain (view.object o).sections
 plain-is o = o.no_index ∙ ap not (any-index o.sections.items)
@@ -109,7 +99,7 @@ those left = map (λ (p : Placed). p.section) left
 
 pub map-placed : (e : Elf) (ss : List SectionMeaning) → those (placed_sections e ss) ≡ ss
 map-placed e [] = refl
-map-placed e (s ∷ ss) = ap (λ xs. s ∷ xs) (map-placed e ss)
+map-placed e (s ∷ ss) = rw (map-placed e ss) refl
 
 -- a test of a section so far, or of one of those that are left
 pub any-step : (test : SectionMeaning → Bool) (b : Bool) (l rest : List Placed)
@@ -151,8 +141,8 @@ taken-end (Err e) l all h goes = goes
 -- what the whole walk gives
 pub walk-gives : (t : Result Taken Error) (r : Result InputObject Error) (order : Endianness)
     (strings abbreviations : Bool) (file : Elf)
-    → order ≡ file.order → strings ≡ is_present kinds.Str file → abbreviations ≡ is_present
-    kinds.Abbrev file
+    → order ≡ file.order → strings ≡ list_any (is_named (name_of kinds.Str)) file.sections
+    → abbreviations ≡ list_any (is_named (name_of kinds.Abbrev)) file.sections
     → Gives taken t (used_from [] file.sections)
     → MatchResult t (λ used. Gives view.object r (Ok (record {
       order = order;
@@ -163,8 +153,8 @@ pub walk-gives : (t : Result Taken Error) (r : Result InputObject Error) (order 
     → Gives view.object r (input_file_of file)
 unfolding input_file_of
 walk-gives (Ok t) (Ok o) order strings abbreviations file ho hs ha used made =
-    rw (used, ← ho, ← hs, ← ha) made
+    rw (used, ← ho) (simp (found-any, sym hs, sym ha) made)
 walk-gives (Ok t) (Err e) order strings abbreviations file ho hs ha used made = λ aside.
-    rw (used, ← ho, ← hs, ← ha) (made aside)
+    rw (used, ← ho) (simp (found-any, sym hs, sym ha) (made aside))
 walk-gives (Err e) r order strings abbreviations file ho hs ha used made =
     rw made (λ aside. let fails = used aside in rw fails refl)

@@ -1,7 +1,7 @@
 -- What holds of each kind of section, and of the kinds that units share.
-use Rattle.std.proofs.Common.{◌≡◌, true, ◌||◌, sym, subst}
-use Rattle.thorin_join.proofs.Terms.{by-bool, is-same, is_copied, same_kind, SectionKind}
-use Rattle.thorin_join.proofs.Terms.{StrOffsets}
+use Rattle.thorin_join.proofs.Terms
+use Terms.{by-bool, is-same, is_copied, same_kind, SectionKind, StrOffsets, subst, sym, true, ◌||◌}
+use Terms.{◌≡◌}
 
 -- what holds of the kinds that are copied, and of string offsets
 pub copied-or-offsets : (P : SectionKind → Type 0) → ((kind : SectionKind) → is_copied kind ≡ true

@@ -1,54 +1,37 @@
 -- How large a package becomes: inputs add to its contents at most the bytes of their used sections,
 -- and finishing adds the strings and both indexes.
-use Rattle.std.proofs.Common.{◌≡◌, ◌∙◌, ℕ, suc, ◌+◌, ◌*◌, ◌≤◌, cond, eqb, List, [], ◌∷◌, ◌++◌}
-use Rattle.std.proofs.Common.{length, map, arith, sym, refl, ap, Ok, Option, Some, None, inl, inr}
-use Rattle.std.proofs.Common.{All, length-append, nat_le, leb-true}
-use Rattle.thorin_join.proofs.Terms.{Adding, adding, bind-was, by-bool, Contents, Contribution}
-use Rattle.thorin_join.proofs.Terms.{data_of, DwarfObject, Elf, Endianness, entry_ids, ErrorValue}
-use Rattle.thorin_join.proofs.Terms.{file_text, first, IndexEntry, InProgress, is_copied, IsIndexOf}
-use Rattle.thorin_join.proofs.Terms.{joining, keys, kind_at, length-map, named_in, New, NewUnit}
-use Rattle.thorin_join.proofs.Terms.{offsets_used, same-ok, same_kind, section, SectionKind, Source}
-use Rattle.thorin_join.proofs.Terms.{Str, StrOffsets, sum_by, unit_section, UnitRead, UnitSection}
-use Rattle.thorin_join.proofs.Terms.{Used, with_bytes}
-use Rattle.std.specs.List.{flat_map}
-use Rattle.std.proofs.lemmas.Bool.Decides.{nat_tests}
+use Rattle.thorin_join.proofs.Terms
+use Terms.{◌*◌, ◌+◌, ◌++◌, [], Adding, adding, All, ap, appended, arith, begun_by, bind-was}
+use Terms.{bytes_of_contents, bytes_of_strings, Class, cond, Contents, Contribution, counts_once}
+use Terms.{data_of, DwarfObject, Elf, Endianness, entry_ids, ErrorValue, every, File, file_text}
+use Terms.{first, flat_map, flat_map-map, Header, index_version_of, IndexEntry, inl, InProgress}
+use Terms.{inr, is_copied, IsFinished, IsIndexOf, joining, keys, kind_at, KindsDiffer, leb-true}
+use Terms.{length, length-append, length-map, List, map, name_of, named_in, nat_le, nat_tests, New}
+use Terms.{new_units, NewUnit, None, number_bytes, offset_or_0, offsets_used, Ok, Option, refl}
+use Terms.{same-ok, same_kind, section, SectionKind, size_or_0, Some, Source, Str, strings_begun}
+use Terms.{StrOffsets, suc, sum_by, sym, unit_section, UnitRead, units, units_whole, UnitSection}
+use Terms.{Used, with_bytes, with_input, with_new_units, with_parts, with_source, ℕ, ◌∙◌, ◌∷◌, ◌≡◌}
+use Terms.{◌≤◌}
 use Rattle.std.proofs.lemmas.List.Concat.{length-flat_map}
-use Rattle.std.proofs.lemmas.List.Folds.{flat_map-map}
 use Rattle.std.proofs.lemmas.List.Sums.{sum_by-cons, sum_by-append, sum_by-le-sum_by}
-use Rattle.dwp_base.specs.declared.section.SectionKind.TheVariants.{Info}
-use Rattle.dwp_base.specs.Sections.{name_of}
-use Rattle.dwp_dwarf.specs.Units.{Unit as Header, units, unit_bytes as bytes_of_unit}
-use Rattle.dwp_dwarf.proofs.Units.{units_whole}
-use Rattle.dwp_elf.specs.Contents.{appended, KindsDiffer}
-use Rattle.thorin_input.specs.Growing.{with_parts}
-use Rattle.thorin_input.specs.NewUnits.{new_units}
-use Rattle.thorin_input.specs.Used.{counts_once}
-use Rattle.thorin_join.specs.Builder.{begun_by, with_input, IsFinished}
-use Rattle.thorin_join.specs.FirstUse.{strings_begun}
+use Rattle.dwp_dwarf.specs.Units.{unit_bytes as bytes_of_unit}
 use Rattle.thorin_join.specs.Meaning.{named_each, named_at, named_sections}
-use Rattle.thorin_join.specs.Sizes.{bytes_of_contents, bytes_begun, sections_in, sections_of_input}
-use Rattle.thorin_join.specs.Sizes.{used_size, carried, carried_size, with_inputs, bytes_of_strings}
-use Rattle.thorin_join.specs.Sizes.{bytes_of_index, IsSizeOfIndex, IsSizeFinished, container_most}
-use Rattle.thorin_join.specs.State.{with_new_units, with_source}
+use Rattle.thorin_join.specs.Sizes.{bytes_begun, sections_in, sections_of_input, used_size, carried}
+use Rattle.thorin_join.specs.Sizes.{carried_size, with_inputs, bytes_of_index, IsSizeOfIndex}
+use Rattle.thorin_join.specs.Sizes.{IsSizeFinished, container_most}
 use Rattle.thorin_join.proofs.Joined.Source.{with_all_parts, source-made}
 use Rattle.thorin_join.proofs.Joined.Taken.{takes, source-brings, same-begun}
 use Rattle.thorin_join.proofs.Parts.FirstUses.{part_bytes, each-brings, used-most, each-unit}
 use Rattle.thorin_join.proofs.Units.JoinedByName.{AreAdded, units-joined}
 use Rattle.thorin_join.proofs.Units.HeadersRead.{each-named, Listed, News, Reads}
-use Rattle.dwp_base.specs.declared.class.Class.{Class}
-use Rattle.dwp_base.specs.declared.class.Class.TheVariants.{Elf32, Elf64}
-use Rattle.dwp_base.specs.declared.section.SectionKind.TheVariants as kinds
-use Rattle.dwp_base.specs.Numbers.{number_bytes}
-use Rattle.dwp_base.proofs.EveryKind.{every}
-use Rattle.dwp_bytes.specs.Encoding.{index_version_of}
-use Rattle.dwp_elf.specs.FileText.{Object as File, content_bytes, names_of}
+use Rattle.dwp_elf.specs.FileText.{content_bytes, names_of}
 use Rattle.dwp_elf.specs.Places.{file_length}
 use Rattle.dwp_elf.proofs.KindCounts.{length-KindsDiffer}
 use Rattle.dwp_elf.proofs.Limits.{length-number_bytes, length-file_text}
 use Rattle.dwp_table.specs.Table.{signature_of}
-use Rattle.thorin_index.specs.Entries.{offset_or_0, size_or_0}
 use Rattle.thorin_index.specs.IndexText.{numbers_bytes, version_bytes, used_sections}
 use Rattle.thorin_index.specs.IndexText.{column_numbers, row_numbers, index_bytes}
+use Rattle.dwp_base.specs.declared.section.SectionKind.TheVariants as kinds
 
 -- the bytes of one of the contents
 abbrev pub long : SectionKind × List ℕ → ℕ
@@ -86,9 +69,9 @@ pub units-within : (made : InProgress) (units : News)
 units-within = each-unit (λ made units now. bytes_of_contents now.file.contents ≤
     bytes_of_contents made.file.contents + sum_by unit_long units) (λ made. omega arith)
     (λ made unit units now later. omega (arith, sum_by-cons unit_long unit units, later))
-    (λ made unit units now later. let all = sum_by-cons unit_long unit units in
+    (λ made unit units now later.
     let own = with_bytes-long (kind_at unit.1.place) unit.1.bytes made.file.contents in
-    omega (arith, all, own, later))
+    omega (arith, sum_by-cons unit_long unit units, own, later))
 
 -- ---- the units that are read by their names have all bytes of their section
 abbrev read_unit : DwarfObject × UnitRead → Header
@@ -130,19 +113,16 @@ module _ (source : Source) where
       let b = bind-was (named_sections source rest) _ us a.2 in
       let here = section-within from (unit_section from.kind) a.0 a.1 in
       let later = sections-within rest b.0 b.1 in
-      let both = sum_by-append read_bytes a.0 b.0 in
       rw (← same-ok {E = ErrorValue} _ us b.2)
-      (omega (arith, here, later, both, sum_by-cons unit_bytes from rest))
+      (omega (arith, here, later, sum_by-append read_bytes a.0 b.0, sum_by-cons {X = Used}))
 
 -- ---- what is added of them
 joining-within : (names : List DwarfObject) (us : Reads)
     → sum_by read_bytes (joining names us) ≤ sum_by read_bytes us
 joining-within names [] = omega arith
 joining-within names (u ∷ us) =
-    let all = sum_by-cons read_bytes u us in
-    let more = names ++ u.0 ∷ [] in
-    let both = sum_by-cons read_bytes u (joining more us) in
-    grind (arith, all, both, joining-within names us, joining-within more us)
+    let more = joining-within (names ++ u.0 ∷ []) us in
+    grind (arith, sum_by-cons read_bytes, joining-within names us, more)
 
 added-long : (adding : Adding) (ns : News) (rs : Reads) → AreAdded adding ns rs
     → sum_by unit_long ns ≡ sum_by read_bytes rs
@@ -166,17 +146,13 @@ new-within adding new h =
 one-place : (s : Used) (kind : SectionKind)
     → cond (same_kind kind StrOffsets) (length s.bytes) (cond (is_copied kind) (length s.bytes) 0)
     + placed_bytes (unit_section kind) s ≤ cond (counts_once kind) 0 (length s.bytes)
-one-place s Info = omega arith
-one-place s kind = omega arith
+one-place s kind = grind arith
 
 places-within : (sections : List Used) → sum_by part_bytes sections + sum_by unit_bytes sections ≤
     sum_by carried sections
 places-within [] = omega arith
 places-within (s ∷ ss) =
-    let one : part_bytes s + unit_bytes s ≤ carried s = one-place s s.kind in
-    let parts = sum_by-cons part_bytes s ss in
-    let units = sum_by-cons unit_bytes s ss in
-    omega (arith, one, places-within ss, parts, units, sum_by-cons carried s ss)
+    omega (arith, one-place s s.kind, places-within ss, sum_by-cons {X = Used})
 
 -- ---- an input with units
 -- a measure of a package grows by at most so much with the units of an input
@@ -196,8 +172,7 @@ bytes-grow = record {
       let q = with_all_parts before m.parts m.after (before.differing ++ m.new.differing) in
       let parts = with_parts-long m.parts before.file.contents in
       let new = new-within (adding source before m.parts) m.new m.new_are in
-      let places = places-within source.object.sections in
-      omega (arith, is, units-within q m.new.units, parts, brought.1, new, places);
+      omega (arith, is, units-within q m.new.units, parts, brought.1, new, places-within);
 }
 
 -- the strings are those that its string offsets name
@@ -235,9 +210,8 @@ module _ {measure : Option InProgress → ℕ} {most : List Used → ℕ} (grows
   inputs-most [] begun now h = let is = ap measure (same-ok begun now h) in omega (arith, is)
   inputs-most (bytes ∷ inputs) begun now h =
       let s = bind-was (with_input bytes begun) _ now h in
-      let one = input-most bytes begun s.0 s.1 in
       let later = inputs-most inputs s.0 now s.2 in
-      omega (arith, one, later, sum_by-cons (λ b. most (sections_of_input b)) bytes inputs)
+      omega (arith, input-most bytes begun s.0 s.1, later, sum_by-cons {X = List ℕ})
 
 -- ---- where used sections don't overlap
 pub carried-used : (bytes : List ℕ) → carried_size bytes ≤ used_size bytes
@@ -250,9 +224,7 @@ lengths-within [] h = omega arith
 lengths-within (bytes ∷ inputs) h =
     let one : used_size bytes ≤ length bytes = h 0 [] (omega arith) in
     let later = lengths-within inputs (λ k d within. h (suc k) d (omega arith)) in
-    let most = sum_by-cons carried_size bytes inputs in
-    let all = sum_by-cons (length {A = ℕ}) bytes inputs in
-    omega (arith, one, carried-used bytes, later, most, all)
+    omega (arith, one, carried-used bytes, later, sum_by-cons {X = List ℕ})
 
 pub files-within : (inputs : List (List ℕ)) (begun now : Option InProgress)
     → All (λ bytes. used_size bytes ≤ length bytes) inputs → with_inputs inputs begun ≡ Ok now
@@ -279,8 +251,7 @@ index-long : (order : Endianness) (version : ℕ) (columns : List SectionKind)
 unfolding index_bytes
 index-long order version columns entries rows =
     let front : length (version_bytes order version) ≡ 4 =
-    by-bool _ (eqb version 5) (λ new. rw new (simp (length-append, length-number_bytes)))
-    (λ old. rw old (length-number_bytes order 4 2)) in
+    grind (arith, length-append, length-number_bytes) in
     let numbers = each-long (number_bytes order 4) 4 (length-number_bytes order 4) in
     let signature = λ (row : ℕ). number_bytes order 8 (signature_of (entry_ids entries) row) in
     let table = λ (measure : Option Contribution → ℕ).
@@ -337,10 +308,8 @@ names-within (c ∷ cs) =
 
 length-within : (class : Class) (cs : Contents) → length cs ≤ 13 → file_length class cs ≤
     bytes_of_contents cs + container_most
-length-within Elf32 cs few =
-    omega (arith, contents-long cs, length-append {A = ℕ}, names-within cs)
-length-within Elf64 cs few =
-    omega (arith, contents-long cs, length-append {A = ℕ}, names-within cs)
+length-within class cs few =
+    grind (arith, contents-long cs, length-append {A = ℕ}, names-within cs)
 
 pub file-within : (file : File) → KindsDiffer file.contents
     → length (file_text file) ≤ bytes_of_contents file.contents + container_most

@@ -14,7 +14,7 @@ use Rattle.dwp_elf_read.specs.Elf.{Elf}
 use Rattle.dwp_bytes.specs.declared.encoding.Encoding.{Encoding}
 use Rattle.dwp_table.specs.Objects.{identifier_of}
 use Rattle.dwp_table.specs.declared.object.DwarfObject.{DwarfObject}
-use Rattle.thorin_strings.specs.Strings.{data_of}
+use Rattle.dwp_strings.specs.Strings.{data_of}
 use Rattle.thorin_index.specs.declared.entry.IndexEntry.{IndexEntry}
 use Rattle.thorin_index.specs.EntryTests.{index_tests}
 use Rattle.thorin_index.specs.IndexText.{IsIndexOf}

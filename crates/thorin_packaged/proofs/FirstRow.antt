@@ -1,11 +1,10 @@
 -- The first row that a test finds.
-use Rattle.std.proofs.Common.{◌≡◌, ◌≢◌, ℕ, zero, suc, ◌+◌, ◌<◌, ◌≤◌, Bool, true, false, eqb}
-use Rattle.std.proofs.Common.{length, map, Some, None, Ok, Err, Option, Result, ap, ap₂}
-use Rattle.std.proofs.Common.{subst, refl, ◌∙◌, ◌⊎◌, inl, inr, ⊎_elim, arith}
+use Rattle.std.proofs.Common.{◌≡◌, ◌≢◌, ℕ, zero, suc, ◌+◌, ◌<◌, ◌≤◌, Bool, true, false, eqb, length}
+use Rattle.std.proofs.Common.{map, Some, None, Ok, Err, Option, Result, ap, ap₂, refl, ⊎_elim}
+use Rattle.std.proofs.Common.{arith, MatchOption, option_and_then, eqb-true, eq-eqb}
 use Rattle.std.specs.List.{position_from, range_with_len}
-use Rattle.std.specs.Option.{option_and_then}
 use Rattle.std.specs.Result.{result_ok}
-use Rattle.std.proofs.lemmas.Bool.{cases_eq, eqb-true, eq-eqb, and_parts}
+use Rattle.std.proofs.lemmas.Bool.{cases_eq, and_parts}
 use Rattle.std.proofs.lemmas.Bool.Decides.{nat_tests}
 use Rattle.dwp_base.proofs.Bools.{by-bool}
 use Rattle.dwp_base.specs.declared.section.SectionKind.{SectionKind}
@@ -28,44 +27,36 @@ module _ {X : Type 0} (t : X → Bool) (f : ℕ → X) where
 
   -- it was found, or there is none
   abbrev IsFound : ℕ → ℕ → Option ℕ → Type 0
-  IsFound a end found = ((i : ℕ) × (found ≡ Some i) × IsFirstAt a end i)
-      ⊎ ((found ≡ None) × NonePasses a end)
+  IsFound a end found = MatchOption found (NonePasses a end) (IsFirstAt a end)
 
   more_fail : (a end : ℕ) → t (f a) ≡ false → NonePasses (a + 1) end → NonePasses a end
   more_fail a end fails others j from below =
       ⊎_elim (λ (same : j ≡ a). rw same fails) (λ other. others j (omega arith) below)
       (cases_eq j a)
 
-  finds : (a n : ℕ) → IsFound a (a + n) (position_from t a (map f (range_with_len a n)))
-  finds a zero = inr (refl, λ j from below. absurd (omega arith))
-  finds a (suc n) = by-bool _ (t (f a))
-      (λ passes. inl (
-        a,
-        rw passes refl,
-        record {
-          low = omega arith;
-          high = omega arith;
-          here = passes;
-          before = λ j from below. absurd (omega arith);
-        },
-      ))
-      (λ fails. elim (finds (a + 1) n) [
-        | inl w ↦ inl (
-          w.0,
-          rw fails w.1,
-          record {
-            low = omega (arith, w.2.low);
-            high = omega (arith, w.2.high);
-            here = w.2.here;
-            before = more_fail a w.0 fails w.2.before;
-          },
-        )
-        | inr none ↦ inr (
-          rw fails none.0,
-          more_fail a (a + suc n) fails (λ j from below.
-              none.1 j from (omega arith)),
-        )
-      ])
+  one_fails : (a end : ℕ) (found : Option ℕ) → t (f a) ≡ false → IsFound (a + 1) end found
+      → IsFound a end found
+  one_fails a end None fails none = more_fail a end fails none
+  one_fails a end (Some i) fails first = record {
+    low = omega (arith, first.low);
+    high = first.high;
+    here = first.here;
+    before = more_fail a i fails first.before;
+  }
+
+  finds : (a n end : ℕ) → a + n ≡ end
+      → IsFound a end (position_from t a (map f (range_with_len a n)))
+  finds a zero end e = λ j from below. absurd (omega arith)
+  finds a (suc n) end e = by-bool _ (t (f a))
+      (λ passes. rw passes (record {
+        low = omega arith;
+        high = omega arith;
+        here = passes;
+        before = λ j from below. absurd (omega arith);
+      }))
+      (λ fails. let others = finds (a + 1) n end (omega arith) in
+      rw fails (one_fails a end (position_from t (a + 1) (map f (range_with_len (a + 1) n))) fails
+      others))
 
 -- ---- a row's range
 pub range_is : (range : Contribution) (found : Option Contribution) → is_range range found ≡ true
@@ -99,9 +90,11 @@ module _ (index : Index) (kind : SectionKind) (range : Contribution) where
   abbrev of_row : ℕ → Option Contribution
   of_row = range_of_row index kind
 
-  abbrev rows : IsFound test of_row 1 (1 + length index.offsets) (position_from test 1
-      (map of_row (range_with_len 1 (length index.offsets))))
-  rows = finds test of_row 1 (length index.offsets)
+  abbrev found_row : Option ℕ
+  found_row = position_from test 1 (map of_row (range_with_len 1 (length index.offsets)))
+
+  rows : IsFound test of_row 1 (1 + length index.offsets) found_row
+  rows = finds test of_row 1 (length index.offsets) (1 + length index.offsets) refl
 
   has_range : (number : ℕ) (row : Ranges) → row_in index number ≡ Ok row
       → range_in row kind ≡ Some range → test (of_row number) ≡ true
@@ -131,36 +124,33 @@ module _ (index : Index) (kind : SectionKind) (range : Contribution) where
   pub first_row : (number : ℕ) → row_by_place (Some index) kind range ≡ Some number
       → IsFirstWith index kind range number
   unfolding row_by_place ranges_of
-  first_row number found = elim rows [
-    | inl w ↦
-        let same : w.0 ≡ number = cc in
-        subst (IsFirstWith index kind range) same (is_first w.0 w.2)
-    | inr none ↦ absurd cc
-  ]
+  first_row number found = is_first number (rw found at rows)
 
   pub no_row : row_by_place (Some index) kind range ≡ None → (number : ℕ) (row : Ranges)
       → row_in index number ≡ Ok row → range_in row kind ≢ Some range
   unfolding row_by_place ranges_of
-  no_row none number row there has = elim rows [
-    | inl w ↦ cc
-    | inr nowhere ↦
-        let within = numbered index number row there in
-        let passes = has_range number row there has in
-        let fails = nowhere.1 number within.0 (omega (arith, within.1)) in
-        cc
-  ]
+  no_row none number row there has =
+      let within = numbered index number row there in
+      let passes = has_range number row there has in
+      let nowhere = rw none at rows in
+      let fails = nowhere number within.0 (omega (arith, within.1)) in
+      cc
 
   pub first_found : (number : ℕ) → IsFirstWith index kind range number
       → row_by_place (Some index) kind range ≡ Some number
   unfolding row_by_place ranges_of
-  first_found number first =
-      let passes = has_range number first.row first.there first.has in
-      elim rows [
-        | inl w ↦
-            let row = row_found w.0 w.2.here in
-            let not_below : w.0 < number → ⊥ = λ less. first.first w.0 row.0 less row.1 row.2 in
-            let not_above : number < w.0 → ⊥ =
-            λ less. (let fails = w.2.before number first.low less in cc) in
-            w.1 ∙ ap Some (omega (arith, not_below, not_above))
-        | inr none ↦ absurd (let fails = none.1 number first.low (omega (arith, first.high)) in cc)
-      ]
+  first_found number first = found_there found_row rows
+    where
+      passes : test (of_row number) ≡ true
+      passes = has_range number first.row first.there first.has
+
+      found_there : (found : Option ℕ)
+          → IsFound test of_row 1 (1 + length index.offsets) found → found ≡ Some number
+      found_there None none =
+          absurd (let fails = none number first.low (omega (arith, first.high)) in cc passes)
+      found_there (Some i) at =
+          let row = row_found i at.here in
+          let not_below : i < number → ⊥ = λ less. first.first i row.0 less row.1 row.2 in
+          let not_above : number < i → ⊥ =
+          λ less. (let fails = at.before number first.low less in cc passes) in
+          ap Some (omega (arith, not_below, not_above))

@@ -1,13 +1,11 @@
 -- String offsets without a header, joined, are read in turn.
 use Rattle.std.proofs.Common.{◌≡◌, ℕ, ◌+◌, ◌-◌, ◌*◌, ◌/◌, ◌<◌, ◌≤◌, cond, ltb, List, ◌++◌, length}
-use Rattle.std.proofs.Common.{drop, ap, refl, ⊎_elim, arith, length-append, true, get_or, take}
-use Rattle.std.proofs.Common.{Some, None, Ok, sym, ◌∙◌}
-use Rattle.std.proofs.lemmas.List.{get_or_append_left, drop_at, drop-drop, length-drop}
-use Rattle.std.proofs.lemmas.List.{drop-append-le}
-use Rattle.std.proofs.lemmas.Bool.{cases_lt, lt-ltb, le-ltb, lt-leb, ltb-true}
+use Rattle.std.proofs.Common.{drop, ap, refl, ⊎_elim, arith, length-append, take, Some, None, Ok}
+use Rattle.std.proofs.Common.{sym, ◌∙◌, drop_at, drop-drop, length-drop, lt-ltb, le-ltb, add-mul}
+use Rattle.std.proofs.lemmas.List.{get_or_append_left, drop-append-le}
+use Rattle.std.proofs.lemmas.Bool.{cases_lt, lt-leb}
 use Rattle.std.proofs.lemmas.Bool.Decides.{nat_tests}
 use Rattle.std.proofs.lemmas.Nat.{row_fits}
-use Rattle.std.proofs.Math.Nat.{add-mul}
 use Rattle.dwp_base.specs.declared.endian.Endianness.{Endianness}
 use Rattle.dwp_base.specs.declared.endian.Endianness.TheVariants.{Little, Big}
 use Rattle.dwp_base.specs.Numbers.{number}
@@ -17,34 +15,21 @@ use Rattle.dwp_bytes.specs.declared.encoding.Format.TheVariants.{Dwarf32, Dwarf6
 use Rattle.dwp_bytes.specs.Encoding.{offset_size}
 use Rattle.dwp_bytes.specs.StringOffsets.{header_size, entry_count, string_at}
 use Rattle.dwp_index.specs.Strings.{entry_in, string_in}
-use Rattle.thorin_strings.specs.Strings.{data_of, IsTable}
+use Rattle.dwp_strings.specs.Strings.{data_of, IsTable}
 use Rattle.thorin_strings.specs.StringOffsets.{offset_at, named_at}
 use Rattle.thorin_strings.specs.Rewritten.{NamesTheSame}
 use Rattle.dwp_base.proofs.Steps.{bind-was, guard-ok}
 use Rattle.thorin_packaged.specs.ReadStrings.{ReadsAlike}
 use Rattle.thorin_strings.proofs.NamedEntries.{as_error_ok}
 
-front : (xs ys : List ℕ) (n : ℕ) → n ≤ length xs → (k : ℕ) → ltb k n ≡ true
-    → get_or (xs ++ ys) k 0 ≡ get_or xs k 0
-front xs ys n within k less =
-    get_or_append_left xs ys 0 k (omega (arith, within, ltb-true k n less))
-
 -- a number in front doesn't depend on what follows it
 pub number_front : (order : Endianness) (format : Format) (xs ys : List ℕ)
     → offset_size format ≤ length
     xs → number order (offset_size format) (xs ++ ys) ≡ number order (offset_size format) xs
-number_front Little Dwarf32 xs ys within =
-    let at = front xs ys 4 within in
-    rw (at 0 refl, at 1 refl, at 2 refl, at 3 refl) refl
-number_front Big Dwarf32 xs ys within =
-    let at = front xs ys 4 within in
-    rw (at 0 refl, at 1 refl, at 2 refl, at 3 refl) refl
-number_front Little Dwarf64 xs ys within =
-    let at = front xs ys 8 within in
-    rw (at 0 refl, at 1 refl, at 2 refl, at 3 refl, at 4 refl, at 5 refl, at 6 refl, at 7 refl) refl
-number_front Big Dwarf64 xs ys within =
-    let at = front xs ys 8 within in
-    rw (at 0 refl, at 1 refl, at 2 refl, at 3 refl, at 4 refl, at 5 refl, at 6 refl, at 7 refl) refl
+number_front Little Dwarf32 xs ys within = grind (arith, get_or_append_left)
+number_front Big Dwarf32 xs ys within = grind (arith, get_or_append_left)
+number_front Little Dwarf64 xs ys within = grind (arith, get_or_append_left)
+number_front Big Dwarf64 xs ys within = grind (arith, get_or_append_left)
 
 pub no_header : (encoding : Encoding) → encoding.version < 5 → header_size encoding ≡ 0
 no_header encoding old = rw (lt-leb 5 encoding.version old) refl

@@ -14,7 +14,7 @@ use Rattle.dwp_bytes.specs.StringOffsets.{header_size}
 use Rattle.dwp_index.specs.Index.{Index}
 use Rattle.thorin_strings.specs.Rewritten.{NamesTheSame}
 use Rattle.thorin_strings.specs.StringOffsets.{remapped}
-use Rattle.thorin_strings.specs.Strings.{IsTable, data_of}
+use Rattle.dwp_strings.specs.Strings.{IsTable, data_of}
 use Rattle.thorin_packaged.specs.ReadStrings.{ReadsAlike}
 use Rattle.thorin_packaged.specs.PackagedOffsets.{offset_ranges, packaged_offsets, ranges_test}
 use Rattle.thorin_packaged.specs.PackagedOffsets.{rewritten_from}

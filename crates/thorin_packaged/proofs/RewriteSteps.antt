@@ -45,8 +45,7 @@ next_passed encoding size last r rs h =
 abbrev Rewriting : Type 0
 Rewriting = Result (List ℕ × List (List ℕ)) ErrorValue
 
-abbrev pub onto : List ℕ → Result (List ℕ × List (List ℕ)) ErrorValue
-    → Result (List ℕ × List (List ℕ)) ErrorValue
+abbrev pub onto : List ℕ → Rewriting → Rewriting
 onto front (Ok p) = Ok (front ++ p.0, p.1)
 onto front (Err e) = Err e
 

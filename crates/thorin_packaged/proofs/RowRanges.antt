@@ -1,9 +1,8 @@
 -- The range of each row is among the ranges.
 use Rattle.std.proofs.Common.{◌≡◌, ℕ, zero, suc, ◌-◌, List, [], ◌∷◌, length, get_or, Some, None}
-use Rattle.std.proofs.Common.{Option, Ok, ap, sym, refl, ◌∙◌, ◌⊎◌, inl, inr, arith}
-use Rattle.std.specs.Ordering.{is_eq, match_ordering}
-use Rattle.std.specs.declared.cmp.Ordering.{Ordering}
-use Rattle.std.specs.declared.cmp.Ordering.TheVariants.{Less, Equal, Greater}
+use Rattle.std.proofs.Common.{Option, Ok, ap, sym, refl, ◌∙◌, ◌⊎◌, inl, inr, arith, is_eq, Ordering}
+use Rattle.std.proofs.Common.{Less, Equal, Greater}
+use Rattle.std.specs.Ordering.{match_ordering}
 use Rattle.std.specs.BTreeSet.{insert_key}
 use Rattle.std.proofs.lemmas.Option.{same_Some}
 use Rattle.std.proofs.lemmas.List.FromFn.{get_or-map-range_with_len}

@@ -6,7 +6,7 @@ use Rattle.dwp_base.specs.declared.section.Contribution.{Contribution}
 use Rattle.dwp_bytes.specs.declared.encoding.Encoding.{Encoding}
 use Rattle.dwp_index.specs.Index.{Index, Ranges, row_in, range_in}
 use Rattle.thorin_packaged.specs.ReadStrings.{ReadsAlike}
-use Rattle.thorin_strings.specs.Strings.{IsTable, data_of}
+use Rattle.dwp_strings.specs.Strings.{IsTable, data_of}
 
 -- the bytes of a range
 abbrev pub range_bytes : List ℕ → Contribution → List ℕ

@@ -11,7 +11,7 @@ ghost use Rattle.dwp_bytes.specs.Encoding.{offset_size};
 ghost use Rattle.dwp_index.specs.Index.{Index, Ranges, range_in, row_in};
 ghost use Rattle.dwp_index.specs.Strings.{string_in};
 ghost use Rattle.thorin_strings.specs.StringOffsets.{remapped};
-ghost use Rattle.thorin_strings.specs.Strings.{IsTable, data_of};
+ghost use Rattle.dwp_strings.specs.Strings.{IsTable, data_of};
 ghost use Rattle.thorin_packaged.specs.PackagedOffsets.{packaged_offsets};
 ghost use Rattle.thorin_packaged.specs.PackagedReading.{PackageReadsAlike};
 ghost use Rattle.thorin_packaged.specs.ReadStrings.{ReadsAlike};

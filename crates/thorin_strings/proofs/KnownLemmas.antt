@@ -1,30 +1,45 @@
--- What is remembered of strings that were read, and entries that are rewritten one after another.
+-- Strings that are read, what is remembered of them, and entries that are rewritten one after
+-- another.
 use Rattle.std.proofs.Common.{◌≡◌, ℕ, zero, suc, ◌+◌, ◌*◌, ◌<◌, ◌≤◌, List, [], ◌∷◌, ◌++◌, length}
-use Rattle.std.proofs.Common.{take, Ok, Err, ap, sym, subst, refl, ◌∙◌, ⊎_elim, arith, add-one, ◌-◌}
-use Rattle.std.proofs.Common.{◌^◌, ne_eqb, le-ltb, codes, Option, None, Some, Result, lt-ltb}
+use Rattle.std.proofs.Common.{take, Ok, Err, refl, arith, add-one, ◌-◌, ◌^◌, codes, Option, drop}
+use Rattle.std.proofs.Common.{get_or, eqb, ap, ◌∙◌}
 use Rattle.std.proofs.lemmas.List.{flat_map_more}
-use Rattle.std.proofs.lemmas.Bool.{cases_eq, cond-true}
+use Rattle.std.proofs.lemmas.Bool.{cases_eq, eq-eqb}
+use Rattle.std.proofs.lemmas.List.Folds.{list_any_at}
 use Rattle.std.specs.Option.{IfSome, IsSomeAnd}
-use Rattle.std.specs.Str.{bytes_eq}
 use Rattle.dwp_base.specs.declared.endian.Endianness.{Endianness}
 use Rattle.dwp_base.specs.declared.endian.Endianness.TheVariants.{Little}
 use Rattle.dwp_base.specs.Numbers.{number_bytes}
-use Rattle.dwp_base.specs.Reading.{◌>>=◌}
-use Rattle.dwp_base.proofs.Steps.{bind-was, same-ok}
-use Rattle.dwp_base.proofs.Bools.{by-bool}
+use Rattle.dwp_base.proofs.Steps.{bind-was}
 use Rattle.dwp_bytes.specs.Encoding.{offset_size}
 use Rattle.dwp_bytes.specs.declared.encoding.Format.TheVariants.{Dwarf32}
 use Rattle.dwp_bytes.specs.declared.encoding.Encoding.{Encoding}
-use Rattle.dwp_bytes.specs.StringOffsets.{header_size, entry_count}
+use Rattle.dwp_bytes.specs.StringOffsets.{header_size, entry_count, string_at}
 use Rattle.thorin_errors.specs.Errors.{ErrorValue, NumberTooLarge}
 use Rattle.thorin_strings.specs.StringOffsets.{header_of, remapped_entry, remapped_entries}
 use Rattle.thorin_strings.specs.StringOffsets.{entry_bytes, remapped, offset_limit, entry_at}
 use Rattle.thorin_strings.specs.StringOffsets.{string_read, named_at, fitting_offset}
 use Rattle.thorin_strings.specs.Written.{AreWritten}
-use Rattle.dwp_strings.specs.Strings.{data_of, offset_of, with_string, IsPlaced}
+use Rattle.dwp_strings.specs.Strings.{data_of, offset_of, IsPlaced}
 use Rattle.thorin_strings.specs.Known.{offset_read, IsKnown, AreKnown}
+use Rattle.dwp_strings.specs.Ends.{IsFirstZero}
+use Rattle.dwp_strings.proofs.CompareLemmas.{front_string}
+use Rattle.dwp_strings.proofs.EndLemmas.{ended_front}
 use Rattle.dwp_strings.proofs.Named.{there_later, there_once_used}
 use Rattle.dwp_strings.proofs.OffsetLemmas.{length-data_of-cons}
+
+-- the string at a place of a section, before any zero
+pub read_front : (section rest : List ℕ) (at end : ℕ) → at ≤ length section → rest ≡ drop at section
+    → end < length rest → get_or rest end 0 ≡ 0 → string_read section at ≡ Ok (front_string rest)
+unfolding string_at
+read_front section rest at end inside is within is_zero =
+    rw (← is) (grind (arith, list_any_at (λ b. eqb b 0) rest end 0 within (eq-eqb _ 0 is_zero)))
+
+pub ended_read : (section rest : List ℕ) (at end : ℕ) → at ≤ length section → rest ≡ drop at section
+    → IsFirstZero rest end → string_read section at ≡ Ok (take end rest)
+ended_read section rest at end inside is is_zero =
+    read_front section rest at end inside is is_zero.within is_zero.ended
+    ∙ ap Ok (ended_front rest end is_zero)
 
 -- a string was read and used
 pub was_read : (section : List ℕ) (at place : ℕ) (old new : List (List ℕ)) → offset_read section at
@@ -33,8 +48,7 @@ pub was_read : (section : List ℕ) (at place : ℕ) (old new : List (List ℕ))
 unfolding offset_read
 was_read section at place old new h =
     let string = bind-was (string_read section at) _ (place, new) h in
-    let whole = same-ok _ _ string.2 in
-    (string.0, string.1, (ap (λ p. p.0) (sym whole), ap (λ p. p.1) (sym whole)))
+    (string.0, string.1, grind arith)
 
 pub read_used : (section : List ℕ) (at place : ℕ) (old new : List (List ℕ)) (string : List ℕ)
     → string_read section at ≡ Ok string → IsPlaced old new string place
@@ -46,23 +60,16 @@ read_used section at place old new string read used = rw (read, used.0, used.1) 
 pub known_used : (section : List ℕ) (at place : ℕ) (old new : List (List ℕ)) (string : List ℕ)
     → string_read section at ≡ Ok string → IsPlaced old new string place
     → IsKnown section new (at, place)
-known_used section at place old new string read used =
-    let there = there_once_used old string in
-    rw used.1 (read_used section at place _ _ string read
-    (used.0 ∙ sym there.1, sym (cond-true _ _ _ there.0)))
+unfolding offset_read
+known_used section at place old new string read used = grind (arith, there_once_used old string)
 
 -- what is known stays so once more strings have come
 pub are_known_later : (section : List ℕ) (old new : List (List ℕ)) (pairs : List (ℕ × ℕ))
     → take (length old) new ≡ old → AreKnown section old pairs → AreKnown section new pairs
+unfolding offset_read
 are_known_later section old new pairs kept known = λ i d within.
     let r = was_read section _ _ old old (known i d within) in
-    let there = there_later old new r.0 kept (rw (sym r.2.1) at (there_once_used old r.0).0) in
-    read_used section _ _ new new r.0 r.1 (r.2.0 ∙ sym there.1, sym (cond-true _ _ _ there.0))
-
-unread : {A B E : Type 0} (r : Result A E) (f : A → B) (e : E) → (r >>= (λ x. Ok (f x))) ≡
-    Err e → r ≡ Err e
-unread (Ok x) f e h = absurd cc
-unread (Err d) f e h = cc
+    grind (arith, there_later old new r.0 kept, there_once_used old r.0)
 
 -- what an entry comes to, by the offset that it has
 module _ (order : Endianness) (encoding : Encoding) (section bytes : List ℕ) (index : ℕ) where
@@ -72,44 +79,33 @@ module _ (order : Endianness) (encoding : Encoding) (section bytes : List ℕ) (
     pub entry_read : place ≤ offset_limit encoding.format
         → remapped_entry order encoding section bytes index old ≡ Ok (place, new)
     unfolding named_at remapped_entry fitting_offset
-    entry_read fits =
-        let r = was_read section named place old new h in
-        let small = le-ltb (offset_limit encoding.format) (offset_of old r.0) (rw r.2.0 at fits) in
-        rw (entry, r.1, small, ← r.2.0, ← r.2.1) refl
+    entry_read fits = let r = was_read section named place old new h in grind arith
 
     pub entry_large : offset_limit encoding.format < place
         → remapped_entry order encoding section bytes index old
         ≡ Err (NumberTooLarge (codes "string offset") place)
     unfolding named_at remapped_entry fitting_offset
-    entry_large large =
-        let r = was_read section named place old new h in
-        let past = lt-ltb (offset_limit encoding.format) (offset_of old r.0) (rw r.2.0 at large) in
-        rw (entry, r.1, past, ← r.2.0) refl
+    entry_large large = let r = was_read section named place old new h in grind arith
 
   pub entry_told : (place : ℕ) (old new : List (List ℕ)) (named : Option ℕ)
       → IfSome named (λ n. entry_at order encoding bytes index ≡ Ok n)
       → IsSomeAnd named (λ n. offset_read section n old ≡ Ok (place, new))
       → place ≤ offset_limit encoding.format
       → remapped_entry order encoding section bytes index old ≡ Ok (place, new)
-  entry_told place old new None entry h fits = absurd h
-  entry_told place old new (Some named) entry h fits =
-      entry_read named place old new entry h fits
+  entry_told place old new named entry h fits = grind (arith, entry_read)
 
   pub entry_unread : (named : ℕ) (old : List (List ℕ)) (error : ErrorValue)
       → entry_at order encoding bytes index ≡ Ok named → offset_read section named old ≡ Err error
       → remapped_entry order encoding section bytes index old ≡ Err error
   unfolding named_at remapped_entry offset_read
-  entry_unread named old error entry h =
-      let none : string_read section named ≡ Err error = unread (string_read section named)
-      (λ string. (offset_of old string, with_string old string)) error h in
-      rw (entry, none) refl
+  entry_unread named old error entry h = grind arith
 
 -- no string has its offset past the section's end
 pub offset_within : (strings : List (List ℕ)) (string : List ℕ) → offset_of strings string ≤ length
     (data_of strings)
 offset_within [] string = omega arith
-offset_within (t ∷ strings) string = by-bool _ (bytes_eq t string) (λ e. rw e (omega arith))
-    (λ e. rw e (omega (arith, length-data_of-cons t strings, offset_within strings string)))
+offset_within (t ∷ strings) string =
+    grind (arith, length-data_of-cons t strings, offset_within strings string)
 
 -- so many entries are rewritten behind other bytes, from the first strings to those that there are
 abbrev pub AreRewritten : Endianness → Encoding → (section bytes : List ℕ) → ℕ → List ℕ
@@ -139,8 +135,7 @@ module _ (order : Endianness) (encoding : Encoding) (section bytes : List ℕ) w
     entries_fail : (n : ℕ) → i < n → remapped_entries order encoding section bytes n old ≡ Err error
     unfolding remapped_entries
     entries_fail zero less = absurd (omega arith)
-    entries_fail (suc n) less = ⊎_elim (λ same. rw (← same, so_far, entry) refl)
-        (λ other. rw (entries_fail n (omega arith)) refl) (cases_eq i n)
+    entries_fail (suc n) less = grind (arith, entries_fail n, cases_eq i n)
 
     -- and in a range
     pub remapped_refuses : (size count width : ℕ) (header : List ℕ)
@@ -149,15 +144,7 @@ module _ (order : Endianness) (encoding : Encoding) (section bytes : List ℕ) w
         → i < count → remapped order encoding section bytes size old ≡ Err error
     unfolding remapped
     remapped_refuses size count width header is_count is_width some fits has_header less =
-        let header_fits = le-ltb size (header_size encoding) fits in
-        rw (
-          ne_eqb size 0 some,
-          header_fits,
-          ← is_count,
-          ← is_width,
-          has_header,
-          entries_fail count less,
-        ) refl
+        grind (arith, entries_fail count less)
 
 module _ (encoding : Encoding) (form : encoding.format ≡ Dwarf32) where
   -- one more entry of four bytes is rewritten in its place
@@ -176,4 +163,4 @@ module _ (encoding : Encoding) (form : encoding.format ≡ Dwarf32) where
 
   -- a number of four bytes fits
   pub fits_word : (offset : ℕ) → offset ≤ 2 ^ 32 - 1 → offset ≤ offset_limit encoding.format
-  fits_word offset fits = subst (λ f. offset ≤ offset_limit f) (sym form) fits
+  fits_word offset fits = grind arith

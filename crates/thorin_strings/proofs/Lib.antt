@@ -2,4 +2,3 @@ pub mod RemapLemmas
 pub mod NamedEntries
 pub mod NamedBytes
 pub mod KnownLemmas
-pub mod ReadLemmas

@@ -1,8 +1,8 @@
 -- What rewritten entries name, and a range of them.
 use Rattle.std.proofs.Common.{◌≡◌, ℕ, zero, suc, ◌<◌, ◌≤◌, true, ltb, List, [], ◌∷◌, length, take}
-use Rattle.std.proofs.Common.{get_or, Result, Ok, Err, sym, refl, ◌∙◌, ⊎_elim, arith, length-append}
-use Rattle.std.proofs.Common.{take_all, ltb-false, drop-drop, drop_at, eqb-true, eqb, le-ltb, ap}
-use Rattle.std.proofs.Common.{◌+◌, ◌*◌, ◌-◌, ◌/◌, false, ◌++◌, drop}
+use Rattle.std.proofs.Common.{get_or, Result, Ok, sym, refl, ◌∙◌, ⊎_elim, arith, length-append}
+use Rattle.std.proofs.Common.{take_all, ltb-false, drop-drop, drop_at, eqb-true, eqb}
+use Rattle.std.proofs.Common.{◌+◌, ◌*◌, ◌++◌}
 use Rattle.std.proofs.lemmas.List.{get_or_append_left, get_or_push}
 use Rattle.std.proofs.lemmas.Bool.{cases_eq, eqb-false}
 use Rattle.std.proofs.lemmas.Nat.{row_fits}
@@ -11,8 +11,6 @@ use Rattle.dwp_base.proofs.Steps.{bind-was, guard-ok, same-ok, by-choice}
 use Rattle.dwp_base.proofs.Bools.{by-bool}
 use Rattle.dwp_bytes.specs.declared.encoding.Encoding.{Encoding}
 use Rattle.dwp_bytes.specs.StringOffsets.{entry_count, header_size}
-use Rattle.dwp_bytes.specs.declared.encoding.Format.TheVariants.{Dwarf32, Dwarf64}
-use Rattle.dwp_bytes.specs.declared.encoding.Format.{Format}
 use Rattle.dwp_bytes.specs.Encoding.{offset_size}
 use Rattle.thorin_errors.specs.Errors.{ErrorValue}
 use Rattle.thorin_errors.specs.Answers.{as_error}
@@ -28,18 +26,7 @@ use Rattle.thorin_strings.proofs.NamedBytes.{entry_read, entries_long, header_lo
 
 pub as_error_ok : {A E : Type 0} (f : E → ErrorValue) (r : Result A E) (x : A)
     → as_error f r ≡ Ok x → r ≡ Ok x
-as_error_ok f (Ok y) x h = cc
-as_error_ok f (Err e) x h = absurd cc
-
--- entries of so many bytes
-count_none : (format : Format) (h : ℕ) → (0 - h) / offset_size format ≡ 0
-count_none Dwarf32 h = omega arith
-count_none Dwarf64 h = omega arith
-
-count_again : (format : Format) (h n l : ℕ) → l ≡ h + n * offset_size format
-    → (l - h) / offset_size format ≡ n
-count_again Dwarf32 h n l e = omega arith
-count_again Dwarf64 h n l e = omega arith
+as_error_ok f r x h = grind arith
 
 module _ (order : Endianness) (encoding : Encoding) (section bytes : List ℕ) where
   -- a string that an entry names has no zero
@@ -126,9 +113,11 @@ module _ (order : Endianness) (encoding : Encoding) (section bytes : List ℕ) w
       (many : length offsets ≡ n) where
     range_long : length (header ++ entry_bytes order encoding.format offsets)
         ≡ header_size encoding + n * offset_size encoding.format
-    range_long =
-        let long = rw many at (entries_long order encoding.format offsets) in
-        omega (arith, length-append header (entry_bytes order encoding.format offsets), long)
+    range_long = grind (
+      arith,
+      entries_long order encoding.format offsets,
+      length-append header (entry_bytes order encoding.format offsets),
+    )
 
     one_named : (strings : List (List ℕ)) (i : ℕ) → i < n
         → EntryNames i strings (get_or offsets i 0)
@@ -138,12 +127,6 @@ module _ (order : Endianness) (encoding : Encoding) (section bytes : List ℕ) w
     one_named strings i less entry =
         let width = offset_size encoding.format in
         let tail = entry_bytes order encoding.format offsets in
-        let at = header_size encoding + i * width in
-        let inside : ltb (length (header ++ tail)) (at + width) ≡ false = le-ltb _ _
-        (omega (arith, range_long, row_fits i width n width less (omega arith))) in
-        let past : drop at (header ++ tail) ≡ drop (i * width) tail =
-        rw (← drop-drop (i * width) (header_size encoding) (header ++ tail))
-        (ap (drop (i * width)) (drop_at header tail (header_size encoding) front)) in
         let read = entry_read order encoding.format offsets i (omega (arith, many)) entry.fits in
         record {
           string = entry.string;
@@ -152,7 +135,15 @@ module _ (order : Endianness) (encoding : Encoding) (section bytes : List ℕ) w
           new = λ final table kept.
               (let free = named_free i entry.string entry.old in
               let found = read_later strings final entry.string kept free entry.there.0 in
-              rw (inside, past, read, ← entry.there.1, found) refl);
+              grind (
+                arith,
+                range_long,
+                row_fits i width n width less,
+                drop-drop (i * width) (header_size encoding) (header ++ tail),
+                drop_at header tail (header_size encoding) front,
+                read,
+                found,
+              ));
         }
 
   pub range_named : (size : ℕ) (before : List (List ℕ)) (range : List ℕ × List (List ℕ))
@@ -167,7 +158,7 @@ module _ (order : Endianness) (encoding : Encoding) (section bytes : List ℕ) w
         count = refl;
         none = λ _. refl;
         long = λ some. absurd (some refl);
-        named = λ i less. absurd (omega (arith, count_none encoding.format (header_size encoding)));
+        named = λ i less. absurd (grind arith);
       }))
       (λ some. by-choice _ (ltb size (header_size encoding)) _ _ _ (rw some at h) (λ e. absurd cc)
       (λ whole. let n = entry_count encoding size in
@@ -181,7 +172,7 @@ module _ (order : Endianness) (encoding : Encoding) (section bytes : List ℕ) w
       rw (← same-ok _ _ entries.2) (record {
         table = keep.table;
         kept = keep.kept;
-        count = count_again encoding.format (header_size encoding) n _ long;
+        count = grind (arith, long);
         none = λ is_zero. absurd (eqb-false size 0 some is_zero);
         long = λ _. long;
         named = λ i less. one_named header.0 entries.0.0 n front keep.long entries.0.1 i less

@@ -1,6 +1,5 @@
 -- Reading words byte by byte: what was read of a word stands in front of what is left of it.
-use Rattle.std.proofs.Common.{◌≡◌, ℕ, List, [], ◌∷◌, ◌++◌, Some, refl, sym, ap, ◌∙◌}
-use Rattle.std.proofs.lemmas.List.{append-nil}
+use Rattle.std.proofs.Common.{◌≡◌, ℕ, List, [], ◌∷◌, ◌++◌, Some, refl, sym, append-nil}
 use Rattle.thorin_words.specs.declared.words.Place.TheVariants.{Between, Inside}
 use Rattle.thorin_words.specs.Words.{put, words_from, escaped, quoted}
 
@@ -22,12 +21,9 @@ put-prefix byte word (first ∷ rest) = refl
 words_from-escaped : (word rest : List ℕ)
     → words_from (Inside (Some 34)) (escaped word ++ rest) ≡ prefix word
     (words_from (Inside (Some 34)) rest)
-words_from-escaped [] rest = sym (prefix-nothing (words_from (Inside (Some 34)) rest))
-words_from-escaped (byte ∷ word) rest =
-    ap (put byte) (words_from-escaped word rest) ∙ put-prefix byte word
-    (words_from (Inside (Some 34)) rest)
+words_from-escaped [] rest = sym (prefix-nothing _)
+words_from-escaped (byte ∷ word) rest = rw (words_from-escaped word rest) (put-prefix byte word _)
 
 pub from_quoted : (words : List (List ℕ)) → words_from Between (quoted words) ≡ words
 from_quoted [] = refl
-from_quoted (word ∷ words) = words_from-escaped word (34 ∷ 32 ∷ quoted words)
-    ∙ rw (append-nil word, from_quoted words) refl
+from_quoted (word ∷ words) = rw (words_from-escaped, append-nil, from_quoted words) refl

@@ -1,11 +1,10 @@
 -- What words stand for, while they are read one after another.
-use Rattle.std.proofs.Common.{◌≡◌, ℕ, List, [], ◌∷◌, ◌++◌, map, length, take, Option, Some}
-use Rattle.std.proofs.Common.{Ok, Err, IfSome, Vec, String, string_bytes, refl, sym, ap, ◌∙◌}
-use Rattle.std.proofs.Common.{append_assoc, false, true, ◌<◌, ◌+◌, get_or, drop}
+use Rattle.std.proofs.Common.{◌≡◌, ℕ, List, [], ◌∷◌, ◌++◌, map, length, take, Option, Some, Ok, Err}
+use Rattle.std.proofs.Common.{IfSome, Vec, String, string_bytes, refl, sym, append_assoc, false}
+use Rattle.std.proofs.Common.{true, ◌<◌, ◌+◌, get_or, drop, append-nil, Global}
 use Rattle.std.proofs.Math.Seq.{take-append_seam}
-use Rattle.std.proofs.lemmas.List.{append-nil, map-append, take-map, length-map, drop_more}
+use Rattle.std.proofs.lemmas.List.{map-append, take-map, length-map, drop_more}
 use Rattle.std.proofs.lemmas.Option.{IfSome_then}
-use Rattle.std.specs.declared.alloc.Global.{Global}
 use Rattle.thorin_words.specs.Responses.{Outcome, after, is_among, IsPlain, Stands, End, Plain}
 use Rattle.thorin_words.specs.Responses.{File, Inner, Itself, is_inside_of, words_in}
 use Rattle.thorin_words.specs.Words.{words_of}
@@ -13,33 +12,25 @@ use Rattle.thorin_words.specs.declared.responses.ResponseError.{ResponseError}
 
 -- ---- lists of words and of names
 
-pub pushed : (old new : Vec (String Global) Global) (added : String Global) (word : List ℕ)
-    → new.items ≡ old.items ++ added ∷ [] → string_bytes added ≡ word
-    → words_in new ≡ words_in old ++ word ∷ []
-pushed old new added word more is =
-    rw (more, map-append string_bytes old.items (added ∷ []), is) refl
+module _ (old new : Vec (String Global) Global) (added : String Global)
+    (more : new.items ≡ old.items ++ added ∷ []) where
+  pub named : words_in new ≡ words_in old ++ string_bytes added ∷ []
+  named = rw (more, map-append) refl
 
-pub alone : (none all : Vec (String Global) Global) (added : String Global) (word : List ℕ)
-    → none.items ≡ [] → all.items ≡ none.items ++ added ∷ [] → string_bytes added ≡ word
-    → words_in all ≡ word ∷ []
-alone none all added word empty more is = rw (more, empty, is) refl
+  pub pushed : (word : List ℕ) → string_bytes added ≡ word
+      → words_in new ≡ words_in old ++ word ∷ []
+  pushed word is = rw (named, is) refl
 
-pub named : (old new : Vec (String Global) Global) (name : String Global)
-    → new.items ≡ old.items ++ name ∷ [] → words_in new ≡ words_in old ++ string_bytes name ∷ []
-named old new name more = pushed old new name (string_bytes name) more refl
+  pub alone : (word : List ℕ) → old.items ≡ [] → string_bytes added ≡ word
+      → words_in new ≡ word ∷ []
+  alone word empty is = rw (more, empty, is) refl
 
 -- names, one more of them, and then as many as before
 pub restored : (old all : List (String Global)) (name : List ℕ) (n : ℕ) → n ≡ length old
     → map string_bytes all ≡ map string_bytes old ++ name ∷ []
     → map string_bytes (take n all) ≡ map string_bytes old
-restored old all name n count more = rw (
-  ← take-map string_bytes n all,
-  more,
-  count,
-  ← length-map old string_bytes,
-  take-append_seam,
-)
-    refl
+restored old all name n count more =
+    rw (← take-map, more, count, ← length-map old string_bytes, take-append_seam) refl
 
 -- ---- a word
 
@@ -60,8 +51,7 @@ module _ (offer : List ℕ → Option (List ℕ) → Type 0) (names : List (List
   pub refused : (e : ResponseError) → IfSome (is_inside_of e) (λ name. (word ≡ 64 ∷ name)
       × (is_among names name ≡ true)) → IfSome (is_inside_of e) (λ name. (rest : List (List ℕ))
       → Stands offer names (word ∷ rest) (Err name))
-  refused e h = IfSome_then (is_inside_of e) h (λ name k rest.
-      rw k.0 (Itself names rest name k.1))
+  refused e h = IfSome_then (is_inside_of e) h (λ name k rest. rw k.0 (Itself names rest name k.1))
 
   -- one that names a file
   module _ {name text : List ℕ} (is : word ≡ 64 ∷ name) (fresh : is_among names name ≡ false)
@@ -90,8 +80,8 @@ after-none : (out : Outcome) → after [] out ≡ out
 after-none (Ok words) = refl
 after-none (Err name) = refl
 
-after-after : (a b : List (List ℕ)) (out : Outcome) → after a (after b out) ≡ after (a ++ b) out
-after-after a b (Ok words) = ap Ok (sym (append_assoc a b words))
+after-after : (a b : List (List ℕ)) (out : Outcome) → after (a ++ b) out ≡ after a (after b out)
+after-after a b (Ok words) = rw append_assoc refl
 after-after a b (Err name) = refl
 
 -- of `all` words these are left: what the others stand for was added
@@ -126,10 +116,9 @@ module _ {offer : List ℕ → Option (List ℕ) → Type 0} {names all words ol
         → SoFar offer names all rest old new
     onward new added = record {
       own = so_far.own ++ added.0;
-      added = added.1 ∙ ap (λ l. l ++ added.0) so_far.added ∙ append_assoc old so_far.own added.0;
-      continues = λ out stands. rw (← after-after so_far.own added.0 out)
-          (so_far.continues (after added.0 out)
-          (rw (split, ← same) (added.2 rest out (rw same stands))));
+      added = rw (added.1, so_far.added, append_assoc) refl;
+      continues = λ out stands. rw (after-after so_far.own added.0 out)
+          (so_far.continues _ (rw (split, ← same) (added.2 rest out (rw same stands))));
     }
 
     pub stopped : (e : ResponseError) → IfSome (is_inside_of e) (λ name. (more : List (List ℕ))
@@ -143,6 +132,4 @@ module _ {offer : List ℕ → Option (List ℕ) → Type 0} {names all words ol
 pub texts-drop : {S : Type 0} (text : S → List ℕ) (line : List S) (i : ℕ) (x : S) (word : List ℕ)
     → i < length line → x ≡ get_or line i x → word ≡ text x
     → map text (drop i line) ≡ word ∷ map text (drop (i + 1) line)
-texts-drop text line i x word here is same =
-    ap (map text) (drop_more line i x here) ∙ ap (λ w. w ∷ map text (drop (i + 1) line))
-    (ap text (sym is) ∙ sym same)
+texts-drop text line i x word here is same = rw (drop_more line i x here, same, ← is) refl

@@ -1,92 +1,40 @@
 -- The units of a written package of plain objects are taken as those of an input, and each gets a
 -- row: by a package without units all of them, since no name comes twice; by any other unless a
 -- compilation unit is there already.
-use Rattle.std.proofs.Common.{◌≡◌, ◌∙◌, ℕ, ◌+◌, ◌<◌, ◌≤◌, Bool, true, false, ⊎_elim, List, [], ◌∷◌}
-use Rattle.std.proofs.Common.{length, refl, sym, ap, Result, Ok, Option, Some, None, arith, ◌≢◌}
-use Rattle.std.proofs.Common.{true≢false, ◌++◌, map, ◌⊎◌, eqb, subst, length-append, ◌||◌}
-use Rattle.std.specs.Prelude.{is_some, slice_get}
-use Rattle.std.proofs.lemmas.Bool.{le-leb, cases_lt, eqb-false}
-use Rattle.dwp_base.specs.Reading.{read_each, ◌>>=◌}
-use Rattle.dwp_base.specs.Sections.{all_kinds}
-use Rattle.dwp_base.proofs.Bools.{by-bool, neither}
-use Rattle.dwp_base.specs.declared.section.Contribution.{Contribution}
-use Rattle.dwp_base.specs.declared.section.SectionKind.{SectionKind}
-use Rattle.dwp_elf.specs.Contents.{content_of, count_of, KindsDiffer}
-use Rattle.dwp_index.specs.Index.{Index, Ranges, range_in, column_place}
-use Rattle.dwp_table.specs.Objects.{identifier_of}
-use Rattle.dwp_table.specs.declared.object.DwarfObject.{DwarfObject}
-use Rattle.dwp_table.specs.declared.object.DwarfObject.TheVariants.{Compilation, TypeUnit}
-use Rattle.thorin_errors.specs.Errors.{ErrorValue, DuplicateUnit}
-use Rattle.thorin_input.specs.Adjusting.{Adjustor, own_index, other_index, row_of, has_column_for}
-use Rattle.thorin_input.specs.Adjusting.{moved, moved_range, without_column, adjusted}
-use Rattle.thorin_index.specs.Entries.{contribution_to}
-use Rattle.thorin_index.specs.IndexText.{is_used}
-use Rattle.thorin_index.specs.declared.entry.IndexEntry.{IndexEntry}
-use Rattle.thorin_join.specs.Builder.{rows_of, is_chosen}
-use Rattle.thorin_input.specs.Growing.{Contents, range_put, joined_parts}
-use Rattle.thorin_input.specs.Indexes.{Indexes, Source}
-use Rattle.thorin_input.specs.Format.{is_shared}
-use Rattle.thorin_join.specs.Represents.{LieInside, AreApart}
-use Rattle.thorin_input.specs.Rows.{adjusted_part, unit_part, unit_row, row_test}
-use Rattle.thorin_join.specs.StandApart.{EachRow}
-use Rattle.thorin_join.proofs.Files.Indexes.{HasRows}
-use Rattle.thorin_join.proofs.Rows.OfUnits.{own-index, some-index, whole-part}
-use Rattle.thorin_join.proofs.Files.UnitsFound.{part-there}
-use Rattle.thorin_join.proofs.Rows.Ranges.{range-none}
-use Rattle.thorin_join.proofs.Rows.OneAdded.{place-put}
-use Rattle.thorin_again.proofs.Offsets.RewrittenAgain.{at-row, by-passing, used-chosen}
-use Rattle.std.proofs.ByRecursion.{all_kept_by}
-use Rattle.thorin_again.proofs.Opened.Sections.{Unless, and-then, answered, behind, front, Fares}
-use Rattle.thorin_again.proofs.Opened.Sections.{then-fares, rest-differ, section_of}
-use Rattle.std.specs.Map.{lookup}
-use Rattle.std.proofs.lemmas.List.{length-map}
-use Rattle.std.proofs.lemmas.Option.{none-some, slice_get_within, same_Some, get_or_from_slice_get}
-use Rattle.thorin_input.specs.Names.{same_name}
-use Rattle.thorin_input.specs.NewUnits.{New, NewUnit, Adding, Met, is_met, with_met, kept_bytes}
-use Rattle.thorin_input.specs.NewUnits.{place_for, name_for, with_read, with_each_read, with_first}
-use Rattle.thorin_input.specs.NewUnits.{with_unit, unit_section, none_met, once_test, with_section}
-use Rattle.thorin_input.specs.NewUnits.{with_section_at, with_section_in, with_each_section}
-use Rattle.thorin_input.specs.NewUnits.{new_units}
-use Rattle.thorin_join.proofs.Units.NamesApart.{same_name-sym}
-use Rattle.dwp_bytes.specs.declared.encoding.Encoding.{Encoding}
-use Rattle.dwp_elf.specs.FileText.{Object as File}
-use Rattle.dwp_dwarf.specs.declared.unit.UnitSection.{UnitSection}
-use Rattle.thorin_again.specs.Plain.{IsPlain, NamesItself}
-use Rattle.dwp_dwarf.specs.Units.{Unit as Header, units}
-use Rattle.thorin_join.proofs.Rows.StandApart.{sound-inside}
-use Rattle.thorin_join.proofs.Files.Finished.{finished-grows, finished-order}
-use Rattle.thorin_again.proofs.Meant.RowByRow.{IsUnitOf, of-section, each-place, row-there}
-use Rattle.thorin_again.proofs.Meant.RowByRow.{place-is, read-alone, place-eq}
+use Rattle.thorin_join.proofs.Rows.OfUnits.{some-index, whole-part, own-index, adjustor}
+use Rattle.thorin_again.proofs.Terms
+use Terms.{get_or_from_slice_get, slice_get_within, identity-shifted, contribution_to, Contribution}
+use Terms.{finished-grows, finished-order, same_name-sym, identifier_of, DuplicateUnit, SectionKind}
+use Terms.{column_place, joined_parts, unit_section, sound-inside, written_used, KindsDiffer, subst}
+use Terms.{DwarfObject, Compilation, all_kept_by, UnitSection, NamesItself, StrOffsets, true≢false}
+use Terms.{content_of, ErrorValue, IndexEntry, part-there, length-map, InProgress, same_place, Bool}
+use Terms.{own_source, kind-place, get_or-map, range-none, with_first, both_ways, eqb-false, ⊎_elim}
+use Terms.{all_kinds, is_chosen, range_put, is_shared, place-put, same_Some, same_name, new_units}
+use Terms.{ReadError, and-false, LieInside, place_for, same-self, cases_lt, count_of, range_in, ◌≡◌}
+use Terms.{Contents, AreApart, row_test, name_for, Encoding, place_of, parts_of, TypeUnit, is_some}
+use Terms.{by-bool, neither, is_used, rows_of, Indexes, EachRow, HasRows, NewUnit, IsPlain, kind_at}
+use Terms.{section, IsTable, length, Option, Source, Adding, Header, adding, lookup, row_of, false}
+use Terms.{arith, ◌>>=◌, Index, units, is_at, true, List, refl, Some, None, ◌||◌, File, Used, ◌∙◌}
+use Terms.{◌<◌, ◌∷◌, sym, map, eqb, New, [], ap, Ok, ℕ}
+use Rattle.std.proofs.Common.{length-append, slice_get, Result, le-leb, ◌++◌, ◌+◌, ◌≤◌, ◌≢◌, ◌⊎◌}
+use Rattle.dwp_base.specs.Reading.{read_each}
+use Rattle.thorin_input.specs.Adjusting.{has_column_for, without_column, other_index, moved_range}
+use Rattle.thorin_input.specs.Adjusting.{own_index, Adjustor, adjusted, moved}
+use Rattle.thorin_input.specs.Rows.{adjusted_part, unit_part, unit_row}
+use Rattle.thorin_again.proofs.Offsets.RewrittenAgain.{used-chosen, by-passing, at-row}
+use Rattle.thorin_again.proofs.Opened.Sections.{rest-differ, then-fares, section_of, and-then}
+use Rattle.thorin_again.proofs.Opened.Sections.{answered, Unless, behind, front, Fares}
+use Rattle.thorin_input.specs.NewUnits.{with_each_section, with_section_at, with_section_in, is_met}
+use Rattle.thorin_input.specs.NewUnits.{with_each_read, with_section, kept_bytes, with_read, Met}
+use Rattle.thorin_input.specs.NewUnits.{with_unit, once_test, with_met, none_met}
+use Rattle.thorin_again.proofs.Meant.RowByRow.{of-section, read-alone, row-there, IsUnitOf}
+use Rattle.thorin_again.proofs.Meant.RowByRow.{place-is, place-eq}
 use Rattle.thorin_again.proofs.Opened.Indexes.{finished-shared, IsReadOf, lie-kept}
-use Rattle.thorin_again.proofs.Meant.OneRow.{parts, row-lies, found-range, found-row, row-tested}
-use Rattle.thorin_again.proofs.Meant.OneRow.{named-again}
-use Rattle.thorin_join.specs.State.{InProgress, kind_at, adding}
-use Rattle.dwp_base.specs.declared.section.SectionKind.TheVariants as kinds
-use Rattle.dwp_bytes.specs.Input.{section}
-use Rattle.dwp_bytes.specs.declared.error.ReadError.{ReadError}
-use Rattle.dwp_dwarf.specs.declared.unit.UnitSection.TheVariants as places
-use Rattle.dwp_index.specs.Package.{place_of}
-use Rattle.thorin_input.specs.Parts.{parts_of}
-use Rattle.thorin_input.specs.Used.{Used}
-use Rattle.thorin_strings.specs.Strings.{IsTable}
-use Rattle.thorin_join.specs.Laid.{is_at, same_place}
-use Rattle.thorin_join.proofs.Moved.RootEntries.{identity-shifted}
-use Rattle.thorin_again.specs.OwnInput.{own_source, written_used}
+use Rattle.thorin_again.proofs.Meant.OneRow.{found-range, named-again, row-tested, found-row, parts}
+use Rattle.thorin_again.proofs.Meant.OneRow.{row-lies}
 use Rattle.thorin_again.proofs.Kept.Names.{keep-names}
 use Rattle.thorin_join.proofs.Parts.OfPackages.{parts-first, rows-read}
 use Rattle.thorin_join.proofs.EachKind.{copied-or-offsets}
-use Rattle.std.proofs.Math.Bool.{and-false}
-use Rattle.dwp_base.proofs.EveryKind.{same-self}
-use Rattle.thorin_join.proofs.Units.HeadersRead.{kind-place}
-use Rattle.std.proofs.Math.ListN.{get_or-map}
-
--- where a unit's own index and the other have no column, neither index has
-no-columns : (kind : SectionKind) (a : Adjustor) (name : DwarfObject)
-    → has_column_for kind (own_index a name) ≡ false
-    → has_column_for kind (other_index a name) ≡ false
-    → (has_column_for kind a.compilation ≡ false) × (has_column_for kind a.types ≡ false)
-no-columns kind a (Compilation id) own other = (own, other)
-no-columns kind a (TypeUnit signature) own other = (other, own)
 
 -- ---- a unit's part is moved
 
@@ -100,30 +48,22 @@ moved-fine : (kind : SectionKind) (id : ℕ) (range : Option Contribution) (x : 
     → Fine (moved_range kind id range (range_put kind x before))
 unfolding moved
 moved-fine kind id None x before h = tt
-moved-fine kind id (Some r) x before h =
-    let i = h r refl in
-    let some : 0 < length x = let a = i.0 in let b = i.1 in omega (arith, a, b) in
-    rw (place-put kind x before some, le-leb (r.offset.0 + r.size) (length x) i.0) tt
+moved-fine kind id (Some r) x before h = grind (arith, h r, place-put kind x before, le-leb)
 
 none-fine : (kind : SectionKind) (x : List ℕ) (before : Contents) → (0 < length x → ⊥)
     → Fine (without_column (range_put kind x before))
-none-fine kind [] before h = tt
-none-fine kind (b ∷ bs) before h = absurd (h (omega arith))
+none-fine kind x before h = grind arith
 
 each-fine : {X Y : Type 0} (f : X → Result Y ErrorValue) → ((x : X) → Fine (f x)) → (xs : List X)
     → Fine (read_each f xs)
 each-fine f fine [] = tt
-each-fine f fine (x ∷ xs) = and-then (λ e. ⊥) (f x) _ (fine x) (λ y is.
-    and-then (λ e. ⊥) (read_each f xs) _ (each-fine f fine xs) (λ ys are. tt))
+each-fine f fine (x ∷ xs) = grind (arith, fine x, each-fine f fine xs)
 
 -- a unit that is read of a written package of plain objects
 module _ {encoding : Encoding} {file : File} {indexes : Indexes} {made : InProgress}
     (is : IsReadOf encoding file indexes made) (plain : IsPlain encoding made)
     {place : UnitSection} {row : IndexEntry} {later : List IndexEntry} {h : Header}
     (u : IsUnitOf file.order file.contents place made.rows row later h) where
-  abbrev found : Ranges
-  found = (parts is u).row
-
   -- a section that some row names has a column in the index of that row
   column-there : (kind : SectionKind) (b : Bool) (read : Option Index)
       → HasRows read (rows_of b made.rows) → is_used (rows_of b made.rows) kind ≡ true
@@ -143,23 +83,19 @@ module _ {encoding : Encoding} {file : File} {indexes : Indexes} {made : InProgr
       → Fine (adjusted_part indexes row.id kind (range_put kind x before))
   unfolding adjusted
   part-fine kind shared x before long =
-      let a : Adjustor = record {
-        compilation = indexes.compilations;
-        types = indexes.types;
-        section = kind;
-      } in
-      let own : row_of (own_index a row.id) (identifier_of row.id) ≡ Ok found =
-      ap (λ i. row_of i (identifier_of row.id)) (own-index indexes kind row.id)
+      let a : Adjustor = adjustor indexes kind in
+      let own = ap (λ i. row_of i (identifier_of row.id)) (own-index indexes kind row.id)
       ∙ found-row is u in
       let inside = row-lies is u in
       rw (some-index indexes.compilations indexes.types is.again.packed, own)
       (by-bool _ (has_column_for kind (own_index a row.id))
-      (λ mine. rw mine (moved-fine kind (identifier_of row.id) (range_in found kind) x before
-      (λ r e. let there = sym (found-range is u kind) ∙ e in
+      (λ mine. rw mine (moved-fine kind _ (range_in (parts is u).row kind) x before (λ r e.
+      let there = sym (found-range is u kind) ∙ e in
       let i = inside.inside kind r there in (omega (arith, i, long), inside.some kind r there))))
       (λ none. by-bool _ (has_column_for kind (other_index a row.id))
       (λ others. rw (none, others) tt)
-      (λ no. let neither = no-columns kind a row.id none no in
+      (λ no. let neither : (has_column_for kind a.compilation ≡ false)
+      × (has_column_for kind a.types ≡ false) = grind arith in
       rw (none, no) (none-fine kind x before (λ some. ⊎_elim
       (λ u. true≢false (sym (column-there kind true a.compilation is.again.compilations u)
       ∙ neither.0))
@@ -192,13 +128,10 @@ pub free-more : (name other : DwarfObject) (units : List (DwarfObject × NewUnit
     → lookup (same_name name) units ≡ None → same_name name other ≡ false → lookup (same_name name)
     (units ++ (other, u) ∷ []) ≡ None
 free-more name other [] u h e = rw e refl
-free-more name other (x ∷ xs) u h e = by-bool _ (same_name name x.0)
-    (λ same. absurd (none-some x.1 (sym (rw same at h))))
-    (λ others. rw others (free-more name other xs u (rw others at h) e))
+free-more name other (x ∷ xs) u h e = grind (arith, free-more name other xs u)
 
-pub different-sym : (a b : DwarfObject) → same_name a b ≡ false → same_name b a ≡ false
-different-sym a b h =
-    by-bool _ (same_name b a) (λ e. absurd (true≢false (sym (same_name-sym b a e) ∙ h))) (λ e. e)
+pub flips : (a b : DwarfObject) → same_name a b ≡ same_name b a
+flips a b = both_ways (same_name a b) (same_name b a) (same_name-sym a b) (same_name-sym b a)
 
 -- rows at different places have different names, where names are apart
 pub rows-differ : (rows : List IndexEntry) → AreApart (map (λ row. row.id) rows) → (i j : ℕ)
@@ -206,23 +139,20 @@ pub rows-differ : (rows : List IndexEntry) → AreApart (map (λ row. row.id) ro
     → same_name a.id b.id ≡ false
 rows-differ rows apart i j a b at there differ =
     ⊎_elim (λ less. in-order i j a b at there less)
-    (λ most. different-sym b.id a.id (in-order j i b a there at (omega (arith, differ))))
+    (λ most. flips a.id b.id ∙ in-order j i b a there at (omega (arith, differ)))
     (cases_lt i j)
   where
     in-order : (i j : ℕ) (a b : IndexEntry) → slice_get rows i ≡ Some a
         → slice_get rows j ≡ Some b → i < j → same_name a.id b.id ≡ false
     in-order i j a b at there less =
-        let long = length-map rows (λ (r : IndexEntry). r.id) in
         let id = get_or-map (λ (r : IndexEntry). r.id) rows in
-        let apart_there = apart i j a.id less
-        (omega (arith, slice_get_within rows j b there, long)) in
         rw (
-          id i a,
-          id j a,
-          get_or_from_slice_get rows i a a at,
-          get_or_from_slice_get rows j b a
-              there,
-        ) at apart_there
+          ← get_or_from_slice_get rows i a a at,
+          ← get_or_from_slice_get rows j b a there,
+          ← id i a,
+          ← id j a,
+        ) (apart i j a.id less (simp length-map
+        (slice_get_within rows j b there)))
 
 -- ---- section by section: no section of units comes twice
 
@@ -232,22 +162,14 @@ Unmet met cs = (place : UnitSection) → 0 < count_of (kind_at place) cs → is_
 
 met-with : (place other : UnitSection) (met : Met)
     → is_met other (with_met place met) ≡ (same_place place other || is_met other met)
-met-with places.Info places.Info met = refl
-met-with places.Info places.Types met = refl
-met-with places.Types places.Info met = refl
-met-with places.Types places.Types met = refl
+met-with place other met = grind arith
 
 -- nor were they when one more was
-unmet-after : (met : Met) (place : UnitSection) (bytes : List ℕ) (cs : Contents)
-    → KindsDiffer ((kind_at place, bytes) ∷ cs) → Unmet met ((kind_at place, bytes) ∷ cs)
+unmet-after : (met : Met) (place : UnitSection) (c : SectionKind × List ℕ) (cs : Contents)
+    → c.0 ≡ kind_at place → KindsDiffer (c ∷ cs) → Unmet met (c ∷ cs)
     → Unmet (with_met place met) cs
-unmet-after met place bytes cs differ unmet other some =
-    let once = differ (kind_at place) in
-    by-bool _ (same_place place other)
-    (λ same. let is = place-eq place other same in
-    let twice = rw (← is) at some in let one = rw (same-self (kind_at place)) at once in
-    absurd (omega (arith, one, twice)))
-    (λ apart. rw (met-with place other met, apart) (unmet other (omega (arith, some))))
+unmet-after met place c cs kind differ unmet other some =
+    grind (arith, differ c.0, place-eq place other, same-self c.0, met-with, unmet other)
 
 -- what holds before a section that wasn't met and is taken, with that section met then
 module _ (E : ErrorValue → Type 0) (add : Adding) (contents : Contents) (P : Met → New → Type 0)
@@ -291,23 +213,20 @@ module _ (E : ErrorValue → Type 0) (add : Adding) (contents : Contents) (P : M
           (λ next. (next.0 ≡ with_met place met) × P next.0 next.1) Done (_ >>= λ n.
           Ok (with_met place met, n)) _ (then-fares E (P (with_met place met)) _ _ _ one
           (λ n taken. (refl, taken)))
-          (λ next goes. later next.0 next.1 (rw goes.0 (unmet-after met place c.1 cs
-          (subst (λ k. KindsDiffer ((k, c.1) ∷ cs)) kind differ)
-          (subst (λ k. Unmet met ((k, c.1) ∷ cs)) kind unmet))) goes.1))
+          (λ next goes. later next.0 next.1 (rw goes.0
+          (unmet-after met place c cs kind differ unmet)) goes.1))
 
   new-taken : add.source.object.sections ≡ written_used contents → KindsDiffer contents
       → P none_met (record { units = []; differing = [] })
       → Fares E (λ new. Unit {0}) (new_units add)
   unfolding new_units
-  new-taken are differ start = then-fares E Done (λ new. Unit {0})
-      (with_each_section add (none_met, record { units = []; differing = [] })
-      add.source.object.sections) _ (subst (λ l. Fares E Done (with_each_section add (
-        none_met,
-        record { units = []; differing = [] },
-      ) l)) (sym are)
-      (each-taken contents differ (λ kind some. refl) none_met _ (λ place some.
-      each-place (λ p. is_met p none_met ≡ false) refl refl place) start))
-      (λ all h. tt)
+  new-taken are differ start =
+      let none : New = record { units = []; differing = [] } in
+      then-fares E Done (λ new. Unit {0})
+      (with_each_section add (none_met, none) add.source.object.sections) _
+      (subst (λ l. Fares E Done (with_each_section add (none_met, none) l)) (sym are)
+      (each-taken contents differ (λ kind some. refl) none_met none (λ place some.
+      grind arith) start)) (λ all h. tt)
 
 -- the units of a written package, added to one that had no units, or by which a compilation unit
 -- that is there already may be refused
@@ -326,8 +245,7 @@ module _ (Fresh : Type 0) (E : ErrorValue → Type 0)
 
   -- each row names its unit
   named-all : EachRow (NamesItself file.order encoding file.contents) made.rows
-  named-all = subst (λ o. EachRow (NamesItself o encoding file.contents) made.rows)
-      (sym (finished-order made file is.finished)) (keep-names made.file.order encoding
+  named-all = rw (finished-order made file is.finished) (keep-names made.file.order encoding
       made.file.contents file.contents (finished-grows made file is.finished) made.rows
       (sound-inside made is.own.sound) plain.units)
 
@@ -353,9 +271,9 @@ module _ (Fresh : Type 0) (E : ErrorValue → Type 0)
         → Fares E (Added name new) (with_unit kept add from name h new)
     unfolding with_unit with_first
     unit-fares h new row (Some kept) (Compilation id) none tested given =
-        ⊎_elim (λ f. absurd (none-some kept (sym (none f)))) (λ twice. twice id.0) may
+        ⊎_elim (λ f. let no = none f in absurd cc) (λ twice. twice id.0) may
     unit-fares h new row (Some kept) (TypeUnit signature) none tested given =
-        λ f. absurd (none-some kept (sym (none f)))
+        λ f. let no = none f in absurd cc
     unit-fares h new row None name none tested given = rw (address, tested, given) (λ f. (
       record { place = place_for name from.kind; bytes = h.whole.bytes; row = row },
       refl,
@@ -390,7 +308,7 @@ module _ (Fresh : Type 0) (E : ErrorValue → Type 0)
         (λ k copied. ap length (parts-first source is.again.packed before.strings parts_taken after
         parts_are k copied ∙ is.again.held k))
         ((rows-read source is.again.packed before.strings parts_taken after table
-        parts_are).size ∙ ap length (is.again.held kinds.StrOffsets)) in
+        parts_are).size ∙ ap length (is.again.held StrOffsets)) in
         let given = row-given is plain u add.whole (λ k. joined_parts k parts_taken)
         before.file.contents parts_long
         (whole-part encoding before.file.contents parts_taken) in

@@ -1,78 +1,45 @@
 -- A written package of plain objects of one encoding is accepted: by any package of its byte
 -- order, unless it is foreseen otherwise, and by a new one.
-use Rattle.std.proofs.Common.{◌≡◌, ◌∙◌, ℕ, Bool, cond, List, [], ◌∷◌, ◌++◌, refl, sym, ap, Ok, ◌||◌}
-use Rattle.std.proofs.Common.{Option, IsPermutation, append_assoc, subst, ◌<◌, not, true, false}
-use Rattle.std.proofs.Common.{◌&&◌, length, Result, Err, Some, None, arith, inl, length-append, inr}
-use Rattle.std.proofs.Common.{nat_lt, is_some, ltb-true, lt-ltb}
-use Rattle.std.specs.Cmp.{IsEquivalence}
-use Rattle.std.specs.List.{IsDistinct, list_any}
-use Rattle.std.proofs.lemmas.List.Elements.{All-from_recursion}
-use Rattle.std.proofs.lemmas.List.Folds.{list_any-append, list_any_none}
-use Rattle.std.proofs.lemmas.List.Sorted.{IsPermutation-map, IsPermutation-middle}
-use Rattle.std.proofs.lemmas.List.Sorted.{sum_by-IsPermutation}
+use Rattle.thorin_again.proofs.Terms
+use Terms.{UnlessStringOffset, abbreviations_test, All-from_recursion, with_source_or_new, Encoding}
+use Terms.{IsPermutation-map, finished-strings, list_any-append, IsFinishedState, same_name-self, ℕ}
+use Terms.{same_name-true, package_or_new, written_object, finished-order, HaveEncodingOf, order_of}
+use Terms.{file_encoding, list_any_none, length-filter, IsEquivalence, own_encoding, IsSoundBegun}
+use Terms.{finished-own, has_sections, DwarfObject, SectionKind, KindsDiffer, written_elf, HoldsOwn}
+use Terms.{units_begun, with_source, counts_once, input-keeps, finished-is, has_content, length-map}
+use Terms.{packs_again, content_of, ErrorValue, indexes_of, own_source, IsForeseen, HoldsPlain, ◌≡◌}
+use Terms.{InProgress, look_limit, keys-units, same_name, file_text, new_units, is_shared, parts_of}
+use Terms.{new-sound, rewritten, all_meant, same_sort, units_of, units_in, limit_of, is_some, subst}
+use Terms.{Meaning, Members, joining, by-bool, is_used, data_of, Indexes, IsPlain, Option, length}
+use Terms.{elf_of, adding, false, arith, Joins, IsOwn, AllOf, Parts, start, Bool, cond, List, refl}
+use Terms.{◌||◌, true, Some, None, keys, both, File, ◌∙◌, ◌∷◌, sym, ◌<◌, Err, inl, inr, [], ap, Ok}
+use Rattle.thorin_again.proofs.Lists.InOrder.{some-there, there-back, meant_or}
+use Rattle.std.proofs.Common.{IsPermutation, length-append, append_assoc, ltb-true, Result, nat_lt}
+use Rattle.std.proofs.Common.{lt-ltb, ◌++◌, not}
+use Rattle.thorin_join.specs.Builder.{finish_test, begun_by, State, taken}
+use Rattle.std.proofs.lemmas.List.Sorted.{IsPermutation-middle, sum_by-IsPermutation}
+use Rattle.thorin_join.specs.Meaning.{input_meaning}
+use Rattle.std.specs.List.{IsDistinct}
+use Rattle.std.proofs.lemmas.Simd.{map-map}
 use Rattle.std.proofs.lemmas.Map.Keys.{IsDistinct-IsPermutation, IsDistinct-from_apart}
 use Rattle.indexmap.proofs.MapLemmas.{lookup_permutation}
-use Rattle.dwp_table.specs.declared.object.DwarfObject.{DwarfObject}
-use Rattle.thorin_again.specs.Again.{all_meant, HaveEncodingOf}
-use Rattle.thorin_join.specs.Join.{Joins, IsPackageOf, same_sort, limit_of, look_limit}
-use Rattle.thorin_join.specs.Meaning.{Meaning, Members, input_meaning, keys, joining}
-use Rattle.thorin_input.specs.Names.{same_name}
-use Rattle.thorin_again.proofs.Lists.OneEncoding.{Finds, own-encoded, first-of}
-use Rattle.thorin_again.proofs.Lists.OneEncoding.{AreEncoded, input-order, answers-whole}
-use Rattle.thorin_join.proofs.Units.NamesApart.{same_name-self, same_name-true, same_name-sym}
-use Rattle.thorin_again.proofs.Accepted.OwnUnits.{taken-all, different-sym}
-use Rattle.dwp_base.proofs.Bools.{by-bool, neither, both}
-use Rattle.std.proofs.lemmas.List.Sums.{length-filter}
-use Rattle.std.proofs.lemmas.List.{length-map}
-use Rattle.dwp_base.specs.declared.section.SectionKind.{SectionKind}
-use Rattle.dwp_base.specs.declared.section.SectionKind.TheVariants as kinds
-use Rattle.dwp_bytes.specs.declared.encoding.Encoding.{Encoding}
-use Rattle.dwp_dwarf.specs.declared.unit.UnitSection.TheVariants as places
-use Rattle.dwp_elf.specs.Contents.{KindsDiffer, content_of}
-use Rattle.dwp_elf.specs.FileText.{Object as File, file_text}
-use Rattle.dwp_elf.specs.Written.{written_elf}
-use Rattle.dwp_elf_read.specs.Elf.{elf_of}
-use Rattle.thorin_errors.specs.Errors.{ErrorValue}
-use Rattle.thorin_index.specs.IndexText.{is_used}
-use Rattle.thorin_strings.specs.Strings.{data_of}
-use Rattle.thorin_join.specs.Builder.{State, IsFinished, IsFinishedState, finish_test, order_of}
-use Rattle.thorin_join.specs.Builder.{package_or_new, with_source_or_new, taken, start, begun_by}
-use Rattle.thorin_input.specs.Encodings.{file_encoding, own_encoding}
-use Rattle.thorin_input.specs.Indexes.{Indexes, indexes_of}
-use Rattle.thorin_input.specs.NewUnits.{new_units}
-use Rattle.thorin_again.specs.Own.{has_content, has_sections, packs_again}
-use Rattle.thorin_again.specs.OwnAccepted.{IsAccepted, IsAcceptedByNew}
-use Rattle.thorin_again.specs.OwnInput.{written_object, IsOwn, own_source}
-use Rattle.thorin_again.specs.OwnRefusals.{UnlessStringOffset, IsForeseen}
-use Rattle.thorin_again.specs.OwnUnits.{HoldsOwn, AllOf}
-use Rattle.thorin_input.specs.Format.{is_shared}
-use Rattle.thorin_input.specs.Parts.{Parts, parts_of}
-use Rattle.thorin_again.specs.Plain.{IsPlain, HoldsPlain}
-use Rattle.thorin_join.specs.Represents.{IsSoundBegun, units_of, units_begun, units_in}
-use Rattle.thorin_join.specs.State.{InProgress, adding, abbreviations_test, with_source, names_of}
-use Rattle.thorin_input.specs.Used.{counts_once}
-use Rattle.thorin_join.proofs.Joined.Input.{new-sound, input-keeps}
-use Rattle.thorin_again.proofs.Opened.Indexes.{finished-shared, own-offsets, own-offsets-alone}
-use Rattle.thorin_again.proofs.Opened.Indexes.{in-format, lie-used, up-to-parts, OwnMade, own-made}
-use Rattle.thorin_again.proofs.Opened.Indexes.{lie-kept, read-of}
-use Rattle.thorin_again.proofs.Opened.Sections.{present-written, info-written, object-written}
-use Rattle.thorin_again.proofs.Opened.Sections.{opened-elf, input-encoding, own-parts-tried, Unless}
-use Rattle.thorin_again.proofs.Opened.Sections.{and-then, answered}
+use Rattle.thorin_join.specs.Join.{IsPackageOf}
+use Rattle.thorin_again.proofs.Lists.OneEncoding.{answers-whole, own-encoded, input-order, first-of}
+use Rattle.thorin_again.proofs.Lists.OneEncoding.{AreEncoded, Finds}
+use Rattle.thorin_again.proofs.Accepted.OwnUnits.{taken-all, flips}
+use Rattle.thorin_again.specs.OwnAccepted.{IsAcceptedByNew, IsAccepted}
+use Rattle.thorin_again.proofs.Opened.Indexes.{own-offsets-alone, finished-shared, own-offsets}
+use Rattle.thorin_again.proofs.Opened.Indexes.{up-to-parts, in-format, lie-used, own-made, lie-kept}
+use Rattle.thorin_again.proofs.Opened.Indexes.{OwnMade, read-of}
+use Rattle.thorin_again.proofs.Opened.Sections.{present-written, own-parts-tried, object-written}
+use Rattle.thorin_again.proofs.Opened.Sections.{input-encoding, info-written, opened-elf, and-then}
+use Rattle.thorin_again.proofs.Opened.Sections.{answered, Unless}
 use Rattle.thorin_again.proofs.Kept.OneEncoding.{begun-now}
-use Rattle.thorin_join.proofs.Files.Finished.{finished-own, finished-strings, finished-order}
-use Rattle.thorin_join.proofs.Files.Finished.{finished-is}
-use Rattle.thorin_again.proofs.Lists.InOrder.{there-back, meant_or}
-use Rattle.thorin_join.proofs.Units.InRows.{keys-units}
-use Rattle.thorin_input.specs.InputStrings.{rewritten}
 use Rattle.thorin_again.proofs.Meant.Package.{again-is}
+use Rattle.dwp_base.specs.declared.section.SectionKind.TheVariants as kinds
+use Rattle.dwp_dwarf.specs.declared.unit.UnitSection.TheVariants as places
 
 -- ---- names
-
-flips : (a b : DwarfObject) → same_name a b ≡ same_name b a
-flips a b =
-    by-bool _ (same_name a b)
-    (λ e. e ∙ sym (same_name-sym a b e))
-    (λ e. e ∙ sym (different-sym a b e))
 
 equivalence : IsEquivalence same_name
 equivalence = record {
@@ -90,16 +57,11 @@ joining-apart names (u ∷ us) h =
     let apart = IsDistinct-IsPermutation same_name flips _ _
     (IsPermutation-middle names u.0 (keys us)) h in
     let new = list_any_none (same_name u.0) (names ++ keys us) (All-from_recursion _ _ apart.0) in
-    rw (neither (list_any (same_name u.0) names) _
-    (rw (list_any-append (same_name u.0) names (keys us)) at new)).0
-    (ap (λ l. u ∷ l) (joining-apart (names ++ u.0 ∷ []) us
-    (rw (append_assoc names (u.0 ∷ []) (keys us)) h)))
+    let first = rw (list_any-append (same_name u.0) names (keys us)) at new in
+    let rest = joining-apart (names ++ u.0 ∷ []) us (rw append_assoc h) in
+    grind (arith, first, rest)
 
 -- ---- units
-
-keys-meant : (us : Members) → keys (all_meant us) ≡ keys us
-keys-meant [] = refl
-keys-meant (u ∷ us) = ap (λ l. u.0 ∷ l) (keys-meant us)
 
 -- the units that were joined alone are those that the input means
 alone-units : (bytes : List ℕ) (us now : Members) → IsDistinct same_name
@@ -110,7 +72,7 @@ alone-units bytes us now distinct joins means =
     let perm = means joins.units joins.meaning in
     let apart = IsDistinct-IsPermutation same_name flips (keys (all_meant us)) (keys joins.units)
     (IsPermutation-map (λ u. u.0) (all_meant us) joins.units perm)
-    (rw (keys-meant us) distinct) in
+    (rw map-map distinct) in
     let units : joins.units ≡ all_meant joins.added = sym (joining-apart [] joins.units apart)
     ∙ joins.joined in
     let full = IsPermutation-map meant_or (all_meant us) _ (rw units at perm) in
@@ -141,84 +103,71 @@ data-there : (strings : List (List ℕ)) → 0 < length strings → 0 < length (
 data-there [] h = absurd (omega (arith, h))
 data-there (s ∷ ss) h = simp length-append (omega arith)
 
-own-there : (own : Option Encoding) (b : Bool) → (is_some own && b) ≡ true → (encoding : Encoding)
-    × (own ≡ Some encoding) × (b ≡ true)
-own-there None b h = absurd cc
-own-there (Some encoding) b h = (encoding, refl, h)
-
 -- the file of a state that packs again
 module _ (state : State) (file : File) (sound : IsSoundBegun state.begun) (holds : HoldsOwn state)
     (holds_plain : HoldsPlain state)
     (tested : finish_test state ≡ Ok tt) (f : IsFinishedState state file)
     (packs : packs_again state ≡ true) (differ : KindsDiffer file.contents)
     (back : elf_of (file_text file) ≡ Ok (written_elf file)) where
-  abbrev made : InProgress
-  made = f.made
-
-  abbrev fin : IsFinished made file
-  fin = f.finished
-
   there : (encoding : Encoding) × (state.own ≡ Some encoding) × (has_sections state.begun ≡ true)
-  there = own-there state.own (has_sections state.begun) packs
+  there = let two = both (is_some state.own) (has_sections state.begun) packs in
+      let own = some-there is_some refl state.own two.0 in (own.0, own.1, two.1)
 
   abbrev encoding : Encoding
   encoding = there.0
 
-  plain : IsPlain encoding made
-  plain = holds_plain.made encoding made there.1 f.begun
+  plain : IsPlain encoding f.made
+  plain = holds_plain.made encoding f.made there.1 f.begun
 
   info : 0 < length (content_of kinds.Info file.contents)
   info =
-      let count : 0 < length (units_of made) = rw f.begun at (holds.some encoding there.1) in
-      let long : length (units_of made) ≡ length made.rows = length-map made.rows _ in
-      rw (finished-own made file fin places.Info) (plain.info (omega (arith, count, long)))
+      let count : 0 < length (units_of f.made) = rw f.begun at (holds.some encoding there.1) in
+      let long : length (units_of f.made) ≡ length f.made.rows = length-map f.made.rows _ in
+      rw (finished-own _ _ f.finished places.Info) (plain.info (omega (arith, count, long)))
 
-  all : AllOf encoding (units_of made)
+  all : AllOf encoding (units_of f.made)
   all = subst (λ b. AllOf encoding (units_begun b)) f.begun (holds.all encoding there.1)
 
-  encoded : AreEncoded made.file.order (units_of made)
-  encoded = own-encoded made encoding (rw f.begun at sound) plain all
+  encoded : AreEncoded f.made.file.order (units_of f.made)
+  encoded = own-encoded f.made encoding (rw f.begun at sound) plain all
 
   abbrev own : IsOwn state encoding file
-  own = assumption (
-    holds.some encoding there.1,
-    holds.all encoding there.1,
-    info,
-    first-of made file encoding (rw f.begun at sound) fin differ
-        (λ k d within. (encoded k d within, all k d within)) info,
-  )
+  own =
+      let first = first-of _ file encoding (rw f.begun at sound) f.finished differ
+      (λ k d within. (encoded k d within, all k d within)) info in
+      assumption (holds.some encoding there.1, holds.all encoding there.1, info, first)
 
-  has : OwnMade encoding made
+  has : OwnMade encoding f.made
   has = own-made own
 
-  has-both : (has_content kinds.Abbrev made ≡ true)
-      × ((not (has_content kinds.StrOffsets made) || nat_lt 0 (length made.strings)) ≡ true)
-  has-both = both (has_content kinds.Abbrev made) _ (rw f.begun at there.2)
+  has-both : (has_content kinds.Abbrev f.made ≡ true)
+      × ((not (has_content kinds.StrOffsets f.made) || nat_lt 0 (length f.made.strings)) ≡ true)
+  has-both = both (has_content kinds.Abbrev f.made) _ (rw f.begun at there.2)
 
   abbreviations-tested : abbreviations_test (written_object file) ≡ Ok tt
   unfolding abbreviations_test
-  abbreviations-tested = rw (present-written kinds.Abbrev file (rw (finished-shared made file fin
+  abbreviations-tested = rw (present-written kinds.Abbrev file (rw (finished-shared _ _ f.finished
       kinds.Abbrev refl) (ltb-true 0 _ has-both.0))) refl
 
   strings-there : 0 < length (content_of kinds.StrOffsets file.contents)
       → (written_object file).has_strings ≡ true
   strings-there some =
-      let offsets : has_content kinds.StrOffsets made ≡ true = lt-ltb 0 _
-      (rw (finished-shared made file fin kinds.StrOffsets refl) at some) in
-      let strings = ltb-true 0 (length made.strings) (rw offsets at has-both.1) in
-      present-written kinds.Str file (rw (finished-strings made file fin has.sound.units.no_strings)
-      (data-there made.strings strings))
+      let offsets : has_content kinds.StrOffsets f.made ≡ true = lt-ltb 0 _
+      (rw (finished-shared _ _ f.finished kinds.StrOffsets refl) at some) in
+      let strings = ltb-true 0 (length f.made.strings) (rw offsets at has-both.1) in
+      present-written kinds.Str file (rw (finished-strings _ _ f.finished
+      has.sound.units.no_strings) (data-there f.made.strings strings))
 
   -- rows name each kind that has bytes, but those that count once
   kind-used : (kind : SectionKind) → 0 < length (content_of kind file.contents)
-      → counts_once kind ≡ false → is_used made.rows kind ≡ true
-  kind-used kinds.Info some once = lie-used file.order places.Info 0 made.rows _
-      (lie-kept made file has.sound.laid fin places.Info) some
-  kind-used kinds.Types some once = lie-used file.order places.Types 0 made.rows _
-      (lie-kept made file has.sound.laid fin places.Types) some
+      → counts_once kind ≡ false → is_used f.made.rows kind ≡ true
+  kind-used kinds.Info some once = lie-used file.order places.Info 0 f.made.rows _
+      (lie-kept _ _ has.sound.laid f.finished places.Info) some
+  kind-used kinds.Types some once = lie-used file.order places.Types 0 f.made.rows _
+      (lie-kept _ _ has.sound.laid f.finished places.Types) some
   kind-used kind some once =
       by-bool _ (is_shared kind)
-      (λ shared. plain.named kind shared (rw (finished-shared made file fin kind shared) at some))
+      (λ shared. plain.named kind shared (rw (finished-shared _ _ f.finished kind shared) at some))
       (λ other. absurd cc)
 
   -- ---- the file's bytes are taken, as far as its parts and its units are
@@ -241,18 +190,13 @@ module _ (state : State) (file : File) (sound : IsSoundBegun state.begun) (holds
       let given = takes t.indexes t.read in
       let parts = own-parts-tried E (own_source file encoding t.indexes) file.contents
       (package_or_new (written_elf file) before.begun).strings refl differ (record {
-        format = λ kind some. in-format encoding made.rows has.version has.tests.compilation_rows
+        format = λ kind some. in-format encoding f.made.rows has.version has.tests.compilation_rows
             has.tests.type_rows kind (kind-used kind some);
         offsets = λ some. (strings-there some, given.0);
       }) in
       let opens = opened-elf (file_text file) (written_elf file) back in
-      rw (
-        t.is,
-        opens,
-        info-written file info,
-        object-written file differ,
-        own.first,
-      ) (and-then E _ _
+      let object = object-written file differ in
+      rw (t.is, opens, info-written file info, object, own.first) (and-then E _ _
       (and-then E _ _ (and-then E _ _ parts (λ p e. rw abbreviations-tested
       (and-then E _ _ (given.1 p e) (λ new h. tt)))) (λ m h. tt)) (λ now h. tt))
 
@@ -261,23 +205,21 @@ module _ (state : State) (file : File) (sound : IsSoundBegun state.begun) (holds
   own-all before fine same =
       let now = package_or_new (written_elf file) before.begun in
       taken-unless IsForeseen before same (λ indexes read.
-      let is = read-of own indexes read in (
-        foreseen _ (own-offsets is plain now.strings),
-        λ p e. taken-all ⊥ IsForeseen (inr (λ id. inr (id, refl))) is plain now
-            (λ never. absurd never) p.0 p.1
-            (new-sound (written_elf file) before.begun fine).units.table e,
-      ))
+      let is = read-of own indexes read in
+      let table = (new-sound (written_elf file) before.begun fine).units.table in
+      let units = taken-all ⊥ IsForeseen (inr (λ id. inr (id, refl))) is plain now
+      (λ never. absurd never) in
+      (foreseen _ (own-offsets is plain now.strings), λ p e. units p.0 p.1 table e))
 
   -- a new one takes them
   new-accepted : (after : State) × (taken (file_text file) start ≡ Ok after)
   new-accepted =
       answered (taken (file_text file) start) (taken-unless (λ e. ⊥) start refl (λ indexes read.
-      let is = read-of own indexes read in (
-        rw (own-offsets-alone is plain).1 tt,
-        λ p e. taken-all (Unit {0}) (λ e. ⊥) (inl tt) is plain (begun_by (written_elf file))
-            (λ fresh. refl) p.0 p.1
-            (new-sound (written_elf file) None tt).units.table e,
-      )))
+      let is = read-of own indexes read in
+      let table = (new-sound (written_elf file) None tt).units.table in
+      let units = taken-all (Unit {0}) (λ e. ⊥) (inl tt) is plain (begun_by (written_elf file))
+      (λ fresh. refl) in
+      (rw (own-offsets-alone is plain).1 tt, λ p e. units p.0 p.1 table e)))
 
   -- and has their units then
   pub own-by-new : IsAcceptedByNew (units_in state) file
@@ -289,7 +231,7 @@ module _ (state : State) (file : File) (sound : IsSoundBegun state.begun) (holds
       let encodings : HaveEncodingOf bytes (units_in state) = λ k d within.
       input-encoding file differ back ∙ own.first ∙ ap Ok (sym (own.all k d within)) in
       let distinct = subst (λ b. IsDistinct same_name (keys (units_begun b))) (sym f.begun)
-      (rw (keys-units made) (IsDistinct-from_apart same_name (names_of made) has.sound.apart)) in
+      (rw (keys-units f.made) (IsDistinct-from_apart same_name _ has.sound.apart)) in
       let perm = alone-units bytes (units_in state) (units_in after) distinct keeps.joins
       (again-is state file sound tested f differ back encodings start after new-accepted.1) in
       record {
@@ -301,8 +243,8 @@ module _ (state : State) (file : File) (sound : IsSoundBegun state.begun) (holds
             let same = finished-order finished.made alone finished.finished
             ∙ sym (ap (λ b. order_of b file.order) finished.begun)
             ∙ input-order bytes (written_elf file) None after.begun file.order
-            (opened-elf bytes (written_elf file) back) input ∙ finished-order made file fin in
-            answers-whole made.file.order (units_in state) alone read same (subst (λ b. AreEncoded
-            made.file.order (units_begun b)) (sym f.begun) encoded) p.pack p.parsed (alone-finds
-            (units_in state) (units_in after) (file_text alone) perm distinct p);
+            (opened-elf bytes (written_elf file) back) input ∙ finished-order _ _ f.finished in
+            answers-whole f.made.file.order (units_in state) alone read same (rw f.begun encoded)
+            p.pack p.parsed (alone-finds (units_in state) (units_in after) (file_text alone) perm
+            distinct p);
       }

@@ -2,84 +2,116 @@
 -- so by those of its row each unit of a package that such objects are added to. And info of such a
 -- package has bytes, where it has units: the first unit of an object stands in info, with the
 -- object's encoding, and its name's unit goes there.
-use Rattle.std.proofs.Common.{◌≡◌, ◌∙◌, ℕ, false, List, refl, sym, ap, Ok, Some, true, [], ◌∷◌, eqb}
-use Rattle.std.proofs.Common.{◌++◌, length, subst, ◌-◌, leb, ◌&&◌, ◌⊎◌, inl, inr, Err, None, ◌<◌}
-use Rattle.std.proofs.Common.{map, arith, true≢false, length-append}
-use Rattle.dwp_base.specs.declared.endian.Endianness.{Endianness}
-use Rattle.dwp_base.specs.declared.section.SectionKind.{SectionKind}
-use Rattle.dwp_base.specs.declared.section.SectionKind.TheVariants as kinds
-use Rattle.dwp_bytes.specs.Input.{Input, section, number_at, split_at, offset_at}
-use Rattle.dwp_bytes.specs.declared.encoding.Encoding.{Encoding}
-use Rattle.dwp_bytes.specs.declared.error.ReadError.{ReadError}
-use Rattle.dwp_dwarf.specs.Units.{Unit as Header, unit_at, older_type_at, older_at}
-use Rattle.dwp_dwarf.specs.Units.{header_at, initial_length_at, address_size_at, units_within}
-use Rattle.dwp_dwarf.specs.Units.{units}
-use Rattle.dwp_dwarf.specs.declared.unit.UnitSection.{UnitSection}
-use Rattle.dwp_dwarf.specs.declared.unit.UnitSection.TheVariants as places
-use Rattle.dwp_table.specs.declared.object.DwarfObject.{DwarfObject}
-use Rattle.dwp_table.specs.declared.object.DwarfObject.TheVariants.{TypeUnit}
-use Rattle.thorin_identity.specs.Identity.{identity}
-use Rattle.thorin_input.specs.Indexes.{Source, is_package}
-use Rattle.thorin_join.specs.Laid.{type_signature, name_signature}
-use Rattle.thorin_join.specs.Meaning.{UnitRead, joined_content, keys, named_each}
-use Rattle.thorin_join.specs.Meaning.{named_at, named_sections, joining}
-use Rattle.thorin_input.specs.NewUnits.{name_for, place_for, NewUnit, unit_section}
-use Rattle.thorin_input.specs.Rows.{abbreviations_for}
-use Rattle.thorin_join.specs.State.{kind_at, InProgress, row_at, unit_bytes, adding, with_new_units}
-use Rattle.thorin_join.specs.State.{with_source, with_unit_added, names_of, with_new_unit}
-use Rattle.thorin_input.specs.Used.{first, Used}
-use Rattle.thorin_join.proofs.Units.HeadersRead.{kind-place, Listed, Reads}
-use Rattle.thorin_join.proofs.Units.HeadersRead.{name-identity, each-named}
-use Rattle.thorin_join.proofs.Units.Sorts.{identity-sort}
-use Rattle.thorin_again.proofs.Kept.EachUnit.{News, OfOne, of-one, each-added}
-use Rattle.thorin_again.proofs.Kept.EachUnit.{parted, shared-row, plain-part, news-are}
-use Rattle.thorin_again.proofs.Kept.EachUnit.{plain-added, order-added, each-unit}
-use Rattle.thorin_join.proofs.Moved.RootEntries.{identity-shifted}
-use Rattle.thorin_join.proofs.Units.Whole.{known-in, goes-alone}
-use Rattle.thorin_join.proofs.Units.Whole.{Goes}
-use Rattle.thorin_again.proofs.Kept.LongerTables.{identity-stays}
-use Rattle.thorin_errors.specs.Errors.{NotSplitUnit, ErrorValue}
-use Rattle.dwp_base.proofs.Steps.{bind-was, same-ok}
-use Rattle.std.specs.List.{list_all, list_any}
-use Rattle.std.proofs.lemmas.Bool.{eqb-true}
-use Rattle.std.proofs.lemmas.List.{append_assoc, append-nil, map-append}
-use Rattle.dwp_base.specs.Sections.{same_kind}
-use Rattle.dwp_base.proofs.Bools.{by-bool, or-right}
-use Rattle.dwp_elf.specs.Contents.{content_of}
-use Rattle.dwp_index.specs.Package.{part_of, place_of}
-use Rattle.thorin_index.specs.Entries.{contribution_to}
-use Rattle.thorin_index.specs.declared.entry.IndexEntry.{IndexEntry}
-use Rattle.thorin_input.specs.Encodings.{section_has, first_encoding, encoding_of}
-use Rattle.thorin_input.specs.Growing.{Contents, HasFront, with_bytes, with_parts, joined_parts}
-use Rattle.thorin_input.specs.Parts.{parts_of, Parts, has_part, stands_once, with_part}
-use Rattle.thorin_input.specs.Parts.{with_each_part}
-use Rattle.thorin_again.specs.Plain.{NamesItself, HasNamedUnits}
-use Rattle.thorin_join.specs.Represents.{IsSound, LieInside}
-use Rattle.thorin_join.specs.StandApart.{EachRow}
-use Rattle.thorin_join.proofs.Units.JoinedByName.{IsAdded, added-keys}
-use Rattle.thorin_join.proofs.Rows.Stay.{Grows, grows-trans, grows-with_bytes, keep-part}
-use Rattle.thorin_join.proofs.Rows.Stay.{front-long}
-use Rattle.thorin_join.proofs.Rows.Ranges.{whole_behind}
+use Rattle.thorin_again.proofs.Terms
+use Terms.{content-with_bytes, content-with_parts, abbreviations_for, grows-with_parts, DwarfObject}
+use Terms.{identity-shifted, contribution_to, list_any-append, with_unit_added, drop-append-le, Err}
+use Terms.{first_encoding, name_signature, same_name-self, same_name-true, type_signature, Contents}
+use Terms.{with_new_units, HasNamedUnits, identity-sort, name-identity, is_in_format, joined_parts}
+use Terms.{parts-copied, sound-inside, unit_section, units_within, whole_behind, NamesItself, AllSo}
+use Terms.{SectionKind, UnitSection, as_error_ok, content-put, encoding_of, section_has, Endianness}
+use Terms.{source-made, value_gives, with_source, ErrorValue, InProgress, IndexEntry, append-nil, ℕ}
+use Terms.{content_of, each-named, front-long, goes-alone, is_package, kind-place, map-append, Each}
+use Terms.{newer-five, ok_or-some, unit_bytes, with_bytes, with_parts, LieInside, ReadError, Header}
+use Terms.{keys-held, number_at, offset_at, own-place, place_for, same_kind, same_name, Encoding}
+use Terms.{HasFront, TypeUnit, UnitRead, UnitType, as_error, bind-was, eqb-true, has_part, known-in}
+use Terms.{list_all, list_any, name_for, names_of, no-bytes, older_at, or-right, parts_of, place_of}
+use Terms.{row-name, split_at, EachRow, IsSound, NewUnit, WasRead, bind-ok, by-bool, is-same, Input}
+use Terms.{joining, kind_at, part_of, row-own, same-ok, section, unit_at, Listed, Option, Source}
+use Terms.{adding, length, row_at, unless, Parts, Reads, arith, false, first, ok_or, subst, units}
+use Terms.{Goes, List, News, None, Some, Used, keys, more, past, refl, true, ◌&&◌, eqb, inl, inr}
+use Terms.{map, sym, ◌-◌, ◌<◌, ◌∙◌, ◌∷◌, ◌≡◌, Ok, [], ap}
+use Rattle.dwp_dwarf.proofs.Readings.{error_gives, takes_more, test_gives, then_gives, Gives, was}
+use Rattle.std.proofs.Common.{length-append, append_assoc, slice_get, ◌++◌, leb, ◌≢◌, ◌≤◌, ◌⊎◌}
+use Rattle.dwp_dwarf.specs.Units.{initial_length_at, address_size_at, older_type_at, header_at}
+use Rattle.std.proofs.ByRecursion.{All-append}
+use Rattle.thorin_input.specs.Parts.{with_each_part, stands_once, with_part}
+use Rattle.thorin_join.proofs.Rows.Stay.{grows-with_bytes, grows-trans, keep-part, Grows}
+use Rattle.dwp_dwarf.proofs.Tables.{look_up-other, look_up-here, next_takes, said}
+use Rattle.dwp_dwarf.proofs.Offsets.{from_within, from_is}
+use Rattle.thorin_errors.specs.Errors.{ParseUnitAbbreviations, NotSplitUnit, GimliRead, NoDie}
+use Rattle.dwp_dwarf.specs.Entries.{root_code_at}
+use Rattle.dwp_dwarf.specs.Offsets.{from_at}
+use Rattle.dwp_dwarf.specs.Grammar.{DeclarationsLie, next_at}
+use Rattle.dwp_dwarf.specs.Abbreviations.{Declaration, declaration}
+use Rattle.dwp_bytes.specs.declared.error.ReadError.TheVariants.{UnknownCode}
+use Rattle.thorin_identity.specs.Identity.{root_identity, identity_by, identity}
+use Rattle.thorin_join.specs.Meaning.{joined_content, named_sections, named_each, named_at}
+use Rattle.thorin_join.specs.State.{with_new_unit}
+use Rattle.thorin_join.proofs.Units.JoinedByName.{added-keys, IsAdded}
+use Rattle.thorin_again.proofs.Kept.EachUnit.{order-added, plain-part, shared-row, each-unit, OfOne}
+use Rattle.thorin_again.proofs.Kept.EachUnit.{with-each, news-are, with-any, joined, of-one, parted}
 use Rattle.thorin_again.proofs.Meant.RowByRow.{part-middle}
 use Rattle.thorin_join.proofs.Rows.LieInTurn.{can-lie}
-use Rattle.thorin_join.proofs.Parts.Appended.{content-with_parts, parts-copied, no-bytes}
-use Rattle.thorin_join.proofs.Parts.Appended.{content-with_bytes}
-use Rattle.thorin_join.proofs.Joined.Source.{grows-with_parts, keys-held}
-use Rattle.thorin_join.proofs.Rows.StandApart.{sound-inside}
-use Rattle.thorin_join.proofs.Rows.OneAdded.{content-put, row-name, row-own, own-place}
-use Rattle.dwp_base.proofs.EveryKind.{is-same}
-use Rattle.dwp_dwarf.proofs.Readings.{Gives, then_gives, test_gives, value_gives, error_gives, was}
-use Rattle.std.specs.Prelude.{slice_get, Some}
-use Rattle.thorin_input.specs.Names.{same_name}
-use Rattle.thorin_join.proofs.Units.NamesApart.{same_name-self, same_name-true}
-use Rattle.thorin_join.proofs.Steps.{past, unless, ok_or-some}
-use Rattle.thorin_join.proofs.Moved.Units.{newer-five}
-use Rattle.std.proofs.lemmas.List.Folds.{list_any-append}
-use Rattle.thorin_input.specs.Format.{is_in_format}
-use Rattle.thorin_join.proofs.Rows.AllAdded.{names-added, AllNew, joined-new}
-use Rattle.thorin_join.proofs.Units.HeadersRead.{WasRead, AllSo}
-use Rattle.std.proofs.ByRecursion.{All-append}
-use Rattle.std.specs.List.{AllByRecursion as Each}
+use Rattle.thorin_join.proofs.Rows.AllAdded.{names-added, joined-new, AllNew}
+use Rattle.dwp_dwarf.specs.declared.unit.UnitType.TheVariants as unit_types
+use Rattle.dwp_base.specs.declared.section.SectionKind.TheVariants as kinds
+use Rattle.dwp_dwarf.specs.declared.unit.UnitSection.TheVariants as places
+
+-- ---- what is read of a table of abbreviations stays where more bytes follow
+
+module _ (rest : List ℕ) where
+  -- a declaration behind others, which are of other codes, is found where more bytes follow
+  found-behind : (code : ℕ) (d : Declaration) (others : List (ℕ × Declaration))
+      (i left next : Input) → DeclarationsLie i others left
+      → Each (λ x. x.0 ≢ code) others → next_at left ≡ Ok (Some ((code, d), next))
+      → declaration code (more i rest) ≡ Ok (Some d)
+  found-behind code d [] i left next lie apart h =
+      look_up-here (more i rest) ((code, d), more next rest)
+      (takes_more (next_takes i ((code, d), next) (ap next_at (sym lie) ∙ h)) rest)
+  found-behind code d (x ∷ others) i left next lie apart h =
+      look_up-other code (more i rest) (x, more lie.0 rest)
+      (takes_more (next_takes i (x, lie.0) lie.1) rest) apart.0
+      ∙ found-behind code d others lie.0 left next lie.2 apart.1 h
+
+  found-stays : (code : ℕ) (i : Input) (d : Declaration) → declaration code i ≡ Ok (Some d)
+      → declaration code (more i rest) ≡ Ok (Some d)
+  found-stays code i d h =
+      let s = (said code i (Ok (Some d))).0 h in
+      found-behind code d s.1.others i s.0 s.2.0 s.1.lie s.1.other s.2.1
+
+  -- ---- the identity of a unit
+
+  from-stays : (offset : ℕ) (i table : Input) → from_at offset i ≡ Ok table
+      → from_at offset (more i rest) ≡ Ok (more table rest)
+  from-stays offset i table h =
+      let first = from_is offset i table h in
+      let fits : offset ≤ length (i.bytes ++ rest) =
+      omega (arith, first.0, length-append i.bytes rest) in
+      let front = drop-append-le offset i.bytes rest first.0 in
+      rw (first.1, from_within offset (more i rest) fits, front) refl
+
+  root-stays : (section : Input) (unit : Header) (name : Option DwarfObject)
+      → root_identity section unit ≡ Ok name → root_identity (more section rest) unit ≡ Ok name
+  unfolding root_identity
+  root-stays section unit name h =
+      let a = bind-was (as_error ParseUnitAbbreviations (from_at unit.abbrev_offset section)) _ name
+      h in
+      let b = bind-was (as_error GimliRead (root_code_at unit.entries)) _ name a.2 in
+      let c = bind-was (ok_or b.0 NoDie) _ name b.2 in
+      let d = bind-was (as_error ParseUnitAbbreviations (declaration c.0.0 a.0)) _ name c.2 in
+      let e = bind-was (ok_or d.0 (GimliRead UnknownCode)) _ name d.2 in
+      let found = found-stays c.0.0 a.0 e.0
+      (as_error_ok ParseUnitAbbreviations (declaration c.0.0 a.0) d.0 d.1
+      ∙ ap Ok (ok_or-some (GimliRead UnknownCode) d.0 e.0 e.1)) in
+      let table = from-stays unit.abbrev_offset section a.0
+      (as_error_ok ParseUnitAbbreviations (from_at unit.abbrev_offset section) a.0 a.1) in
+      bind-ok _ (more a.0 rest) _ (ap (as_error ParseUnitAbbreviations) table)
+      ∙ bind-ok _ b.0 _ b.1
+      ∙ bind-ok _ c.0 _ c.1
+      ∙ bind-ok _ (Some e.0) _ (ap (as_error ParseUnitAbbreviations) found)
+      ∙ e.2
+
+  by-type : (section : Input) (unit : Header) (name : Option DwarfObject) (type : UnitType)
+      → identity_by section unit type ≡ Ok name → identity_by (more section rest)
+      unit type ≡ Ok name
+  by-type section unit name unit_types.Compilation h = root-stays section unit name h
+  by-type section unit name type h = h
+
+-- the identity that a unit has by a table of abbreviations it has too where bytes follow the table
+pub identity-stays : (section : Input) (rest : List ℕ) (unit : Header) (name : Option DwarfObject)
+    → identity section unit ≡ Ok name → identity (more section rest) unit ≡ Ok name
+unfolding identity
+identity-stays section rest unit name h = by-type rest section unit name unit.unit_type h
 
 -- ---- the abbreviations of a row begin with those of the first section
 
@@ -197,22 +229,20 @@ pub names-kept : (source : Source) (before now : InProgress) → is_package sour
     → IsSound before → source.object.order ≡ before.file.order → with_source source before ≡ Ok now
     → HasNamedUnits source.encoding before → HasNamedUnits source.encoding now
 names-kept source before now plain has sound same h named =
-    let a = plain-added source before now h in
+    let a = source-made source before now h in
     let order = source.object.order in
     let encoding = source.encoding in
     let c = before.file.contents in
-    let q = parted a in
-    let b = q.file.contents in
+    let b = (parted a).file.contents in
     let new = news-are a (OfOne source) (of-one source source.object.sections has)
     (IsNew source before plain a.parts a.after a.parts_are) (λ n r is goes w. (r, is, goes, w)) in
-    let all = each-added (Name source before plain a.parts a.after a.parts_are) _
-    (one-named source before plain a.parts a.after a.parts_are) q a.new.units new (
+    let all = with-each a (Name source before plain a.parts a.after a.parts_are) _
+    (one-named source before plain a.parts a.after a.parts_are) new (
       grows-self b,
       λ d up. keep-names order encoding c d (grows-trans c b d (grows-with_parts a.parts c) up)
           before.rows (sound-inside before sound) (rw same named),
     ) in
-    rw (order-added a ∙ sym same, a.is)
-    (all.1 (with_new_units q a.new.units).file.contents (grows-self _))
+    rw (order-added a ∙ sym same) (all.1 now.file.contents (grows-self _))
 
 -- ---- a unit in info is of version 5, or no type unit
 
@@ -236,8 +266,7 @@ first-read : (encoding : Encoding) (reads : Listed) → first_encoding reads ≡
     → (unit : Header) × (slice_get reads 0 ≡ Some (Ok unit)) × (unit.encoding ≡ encoding)
 first-read encoding [] h = absurd cc
 first-read encoding (Err e ∷ others) h = absurd cc
-first-read encoding (Ok unit ∷ others) h =
-    (unit, refl, same-ok {E = ErrorValue} _ encoding h)
+first-read encoding (Ok unit ∷ others) h = (unit, refl, cc)
 
 -- ---- its name
 
@@ -267,12 +296,8 @@ module _ (source : Source) (encoding : Encoding) where
   head-named kind = each-named source kind HeadNamed (λ u none. absurd cc)
       (λ unit name reads us named others u first.
       let id = name-identity source kind unit name named in
-      let same : unit ≡ u = cc in (
-        name,
-        rw (same_name-self name) refl,
-        ap (λ (h : Header). type_signature h.unit_type) (sym same)
-            ∙ identity-sort id.0 unit name id.1,
-      ))
+      let same : unit ≡ u = cc in
+      (name, rw (same_name-self name) refl, rw (← same) (identity-sort id.0 unit name id.1)))
 
   first-named : (sections : List Used) (all : Reads) → named_sections source sections ≡ Ok all
       → first_encoding (units places.Info (section source.object.order (first kinds.Info sections)))
@@ -290,14 +315,12 @@ module _ (source : Source) (encoding : Encoding) where
       let read : named_at source from (Some places.Info) ≡ Ok a.0 =
       ap (λ k. named_at source from (unit_section k)) (sym (is-same from.kind kinds.Info is))
       ∙ a.1 in
-      let head = head-named from.kind _ a.0 read f.0 f.1 in (
-        head.0,
-        there-left head.0 (keys a.0) (keys b.0) head.1,
-        elim ((unit-none _).gives _ known.read) [
-          | inl five ↦ inl (ap (λ (x : Encoding). x.version) (sym (known.encoding ∙ f.2)) ∙ five)
-          | inr none ↦ inr (sym head.2 ∙ ap type_signature (sym known.type) ∙ none)
-        ],
-      ))
+      let head = head-named from.kind _ a.0 read f.0 f.1 in
+      let goes : GoesToInfo encoding head.0 = elim ((unit-none _).gives _ known.read) [
+        | inl five ↦ inl (ap (λ (x : Encoding). x.version) (sym (known.encoding ∙ f.2)) ∙ five)
+        | inr none ↦ inr (sym head.2 ∙ ap type_signature (sym known.type) ∙ none)
+      ] in
+      (head.0, there-left head.0 (keys a.0) (keys b.0) head.1, goes))
       (λ other. let l = first-named rest b.0 b.1 (rw other at e) in
       (l.0, there-right l.0 (keys a.0) (keys b.0) l.1, l.2)))
 
@@ -323,9 +346,7 @@ each-format source (s ∷ ss) before after h =
 to-info : (encoding : Encoding) (name : DwarfObject) (place : UnitSection)
     → GoesToInfo encoding name → is_in_format encoding (kind_at place) ≡ true
     → place_for name (kind_at place) ≡ places.Info
-to-info encoding (TypeUnit s) places.Types (inl five) h = absurd (true≢false (sym h
-    ∙ ap (λ v. is_in_format (record encoding { version = v }) kinds.Types) five))
-to-info encoding (TypeUnit s) places.Types (inr none) h = absurd cc
+to-info encoding (TypeUnit s) places.Types sort h = grind arith
 to-info encoding name place sort h = refl
 
 -- ---- units that are added
@@ -335,11 +356,9 @@ abbrev HasInfo : InProgress → Type 0
 HasInfo p = 0 < length (content_of kinds.Info p.file.contents)
 
 has-more : (p : InProgress) (u : DwarfObject × NewUnit) → HasInfo p → HasInfo (with_unit_added p u)
-has-more p u has = omega (
-  arith,
-  has,
-  front-long (grows-with_bytes (kind_at u.1.place) u.1.bytes p.file.contents kinds.Info),
-)
+has-more p u has =
+    let grows = grows-with_bytes (kind_at u.1.place) u.1.bytes p.file.contents kinds.Info in
+    omega (arith, has, front-long grows)
 
 module _ (name : DwarfObject) where
   -- a unit of the name has bytes, and goes to info
@@ -386,8 +405,8 @@ pub info-there : (source : Source) (before now : InProgress)
     → 0 < length (content_of kinds.Info now.file.contents)
 unfolding encoding_of
 info-there source before now is h info =
-    let a = plain-added source before now h in
-    let j = a.joined in
+    let a = source-made source before now h in
+    let j = joined a in
     let add = adding source before a.parts in
     let held = keys add.held in
     let n = first-named source source.encoding source.object.sections j.all j.is is in
@@ -400,13 +419,12 @@ info-there source before now is h info =
     )) in
     let names = joining-there n.0 held j.all (there-right n.0 held (keys j.all) n.1) in
     let added = added-keys add a.new.units (joining held j.all) j.are in
-    rw a.is (by-bool _ (list_any (same_name n.0) held)
-    (λ old. each-unit HasInfo has-more (parted a) a.new.units (omega (
-      arith,
-      info ((elim before.rows as (λ rows. IsThere n.0 (map (λ (r : IndexEntry). r.id) rows)
-          → 0 < length rows) [ [] ↦ λ e. absurd cc | r ∷ rs ↦ λ e. omega arith ])
-          (rw (keys-held before) at old)),
-      front-long (grows-with_parts a.parts before.file.contents kinds.Info),
-    )))
-    (λ new. units-put n.0 (parted a) a.new.units (rw (← keys-held before, added)
+    by-bool _ (list_any (same_name n.0) held)
+    (λ old.
+    let some = (elim before.rows as (λ rows. IsThere n.0 (map (λ (r : IndexEntry). r.id) rows)
+    → 0 < length rows) [ [] ↦ λ e. absurd cc | r ∷ rs ↦ λ e. omega arith ])
+    (rw (keys-held before) at old) in
+    let long = front-long (grows-with_parts a.parts before.file.contents kinds.Info) in
+    with-any a HasInfo has-more (omega (arith, info some, long)))
+    (λ new. subst HasInfo a.is (units-put n.0 (parted a) a.new.units (rw (← keys-held before, added)
     (joined-new held j.all)) put (rw added (rw (list_any-append {X = DwarfObject}, new) at names))))

@@ -1,55 +1,24 @@
 -- What holds of all units of a package once an input was taken; all units of plain objects of one
 -- encoding have it; and a builder's package stays one of such objects.
-use Rattle.std.proofs.Common.{◌≡◌, ◌∙◌, ℕ, ◌<◌, Bool, true, false, cond, ltb, inl, inr, List, []}
-use Rattle.std.proofs.Common.{◌∷◌, length, map, refl, sym, ap, subst, Ok, Err, Option, Some, ◌↔◌}
-use Rattle.std.proofs.Common.{None, arith, true≢false}
-use Rattle.std.specs.Prelude.{All}
-use Rattle.std.specs.List.{list_all, list_any}
-use Rattle.std.specs.Option.{option_and_then, IfSome}
-use Rattle.std.proofs.lemmas.Bool.{ltb-true, lt-ltb}
-use Rattle.std.proofs.lemmas.List.{length-map}
-use Rattle.std.proofs.lemmas.List.Elements.{All-nil, All-cons, All-append}
-use Rattle.std.proofs.lemmas.Option.{none-some, cond_some, IfSome_then, same_Some}
-use Rattle.dwp_base.proofs.Bools.{both, by-bool, is-false, neither}
-use Rattle.dwp_base.proofs.Steps.{bind-was, same-ok}
-use Rattle.dwp_elf_read.specs.Elf.{Elf}
-use Rattle.dwp_bytes.specs.declared.encoding.Encoding.{Encoding}
-use Rattle.dwp_index.specs.Index.{Ranges}
-use Rattle.dwp_table.specs.declared.object.DwarfObject.{DwarfObject}
-use Rattle.thorin_errors.specs.Errors.{ErrorValue}
-use Rattle.thorin_join.specs.Builder.{State, taken, with_input, with_own, own_after, names_in}
-use Rattle.thorin_join.specs.Builder.{package_or_new}
-use Rattle.thorin_input.specs.Encodings.{common, file_encoding, own_encoding, is_plain, section_has}
-use Rattle.thorin_input.specs.Encodings.{is_index}
-use Rattle.thorin_input.specs.Indexes.{Source, is_package, index_for, Indexes, indexes_of, index_in}
-use Rattle.thorin_join.specs.Join.{Joins}
-use Rattle.thorin_join.specs.Meaning.{Meaning, Members, UnitRead, keys, meaning_with, meaning_by}
-use Rattle.thorin_join.specs.Meaning.{offsets_by, unit_meaning, lie_inside, meant, source_units}
-use Rattle.thorin_join.specs.Meaning.{source_meaning, object_meaning, input_meaning, placed_row}
-use Rattle.dwp_base.specs.declared.section.SectionKind.TheVariants.{Str, CuIndex, TuIndex}
-use Rattle.thorin_again.specs.OwnUnits.{AllOf, HoldsOwn}
-use Rattle.thorin_join.specs.Represents.{IsSoundBegun, units_begun}
-use Rattle.thorin_join.specs.State.{InProgress}
-use Rattle.thorin_input.specs.Used.{InputFile, has_info, Used, first}
-use Rattle.thorin_join.proofs.Joined.Input.{new-units, made-order, new-sound, input-keeps}
-use Rattle.thorin_join.proofs.Joined.Source.{all_there}
-use Rattle.thorin_join.proofs.Joined.Taken.{Takes, TakesUnits, takes}
-use Rattle.thorin_join.proofs.Units.HeadersRead.{Reads}
-use Rattle.thorin_again.proofs.Kept.EachUnit.{common-are, common-self}
-use Rattle.thorin_again.proofs.Kept.EachUnit.{named-kept}
-use Rattle.thorin_input.specs.Rows.{own_range}
-use Rattle.dwp_base.specs.declared.section.SectionKind.{SectionKind}
-use Rattle.dwp_base.specs.Sections.{same_kind}
-use Rattle.thorin_index.specs.declared.entry.IndexEntry.{IndexEntry}
-use Rattle.thorin_strings.specs.Strings.{data_of}
-use Rattle.thorin_again.specs.Plain.{IsPlain, HoldsPlain}
+use Rattle.thorin_again.proofs.Terms
+use Terms.{package_or_new, file_encoding, IsSoundBegun, each-joining, own_encoding, source_units, ℕ}
+use Terms.{DwarfObject, IfSome_then, each-mapped, input-keeps, section_has, units_begun, All-append}
+use Terms.{All-weaker, ErrorValue, HoldsPlain, InProgress, IndexEntry, TakesUnits, indexes_of, Bool}
+use Terms.{is_package, length-map, made-order, same-begun, true≢false, InputFile, all_there, IfSome}
+use Terms.{cond_some, new-sound, new-units, none-some, same_Some, All-cons, Encoding, HoldsOwn, All}
+use Terms.{UnitRead, bind-was, each-all, has_info, index_in, is-false, is_index, is_plain, list_all}
+use Terms.{list_any, All-nil, CuIndex, Indexes, IsPlain, Meaning, Members, TuIndex, data_of, Option}
+use Terms.{same-ok, Ranges, Source, common, length, AllOf, Joins, Reads, Takes, arith, false, first}
+use Terms.{subst, takes, Each, List, None, Some, Used, both, cond, keys, refl, true, Elf, inl, inr}
+use Terms.{ltb, map, sym, ◌<◌, ◌∙◌, ◌∷◌, ◌≡◌, Ok, [], ap}
+use Rattle.std.proofs.Common.{ltb-true, lt-ltb, ◌↔◌}
+use Rattle.thorin_join.specs.Builder.{with_input, own_after, names_in, with_own, State, taken}
+use Rattle.thorin_join.specs.Meaning.{object_meaning, source_meaning, input_meaning, unit_meaning}
+use Rattle.thorin_join.specs.Meaning.{meaning_by, meant}
+use Rattle.thorin_again.proofs.Kept.EachUnit.{common-self, common-are, named-kept}
 use Rattle.thorin_again.proofs.Kept.Names.{info-there, names-kept}
 use Rattle.thorin_again.proofs.Offsets.RewrittenAgain.{no-turn}
 use Rattle.thorin_again.proofs.Offsets.Tiled.{tiled-kept}
-use Rattle.thorin_join.specs.Strings.{strings_of}
-use Rattle.thorin_join.proofs.Units.HeadersRead.{each-all, each-joining}
-use Rattle.std.specs.List.{AllByRecursion as Each}
-use Rattle.std.proofs.ByRecursion.{All-weaker, All-map as each-mapped}
 
 -- ---- what an input means
 
@@ -60,25 +29,12 @@ MadeOf source bytes unit = (unit.encoding ≡ source.encoding) × (unit.bytes �
 by-made : (source : Source) (bytes : List ℕ) (row : Option Ranges)
     → IfSome (meaning_by source bytes row) (MadeOf source bytes)
 unfolding meaning_by
-by-made source bytes row =
-    by-bool _ (lie_inside source row)
-    (λ inside. rw inside (elim (strings_of source.object.order source.encoding
-    (first Str source.object.sections) (offsets_by source row)) as
-    (λ r. IfSome (meaning_with source bytes row r) (MadeOf source bytes))
-    [ Ok strings ↦ (refl, refl) | Err e ↦ tt ]))
-    (λ outside. rw outside tt)
+by-made source bytes row = grind arith
 
 unit-made : (source : Source) (read : DwarfObject × UnitRead)
     → IfSome (unit_meaning source read) (MadeOf source read.1.unit.whole.bytes)
 unfolding unit_meaning
-unit-made source read =
-    let bytes = read.1.unit.whole.bytes in
-    by-bool _ (is_package source.indexes)
-    (λ packed. rw packed (elim (placed_row (index_for source.indexes read.0) read.1.from
-    (own_range read.1.unit)) as (λ row. IfSome (option_and_then (λ r.
-    meaning_by source bytes (Some r)) row) (MadeOf source bytes))
-    [ Some row ↦ by-made source bytes (Some row) | None ↦ tt ]))
-    (λ plain. rw plain (by-made source bytes None))
+unit-made source read = grind (arith, by-made)
 
 -- ---- the units that an input adds
 
@@ -101,9 +57,8 @@ module _ (P : Meaning → Type 0) where
       (λ r makes. IfSome_then (unit_meaning source r) (unit-made source r) makes) reads can)
 
   all-of : (added : Members) → Each IfMeant (all_there added) → HoldsOf added
-  all-of [] h = All-nil (λ (u : DwarfObject × Meaning). P u.1)
-  all-of (u ∷ us) h =
-      All-cons (λ (v : DwarfObject × Meaning). P v.1) u us h.0 (all-of us h.1)
+  all-of [] h = All-nil (λ u. P u.1)
+  all-of (u ∷ us) h = All-cons (λ v. P v.1) u us h.0 (all-of us h.1)
 
   -- what holds of the units before an input, and of those that it adds
   pub units-hold : {bytes : List ℕ} {begun now : Option InProgress}
@@ -134,12 +89,7 @@ unfolding taken
 taken-as bytes old new h =
     let s = bind-was (with_input bytes old.begun) _ new h in
     let t = bind-was (own_encoding bytes) _ new s.2 in
-    let is = same-ok {E = ErrorValue} _ new t.2 in (
-      t.0,
-      t.1,
-      ap (λ (x : State). own_after old x.begun t.0) (sym is) ∙ ap (λ (x : State). x.own) is,
-      s.1 ∙ ap (λ (x : State). Ok x.begun) is,
-    )
+    rw (← same-ok {E = ErrorValue} _ new t.2) (t.0, t.1, refl, s.1)
 
 pub begun-now : (bytes : List ℕ) (old new : State) → taken bytes old ≡ Ok new
     → with_input bytes old.begun ≡ Ok new.begun
@@ -160,8 +110,7 @@ with-own-is (Some made) own found e = (
 -- one of two, where it can't be the other
 not-else : {A : Type 0} (b : Bool) (x y z : A) → (y ≡ z → ⊥) → cond b x y ≡ z
     → (b ≡ true) × (x ≡ z)
-not-else true x y z other h = (refl, h)
-not-else false x y z other h = absurd (other h)
+not-else b x y z other h = grind (arith, other)
 
 -- units of that encoding were taken, of a plain object
 pub record OwnUnits (object : InputFile) (encoding e : Encoding) : Type 0 where
@@ -208,9 +157,8 @@ own-adds bytes old new e h =
           let found = is.0 counted.1 in
           record { found = own.1 ∙ ap Ok found.1; more = ltb-true _ _ counted.0; before = found.0 },
       λ a. sym own.2
-          ∙ ap (λ b. cond {A = Option Encoding} b (with_own old.begun old.own own.0) None)
-          (lt-ltb (length (names_in old.begun)) (length (names_in new.begun)) a.more)
-          ∙ is.1 (a.before, same-ok {E = ErrorValue} own.0 (Some e) (sym own.1 ∙ a.found)),
+          ∙ rw (lt-ltb (length (names_in old.begun)) (length (names_in new.begun)) a.more)
+          (is.1 (a.before, same-ok {E = ErrorValue} own.0 (Some e) (sym own.1 ∙ a.found))),
     )
 
 pub units-names : (begun : Option InProgress) → length (units_begun begun) ≡ length (names_in begun)
@@ -238,25 +186,18 @@ taken-holds bytes old new sound holds h = record {
 
 -- ---- a plain object has no index
 
-none-found : (kind : SectionKind) → ((s : Used) → is_index s ≡ false → same_kind s.kind kind ≡
-    false) → (ss : List Used) → list_any is_index ss ≡ false → first kind ss ≡ []
-none-found kind other [] h = refl
-none-found kind other (s ∷ ss) h =
-    let both = neither (is_index s) (list_any is_index ss) h in
-    rw (other s both.0) (none-found kind other ss both.1)
+none-found : (ss : List Used) → list_any is_index ss ≡ false → (first CuIndex ss ≡ [])
+    × (first TuIndex ss ≡ [])
+none-found [] h = (refl, refl)
+none-found (s ∷ ss) h = grind (arith, none-found ss)
 
 plain-indexes : (object : InputFile) (encoding : Encoding) (indexes : Indexes)
     → is_plain object.sections ≡ true → indexes_of object encoding ≡ Ok indexes
     → is_package indexes ≡ false
 unfolding indexes_of index_in
 plain-indexes object encoding indexes plain h =
-    let none = is-false (list_any is_index object.sections) plain in
-    let apart = λ (s : Used) (other : is_index s ≡ false).
-    neither (same_kind s.kind CuIndex) (same_kind s.kind TuIndex) other in
-    let c = none-found CuIndex (λ s other. (apart s other).0) object.sections none in
-    let t = none-found TuIndex (λ s other. (apart s other).1) object.sections none in
-    let empty : Indexes = record { compilations = None; types = None } in
-    ap is_package (sym (same-ok {E = ErrorValue} empty indexes (rw (c, t) at h)))
+    let found = none-found object.sections (is-false (list_any is_index object.sections) plain) in
+    rw (← same-ok {E = ErrorValue} _ indexes (rw (found.0, found.1) at h)) refl
 
 -- the package before it is of such objects, or a new one
 plain-before : (encoding : Encoding) (file : Elf) (begun : Option InProgress)
@@ -293,14 +234,11 @@ taken-plain bytes old new sound holds h = record {
       let order = made-order t.file source.object old.begun u.object_is u.order_is in
       let before_sound = new-sound t.file old.begun sound in
       let now : u.made ≡ made = same_Some u.made made (u.is ∙ begun) in
-      let more : length before.rows < length u.made.rows = omega (
-        arith,
-        a.more,
-        elim old.begun as (λ b. length (names_in b) ≡ length (package_or_new t.file b).rows)
-            [ None ↦ refl | Some held ↦ length-map held.rows _ ],
-        ap (λ b. length (names_in b)) (sym u.is),
-        length-map u.made.rows (λ (row : IndexEntry). row.id),
-      ) in
+      let had = same-begun (λ b. length (names_in b)) t.file refl old.begun in
+      let long = λ (p : InProgress). length-map p.rows (λ (row : IndexEntry). row.id) in
+      let has = ap (λ b. length (names_in b)) u.is in
+      let more : length before.rows < length u.made.rows =
+      omega (arith, a.more, had, has, long before, long u.made) in
       let was : IsPlain source.encoding before = subst (λ e. IsPlain e before) (sym is.is)
       (plain-before encoding t.file old.begun old.own a.before (holds.made encoding)) in
       subst (IsPlain encoding) now (subst (λ e. IsPlain e u.made) is.is (record {

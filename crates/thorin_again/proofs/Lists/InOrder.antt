@@ -1,31 +1,16 @@
 -- What a new builder holds once it took some inputs, and what stays so as they are taken in order;
 -- and its one encoding, by these inputs.
-use Rattle.std.proofs.Common.{◌<◌, ◌≡◌, ℕ, List, [], ◌∷◌, sym, subst, Ok, Option, None, inl, inr}
-use Rattle.std.proofs.Common.{◌∙◌, ◌↔◌, Bool, true, false, ◌&&◌, ◌++◌, length, refl, ap, Some, ◌+◌}
-use Rattle.std.proofs.Common.{map, arith, true≢false, length-append, unwrap_or}
-use Rattle.std.specs.Prelude.{All, is_some}
-use Rattle.std.proofs.lemmas.List.Elements.{All-head, All-tail, All-nil, All-cons}
-use Rattle.dwp_table.specs.declared.object.DwarfObject.{DwarfObject}
-use Rattle.thorin_join.specs.Builder.{State, start, taken, with_input, names_in, package_or_new}
-use Rattle.thorin_join.specs.Join.{Joins}
-use Rattle.thorin_again.specs.OwnUnits.{HoldsOwn}
-use Rattle.thorin_again.specs.Plain.{HoldsPlain}
-use Rattle.thorin_again.specs.PlainInputs.{AreTaken, IsPlainOf, EachAdds, IsOfPlainObjects}
-use Rattle.thorin_join.specs.Represents.{IsSoundBegun, units_begun, units_in}
-use Rattle.thorin_join.specs.State.{InProgress}
-use Rattle.thorin_again.proofs.Kept.OneEncoding.{begun-now, Before, own-adds, taken-holds}
-use Rattle.thorin_again.proofs.Kept.OneEncoding.{own-units, takes-units, units-names, taken-plain}
-use Rattle.thorin_join.proofs.Joined.Input.{input-keeps}
-use Rattle.dwp_base.proofs.Bools.{both}
-use Rattle.dwp_bytes.specs.declared.encoding.Encoding.{Encoding}
-use Rattle.thorin_errors.specs.Errors.{ErrorValue}
-use Rattle.thorin_input.specs.Encodings.{own_encoding, file_encoding}
-use Rattle.thorin_join.specs.Meaning.{Meaning, Members, keys, joining}
-use Rattle.thorin_again.specs.Own.{has_sections, packs_again}
-use Rattle.thorin_join.proofs.Joined.Taken.{takes}
-use Rattle.dwp_base.proofs.Steps.{same-ok}
-use Rattle.thorin_join.proofs.Joined.Source.{all_there}
-use Rattle.dwp_bytes.specs.declared.encoding.Format.TheVariants.{Dwarf32}
+use Rattle.thorin_again.proofs.Terms
+use Terms.{IsOfPlainObjects, package_or_new, file_encoding, IsSoundBegun, has_sections, DwarfObject}
+use Terms.{own_encoding, input-keeps, packs_again, units_begun, HoldsPlain, InProgress, true≢false}
+use Terms.{IsPlainOf, all_there, All-cons, All-head, All-tail, AreTaken, EachAdds, Encoding, Option}
+use Terms.{HoldsOwn, units_in, All-nil, Dwarf32, Meaning, Members, is_some, length, Joins, arith, ℕ}
+use Terms.{false, start, subst, takes, Bool, List, None, Some, both, refl, true, ◌&&◌, All, inl, Ok}
+use Terms.{inr, map, sym, ◌<◌, ◌∙◌, ◌∷◌, ◌≡◌, [], ap}
+use Rattle.std.proofs.Common.{length-append, unwrap_or, ◌+◌, ◌↔◌}
+use Rattle.thorin_join.specs.Builder.{with_input, names_in, State, taken}
+use Rattle.thorin_again.proofs.Kept.OneEncoding.{taken-holds, taken-plain, takes-units, units-names}
+use Rattle.thorin_again.proofs.Kept.OneEncoding.{begun-now, own-units, own-adds, Before}
 
 -- what stays so of a builder, whatever executables refer to, as inputs of this kind are taken
 in-order : (Q : List ℕ → Type 0) (P : State → Type 0)
@@ -120,21 +105,14 @@ there-back (u ∷ us) = ap (λ l. u ∷ l) (there-back us)
 
 joins-same : (bytes : List ℕ) (before one other : Members) → Joins bytes before one
     → Joins bytes before other → one ≡ other
-joins-same bytes before one other j k =
-    let units : j.units ≡ k.units = same-ok {E = ErrorValue} j.units k.units
-    (sym j.meaning ∙ k.meaning) in
-    j.is ∙ ap (λ l. before ++ l) (sym (there-back j.added) ∙ ap (map meant_or) (sym j.joined
-    ∙ ap (joining (keys before)) units ∙ k.joined) ∙ there-back k.added) ∙ sym k.is
+joins-same bytes before one other j k = cc (there-back j.added, there-back k.added)
 
 joins-more : (bytes : List ℕ) (old : State) (now : Option InProgress) (before : Members)
     → before ≡ units_begun now → (j : Joins bytes (units_in old) before)
     → length (names_in now) ≡ length (names_in old.begun) + length j.added
-joins-more bytes old now before same j = omega (
-  arith,
-  units-names old.begun,
-  units-names now,
-  ap length (sym same ∙ j.is) ∙ length-append (units_in old) j.added,
-)
+joins-more bytes old now before same j =
+    let long = ap length (sym same ∙ j.is) ∙ length-append (units_in old) j.added in
+    omega (arith, units-names old.begun, units-names now, long)
 
 -- ---- inputs in order
 
@@ -166,15 +144,12 @@ exactly e (bytes ∷ rest) old new fine are =
             | inr none ↦ (package_or_new t.file old.begun, sym none.1)
           ] in
           let a = (own-adds bytes from next e took).0 (later.before begun.0 begun.1) in
+          let more : 0 < length j.added =
+          omega (arith, joins-more bytes from next.begun (units_in next) refl j, a.more) in
           record {
             plain = All-cons (IsPlainOf e) bytes rest (plain-of bytes from next e took a.found)
                 later.plain;
-            adds = (
-              units_in next,
-              j,
-              omega (arith, joins-more bytes from next.begun (units_in next) refl j, a.more),
-              later.adds,
-            );
+            adds = (units_in next, j, more, later.adds);
             before = a.before;
           },
       λ each.
@@ -191,7 +166,7 @@ exactly e (bytes ∷ rest) old new fine are =
 
 -- ---- from a new builder
 
-some-there : {A : Type 0} (test : Option A → Bool) → test None ≡ false → (o : Option A)
+pub some-there : {A : Type 0} (test : Option A → Bool) → test None ≡ false → (o : Option A)
     → test o ≡ true → (x : A) × (o ≡ Some x)
 some-there test none None h = absurd (true≢false (sym h ∙ none))
 some-there test none (Some x) h = (x, refl)

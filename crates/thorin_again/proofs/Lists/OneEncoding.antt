@@ -1,111 +1,47 @@
 -- Where all units of each input have one encoding: the header of each unit of a package has the
 -- encoding that is recorded of it, wherever its bytes are read again; each has its strings; and
 -- what is written has the encoding, as an input.
-use Rattle.std.proofs.Common.{◌≡◌, ◌∙◌, ℕ, true, nat_eq, ◌&&◌, List, refl, sym, ap, Ok, ◌-◌, inl}
-use Rattle.std.proofs.Common.{inr, [], ◌∷◌, map, subst, Err, Option, Some, None, ◌<◌, length, arith}
-use Rattle.dwp_dwarf.proofs.Readings.{one_answer}
-use Rattle.std.specs.Prelude.{All, nat_le, MatchOption}
-use Rattle.std.specs.List.{list_all}
-use Rattle.dwp_base.specs.declared.endian.Endianness.{Endianness}
-use Rattle.dwp_bytes.specs.Input.{Input, section, number_at, split_at, offset_at}
-use Rattle.dwp_bytes.specs.declared.encoding.Encoding.{Encoding}
-use Rattle.dwp_bytes.specs.declared.encoding.Format.{Format}
-use Rattle.dwp_bytes.specs.declared.error.ReadError.{ReadError}
-use Rattle.dwp_dwarf.specs.Units.{Unit as Header, unit_at, units, header_at}
-use Rattle.dwp_dwarf.specs.Units.{older_at, older_type_at, address_size_at, initial_length_at}
-use Rattle.dwp_dwarf.specs.declared.unit.UnitSection.{UnitSection}
-use Rattle.dwp_index.specs.Package.{encoding_in, Package, package_of, found_counted, row_counted}
-use Rattle.dwp_index.specs.Package.{unit_of_row, unit_in, place_of, kind_of, row_bytes, all_inside}
-use Rattle.dwp_index.specs.Package.{first_outside, index_in_section}
-use Rattle.dwp_table.specs.declared.object.DwarfObject.{DwarfObject}
-use Rattle.thorin_input.specs.Encodings.{section_has, first_encoding, encoding_of}
-use Rattle.thorin_input.specs.Indexes.{Source}
-use Rattle.thorin_join.specs.Meaning.{Meaning, Members, source_units}
-use Rattle.thorin_join.proofs.Units.HeadersRead.{Reads}
-use Rattle.thorin_again.proofs.Kept.EachUnit.{OfOne, of-one}
-use Rattle.thorin_again.proofs.Kept.EachUnit.{plain-added, order-added}
-use Rattle.thorin_again.proofs.Kept.OneEncoding.{CanMean, begun-now, units-hold}
-use Rattle.dwp_base.proofs.Bools.{by-bool}
-use Rattle.dwp_base.proofs.Steps.{bind-was, same-ok}
-use Rattle.std.specs.Map.{lookup}
-use Rattle.std.specs.Option.{IfSome}
+use Rattle.thorin_again.proofs.Terms
+use Terms.{IsFinishedState, finished-order, first_encoding, package_or_new, written_object, All-map}
+use Terms.{first_outside, found_counted, IsSoundBegun, finished-own, sections-are, source_units, Ok}
+use Terms.{DwarfObject, KindsDiffer, MatchOption, NamesItself, UnitSection, encoding_of, All-weaker}
+use Terms.{finished-is, section_has, source-made, units_begun, written_elf, Endianness, InProgress}
+use Terms.{IndexEntry, content_of, length-map, look_limit, made-order, meaning_at, one_answer, File}
+use Terms.{same-begun, unit_bytes, AreRowsOf, GivesNone, GivesUnit, ReadError, file_text, none-some}
+use Terms.{same_Some, same_name, All-cons, All-head, All-tail, AreTaken, Contents, Encoding, Header}
+use Terms.{bind-was, each-all, list_all, older_at, order_of, place_of, range_in, units_in, units_of}
+use Terms.{All-nil, EachRow, IsPlain, IsSound, Meaning, Members, WasRead, kind_at, members, rows_at}
+use Terms.{same-ok, section, unit_at, IfSome, Option, Ranges, Source, elf_of, length, lookup, AllOf}
+use Terms.{opened, Input, Joins, Reads, arith, start, subst, takes, units, List, None, Some, refl}
+use Terms.{true, All, Elf, Err, Lie, inl, inr, map, sym, ◌<◌, ◌∙◌, ◌∷◌, ◌≡◌, [], ap, ℕ}
+use Rattle.dwp_dwarf.specs.Units.{header_at}
+use Rattle.thorin_join.specs.Builder.{finish_test, IsFinished, with_input, State, taken}
+use Rattle.thorin_again.specs.Again.{input_encoding}
+use Rattle.dwp_index.specs.Package.{index_in_section, encoding_in, row_counted, unit_of_row}
+use Rattle.dwp_index.specs.Package.{all_inside, package_of, row_bytes, Package, kind_of, unit_in}
+use Rattle.thorin_again.proofs.Kept.EachUnit.{order-added, of-one, OfOne}
+use Rattle.thorin_again.proofs.Kept.OneEncoding.{units-hold, begun-now, CanMean}
 use Rattle.std.proofs.lemmas.Map.Views.{IfSome-lookup_from_All}
-use Rattle.std.proofs.lemmas.List.Elements.{All-nil, All-cons, All-head, All-tail, All-map}
-use Rattle.std.proofs.lemmas.Option.{same_Some, none-some}
-use Rattle.dwp_base.specs.declared.section.SectionKind.TheVariants as kinds
-use Rattle.dwp_elf.specs.FileText.{Object as File, file_text}
-use Rattle.dwp_elf.specs.Written.{written_elf}
-use Rattle.dwp_elf_read.specs.Elf.{Elf, elf_of}
-use Rattle.dwp_index.specs.Contents.{content, contents_of}
-use Rattle.dwp_index.specs.Index.{Ranges, range_in}
+use Rattle.dwp_index.specs.Contents.{contents_of, content}
 use Rattle.dwp_index.specs.declared.error.PackageError.{PackageError}
+use Rattle.dwp_index.proofs.RowsOfUnits.{by_row}
+use Rattle.thorin_again.specs.OneEncoding.{HaveEncodingOnceWritten, AnswersOnceWritten, GivesWhole}
+use Rattle.thorin_again.specs.OneEncoding.{IsOfOneEncoding, IsOfEncoding, AnswersAs}
+use Rattle.thorin_again.proofs.Lists.InOrder.{packages-in-order}
+use Rattle.thorin_again.proofs.Opened.Sections.{input-encoding, first-written, opened-elf}
+use Rattle.thorin_again.proofs.Kept.Names.{info-there}
+use Rattle.thorin_again.proofs.Meant.RowByRow.{of-section, read-alone}
+use Rattle.dwp_base.specs.declared.section.SectionKind.TheVariants as kinds
 use Rattle.dwp_index.specs.declared.error.PackageError.TheVariants as errors
 use Rattle.dwp_index.specs.Package as index
-use Rattle.dwp_index.proofs.RowsOfUnits.{by_row}
-use Rattle.thorin_input.specs.Names.{same_name}
-use Rattle.thorin_input.specs.Used.{opened}
-use Rattle.thorin_join.specs.Builder.{State, start, taken, with_input, package_or_new, order_of}
-use Rattle.thorin_join.specs.Builder.{finish_test, IsFinishedState, IsFinished}
-use Rattle.thorin_join.specs.Join.{Joins, GivesUnit, GivesNone, look_limit}
-use Rattle.thorin_again.specs.OneEncoding.{IsOfOneEncoding, GivesWhole, AnswersAs, IsOfEncoding}
-use Rattle.thorin_again.specs.OneEncoding.{AnswersOnceWritten, HaveEncodingOnceWritten}
-use Rattle.thorin_again.specs.PlainInputs.{AreTaken}
-use Rattle.thorin_input.specs.Growing.{Contents}
-use Rattle.thorin_again.specs.OwnUnits.{AllOf}
-use Rattle.thorin_again.specs.Plain.{IsPlain, NamesItself}
-use Rattle.thorin_join.specs.Represents.{IsSound, IsSoundBegun, AreRowsOf, meaning_at, units_of}
-use Rattle.thorin_join.specs.Represents.{units_in, units_begun}
-use Rattle.thorin_join.specs.StandApart.{EachRow}
-use Rattle.thorin_join.specs.State.{InProgress, unit_bytes, kind_at}
-use Rattle.thorin_index.specs.declared.entry.IndexEntry.{IndexEntry}
-use Rattle.thorin_again.proofs.Lists.InOrder.{packages-in-order}
-use Rattle.thorin_join.proofs.Joined.Input.{made-order}
-use Rattle.thorin_again.proofs.Opened.Sections.{opened-elf, input-encoding, first-written}
-use Rattle.thorin_join.proofs.Joined.Taken.{takes}
-use Rattle.thorin_join.proofs.Files.Finished.{finished-order, finished-own, finished-is}
-use Rattle.std.proofs.lemmas.List.{length-map}
 use Rattle.dwp_dwarf.specs.declared.unit.UnitSection.TheVariants as places
-use Rattle.dwp_elf.specs.Contents.{content_of, KindsDiffer}
-use Rattle.thorin_again.specs.Again.{input_encoding}
-use Rattle.thorin_again.proofs.Kept.Names.{info-there}
-use Rattle.thorin_join.specs.Laid.{Lie, rows_at}
-use Rattle.thorin_again.specs.OwnInput.{written_object}
-use Rattle.thorin_again.proofs.Meant.RowByRow.{of-section, read-alone}
-use Rattle.thorin_join.proofs.Files.RowsFound.{members}
-use Rattle.thorin_join.proofs.Units.HeadersRead.{WasRead, sections-are, each-all}
-use Rattle.std.proofs.ByRecursion.{All-weaker}
 
 -- ---- a header has one encoding, in whichever section it is read
 
-header-encoding : (p q : UnitSection) (format : Format) (whole i : Input) (u v : Header)
-    → header_at p format whole i ≡ Ok u → header_at q format whole i ≡ Ok v
-    → u.encoding ≡ v.encoding
-unfolding header_at older_at
-header-encoding p q format whole i u v h k =
-    let a = bind-was (number_at 2 i) _ u h in
-    let l = rw a.1 at k in
-    by-bool _ (nat_eq a.0.0 5)
-    (λ five. ap (λ (w : Header). w.encoding) (one_answer _ (rw five at a.2) (rw five at l)))
-    (λ other. by-bool _ (nat_le 2 a.0.0 && nat_le a.0.0 4)
-    (λ older.
-    let b = bind-was (offset_at format a.0.1) _ u (rw (other, older) at a.2) in
-    let c = bind-was (address_size_at b.0.1) _ u b.2 in
-    let x = bind-was (older_type_at p format c.0.1) _ u c.2 in
-    let y = bind-was (older_type_at q format c.0.1) _ v (rw (other, older, b.1, c.1) at l) in
-    rw (← same-ok {E = ReadError} _ u x.2, ← same-ok {E = ReadError} _ v y.2) refl)
-    (λ none. let wrong = rw (other, none) at a.2 in absurd cc))
-
 places-encoding : (p q : UnitSection) (i : Input) (u v : Header × Input) → unit_at p i ≡ Ok u
     → unit_at q i ≡ Ok v → u.0.encoding ≡ v.0.encoding
-unfolding unit_at
-places-encoding p q i u v h k =
-    let a = bind-was (initial_length_at i) _ u h in
-    let b = bind-was (split_at a.0.0.1 a.0.1) _ u a.2 in
-    let c = bind-was (split_at (b.0.1.place - i.place) i) _ u b.2 in
-    let x = bind-was (header_at p a.0.0.0 c.0.0 b.0.0) _ u c.2 in
-    let y = bind-was (header_at q a.0.0.0 c.0.0 b.0.0) _ v (rw (a.1, b.1, c.1) at k) in
-    rw (← same-ok {E = ReadError} _ u x.2, ← same-ok {E = ReadError} _ v y.2)
-    (header-encoding p q a.0.0.0 c.0.0 b.0.0 x.0 y.0 x.1 y.1)
+unfolding unit_at header_at older_at
+places-encoding p q i u v h k = grind (arith, h, k)
 
 -- the header that stands in a unit's bytes, in whichever section, has the encoding that is recorded
 abbrev pub IsEncoded : Endianness → Meaning → Type 0
@@ -134,8 +70,7 @@ AreEncoded order units = All (λ (u : DwarfObject × Meaning). IsEncoded order u
 
 new-order : (file : Elf) (begun : Option InProgress) → (package_or_new file begun).file.order
     ≡ order_of begun file.order
-new-order file None = refl
-new-order file (Some made) = refl
+new-order file = same-begun (λ b. order_of b file.order) file refl
 
 -- the byte order of a package after an input: that before, or the input's own
 pub input-order : (bytes : List ℕ) (file : Elf) (begun now : Option InProgress) (order : Endianness)
@@ -145,7 +80,7 @@ input-order bytes file begun now order opens h =
     let t = takes bytes begun now h in
     elim t.does as (λ d. order_of now order ≡ (package_or_new t.file begun).file.order) [
       | inl w ↦ ap (λ b. order_of b order) (sym w.1.is)
-          ∙ order-added (plain-added w.1.source _ w.1.made w.1.with)
+          ∙ order-added (source-made w.1.source _ w.1.made w.1.with)
       | inr none ↦ ap (λ b. order_of b order) (sym none.1)
     ] ∙ new-order t.file begun
     ∙ ap (λ (e : Elf). order_of begun e.order) (one_answer (opened bytes) t.opens opens)
@@ -212,12 +147,10 @@ found-header pack name found count h =
         let place = place_of name (range_in row kinds.Types) in
         let read = encoding_in pack.order place (row_bytes pack.contents row (kind_of place)) in
         let s = bind-was (index.as_error errors.Unit read) _ u.0 inside.2 in
+        let is = (elim read as (λ r. index.as_error errors.Unit r ≡ Ok s.0 → r ≡ Ok s.0)
+        [ Ok y ↦ λ k. cc | Err e ↦ λ k. absurd cc ]) s.1 in
         subst (HasHeader pack) (same-ok {E = PackageError} _ u.0 s.2
-        ∙ same_Some u.0 found (ap unit (same-ok {E = PackageError} _ _ u.2))) (
-          place,
-          (elim read as (λ r. index.as_error errors.Unit r ≡ Ok s.0 → r ≡ Ok s.0)
-              [ Ok y ↦ λ k. cc | Err e ↦ λ k. absurd cc ]) s.1,
-        )
+        ∙ same_Some u.0 found (ap unit (same-ok {E = PackageError} _ _ u.2))) (place, is)
 
 -- what look-ups of these units give
 abbrev pub Finds : Package → Members → Type 0
@@ -386,14 +319,12 @@ pub inputs-alike : (e : Encoding) (accepted : List (List ℕ)) (state : State)
     → AreTaken accepted start state → All (IsOfEncoding e) accepted → (file : File)
     → IsFinishedState state file → HaveEncodingOnceWritten (units_in state) file
 inputs-alike e accepted state are one file f differ back k d within =
+    let units = All-nil (λ (u : DwarfObject × Meaning). u.1.encoding ≡ e) in
     let is = packages-in-order (IsOfEncoding e) (λ begun. Encoded begun
     × Filled e begun) (λ bytes begun now q j h before. (
       input-encoded bytes begun now q.0 j h before.0,
       input-filled e bytes begun now q j h before.1,
-    )) accepted state are one (
-      λ made none. absurd cc,
-      (All-nil (λ (u : DwarfObject × Meaning). u.1.encoding ≡ e), λ made none. absurd cc),
-    ) in
+    )) accepted state are one (λ made none. absurd cc, (units, λ made none. absurd cc)) in
     let made = f.made in
     let filled = is.1.1 in
     let encoded = is.1.0 made f.begun in

@@ -1,70 +1,31 @@
 -- What a unit of a written package means as an input: just what was joined.
-use Rattle.std.proofs.Common.{[], nat_eq, ◌≡◌, ◌∙◌, ℕ, zero, suc, ◌+◌, ◌<◌, ◌≤◌, ◌≢◌, Bool, true}
-use Rattle.std.proofs.Common.{false, not, List, ◌∷◌, ◌++◌, length, get_or, ap, ap₂, sym, refl, Ok}
-use Rattle.std.proofs.Common.{Option, Some, None, is_none, arith, slice_get, find}
-use Rattle.std.proofs.lemmas.Bool.{eq-eqb, eqb-true, eqb-false, le-leb}
-use Rattle.std.proofs.lemmas.List.{get_or_append_left}
-use Rattle.std.proofs.lemmas.List.Elements.{All-filter, filter-append}
-use Rattle.std.proofs.lemmas.Option.{none-some, same_Some, slice_get_within, slice_get-get_or}
-use Rattle.std.proofs.Math.Seq.{take-length}
-use Rattle.dwp_base.specs.declared.section.Contribution.{Contribution}
-use Rattle.dwp_base.specs.declared.section.SectionKind.{SectionKind}
-use Rattle.dwp_base.specs.declared.section.SectionKind.TheVariants as kinds
-use Rattle.dwp_bytes.specs.Input.{section, Input}
-use Rattle.dwp_dwarf.specs.Units.{Unit as Header}
-use Rattle.dwp_dwarf.specs.declared.unit.UnitSection.{UnitSection}
-use Rattle.dwp_dwarf.specs.declared.unit.UnitType.{UnitType}
-use Rattle.dwp_dwarf.specs.declared.unit.UnitType.TheVariants as unit_types
-use Rattle.dwp_elf.specs.Contents.{content_of}
-use Rattle.dwp_index.specs.Index.{Index, Ranges, row_in, range_in}
-use Rattle.dwp_index.specs.Package.{part_of, is_outside}
-use Rattle.dwp_table.specs.Objects.{identifier_of}
-use Rattle.dwp_table.specs.Probing.{found_row, look_count}
-use Rattle.dwp_table.specs.Table.{FindsExactly}
-use Rattle.dwp_table.specs.declared.object.DwarfObject.{DwarfObject}
-use Rattle.dwp_table.specs.declared.object.DwarfObject.TheVariants.{Compilation, TypeUnit}
+use Rattle.thorin_again.proofs.Terms
+use Terms.{get_or_append_left, row_abbreviations, abbreviations_for, slice_get_within, Contribution}
+use Terms.{slice_get-get_or, contribution_to, name_signature, is_compilation, name-identity, nat_eq}
+use Terms.{identity-sort, filter-append, identifier_of, FindsExactly, not-outside, take-length, ◌≡◌}
+use Terms.{SectionKind, UnitSection, DwarfObject, Compilation, pieces-same, content_of, HasEntries}
+use Terms.{IndexEntry, meaning_at, InProgress, strings_of, part-there, Endianness, own_source, zero}
+use Terms.{All-filter, lie_inside, is_outside, eqb-false, none-some, same_Some, is_chosen, eqb-true}
+use Terms.{index_for, looked_up, AreRowsOf, entry_ids, LieInside, range_in, HasParts, Contents, ◌∙◌}
+use Terms.{name_for, row_test, Encoding, TypeUnit, section, part_of, data_of, rows_of, Indexes, ◌<◌}
+use Terms.{Meaning, kind_at, HasRows, members, same-ok, by-bool, length, Option, eq-eqb, Header, []}
+use Terms.{Ranges, Source, row_of, false, arith, Input, Index, first, id-at, AllOf, Bool, true, ◌∷◌}
+use Terms.{List, refl, Some, None, kept, File, sym, ap, Ok, ℕ}
+use Rattle.std.proofs.Common.{slice_get, is_none, get_or, ◌++◌, find, suc, ◌+◌, ◌≢◌, ap₂}
+use Rattle.thorin_join.specs.Meaning.{meaning_with, shared_kinds, unit_meaning, meaning_by}
+use Rattle.thorin_join.proofs.Terms.{IsRowOf}
 use Rattle.thorin_identity.specs.Identity.{identity_by, identity}
+use Rattle.dwp_index.specs.Index.{row_in}
+use Rattle.dwp_table.specs.Probing.{look_count, found_row}
 use Rattle.thorin_packaged.specs.RowPlaces.{row_by_place}
-use Rattle.thorin_input.specs.Adjusting.{row_of}
-use Rattle.thorin_index.specs.Entries.{contribution_to}
-use Rattle.thorin_index.specs.IndexText.{entry_ids}
-use Rattle.thorin_index.specs.ReadRows.{HasEntries, HasParts}
-use Rattle.thorin_index.specs.declared.entry.IndexEntry.{IndexEntry}
-use Rattle.thorin_strings.specs.Strings.{data_of}
-use Rattle.thorin_join.specs.Builder.{is_chosen, rows_of}
-use Rattle.thorin_input.specs.Growing.{Contents}
-use Rattle.thorin_input.specs.Indexes.{Source, Indexes, index_for, looked_up}
-use Rattle.thorin_join.specs.Laid.{type_signature, name_signature}
-use Rattle.thorin_join.specs.Meaning.{Meaning, lie_inside, shared_kinds, meaning_with, meaning_by}
-use Rattle.thorin_join.specs.Meaning.{unit_meaning}
-use Rattle.thorin_input.specs.Names.{is_compilation}
-use Rattle.thorin_input.specs.NewUnits.{name_for}
-use Rattle.thorin_join.specs.Represents.{IsRowOf, AreRowsOf, meaning_at, LieInside}
-use Rattle.thorin_input.specs.Rows.{own_range, row_test, is_compile, row_abbreviations, is_same_row}
-use Rattle.thorin_input.specs.Rows.{numbered_abbreviations, abbreviations_for}
-use Rattle.thorin_join.specs.State.{kind_at, InProgress}
-use Rattle.thorin_join.specs.Strings.{strings_of}
-use Rattle.thorin_input.specs.Used.{first}
-use Rattle.thorin_join.proofs.Units.HeadersRead.{name-identity}
-use Rattle.thorin_join.proofs.Units.Sorts.{identity-sort}
-use Rattle.thorin_join.proofs.Files.UnitsFound.{part-there}
-use Rattle.thorin_join.proofs.Files.Indexes.{HasRows}
-use Rattle.thorin_again.proofs.Meant.RowByRow.{at-seam, IsBelow, non_empty-some, range_at, IsUnitOf}
-use Rattle.thorin_again.proofs.Meant.RowByRow.{bytes-own}
+use Rattle.thorin_input.specs.Rows.{numbered_abbreviations, is_same_row, is_compile, own_range}
+use Rattle.thorin_again.proofs.Meant.RowByRow.{non_empty-some, bytes-own, range_at, IsUnitOf}
+use Rattle.thorin_again.proofs.Meant.RowByRow.{at-seam, IsBelow}
 use Rattle.thorin_packaged.proofs.FirstRow.{first_found}
 use Rattle.dwp_table.proofs.Tables.{finds_exactly}
-use Rattle.thorin_join.proofs.Files.RowsFound.{id-at, members}
 use Rattle.thorin_join.proofs.Parts.StringLists.{strings-are}
-use Rattle.thorin_join.proofs.Units.InRows.{pieces-same}
-use Rattle.dwp_base.proofs.Steps.{same-ok}
-use Rattle.dwp_base.proofs.Bools.{by-bool}
-use Rattle.thorin_join.proofs.Steps.{kept}
-use Rattle.dwp_base.specs.declared.endian.Endianness.{Endianness}
-use Rattle.dwp_bytes.specs.declared.encoding.Encoding.{Encoding}
-use Rattle.thorin_again.specs.OwnUnits.{AllOf}
-use Rattle.thorin_again.specs.OwnInput.{own_source}
-use Rattle.thorin_again.proofs.Opened.Indexes.{IsReadOf, rows-kept}
-use Rattle.dwp_elf.specs.FileText.{Object as File}
+use Rattle.thorin_again.proofs.Opened.Indexes.{rows-kept, IsReadOf}
+use Rattle.dwp_base.specs.declared.section.SectionKind.TheVariants as kinds
 
 -- ---- names
 
@@ -73,24 +34,7 @@ use Rattle.dwp_elf.specs.FileText.{Object as File}
 same-name : (indexes : Indexes) (id name : DwarfObject) → name_signature name ≡ name_signature id
     → (is_compilation name ≡ true → index_for indexes name ≡ index_for indexes id
     → identifier_of id ≡ identifier_of name) → name ≡ id
-same-name indexes (Compilation a) (Compilation b) h same =
-    ap (λ n. Compilation (record { 0 = n })) (sym (same refl refl))
-same-name indexes (TypeUnit a) (TypeUnit b) h same =
-    ap (λ n. TypeUnit (record { 0 = n })) (same_Some _ _ h)
-same-name indexes id name h same = absurd cc
-
--- a compile unit's name is looked for among compilations
-compile-sort : (indexes : Indexes) (type : UnitType) (name : DwarfObject) → is_compile type ≡ true
-    → type_signature type ≡ name_signature name → indexes.compilations ≡ index_for indexes name
-compile-sort indexes unit_types.Compilation (Compilation id) c h = refl
-compile-sort indexes unit_types.Compilation (TypeUnit signature) c h = absurd cc
-compile-sort indexes type name c h = absurd cc
-
--- every other unit is named by its header
-identity-by : (a b : Input) (h : Header) (type : UnitType) → is_compile type ≡ false
-    → identity_by a h type ≡ identity_by b h type
-identity-by a b h unit_types.Compilation c = absurd cc
-identity-by a b h type c = refl
+same-name indexes id name h same = grind arith
 
 -- ---- rows
 
@@ -98,30 +42,23 @@ identity-by a b h type c = refl
 some-index : (index : Option Index) (rows : List IndexEntry) (row : IndexEntry) (n : ℕ)
     → HasRows index rows → slice_get rows n ≡ Some row → (i : Index) × (index ≡ Some i)
     × ((version : ℕ) × HasEntries version rows i)
-some-index None rows row n has at = absurd (none-some row (rw has at at))
+some-index None rows row n has at = let none = rw has at at in absurd cc
 some-index (Some i) rows row n has at = (i, refl, (has.0, has.1))
 
 same-number : (looked : Option ℕ) (n : ℕ) → is_same_row (Some n) looked ≡ true → looked ≡ Some n
-same-number None n h = absurd cc
-same-number (Some m) n h = ap Some (sym (eqb-true n m h))
-
-inside-by : (bytes : List ℕ) (part : Option Contribution) → ((range : Contribution)
-    → part ≡ Some range → range.offset.0 + range.size ≤ length bytes)
-    → is_outside bytes part ≡ false
-inside-by bytes None h = refl
-inside-by bytes (Some range) h = ap not (le-leb _ _ (h range refl))
+same-number looked n h = grind (arith, eqb-true)
 
 -- the unit of a row, and its encoding
 unit-of : (order : Endianness) (contents : Contents) (strings : List (List ℕ)) (encoding : Encoding)
-    (mean : IndexEntry → Meaning) (rows before later : List IndexEntry) (row : IndexEntry)
-    → rows ≡ before ++ row ∷ later → AreRowsOf order contents strings rows (members mean rows)
-    → AllOf encoding (members mean rows) → IsRowOf order contents strings row (row.id, mean row)
-    × (encoding ≡ (mean row).encoding)
-unit-of order contents strings encoding mean rows [] later row cut are all =
-    ((rw cut at are).0, sym ((rw cut at all) 0 (row.id, mean row) (omega arith)))
-unit-of order contents strings encoding mean rows (b ∷ bs) later row cut are all =
-    unit-of order contents strings encoding mean (bs ++ row ∷ later) bs later row refl
-    (rw cut at are).1 (λ k d within. (rw cut at all) (suc k) d (omega (arith, within)))
+    (mean : IndexEntry → Meaning) (before later : List IndexEntry) (row : IndexEntry)
+    → AreRowsOf order contents strings (before ++ row ∷ later) (members mean
+    (before ++ row ∷ later)) → AllOf encoding (members mean (before ++ row ∷ later))
+    → IsRowOf order contents strings row (row.id, mean row) × (encoding ≡ (mean row).encoding)
+unit-of order contents strings encoding mean [] later row are all =
+    (are.0, sym (all 0 (row.id, mean row) (omega arith)))
+unit-of order contents strings encoding mean (b ∷ bs) later row are all =
+    unit-of order contents strings encoding mean bs later row are.1
+    (λ k d within. all (suc k) d (omega (arith, within)))
 
 -- a unit that is read of a written package
 module _ {encoding : Encoding} {file : File} {indexes : Indexes} {made : InProgress}
@@ -135,13 +72,11 @@ module _ {encoding : Encoding} {file : File} {indexes : Indexes} {made : InProgr
   abbrev mean : IndexEntry → Meaning
   mean r = meaning_at made.file.order made.file.contents made.strings r
 
-  abbrev unit : Meaning
-  unit = mean row
-
-  joined : IsRowOf file.order file.contents made.strings row (row.id, unit)
-      × (encoding ≡ unit.encoding)
-  joined = unit-of file.order file.contents made.strings encoding mean made.rows u.before later
-      row u.split (rows-kept made file read.own.sound read.finished) read.own.all
+  joined : IsRowOf file.order file.contents made.strings row (row.id, mean row)
+      × (encoding ≡ (mean row).encoding)
+  joined = unit-of file.order file.contents made.strings encoding mean u.before later row
+      (rw u.split at (rows-kept made file read.own.sound read.finished))
+      (rw u.split at read.own.all)
 
   pub row-lies : LieInside file.contents row
   row-lies = joined.0.lie
@@ -164,8 +99,7 @@ module _ {encoding : Encoding} {file : File} {indexes : Indexes} {made : InProgr
 
   chosen-are : chosen ≡ rows_of sort u.before ++ row ∷ rows_of sort later
   chosen-are =
-      let own_sort : is_chosen sort row ≡ true =
-      by-bool _ (is_compilation row.id) (λ e. rw e e) (λ e. rw e (ap not e)) in
+      let own_sort : is_chosen sort row ≡ true = grind arith in
       ap (rows_of sort) u.split
       ∙ rw (filter-append (is_chosen sort) u.before (row ∷ later), own_sort) refl
 
@@ -236,9 +170,10 @@ module _ {encoding : Encoding} {file : File} {indexes : Indexes} {made : InProgr
   outside : (k : SectionKind) → is_outside (first k source.object.sections) (range_in parts.row k) ≡
       false
   outside k = ap₂ is_outside (read.again.held k) (found-range k)
-      ∙ inside-by (content_of k file.contents) (contribution_to k row) (row-lies.inside k)
+      ∙ not-outside (content_of k file.contents) (content_of k file.contents)
+      (contribution_to k row) refl (row-lies.inside k)
 
-  means : meaning_by source u.own (Some parts.row) ≡ Some unit
+  means : meaning_by source u.own (Some parts.row) ≡ Some (mean row)
   unfolding meaning_by
   means =
       let is = joined.0 in
@@ -249,15 +184,15 @@ module _ {encoding : Encoding} {file : File} {indexes : Indexes} {made : InProgr
       let strings_are =
       (λ i. strings_of file.order (joined.1 i)
       ((read.again.held kinds.Str ∙ read.again.strings_are) i) (bytes-are kinds.StrOffsets i))
-      ∙ strings-are file.order unit.encoding (data_of made.strings)
+      ∙ strings-are file.order (mean row).encoding (data_of made.strings)
       (part_of (content_of kinds.StrOffsets file.contents) (contribution_to kinds.StrOffsets row))
-      unit.strings (is.shares.string made.strings read.again.table
+      (mean row).strings (is.shares.string made.strings read.again.table
       (take-length made.strings)) in
       rw inside (ap (meaning_with source u.own (Some parts.row)) strings_are
       ∙ (λ i. Some (record {
         bytes = own_is i;
-        pieces = pieces-same _ unit.pieces (λ k copied. bytes-are k ∙ is.shares.content k copied) i;
-        strings = unit.strings;
+        pieces = pieces-same _ _ (λ k copied. bytes-are k ∙ is.shares.content k copied) i;
+        strings = (mean row).strings;
         encoding = joined.1 i;
       })))
 
@@ -296,19 +231,16 @@ module _ {encoding : Encoding} {file : File} {indexes : Indexes} {made : InProgr
   pub row-means-again : (name : DwarfObject) → name_for source kind h ≡ Ok name
       → (is_compilation name ≡ true → row_test indexes kind name h ≡ Ok tt)
       → (name ≡ row.id)
-      × (unit_meaning source (name, record { from = kind; unit = h }) ≡ Some unit)
+      × (unit_meaning source (name, record { from = kind; unit = h }) ≡ Some (mean row))
   unfolding unit_meaning row_test
   row-means-again name named tested =
       let id = name-identity source kind h name named in
       let is_name : name ≡ row.id = same-name indexes row.id name
       (sym (identity-sort id.0 h name id.1) ∙ u.sort) (λ c alike. same-id name (same-number _
       (number + 1) (kept _ _ _ _ (rw (read.again.packed, alike, own-range, by-place) at
-      (tested c))).0))
-      in (
-        is_name,
-        rw (read.again.packed, is_name, own-range, there.1, row-first, parts.there)
-            (ap (λ (i : Input). meaning_by source i.bytes (Some parts.row)) u.whole ∙ means),
-      )
+      (tested c))).0)) in
+      let whole = ap (λ (i : Input). meaning_by source i.bytes (Some parts.row)) u.whole ∙ means in
+      (is_name, rw (read.again.packed, is_name, own-range, there.1, row-first, parts.there) whole)
 
   -- it passes the test of its row
   pub row-tested : row_test indexes kind row.id h ≡ Ok tt
@@ -325,13 +257,11 @@ module _ {encoding : Encoding} {file : File} {indexes : Indexes} {made : InProgr
   unfolding name_for abbreviations_for row_abbreviations numbered_abbreviations identity
   named-again named =
       by-bool _ (is_compile h.unit_type)
-      (λ compiled. let same = compile-sort indexes h.unit_type row.id compiled u.sort in
+      (λ compiled.
+      let same : indexes.compilations ≡ index_for indexes row.id = grind (arith, u.sort) in
       rw (read.again.packed, compiled, same, there.1, own-range, row-first, parts.there)
       (rw (outside kinds.Abbrev, bytes-are kinds.Abbrev, named) refl))
-      (λ other. rw (
-        read.again.packed,
-        other,
-        identity-by (section file.order (first kinds.Abbrev source.object.sections)) abbreviations
-            h h.unit_type other,
-        named,
-      ) refl)
+      (λ other.
+      let same : identity_by (section file.order (first kinds.Abbrev source.object.sections)) h
+      h.unit_type ≡ identity_by abbreviations h h.unit_type = grind arith in
+      rw (read.again.packed, other, same, named) refl)

@@ -1,63 +1,33 @@
 -- A finished package, taken as an input, means the units that were joined in it.
-use Rattle.std.proofs.Common.{◌≡◌, ◌∙◌, ℕ, true, not, List, [], ◌∷◌, ◌++◌, sym, refl, Ok, All, map}
-use Rattle.std.proofs.Common.{append-nil, true≢false, IsPermutation, subst, ap₂, Option, arith, ap}
-use Rattle.std.proofs.Common.{length, ◌<◌, ◌≢◌}
-use Rattle.std.specs.List.{list_any}
-use Rattle.std.proofs.lemmas.List.Elements.{All-nil, All-cons, All-take, All-drop, All-head}
-use Rattle.std.proofs.lemmas.List.Elements.{All-tail}
-use Rattle.std.proofs.Math.Dec.{eqb-suc-zero}
-use Rattle.std.proofs.lemmas.List.Sorted.{IsPermutation-refl, IsPermutation-trans, All-permutation}
+use Rattle.thorin_again.proofs.Terms
+use Terms.{abbreviations_test, with_source_or_new, All-from_recursion, IsPermutation-map, new_units}
+use Terms.{drop-append_seam, take-append_seam, IsFinishedState, MeansWhereTaken, is_compilation, []}
+use Terms.{written_object, package_or_new, HaveEncodingOf, eqb-suc-zero, units_within, source_units}
+use Terms.{unit_section, written_used, IsSoundBegun, SectionKind, UnitSection, KindsDiffer, is_used}
+use Terms.{DwarfObject, with_source, written_elf, encoding_of, append-nil, content_of, indexes_of}
+use Terms.{InProgress, own_source, map-append, length-map, IndexEntry, meaning_at, with_units, true}
+use Terms.{file_text, all_meant, Contents, UnitRead, name_for, row_test, bind-was, Encoding, Option}
+use Terms.{parts_of, units_of, units_in, has_info, All-head, All-tail, no-bytes, All-take, All-drop}
+use Terms.{by-bool, section, Indexes, joining, Meaning, Members, NewUnit, kind_at, same-ok, rows_at}
+use Terms.{IsSound, members, length, Source, Adding, adding, elf_of, opened, subst, arith, units, ℕ}
+use Terms.{Reads, IsOwn, AllOf, is_at, first, List, refl, Each, both, keys, File, ◌≡◌, ◌∙◌, ◌∷◌, Ok}
+use Terms.{sym, All, map, ◌<◌, ap}
+use Rattle.std.proofs.Common.{IsPermutation, ◌++◌, ap₂, ◌≢◌}
+use Rattle.thorin_join.specs.Builder.{finish_test, order_test, with_input, State, taken}
 use Rattle.std.proofs.lemmas.List.Sorted.{IsPermutation-append_right, IsPermutation-append_comm}
-use Rattle.std.proofs.lemmas.List.Sorted.{IsPermutation-sym, IsPermutation-map}
-use Rattle.std.proofs.lemmas.List.Sorted.{IsPermutation-filter_both}
-use Rattle.dwp_base.specs.declared.section.SectionKind.{SectionKind}
-use Rattle.dwp_base.specs.declared.section.SectionKind.TheVariants as kinds
-use Rattle.dwp_base.proofs.Bools.{both, by-bool, is-false}
-use Rattle.dwp_bytes.specs.Input.{section}
-use Rattle.dwp_dwarf.specs.Units.{units, units_within}
-use Rattle.dwp_dwarf.specs.declared.unit.UnitSection.{UnitSection}
-use Rattle.dwp_dwarf.specs.declared.unit.UnitSection.TheVariants as places
-use Rattle.dwp_elf.specs.Contents.{KindsDiffer, content_of}
-use Rattle.dwp_table.specs.declared.object.DwarfObject.{DwarfObject}
-use Rattle.thorin_input.specs.Growing.{Contents}
-use Rattle.thorin_input.specs.Indexes.{Source, Indexes, indexes_of}
-use Rattle.thorin_join.specs.Meaning.{UnitRead, joining, can_join, named_each, named_at, Meaning}
-use Rattle.thorin_join.specs.Meaning.{named_sections, keys, meant, source_units, source_meaning}
-use Rattle.thorin_join.specs.Meaning.{input_meaning, object_meaning, named_unit, Members}
-use Rattle.thorin_input.specs.Names.{same_name, is_compilation}
-use Rattle.thorin_input.specs.NewUnits.{Adding, NewUnit, unit_section, new_units, name_for}
-use Rattle.thorin_input.specs.Rows.{row_test}
-use Rattle.thorin_join.specs.State.{kind_at, InProgress, adding, abbreviations_test, with_source}
-use Rattle.thorin_join.proofs.Units.JoinedByName.{AreAdded, units-joined}
-use Rattle.thorin_join.proofs.Units.HeadersRead.{Reads}
-use Rattle.thorin_again.proofs.Opened.Sections.{rest-differ, section_of, none-behind, empty-first}
-use Rattle.thorin_again.proofs.Opened.Sections.{no-info, object-written, first-written, opened-elf}
-use Rattle.thorin_again.proofs.Opened.Sections.{input-encoding}
-use Rattle.dwp_base.proofs.Steps.{bind-was, same-ok}
-use Rattle.thorin_again.specs.OwnInput.{written_used, written_object, own_source, IsOwn}
-use Rattle.std.proofs.lemmas.List.{map-append, length-map}
-use Rattle.std.proofs.Math.Seq.{drop-append_seam, take-append_seam}
-use Rattle.dwp_bytes.specs.declared.encoding.Encoding.{Encoding}
-use Rattle.dwp_elf.specs.FileText.{Object as File, file_text}
-use Rattle.dwp_elf.specs.Written.{written_elf}
-use Rattle.dwp_elf_read.specs.Elf.{elf_of}
-use Rattle.dwp_index.specs.Package.{place_of}
-use Rattle.thorin_index.specs.declared.entry.IndexEntry.{IndexEntry}
-use Rattle.thorin_again.specs.OwnUnits.{AllOf}
-use Rattle.thorin_again.specs.Again.{HaveEncodingOf, all_meant, MeansWhereTaken}
-use Rattle.thorin_join.specs.Builder.{State, IsFinishedState, finish_test, package_or_new, taken}
-use Rattle.thorin_join.specs.Builder.{order_test, with_source_or_new, with_units, with_input}
-use Rattle.thorin_input.specs.Encodings.{encoding_of}
-use Rattle.thorin_join.specs.Laid.{is_at, rows_at, same_place}
-use Rattle.thorin_input.specs.Parts.{parts_of}
-use Rattle.thorin_join.specs.Represents.{IsSound, IsSoundBegun, meaning_at, units_of, units_in}
-use Rattle.thorin_input.specs.Used.{opened, has_info, first}
+use Rattle.std.proofs.lemmas.List.Sorted.{IsPermutation-filter_both, IsPermutation-trans}
+use Rattle.std.proofs.lemmas.List.Sorted.{IsPermutation-refl, IsPermutation-sym, All-permutation}
+use Rattle.thorin_join.specs.Meaning.{named_sections, source_meaning, object_meaning, input_meaning}
+use Rattle.thorin_join.specs.Meaning.{named_each, named_unit, can_join, named_at, meant}
+use Rattle.thorin_join.proofs.Units.JoinedByName.{units-joined, AreAdded}
+use Rattle.thorin_again.proofs.Opened.Sections.{object-written, input-encoding, first-written}
+use Rattle.thorin_again.proofs.Opened.Sections.{rest-differ, none-behind, empty-first, section_of}
+use Rattle.thorin_again.proofs.Opened.Sections.{opened-elf, no-info}
 use Rattle.thorin_again.proofs.Meant.RowByRow.{each-place, of-section}
 use Rattle.thorin_again.proofs.Meant.OneRow.{row-means-again}
-use Rattle.thorin_index.specs.IndexText.{is_used}
-use Rattle.thorin_join.proofs.Parts.Appended.{no-bytes}
-use Rattle.thorin_join.proofs.Files.RowsFound.{members}
-use Rattle.thorin_again.proofs.Opened.Indexes.{read-of, lie-kept, lie-used, IsReadOf}
+use Rattle.thorin_again.proofs.Opened.Indexes.{lie-kept, lie-used, IsReadOf, read-of}
+use Rattle.dwp_base.specs.declared.section.SectionKind.TheVariants as kinds
+use Rattle.dwp_dwarf.specs.declared.unit.UnitSection.TheVariants as places
 
 -- the row of a compilation unit that is accepted was tested
 abbrev IsTested : Source → DwarfObject × UnitRead → Type 0
@@ -67,21 +37,15 @@ IsTested source u = is_compilation u.0 ≡ true → row_test source.indexes u.1.
 joined-tested : (adding : Adding) (names : List DwarfObject) (all : Reads)
     (ns : List (DwarfObject × NewUnit))
     → can_join names all ≡ true → AreAdded adding ns (joining names all)
-    → All (IsTested adding.source) all
-joined-tested adding names [] ns can are = All-nil _
-joined-tested adding names (u ∷ us) ns can are =
-    by-bool _ (list_any (same_name u.0) names)
-    (λ there.
-    let passed = both (not (is_compilation u.0)) _ (rw there at can) in
-    All-cons (IsTested adding.source) u us (λ is.
-    absurd (true≢false (sym is ∙ is-false _ passed.0)))
-    (joined-tested adding names us ns passed.1 (rw there at are)))
-    (λ new. (elim ns as (λ l. AreAdded adding l (u ∷ joining (names ++ u.0 ∷ []) us)
-    → All (IsTested adding.source) (u ∷ us)) [
-      | [] ↦ λ none. absurd none
-      | n ∷ ms ↦ λ some. All-cons (IsTested adding.source) u us (λ is. some.0.tested)
-          (joined-tested adding (names ++ u.0 ∷ []) us ms (rw new at can) some.1)
-    ]) (rw new at are))
+    → Each (IsTested adding.source) all
+joined-tested adding names [] ns can are = tt
+joined-tested adding names (u ∷ us) [] can are = grind (arith, joined-tested adding names us [])
+joined-tested adding names (u ∷ us) (n ∷ ns) can are =
+    grind (
+      arith,
+      joined-tested adding names us (n ∷ ns),
+      joined-tested adding (names ++ u.0 ∷ []) us ns,
+    )
 
 -- ---- the units of info and of types
 
@@ -214,8 +178,7 @@ module _ {encoding : Encoding} {file : File} {indexes : Indexes} {made : InProgr
       let infos = rows_at places.Info made.rows in
       let types = rows_at places.Types made.rows in
       let apart = IsPermutation-filter_both (is_at places.Info) (is_at places.Types)
-      (λ row. each-place (λ p. same_place places.Types p ≡ not (same_place places.Info p)) refl
-      refl (place_of row.id row.debug_types)) made.rows in
+      (λ row. grind arith) made.rows in
       let joined : all_meant (members mean (infos ++ types)) ≡ units_meant (split.of
       places.Info ++ split.of places.Types) = simp map-append
       (ap₂ (λ a b. a ++ b) (sym (units-are places.Info)) (sym (units-are places.Types))) in
@@ -228,14 +191,8 @@ module _ (state : State) (file : File) (begun : IsSoundBegun state.begun)
     (passed : finish_test state ≡ Ok tt) (fin : IsFinishedState state file)
     (differ : KindsDiffer file.contents) (back : elf_of (file_text file) ≡ Ok (written_elf file))
     (one : HaveEncodingOf (file_text file) (units_in state)) where
-  abbrev joined : Members
-  joined = units_of fin.made
-
   opens : opened (file_text file) ≡ Ok (written_elf file)
   opens = opened-elf (file_text file) (written_elf file) back
-
-  encoded : HaveEncodingOf (file_text file) joined
-  encoded = rw fin.begun at one
 
   -- without content of info nothing was joined
   none-joined : (us : Members) → HaveEncodingOf (file_text file) us
@@ -260,7 +217,7 @@ module _ (state : State) (file : File) (begun : IsSoundBegun state.begun)
       (lie-kept fin.made file sound.laid fin.finished places.Info) info in
       (elim fin.made.rows as (λ rs. is_used rs kinds.Info ≡ true → 0 < length rs)
       [ [] ↦ λ e. absurd cc | r ∷ rs ↦ λ e. omega arith ]) used in
-      let long : length joined ≡ length fin.made.rows = length-map fin.made.rows _ in
+      let long : length (units_of fin.made) ≡ length fin.made.rows = length-map fin.made.rows _ in
       let units : 0 < length (units_in state) = rw fin.begun (omega (arith, some, long)) in
       let all : AllOf encoding (units_in state) = λ k d within.
       same-ok _ _ (sym (one k d within) ∙ input-encoding file differ back ∙ first) in
@@ -269,7 +226,8 @@ module _ (state : State) (file : File) (begun : IsSoundBegun state.begun)
 
   units-again : (had now : Option InProgress) → has_info (written_elf file) ≡ true
       → with_input (file_text file) had ≡ Ok now → (meaning : List (DwarfObject × Option Meaning))
-      → input_meaning (file_text file) ≡ Ok meaning → IsPermutation (all_meant joined) meaning
+      → input_meaning (file_text file) ≡ Ok meaning → IsPermutation
+      (all_meant (units_of fin.made)) meaning
   unfolding input_meaning object_meaning source_meaning with_input with_units with_source_or_new
       with_source
   units-again had now info h meaning means =
@@ -286,10 +244,11 @@ module _ (state : State) (file : File) (begun : IsSoundBegun state.begun)
       let add = adding source before t1.0.0 in
       let t3 = bind-was (new_units add) _ s4.0 t2.2 in
       let j = units-joined add t3.0 t3.1 in
-      subst (IsPermutation (all_meant joined)) (same-ok _ meaning
+      subst (IsPermutation (all_meant (units_of fin.made))) (same-ok _ meaning
       (rw (opens, info, object-written file differ, s1.1, s3.1, j.is) at means))
       (rows-meant (is-read s1.0 s3.0 s1.1 s3.1) j.all j.is
-      (joined-tested add (keys add.held) j.all t3.0.units j.defined j.are))
+      (All-from_recursion (IsTested add.source) j.all
+      (joined-tested add (keys add.held) j.all t3.0.units j.defined j.are)))
 
   pub again-is : MeansWhereTaken (units_in state) (file_text file)
   unfolding taken input_meaning
@@ -299,5 +258,5 @@ module _ (state : State) (file : File) (begun : IsSoundBegun state.begun)
       (λ info. units-again before.begun now.0 info now.1 meaning means)
       (λ none.
       let no_units : meaning ≡ [] = same-ok _ _ (sym (rw (opens, none) at means)) in
-      rw no_units (subst (λ us. IsPermutation (all_meant us) [])
-      (sym (none-joined joined encoded (no-info file none))) (IsPermutation-refl []))))
+      rw no_units (subst (λ us. IsPermutation (all_meant us) []) (sym (none-joined
+      (units_of fin.made) (rw fin.begun at one) (no-info file none))) (IsPermutation-refl []))))

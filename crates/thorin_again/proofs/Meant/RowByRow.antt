@@ -1,40 +1,17 @@
 -- What the rows of a written package are for an input, and which begin before a place. A section of
 -- units of such a package is read as the units of its rows, one after another.
-use Rattle.std.proofs.Common.{◌≡◌, ℕ, ◌<◌, true, false, nat_eq, List, length, refl, Option, Some}
-use Rattle.std.proofs.Common.{None, All, ◌∙◌, zero, suc, ◌+◌, ◌-◌, ◌≤◌, ◌∷◌, ◌++◌, ap, sym, subst}
-use Rattle.std.proofs.Common.{Result, Ok, arith, length-append, append_assoc, ne_eqb, []}
-use Rattle.std.proofs.lemmas.Option.{none-some, same_Some}
-use Rattle.dwp_base.specs.declared.section.Contribution.{Contribution}
-use Rattle.dwp_base.specs.declared.section.SectionKind.{SectionKind}
+use Rattle.thorin_again.proofs.Terms
+use Terms.{drop-append_seam, take-append_seam, contribution_to, type_signature, name_signature, ◌≡◌}
+use Terms.{Contribution, HaveOneRange, units_within, SectionKind, UnitSection, part-inside, IsTable}
+use Terms.{content_of, IndexEntry, is_package, same_place, Endianness, unit_bytes, unit-moves, true}
+use Terms.{none-some, same_Some, non_empty, ReadError, IsShifted, Contents, place_of, data_of, List}
+use Terms.{rows_of, rows_at, HasRows, by-bool, section, unit_at, part_of, kind_at, All-nil, length}
+use Terms.{Option, ne_eqb, Source, Header, false, arith, is_at, first, Input, after, units, plain}
+use Terms.{refl, Some, zero, ◌<◌, All, ◌∙◌, ◌-◌, ◌∷◌, sym, Lie, ap, Ok, [], ℕ}
+use Rattle.std.proofs.Common.{length-append, append_assoc, slice_get, Result, ◌++◌, suc, ◌+◌, ◌≤◌}
+use Rattle.std.proofs.lemmas.List.Elements.{All-weaker, All-push}
 use Rattle.dwp_base.specs.declared.section.SectionKind.TheVariants as kinds
-use Rattle.dwp_dwarf.specs.declared.unit.UnitSection.{UnitSection}
 use Rattle.dwp_dwarf.specs.declared.unit.UnitSection.TheVariants as places
-use Rattle.dwp_elf.specs.Contents.{content_of}
-use Rattle.thorin_index.specs.Entries.{contribution_to}
-use Rattle.thorin_index.specs.ReadRows.{non_empty}
-use Rattle.thorin_index.specs.declared.entry.IndexEntry.{IndexEntry}
-use Rattle.thorin_strings.specs.Strings.{IsTable, data_of}
-use Rattle.thorin_join.specs.Builder.{rows_of}
-use Rattle.thorin_input.specs.Growing.{Contents}
-use Rattle.thorin_input.specs.Indexes.{Source, is_package}
-use Rattle.thorin_join.specs.Laid.{same_place, type_signature, name_signature, Lie, HaveOneRange}
-use Rattle.thorin_join.specs.Laid.{is_at, rows_at}
-use Rattle.thorin_input.specs.Used.{first}
-use Rattle.thorin_join.proofs.Files.Indexes.{HasRows}
-use Rattle.dwp_base.proofs.Bools.{by-bool}
-use Rattle.std.proofs.lemmas.List.Elements.{All-nil, All-push, All-weaker}
-use Rattle.std.proofs.Math.Seq.{drop-append_seam, take-append_seam}
-use Rattle.dwp_base.specs.declared.endian.Endianness.{Endianness}
-use Rattle.dwp_bytes.specs.Input.{Input, section, after}
-use Rattle.dwp_bytes.specs.declared.error.ReadError.{ReadError}
-use Rattle.dwp_dwarf.specs.Units.{Unit as Header, unit_at, units_within, units}
-use Rattle.dwp_index.specs.Package.{part_of, place_of}
-use Rattle.thorin_join.specs.State.{kind_at, unit_bytes}
-use Rattle.thorin_join.proofs.Moved.Readings.{plain}
-use Rattle.thorin_join.proofs.Moved.RootEntries.{IsShifted}
-use Rattle.thorin_join.proofs.Moved.Units.{unit-moves}
-use Rattle.thorin_join.proofs.Rows.Stay.{part-inside}
-use Rattle.std.specs.Prelude.{slice_get}
 
 -- an input that was read of a written package of these rows
 pub record IsAgain (source : Source) (contents : Contents) (strings : List (List ℕ))
@@ -59,14 +36,10 @@ Below kind n rows = All (IsBelow kind n) rows
 
 pub non_empty-some : (part : Option Contribution) (range : Contribution) → non_empty part ≡ Some
     range → part ≡ Some range
-non_empty-some None range h = h
-non_empty-some (Some c) range h =
-    by-bool _ (nat_eq c.size 0) (λ e. absurd (none-some range (rw e at h))) (λ e. rw e at h)
+non_empty-some part range h = grind arith
 
 pub place-eq : (a b : UnitSection) → same_place a b ≡ true → a ≡ b
-place-eq places.Info places.Info h = refl
-place-eq places.Types places.Types h = refl
-place-eq a b h = absurd cc
+place-eq a b h = grind arith
 
 -- what there is at either place
 abbrev pub each-place : (P : UnitSection → Type 0) → P places.Info → P places.Types
@@ -83,17 +56,6 @@ part-middle pre own rest whole offset is at =
     let size : offset + length own - offset ≡ length own = omega arith in
     part-inside whole (range_at offset own) (rw is (simp length-append (omega arith)))
     ∙ rw (is, size, ← at, drop-append_seam pre (own ++ rest)) (take-append_seam own rest)
-
-no-reads : (n : ℕ) (place : UnitSection) (i : Input) → i.bytes ≡ [] → units_within n place i ≡ []
-unfolding units_within
-no-reads zero place i h = refl
-no-reads (suc n) place i h = rw h refl
-
-one-read : (n : ℕ) (place : UnitSection) (i : Input) (u : Header) (rest : Input)
-    → 0 < length i.bytes → unit_at place i ≡ Ok (u, rest) → units_within (suc n) place i ≡ Ok u ∷
-    units_within n place rest
-unfolding units_within
-one-read n place i u rest some h = rw (ne_eqb (length i.bytes) 0 (λ e. omega arith), h) refl
 
 -- a unit that is read in a section is that of a row of these: its bytes are those at the row's
 -- range, and read alone they give such a unit
@@ -156,8 +118,9 @@ module _ (order : Endianness) (contents : Contents) (place : UnitSection) (rows 
       → Lie order place offset (rows_at place todo) bytes
       → content_of kind contents ≡ pre ++ bytes → length pre ≡ offset → length bytes ≤ n
       → P todo (units_within n place (plain order offset bytes))
-  from before [] pre bytes offset n split once below lie content at fuel =
-      subst (P []) (sym (no-reads n place (plain order offset bytes) lie)) none
+  unfolding units_within
+  from before [] pre bytes offset zero split once below lie content at fuel = none
+  from before [] pre bytes offset (suc n) split once below lie content at fuel = rw lie none
   from before (r ∷ rs) pre bytes offset n split once below lie content at fuel =
       let next : rows ≡ (before ++ r ∷ []) ++ rs = split ∙ sym (append_assoc before (r ∷ []) rs) in
       by-bool _ (is_at place r)
@@ -179,9 +142,7 @@ module _ (order : Endianness) (contents : Contents) (place : UnitSection) (rows 
       let some : 0 < length bytes = omega (arith, head.is.some) in
       let more : n ≡ suc (n - 1) = omega arith in
       let content_is = content ∙ ap (λ l. pre ++ l) head.are in
-      subst (P (r ∷ rs)) (sym (ap (λ k. units_within k place (plain order offset bytes)) more
-      ∙ one-read (n - 1) place (plain order offset bytes) moved.unit (plain order end head.rest)
-      some read))
+      rw (more, ne_eqb (length bytes) 0 (λ e. omega (arith, some)), read)
       (one r rs moved.unit (units_within (n - 1) place (plain order end head.rest)) (record {
         before = before;
         split = split;

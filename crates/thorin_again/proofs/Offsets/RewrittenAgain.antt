@@ -2,70 +2,36 @@
 -- section, in their order. Whole ranges that lie one directly behind the other pass the tests, and
 -- are rewritten unless the offset of a string doesn't fit; those that were rewritten, once more
 -- from the same strings on, give the same strings.
-use Rattle.std.proofs.Common.{◌≡◌, ◌∙◌, ℕ, zero, suc, ◌+◌, ◌<◌, ◌≤◌, Bool, true, false, ◌⊎◌, inl}
-use Rattle.std.proofs.Common.{inr, ⊎_elim, List, [], ◌∷◌, ◌++◌, length, map, get_or, refl, sym, ap}
-use Rattle.std.proofs.Common.{subst, Option, Some, None, arith, ◌-◌, ◌*◌, ◌%◌, drop, Ok, ltb}
-use Rattle.std.proofs.Common.{length-append, add-mul}
-use Rattle.std.specs.Prelude.{slice_get, is_some, nat_lt, slice_range}
-use Rattle.std.specs.List.{range_with_len, list_any}
+use Rattle.thorin_again.proofs.Terms
+use Terms.{get_or_from_slice_get, All-from_recursion, recursion_from_All, Any-from_list_any, Format}
+use Terms.{slice_get_within, contribution_to, drop-append-add, list_any-append, slice_get_cases, Ok}
+use Terms.{IsStringOffset, drop-append-le, range_with_len, slice_get_read, OffsetAtIndex, error-inv}
+use Terms.{Contribution, IsWholeRange, number_front, SectionKind, all_kept_by, count-again, Dwarf32}
+use Terms.{entry_count, header_size, length-drop, offset_size, range-front, range_bytes, Endianness}
+use Terms.{ErrorValue, IndexEntry, StrOffsets, nat_cmp_is, is_chosen, no_header, non_empty, Dwarf64}
+use Terms.{string_at, string_in, Encoding, HasOneOf, HasParts, IsOfSome, as_error, bind-was, Option}
+use Terms.{entry_in, list_any, named_at, range_in, EachRow, HasRows, IsAmong, add-mul, is_some, inl}
+use Terms.{is_used, rows_of, same-ok, length, ne_eqb, ⊎_elim, Index, arith, false, subst, ◌>>=◌, []}
+use Terms.{Bool, Each, List, None, Some, Tile, refl, true, zero, inr, ltb, map, sym, ◌*◌, ◌-◌, ◌<◌}
+use Terms.{◌∙◌, ◌∷◌, ◌≡◌, ap, ℕ}
+use Rattle.std.proofs.Common.{length-append, slice_range, slice_get, add-zero, Greater, le-ltb, suc}
+use Rattle.std.proofs.Common.{lt-ltb, Equal, Less, drop, ◌++◌, ◌%◌, ◌+◌, ◌≤◌, ◌⊎◌}
 use Rattle.std.specs.BTreeSet.{insert_key}
-use Rattle.std.specs.Cmp.{nat_cmp_is}
-use Rattle.std.specs.declared.cmp.Ordering.TheVariants.{Less, Equal, Greater}
-use Rattle.std.proofs.lemmas.Bool.{eq-eqb, ne_eqb, le-leb, le-ltb, lt-ltb}
-use Rattle.std.proofs.lemmas.List.FromFn.{length-map-range_with_len, get_or-map-range_with_len}
-use Rattle.std.proofs.lemmas.List.Folds.{list_any-append, Any-from_list_any}
-use Rattle.std.proofs.lemmas.List.Sorted.{list_any-IsPermutation, IsPermutation-filter_both}
-use Rattle.std.proofs.lemmas.Option.{slice_get_cases, slice_get_read, get_or_from_slice_get}
-use Rattle.std.proofs.lemmas.Option.{slice_get_within}
-use Rattle.dwp_base.specs.declared.endian.Endianness.{Endianness}
-use Rattle.dwp_base.specs.declared.section.Contribution.{Contribution}
-use Rattle.dwp_base.specs.declared.section.SectionKind.TheVariants.{StrOffsets}
-use Rattle.dwp_base.proofs.Bools.{by-bool, or-right}
-use Rattle.dwp_bytes.specs.declared.encoding.Encoding.{Encoding}
-use Rattle.dwp_index.specs.Index.{Index, range_in}
-use Rattle.thorin_packaged.specs.PackagedOffsets.{place_cmp, with_ranges, with_rows, offset_ranges}
-use Rattle.thorin_packaged.specs.PackagedOffsets.{ranges_test, rewritten_from}
-use Rattle.thorin_packaged.specs.RowPlaces.{is_range, range_of_row, ranges_of}
-use Rattle.thorin_packaged.proofs.FirstRow.{range_is, range_of_found}
+use Rattle.std.proofs.lemmas.List.FromFn.{get_or-map-range_with_len, length-map-range_with_len}
+use Rattle.std.proofs.lemmas.List.Sorted.{IsPermutation-filter_both, list_any-IsPermutation}
+use Rattle.thorin_packaged.specs.PackagedOffsets.{rewritten_from, offset_ranges, ranges_test}
+use Rattle.thorin_packaged.specs.PackagedOffsets.{with_ranges, place_cmp, with_rows}
+use Rattle.thorin_packaged.specs.RowPlaces.{range_of_row, ranges_of, is_range}
+use Rattle.thorin_packaged.proofs.FirstRow.{range_of_found, range_is}
 use Rattle.thorin_packaged.proofs.RowRanges.{compilation_there, type_there}
-use Rattle.thorin_index.specs.ReadRows.{HasParts, non_empty}
-use Rattle.thorin_index.specs.declared.entry.IndexEntry.{IndexEntry}
-use Rattle.thorin_join.specs.Builder.{is_chosen, rows_of}
-use Rattle.thorin_join.specs.StandApart.{EachRow}
-use Rattle.thorin_join.proofs.Files.Indexes.{HasRows}
-use Rattle.thorin_again.specs.Plain.{IsWholeRange, Tile, IsAmong, HasOneOf, IsOfSome}
 use Rattle.thorin_again.proofs.Meant.RowByRow.{non_empty-some}
-use Rattle.thorin_index.specs.Entries.{contribution_to}
-use Rattle.dwp_base.specs.declared.section.SectionKind.{SectionKind}
-use Rattle.thorin_index.specs.IndexText.{is_used}
 use Rattle.std.proofs.lemmas.Nat.{row_fits}
 use Rattle.dwp_base.specs.Numbers.{number}
-use Rattle.dwp_base.specs.Reading.{◌>>=◌}
-use Rattle.dwp_base.proofs.Steps.{bind-was, same-ok}
-use Rattle.dwp_bytes.specs.Encoding.{offset_size}
-use Rattle.dwp_bytes.specs.StringOffsets.{header_size, entry_count, string_at}
-use Rattle.dwp_bytes.specs.declared.encoding.Format.{Format}
-use Rattle.dwp_bytes.specs.declared.encoding.Format.TheVariants.{Dwarf32, Dwarf64}
-use Rattle.dwp_index.specs.Strings.{entry_in, string_in}
-use Rattle.thorin_errors.specs.Answers.{as_error}
-use Rattle.thorin_errors.specs.Errors.{StrAtOffset, ErrorValue, OffsetAtIndex}
-use Rattle.thorin_packaged.specs.PackagedReading.{range_bytes}
-use Rattle.thorin_strings.specs.StringOffsets.{offset_at, named_at, offset_limit, fitting_offset}
-use Rattle.thorin_strings.specs.StringOffsets.{remapped_entry, remapped_entries, remapped}
-use Rattle.thorin_strings.specs.StringOffsets.{entry_bytes}
-use Rattle.thorin_strings.specs.Strings.{offset_of}
-use Rattle.thorin_join.proofs.Parts.OffsetRanges.{count-again}
-use Rattle.thorin_again.specs.OwnRefusals.{IsStringOffset}
-use Rattle.thorin_again.proofs.Opened.Sections.{Unless, and-then}
-use Rattle.std.proofs.Math.Nat.{add-zero}
-use Rattle.std.proofs.Math.Seq.{drop-append-add}
+use Rattle.thorin_errors.specs.Errors.{StrAtOffset}
+use Rattle.thorin_strings.specs.StringOffsets.{remapped_entries, fitting_offset, remapped_entry}
+use Rattle.thorin_strings.specs.StringOffsets.{entry_bytes, offset_at, remapped}
+use Rattle.thorin_again.proofs.Opened.Sections.{and-then, Unless}
 use Rattle.std.proofs.lemmas.Bool.Decides.{nat_tests}
-use Rattle.std.proofs.lemmas.List.{length-drop, drop-append-le}
-use Rattle.thorin_packaged.proofs.OffsetsJoined.{number_front, no_header}
-use Rattle.thorin_join.proofs.Parts.FirstUses.{error-inv}
-use Rattle.thorin_join.proofs.Rows.Stay.{range-front}
-use Rattle.std.proofs.ByRecursion.{all_kept_by}
-use Rattle.std.proofs.lemmas.List.Elements.{All-from_recursion}
 
 -- ---- the rows of compilation units and those of type units
 
@@ -81,9 +47,7 @@ any-chosen test rows h =
     let both : list_any test (rows_of true rows ++ rows_of false rows) ≡ true =
     sym (list_any-IsPermutation test rows _ (IsPermutation-filter_both (is_chosen true)
     (is_chosen false) (λ row. refl) rows)) ∙ h in
-    by-bool _ (list_any test (rows_of true rows)) (λ one. inl one)
-    (λ none. inr (rw (list_any-append test (rows_of true rows) (rows_of false rows), none)
-    at both))
+    grind (arith, nat_tests, list_any-append test (rows_of true rows) (rows_of false rows))
 
 pub used-chosen : (kind : SectionKind) (rows : List IndexEntry) → is_used rows kind ≡ true
     → (is_used (rows_of true rows) kind ≡ true) ⊎ (is_used (rows_of false rows) kind ≡ true)
@@ -108,9 +72,7 @@ has-range r row = is_range r row.debug_str_offsets
 some-has : (r : Contribution) (rows : List IndexEntry) → IsOfSome r rows
     → list_any (has-range r) rows ≡ true
 some-has r [] h = absurd h
-some-has r (row ∷ rows) (inl e) =
-    rw (e, eq-eqb r.offset.0 r.offset.0 refl, eq-eqb r.size r.size refl) refl
-some-has r (row ∷ rows) (inr h) = or-right (has-range r row) _ (some-has r rows h)
+some-has r (row ∷ rows) h = grind (arith, nat_tests, some-has r rows)
 
 own-range : (r : Contribution) (row : IndexEntry) (index : Index) (n : ℕ) → 0 < r.size
     → has-range r row ≡ true → (parts : HasParts index n row)
@@ -142,19 +104,12 @@ IsPartOf xs (y ∷ ys) = ((zs : List Contribution) × (xs ≡ y ∷ zs) × IsPar
 part-among : (xs ys : List Contribution) (r : Contribution) → IsPartOf xs ys → IsAmong r xs
     → IsAmong r ys
 part-among xs [] r part h = subst (IsAmong r) part h
-part-among xs (y ∷ ys) r (inl (zs, is, p)) h =
-    elim (subst (IsAmong r) is h) [ inl e ↦ inl e | inr k ↦ inr (part-among zs ys r p k) ]
+part-among xs (y ∷ ys) r (inl (zs, is, p)) h = grind (arith, part-among zs ys r p)
 part-among xs (y ∷ ys) r (inr p) h = inr (part-among xs ys r p h)
 
 none-part : (ys : List Contribution) → IsPartOf [] ys
 none-part [] = refl
 none-part (y ∷ ys) = inr (none-part ys)
-
-cmp-self : (x : Contribution) → place_cmp x x ≡ Equal
-cmp-self x = rw (
-  ← nat_cmp_is x.offset.0 x.offset.0 Equal refl,
-  ← nat_cmp_is x.size x.size Equal refl,
-) refl
 
 -- bytes that were written, and the strings after them
 abbrev Written : Type 0
@@ -170,17 +125,12 @@ module _ (order : Endianness) (encoding : Encoding) where
   pub tile-lies : (at end : ℕ) (ys : List Contribution) (r : Contribution) → Tile order encoding at
       ys end → IsAmong r ys → (at ≤ r.offset.0) × IsWholeRange order encoding r.size
   tile-lies at end [] r tile h = absurd h
-  tile-lies at end (y ∷ ys) r tile (inl e) =
-      subst (λ (c : Contribution). (at ≤ c.offset.0) × IsWholeRange order encoding c.size) (sym e)
-      (omega (arith, tile.0), tile.1)
-  tile-lies at end (y ∷ ys) r tile (inr h) =
-      let later = tile-lies (at + y.size) end ys r tile.2 h in (omega (arith, later.0), later.1)
+  tile-lies at end (y ∷ ys) r tile h = grind (arith, tile-lies (at + y.size) end ys r tile.2)
 
   tile-apart : (at end : ℕ) (y : Contribution) (ys : List Contribution) (r : Contribution)
       → Tile order encoding at (y ∷ ys) end → IsAmong r ys → y.offset.0 < r.offset.0
   tile-apart at end y ys r tile h =
-      let later = tile-lies (at + y.size) end ys r tile.2 h in
-      omega (arith, later.0, tile.0, tile.1.some)
+      omega (arith, (tile-lies (at + y.size) end ys r tile.2 h).0, tile.0, tile.1.some)
 
   pub tile-end : (at end : ℕ) (ys : List Contribution) → Tile order encoding at ys end → at ≤ end
   tile-end at end [] tile = omega (arith, tile)
@@ -191,15 +141,15 @@ module _ (order : Endianness) (encoding : Encoding) where
       end → IsPartOf xs ys → IsAmong r ys → IsPartOf (insert_key place_cmp xs r) ys
   put-part at end [] xs r tile part h = absurd h
   put-part at end (y ∷ ys) xs r tile (inl (zs, is, p)) (inl e) =
-      rw (is, e, cmp-self y) (inl (zs, refl, p))
+      let same : place_cmp y y ≡ Equal = grind (arith, nat_tests) in
+      rw (is, e, same) (inl (zs, refl, p))
   put-part at end (y ∷ ys) xs r tile (inl (zs, is, p)) (inr h) =
       rw (is, ← nat_cmp_is r.offset.0 y.offset.0 Greater (tile-apart at end y ys r tile h))
       (inl (insert_key place_cmp zs r, refl, put-part (at + y.size) end ys zs r tile.2 p h))
-  put-part at end (y ∷ ys) [] r tile (inr p) (inl e) = inl ([], ap (λ x. x ∷ []) e, none-part ys)
+  put-part at end (y ∷ ys) [] r tile (inr p) (inl e) = inl ([], rw e refl, p)
   put-part at end (y ∷ ys) (x ∷ xs) r tile (inr p) (inl e) =
-      let less : r.offset.0 < x.offset.0 = rw e (tile-apart at end y ys x tile
-      (part-among (x ∷ xs) ys x p (inl refl))) in
-      rw (← nat_cmp_is r.offset.0 x.offset.0 Less less) (inl (x ∷ xs, ap (λ z. z ∷ x ∷ xs) e, p))
+      let less = tile-apart at end y ys x tile (part-among (x ∷ xs) ys x p (inl refl)) in
+      rw (e, ← nat_cmp_is y.offset.0 x.offset.0 Less less) (inl (x ∷ xs, refl, p))
   put-part at end (y ∷ ys) xs r tile (inr p) (inr h) =
       inr (put-part (at + y.size) end ys xs r tile.2 p h)
 
@@ -208,27 +158,24 @@ module _ (order : Endianness) (encoding : Encoding) where
       → IsPartOf xs ys → ((r : Contribution) → IsAmong r ys → IsAmong r xs) → xs ≡ ys
   all-same at end [] xs tile part all = part
   all-same at end (y ∷ ys) xs tile (inl (zs, is, p)) all =
-      let first = λ (r : Contribution) (h : IsAmong r ys). tile-apart at end y ys r tile h in
       is ∙ ap (λ l. y ∷ l) (all-same (at + y.size) end ys zs tile.2 p (λ r h.
-      elim (subst (IsAmong r) is (all r (inr h))) [
-        | inl e ↦
-            absurd (omega (arith, first r h, ap (λ (c : Contribution). c.offset.0) e))
-        | inr later ↦ later
-      ]))
+      let less = tile-apart at end y ys r tile h in
+      let there = subst (IsAmong r) is (all r (inr h)) in grind arith))
   all-same at end (y ∷ ys) xs tile (inr p) all =
-      let apart = tile-apart at end y ys y tile (part-among xs ys y p (all y (inl refl))) in
-      absurd (omega (arith, apart))
+      absurd (omega (
+        arith,
+        tile-apart at end y ys y tile
+            (part-among xs ys y p (all y (inl refl))),
+      ))
 
   module _ (end : ℕ) (ys : List Contribution) (tile : Tile order encoding 0 ys end) where
     each-part : (ranges : List (Option Contribution)) (xs : List Contribution)
-        → ((n : ℕ) → n < length ranges → (r : Contribution) → get_or ranges n None ≡ Some r
-        → IsAmong r ys) → IsPartOf xs ys → IsPartOf (with_ranges ranges xs) ys
+        → Each (λ o. (r : Contribution) → o ≡ Some r → IsAmong r ys) ranges → IsPartOf xs ys
+        → IsPartOf (with_ranges ranges xs) ys
     each-part [] xs among part = part
-    each-part (None ∷ ranges) xs among part =
-        each-part ranges xs (λ n less. among (suc n) (omega (arith, less))) part
-    each-part (Some r ∷ ranges) xs among part =
-        each-part ranges (insert_key place_cmp xs r) (λ n less. among (suc n) (omega (arith, less)))
-        (put-part 0 end ys xs r tile part (among 0 (omega arith) r refl))
+    each-part (None ∷ ranges) xs among part = each-part ranges xs among.1 part
+    each-part (Some r ∷ ranges) xs among part = each-part ranges (insert_key place_cmp xs r) among.1
+        (put-part 0 end ys xs r tile part (among.0 r refl))
 
     index-part : (read : Option Index) (rows : List IndexEntry) (xs : List Contribution)
         → HasRows read rows → EachRow (HasOneOf ys) rows → IsPartOf xs ys
@@ -238,7 +185,7 @@ module _ (order : Endianness) (encoding : Encoding) where
     index-part (Some index) rows xs has each part =
         let range = range_of_row index StrOffsets in
         let count = length index.offsets in
-        each-part (map range (range_with_len 1 count)) xs (λ n less r e.
+        each-part (map range (range_with_len 1 count)) xs (recursion_from_All _ _ (λ n d less r e.
         let within : n < count = omega (arith, less, length-map-range_with_len range 1 count) in
         elim (slice_get_cases rows n).1 [
           | inl there ↦
@@ -246,10 +193,10 @@ module _ (order : Endianness) (encoding : Encoding) where
               at-row (HasOneOf ys) rows n there.0 each there.2 r
               (non_empty-some there.0.debug_str_offsets r (sym (parts.parts StrOffsets)
               ∙ sym (range_of_found index StrOffsets (n + 1) parts.row parts.there)
-              ∙ sym (get_or-map-range_with_len range 1 count n (n + 1) None within (omega arith))
+              ∙ sym (get_or-map-range_with_len range 1 count n (n + 1) d within (omega arith))
               ∙ e))
           | inr past ↦ absurd (omega (arith, within, past.0, has.1.count))
-        ]) part
+        ])) part
 
     -- those of the rows of both indexes are all of them
     pub ranges-are : (compilations types : Option Index) (rows : List IndexEntry)
@@ -274,16 +221,12 @@ module _ (order : Endianness) (encoding : Encoding) where
   unfolding ranges_test
   tile-tested size at end last [] tile inside behind = refl
   tile-tested size at end last (y ∷ ys) tile inside behind =
+      let whole = whole-rest encoding.format y.size (header_size encoding) tile.1.count
+      tile.1.long in
       let within = tile-end (at + y.size) end ys tile.2 in
-      let whole = tile.1 in
-      rw (
-        le-leb (y.offset.0 + y.size) size (omega (arith, tile.0, within)),
-        le-leb (header_size encoding) y.size (omega (arith, whole.long)),
-        eq-eqb ((y.size - header_size encoding) % width) 0
-            (whole-rest encoding.format y.size (header_size encoding) whole.count whole.long),
-        le-ltb y.offset.0 last (omega (arith, tile.0)),
-      ) (tile-tested size (at + y.size) end (y.offset.0 + y.size) ys tile.2 inside
-      (omega (arith, tile.0)))
+      let rest = tile-tested size (at + y.size) end (y.offset.0 + y.size) ys tile.2 inside
+      (omega (arith, tile.0)) in
+      grind (arith, nat_tests, tile.0, tile.1.long, within, whole, rest)
 
   -- a whole range has its entries behind its header
   pub whole-remapped : (section bytes : List ℕ) (size : ℕ) (strings : List (List ℕ))
@@ -292,12 +235,9 @@ module _ (order : Endianness) (encoding : Encoding) where
       ≡ (remapped_entries order encoding section bytes whole.count strings >>=
       λ entries. Ok (whole.header ++ entry_bytes order encoding.format entries.0, entries.1))
   unfolding remapped
-  whole-remapped section bytes size strings whole = rw (
-    ne_eqb size 0 (λ none. omega (arith, whole.some)),
-    le-ltb size (header_size encoding) (omega (arith, whole.long)),
-    count-again encoding.format size (header_size encoding) whole.count whole.long,
-    whole.written,
-  ) refl
+  whole-remapped section bytes size strings whole =
+      let count = count-again encoding.format size (header_size encoding) whole.count whole.long in
+      grind (arith, nat_tests, count, whole.some, whole.long, whole.written)
 
   module _ (section bytes : List ℕ) where
     -- a string is named at each of so many entries
@@ -313,9 +253,7 @@ module _ (order : Endianness) (encoding : Encoding) where
         let here = named n (omega arith) in
         and-then IsStringOffset _ _
         (entries-rewritten n strings (λ k less. named k (omega (arith, less))))
-        (λ before e. rw here.1 (by-bool _ (nat_lt (offset_limit encoding.format)
-        (offset_of before.1 here.0)) (λ long. rw long (offset_of before.1 here.0, refl))
-        (λ fits. rw fits tt)))
+        (λ before e. rw here.1 (grind arith))
 
     -- entries of all the bytes that a reader of packages reads
     pub are-named : (size : ℕ) → size ≡ length bytes → (whole : IsWholeRange order encoding size)
@@ -369,10 +307,7 @@ module _ (order : Endianness) (encoding : Encoding) where
       encoding t ys n strings
   unfolding remapped_entries remapped_entry
   entries-alike s t xs ys zero strings h = refl
-  entries-alike s t xs ys (suc n) strings h = rw (
-    entries-alike s t xs ys n strings (λ k less. h k (omega (arith, less))),
-    h n (omega arith),
-  ) refl
+  entries-alike s t xs ys (suc n) strings h = grind (arith, h, entries-alike s t xs ys n strings)
 
   -- joined ranges without a header
   module _ (old : encoding.version < 5) (section xs ys : List ℕ) (n : ℕ)
@@ -384,13 +319,9 @@ module _ (order : Endianness) (encoding : Encoding) where
         let at = header_size encoding + k * width in
         let fits : k * width + width ≤ n * width = row_fits k width n width less (omega arith) in
         let room : at + width ≤ length xs = omega (arith, no_header encoding old, fits, long) in
-        rw (
-          le-ltb (length (xs ++ ys)) (at + width) (omega (arith, room, length-append xs ys)),
-          le-ltb (length xs) (at + width) room,
-          drop-append-le at xs ys (omega (arith, room)),
-          number_front order encoding.format (drop at xs) ys
-              (omega (arith, room, length-drop at xs)),
-        ) refl
+        let same = number_front order encoding.format (drop at xs) ys
+        (omega (arith, room, length-drop at xs)) in
+        grind (arith, nat_tests, same, drop-append-le at xs ys, length-append xs ys)
 
     named-back : (k : ℕ) (string : List ℕ) → named_at order encoding section ys k ≡ Ok string
         → named_at order encoding section (xs ++ ys) (n + k) ≡ Ok string
@@ -411,11 +342,9 @@ module _ (order : Endianness) (encoding : Encoding) where
         middle → Lead section ys m middle after → Lead section (xs ++ ys) (n + m) before after
     unfolding remapped_entries remapped_entry
     leads-joined zero before middle after first second =
-        let same = same-ok {E = ErrorValue} ([], middle) (second.0, after) second.1 in (
-          first.0,
-          rw (add-zero, entries-alike section section (xs ++ ys) xs n before named-front, first.1)
-              (ap (λ (w : Written). Ok (first.0, w.1)) same),
-        )
+        let same = same-ok {E = ErrorValue} ([], middle) (second.0, after) second.1 in
+        let alike = entries-alike section section (xs ++ ys) xs n before named-front in
+        (first.0, rw (add-zero, alike, first.1) (ap (λ (w : Written). Ok (first.0, w.1)) same))
     leads-joined (suc m) before middle after first second =
         let s1 = bind-was (remapped_entries order encoding section ys m middle) _
         (second.0, after) second.1 in
@@ -424,11 +353,10 @@ module _ (order : Endianness) (encoding : Encoding) where
         let s3 = bind-was (named_at order encoding section ys m) _ s2.0 s2.1 in
         let same = same-ok {E = ErrorValue} _ (second.0, after) s2.2 in
         let rest = leads-joined m before middle s1.0.1 first (s1.0.0, s1.1) in
-        let next : n + suc m ≡ suc (n + m) = omega arith in (
-          rest.0 ++ s2.0.0 ∷ [],
-          rw (next, rest.1, named-back m s3.0 s3.1, s3.2)
-              (ap (λ (w : Written). Ok (rest.0 ++ s2.0.0 ∷ [], w.1)) same),
-        )
+        let next : n + suc m ≡ suc (n + m) = omega arith in
+        let offsets = rest.0 ++ s2.0.0 ∷ [] in
+        let is = ap (λ (w : Written). Ok (offsets, w.1)) same in
+        (offsets, rw (next, rest.1, named-back m s3.0 s3.1, s3.2) is)
 
   -- ---- ranges in turn
 

@@ -1,50 +1,26 @@
 -- The ranges of string offsets fill their section, where plain objects of one encoding are added:
 -- what each gives to string offsets is nothing, or a whole range.
-use Rattle.std.proofs.Common.{◌≡◌, ◌∙◌, ℕ, ◌+◌, ◌*◌, ◌<◌, Bool, true, false, eqb, leb, ◌&&◌, ◌⊎◌}
-use Rattle.std.proofs.Common.{⊎_elim, inl, inr, List, [], ◌++◌, length, take, refl, sym, ap, Ok}
-use Rattle.std.proofs.Common.{arith, true≢false, zero-mul, length-append, add-mul, ◌∷◌, subst, Some}
-use Rattle.std.proofs.lemmas.Bool.{eqb-true, eqb-false, leb-false, lt-ltb}
-use Rattle.std.proofs.Math.Seq.{take-length}
-use Rattle.dwp_base.specs.declared.endian.Endianness.{Endianness}
-use Rattle.dwp_base.specs.declared.section.SectionKind.TheVariants.{StrOffsets, Str}
-use Rattle.dwp_base.proofs.EveryKind.{is-same}
-use Rattle.dwp_bytes.specs.Encoding.{offset_size}
-use Rattle.dwp_bytes.specs.StringOffsets.{header_size, entry_count}
-use Rattle.dwp_bytes.specs.declared.encoding.Encoding.{Encoding}
-use Rattle.thorin_errors.specs.Errors.{ErrorValue}
-use Rattle.thorin_strings.specs.StringOffsets.{header_of, remapped_entries, remapped, entry_bytes}
-use Rattle.thorin_strings.specs.Strings.{IsTable, data_of}
-use Rattle.thorin_input.specs.Growing.{Contents, joined_parts, range_put}
-use Rattle.thorin_input.specs.Indexes.{Source, is_package}
-use Rattle.thorin_input.specs.Parts.{Parts, has_part, stands_once, parts_of}
-use Rattle.thorin_again.specs.Plain.{IsWholeRange, Tile, IsAmong, HasOneOf, IsOfSome, GiveStrings}
-use Rattle.thorin_again.specs.Plain.{HasTiledOffsets}
-use Rattle.thorin_input.specs.Used.{Used, first}
-use Rattle.thorin_join.proofs.Parts.FirstUses.{no-entries, units-strings}
-use Rattle.thorin_join.proofs.Parts.OffsetRanges.{count-again, range-of}
-use Rattle.thorin_again.proofs.Offsets.RewrittenAgain.{Lead, entries-alike, leads-joined, no-turn}
-use Rattle.thorin_again.proofs.Offsets.RewrittenAgain.{whole-remapped, turn, grown}
-use Rattle.thorin_join.proofs.Parts.Appended.{each-part, joined_parts-more, joined_parts-other}
-use Rattle.thorin_join.proofs.Parts.Appended.{Rewritten, Adds, no-bytes}
+use Rattle.thorin_again.proofs.Terms
+use Terms.{joined_parts-more, HasTiledOffsets, rewritten-plain, units-strings, Contribution, Source}
+use Terms.{IsWholeRange, joined_parts, GiveStrings, count-again, entry_count, front-front, Contents}
+use Terms.{header_size, offset_size, source-made, take-length, with_source, All-weaker, Endianness}
+use Terms.{ErrorValue, InProgress, IndexEntry, StrOffsets, append-nil, content_of, is_package, Bool}
+use Terms.{no-entries, true≢false, eqb-false, no_header, none-some, own-bytes, place-put, range_for}
+use Terms.{range_put, same_Some, Encoding, HasOneOf, IsOfSome, eqb-true, has_part, no-bytes, length}
+use Terms.{parts_of, range-of, zero-mul, EachRow, IsAmong, IsTable, add-mul, by-bool, data_of, List}
+use Terms.{is-same, same-ok, ⊎_elim, Added, Parts, arith, false, first, subst, Some, Tile, Used, Ok}
+use Terms.{refl, true, ◌&&◌, Str, eqb, inl, inr, sym, ◌*◌, ◌<◌, ◌∙◌, ◌∷◌, ◌≡◌, [], ap, ℕ}
+use Rattle.std.proofs.Common.{length-append, leb-false, add-zero, lt-ltb, take, ◌++◌, leb, ◌+◌, ◌⊎◌}
+use Rattle.std.proofs.ByRecursion.{All-append}
+use Rattle.thorin_input.specs.Parts.{stands_once}
+use Rattle.thorin_strings.specs.StringOffsets.{remapped_entries, entry_bytes, header_of, remapped}
+use Rattle.thorin_again.proofs.Offsets.RewrittenAgain.{whole-remapped, entries-alike, leads-joined}
+use Rattle.thorin_again.proofs.Offsets.RewrittenAgain.{no-turn, grown, Lead, turn}
+use Rattle.thorin_join.proofs.Parts.Appended.{joined_parts-other, Rewritten, each-part, Adds}
 use Rattle.thorin_join.proofs.Parts.OffsetLaws.{names-same}
-use Rattle.thorin_join.proofs.Parts.PlainOffsets.{has-more, has-other, not-there}
-use Rattle.thorin_join.proofs.Parts.Strings.{front-front, rewritten-plain}
-use Rattle.dwp_base.proofs.Steps.{same-ok}
-use Rattle.dwp_base.proofs.Bools.{by-bool}
-use Rattle.thorin_packaged.proofs.OffsetsJoined.{no_header}
-use Rattle.std.proofs.Math.Nat.{add-zero}
-use Rattle.std.proofs.lemmas.List.{append-nil}
-use Rattle.std.proofs.lemmas.Option.{none-some, same_Some}
-use Rattle.dwp_base.specs.declared.section.Contribution.{Contribution}
-use Rattle.dwp_elf.specs.Contents.{content_of}
-use Rattle.thorin_index.specs.declared.entry.IndexEntry.{IndexEntry}
-use Rattle.thorin_join.specs.StandApart.{EachRow}
-use Rattle.thorin_join.specs.State.{InProgress, with_source}
-use Rattle.thorin_again.proofs.Kept.EachUnit.{each-added, each-unit}
-use Rattle.thorin_again.proofs.Kept.EachUnit.{PlainAdded, plain-added, parted, order-added, RowHas}
-use Rattle.thorin_again.proofs.Kept.EachUnit.{content-added, rows-share, once-more, row_with}
-use Rattle.thorin_join.proofs.Rows.OneAdded.{place-put, range_for, own-bytes}
-use Rattle.std.proofs.ByRecursion.{All-weaker, All-append}
+use Rattle.thorin_join.proofs.Parts.PlainOffsets.{has-other, not-there, has-more}
+use Rattle.thorin_again.proofs.Kept.EachUnit.{content-added, order-added, rows-share, once-more}
+use Rattle.thorin_again.proofs.Kept.EachUnit.{with-each, row_with, with-any, RowHas, parted}
 
 -- the part of string offsets that a plain object makes is whole
 module _ (source : Source) (plain : is_package source.indexes ≡ false) (start : List (List ℕ)) where
@@ -95,16 +71,14 @@ module _ (source : Source) (plain : is_package source.indexes ≡ false) (start 
         | inr r ↦
             let law = names-same order encoding section bytes (length bytes) strings written.0
             written.1 table h in
-            let is = ap (λ (w : List ℕ × List (List ℕ)). Ok (r.entries.0, w.1)) r.is in (
-              inr (law.long (eqb-false (length bytes) 0 r.some), r.header, r.header_is),
-              (r.entries.0, r.entries_are ∙ is),
-            )
+            let is = ap (λ (w : List ℕ × List (List ℕ)). Ok (r.entries.0, w.1)) r.is in
+            let long = law.long (eqb-false (length bytes) 0 r.some) in
+            (inr (long, r.header, r.header_is), (r.entries.0, r.entries_are ∙ is))
       ]
 
   -- before DWARF 5 there are the entries alone
   older-long : encoding.version < 5 → (size n : ℕ) → Fills size n → size ≡ n * width
-  older-long old size n (inl none) = rw (none.0, none.1) (sym (zero-mul width))
-  older-long old size n (inr some) = omega (arith, some.0, no_header encoding old)
+  older-long old size n fills = grind (arith, zero-mul width, no_header encoding old)
 
   made-rewritten : (before : Parts) (bytes : List ℕ) (next : Parts) → MadeBy before
       → (leb 5 encoding.version ≡ true → has_part StrOffsets before.0 ≡ false)
@@ -120,11 +94,10 @@ module _ (source : Source) (plain : is_package source.indexes ≡ false) (start 
       let law = names-same order encoding section bytes (length bytes) before.1 own strings
       so_far.table rewrites in
       let one = one-fills bytes before.1 w.written so_far.table rewrites in
-      let alone : Again own m before.1 strings = λ final table kept. (
-        one.1.0,
-        entries-alike order encoding (data_of final) section own bytes m before.1 (λ k less.
-            let name = law.named k less in name.new final table kept ∙ sym name.old) ∙ one.1.1,
-      ) in
+      let alone : Again own m before.1 strings = λ final table kept.
+      let same = entries-alike order encoding (data_of final) section own bytes m before.1
+      (λ k less. let name = law.named k less in name.new final table kept ∙ sym name.old) in
+      (one.1.0, same ∙ one.1.1) in
       let all : (n : ℕ) × Fills (length (new ++ own)) n × Again (new ++ own) n start strings =
       by-bool _ (leb 5 encoding.version)
       (λ standard. let empty = so_far.fresh (once standard) in
@@ -142,11 +115,8 @@ module _ (source : Source) (plain : is_package source.indexes ≡ false) (start 
             long m start before.1 strings (so_far.again final table
             (front-front before.1 strings final law.kept kept)) (alone final table kept),
       )) in
-      rw (
-        w.is,
-        has-more before.0 own,
-        joined_parts-more StrOffsets before.0 StrOffsets own,
-      ) (record {
+      let more = joined_parts-more StrOffsets before.0 StrOffsets own in
+      rw (w.is, has-more before.0 own, more) (record {
         table = law.table;
         fresh = λ none. absurd (true≢false none);
         count = all.0;
@@ -163,11 +133,8 @@ module _ (source : Source) (plain : is_package source.indexes ≡ false) (start 
       (leb 5 encoding.version) (has_part StrOffsets before.0) standard
       (rw (is-same s.kind StrOffsets o) at once)) w
   made-step before s next so_far once (inr (inl (o, c, is))) =
-      rw (
-        is,
-        has-other before.0 s.kind s.bytes o,
-        joined_parts-other StrOffsets before.0 s.kind s.bytes o,
-      ) so_far
+      let joined = joined_parts-other StrOffsets before.0 s.kind s.bytes o in
+      rw (is, has-other before.0 s.kind s.bytes o, joined) so_far
   made-step before s next so_far once (inr (inr (o, c, is))) = rw is so_far
 
   -- the part of an input gives the strings after it
@@ -201,11 +168,8 @@ module _ (source : Source) (plain : is_package source.indexes ≡ false) (start 
       (length new) (header_size encoding) made.count f.0) ∙ ap (entry_count encoding) empty
       ∙ no-entries encoding) made.fills in
       let lead = rw no at (made.again after made.table (take-length after)) in
-      inl (
-        empty,
-        ap (λ (w : List ℕ × List (List ℕ)). w.1)
-            (sym (same-ok {E = ErrorValue} ([], start) (lead.0, after) lead.1)),
-      ))
+      let same = sym (same-ok {E = ErrorValue} ([], start) (lead.0, after) lead.1) in
+      inl (empty, ap (λ (w : List ℕ × List (List ℕ)). w.1) same))
       (λ some.
       let there = eqb-false (length new) 0 some in
       elim made.fills [
@@ -235,8 +199,7 @@ Any P (x ∷ xs) = P x ⊎ Any P xs
 
 any-left : {X : Type 0} (P : X → Type 0) (xs ys : List X) → Any P xs → Any P (xs ++ ys)
 any-left P [] ys h = absurd h
-any-left P (x ∷ xs) ys (inl e) = inl e
-any-left P (x ∷ xs) ys (inr h) = inr (any-left P xs ys h)
+any-left P (x ∷ xs) ys h = grind (arith, any-left P xs ys)
 
 any-right : {X : Type 0} (P : X → Type 0) (xs ys : List X) → Any P ys → Any P (xs ++ ys)
 any-right P [] ys h = h
@@ -245,16 +208,14 @@ any-right P (x ∷ xs) ys h = inr (any-right P xs ys h)
 any-either : {X : Type 0} (P : X → Type 0) (xs ys : List X) → Any P (xs ++ ys)
     → Any P xs ⊎ Any P ys
 any-either P [] ys h = inr h
-any-either P (x ∷ xs) ys (inl e) = inl (inl e)
-any-either P (x ∷ xs) ys (inr h) =
-    ⊎_elim (λ k. inl (inr k)) (λ k. inr k) (any-either P xs ys h)
+any-either P (x ∷ xs) ys h = grind (arith, any-either P xs ys)
 
 tile-append : (o : Endianness) (e : Encoding) (at : ℕ) (rs : List Contribution) (end : ℕ)
     (r : Contribution) → Tile o e at rs end → r.offset.0 ≡ end → IsWholeRange o e r.size
     → Tile o e at (rs ++ r ∷ []) (end + r.size)
 tile-append o e at [] end r h from whole = (from ∙ sym h, whole, ap (λ n. n + r.size) h)
 tile-append o e at (x ∷ rs) end r h from whole =
-    (h.0, h.1, tile-append o e (at + x.size) rs end r h.2 from whole)
+    grind (arith, tile-append o e (at + x.size) rs end r)
 
 -- a plain object that was added
 module _ (source : Source) (before now : InProgress)
@@ -265,8 +226,8 @@ module _ (source : Source) (before now : InProgress)
   abbrev now_order : Endianness
   now_order = before.file.order
 
-  abbrev a : PlainAdded source before now
-  a = plain-added source before now h
+  abbrev a : Added source before now
+  a = source-made source before now h
 
   abbrev old : List ℕ
   old = content_of StrOffsets before.file.contents
@@ -289,27 +250,26 @@ module _ (source : Source) (before now : InProgress)
       → GiveStrings now_order source.encoding (old ++ joined) (tiled.ranges ++ ranges) a.after
       → HasTiledOffsets source.encoding now
   made-so ranges tile new named gives =
-      let q = parted a in
       let all = tiled.ranges ++ ranges in
       let content : content_of StrOffsets now.file.contents ≡ old ++ joined =
       content-added a StrOffsets refl in
       let order_is = order-added a in
       let strings_are : now.strings ≡ a.after =
-      ap (λ (p : InProgress). p.strings) a.is ∙ units-strings q a.new.units in
+      ap (λ (p : InProgress). p.strings) (sym a.is) ∙ units-strings (parted a) a.new.units in
       record {
         ranges = all;
         tile = rw (order_is, content, length-append old joined) tile;
-        rows = rw a.is (each-added (λ p. EachRow (HasOneOf all) p.rows) (RowHas (HasOneOf all))
+        rows = with-each a (λ p. EachRow (HasOneOf all) p.rows) (RowHas (HasOneOf all))
             (λ p u has rows. All-append (HasOneOf all) p.rows (row_with p.file.contents u ∷ [])
-            rows (has p.file.contents, tt)) q a.new.units
+            rows (has p.file.contents, tt))
             (rows-share a plain StrOffsets refl (λ part. (r : Contribution)
             → part ≡ Some r → IsAmong r all)
             (λ r e. any-right (λ x. r ≡ x) tiled.ranges ranges (new r e)))
             (All-weaker (HasOneOf tiled.ranges) (HasOneOf all) (λ row has r e.
-            any-left (λ x. r ≡ x) tiled.ranges ranges (has r e)) before.rows tiled.rows));
-        named = λ r h. ⊎_elim (λ k. rw a.is (each-unit (λ p. IsOfSome r p.rows) (λ p u so. any-left
+            any-left (λ x. r ≡ x) tiled.ranges ranges (has r e)) before.rows tiled.rows);
+        named = λ r h. ⊎_elim (λ k. with-any a (λ p. IsOfSome r p.rows) (λ p u so. any-left
             (λ (row : IndexEntry). row.debug_str_offsets ≡ Some r) p.rows
-            (row_with p.file.contents u ∷ []) so) q a.new.units (tiled.named r k))) (named r)
+            (row_with p.file.contents u ∷ []) so) (tiled.named r k)) (named r)
             (any-either (λ x. r ≡ x) tiled.ranges ranges h);
         strings = rw (order_is, content) (subst (GiveStrings now_order source.encoding (old ++
             joined) all) (sym strings_are) gives);

@@ -1,79 +1,41 @@
 -- The indexes of a written package are taken, where its rows have the version of the input, and its
 -- sections are in the format of its units. A written package of plain objects is read again: its
 -- indexes, and its string offsets.
-use Rattle.std.proofs.Common.{◌≡◌, ◌∙◌, ℕ, ◌<◌, ◌^◌, Bool, true, false, leb, List, ◌∷◌, length, ap}
-use Rattle.std.proofs.Common.{refl, Ok, Option, Some, None, arith, not, ⊎_elim, slice_index, All}
-use Rattle.std.proofs.Common.{is_some, slice_get, sym, subst, ◌||◌, [], inl, inr}
-use Rattle.std.proofs.lemmas.List.Elements.{All-filter, All-tail}
-use Rattle.std.proofs.Math.ListN.{get_or-map}
-use Rattle.dwp_table.specs.declared.object.DwarfObject.{DwarfObject}
-use Rattle.thorin_join.specs.Meaning.{Meaning, Members}
-use Rattle.thorin_join.specs.Represents.{meaning_at, IsSound, units_of, AreRowsOf}
-use Rattle.std.proofs.lemmas.List.{length-map}
-use Rattle.std.proofs.Math.Dec.{eqb-suc-zero}
-use Rattle.dwp_base.specs.declared.endian.Endianness.{Endianness}
+use Rattle.thorin_again.proofs.Terms
+use Terms.{UnlessStringOffset, rewritten-package, finished-strings, HasTiledOffsets, TakesUpToParts}
+use Terms.{finished-grows, finished-order, finished-types, written_object, used_sections, AreRowsOf}
+use Terms.{Contribution, IsWholeRange, eqb-suc-zero, finished-own, is_in_format, version_test, Bool}
+use Terms.{AreDistinct, DwarfObject, KindsDiffer, SectionKind, UnitSection, counts_once, All-filter}
+use Terms.{index_tests, is_of_units, part-inside, range_bytes, take-length, written_elf, Endianness}
+use Terms.{InProgress, IndexEntry, content_of, get_or-map, indexes_of, is_package, length-map, File}
+use Terms.{meaning_at, own_source, slice-long, with_units, entry_ids, file_text, is_chosen, HasRows}
+use Terms.{is_shared, keep-rows, rewritten, same_Some, string_in, All-tail, Contents, Encoding, All}
+use Terms.{IsOfSome, index_in, names_of, or_right, order_of, units_of, Indexes, IsPlain, IsSound, ℕ}
+use Terms.{IsTable, Meaning, Members, by-bool, data_of, is_some, is_used, kind_at, or_left, part_of}
+use Terms.{rows_at, rows_of, same-ok, IsLaid, Option, Tested, length, ⊎_elim, AllOf, Index, IsOwn}
+use Terms.{arith, false, first, subst, List, None, Some, refl, true, ◌||◌, Lie, inl, inr, sym, ◌<◌}
+use Terms.{◌∙◌, ◌∷◌, ◌≡◌, Ok, [], ap}
+use Rattle.std.proofs.Common.{slice_index, slice_get, leb, not, ◌^◌}
+use Rattle.thorin_join.specs.Builder.{IsFinished, order_test, same_order, with_input, State}
+use Rattle.thorin_join.proofs.Terms.{IsIndexOf, same-each}
+use Rattle.thorin_join.proofs.Files.Indexes.{chosen-fit, no-bytes}
 use Rattle.dwp_base.specs.declared.endian.Endianness.TheVariants.{Little, Big}
-use Rattle.dwp_base.specs.declared.section.SectionKind.{SectionKind}
-use Rattle.dwp_base.proofs.Bools.{by-bool}
 use Rattle.dwp_bytes.specs.Encoding.{index_version_of}
-use Rattle.dwp_bytes.specs.declared.encoding.Encoding.{Encoding}
-use Rattle.dwp_elf.specs.Contents.{KindsDiffer, content_of}
-use Rattle.dwp_elf.specs.FileText.{Object as File, file_text}
-use Rattle.dwp_elf.specs.Written.{written_elf}
-use Rattle.dwp_index.specs.Index.{Index}
 use Rattle.dwp_index.specs.IndexBytes.{index_of}
-use Rattle.dwp_table.specs.Table.{AreDistinct}
-use Rattle.thorin_index.specs.declared.entry.IndexEntry.{IndexEntry}
-use Rattle.thorin_index.specs.EntryTests.{index_tests}
 use Rattle.thorin_index.proofs.Each.{have_passed, used_known}
-use Rattle.thorin_index.specs.IndexText.{IsIndexOf, entry_ids, used_sections, is_used}
 use Rattle.thorin_index.specs.ReadBack.{index_with}
-use Rattle.thorin_join.specs.Builder.{State, IsFinished, rows_of, is_chosen, order_of, same_order}
-use Rattle.thorin_join.specs.Builder.{order_test, with_units, with_input}
-use Rattle.thorin_input.specs.Indexes.{Indexes, is_package, index_in, version_test, indexes_of}
-use Rattle.thorin_input.specs.Names.{is_compilation}
-use Rattle.thorin_again.specs.OwnInput.{written_object, IsOwn, TakesUpToParts, own_source}
-use Rattle.thorin_again.specs.OwnUnits.{AllOf}
-use Rattle.thorin_join.specs.State.{InProgress, kind_at, names_of}
-use Rattle.thorin_input.specs.Used.{first, counts_once}
-use Rattle.thorin_join.proofs.Files.Indexes.{HasRows, chosen-fit}
 use Rattle.thorin_index.proofs.ReadAgain.{index_is_read}
 use Rattle.thorin_index.proofs.RowsAgain.{written_rows}
-use Rattle.thorin_join.proofs.Files.Indexes.{no-bytes}
-use Rattle.thorin_again.proofs.Opened.Sections.{info-written, first-written, object-written}
+use Rattle.thorin_again.proofs.Opened.Sections.{object-written, first-written, info-written}
 use Rattle.thorin_again.proofs.Opened.Sections.{opened-elf}
-use Rattle.thorin_join.proofs.Files.Finished.{Tested, tested-state, finished-order, finished-types}
-use Rattle.thorin_join.proofs.Files.Finished.{finished-compilations, finished-own, finished-grows}
-use Rattle.thorin_join.proofs.Files.Finished.{finished-strings, finished-content}
-use Rattle.dwp_dwarf.specs.declared.unit.UnitSection.{UnitSection}
+use Rattle.thorin_join.proofs.Files.Finished.{finished-compilations, finished-content, tested-state}
 use Rattle.dwp_table.specs.Columns.{column_of}
-use Rattle.thorin_join.specs.Laid.{Lie, is_at, rows_at, IsLaid}
-use Rattle.thorin_input.specs.Format.{is_in_format, is_of_units, is_shared}
-use Rattle.dwp_base.proofs.EveryKind.{same-each}
-use Rattle.std.proofs.lemmas.Bool.{or_left, or_right}
-use Rattle.std.proofs.lemmas.Option.{same_Some}
-use Rattle.thorin_again.specs.Plain.{IsPlain, IsWholeRange, IsOfSome, HasTiledOffsets}
-use Rattle.dwp_base.proofs.Steps.{same-ok}
-use Rattle.std.proofs.Math.Seq.{take-length}
-use Rattle.thorin_join.proofs.Rows.Stay.{keep-rows, part-inside}
 use Rattle.thorin_join.proofs.Units.NamesApart.{distinct_chosen}
-use Rattle.thorin_again.proofs.Meant.RowByRow.{IsAgain, each-place}
-use Rattle.thorin_again.proofs.Offsets.RewrittenAgain.{used-chosen, tile-lies, ranges-are}
-use Rattle.thorin_again.proofs.Offsets.RewrittenAgain.{CanRewrite, are-named, all-rewritten}
-use Rattle.thorin_again.proofs.Offsets.RewrittenAgain.{tile-tested}
-use Rattle.std.specs.Prelude.{slice_get}
-use Rattle.dwp_base.specs.declared.section.Contribution.{Contribution}
-use Rattle.dwp_base.specs.declared.section.SectionKind.TheVariants as kinds
-use Rattle.dwp_index.specs.Package.{part_of}
-use Rattle.dwp_index.specs.Strings.{string_in}
-use Rattle.thorin_strings.specs.Strings.{IsTable, data_of}
-use Rattle.thorin_input.specs.Growing.{Contents}
-use Rattle.thorin_again.specs.OwnRefusals.{UnlessStringOffset}
-use Rattle.thorin_input.specs.InputStrings.{rewritten}
+use Rattle.thorin_again.proofs.Meant.RowByRow.{each-place, IsAgain}
+use Rattle.thorin_again.proofs.Offsets.RewrittenAgain.{all-rewritten, tile-tested, used-chosen}
+use Rattle.thorin_again.proofs.Offsets.RewrittenAgain.{CanRewrite, ranges-are, are-named, tile-lies}
 use Rattle.thorin_packaged.specs.PackagedOffsets.{packaged_offsets, rewritten_from}
-use Rattle.thorin_packaged.specs.PackagedReading.{range_bytes}
-use Rattle.thorin_join.proofs.Parts.FirstUses.{slice-long}
-use Rattle.thorin_join.proofs.Parts.Strings.{rewritten-package}
+use Rattle.dwp_base.specs.declared.section.SectionKind.TheVariants as kinds
 
 -- rows come from inputs of this version
 abbrev pub HaveVersion : ℕ → List IndexEntry → Type 0
@@ -117,25 +79,22 @@ index-taken order (row ∷ rows) bytes text tested fit =
       fits = λ encoding kind have. rw (have 0 row (omega arith)) (by-bool _ (leb 5 encoding.version)
           (λ e. rw e refl) (λ e. rw e refl));
       there = refl;
-      has = λ distinct. (
-        version,
-        written_rows order row.encoding (row ∷ rows) bytes tested distinct fit text index read,
-        omega arith,
-      );
+      has = λ distinct.
+          let has = written_rows order row.encoding (row ∷ rows) bytes tested distinct fit text
+          index read in
+          (version, has, omega arith);
     }
 
 version-chosen : (b : Bool) (version : ℕ) (rows : List IndexEntry) → HaveVersion version rows
     → HaveVersion version (rows_of b rows)
-version-chosen b version rows have =
-    All-filter (is_chosen b) (λ row. row.encoding.version ≡ version) rows have
+version-chosen b version = All-filter (is_chosen b) (λ row. row.encoding.version ≡ version)
 
 -- where there is a row, one of the indexes has rows
 one-is-there : (rows : List IndexEntry) → (rows ≡ [] → ⊥)
     → (is_some (slice_get (rows_of true rows) 0) || is_some (slice_get (rows_of false rows) 0)) ≡
     true
 one-is-there [] some = absurd (some refl)
-one-is-there (row ∷ rows) some =
-    by-bool _ (is_compilation row.id) (λ e. rw e refl) (λ e. rw e (or_right _ _ refl))
+one-is-there (row ∷ rows) some = grind arith
 
 -- ---- the package of an own file
 
@@ -232,8 +191,7 @@ module _ {state : State} {encoding : Encoding} {file : File} (own : IsOwn state 
   indexes-read : indexes_of (written_object file) encoding ≡ Ok indexes-taken
   unfolding indexes_of
   indexes-read =
-      let have = own-made.version in
-      let chosen = λ (b : Bool). version-chosen b _ made.rows have in
+      let chosen = λ (b : Bool). version-chosen b _ made.rows own-made.version in
       let c = compilations-taken.fits encoding kinds.CuIndex (chosen true) in
       let t = types-taken.fits encoding kinds.TuIndex (chosen false) in
       rw (compilations-taken.taken kinds.CuIndex, types-taken.taken kinds.TuIndex, c, t) refl
@@ -303,9 +261,7 @@ pub lie-used : (order : Endianness) (place : UnitSection) (offset : ℕ) (rows :
     → is_used rows (kind_at place) ≡ true
 lie-used order place offset [] bytes lie some = absurd (omega (arith, some, ap length lie))
 lie-used order place offset (r ∷ rs) bytes lie some =
-    by-bool _ (is_at place r)
-    (λ here. let l = rw here at lie in rw l.0.range refl)
-    (λ other. or_right _ _ (lie-used order place offset rs bytes (rw other at lie) some))
+    grind (arith, lie-used order place offset rs bytes)
 
 -- the contents that units share stay when a package is finished
 pub finished-shared : (made : InProgress) (file : File) → IsFinished made file
@@ -359,16 +315,17 @@ module _ {encoding : Encoding} {file : File} {indexes : Indexes} {made : InProgr
       let f = is.finished in
       let again = is.again in
       let size = length (content_of kinds.StrOffsets made.file.contents) in
+      let ranges = ranges-are made.file.order encoding size tiled.ranges tiled.tile
+      indexes.compilations indexes.types made.rows again.compilations again.types tiled.rows
+      tiled.named in
+      let tested = tile-tested made.file.order encoding size 0 size 0 tiled.ranges tiled.tile
+      (omega arith) (omega arith) in
       rewritten-package (own_source file encoding indexes)
       (content_of kinds.StrOffsets file.contents) strings again.packed
       ∙ (λ i. packaged_offsets (finished-order made file f i) encoding indexes.compilations
       indexes.types ((again.held kinds.Str ∙ again.strings_are) i)
-      (finished-shared made file f kinds.StrOffsets refl i) strings) ∙ rw (
-        ranges-are made.file.order encoding size tiled.ranges tiled.tile indexes.compilations
-            indexes.types made.rows again.compilations again.types tiled.rows tiled.named,
-        tile-tested made.file.order encoding size 0 size 0 tiled.ranges tiled.tile (omega arith)
-            (omega arith),
-      ) refl
+      (finished-shared made file f kinds.StrOffsets refl i) strings)
+      ∙ rw (ranges, tested) refl
 
   -- unless an offset doesn't fit
   pub own-offsets : (strings : List (List ℕ)) → UnlessStringOffset

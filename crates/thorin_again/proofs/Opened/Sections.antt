@@ -1,47 +1,26 @@
 -- A written file is opened as an input, its sections are taken, and what is not empty is there
 -- under its name. The sections are taken as parts, or refused with an error of some sort, where
 -- string offsets are.
-use Rattle.std.proofs.Common.{◌≡◌, ◌∙◌, ℕ, ◌+◌, ◌≤◌, ◌||◌, Bool, true, false, cond, eqb, List, []}
-use Rattle.std.proofs.Common.{◌∷◌, ◌++◌, length, Ok, refl, sym, ap, arith, ◌<◌, true≢false, subst}
-use Rattle.std.proofs.Common.{bytes_eq, Result, Err, not}
-use Rattle.std.proofs.lemmas.Bool.{eqb-true, eqb-false, false_from_ne_true, or_left, or_right}
-use Rattle.std.proofs.lemmas.Bool.{cond-false}
-use Rattle.std.proofs.lemmas.List.{append_assoc, append-nil, nil_from_length}
-use Rattle.std.proofs.Math.Dec.{eqb-suc-zero}
-use Rattle.dwp_base.specs.declared.section.SectionKind.{SectionKind}
-use Rattle.dwp_base.specs.Sections.{name_of, same_kind}
-use Rattle.dwp_base.proofs.EveryKind.{not-older, same-self, kind-named, is-same, every}
-use Rattle.dwp_elf.specs.Contents.{count_of, KindsDiffer, content_of}
-use Rattle.dwp_elf.specs.FileText.{Object as File, name_table, file_text}
-use Rattle.dwp_elf.specs.Written.{plain_section, written_sections, written_elf}
-use Rattle.dwp_elf_read.specs.Elf.{Elf, elf_of, SectionMeaning, is_named}
-use Rattle.dwp_elf_read.specs.Identification.{kind_of, identity_of}
-use Rattle.dwp_elf_read.specs.declared.kind.FileKind.TheVariants.{Archive, Elf32, Elf64}
-use Rattle.dwp_index.specs.Contents as contents
-use Rattle.dwp_index.specs.Contents.{is_of_kind}
-use Rattle.thorin_errors.specs.Errors.{ParseObjectFile, ErrorValue}
-use Rattle.thorin_errors.specs.Answers.{as_error}
-use Rattle.thorin_input.specs.Growing.{Contents}
-use Rattle.thorin_again.specs.OwnInput.{written_used, written_object, CanTake, TakesParts}
-use Rattle.thorin_input.specs.Used.{Used, elf_in, opened, used_kind, used_bytes, has_kind, first}
-use Rattle.thorin_input.specs.Used.{used_from, input_file_of, has_info, is_of, is_present}
-use Rattle.thorin_join.proofs.Files.Contents.{nothing}
-use Rattle.thorin_input.proofs.Walking.{found-any}
-use Rattle.dwp_base.proofs.Steps.{bind-was}
-use Rattle.std.proofs.Math.Bool.{and-false, or-false}
-use Rattle.dwp_base.proofs.Bools.{by-bool}
-use Rattle.std.specs.List.{list_any}
-use Rattle.std.proofs.lemmas.List.Folds.{list_any-append}
-use Rattle.dwp_base.specs.declared.section.SectionKind.TheVariants.{Info, StrOffsets}
+use Rattle.thorin_again.proofs.Terms
+use Terms.{written_sections, list_any-append, nil_from_length, written_object, input_file_of, Parts}
+use Terms.{plain_section, eqb-suc-zero, is_in_format, written_used, KindsDiffer, SectionKind, arith}
+use Terms.{encoding_of, written_elf, ErrorValue, StrOffsets, TakesParts, append-nil, cond-false, Ok}
+use Terms.{content_of, name_table, and-false, bind-bind, file_text, found-any, is_copied, rewritten}
+use Terms.{same-self, same_kind, used_kind, Contents, bind-was, count_of, has_info, has_part, false}
+use Terms.{list_any, or-false, or_right, parts_of, CanTake, by-bool, is-same, name_of, or_left, Elf}
+use Terms.{Source, elf_of, length, opened, first, subst, ◌>>=◌, Bool, File, Info, List, Used, cond}
+use Terms.{refl, true, Err, eqb, sym, ◌<◌, ◌∙◌, ◌∷◌, ◌≡◌, [], ap, ℕ}
 use Rattle.thorin_again.specs.Again.{input_encoding}
-use Rattle.thorin_input.specs.Encodings.{encoding_of}
-use Rattle.dwp_base.specs.Reading.{◌>>=◌}
-use Rattle.thorin_input.specs.Indexes.{Source}
-use Rattle.thorin_input.specs.Format.{is_in_format, is_copied}
-use Rattle.thorin_input.specs.InputStrings.{rewritten}
-use Rattle.thorin_input.specs.Parts.{Parts, has_part, with_offsets, with_part, with_each_part}
-use Rattle.thorin_input.specs.Parts.{parts_of}
-use Rattle.dwp_dwarf.proofs.Readings.{bind-bind}
+use Rattle.thorin_input.specs.Parts.{with_each_part, with_offsets, with_part}
+use Rattle.std.proofs.Common.{append_assoc, bytes_eq, Result, ◌++◌, not, ◌+◌, ◌≤◌}
+use Rattle.dwp_base.proofs.EveryKind.{kind-named, not-older, every}
+use Rattle.dwp_elf_read.specs.Elf.{SectionMeaning, is_named}
+use Rattle.dwp_elf_read.specs.Identification.{identity_of, kind_of}
+use Rattle.dwp_index.specs.Contents.{is_of_kind}
+use Rattle.thorin_input.specs.Used.{is_present, used_bytes, used_from, has_kind, is_of}
+use Rattle.thorin_join.proofs.Files.Contents.{nothing}
+use Rattle.std.proofs.lemmas.Bool.Decides.{nat_tests}
+use Rattle.dwp_index.specs.Contents as contents
 
 -- a written file is opened
 pub opened-elf : (bytes : List ℕ) (file : Elf) → elf_of bytes ≡ Ok file → opened bytes ≡ Ok file
@@ -49,11 +28,7 @@ unfolding opened elf_of identity_of
 opened-elf bytes file h =
     let i = bind-was (identity_of bytes) _ file h in
     let k = bind-was (kind_of bytes) _ i.0 i.1 in
-    rw k.1 ((elim k.0 as (λ kind. kind_of bytes ≡ Ok kind → elf_in bytes kind ≡ Ok file) [
-      | Archive ↦ λ e. let none = rw e at h in absurd cc
-      | Elf32 ↦ λ e. ap (as_error ParseObjectFile) h
-      | Elf64 ↦ λ e. ap (as_error ParseObjectFile) h
-    ]) k.1)
+    grind (arith, i.1, k.1)
 
 -- a content as a section
 abbrev pub section_of : SectionKind × List ℕ → Used
@@ -67,16 +42,12 @@ rest-differ c cs h kind = let all = h kind in omega arith
 -- behind a content no other is of its kind
 pub none-behind : (kind : SectionKind) (c : SectionKind × List ℕ) (cs : Contents)
     → KindsDiffer (c ∷ cs) → same_kind c.0 kind ≡ true → content_of kind cs ≡ []
-none-behind kind c cs differ same =
-    let one = rw same at (differ kind) in nothing kind cs (omega (arith, one))
+none-behind kind c cs differ same = let one = differ kind in nothing kind cs (grind arith)
 
 -- a content without bytes counts as none
 pub empty-first : (kind k : SectionKind) (cs : Contents) → KindsDiffer ((k, []) ∷ cs)
     → content_of kind ((k, []) ∷ cs) ≡ content_of kind cs
-empty-first kind k cs differ =
-    by-bool _ (same_kind k kind)
-    (λ same. rw same (sym (none-behind kind (k, []) cs differ same)))
-    (λ other. rw other refl)
+empty-first kind k cs differ = grind (arith, none-behind kind (k, []) cs differ)
 
 -- those that were seen don't come, and each other comes once at most
 abbrev pub Fresh : (SectionKind → Bool) → Contents → Type 0
@@ -96,17 +67,12 @@ pub fresh-more : {X : Type 0} (test : SectionKind → X → Bool) (xs : List X) 
     → Fresh (λ kind. list_any (test kind) xs) (c ∷ cs)
     → Fresh (λ kind. list_any (test kind) (xs ++ x ∷ [])) cs
 fresh-more test xs x c cs same fresh kind =
-    rw (list_any-append (test kind) xs (x ∷ []), same kind, or-false) (either
-    (list_any (test kind) xs) (same_kind c.0 kind) (count_of kind cs) (fresh kind))
-  where
-    either : (a b : Bool) (n : ℕ) → cond a 1 0 + (cond b 1 0 + n) ≤ 1 → cond (a || b) 1 0 + n ≤ 1
-    either true b n h = omega (arith, h)
-    either false b n h = omega (arith, h)
+    rw (list_any-append (test kind) xs (x ∷ []), same kind, or-false)
+    (grind (arith, nat_tests, fresh kind))
 
 pub not-seen : (seen : SectionKind → Bool) (c : SectionKind × List ℕ) (cs : Contents)
     → Fresh seen (c ∷ cs) → seen c.0 ≡ false
-not-seen seen c cs fresh = false_from_ne_true (seen c.0) (λ there.
-    let two = rw (there, same-self c.0) at (fresh c.0) in omega arith)
+not-seen seen c cs fresh = grind (arith, nat_tests, fresh c.0, same-self c.0)
 
 -- ---- the used sections of a written file
 
@@ -189,11 +155,7 @@ info-written file h = in-file Info (is_of Info) (λ n bytes. refl) file h
 
 -- where none are, there is no content of info
 pub no-info : (o : File) → has_info (written_elf o) ≡ false → content_of Info o.contents ≡ []
-no-info o h =
-    by-bool _ (eqb (length (content_of Info o.contents)) 0)
-    (λ none. nil_from_length _ (eqb-true _ 0 none))
-    (λ some. let there = eqb-false _ 0 some in
-    absurd (true≢false (sym (info-written o (omega arith)) ∙ h)))
+no-info o h = grind (arith, nat_tests, info-written o, nil_from_length (content_of Info o.contents))
 
 -- an answer of which something holds, or an error of some sort
 abbrev pub Fares : {X : Type 0} → (ErrorValue → Type 0) → (X → Type 0) → Result X ErrorValue
@@ -228,10 +190,7 @@ answered (Err e) h = absurd h
 -- a content behind the first is that of its kind in the whole
 pub behind : (kind : SectionKind) (c : SectionKind × List ℕ) (cs : Contents) → KindsDiffer (c ∷ cs)
     → 0 < length (content_of kind cs) → content_of kind (c ∷ cs) ≡ content_of kind cs
-behind kind c cs differ some =
-    by-bool _ (same_kind c.0 kind)
-    (λ same. absurd (omega (arith, ap length (none-behind kind c cs differ same))))
-    (λ other. rw other refl)
+behind kind c cs differ some = grind (arith, none-behind kind c cs differ)
 
 pub front : (c : SectionKind × List ℕ) (cs : Contents) → content_of c.0 (c ∷ cs) ≡ c.1
 front c cs = rw (same-self c.0) refl

@@ -1,20 +1,16 @@
 -- A written file is read as the package of its contents.
-use Rattle.std.proofs.Common.{◌≡◌, ℕ, ◌+◌, ◌^◌, ◌<◌, ◌≤◌, inl, inr, List, [], ◌∷◌, refl, ap, arith}
-use Rattle.std.proofs.Common.{Option, Some, Ok, codes}
-use Rattle.dwp_base.specs.Sections.{name_of}
-use Rattle.thorin_join.proofs.Terms.{by-bool, content_of, Endianness, file_text, Index, is-same}
-use Rattle.thorin_join.proofs.Terms.{same_kind, SectionKind}
-use Rattle.dwp_base.specs.declared.class.Class.{Class}
+use Rattle.thorin_join.proofs.Terms
+use Terms.{◌+◌, ◌<◌, [], ◌^◌, ap, arith, by-bool, Class, codes, content_of, count_of, elf_of}
+use Terms.{Endianness, file_text, Index, index_in_section, inl, inr, is-same, KindsDiffer, List}
+use Terms.{name_of, Ok, Option, package_of, refl, same_kind, SectionKind, sections_of, Some, ℕ, ◌∷◌}
+use Terms.{◌≡◌, ◌≤◌}
 use Rattle.dwp_base.specs.declared.class.Class.TheVariants.{Elf32, Elf64}
 use Rattle.dwp_base.specs.declared.section.SectionKind.TheVariants.{CuIndex, TuIndex}
 use Rattle.dwp_elf_read.specs.Layout.{word_size}
-use Rattle.dwp_elf_read.specs.Elf.{elf_of}
 use Rattle.dwp_elf.specs.FileText.{Object, headers_place, name_table}
-use Rattle.dwp_elf.specs.Contents.{count_of, KindsDiffer}
 use Rattle.dwp_elf.specs.Numbers.{Fits}
 use Rattle.dwp_elf.specs.Written.{plain_section, written_sections, written_elf}
-use Rattle.dwp_index.specs.Holding.{HasContent, sections_of}
-use Rattle.dwp_index.specs.Package.{package_of, index_in_section}
+use Rattle.dwp_index.specs.Holding.{HasContent}
 use Rattle.dwp_index.proofs.HeldContents.{package_is, another_kind, foreign, empty}
 use Rattle.dwp_elf.proofs.KindCounts.{length-KindsDiffer}
 use Rattle.dwp_elf.proofs.ReadingBack.{elf_of-file_text}

@@ -1,21 +1,14 @@
 -- The file of a finished package means the units that stand in the ranges of its rows.
-use Rattle.std.proofs.Common.{◌≡◌, ◌∙◌, ℕ, true, false, List, [], ◌++◌, ap, refl, Ok, Option, Some}
-use Rattle.std.proofs.Common.{None, Bool, cond, not}
-use Rattle.thorin_join.proofs.Terms.{AreRowsOf, bind-was, content_of, data_of, entry_ids, file_text}
-use Rattle.thorin_join.proofs.Terms.{Index, IndexEntry, InProgress, is_compilation, IsIndexOf}
-use Rattle.thorin_join.proofs.Terms.{IsSound, IsSoundBegun, kind_at, rows_of, same_kind}
-use Rattle.thorin_join.proofs.Terms.{SectionKind, take-length, units_of, UnitSection, with_bytes}
-use Rattle.dwp_base.specs.declared.section.SectionKind.TheVariants as kinds
-use Rattle.dwp_dwarf.specs.declared.unit.UnitSection.TheVariants as places
-use Rattle.dwp_elf.specs.FileText.{Object as File}
+use Rattle.thorin_join.proofs.Terms
+use Terms.{◌++◌, [], ap, AreRowsOf, arith, Bool, cond, content_of, data_of, entry_ids, false, File}
+use Terms.{file_text, IdentifiersFit, Index, index_tests, IndexEntry, InProgress, is_compilation}
+use Terms.{IsFinished, IsIndexOf, IsPackageOnceWritten, IsSound, IsSoundBegun, kind_at, List}
+use Terms.{meaning_at, not, Ok, Option, refl, rows_of, same_kind, SectionKind, Some, take-length}
+use Terms.{true, units_in, units_of, UnitSection, with_bytes, ℕ, ◌∙◌, ◌≡◌}
+use Rattle.thorin_join.specs.State.{names_of}
 use Rattle.dwp_index.specs.Naming.{IsIndexOfIds}
 use Rattle.dwp_index.proofs.UsedOnce.{entries_once}
-use Rattle.thorin_index.specs.EntryTests.{index_tests}
-use Rattle.thorin_join.specs.Builder.{State, IdentifiersFit, IsFinished, IsFinishedState}
-use Rattle.thorin_join.specs.Builder.{finish_test, targets_test, indexes_test, compilations}
-use Rattle.thorin_join.specs.Join.{IsPackageOnceWritten}
-use Rattle.thorin_join.specs.Represents.{meaning_at, units_in}
-use Rattle.thorin_join.specs.State.{names_of}
+use Rattle.thorin_join.specs.Builder.{State, IsFinishedState, finish_test, indexes_test}
 use Rattle.thorin_join.proofs.Files.Indexes.{HasRows, index-read, chosen-fit}
 use Rattle.thorin_join.proofs.Units.NamesApart.{distinct_chosen}
 use Rattle.thorin_join.proofs.Rows.Stay.{Grows, grows-trans, grows-with_bytes, keep-rows}
@@ -23,6 +16,8 @@ use Rattle.thorin_join.proofs.Files.UnitsFound.{package-finds}
 use Rattle.thorin_join.proofs.Parts.Appended.{content-with_bytes}
 use Rattle.thorin_join.proofs.Files.Contents.{package_held}
 use Rattle.thorin_join.proofs.Files.RowsFound.{ids-chosen, members}
+use Rattle.dwp_base.specs.declared.section.SectionKind.TheVariants as kinds
+use Rattle.dwp_dwarf.specs.declared.unit.UnitSection.TheVariants as places
 
 -- the tests of finishing
 pub record Tested (made : InProgress) : Type 0 where
@@ -32,10 +27,7 @@ pub record Tested (made : InProgress) : Type 0 where
 pub tested-state : (state : State) (made : InProgress) → state.begun ≡ Some made
     → finish_test state ≡ Ok tt → Tested made
 unfolding finish_test indexes_test
-tested-state state made begun h =
-    let s1 = bind-was (targets_test (names_of made) state.targets) _ tt (rw begun at h) in
-    let s2 = bind-was (index_tests (compilations made.rows)) _ tt s1.2 in
-    record { compilation_rows = s2.1; type_rows = s2.2 }
+tested-state state made begun h = grind arith
 
 -- the contents of the finished file
 module _ (made : InProgress) (file : File) (f : IsFinished made file) where
@@ -77,13 +69,11 @@ module _ (made : InProgress) (file : File) (f : IsFinished made file) where
   -- the units' own bytes
   pub finished-own : (place : UnitSection) → content_of (kind_at place) file.contents ≡ content_of
       (kind_at place) made.file.contents
-  finished-own places.Info = finished-content kinds.Info
-  finished-own places.Types = finished-content kinds.Types
+  finished-own place = grind (arith, finished-content (kind_at place))
 
 index-ids : (index : Option Index) (rows : List IndexEntry) → HasRows index rows
     → IsIndexOfIds index (entry_ids rows)
-index-ids None rows has = ap entry_ids has
-index-ids (Some index) rows has = has.1.slots
+index-ids index rows has = grind arith
 
 -- the file of a finished package is a package of its units
 package-is : (made : InProgress) (file : File) → IsSound made → Tested made

@@ -1,18 +1,13 @@
 -- The indexes of a finished package, as they are read.
-use Rattle.std.proofs.Common.{◌≡◌, ℕ, zero, suc, ◌<◌, ◌^◌, Bool, List, [], ◌∷◌, length, refl, Ok}
-use Rattle.std.proofs.Common.{Err, Option, Some, None, arith, slice_index}
-use Rattle.thorin_join.proofs.Terms.{by-bool, Endianness, entry_ids, Index, IndexEntry}
-use Rattle.thorin_join.proofs.Terms.{is_chosen, IsIndexOf, rows_of, UnexpectedEof}
-use Rattle.dwp_bytes.specs.Encoding.{index_version_of}
-use Rattle.dwp_table.specs.Table.{AreDistinct}
+use Rattle.thorin_join.proofs.Terms
+use Terms.{◌<◌, [], ◌^◌, AreDistinct, arith, Bool, Endianness, entry_ids, Err, HasEntries}
+use Terms.{IdentifiersFit, Index, index_in_section, index_tests, index_version_of, IndexEntry}
+use Terms.{IsIndexOf, length, List, None, Ok, Option, refl, rows_of, slice_index, Some, suc}
+use Terms.{UnexpectedEof, zero, ℕ, ◌∷◌, ◌≡◌}
 use Rattle.dwp_index.specs.IndexBytes.{index_of, version_of}
-use Rattle.dwp_index.specs.Package.{index_in_section}
-use Rattle.thorin_index.specs.EntryTests.{index_tests}
 use Rattle.thorin_index.proofs.ReadAgain.{index_is_read}
 use Rattle.thorin_index.proofs.RowsAgain.{written_rows}
 use Rattle.dwp_index.proofs.HeldContents.{index_there, index_missing}
-use Rattle.thorin_index.specs.ReadRows.{HasEntries}
-use Rattle.thorin_join.specs.Builder.{IdentifiersFit}
 
 -- what is read of the index of these rows
 abbrev pub HasRows : Option Index → List IndexEntry → Type 0
@@ -52,10 +47,7 @@ index-read order (row ∷ rows) bytes text tested distinct fit =
 -- the identifiers of chosen rows have 64 bits
 pub chosen-fit : (b : Bool) (rows : List IndexEntry) → IdentifiersFit rows → (r : ℕ)
     → slice_index (entry_ids (rows_of b rows)) r < 2 ^ 64
-chosen-fit b [] h = λ r. omega arith
-chosen-fit b (row ∷ rows) h =
-    let rest = chosen-fit b rows h.1 in
-    by-bool _ (is_chosen b row)
-    (λ chosen. rw chosen (λ r. elim r as (λ k.
-    slice_index (entry_ids (row ∷ rows_of b rows)) k < 2 ^ 64) [ zero ↦ h.0 | suc k ↦ rest k ]))
-    (λ other. rw other rest)
+chosen-fit b [] h r = omega arith
+chosen-fit b (row ∷ rows) h zero = grind (arith, chosen-fit b rows h.1 zero)
+chosen-fit b (row ∷ rows) h (suc r) =
+    grind (arith, chosen-fit b rows h.1 (suc r), chosen-fit b rows h.1 r)

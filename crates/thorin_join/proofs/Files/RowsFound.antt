@@ -1,36 +1,26 @@
 -- The row of a name, and the names without one.
-use Rattle.std.proofs.Common.{◌≡◌, ◌∙◌, ℕ, zero, suc, ◌<◌, Bool, true, not, List, [], ◌∷◌, length}
-use Rattle.std.proofs.Common.{map, filter, ap, sym, refl, Option, Some, None, arith, true≢false}
-use Rattle.std.proofs.Common.{false, slice_index, slice_get, MatchOption}
-use Rattle.thorin_join.proofs.Terms.{AreRowsOf, by-bool, Compilation, Contents, DwarfObject}
-use Rattle.thorin_join.proofs.Terms.{Endianness, entry_ids, identifier_of, IndexEntry, is_chosen}
-use Rattle.thorin_join.proofs.Terms.{is_compilation, IsRowOf, length-map, lookup, Meaning, Members}
-use Rattle.thorin_join.proofs.Terms.{none-some, rows_of, same_name, same_Some, TypeUnit}
-use Rattle.dwp_index.specs.Finding.{IsNotNamed}
-use Rattle.thorin_join.specs.Join.{same_sort}
+use Rattle.thorin_join.proofs.Terms
+use Terms.{◌<◌, [], ap, AreRowsOf, arith, Bool, by-bool, Contents, DwarfObject, Endianness}
+use Terms.{entry_ids, false, filter, identifier_of, IndexEntry, is_chosen, is_compilation}
+use Terms.{IsNotNamed, IsRowOf, length, length-map, List, lookup, map, MatchOption, Meaning}
+use Terms.{Members, None, Option, refl, rows_of, same_name, same_sort, slice_get, slice_index, Some}
+use Terms.{suc, sym, true, true≢false, zero, ℕ, ◌∙◌, ◌∷◌, ◌≡◌}
 use Rattle.thorin_join.proofs.Units.NamesApart.{same_name-true, same-sort, chosen-sort}
 
 -- a row is among those of its sort
 sort-chosen : (name : DwarfObject) (row : IndexEntry) → is_chosen (is_compilation name) row ≡
     same_sort name row.id
-sort-chosen (Compilation a) row = elim row.id as
-    (λ id. is_compilation id ≡ same_sort (Compilation a) id)
-    [ Compilation b ↦ refl | TypeUnit b ↦ refl ]
-sort-chosen (TypeUnit a) row = elim row.id as
-    (λ id. not (is_compilation id) ≡ same_sort (TypeUnit a) id)
-    [ Compilation b ↦ refl | TypeUnit b ↦ refl ]
+sort-chosen name row = grind arith
 
 sort-self : (name : DwarfObject) → same_sort name name ≡ true
-sort-self (Compilation a) = refl
-sort-self (TypeUnit a) = refl
+sort-self name = grind arith
 
 -- the identifier at the place of a row
 pub id-at : (rows : List IndexEntry) (place : ℕ) (row : IndexEntry) → slice_get rows place ≡ Some
     row → (place < length (entry_ids rows))
     × (slice_index (entry_ids rows) place ≡ identifier_of row.id)
-id-at [] place row h = absurd (none-some row h)
-id-at (r ∷ rs) zero row h =
-    (omega arith, ap (λ (x : IndexEntry). identifier_of x.id) (same_Some _ _ h))
+id-at [] place row h = absurd cc
+id-at (r ∷ rs) zero row h = grind arith
 id-at (r ∷ rs) (suc place) row h = let rest = id-at rs place row h in (omega arith, rest.1)
 
 -- the units of rows, each of which means so much

@@ -1,39 +1,29 @@
 -- A written package means the units that it represents.
-use Rattle.std.proofs.Common.{◌≡◌, ◌∙◌, ℕ, zero, suc, ◌+◌, ◌<◌, ◌≤◌, true, false, List, length, ap}
-use Rattle.std.proofs.Common.{sym, refl, Option, Some, None, arith, ne_eqb, filter, slice_get}
-use Rattle.std.proofs.Common.{MatchOption}
-use Rattle.thorin_join.proofs.Terms.{AreRowsOf, Compilation, content_of, Contents, Contribution}
-use Rattle.thorin_join.proofs.Terms.{contribution_to, data_of, DwarfObject, Endianness, entry_ids}
-use Rattle.thorin_join.proofs.Terms.{identifier_of, Index, IndexEntry, is_compilation, IsTable}
-use Rattle.thorin_join.proofs.Terms.{kind_at, length-map, lookup, Meaning, none-some, part_of}
-use Rattle.thorin_join.proofs.Terms.{rows_of, same_name, SectionKind, take-length, TypeUnit}
-use Rattle.thorin_join.proofs.Terms.{UnitSection}
-use Rattle.dwp_base.specs.declared.section.SectionKind.TheVariants as kinds
-use Rattle.dwp_dwarf.specs.declared.unit.UnitSection.TheVariants as places
+use Rattle.thorin_join.proofs.Terms
+use Terms.{◌+◌, ◌<◌, ap, AreRowsOf, arith, content_of, Contents, Contribution, contribution_to}
+use Terms.{data_of, DwarfObject, Endianness, entry_ids, false, filter, GivesNone, GivesUnit}
+use Terms.{HasEntries, identifier_of, Index, IndexEntry, is_compilation, IsTable, IsUnit, IsUnitOf}
+use Terms.{kind_at, kind_of, length, length-map, limit_of, List, lookup, MatchOption, Meaning}
+use Terms.{nat_tests, None, none-some, Option, own_bytes, own_place, Package, part_of, range_in}
+use Terms.{refl, row_bytes, rows_of, same_name, same_sort, SectionKind, sections_of, slice_get}
+use Terms.{Some, sym, take-length, true, unit_of, UnitSection, ℕ, ◌∙◌, ◌≡◌, ◌≤◌}
 use Rattle.dwp_table.proofs.Tables.{finds_exactly}
 use Rattle.dwp_index.specs.Contents.{content}
-use Rattle.dwp_index.specs.Finding.{own_place, own_bytes, unit_of, IsUnitOf}
-use Rattle.dwp_index.specs.Holding.{sections_of}
-use Rattle.dwp_index.specs.Index.{range_in}
-use Rattle.dwp_index.specs.Package.{Package, kind_of, row_bytes, index_for}
+use Rattle.dwp_index.specs.Package.{index_for}
 use Rattle.dwp_index.proofs.HeldContents.{held_content}
 use Rattle.dwp_index.proofs.PackageLookUp.{present_unit, absent_unit, no_index}
-use Rattle.thorin_index.specs.ReadRows.{HasEntries, HasParts, non_empty}
-use Rattle.thorin_join.specs.Join.{IsUnit, GivesUnit, GivesNone, limit_of, same_sort}
+use Rattle.thorin_index.specs.ReadRows.{HasParts, non_empty}
 use Rattle.thorin_join.proofs.Files.Indexes.{HasRows}
 use Rattle.thorin_join.proofs.Files.RowsFound.{RowFound, Looked, looked, id-at, members}
 use Rattle.thorin_join.proofs.Files.RowsFound.{rows-counted}
+use Rattle.dwp_base.specs.declared.section.SectionKind.TheVariants as kinds
 
 kind-same : (place : UnitSection) → kind_of place ≡ kind_at place
-kind-same places.Info = refl
-kind-same places.Types = refl
+kind-same place = grind arith
 
 pub part-there : (part : Option Contribution) → ((range : Contribution) → part ≡ Some range
     → 0 < range.size) → non_empty part ≡ part
-part-there None some = refl
-part-there (Some part) some =
-    let several = some part refl in
-    rw (ne_eqb part.size 0 (λ none. omega arith))
+part-there part some = grind (arith, some, nat_tests)
 
 -- a package that was read of contents, whose index of each sort has the rows of the sort
 module _ (order : Endianness) (contents : Contents) (compilations types : Option Index)
@@ -106,8 +96,7 @@ module _ (order : Endianness) (contents : Contents) (compilations types : Option
 
     -- the limit is one more than there are units, where there are any
     some-limit : (n count : ℕ) → 0 < n → count ≤ n + 1 → count ≤ limit_of n
-    some-limit zero count some few = absurd (omega arith)
-    some-limit (suc n) count some few = few
+    some-limit n count some few = grind arith
 
     -- by the index of the name's sort, and by what the units have under it
     gives : (index : Option Index) → index_for pack name ≡ index → HasRows index own
@@ -143,8 +132,5 @@ module _ (order : Endianness) (contents : Contents) (compilations types : Option
 
     pub package-finds : Gives (lookup (same_name name) (members of rows))
     package-finds =
-        let has = elim name as (λ n. HasRows (index_for pack n) (rows_of (is_compilation n) rows)) [
-          | Compilation id ↦ compilation_rows
-          | TypeUnit signature ↦ type_rows
-        ] in
+        let has : HasRows (index_for pack name) own = grind arith in
         gives (index_for pack name) refl has _ (looked order contents strings name of rows are)

@@ -1,24 +1,19 @@
 -- An input that is taken joins its units to those of the package, and all of them can be found and
 -- read.
-use Rattle.std.proofs.Common.{[], ◌≡◌, ◌∙◌, ℕ, true, List, ap, sym, refl, Ok, Option, Some, None}
-use Rattle.std.proofs.Common.{arith, inl, inr, append-nil}
-use Rattle.thorin_join.proofs.Terms.{bind-was, Elf, Endianness, InProgress, IsSound, IsSoundBegun}
-use Rattle.thorin_join.proofs.Terms.{IsTable, package_or_new, same-ok, units_of}
-use Rattle.dwp_base.specs.declared.endian.Endianness.TheVariants.{Little, Big}
-use Rattle.thorin_errors.specs.Errors.{MixedInputEncodings}
-use Rattle.thorin_join.specs.Builder.{same_order, order_test, with_input}
+use Rattle.thorin_join.proofs.Terms
+use Terms.{[], ap, append-nil, arith, bind-was, Elf, Endianness, inl, InProgress, input_file_of}
+use Terms.{InputFile, inr, IsSound, IsSoundBegun, IsTable, List, MixedInputEncodings, None, Ok}
+use Terms.{Option, order_test, package_or_new, refl, same-ok, Some, sym, true, units_begun}
+use Terms.{units_of, used_from, with_input, ℕ, ◌∙◌, ◌≡◌}
+use Rattle.thorin_join.proofs.Steps.{kept}
+use Rattle.thorin_join.specs.Builder.{same_order}
 use Rattle.thorin_join.specs.Meaning.{object_meaning, input_meaning, source_meaning}
-use Rattle.thorin_join.specs.Represents.{units_begun}
-use Rattle.thorin_input.specs.Used.{InputFile, input_file_of, used_from}
 use Rattle.thorin_join.proofs.Units.NamesApart.{apart-none}
 use Rattle.thorin_join.proofs.Joined.Source.{InputKeeps, source-joins}
-use Rattle.thorin_join.proofs.Steps.{kept}
 use Rattle.thorin_join.proofs.Joined.Taken.{takes, same-begun}
 
 order-eq : (a b : Endianness) → same_order a b ≡ true → a ≡ b
-order-eq Little Little h = refl
-order-eq Big Big h = refl
-order-eq _ _ h = absurd cc
+order-eq a b h = grind arith
 
 pub made-order : (file : Elf) (object : InputFile) (begun : Option InProgress) → input_file_of file
     ≡ Ok object → order_test object.order begun ≡ Ok tt
@@ -34,10 +29,7 @@ made-order file object (Some made) h t =
 pub new-sound : (file : Elf) (begun : Option InProgress) → IsSoundBegun begun
     → IsSound (package_or_new file begun)
 new-sound file None h =
-    let table : IsTable [] = record {
-      distinct = λ i j d before within. absurd (omega arith);
-      zero_free = λ k d within. absurd (omega arith);
-    } in
+    let table : IsTable [] = grind arith in
     assumption (table, apart-none)
 new-sound file (Some made) h = h
 

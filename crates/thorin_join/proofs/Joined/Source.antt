@@ -1,19 +1,12 @@
 -- A package with the units of an input has them beside its own.
-use Rattle.std.proofs.Common.{[], ◌≡◌, ◌∙◌, ℕ, List, ◌∷◌, ◌++◌, map, sym, refl, Option, Some, Ok}
-use Rattle.std.proofs.Common.{false, append-nil, subst, arith}
-use Rattle.thorin_join.proofs.Terms.{adding, bind-ok, bind-was, content_of, Contents, DwarfObject}
-use Rattle.thorin_join.proofs.Terms.{ErrorValue, InProgress, is_copied, IsSound, IsSoundBegun}
-use Rattle.thorin_join.proofs.Terms.{IsTable, joined_parts, joining, keys, kind_at, Meaning}
-use Rattle.thorin_join.proofs.Terms.{Members, New, parts_of, same-ok, same_kind, SectionKind}
-use Rattle.thorin_join.proofs.Terms.{Source, source_units, units_of}
-use Rattle.dwp_base.specs.declared.section.SectionKind.TheVariants as kinds
-use Rattle.thorin_input.specs.Growing.{with_parts}
+use Rattle.thorin_join.proofs.Terms
+use Terms.{◌++◌, [], adding, append-nil, arith, bind-ok, content_of, Contents, DwarfObject, Each}
+use Terms.{false, InProgress, is_copied, IsSound, IsSoundBegun, IsTable, joined_parts, joining}
+use Terms.{Joins, keys, kind_at, List, map, Meaning, Members, New, new_units, Ok, Option, parts_of}
+use Terms.{refl, Represents, same_kind, SectionKind, Some, Source, source_units, subst, sym}
+use Terms.{units_begun, units_of, with_new_units, with_parts, with_source, ℕ, ◌∙◌, ◌∷◌, ◌≡◌}
+use Rattle.thorin_join.specs.State.{names_of, unit_bytes, held_units, with_all}
 use Rattle.thorin_join.specs.Meaning.{input_meaning, meant, source_meaning, can_join}
-use Rattle.thorin_input.specs.NewUnits.{new_units}
-use Rattle.thorin_join.specs.Represents.{Represents, units_begun}
-use Rattle.thorin_join.specs.Join.{Joins}
-use Rattle.thorin_join.specs.State.{names_of, held_units, unit_bytes, abbreviations_test, with_all}
-use Rattle.thorin_join.specs.State.{with_source, with_new_units}
 use Rattle.thorin_join.proofs.Units.NamesApart.{joined_distinct}
 use Rattle.thorin_join.proofs.Units.JoinedByName.{AreAdded, units-joined, added-keys}
 use Rattle.thorin_join.proofs.Rows.Stay.{Grows, keep-rows}
@@ -26,8 +19,8 @@ use Rattle.thorin_join.proofs.Units.Whole.{Goes, units-go}
 use Rattle.thorin_join.proofs.Units.HeadersRead.{each-joining, News, Reads}
 use Rattle.thorin_join.proofs.Units.InRows.{rows-keys, keys-units, units-are}
 use Rattle.thorin_join.proofs.Rows.OneAdded.{not-shared}
+use Rattle.dwp_base.specs.declared.section.SectionKind.TheVariants as kinds
 use Rattle.dwp_dwarf.specs.declared.unit.UnitSection.TheVariants as places
-use Rattle.std.specs.List.{AllByRecursion as Each}
 
 -- ---- joining keeps what belongs to units
 
@@ -103,18 +96,7 @@ pub record Made (source : Source) (before now : InProgress) : Type 0 where
 pub source-made : (source : Source) (before now : InProgress) → with_source source before ≡ Ok now
     → Made source before now
 unfolding with_source with_all
-source-made source before now h =
-    let s1 = bind-was (parts_of source before.strings) _ now h in
-    let s2 = bind-was (abbreviations_test source.object) _ now s1.2 in
-    let s3 = bind-was (new_units (adding source before s1.0.0)) _ now s2.2 in
-    record {
-      parts = s1.0.0;
-      after = s1.0.1;
-      new = s3.0;
-      parts_are = s1.1;
-      new_are = s3.1;
-      is = same-ok {E = ErrorValue} _ now s3.2;
-    }
+source-made source before now h = grind arith
 
 -- what an input makes of a package
 pub record InputKeeps (bytes : List ℕ) (begun now : Option InProgress) : Type 0 where

@@ -1,19 +1,13 @@
 -- What an input that is taken makes of a package, and of its strings, which are those that its
 -- inputs name in order of first use; without an info section it only begins one.
-use Rattle.std.proofs.Common.{◌≡◌, ◌⊎◌, inl, inr, ℕ, true, false, List, Option, Some, Ok, ◌∙◌, []}
-use Rattle.std.proofs.Common.{refl, sym, ap, None}
-use Rattle.thorin_join.proofs.Terms.{bind-was, Elf, ErrorValue, first, InProgress, IsSound}
-use Rattle.thorin_join.proofs.Terms.{named_in, offsets_used, package_or_new, same-ok, Source, Str}
-use Rattle.thorin_join.proofs.Terms.{sum_by}
-use Rattle.dwp_base.proofs.Steps.{chosen}
+use Rattle.thorin_join.proofs.Terms
+use Terms.{[], ap, arith, begun_by, Elf, false, first, has_info, indexes_of, inl, InProgress}
+use Terms.{input_file_of, inr, IsSound, List, named_in, None, offsets_used, Ok, opened, Option}
+use Terms.{order_test, package_or_new, refl, Some, Source, Str, strings_begun, sum_by, sym, true}
+use Terms.{with_input, with_source, with_strings, ℕ, ◌∙◌, ◌≡◌, ◌⊎◌}
 use Rattle.thorin_input.specs.Encodings.{encoding_of}
-use Rattle.thorin_input.specs.Indexes.{indexes_of}
-use Rattle.thorin_input.specs.Used.{opened, has_info, input_file_of}
-use Rattle.thorin_join.specs.Builder.{order_test, with_source_or_new, with_units, with_input}
-use Rattle.thorin_join.specs.Builder.{begun_by}
-use Rattle.thorin_join.specs.State.{with_source}
-use Rattle.thorin_join.specs.FirstUse.{with_strings, strings_begun, named_in_file, used_by}
-use Rattle.thorin_join.specs.FirstUse.{UsesStrings}
+use Rattle.thorin_join.specs.Builder.{with_source_or_new, with_units}
+use Rattle.thorin_join.specs.FirstUse.{named_in_file, used_by, UsesStrings}
 use Rattle.thorin_join.proofs.Joined.Source.{Made, source-made}
 use Rattle.thorin_join.proofs.Parts.FirstUses.{Brings, each-brings, units-strings}
 
@@ -37,32 +31,7 @@ pub record Takes (bytes : List ℕ) (begun now : Option InProgress) : Type 0 whe
 pub takes : (bytes : List ℕ) (begun now : Option InProgress) → with_input bytes begun ≡ Ok now
     → Takes bytes begun now
 unfolding with_input with_units with_source_or_new
-takes bytes begun now h =
-    let s = bind-was (opened bytes) _ now h in
-    record {
-      file = s.0;
-      opens = s.1;
-      does = elim (chosen (has_info s.0) _ _ (Ok now) s.2) [
-        | inl units ↦
-            let s1 = bind-was (input_file_of s.0) _ now units.1 in
-            let s2 = bind-was (encoding_of s1.0) _ now s1.2 in
-            let s3 = bind-was (order_test s1.0.order begun) _ now s2.2 in
-            let s4 = bind-was (indexes_of s1.0 s2.0) _ now s3.2 in
-            let s5 = bind-was (with_source _ (package_or_new s.0 begun)) _ now s4.2 in
-            let does : TakesUnits s.0 begun now = record {
-              source = record { object = s1.0; encoding = s2.0; indexes = s4.0 };
-              made = s5.0;
-              object_is = s1.1;
-              encoding_is = s2.1;
-              order_is = s3.1;
-              indexes_are = s4.1;
-              with = s5.1;
-              is = same-ok {E = ErrorValue} _ now s5.2;
-            } in
-            inl (units.0, does)
-        | inr none ↦ inr (none.0, same-ok {E = ErrorValue} _ now none.1)
-      ];
-    }
+takes bytes begun now h = grind arith
 
 -- ---- strings
 pub source-brings : (source : Source) (before now : InProgress) → Made source before now
@@ -78,8 +47,7 @@ source-brings source before now m =
 pub same-begun : {X : Type 0} (measure : Option InProgress → X) (file : Elf)
     → measure (Some (begun_by file)) ≡ measure None → (begun : Option InProgress)
     → measure (Some (package_or_new file begun)) ≡ measure begun
-same-begun measure file same None = same
-same-begun measure file same (Some made) = refl
+same-begun measure file same begun = grind arith
 
 pub uses-strings : (bytes : List ℕ) (begun : Option InProgress) (now : InProgress) → IsSound now
     → with_input bytes begun ≡ Ok (Some now) → UsesStrings bytes begun now

@@ -1,15 +1,10 @@
 -- What is read of bytes is read alike wherever they stand.
-use Rattle.std.proofs.Common.{◌≡◌, ℕ, zero, suc, ◌+◌, ◌-◌, ◌^◌, Bool, true, false, cond, ltb, List}
-use Rattle.std.proofs.Common.{length, Result, Ok, Err, refl, ap, ◌∙◌, arith, add_assoc}
-use Rattle.std.specs.Prelude.{ℤ}
-use Rattle.thorin_join.proofs.Terms.{Answer, Endianness, Input, ReadError, UnexpectedEof, ◌>>=◌}
+use Rattle.thorin_join.proofs.Terms
+use Terms.{◌+◌, ◌-◌, ◌>>=◌, ◌^◌, add_assoc, Answer, ap, arith, Bool, cond, Err, false, Input}
+use Terms.{length, ltb, Ok, ReadError, refl, Result, suc, true, UnexpectedEof, zero, ℕ, ℤ, ◌∙◌, ◌≡◌}
 use Rattle.dwp_bytes.specs.Input.{after, byte_at, number_at, skip_at, split_at}
+pub use Rattle.dwp_index.proofs.TwoPlaces.{plain}
 use Rattle.dwp_bytes.specs.Leb.{leb_at, uleb_at, signed_leb_at, sleb_at, is_i64}
-
--- bytes that nothing relocates, from a place on
-abbrev pub plain : Endianness → ℕ → List ℕ → Input
-plain order place bytes =
-    record { order = order; relocated = λ at stored. stored; place = place; bytes = bytes }
 
 -- the same bytes at a place behind others
 abbrev pub shifted : ℕ → Input → Input

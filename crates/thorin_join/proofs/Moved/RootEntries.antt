@@ -1,28 +1,25 @@
 -- A unit's root entry is read alike wherever its bytes stand.
-use Rattle.std.proofs.Common.{[], ◌≡◌, ◌∙◌, ℕ, zero, suc, ◌+◌, ◌-◌, Bool, true, false, cond, eqb}
-use Rattle.std.proofs.Common.{List, ◌∷◌, length, Result, Ok, Err, Option, Some, None, refl, ap, ap₂}
-use Rattle.thorin_join.proofs.Terms.{Answer, as_error, DwarfObject, Encoding, ErrorValue, Input}
-use Rattle.thorin_join.proofs.Terms.{ok_or, ReadError, ◌>>=◌}
+use Rattle.thorin_join.proofs.Terms
+use Terms.{◌+◌, ◌-◌, ◌>>=◌, [], Answer, ap, ap₂, arith, as_error, bind_alike, Bool, cond}
+use Terms.{DebugAttribute, DwarfObject, Encoding, entry_identity, eqb, ErrorValue, false}
+use Terms.{first_identifier, GimliRead, Header, identity, identity_by, Input, length, List, listed}
+use Terms.{NoDie, None, Ok, ok_or, Option, ParseUnitAbbreviations, ReadError, refl, Result}
+use Terms.{root_identity, Some, suc, true, zero, ℕ, ◌∙◌, ◌∷◌, ◌≡◌}
+use Rattle.dwp_dwarf.specs.Offsets.{from_at}
+use Rattle.dwp_bytes.specs.declared.error.ReadError.TheVariants.{UnknownCode, UnknownForm}
 use Rattle.dwp_bytes.specs.Input.{found_at, skip_at, split_at}
-use Rattle.dwp_bytes.specs.declared.error.ReadError.TheVariants.{UnknownForm, UnknownCode}
 use Rattle.dwp_dwarf.specs.Abbreviations.{Specification, code_at, declaration}
-use Rattle.dwp_dwarf.specs.Entries.{DebugAttribute, attribute_at, attributes, entry, root_code_at}
-use Rattle.dwp_dwarf.specs.Entries.{number_read, number_of}
+use Rattle.dwp_dwarf.specs.Entries.{attribute_at, attributes, entry, root_code_at, number_read}
+use Rattle.dwp_dwarf.specs.Entries.{number_of}
 use Rattle.dwp_dwarf.specs.Forms.{layout_of, fixed_size, unit_size, sized_or, open_layout}
 use Rattle.dwp_dwarf.specs.Forms.{is_one_of, block_length_at, text_at, past_value, value_at}
 use Rattle.dwp_dwarf.specs.Forms.{named_within, named_form_at}
-use Rattle.dwp_dwarf.specs.Offsets.{from_at}
-use Rattle.dwp_dwarf.specs.Units.{Unit as Header, listed}
-use Rattle.dwp_dwarf.specs.declared.unit.UnitType.TheVariants as unit_types
-use Rattle.dwp_dwarf.proofs.Readings.{bind_alike}
-use Rattle.thorin_errors.specs.Errors.{NoDie, TopLevelDieNotUnit, ParseUnitAbbreviations, GimliRead}
-use Rattle.thorin_identity.specs.Identity.{DW_AT_GNU_dwo_id, is_unit_tag, found_or}
-use Rattle.thorin_identity.specs.Identity.{first_identifier, entry_identity, root_identity}
-use Rattle.thorin_identity.specs.Identity.{identity_by, identity}
+use Rattle.thorin_identity.specs.Identity.{DW_AT_GNU_dwo_id, found_or}
 use Rattle.thorin_join.proofs.Moved.Readings.{shifted, Moves, answered, refused, unmoved, then}
 use Rattle.thorin_join.proofs.Moved.Readings.{either, told, behind, both, Shifts, shifts-byte}
 use Rattle.thorin_join.proofs.Moved.Readings.{shifts-number, shifts-skip, shifts-split, shifts-uleb}
 use Rattle.thorin_join.proofs.Moved.Readings.{shifts-between, shifts-sleb}
+use Rattle.dwp_dwarf.specs.declared.unit.UnitType.TheVariants as unit_types
 
 -- a code that was read, and what comes behind it
 abbrev Code : Type 0
@@ -151,12 +148,7 @@ module _ (d : ℕ) where
   code-same : (encoding : Encoding) (table : Input) (code : Code)
       → from_code encoding table (code_moved code) ≡ from_code encoding table code
   unfolding entry_identity
-  code-same encoding table None = refl
-  code-same encoding table (Some code) =
-      bind_alike (as_error ParseUnitAbbreviations (declaration code.0 table)) _ _ (λ found _.
-      bind_alike (ok_or found (GimliRead UnknownCode)) _ _ (λ decl _.
-      ap (λ r. cond (is_unit_tag decl.tag) r (Err TopLevelDieNotUnit))
-      (first-same encoding decl.specifications code.1)))
+  code-same encoding table code = grind (arith, first-same encoding)
 
 -- a unit that says the same, with its entries at another place
 pub record IsShifted (d : ℕ) (unit other : Header) : Type 0 where

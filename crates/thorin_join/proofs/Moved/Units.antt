@@ -1,30 +1,21 @@
 -- A unit is read alike wherever its bytes stand, and whatever follows them.
-use Rattle.std.proofs.Common.{◌≡◌, ◌∙◌, ℕ, ◌+◌, ◌-◌, ◌≤◌, cond, ltb, leb, eqb, ◌&&◌, List, ◌++◌}
-use Rattle.std.proofs.Common.{length, take, Result, Ok, Err, ap, sym, refl, arith, length-append}
-use Rattle.std.proofs.Common.{add-zero, ◌⊎◌, inl, inr, le-ltb, ltb-false, length-take-le}
-use Rattle.thorin_join.proofs.Terms.{Answer, bind-ok, bind-was, by-bool, drop-append-le, Endianness}
-use Rattle.thorin_join.proofs.Terms.{eqb-false, Input, offset_size, ReadError, same-ok}
-use Rattle.thorin_join.proofs.Terms.{UnexpectedEof, UnitSection, ◌>>=◌}
-use Rattle.std.proofs.lemmas.List.{take-append-le}
+use Rattle.thorin_join.proofs.Terms
+use Terms.{◌&&◌, ◌+◌, ◌++◌, ◌-◌, add-zero, Answer, ap, arith, cond, drop-append-le, Endianness, eqb}
+use Terms.{Err, Format, Header, Input, is_some, leb, length, length-append, length-take-le, List}
+use Terms.{ltb, more, nat_tests, number_front, offset_size, Ok, ReadError, refl, Result, sym, take}
+use Terms.{take-append-le, true, type_signature, UnexpectedEof, unit_at, unit_takes, UnitSection}
+use Terms.{UnitType, ℕ, ◌∙◌, ◌≡◌, ◌≤◌, ◌⊎◌}
 use Rattle.dwp_bytes.specs.Input.{after, split_at, number_at, relocated_at, offset_at}
 use Rattle.dwp_bytes.specs.Input.{is_address_size}
-use Rattle.dwp_bytes.specs.declared.encoding.Format.{Format}
 use Rattle.dwp_bytes.specs.declared.encoding.Format.TheVariants.{Dwarf32, Dwarf64}
-use Rattle.dwp_dwarf.specs.Units.{Unit as Header, initial_length_at, address_size_at}
-use Rattle.dwp_dwarf.specs.Units.{type_at, older_type_at, unit_code_at, unit_type_at, older_at}
-use Rattle.dwp_dwarf.specs.Units.{newer_at, header_at, unit_at}
+use Rattle.dwp_dwarf.specs.Units.{initial_length_at, address_size_at, type_at, older_type_at}
+use Rattle.dwp_dwarf.specs.Units.{unit_code_at, unit_type_at, older_at, newer_at, header_at}
 use Rattle.dwp_dwarf.specs.declared.unit.UnitSection.TheVariants.{Info, Types}
-use Rattle.dwp_dwarf.specs.declared.unit.UnitType.{UnitType}
-use Rattle.dwp_dwarf.proofs.Readings.{Gives, then_gives, value_gives, was, more, test_gives}
-use Rattle.dwp_dwarf.proofs.Readings.{more_gives, error_gives}
-use Rattle.dwp_dwarf.specs.declared.unit.UnitType.TheVariants as unit_types
-use Rattle.dwp_dwarf.proofs.Units.{unit_takes}
-use Rattle.thorin_packaged.proofs.OffsetsJoined.{number_front}
 use Rattle.thorin_join.proofs.Moved.Readings.{plain, shifted, Moves, answered, refused, unmoved}
 use Rattle.thorin_join.proofs.Moved.Readings.{then, either, read-there, there, Shifts, takes}
 use Rattle.thorin_join.proofs.Moved.Readings.{shifts-byte, shifts-number, shifts-split}
 use Rattle.thorin_join.proofs.Moved.Readings.{shifts-between}
-use Rattle.thorin_join.proofs.Steps.{kept}
+use Rattle.dwp_dwarf.specs.declared.unit.UnitType.TheVariants as unit_types
 
 -- ---- behind others
 
@@ -118,11 +109,9 @@ module _ (rest : List ℕ) where
   takes-more : {A : Type 0} (n : ℕ) (i : Input) (a b : A) → (n ≤ length i.bytes → b ≡ a)
       → Longer (cond (ltb (length i.bytes) n) (Err UnexpectedEof) (Ok (a, after n i)))
       (cond (ltb (length (i.bytes ++ rest)) n) (Err UnexpectedEof) (Ok (b, after n (more i rest))))
-  takes-more n i a b same = by-bool _ (ltb (length i.bytes) n)
-      (λ short. rw short (record { is = λ never. absurd never }))
-      (λ some. let fits = ltb-false _ _ some in
-      let long : n ≤ length (i.bytes ++ rest) = omega (arith, length-append i.bytes rest) in
-      rw (some, le-ltb _ _ long, same fits, drop-append-le n i.bytes rest fits) answered)
+  takes-more n i a b same = record {
+    is = grind (arith, nat_tests, length-append i.bytes rest, drop-append-le n i.bytes rest, same);
+  }
 
   number-more : (format : Format) (i : Input) → Longer (number_at (offset_size format) i)
       (number_at (offset_size format) (more i rest))
@@ -194,80 +183,42 @@ unit-moves order place own rest d u r h =
 
 -- ---- the same of both sections: units of version 5
 
-newer-version : (format : Format) (whole i : Input)
-    → Gives Header (newer_at format whole i) (λ u. u.encoding.version ≡ 5)
-unfolding newer_at
-newer-version format whole i = then_gives (was (unit_code_at i)) (λ code _. then_gives
-    (was (address_size_at code.1)) (λ size _. then_gives (was (offset_at format size.1))
-    (λ offset _. then_gives (was (unit_type_at code.0 format offset.1)) (λ t _.
-    value_gives refl))))
-
 pub newer-five : (format : Format) (whole i : Input) (u : Header) → newer_at format whole i ≡ Ok u
     → u.encoding.version ≡ 5
-newer-five format whole i u = (newer-version format whole i).gives u
+unfolding newer_at
+newer-five format whole i u h = grind arith
 
--- what the section says of a unit before version 5
-abbrev pub OfSection : UnitSection → UnitType → Type 0
-OfSection Info type = Unit {0}
-OfSection Types type = (signature offset : ℕ) × (type ≡ unit_types.TypeUnit signature offset)
-
-older-type : (place : UnitSection) (format : Format) (i : Input)
-    → Gives (UnitType × Input) (older_type_at place format i) (λ t. OfSection place t.0)
-unfolding older_type_at
-older-type Info format i = value_gives tt
-older-type Types format i = then_gives (was (type_at format i)) (λ t _.
-    value_gives (t.0.0, t.0.1, refl))
-
-older-known : (place : UnitSection) (format : Format) (version : ℕ) (whole i : Input)
-    → Gives Header (older_at place format version whole i)
-    (λ u. (u.encoding.version ≡ version) × OfSection place u.unit_type)
+older-version : (place : UnitSection) (format : Format) (version : ℕ) (whole i : Input)
+    (u : Header) → older_at place format version whole i ≡ Ok u → u.encoding.version ≡ version
 unfolding older_at
-older-known place format version whole i = then_gives (was (offset_at format i)) (λ offset _.
-    then_gives (was (address_size_at offset.1)) (λ size _. then_gives
-    (older-type place format size.1) (λ t type. value_gives (refl, type))))
+older-version place format version whole i u h = grind arith
+
+older-type : (format : Format) (version : ℕ) (whole i : Input) (u : Header)
+    → older_at Types format version whole i ≡ Ok u → is_some (type_signature u.unit_type) ≡ true
+unfolding older_at older_type_at
+older-type format version whole i u h = grind arith
 
 -- a unit in types is of version 5 or a type unit
 abbrev pub FiveOrType : Header → Type 0
-FiveOrType unit = (unit.encoding.version ≡ 5) ⊎ OfSection Types unit.unit_type
+FiveOrType unit = (unit.encoding.version ≡ 5) ⊎ (is_some (type_signature unit.unit_type) ≡ true)
 
-header-five : (format : Format) (whole i : Input)
-    → Gives Header (header_at Types format whole i) FiveOrType
+header-five : (format : Format) (whole i : Input) (u : Header)
+    → header_at Types format whole i ≡ Ok u → FiveOrType u
 unfolding header_at
-header-five format whole i = then_gives (was (number_at 2 i)) (λ version _. test_gives
-    (eqb version.0 5) (λ _. more_gives (newer-version format whole version.1) (λ u five. inl five))
-    (λ _. test_gives (leb 2 version.0 && leb version.0 4) (λ _. more_gives
-    (older-known Types format version.0 whole version.1) (λ u known. inr known.1))
-    (λ _. error_gives)))
+header-five format whole i u h = grind (arith, newer-five format whole, older-type format)
 
-pub unit-five : (i : Input) → Gives (Header × Input) (unit_at Types i) (λ x. FiveOrType x.0)
+pub unit-five : (i rest : Input) (u : Header) → unit_at Types i ≡ Ok (u, rest) → FiveOrType u
 unfolding unit_at
-unit-five i = then_gives (was (initial_length_at i)) (λ length _. then_gives
-    (was (split_at length.0.1 length.1)) (λ body _. then_gives
-    (was (split_at (body.1.place - i.place) i)) (λ whole _. then_gives
-    (header-five length.0.0 whole.0 body.0) (λ u type. value_gives type))))
-
--- what a step goes on to, in place of something else that gave y
-instead : {A B : Type 0} (r : Result A ReadError) (f g : A → Result B ReadError) (y : B)
-    → ((x : A) → f x ≡ Ok y → g x ≡ Ok y) → (r >>= f) ≡ Ok y → (r >>= g) ≡ Ok y
-instead (Ok x) f g y h e = h x e
-instead (Err d) f g y h e = absurd cc
+unit-five i rest u h = grind (arith, header-five)
 
 header-anywhere : (place other : UnitSection) (format : Format) (whole i : Input) (u : Header)
     → u.encoding.version ≡ 5 → header_at place format whole i ≡ Ok u
     → header_at other format whole i ≡ Ok u
 unfolding header_at
-header-anywhere place other format whole i u five = instead (number_at 2 i) _ _ u (λ v h.
-    by-bool _ (eqb v.0 5) (λ newer. rw newer (rw newer at h)) (λ no. absurd (eqb-false v.0 5 no
-    (sym ((older-known place format v.0 whole v.1).gives u (kept _ _ _ u (rw no at h)).1).0
-    ∙ five))))
+header-anywhere place other format whole i u five h = grind (arith, older-version place format)
 
 -- a unit of version 5 is read alike in either section
 pub unit-anywhere : (place other : UnitSection) (i : Input) (u : Header) (r : Input)
     → u.encoding.version ≡ 5 → unit_at place i ≡ Ok (u, r) → unit_at other i ≡ Ok (u, r)
 unfolding unit_at
-unit-anywhere place other i u r five = instead (initial_length_at i) _ _ (u, r) (λ length.
-    instead (split_at length.0.1 length.1) _ _ (u, r) (λ body.
-    instead (split_at (body.1.place - i.place) i) _ _ (u, r) (λ whole h.
-    let s = bind-was (header_at place length.0.0 whole.0 body.0) _ (u, r) h in
-    bind-ok _ _ _ (header-anywhere place other length.0.0 whole.0 body.0 s.0
-    (ap (λ (x : Header × Input). x.0.encoding.version) (same-ok _ _ s.2) ∙ five) s.1) ∙ s.2)))
+unit-anywhere place other i u r five h = grind (arith, header-anywhere place other)

@@ -1,20 +1,12 @@
 -- What the parts of an input are for the contents that they are added to.
-use Rattle.std.proofs.Common.{◌≡◌, ◌∙◌, ℕ, true, false, cond, eqb, List, [], ◌∷◌, ◌++◌, length, not}
-use Rattle.std.proofs.Common.{◌&&◌, Ok, refl, sym, ap, if◌then◌else◌, ◌⊎◌, inl, inr, true≢false}
-use Rattle.std.proofs.Common.{arith, subst, append_assoc, append-nil, eqb-true}
-use Rattle.std.proofs.lemmas.Bool.{false_from_ne_true}
-use Rattle.thorin_join.proofs.Terms.{bind-was, by-bool, content_of, Contents, ErrorValue, has_part}
-use Rattle.thorin_join.proofs.Terms.{is-same, is_copied, joined_parts, Parts, parts_of, same-ok}
-use Rattle.thorin_join.proofs.Terms.{same-self, same_kind, SectionKind, Source, StrOffsets, Used}
-use Rattle.thorin_join.proofs.Terms.{with_bytes}
-use Rattle.dwp_base.proofs.Bools.{or-right}
-use Rattle.dwp_elf.specs.Contents.{appended}
-use Rattle.thorin_input.specs.Growing.{with_parts}
+use Rattle.thorin_join.proofs.Terms
+use Terms.{◌&&◌, ◌++◌, [], ap, append-nil, append_assoc, appended, arith, bind-was, by-bool, cond}
+use Terms.{content_of, Contents, ErrorValue, false, false_from_ne_true, has_part, if◌then◌else◌}
+use Terms.{is-same, is_copied, joined_parts, length, List, Ok, or-right, Parts, parts_of, refl}
+use Terms.{rewritten, same-ok, same-self, same_kind, SectionKind, Source, stands_once, StrOffsets}
+use Terms.{subst, sym, true, true≢false, Used, with_bytes, with_each_part, with_offsets, with_part}
+use Terms.{with_parts, ℕ, ◌∙◌, ◌∷◌, ◌≡◌, ◌⊎◌}
 use Rattle.thorin_join.specs.Meaning.{joined_content}
-use Rattle.thorin_input.specs.Format.{is_in_format}
-use Rattle.thorin_input.specs.InputStrings.{rewritten}
-use Rattle.thorin_input.specs.Parts.{stands_once, with_offsets, with_part, with_each_part}
-use Rattle.thorin_join.proofs.Steps.{past}
 
 pub differ : (a b : SectionKind) → (a ≡ b → ⊥) → same_kind a b ≡ false
 differ a b apart = false_from_ne_true _ (λ same. apart (is-same a b same))
@@ -44,12 +36,7 @@ pub content-with_bytes : (kind k : SectionKind) (bytes : List ℕ) (c : Contents
     → content_of kind (with_bytes k bytes c) ≡ (if same_kind k kind then content_of kind c ++ bytes
     else content_of kind c)
 content-with_bytes kind k bytes c =
-    by-bool _ (eqb (length bytes) 0)
-    (λ none. rw (none, no-bytes bytes (eqb-true (length bytes) 0 none))
-    (by-bool _ (same_kind k kind)
-    (λ same. rw same (sym (append-nil (content_of kind c))))
-    (λ other. rw other refl)))
-    (λ some. rw some (content-appended kind k bytes c))
+    grind (arith, content-appended kind k bytes c, no-bytes bytes, append-nil (content_of kind c))
 
 pub content-with_parts : (kind : SectionKind) (parts c : Contents)
     → content_of kind (with_parts parts c) ≡ content_of kind c ++ joined_parts kind parts
@@ -110,23 +97,7 @@ module _ (source : Source) where
   pub step : (before : Parts) (s : Used) (next : Parts) → with_part source before s ≡ Ok next
       → Step before s next
   unfolding with_part with_offsets
-  step before s next h =
-      let once = past (stands_once source s.kind && has_part s.kind before.0) _ _ next h in
-      let inside = (past (not (is_in_format source.encoding s.kind)) _ _ next once.1).1 in
-      record {
-        once = once.0;
-        adds = by-bool _ (same_kind s.kind StrOffsets)
-            (λ offsets. let there = past (not source.object.has_strings) _ _ next
-            (rw offsets at inside) in
-            let w = bind-was (rewritten source s.bytes before.1) _ next there.1 in
-            let is = sym (same-ok {E = ErrorValue} _ next w.2) in
-            inl (offsets, record { written = w.0; rewrites = w.1; is = is }))
-            (λ other. by-bool _ (is_copied s.kind)
-            (λ copied. let is = same-ok {E = ErrorValue} _ next (rw (copied, other) at inside) in
-            inr (inl (other, copied, sym is)))
-            (λ none. let is = same-ok {E = ErrorValue} _ next (rw (none, other) at inside) in
-            inr (inr (other, none, sym is))));
-      }
+  step before s next h = grind arith
 
   -- ---- all sections
   -- what holds of no sections, and with one more before others, holds of those of an input
@@ -147,38 +118,26 @@ module _ (source : Source) where
   -- ---- a section adds to its kind alone
   pub adds-offsets : (before : Parts) (s : Used) (next : Parts) → same_kind s.kind StrOffsets ≡ true
       → Adds before s next → Rewritten before s.bytes next
-  adds-offsets before s next offsets (inl (o, w)) = w
-  adds-offsets before s next offsets (inr (inl p)) = absurd (true≢false (sym offsets ∙ p.0))
-  adds-offsets before s next offsets (inr (inr p)) = absurd (true≢false (sym offsets ∙ p.0))
+  adds-offsets before s next offsets adds = grind arith
 
   -- one that is copied adds itself, any other but string offsets adds nothing
   pub adds-plain : (before : Parts) (s : Used) (next : Parts) → same_kind s.kind StrOffsets ≡ false
       → Adds before s next
       → next ≡ cond (is_copied s.kind) (before.0 ++ (s.kind, s.bytes) ∷ [], before.1) before
-  adds-plain before s next plain (inl (o, w)) = absurd (true≢false (sym o ∙ plain))
-  adds-plain before s next plain (inr (inl (o, c, is))) = rw c is
-  adds-plain before s next plain (inr (inr (o, c, is))) = rw c is
+  adds-plain before s next plain adds = grind arith
 
   module _ (kind : SectionKind) where
-    pub adds-copied : (before : Parts) (s : Used) (next : Parts) → is_copied kind ≡ true
-        → same_kind s.kind kind ≡ true → Adds before s next
+    pub adds-copied : (before : Parts) (s : Used) (next : Parts) → Adds before s next
+        → is_copied kind ≡ true → same_kind s.kind kind ≡ true
         → next ≡ (before.0 ++ (kind, s.bytes) ∷ [], before.1)
-    adds-copied before s next copied same adds =
-        let plain = differ kind StrOffsets (λ e. true≢false (sym copied ∙ ap is_copied e)) in
-        let is = is-same s.kind kind same in
-        rw (is, copied) at (adds-plain before s next (rw is plain) adds)
+    adds-copied before s next adds copied same =
+        grind (arith, is-same)
 
-    pub adds-other : (before : Parts) (s : Used) (next : Parts) → same_kind s.kind kind ≡ false
-        → Adds before s next → (has_part kind next.0 ≡ has_part kind before.0)
+    pub adds-other : (before : Parts) (s : Used) (next : Parts) → Adds before s next
+        → same_kind s.kind kind ≡ false → (has_part kind next.0 ≡ has_part kind before.0)
         × (joined_parts kind next.0 ≡ joined_parts kind before.0)
-    adds-other before s next other (inl (o, w)) =
-        let apart : same_kind StrOffsets kind ≡ false = rw (is-same s.kind StrOffsets o) at other in
-        let joined = joined_parts-other kind before.0 StrOffsets w.written.0 apart in
-        rw w.is (has-other kind before.0 StrOffsets w.written.0 apart, joined)
-    adds-other before s next other (inr (inl (o, c, is))) =
-        let joined = joined_parts-other kind before.0 s.kind s.bytes other in
-        rw is (has-other kind before.0 s.kind s.bytes other, joined)
-    adds-other before s next other (inr (inr (o, c, is))) = rw is (refl, refl)
+    adds-other before s next adds other =
+        grind (arith, joined_parts-other kind before.0, has-other kind before.0, is-same)
 
 module _ (source : Source) (strings : List (List ℕ)) (parts : Contents) (after : List (List ℕ))
     (h : parts_of source strings ≡ Ok (parts, after)) (kind : SectionKind) where
@@ -189,11 +148,11 @@ module _ (source : Source) (strings : List (List ℕ)) (parts : Contents) (after
       each-part source (λ before ss next.
       joined_parts kind next.0 ≡ joined_parts kind before.0 ++ joined_content kind ss)
       (λ parts. sym (append-nil (joined_parts kind parts.0)))
-      (λ before s next ss last made rest later. later ∙ by-bool _ (same_kind s.kind kind)
-      (λ same. let adds = adds-copied source kind before s next copied same made.adds in
-      rw (same, adds, joined_parts-more kind before.0 kind s.bytes, same-self kind)
-      (append_assoc (joined_parts kind before.0) s.bytes (joined_content kind ss)))
-      (λ other. rw (other, (adds-other source kind before s next other made.adds).1)))
+      (λ before s next ss last made rest later.
+      let same = adds-copied source kind before s next made.adds copied in
+      let other = adds-other source kind before s next made.adds in
+      let more = joined_parts-more kind before.0 kind s.bytes in
+      grind (arith, later, same, other, more, append_assoc {A = ℕ}, same-self kind))
       source.object.sections ([], strings) (parts, after) h
 
   -- of units, strings and indexes there is no part
@@ -202,10 +161,8 @@ module _ (source : Source) (strings : List (List ℕ)) (parts : Contents) (after
   parts-none none apart =
       each-part source (λ before ss next. joined_parts kind next.0 ≡ joined_parts kind before.0)
       (λ parts. refl)
-      (λ before s next ss last made rest later. later ∙ by-bool _ (same_kind s.kind kind)
-      (λ same. let is = is-same s.kind kind same in
+      (λ before s next ss last made rest later.
+      let other = adds-other source kind before s next made.adds in
       let plain = kind-unlike StrOffsets kind StrOffsets apart refl in
-      ap (λ (p : Parts). joined_parts kind p.0)
-      (rw (is, none) at (adds-plain source before s next (rw is plain) made.adds)))
-      (λ other. (adds-other source kind before s next other made.adds).1))
+      grind (arith, later, other, plain, is-same s.kind kind, adds-plain source before s next))
       source.object.sections ([], strings) (parts, after) h

@@ -1,39 +1,29 @@
 -- What the sections of an input bring: the strings that their string offsets name, in order of
 -- first use, how many bytes these have, and the parts.
-use Rattle.std.proofs.Common.{◌≡◌, ◌∙◌, ℕ, zero, suc, ◌+◌, ◌*◌, ◌-◌, ◌≤◌, ◌<◌, cond, true, ltb, eqb}
-use Rattle.std.proofs.Common.{if◌then◌else◌, List, [], ◌∷◌, ◌++◌, length, take, drop, refl, ap}
-use Rattle.std.proofs.Common.{subst, Result, Ok, inl, inr, arith, slice_range, length-append}
-use Rattle.std.proofs.Common.{length-take, length-drop}
-use Rattle.thorin_join.proofs.Terms.{as_error, as_error_ok, bind-ok, bind-was, by-bool, Contents}
-use Rattle.thorin_join.proofs.Terms.{Contribution, DwarfObject, Encoding, Endianness, entry_count}
-use Rattle.thorin_join.proofs.Terms.{ErrorValue, first, InProgress, is_copied, is_package, IsTable}
-use Rattle.thorin_join.proofs.Terms.{list_any, named_in, NewUnit, offset_size, offsets_used, Parts}
-use Rattle.thorin_join.proofs.Terms.{parts_of, ReadError, same-ok, same_kind, same_name, Source}
-use Rattle.thorin_join.proofs.Terms.{Str, strings_of, StrOffsets, sum_by, take-length, Used}
-use Rattle.thorin_join.proofs.Terms.{with_unit_added}
-use Rattle.std.specs.List.{position_or_len}
-use Rattle.std.specs.Result.{result_unwrap_or}
+use Rattle.thorin_join.proofs.Terms
+use Terms.{◌*◌, ◌+◌, ◌++◌, ◌-◌, ◌<◌, [], ap, arith, as_error, as_error_ok, bind-was, by-bool}
+use Terms.{bytes_of_contents, bytes_of_strings, cond, Contents, Contribution, drop, DwarfObject}
+use Terms.{each_from, Encoding, Endianness, entry_count, eqb, ErrorValue, first, header_size}
+use Terms.{if◌then◌else◌, inl, InProgress, inr, is_copied, is_package, IsTable, IsZeroFree, length}
+use Terms.{length-append, length-drop, length-take, List, list_any, ltb, named_in, NewUnit}
+use Terms.{offset_of, offset_of_entry, offset_size, offsets_used, Ok, packaged_offsets, Parts}
+use Terms.{parts_of, position_or_len, range_bytes, ReadError, refl, remapped, Result}
+use Terms.{result_unwrap_or, rewritten, same-ok, same_kind, same_name, slice_range, Source, Str}
+use Terms.{StrAtOffset, string_at, strings_at, strings_of, StrOffsets, subst, suc, sum_by, take}
+use Terms.{take-length, true, Used, with_each_part, with_new_unit, with_new_units, with_string}
+use Terms.{with_strings, with_unit_added, zero, ℕ, ◌∙◌, ◌∷◌, ◌≡◌, ◌≤◌}
+use Rattle.thorin_join.proofs.Steps.{kept, past}
+use Rattle.thorin_join.specs.State.{names_of}
 use Rattle.std.proofs.Math.Nat.{mul-le-mul_right}
 use Rattle.std.proofs.lemmas.List.Sums.{sum_by-cons, sum_by-append, sum_by_push}
-use Rattle.dwp_bytes.specs.StringOffsets.{header_size, string_at}
-use Rattle.thorin_errors.specs.Errors.{StrAtOffset}
 use Rattle.thorin_strings.specs.StringOffsets.{offset_at, named_at, fitting_offset, remapped_entry}
-use Rattle.thorin_strings.specs.StringOffsets.{remapped_entries, remapped, entry_at, entry_bytes}
-use Rattle.thorin_strings.specs.Strings.{with_string, offset_of, IsZeroFree}
-use Rattle.thorin_strings.proofs.Named.{read_free, string_was, used}
+use Rattle.thorin_strings.specs.StringOffsets.{remapped_entries, entry_at, entry_bytes}
+use Rattle.dwp_strings.proofs.Named.{read_free, string_was, used}
 use Rattle.thorin_strings.proofs.RemapLemmas.{kept_more}
 use Rattle.thorin_strings.proofs.NamedBytes.{entries_long, header_long}
 use Rattle.thorin_packaged.specs.PackagedOffsets.{offset_ranges, ranges_test, rewritten_from}
-use Rattle.thorin_packaged.specs.PackagedOffsets.{packaged_offsets}
-use Rattle.thorin_packaged.specs.PackagedReading.{range_bytes}
 use Rattle.thorin_packaged.proofs.RewriteSteps.{next_passed}
-use Rattle.thorin_input.specs.InputStrings.{rewritten}
-use Rattle.thorin_input.specs.Parts.{with_each_part}
-use Rattle.thorin_join.specs.FirstUse.{with_strings, named_by_ranges, named_by_section}
-use Rattle.thorin_join.specs.Sizes.{bytes_of_strings, bytes_of_contents}
-use Rattle.thorin_join.specs.State.{names_of, with_new_unit, with_new_units}
-use Rattle.thorin_join.specs.Strings.{each_from, offset_of_entry, strings_at}
-use Rattle.thorin_join.proofs.Steps.{past, kept}
+use Rattle.thorin_join.specs.FirstUse.{named_by_ranges, named_by_section}
 use Rattle.thorin_join.proofs.Parts.Appended.{Adds, each-part}
 use Rattle.thorin_join.proofs.Parts.OffsetRanges.{range-of, count-fits, count-none}
 use Rattle.thorin_join.proofs.Units.HeadersRead.{News}
@@ -53,9 +43,8 @@ pub used-most : (strings used : List (List ℕ))
     + bytes_of_strings used
 used-most strings [] = omega arith
 used-most strings (s ∷ ss) =
-    let all = sum_by-cons ended_long s ss in
-    let pushed = sum_by_push ended_long strings s in
-    grind (arith, all, pushed, used-most strings ss, used-most (strings ++ s ∷ []) ss)
+    let more = used-most (strings ++ s ∷ []) ss in
+    grind (arith, sum_by-cons ended_long, sum_by_push ended_long, used-most strings ss, more)
 
 -- a table of strings, with the one before in front
 pub record Follows (before after : List (List ℕ)) : Type 0 where
@@ -127,13 +116,9 @@ string-more : (section : List ℕ) (f : ℕ → ℕ) (i n j : ℕ) (l : List (Li
 unfolding strings_at
 string-more section f i zero j l string at h k =
     let here : i ≡ j = omega arith in
-    rw (here, k, ← same-ok {E = ReadError} [] l h) refl
+    grind arith
 string-more section f i (suc n) j l string at h k =
-    let s1 = bind-was (string_at section (f i)) _ l h in
-    let s2 = bind-was (strings_at section (each_from f (i + 1) n)) _ l s1.2 in
-    let rest = string-more section f (i + 1) n j s2.0 string (omega arith) s2.1 k in
-    bind-ok _ s1.0 _ s1.1 ∙ bind-ok _ _ _ rest
-    ∙ ap (λ m. Ok (m ++ string ∷ [])) (same-ok {E = ReadError} _ l s2.2)
+    grind (arith, string-more section f (i + 1) n j)
 
 pub error-inv : {X : Type 0} (f : ReadError → ErrorValue) (r : Result X ReadError) (x : X)
     → as_error f r ≡ Ok x → r ≡ Ok x
@@ -162,12 +147,11 @@ module _ (order : Endianness) (encoding : Encoding) (section bytes : List ℕ) w
       ap (string_at section) (same-ok {E = ReadError} _ s5.0
       (past _ _ _ s5.0 (as_error_ok _ _ s5.0 s5.1)).1)
       ∙ as_error_ok (λ e. StrAtOffset e s5.0) (string_at section s5.0) s3.0 s5.2 in
-      let long = length-append s1.0.0 (s4.0 ∷ []) in
       let fits : n * 4 + 4 ≤ suc n * 4 = omega arith in
       let both = both-bring before.2 (string-brings section s3.0 (f n) s1.0.1 here) fits in
       let all = string-more section f 0 n n before.0 s3.0 (omega arith) before.3 here in
       rw (← same-ok {E = ErrorValue} _ out s2.2, ← same-ok {E = ErrorValue} _ s2.0 s4.2)
-      (before.0 ++ s3.0 ∷ [], omega (arith, before.1, long), both, all)
+      (before.0 ++ s3.0 ∷ [], omega (arith, before.1, length-append {A = ℕ}), both, all)
 
   -- a range is rewritten to no more bytes
   range-brings : (size : ℕ) (strings : List (List ℕ)) (out : List ℕ × List (List ℕ))
@@ -272,11 +256,10 @@ module _ (source : Source) where
       → with_each_part source before sections ≡ Ok after → Bring before sections after
   each-brings = each-part source Bring (λ parts. (none-brings, omega arith))
       (λ before s next ss after made rest later.
-      let here = step-brings before s next made.adds in
-      let fits : offsets_used s + sum_by offsets_used ss ≤ sum_by offsets_used (s ∷ ss) =
-      omega (arith, sum_by-cons offsets_used s ss) in
-      let both = both-bring here.0 later.0 fits in
-      (both, omega (arith, here.1, later.1, sum_by-cons part_bytes s ss)))
+      let here = step-brings before s next made.adds in (
+        both-bring here.0 later.0 (omega (arith, sum_by-cons offsets_used s ss)),
+        omega (arith, here.1, later.1, sum_by-cons part_bytes s ss),
+      ))
 
   -- the table of strings goes on from the one before
   pub parts-follow : (strings : List (List ℕ)) (parts : Contents) (after : List (List ℕ))

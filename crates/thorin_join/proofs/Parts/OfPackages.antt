@@ -1,15 +1,11 @@
 -- The parts of a package: each kind of section has one part at most, and the string offsets of each
 -- row read alike.
-use Rattle.std.proofs.Common.{◌≡◌, ◌∙◌, ℕ, ◌+◌, ◌<◌, ◌≤◌, true, List, [], length, take, Ok, Some}
-use Rattle.std.proofs.Common.{refl, sym, ap, ◌⊎◌, ⊎_elim, true≢false, arith}
-use Rattle.thorin_join.proofs.Terms.{by-bool, Contents, Contribution, data_of, first, has_part}
-use Rattle.thorin_join.proofs.Terms.{Index, is-same, is_copied, is_package, IsTable, joined_parts}
-use Rattle.thorin_join.proofs.Terms.{Parts, parts_of, Ranges, ReadsAlike, same-self, same_kind}
-use Rattle.thorin_join.proofs.Terms.{SectionKind, Source, Str, StrOffsets, Used}
-use Rattle.dwp_index.specs.Index.{row_in, range_in}
-use Rattle.thorin_packaged.specs.PackagedReading.{RowsReadAlike, range_bytes}
-use Rattle.thorin_input.specs.Indexes.{Indexes}
-use Rattle.thorin_input.specs.Parts.{with_each_part}
+use Rattle.thorin_join.proofs.Terms
+use Terms.{◌+◌, ◌<◌, [], ap, arith, by-bool, Contents, Contribution, data_of, first, has_part}
+use Terms.{Index, Indexes, is-same, is_copied, is_package, IsTable, joined_parts, length, List, Ok}
+use Terms.{Parts, parts_of, range_bytes, range_in, Ranges, ReadsAlike, refl, row_in, RowsReadAlike}
+use Terms.{same-self, same_kind, SectionKind, Some, Source, Str, StrOffsets, sym, take, true, Used}
+use Terms.{with_each_part, ℕ, ◌∙◌, ◌≡◌, ◌≤◌, ◌⊎◌, ⊎_elim}
 use Rattle.thorin_join.proofs.Parts.Appended.{each-part, adds-offsets, adds-copied, adds-other}
 use Rattle.thorin_join.proofs.Parts.Appended.{has-last, joined_parts-more}
 use Rattle.thorin_join.proofs.Parts.OffsetLaws.{packaged-alike}
@@ -23,10 +19,9 @@ module _ (source : Source) (packed : is_package source.indexes ≡ true) where
       → joined_parts kind after.0 ≡ joined_parts kind before.0
   ended kind = each-part source (λ before ss after. has_part kind before.0 ≡ true
       → joined_parts kind after.0 ≡ joined_parts kind before.0) (λ parts has. refl)
-      (λ before s next ss after made rest ends has. by-bool _ (same_kind s.kind kind)
-      (λ same. absurd (true≢false (sym has ∙ (rw (is-same s.kind kind same, packed) at made.once))))
-      (λ other. let adds = adds-other source kind before s next other made.adds in
-      ends (adds.0 ∙ has) ∙ adds.1))
+      (λ before s next ss after made rest ends has.
+      let other = adds-other source kind before s next made.adds in
+      grind (arith, is-same s.kind kind, packed, made.once, ends, other))
 
   -- so the part of a kind that is copied is its first section
   pub parts-first : (strings : List (List ℕ)) (parts : Contents) (after : List (List ℕ))
@@ -36,11 +31,12 @@ module _ (source : Source) (packed : is_package source.indexes ≡ true) where
   parts-first strings parts after h kind copied =
       each-part source (λ before ss after. joined_parts kind before.0 ≡ []
       → joined_parts kind after.0 ≡ first kind ss) (λ parts none. none)
-      (λ before s next ss last made rest once none. by-bool _ (same_kind s.kind kind)
-      (λ same. let adds = adds-copied source kind before s next copied same made.adds in
-      rw same (ended kind ss next last rest (rw adds (has-last kind before.0 s.bytes))
-      ∙ rw (adds, joined_parts-more kind before.0 kind s.bytes, none, same-self kind) refl))
-      (λ other. rw other (once ((adds-other source kind before s next other made.adds).1 ∙ none))))
+      (λ before s next ss last made rest once none.
+      let same = adds-copied source kind before s next made.adds copied in
+      let other = adds-other source kind before s next made.adds in
+      let more = joined_parts-more kind before.0 kind s.bytes in
+      let has = has-last kind before.0 s.bytes in
+      grind (arith, same, other, more, has, once, same-self kind, ended kind ss next last rest))
       source.object.sections ([], strings) (parts, after) h refl
 
 -- one of the indexes
@@ -93,5 +89,5 @@ module _ (source : Source) (packed : is_package source.indexes ≡ true) where
             (front-front w.written.1 last.1 final kept begins);
       }))
       (λ other. rw other (rows ((step-brings source before s next made.adds).0.follows table).table
-      ((adds-other source StrOffsets before s next other made.adds).1 ∙ none))))
+      ((adds-other source StrOffsets before s next made.adds other).1 ∙ none))))
       source.object.sections ([], strings) (parts, after) h table refl

@@ -1,12 +1,9 @@
 -- What is known of string offsets that are rewritten: a range names the same and is read alike, and
 -- so is the range of each row of a package.
-use Rattle.std.proofs.Common.{◌≡◌, ℕ, List, length, Option, Ok}
-use Rattle.thorin_join.proofs.Terms.{Encoding, Endianness, Index, IsTable}
-use Rattle.thorin_strings.proofs.NamedEntries.{range_named}
-use Rattle.thorin_packaged.specs.PackagedOffsets.{packaged_offsets}
-use Rattle.thorin_packaged.specs.PackagedReading.{PackageReadsAlike}
+use Rattle.thorin_join.proofs.Terms
+use Terms.{Encoding, Endianness, Index, IsTable, length, List, Ok, Option, packaged_offsets}
+use Terms.{PackageReadsAlike, range_named, strings_again, ℕ, ◌≡◌}
 use Rattle.thorin_packaged.proofs.ReadAlike.{NamesLaw, AlikeLaw, package_reads_alike}
-use Rattle.thorin_packaged.proofs.OffsetsJoined.{strings_again}
 
 pub names-same : NamesLaw
 names-same order encoding section bytes size before written after =

@@ -1,23 +1,15 @@
 -- What is read of ranges of string offsets: of their whole entries alone, of none, and of joined
 -- ones.
-use Rattle.std.proofs.Common.{◌⊎◌, inl, inr, ◌≡◌, ◌∙◌, ℕ, ◌+◌, ◌-◌, ◌<◌, ◌≤◌, false, eqb, ltb, List}
-use Rattle.std.proofs.Common.{[], ◌++◌, length, take, drop, ◌*◌, ◌/◌, zero-mul, Ok, refl, sym, ap}
-use Rattle.std.proofs.Common.{⊎_elim, arith, length-take, length-drop, take_all, take-append-drop}
-use Rattle.std.proofs.Common.{le-ltb, eqb-true, ltb-false, ltb-true}
-use Rattle.thorin_join.proofs.Terms.{bind-was, by-bool, drop-append-le, Encoding, Endianness}
-use Rattle.thorin_join.proofs.Terms.{entry_count, ErrorValue, offset_size, ReadsAlike, same-ok}
-use Rattle.std.proofs.lemmas.Bool.{cases_lt}
+use Rattle.thorin_join.proofs.Terms
+use Terms.{◌*◌, ◌+◌, ◌++◌, ◌-◌, ◌/◌, ◌<◌, [], ap, arith, by-bool, cases_lt, drop, drop-append-le}
+use Terms.{Encoding, Endianness, entry_count, entry_in, eqb, false, Format, header_size, length}
+use Terms.{length-drop, length-take, List, ltb, ltb-true, nat_tests, no_header, number}
+use Terms.{number_front, offset_size, Ok, ReadsAlike, remapped, string_in, sym, take}
+use Terms.{take-append-drop, take_all, zero-mul, ℕ, ◌∙◌, ◌≡◌, ◌≤◌, ◌⊎◌, ⊎_elim}
 use Rattle.std.proofs.lemmas.Nat.{row_fits}
-use Rattle.dwp_base.specs.Numbers.{number}
-use Rattle.dwp_bytes.specs.declared.encoding.Format.{Format}
-use Rattle.dwp_bytes.specs.declared.encoding.Format.TheVariants.{Dwarf32, Dwarf64}
-use Rattle.dwp_bytes.specs.StringOffsets.{header_size}
-use Rattle.dwp_index.specs.Strings.{string_in, entry_in}
 use Rattle.thorin_strings.specs.Rewritten.{NamesTheSame}
-use Rattle.thorin_strings.specs.StringOffsets.{remapped, header_of, remapped_entries, entry_bytes}
+use Rattle.thorin_strings.specs.StringOffsets.{header_of, remapped_entries, entry_bytes}
 use Rattle.thorin_join.specs.Meaning.{whole_entries}
-use Rattle.thorin_packaged.proofs.OffsetsJoined.{number_front, no_header}
-use Rattle.thorin_join.proofs.Steps.{past}
 
 -- ---- what reads as what reads alike does so too
 pub alike-by : {order : Endianness} {encoding : Encoding}
@@ -32,28 +24,23 @@ alike-by olds news alike =
 -- ---- a range without the bytes past its last whole entry
 pub count-again : (format : Format) (l h n : ℕ) → l ≡ h + n * offset_size format
     → (l - h) / offset_size format ≡ n
-count-again Dwarf32 l h n e = omega arith
-count-again Dwarf64 l h n e = omega arith
+count-again format l h n e = grind arith
 
 -- whole entries fit, and each has at least 4 bytes
 pub count-fits : (format : Format) (l h : ℕ) → h ≤ l
     → (h + (l - h) / offset_size format * offset_size format ≤ l)
     × ((l - h) / offset_size format * 4 ≤ l)
-count-fits Dwarf32 l h e = (omega arith, omega arith)
-count-fits Dwarf64 l h e = (omega arith, omega arith)
+count-fits format l h e = grind arith
 
 pub count-none : (format : Format) (l h : ℕ) → l ≤ h → (l - h) / offset_size format ≡ 0
-count-none Dwarf32 l h e = omega arith
-count-none Dwarf64 l h e = omega arith
+count-none format l h e = grind arith
 
 pub whole-long : (encoding : Encoding) (bytes : List ℕ) → header_size encoding ≤ length bytes
     → length (whole_entries encoding bytes) ≡ header_size encoding + entry_count encoding
     (length bytes) * offset_size encoding.format
 whole-long encoding bytes room =
-    let end = header_size encoding + entry_count encoding (length bytes) * offset_size
-    encoding.format in
     let fits = count-fits encoding.format (length bytes) (header_size encoding) room in
-    omega (arith, fits.0, length-take end bytes)
+    omega (arith, fits.0, length-take {A = ℕ})
 
 module _ (order : Endianness) (encoding : Encoding) where
   pub whole-read : (strings bytes : List ℕ) (i : ℕ)
@@ -92,9 +79,7 @@ module _ (order : Endianness) (encoding : Encoding) where
       → ReadsAlike order encoding section [] final [] i
   unfolding string_in entry_in
   empty-alike section final i =
-      let none = count-none encoding.format 0 (header_size encoding) (omega arith) in
-      let past : ltb i (entry_count encoding 0) ≡ false = le-ltb i _ (omega (arith, none)) in
-      record { readable = rw past refl; same = rw past refl }
+      grind (arith, nat_tests, count-none encoding.format 0 (header_size encoding))
 
 -- ---- rewritten ranges
 -- what a range of some bytes is rewritten to: a header, and its entries
@@ -117,22 +102,7 @@ pub range-of : (order : Endianness) (encoding : Encoding) (section bytes : List 
     → ((size ≡ 0) × (([], strings) ≡ range))
     ⊎ Range order encoding section bytes size strings range
 unfolding remapped
-range-of order encoding section bytes size strings range h =
-    by-bool _ (eqb size 0)
-    (λ none. inl (eqb-true size 0 none, same-ok {E = ErrorValue} _ range (rw none at h)))
-    (λ some. let n = entry_count encoding size in
-    let room = past (ltb size (header_size encoding)) _ _ range (rw some at h) in
-    let a = bind-was (header_of order encoding (n * offset_size encoding.format)) _ range room.1 in
-    let b = bind-was (remapped_entries order encoding section bytes n strings) _ range a.2 in
-    inr (record {
-      some = some;
-      room = ltb-false size (header_size encoding) room.0;
-      header = a.0;
-      entries = b.0;
-      header_is = a.1;
-      entries_are = b.1;
-      is = same-ok {E = ErrorValue} _ range b.2;
-    }))
+range-of order encoding section bytes size strings range h = grind arith
 
 -- before DWARF 5 a rewritten range has the whole entries and nothing else
 pub rewritten-long : {order : Endianness} {encoding : Encoding} {section bytes written : List ℕ}

@@ -1,15 +1,12 @@
 -- The string offsets of the parts of a plain input read alike.
-use Rattle.std.proofs.Common.{◌≡◌, ◌∙◌, ℕ, ◌+◌, ◌-◌, ◌<◌, Bool, true, false, leb, List, [], ◌*◌}
-use Rattle.std.proofs.Common.{◌∷◌, ◌++◌, length, take, ◌&&◌, ◌||◌, ltb, Ok, refl, sym, true≢false}
-use Rattle.std.proofs.Common.{arith, length-append, append_assoc, append-nil, leb-false}
-use Rattle.thorin_join.proofs.Terms.{by-bool, Contents, data_of, Encoding, entry_count, first}
-use Rattle.thorin_join.proofs.Terms.{has_part, is-same, is_copied, is_package, IsTable}
-use Rattle.thorin_join.proofs.Terms.{joined_parts, offset_size, Parts, parts_of, ReadsAlike}
-use Rattle.thorin_join.proofs.Terms.{same_kind, SectionKind, Source, Str, StrOffsets}
-use Rattle.thorin_strings.specs.StringOffsets.{remapped}
+use Rattle.thorin_join.proofs.Terms
+use Terms.{◌&&◌, ◌*◌, ◌+◌, ◌++◌, ◌-◌, ◌<◌, [], append-nil, append_assoc, arith, Bool, by-bool}
+use Terms.{Contents, data_of, Encoding, entry_count, false, first, has_part, InputFile, is-same}
+use Terms.{is_copied, is_package, IsTable, joined_parts, joined_read, leb, leb-false, length}
+use Terms.{length-append, List, ltb, no_header, offset_size, Ok, Parts, parts_of, ReadsAlike, refl}
+use Terms.{remapped, same_kind, SectionKind, Source, stands_once, Str, StrOffsets, sym, take, true}
+use Terms.{true≢false, ◌||◌, ℕ, ◌∙◌, ◌∷◌, ◌≡◌}
 use Rattle.thorin_join.specs.Meaning.{whole_entries, joined_offsets}
-use Rattle.thorin_input.specs.Parts.{stands_once}
-use Rattle.thorin_input.specs.Used.{InputFile}
 use Rattle.thorin_join.proofs.Parts.OffsetRanges.{alike-by, whole-long, whole-read, empty-alike}
 use Rattle.thorin_join.proofs.Parts.OffsetRanges.{rewritten-long}
 use Rattle.thorin_join.proofs.Parts.Appended.{each-part, joined_parts-more, Rewritten, has-last}
@@ -17,7 +14,6 @@ use Rattle.thorin_join.proofs.Parts.Appended.{has-other as part-other, adds-offs
 use Rattle.thorin_join.proofs.Parts.Appended.{adds-other}
 use Rattle.thorin_join.proofs.Parts.OffsetLaws.{names-same, reads-alike}
 use Rattle.thorin_join.proofs.Parts.Strings.{front-front, rewritten-plain}
-use Rattle.thorin_packaged.proofs.OffsetsJoined.{joined_read, no_header}
 
 pub has-more : (a : Contents) (bytes : List ℕ) → has_part StrOffsets
     (a ++ (StrOffsets, bytes) ∷ []) ≡ true
@@ -30,9 +26,7 @@ has-other = part-other StrOffsets
 -- of a kind that may stand once alone, nothing is there yet
 pub not-there : (packed standard has : Bool) → standard ≡ true
     → ((packed || (standard && true)) && has) ≡ false → has ≡ false
-not-there true standard has h once = once
-not-there false true has h once = once
-not-there false false has h once = absurd (true≢false (sym h))
+not-there packed standard has h once = grind arith
 
 module _ (source : Source) (plain : is_package source.indexes ≡ false) where
   abbrev object : InputFile
@@ -123,7 +117,7 @@ module _ (source : Source) (plain : is_package source.indexes ≡ false) where
       not-there (is_package source.indexes) (leb 5 encoding.version)
       (has_part StrOffsets before.0) standard here)
       (adds-offsets source before s next same made.adds))))
-      (λ other. let adds = adds-other source StrOffsets before s next other made.adds in
+      (λ other. let adds = adds-other source StrOffsets before s next made.adds other in
       let strings : next.1 ≡ before.1 = rw (adds-plain source before s next other made.adds)
       (by-bool _ (is_copied s.kind) (λ c. rw c) (λ c. rw c)) in
       rw other (later old (rw (adds.0, adds.1, strings) so_far))))

@@ -1,12 +1,10 @@
 -- The list of strings that a range names, and its strings one by one.
-use Rattle.std.proofs.Common.{◌≡◌, ◌∙◌, ℕ, zero, suc, ◌+◌, cond, List, [], ◌∷◌, refl, Result, Ok}
-use Rattle.std.proofs.Common.{Err, Some, None, arith, slice_get, nat_lt, IsOk}
-use Rattle.std.proofs.lemmas.Bool.Decides.{nat_tests}
-use Rattle.thorin_join.proofs.Terms.{bind-ok, bind-was, Encoding, Endianness, ReadError, strings_of}
-use Rattle.thorin_join.proofs.Terms.{◌>>=◌}
-use Rattle.dwp_bytes.specs.StringOffsets.{string_at}
-use Rattle.dwp_index.specs.Strings.{entry_in, string_for, string_in}
-use Rattle.thorin_join.specs.Strings.{each_from, offset_of_entry, offsets_in, strings_at}
+use Rattle.thorin_join.proofs.Terms
+use Terms.{◌+◌, ◌>>=◌, [], arith, bind-ok, cond, each_from, Encoding, Endianness, entry_in, IsOk}
+use Terms.{List, nat_lt, nat_tests, None, offset_of_entry, Ok, ReadError, refl, Result, slice_get}
+use Terms.{Some, string_at, string_in, strings_at, strings_of, suc, zero, ℕ, ◌∙◌, ◌∷◌, ◌≡◌}
+use Rattle.dwp_index.specs.Strings.{string_for}
+use Rattle.thorin_join.specs.Strings.{offsets_in}
 
 -- ---- the offsets
 
@@ -22,8 +20,7 @@ each-at f i (suc n) (suc k) j at =
 -- one by one
 is-there : (r : Result (List ℕ) ReadError) → IsOk (r >>= λ string. Ok (Some string))
     → (string : List ℕ) × (r ≡ Ok string)
-is-there (Ok string) h = (string, refl)
-is-there (Err e) h = absurd cc
+is-there r h = grind arith
 
 all-there : (section offsets : List ℕ) → ((i : ℕ) → IsOk (string_for section (slice_get offsets i)))
     → (l : List (List ℕ)) × (strings_at section offsets ≡ Ok l)
@@ -45,11 +42,9 @@ all-are : (section offsets : List ℕ) (l : List (List ℕ))
 unfolding strings_at
 all-are section [] [] h = refl
 all-are section [] (y ∷ ys) h = let never = h 0 in absurd cc
-all-are section (o ∷ os) [] h = let s = bind-was (string_at section o) _ _ (h 0) in absurd cc
+all-are section (o ∷ os) [] h = grind (arith, h 0)
 all-are section (o ∷ os) (y ∷ ys) h =
-    let s = bind-was (string_at section o) _ _ (h 0) in
-    let same : s.0 ≡ y = cc in
-    rw (s.1, same, all-are section os ys (λ i. h (suc i))) refl
+    grind (arith, h 0, all-are section os ys (λ i. h (suc i)))
 
 -- ---- the strings of a range
 

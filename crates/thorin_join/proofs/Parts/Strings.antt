@@ -1,10 +1,7 @@
 -- How the string offsets of an input are rewritten, and what stands in front.
-use Rattle.std.proofs.Common.{◌≡◌, ◌∙◌, ℕ, ◌≤◌, true, false, List, length, take, refl, sym, ap}
-use Rattle.std.proofs.Common.{arith, length-take, take-take}
-use Rattle.thorin_join.proofs.Terms.{first, is_package, Source, Str}
-use Rattle.thorin_packaged.specs.PackagedOffsets.{packaged_offsets}
-use Rattle.thorin_strings.specs.StringOffsets.{remapped}
-use Rattle.thorin_input.specs.InputStrings.{rewritten}
+use Rattle.thorin_join.proofs.Terms
+use Terms.{ap, arith, false, first, is_package, length, length-take, List, packaged_offsets, refl}
+use Terms.{remapped, rewritten, Source, Str, sym, take, take-take, true, ℕ, ◌∙◌, ◌≡◌, ◌≤◌}
 
 -- what stands in front of what stands in front
 pub front-front : {A : Type 0} (a b c : List A) → take (length a) b ≡ a → take (length b) c ≡ b

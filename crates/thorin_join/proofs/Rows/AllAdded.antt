@@ -1,12 +1,11 @@
 -- The units of an input that are added stand in their rows.
-use Rattle.std.proofs.Common.{[], ◌≡◌, ◌∙◌, ℕ, false, List, ◌∷◌, ◌++◌, ap, sym, append_assoc}
-use Rattle.std.proofs.Common.{append-nil}
-use Rattle.thorin_join.proofs.Terms.{AreRowsOf, by-bool, content_of, Contents, DwarfObject}
-use Rattle.thorin_join.proofs.Terms.{Endianness, InProgress, joining, keys, kind_at, list_any}
-use Rattle.thorin_join.proofs.Terms.{Members, NewUnit, row_at, same_kind, same_name, SectionKind}
-use Rattle.thorin_join.proofs.Terms.{take-length, UnitSection, with_unit_added}
-use Rattle.std.proofs.lemmas.List.{map-append}
-use Rattle.thorin_join.specs.State.{names_of, with_new_unit, with_new_units}
+use Rattle.thorin_join.proofs.Terms
+use Terms.{◌++◌, [], ap, append-nil, append_assoc, AreRowsOf, arith, content_of, Contents}
+use Terms.{DwarfObject, Endianness, false, InProgress, joining, keys, kind_at, List, list_any}
+use Terms.{map-append, Members, NewUnit, row_at, same_kind, same_name, SectionKind, sym}
+use Terms.{take-length, UnitSection, with_new_unit, with_new_units, with_unit_added, ℕ, ◌∙◌, ◌∷◌}
+use Terms.{◌≡◌}
+use Rattle.thorin_join.specs.State.{names_of}
 use Rattle.thorin_join.proofs.Rows.Stay.{Grows, grows-trans, grows-with_bytes, keep-lie}
 use Rattle.thorin_join.proofs.Rows.Stay.{keep-shares, keep-rows, rows-next}
 use Rattle.thorin_join.proofs.Rows.OneAdded.{CanBeAdded, unit-added, row-name}
@@ -25,9 +24,7 @@ pub joined-new : {X : Type 0} (names : List DwarfObject) (us : List (DwarfObject
     → AllNew names (keys (joining names us))
 joined-new names [] = tt
 joined-new names (u ∷ us) =
-    by-bool _ (list_any (same_name u.0) names)
-    (λ there. rw there (joined-new names us))
-    (λ new. rw new (new, joined-new (names ++ u.0 ∷ []) us))
+    grind (arith, joined-new names us, joined-new (names ++ u.0 ∷ []) us)
 
 pub names-added : (p : InProgress) (u : DwarfObject × NewUnit) → names_of (with_unit_added p u) ≡
     names_of p ++ u.0 ∷ []
@@ -67,11 +64,10 @@ units-added base p (u ∷ us) ms (m ∷ added) grows new can rows lie =
     let q = with_unit_added p u in
     let more = grows-with_bytes (kind_at u.1.place) u.1.bytes c in
     let same = take-length p.strings in
-    let here : CanBeAdded order c p.strings u m = assumption (
+    let row = unit-added u.1.row c u.0 u.1.bytes u.1.place order p.strings m (assumption (
       keep-lie base c u.1.row grows can.0.lie,
       keep-shares order base c p.strings p.strings u.1.row m.1 grows same can.0.lie can.0.shares,
-    ) in
-    let row = unit-added u.1.row c u.0 u.1.bytes u.1.place order p.strings m here in
+    )) in
     let before = keep-rows order c q.file.contents p.strings p.strings p.rows ms more same rows in
     let names = names-added p u in
     let a = units-added base q us (ms ++ m ∷ []) added (grows-trans base c q.file.contents grows

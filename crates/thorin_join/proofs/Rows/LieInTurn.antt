@@ -1,14 +1,10 @@
 -- The units of a package lie one after another when units are added.
-use Rattle.std.proofs.Common.{[], ◌≡◌, ◌∙◌, ℕ, ◌+◌, true, false, cond, List, ◌∷◌, ◌++◌, length, ap}
-use Rattle.std.proofs.Common.{sym, refl, Some, None, arith, length-append, append_assoc, append-nil}
-use Rattle.std.proofs.lemmas.List.Elements.{filter-append}
-use Rattle.thorin_join.proofs.Terms.{adding, by-bool, Compilation, content_of, Contents}
-use Rattle.thorin_join.proofs.Terms.{contribution_to, DwarfObject, Endianness, IndexEntry}
-use Rattle.thorin_join.proofs.Terms.{InProgress, IsWhole, joined_parts, kind_at, NewUnit, place_for}
-use Rattle.thorin_join.proofs.Terms.{row_at, same_kind, SectionKind, Source, TypeUnit, UnitRead}
-use Rattle.thorin_join.proofs.Terms.{UnitSection, with_bytes}
-use Rattle.dwp_dwarf.specs.declared.unit.UnitSection.TheVariants as places
-use Rattle.thorin_input.specs.Growing.{with_parts}
+use Rattle.thorin_join.proofs.Terms
+use Terms.{◌+◌, ◌++◌, [], adding, ap, append-nil, append_assoc, arith, by-bool, Compilation, cond}
+use Terms.{content_of, Contents, contribution_to, DwarfObject, Endianness, false, filter-append}
+use Terms.{IndexEntry, InProgress, IsWhole, joined_parts, kind_at, length, length-append, List}
+use Terms.{NewUnit, None, place_for, refl, row_at, same_kind, SectionKind, Some, Source, sym, true}
+use Terms.{TypeUnit, UnitRead, UnitSection, with_bytes, with_parts, ℕ, ◌∙◌, ◌∷◌, ◌≡◌}
 use Rattle.thorin_join.specs.Laid.{same_place, is_at, rows_at, Heads, Lie, HaveOneRange, IsLaid}
 use Rattle.thorin_join.proofs.Units.JoinedByName.{IsAdded}
 use Rattle.thorin_join.proofs.Units.Whole.{Goes}
@@ -16,6 +12,7 @@ use Rattle.thorin_join.proofs.Rows.OfUnits.{is-unit_row, whole-else}
 use Rattle.thorin_join.proofs.Rows.OneAdded.{CanLie, content-put, place-put, row-name, row-own}
 use Rattle.thorin_join.proofs.Rows.OneAdded.{own-place, row-other}
 use Rattle.thorin_join.proofs.Parts.Appended.{content-with_bytes, content-with_parts}
+use Rattle.dwp_dwarf.specs.declared.unit.UnitSection.TheVariants as places
 
 -- one more unit behind the others
 module _ (order : Endianness) (place : UnitSection) (row : IndexEntry) (own : List ℕ) (at : ℕ)
@@ -56,14 +53,10 @@ pub record RowsLie (order : Endianness) (rows : List IndexEntry) (c : Contents) 
   pub once : HaveOneRange rows
 
 is-place : (a b : UnitSection) → same_place a b ≡ true → a ≡ b
-is-place places.Info places.Info h = refl
-is-place places.Types places.Types h = refl
-is-place _ _ h = absurd cc
+is-place a b h = grind arith
 
 kinds-same : (a b : UnitSection) → same_kind (kind_at b) (kind_at a) ≡ same_place a b
-kinds-same places.Info places.Info = refl
-kinds-same places.Types places.Types = refl
-kinds-same _ _ = refl
+kinds-same a b = grind arith
 
 -- one more unit
 module _ (order : Endianness) (c : Contents) (rows : List IndexEntry) (u : DwarfObject × NewUnit)

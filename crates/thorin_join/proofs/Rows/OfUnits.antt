@@ -1,46 +1,35 @@
 -- A unit's own row in its input's indexes, the row that it gets, and what this row means, where
 -- each of its ranges was put behind the contents before: a unit that passed the tests stands in its
 -- row.
-use Rattle.std.proofs.Common.{◌≡◌, ◌∙◌, ℕ, true, false, cond, is_some, is_none, ◌&&◌, ◌||◌, Ok}
-use Rattle.std.proofs.Common.{Option, Some, None, refl, sym, ap, inl, inr, eqb-true, [], List}
-use Rattle.std.proofs.Common.{length, take, ◌+◌, ◌≤◌, arith, Bool, ◌∷◌}
+use Rattle.thorin_join.proofs.Terms
+use Terms.{◌&&◌, ◌+◌, [], all_kinds, ap, arith, bind-was, Bool, by-bool, content_of, Contents}
+use Terms.{Contribution, contribution_to, data_of, DwarfObject, Encoding, entry_by, ErrorValue}
+use Terms.{false, find, first, identifier_of, Index, IndexEntry, Indexes, is_copied, is_none}
+use Terms.{is_package, is_shared, is_some, IsTable, joined_parts, length, LieInside, List, list_all}
+use Terms.{looked_up, Meaning, None, Ok, Option, part_of, parts_of, range_in, range_put, Ranges}
+use Terms.{read_each, ReadsAlike, refl, row_in, row_test, same-ok, SectionKind, Shares, Some}
+use Terms.{Source, Str, StrOffsets, sym, take, take-length, true, unit_row, UnitRead, with_parts}
+use Terms.{◌||◌, ℕ, ◌∙◌, ◌∷◌, ◌≡◌, ◌≤◌}
 use Rattle.dwp_base.specs.ByKind.{value_of}
-use Rattle.dwp_base.specs.Reading.{read_each}
-use Rattle.dwp_base.specs.Sections.{all_kinds}
 use Rattle.dwp_base.proofs.KindsRead.{read-kind}
-use Rattle.thorin_join.proofs.Terms.{as_error_ok, bind-was, by-bool, Compilation, content_of}
-use Rattle.thorin_join.proofs.Terms.{Contents, Contribution, contribution_to, data_of, DwarfObject}
-use Rattle.thorin_join.proofs.Terms.{Encoding, ErrorValue, first, identifier_of, Index, IndexEntry}
-use Rattle.thorin_join.proofs.Terms.{is_copied, is_package, IsTable, joined_parts, LieInside}
-use Rattle.thorin_join.proofs.Terms.{Meaning, none-some, part_of, parts_of, Ranges, ReadsAlike}
-use Rattle.thorin_join.proofs.Terms.{same-each, same-ok, SectionKind, Shares, Source, Str}
-use Rattle.thorin_join.proofs.Terms.{StrOffsets, take-length, TypeUnit, UnitRead}
+use Rattle.thorin_join.proofs.Steps.{kept}
 use Rattle.dwp_base.specs.declared.section.SectionKind.TheVariants.{Info, Types, Abbrev}
-use Rattle.dwp_index.specs.Index.{row_in, range_in}
-use Rattle.dwp_table.specs.Probing.{found_row}
 use Rattle.thorin_packaged.specs.RowPlaces.{row_by_place}
 use Rattle.thorin_input.specs.Adjusting.{Adjustor, own_index, row_of, part_by_row, adjusted}
 use Rattle.thorin_input.specs.Adjusting.{other_index, has_column_for}
-use Rattle.thorin_index.specs.Entries.{entry_by}
-use Rattle.thorin_input.specs.Growing.{range_put, with_parts}
-use Rattle.thorin_input.specs.Indexes.{Indexes, index_for, looked_up}
+use Rattle.thorin_input.specs.Indexes.{index_for}
 use Rattle.thorin_join.specs.Meaning.{placed_row, pieces_by, part_by, offsets_by, lie_inside}
 use Rattle.thorin_join.specs.Meaning.{meaning_by, unit_meaning, shared_kinds}
-use Rattle.thorin_input.specs.Format.{is_shared}
-use Rattle.thorin_input.specs.Rows.{whole_row, adjusted_part, unit_part, unit_row, is_same_row}
-use Rattle.thorin_input.specs.Rows.{own_range, row_test}
+use Rattle.thorin_input.specs.Rows.{whole_row, adjusted_part, unit_part, is_same_row, own_range}
 use Rattle.thorin_join.proofs.Parts.OfPackages.{IsOneOf, RowsRead, parts-first, rows-read}
 use Rattle.thorin_join.proofs.Rows.Ranges.{whole_behind, placed-by, range-none, Lies, Placed}
 use Rattle.thorin_join.proofs.Rows.Ranges.{lies-whole, not-outside, range-some}
 use Rattle.thorin_join.proofs.Parts.StringLists.{strings-there}
-use Rattle.dwp_base.proofs.Bools.{both}
 use Rattle.thorin_join.proofs.Parts.Appended.{content-with_parts, parts-copied}
-use Rattle.std.specs.List.{list_all, find}
 use Rattle.thorin_join.proofs.Parts.OffsetRanges.{empty-alike}
 use Rattle.thorin_join.proofs.Parts.PlainOffsets.{parts-read}
 use Rattle.thorin_join.proofs.Parts.FirstUses.{parts-follow}
 use Rattle.thorin_join.proofs.EachKind.{copied-or-offsets}
-use Rattle.thorin_join.proofs.Steps.{kept}
 use Rattle.thorin_join.proofs.Rows.Stay.{part-inside}
 use Rattle.thorin_join.specs.StandApart.{LieBehind}
 
@@ -48,10 +37,7 @@ use Rattle.thorin_join.specs.StandApart.{LieBehind}
 entry-part : (encoding : Encoding) (id : DwarfObject) (part : SectionKind → Option Contribution)
     (kind : SectionKind) → is_shared kind ≡ true
     → contribution_to kind (entry_by encoding id part) ≡ part kind
-entry-part encoding id part kind shared =
-    let each = same-each (λ k. cond (is_shared k) (contribution_to k (entry_by encoding id part))
-    None) (λ k. cond (is_shared k) (part k) None) refl kind in
-    rw shared at each
+entry-part encoding id part kind shared = grind arith
 
 -- ---- a unit's own row
 -- the row by place is there, and is the one that looking an identifier up gives
@@ -66,33 +52,18 @@ pub record OwnRow (own : Option Index) (kind : SectionKind) (range : Contributio
   pub found : row_of own id ≡ Ok row
 
 same-row : (a b : Option ℕ) → is_same_row a b ≡ true → (n : ℕ) × (a ≡ Some n) × (b ≡ Some n)
-same-row (Some a) (Some b) h = (a, refl, ap (λ n. Some n) (sym (eqb-true a b h)))
-same-row _ _ h = absurd cc
+same-row a b h = grind arith
 
 pub own-by : (own : Option Index) (kind : SectionKind) (range : Contribution)
     (id : ℕ) (row : Ranges)
     → is_same_row (row_by_place own kind range) (looked_up own id) ≡ true → row_of own id ≡ Ok row
     → OwnRow own kind range id
 unfolding row_of
-own-by None kind range id row h found = absurd cc
-own-by (Some index) kind range id row h found =
-    let same = same-row (row_by_place (Some index) kind range) (found_row index.signatures
-    index.rows id) h in
-    let there = as_error_ok _ (row_in index same.0) row (rw same.2 at found) in
-    record {
-      index = index;
-      is = refl;
-      number = same.0;
-      row = row;
-      there = there;
-      placed = rw (same.1, there) refl;
-      found = found;
-    }
+own-by own kind range id row h found = grind arith
 
 pub one-of : (indexes : Indexes) (name : DwarfObject) (index : Index) → index_for indexes name ≡
     Some index → IsOneOf index indexes
-one-of indexes (Compilation id) index h = inl h
-one-of indexes (TypeUnit signature) index h = inr h
+one-of indexes name index h = grind arith
 
 -- ---- parts that are adjusted
 abbrev pub adjustor : Indexes → SectionKind → Adjustor
@@ -101,18 +72,11 @@ adjustor indexes kind =
 
 pub own-index : (indexes : Indexes) (kind : SectionKind) (name : DwarfObject)
     → own_index (adjustor indexes kind) name ≡ index_for indexes name
-own-index indexes kind (Compilation id) = refl
-own-index indexes kind (TypeUnit signature) = refl
-
-no-index : (c t : Option Index) → (is_some c || is_some t) ≡ false → (is_none c && is_none t) ≡ true
-no-index None None h = refl
-no-index _ _ h = absurd cc
+own-index indexes kind name = grind arith
 
 pub some-index : (c t : Option Index) → (is_some c || is_some t) ≡ true
     → (is_none c && is_none t) ≡ false
-some-index None None h = absurd cc
-some-index (Some c) t h = refl
-some-index None (Some t) h = refl
+some-index c t h = grind arith
 
 -- the row that a unit gets
 pub record IsUnitRow (indexes : Indexes) (whole : IndexEntry) (name : DwarfObject)
@@ -128,7 +92,7 @@ module _ (indexes : Indexes) (name : DwarfObject) where
   pub adjusted-plain : (kind : SectionKind) (whole : Option Contribution)
       → is_package indexes ≡ false → adjusted_part indexes name kind whole ≡ Ok whole
   unfolding adjusted
-  adjusted-plain kind whole plain = rw (no-index indexes.compilations indexes.types plain)
+  adjusted-plain kind whole plain = grind arith
 
   -- of a package it is by the unit's row
   pub adjusted-packed : is_package indexes ≡ true → (kind : SectionKind)
@@ -136,13 +100,7 @@ module _ (indexes : Indexes) (name : DwarfObject) where
       → (row : Ranges) × (row_of (index_for indexes name) (identifier_of name) ≡ Ok row)
       × (part_by_row (adjustor indexes kind) name whole row ≡ Ok result)
   unfolding adjusted
-  adjusted-packed packed kind whole result h =
-      let adjust = adjustor indexes kind in
-      let parts = bind-was (row_of (own_index adjust name) (identifier_of name))
-      (part_by_row adjust name whole) result
-      (rw (some-index indexes.compilations indexes.types packed) at h) in
-      let found = ap (λ own. row_of own (identifier_of name)) (sym (own-index indexes kind name)) in
-      (parts.0, found ∙ parts.1, parts.2)
+  adjusted-packed packed kind whole result h = grind (arith, own-index indexes kind name)
 
 pub is-unit_row : (indexes : Indexes) (whole : IndexEntry) (name : DwarfObject) (row : IndexEntry)
     → unit_row indexes whole name ≡ Ok row → IsUnitRow indexes whole name row
@@ -164,10 +122,7 @@ pub whole-part : (encoding : Encoding) (before parts : Contents) (kind : Section
     → is_shared kind ≡ true → contribution_to kind (whole_row encoding before parts) ≡ range_put
     kind (joined_parts kind parts) before
 unfolding whole_row
-whole-part encoding before parts kind shared =
-    let part = λ (k : SectionKind). cond (is_shared k) (range_put k (joined_parts k parts) before)
-    None in
-    entry-part encoding _ part kind shared ∙ rw shared refl
+whole-part encoding before parts kind shared = grind (arith, entry-part encoding)
 
 pub whole-else : (encoding : Encoding) (before parts : Contents)
     → ((whole_row encoding before parts).encoding ≡ encoding)
@@ -202,14 +157,12 @@ pub record RowShares (source : Source) (before parts : Contents) (after : List (
   pub lie : LieInside (with_parts parts before) row
   pub shares : Shares source.object.order (with_parts parts before) after row unit
 
--- a test that no kind that units share passes
-none-found : (test : SectionKind → Bool) → ((kind : SectionKind) → is_shared kind ≡ true
-    → test kind ≡ false) → (kinds : List SectionKind) → list_all is_shared kinds ≡ true
-    → is_none (find test kinds) ≡ true
-none-found test fails [] shared = refl
-none-found test fails (kind ∷ kinds) shared =
-    let each = both (is_shared kind) (list_all is_shared kinds) shared in
-    rw (fails kind each.0) (none-found test fails kinds each.1)
+-- a test that fails wherever another one passes
+none-found : {X : Type 0} (other test : X → Bool) → ((x : X) → other x ≡ true → test x ≡ false)
+    → (xs : List X) → list_all other xs ≡ true → is_none (find test xs) ≡ true
+none-found other test fails [] pass = refl
+none-found other test fails (x ∷ xs) pass =
+    grind (arith, fails x, none-found other test fails xs)
 
 module _ (source : Source) (before parts : Contents) (read : DwarfObject × UnitRead)
     (row : IndexEntry) (made : IsUnitRow source.indexes (whole_row source.encoding before parts)
@@ -225,11 +178,7 @@ module _ (source : Source) (before parts : Contents) (read : DwarfObject × Unit
   has-shared : (kind : SectionKind) (range : Contribution) → contribution_to kind row ≡ Some range
       → is_shared kind ≡ true
   has-shared kind range h =
-      let none = whole-else source.encoding before parts in
-      let each = same-each (λ k. cond (is_shared k) None (contribution_to k row)) (λ k. None)
-      (rw (made.info ∙ none.1, made.types ∙ none.2) refl) kind in
-      by-bool _ (is_shared kind) (λ shared. shared)
-      (λ other. absurd (none-some range (sym (rw other at each) ∙ h)))
+      grind (arith, whole-else source.encoding before parts)
 
   -- the unit by these ranges, which has these parts
   shares-by : (after : List (List ℕ)) (ranges : Option Ranges) (part : SectionKind → List ℕ)
@@ -361,7 +310,7 @@ module _ (source : Source) (before parts : Contents) (read : DwarfObject × Unit
       by (Some has.row) (λ kind. part_of (joined_parts kind parts) (range_in has.row kind))
       (rw (packed, has.placed) refl) (λ kind shared. (placed kind shared).lies)
       (λ kind copied. ap (λ v. part_of v (range_in has.row kind)) (firsts kind copied))
-      (none-found _ (λ kind shared. not-outside (first kind source.object.sections)
+      (none-found is_shared _ (λ kind shared. not-outside (first kind source.object.sections)
       (joined_parts kind parts) (range_in has.row kind) (longs kind shared)
       (placed kind shared).within) shared_kinds refl)
       (packed-reads test packed after reads))

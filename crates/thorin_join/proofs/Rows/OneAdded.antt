@@ -1,23 +1,17 @@
 -- A unit that is added stands in its row.
-use Rattle.std.proofs.Common.{◌≡◌, ◌∙◌, ℕ, ◌+◌, ◌-◌, ◌<◌, false, cond, List, ◌++◌, length, sym}
-use Rattle.std.proofs.Common.{refl, arith, ap, true≢false, Some, None, ◌⊎◌, inl, inr, slice_range}
-use Rattle.std.proofs.Common.{ne_eqb}
-use Rattle.std.proofs.Math.Seq.{drop-append_seam}
-use Rattle.thorin_join.proofs.Terms.{bind-ok, by-bool, Compilation, content_of, Contents}
-use Rattle.thorin_join.proofs.Terms.{Contribution, contribution_to, DwarfObject, Endianness}
-use Rattle.thorin_join.proofs.Terms.{IndexEntry, is-same, is_copied, IsRowOf, IsWhole, kind_at}
-use Rattle.thorin_join.proofs.Terms.{LieInside, Meaning, NewUnit, row_at, same-each, same-self}
-use Rattle.thorin_join.proofs.Terms.{same_kind, section, SectionKind, Shares, take-length, TypeUnit}
-use Rattle.thorin_join.proofs.Terms.{UnitSection, with_bytes}
-use Rattle.dwp_base.specs.declared.section.SectionKind.TheVariants as kinds
-use Rattle.dwp_dwarf.specs.Units.{unit_at}
-use Rattle.dwp_dwarf.specs.declared.unit.UnitSection.TheVariants as places
-use Rattle.dwp_index.specs.Package.{encoding_in}
-use Rattle.dwp_index.specs.Package as index
-use Rattle.thorin_input.specs.Growing.{range_put}
+use Rattle.thorin_join.proofs.Terms
+use Terms.{◌+◌, ◌++◌, ◌-◌, ◌<◌, ap, arith, bind-ok, cond, content_of, Contents, Contribution}
+use Terms.{contribution_to, drop-append_seam, DwarfObject, encoding_in, Endianness, false}
+use Terms.{IndexEntry, is-same, is_copied, IsRowOf, IsWhole, kind_at, length, LieInside, List}
+use Terms.{Meaning, ne_eqb, NewUnit, None, range_put, refl, row_at, same-each, same-self, same_kind}
+use Terms.{section, SectionKind, Shares, slice_range, Some, sym, take-length, true≢false, TypeUnit}
+use Terms.{unit_at, UnitSection, with_bytes, ℕ, ◌∙◌, ◌≡◌, ◌⊎◌}
 use Rattle.thorin_join.proofs.Rows.Stay.{grows-with_bytes, keep-lie, keep-shares}
 use Rattle.thorin_join.proofs.Rows.Ranges.{lies-whole}
 use Rattle.thorin_join.proofs.Parts.Appended.{content-with_bytes, differ}
+use Rattle.dwp_base.specs.declared.section.SectionKind.TheVariants as kinds
+use Rattle.dwp_dwarf.specs.declared.unit.UnitSection.TheVariants as places
+use Rattle.dwp_index.specs.Package as index
 
 -- the content of the kind that bytes are added to
 pub content-put : (k : SectionKind) (x : List ℕ) (c : Contents) → content_of k (with_bytes k x c) ≡
@@ -40,8 +34,7 @@ own-bytes a x = let e : length a + length x - length a ≡ length x = omega arit
 pub not-shared : (place : UnitSection) → (is_copied (kind_at place) ≡ false)
     × (same_kind (kind_at place) kinds.StrOffsets ≡ false)
     × (same_kind kinds.StrOffsets (kind_at place) ≡ false)
-not-shared places.Info = (refl, refl, refl)
-not-shared places.Types = (refl, refl, refl)
+not-shared place = grind arith
 
 -- the place of a unit is that of its name and its range in types
 pub record Fits (shared : IndexEntry) (name : DwarfObject) (x : List ℕ)
@@ -77,14 +70,11 @@ module _ (shared : IndexEntry) (c : Contents) (name : DwarfObject) (x : List ℕ
 
   pub own-place : (place : UnitSection) → Fits shared name x place
       → place ≡ index.place_of name (contribution_to kinds.Types (row_at shared c name x place))
-  own-place places.Info fits = rw fits.no_types (elim name as
-      (λ n. places.Info ≡ index.place_of n None) [ Compilation id ↦ refl | TypeUnit id ↦ refl ])
-  own-place places.Types fits = let t = fits.types_only refl in
-      rw (t.1, place-put kinds.Types x c fits.some)
+  own-place place fits =
+      grind (arith, fits.no_types, fits.types_only, place-put kinds.Types x c fits.some)
 
   pub row-name : (place : UnitSection) → (row_at shared c name x place).id ≡ name
-  row-name places.Info = refl
-  row-name places.Types = refl
+  row-name place = grind arith
 
   module _ (place : UnitSection) where
     abbrev row : IndexEntry
@@ -100,9 +90,7 @@ module _ (shared : IndexEntry) (c : Contents) (name : DwarfObject) (x : List ℕ
     -- its other parts are those that it shares, and its own
     pub row-part : (kind : SectionKind) → (contribution_to kind row ≡ contribution_to kind shared)
         ⊎ ((kind ≡ kind_at place) × (contribution_to kind row ≡ range_put (kind_at place) x c))
-    row-part kind = by-bool _ (same_kind (kind_at place) kind)
-        (λ same. let is = is-same (kind_at place) kind same in inr (sym is, rw (← is) row-own))
-        (λ other. inl (row-other kind other))
+    row-part kind = grind (arith, is-same (kind_at place) kind, row-own, row-other kind)
 
     row-lies : LieInside c shared → LieInside (with_bytes (kind_at place) x c) row
     row-lies lie =
@@ -110,14 +98,19 @@ module _ (shared : IndexEntry) (c : Contents) (name : DwarfObject) (x : List ℕ
         let there = keep-lie c (with_bytes k x c) shared (grows-with_bytes k x c) lie in
         let own = lies-whole (content_of k c) x in
         record {
-          inside = λ kind range is. elim (row-part kind) [
-            | inl h ↦ there.inside kind range (sym h ∙ is)
-            | inr h ↦ rw (h.0, content-put k x c) (own.inside range (sym h.1 ∙ is))
-          ];
-          some = λ kind range is. elim (row-part kind) [
-            | inl h ↦ there.some kind range (sym h ∙ is)
-            | inr h ↦ own.some range (sym h.1 ∙ is)
-          ];
+          inside = λ kind range is. grind (
+            arith,
+            row-part kind,
+            there.inside kind range,
+            own.inside range,
+            content-put k x c,
+          );
+          some = λ kind range is. grind (
+            arith,
+            row-part kind,
+            there.some kind range,
+            own.some range,
+          );
         }
 
     -- a unit whose row shares what belongs to it is the one of its row, once its bytes are added
@@ -131,8 +124,7 @@ module _ (shared : IndexEntry) (c : Contents) (name : DwarfObject) (x : List ℕ
         (grows-with_bytes (kind_at place) x c) (take-length s) added.lie added.shares in
         record {
           name = row-name place ∙ added.name;
-          encoding = elim place as (λ p. (row_at shared c name x p).encoding ≡ m.1.encoding)
-              [ places.Info ↦ added.encoded | places.Types ↦ added.encoded ];
+          encoding = grind (arith, added.encoded);
           lie = row-lies added.lie;
           shares = record {
             content = λ kind copied. rw (row-other kind (differ (kind_at place) kind (λ e.

@@ -1,20 +1,13 @@
 -- The ranges that a unit's row gets: where they lie, and what stands there.
-use Rattle.std.proofs.Common.{[], ◌≡◌, ◌∙◌, ℕ, ◌+◌, ◌-◌, ◌<◌, ◌≤◌, Bool, true, false, cond, eqb}
-use Rattle.std.proofs.Common.{leb, List, ◌++◌, length, slice_range, is_some, Ok, Option, Some, None}
-use Rattle.std.proofs.Common.{refl, sym, if◌then◌else◌, arith, slice_index, length-append, leb-true}
-use Rattle.std.proofs.Common.{le-leb, eqb-true}
-use Rattle.std.specs.Option.{option_and_then}
-use Rattle.thorin_join.proofs.Terms.{by-bool, Contribution, eqb-false, ErrorValue, Index, none-some}
-use Rattle.thorin_join.proofs.Terms.{part_of, Ranges, ReadError, same-ok, same_Some, SectionKind}
-use Rattle.thorin_join.proofs.Terms.{take-length}
-use Rattle.std.proofs.Math.Seq.{drop-append-add}
-use Rattle.std.proofs.lemmas.Option.{option_and_then_some}
-use Rattle.dwp_index.specs.Index.{row_in, column_place, range_in}
-use Rattle.dwp_index.specs.Package.{is_outside}
+use Rattle.thorin_join.proofs.Terms
+use Terms.{◌+◌, ◌++◌, ◌-◌, ◌<◌, [], arith, Bool, by-bool, column_place, cond, Contribution}
+use Terms.{drop-append-add, eqb, eqb-false, eqb-true, ErrorValue, false, if◌then◌else◌, Index}
+use Terms.{is_outside, is_some, leb, leb-true, length, length-append, List, nat_tests, None, Ok}
+use Terms.{Option, part_of, range_in, Ranges, refl, row_in, same-ok, same_Some, SectionKind}
+use Terms.{slice_range, Some, sym, take-length, ℕ, ◌∙◌, ◌≡◌, ◌≤◌}
+use Rattle.thorin_join.proofs.Steps.{kept}
 use Rattle.thorin_input.specs.Adjusting.{moved, moved_range, without_column}
 use Rattle.thorin_join.proofs.Parts.Appended.{no-bytes}
-use Rattle.dwp_base.proofs.Steps.{by-choice}
-use Rattle.thorin_join.proofs.Steps.{kept}
 use Rattle.thorin_join.proofs.Rows.Stay.{part-inside}
 
 -- a range, where there is one, lies inside bytes that were put behind others, and has some, and
@@ -28,12 +21,7 @@ pub record Lies (front bytes : List ℕ) (range : Option Contribution)
   pub part_is : part_of (front ++ bytes) range ≡ part
 
 pub lies-none : (front bytes : List ℕ) → Lies front bytes None []
-lies-none front bytes = record {
-  behind = λ r h. absurd (none-some r h);
-  inside = λ r h. absurd (none-some r h);
-  some = λ r h. absurd (none-some r h);
-  part_is = refl;
-}
+lies-none front bytes = grind arith
 
 abbrev range_at : ℕ → ℕ → Contribution
 range_at at size = record { offset = record { 0 = at }; size = size }
@@ -77,16 +65,12 @@ pub record Placed (front bytes : List ℕ) (range moved : Option Contribution) :
 
 without-none : (whole result : Option Contribution) → without_column whole ≡ Ok
     result → result ≡ None
-without-none None result h = sym (same-ok {E = ErrorValue} None result h)
-without-none (Some whole) result h = absurd cc
+without-none whole result h = grind arith
 
 module _ (front bytes : List ℕ) where
   placed-none : {range result : Option Contribution} → range ≡ None → result ≡ None
       → Placed front bytes range result
-  placed-none none nothing = rw (none, nothing) (record {
-    within = λ r h. absurd (none-some r h);
-    lies = lies-none front bytes;
-  })
+  placed-none none nothing = grind (arith, lies-none front bytes)
 
   placed-range : (kind : SectionKind) (id : ℕ) (range result : Option Contribution)
       → ((r : Contribution) → range ≡ Some r → 0 < r.size)
@@ -114,41 +98,25 @@ module _ (front bytes : List ℕ) where
       → cond own (moved_range kind id range (whole_behind front bytes))
       (cond other (Ok None) (without_column (whole_behind front bytes))) ≡ Ok result
       → Placed front bytes range result
-  placed-by kind id range result true other some none h = placed-range kind id range result some h
-  placed-by kind id range result false other some none h = placed-none (none refl)
-      (by-choice _ other _ _ _ h (λ same. sym (same-ok {E = ErrorValue} None result same))
-      (without-none (whole_behind front bytes) result))
+  placed-by kind id range result own other some none h =
+      grind (arith, placed-range kind id range result some, placed-none, without-none)
 
 -- ---- ranges of an index's rows
 -- a range that is there has bytes
 pub range-some : (row : Ranges) (kind : SectionKind) (r : Contribution) → range_in row kind ≡
     Some r → 0 < r.size
 unfolding range_in
-range-some row kind r h = option_and_then_some _ (column_place row.version row.columns kind) r h
-    (λ i there is. let size = slice_index row.sizes i in
-    by-bool _ (eqb size 0)
-    (λ none. absurd (none-some r (rw none at is)))
-    (λ some. let several = eqb-false size 0 some in
-    rw (← same_Some _ _ (rw some at is)) (omega arith)))
-
-no-column : (f : ℕ → Option Contribution) (column : Option ℕ) → is_some column ≡ false
-    → option_and_then f column ≡ None
-no-column f None h = refl
-no-column f (Some i) h = absurd cc
+range-some row kind r h = grind (arith, nat_tests)
 
 -- without a column there is no range
 pub range-none : (index : Index) (number : ℕ) (row : Ranges) (kind : SectionKind)
     → row_in index number ≡ Ok row → is_some (column_place index.version index.columns kind) ≡ false
     → range_in row kind ≡ None
 unfolding range_in row_in
-range-none index number row kind h none =
-    let is = same-ok {E = ReadError} _ row (kept _ _ _ row h).1 in
-    rw (← is) (no-column _ (column_place index.version index.columns kind) none)
+range-none index number row kind h none = grind arith
 
 -- a range inside bytes as long isn't outside
 pub not-outside : (bytes as_long : List ℕ) (range : Option Contribution) → length bytes ≡ length
     as_long → ((r : Contribution) → range ≡ Some r → r.offset.0 + r.size ≤ length as_long)
     → is_outside bytes range ≡ false
-not-outside bytes as_long None long within = refl
-not-outside bytes as_long (Some range) long within = rw (le-leb (range.offset.0 + range.size)
-    (length bytes) (omega (arith, within range refl, long))) refl
+not-outside bytes as_long range long within = grind (arith, within, nat_tests)

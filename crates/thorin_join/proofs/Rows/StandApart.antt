@@ -1,13 +1,10 @@
 -- The ranges of an input's units lie behind those of the inputs before it.
-use Rattle.std.proofs.Common.{[], ◌≡◌, ◌∙◌, ℕ, ◌≤◌, List, ◌∷◌, ◌++◌, length, map, sym, refl, subst}
-use Rattle.std.proofs.Common.{Ok, Option, Some, inl, inr, arith, append_assoc, append-nil}
-use Rattle.thorin_join.proofs.Terms.{adding, AreRowsOf, content_of, Contents, Endianness}
-use Rattle.thorin_join.proofs.Terms.{IndexEntry, InProgress, IsSound, IsSoundBegun, kind_at}
-use Rattle.thorin_join.proofs.Terms.{LieInside, Members, package_or_new, row_at, same_Some, Source}
-use Rattle.thorin_join.proofs.Terms.{with_unit_added}
-use Rattle.thorin_join.specs.Builder.{with_input}
+use Rattle.thorin_join.proofs.Terms
+use Terms.{◌++◌, [], adding, append-nil, append_assoc, AreRowsOf, arith, content_of, Contents}
+use Terms.{Endianness, IndexEntry, inl, InProgress, inr, IsSound, IsSoundBegun, kind_at, LieInside}
+use Terms.{List, map, Members, Ok, Option, package_or_new, refl, row_at, same_Some, Some, Source}
+use Terms.{subst, sym, with_input, with_new_units, with_unit_added, ℕ, ◌∙◌, ◌∷◌, ◌≡◌}
 use Rattle.thorin_join.specs.StandApart.{rows_begun, contents_begun, LieBehind, EachRow, StandApart}
-use Rattle.thorin_join.specs.State.{with_new_units}
 use Rattle.thorin_join.proofs.Units.JoinedByName.{AreAdded, units-joined}
 use Rattle.thorin_join.proofs.Rows.Stay.{Grows, front-long, grows-trans, grows-with_bytes}
 use Rattle.thorin_join.proofs.Rows.OfUnits.{is-unit_row, row-behind}
@@ -48,16 +45,14 @@ units-behind base = each-unit (λ p us now. Grows base p.file.contents → EachN
     let more = later (grows-trans base c (with_unit_added p u).file.contents grows
     (grows-with_bytes (kind_at u.1.place) u.1.bytes c)) all.1 in
     let row = row_at u.1.row c u.0 u.1.bytes u.1.place in
-    let here : LieBehind base row = λ kind range is.
-    elim (row-part u.1.row c u.0 u.1.bytes u.1.place kind) [
-      | inl e ↦ all.0 kind range (sym e ∙ is)
-      | inr e ↦
-          let low = front-long (grows kind) in
-          let own = lies-whole (content_of (kind_at u.1.place) c) u.1.bytes in
-          let at : length (content_of kind c) ≤ range.offset.0 =
-          rw e.0 (own.behind range (sym e.1 ∙ is)) in
-          omega arith
-    ] in
+    let own = (lies-whole (content_of (kind_at u.1.place) c) u.1.bytes).behind in
+    let here : LieBehind base row = λ kind range is. grind (
+      arith,
+      all.0 kind range,
+      own range,
+      front-long (grows kind),
+      row-part u.1.row c u.0 u.1.bytes u.1.place kind,
+    ) in
     record {
       added = row ∷ more.added;
       is = more.is ∙ append_assoc p.rows (row ∷ []) more.added;

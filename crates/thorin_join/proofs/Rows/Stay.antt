@@ -1,16 +1,11 @@
 -- What stands in a package stays when more is added.
-use Rattle.std.proofs.Common.{[], ◌≡◌, ◌∙◌, ℕ, ◌+◌, ◌-◌, ◌≤◌, List, ◌∷◌, ◌++◌, length, take, drop}
-use Rattle.std.proofs.Common.{ap, sym, refl, arith, Some, None, Option, slice_range, le-leb}
-use Rattle.std.proofs.Common.{append_assoc, append-nil, length-append, length-drop}
-use Rattle.thorin_join.proofs.Terms.{AreRowsOf, by-bool, content_of, Contents, Contribution}
-use Rattle.thorin_join.proofs.Terms.{contribution_to, data_of, drop-append-le, DwarfObject}
-use Rattle.thorin_join.proofs.Terms.{Endianness, IndexEntry, IsRowOf, kind_at, LieInside, Meaning}
-use Rattle.thorin_join.proofs.Terms.{part_of, same_kind, SectionKind, Shares, StrOffsets}
-use Rattle.thorin_join.proofs.Terms.{with_bytes}
-use Rattle.std.proofs.lemmas.List.{take-append-le}
-use Rattle.dwp_index.specs.Strings.{string_in}
-use Rattle.thorin_input.specs.Growing.{HasFront}
-use Rattle.thorin_join.specs.Represents.{Owns}
+use Rattle.thorin_join.proofs.Terms
+use Terms.{◌+◌, ◌++◌, ◌-◌, [], ap, append-nil, append_assoc, AreRowsOf, arith, by-bool, content_of}
+use Terms.{Contents, Contribution, contribution_to, data_of, drop, drop-append-le, DwarfObject}
+use Terms.{Endianness, HasFront, IndexEntry, IsRowOf, kind_at, le-leb, length, length-append}
+use Terms.{length-drop, LieInside, List, Meaning, Option, Owns, part_of, refl, same_kind}
+use Terms.{SectionKind, Shares, slice_range, Some, string_in, StrOffsets, sym, take, take-append-le}
+use Terms.{with_bytes, ℕ, ◌∙◌, ◌∷◌, ◌≡◌, ◌≤◌}
 use Rattle.thorin_join.proofs.Parts.Appended.{content-with_bytes}
 use Rattle.thorin_join.proofs.Parts.Strings.{front-front}
 
@@ -46,11 +41,8 @@ part-inside a range h = rw (le-leb _ _ h) refl
 
 part-kept : (a b : List ℕ) (part : Option Contribution) → HasFront a b → ((range : Contribution)
     → part ≡ Some range → range.offset.0 + range.size ≤ length a) → part_of b part ≡ part_of a part
-part-kept a b None front inside = refl
-part-kept a b (Some range) front inside =
-    let within = inside range refl in
-    let later = part-inside b range (omega (arith, front-long front)) in
-    rw (later, part-inside a range within, front.is) (range-front a front.rest _ _ within)
+part-kept a b part front inside =
+    grind (arith, inside, front-long front, part-inside, range-front a front.rest)
 
 -- the part of a row
 pub keep-part : (c d : Contents) (row : IndexEntry) → Grows c d → LieInside c row

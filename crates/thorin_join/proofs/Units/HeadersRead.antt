@@ -1,24 +1,15 @@
 -- The names and the headers of units that are read, and what holds of each of them.
-use Rattle.std.proofs.Common.{◌≡◌, ◌∙◌, ℕ, List, Result, Ok, Err, Some, None, ap, refl, slice_get}
-use Rattle.std.proofs.Common.{[], ◌∷◌, ◌++◌, subst, suc, Option}
-use Rattle.thorin_join.proofs.Terms.{bind-was, by-bool, DwarfObject, Endianness, ErrorValue}
-use Rattle.thorin_join.proofs.Terms.{Input, joining, kind_at, list_any, NewUnit, ReadError}
-use Rattle.thorin_join.proofs.Terms.{same-ok, same_name, section, SectionKind, Source, unit_section}
-use Rattle.thorin_join.proofs.Terms.{UnitRead, UnitSection, Used}
-use Rattle.thorin_join.proofs.Steps.{ok_or-some}
+use Rattle.thorin_join.proofs.Terms
+use Terms.{◌++◌, [], All-append, ap, arith, bind-was, DwarfObject, Each, encoding_in, Endianness}
+use Terms.{Err, ErrorValue, Header, identity, Input, joining, kind_at, List, name_for, NewUnit}
+use Terms.{None, Ok, Option, ReadError, refl, Result, same-ok, section, SectionKind, slice_get}
+use Terms.{Some, Source, subst, suc, unit_section, unit_taken, UnitRead, units, UnitSection, Used}
+use Terms.{ℕ, ◌∙◌, ◌∷◌, ◌≡◌}
+use Rattle.dwp_dwarf.specs.Units.{unit_bytes}
+use Rattle.dwp_index.proofs.TwoPlaces.{units_alone}
+use Rattle.thorin_join.specs.Meaning.{named_unit, named_each, named_at, named_sections}
 use Rattle.dwp_base.specs.declared.section.SectionKind.TheVariants as kinds
 use Rattle.dwp_dwarf.specs.declared.unit.UnitSection.TheVariants as places
-use Rattle.dwp_dwarf.specs.Units.{Unit as Header, units, unit_bytes}
-use Rattle.dwp_dwarf.proofs.Units.{unit_taken}
-use Rattle.dwp_index.specs.Package.{encoding_in}
-use Rattle.dwp_index.proofs.TwoPlaces.{units_alone}
-use Rattle.thorin_errors.specs.Errors.{NotSplitUnit}
-use Rattle.thorin_identity.specs.Identity.{identity}
-use Rattle.thorin_join.specs.Meaning.{named_unit, named_each, named_at, named_sections}
-use Rattle.thorin_input.specs.NewUnits.{name_for}
-use Rattle.thorin_input.specs.Rows.{abbreviations_for}
-use Rattle.std.specs.List.{AllByRecursion as Each}
-use Rattle.std.proofs.ByRecursion.{All-append}
 
 abbrev pub Listed : Type 0
 Listed = List (Result Header ReadError)
@@ -58,19 +49,14 @@ each-named source kind P none more (Ok unit ∷ rest) us h =
 
 pub kind-place : (kind : SectionKind) (place : UnitSection) → unit_section kind ≡ Some place
     → kind ≡ kind_at place
-kind-place kinds.Info places.Info at = refl
-kind-place kinds.Types places.Types at = refl
-kind-place _ _ at = absurd cc
+kind-place kind place at = grind arith
 
 -- a name is the identity that a unit has with some abbreviations
 pub name-identity : (source : Source) (kind : SectionKind) (unit : Header) (name : DwarfObject)
     → name_for source kind unit ≡ Ok name → (abbreviations : Input)
     × (identity abbreviations unit ≡ Ok (Some name))
 unfolding name_for
-name-identity source kind unit name h =
-    let a = bind-was (abbreviations_for source kind unit) _ name h in
-    let b = bind-was (identity (section source.object.order a.0) unit) _ name a.2 in
-    (section source.object.order a.0, b.1 ∙ ap Ok (ok_or-some NotSplitUnit b.0 name b.2))
+name-identity source kind unit name h = grind arith
 
 -- ---- what holds of each
 
@@ -83,9 +69,7 @@ pub each-joining : {X : Type 0} (P : DwarfObject × X → Type 0) (names : List 
     (us : List (DwarfObject × X)) → Each P us → Each P (joining names us)
 each-joining P names [] h = tt
 each-joining P names (u ∷ us) h =
-    by-bool _ (list_any (same_name u.0) names)
-    (λ there. rw there (each-joining P names us h.1))
-    (λ new. rw new (h.0, each-joining P (names ++ u.0 ∷ []) us h.1))
+    grind (arith, each-joining P names us h.1, each-joining P (names ++ u.0 ∷ []) us h.1)
 
 -- a unit was read, under its name, of a section of this place, and this is so of it
 pub record WasRead (source : Source) (T : UnitSection → Header → Type 0)

@@ -1,14 +1,11 @@
 -- The units that a package represents are those that stand in the ranges of its rows.
-use Rattle.std.proofs.Common.{[], ◌≡◌, ℕ, List, ◌∷◌, map, ap, sym, refl, true, Ok}
-use Rattle.std.specs.Result.{result_unwrap_or}
-use Rattle.thorin_join.proofs.Terms.{AreRowsOf, content_of, Contents, contribution_to, data_of}
-use Rattle.thorin_join.proofs.Terms.{DwarfObject, Endianness, IndexEntry, InProgress, is_copied}
-use Rattle.thorin_join.proofs.Terms.{IsRowOf, IsTable, keys, Meaning, Members, part_of, SectionKind}
-use Rattle.thorin_join.proofs.Terms.{strings_of, StrOffsets, take-length, units_of}
-use Rattle.dwp_index.specs.Package.{place_of}
-use Rattle.thorin_join.specs.Meaning.{pieces_by, Pieces}
-use Rattle.thorin_join.specs.Represents.{Represents, meaning_at}
+use Rattle.thorin_join.proofs.Terms
+use Terms.{[], ap, AreRowsOf, content_of, Contents, contribution_to, data_of, DwarfObject}
+use Terms.{Endianness, IndexEntry, InProgress, is_copied, IsRowOf, IsTable, keys, List, map}
+use Terms.{Meaning, meaning_at, Members, Ok, part_of, place_of, refl, Represents, result_unwrap_or}
+use Terms.{SectionKind, strings_of, StrOffsets, sym, take-length, true, units_of, ℕ, ◌∷◌, ◌≡◌}
 use Rattle.thorin_join.specs.State.{names_of, unit_bytes}
+use Rattle.thorin_join.specs.Meaning.{pieces_by, Pieces}
 use Rattle.thorin_join.proofs.Parts.StringLists.{strings-are}
 
 -- the pieces of a unit, where each kind's bytes are its piece

@@ -1,20 +1,14 @@
 -- What an input adds to a package: its units, joined to the names that are there.
-use Rattle.std.proofs.Common.{[], ◌≡◌, ◌∙◌, ℕ, true, not, ◌||◌, ◌==◌, List, ◌∷◌, ◌++◌, Option, Some}
-use Rattle.std.proofs.Common.{None, is_some, Ok, ap, ap₂, sym, subst, refl, append_assoc}
-use Rattle.std.proofs.Common.{append-nil}
-use Rattle.thorin_join.proofs.Terms.{Adding, bind-was, Compilation, DwarfObject, is_compilation}
-use Rattle.thorin_join.proofs.Terms.{joining, keys, list_any, lookup, New, NewUnit, place_for}
-use Rattle.thorin_join.proofs.Terms.{same-ok, same_name, source_units, TypeUnit, UnitRead, Used}
-use Rattle.std.specs.Str.{bytes_eq}
-use Rattle.std.proofs.lemmas.List.Folds.{list_any-append}
-use Rattle.std.proofs.lemmas.List.{map-append}
-use Rattle.std.proofs.lemmas.Map.Made.{is_some-lookup}
-use Rattle.dwp_dwarf.specs.Units.{Unit as Header}
-use Rattle.thorin_join.specs.Meaning.{can_join}
-use Rattle.thorin_input.specs.NewUnits.{or_held, kept_bytes, with_first, with_unit, new_units}
-use Rattle.thorin_input.specs.Rows.{unit_row, row_test}
-use Rattle.dwp_base.proofs.Steps.{by-choice}
+use Rattle.thorin_join.proofs.Terms
+use Terms.{◌++◌, ◌==◌, [], Adding, ap, append-nil, append_assoc, ap₂, arith, bind-was, DwarfObject}
+use Terms.{Header, is_compilation, is_some, joining, kept_bytes, keys, List, list_any}
+use Terms.{list_any-append, lookup, map-append, New, new_units, NewUnit, None, not, Ok, Option}
+use Terms.{place_for, refl, row_test, same-ok, same_name, Some, source_units, subst, sym, true}
+use Terms.{unit_row, UnitRead, Used, with_unit, ◌||◌, ℕ, ◌∙◌, ◌∷◌, ◌≡◌}
 use Rattle.thorin_join.proofs.Steps.{kept}
+use Rattle.std.proofs.lemmas.Map.Made.{is_some-lookup}
+use Rattle.thorin_join.specs.Meaning.{can_join}
+use Rattle.thorin_input.specs.NewUnits.{or_held, with_first}
 use Rattle.thorin_join.proofs.Units.ReadInTurn.{Steps, units-read}
 use Rattle.thorin_join.proofs.Units.HeadersRead.{News, Reads}
 
@@ -22,9 +16,7 @@ use Rattle.thorin_join.proofs.Units.HeadersRead.{News, Reads}
 
 or_held-some : (a : Option NewUnit) (b : Option (List ℕ)) → is_some (or_held a b) ≡
     (is_some b || is_some a)
-or_held-some None None = refl
-or_held-some (Some a) None = refl
-or_held-some _ _ = refl
+or_held-some a b = grind arith
 
 -- ---- units that are added for units that were read
 
@@ -56,12 +48,7 @@ there-joined : (adding : Adding) (kept : List ℕ) (from : Used) (name : DwarfOb
     → with_unit (Some kept) adding from name unit before ≡ Ok after
     → (after.units ≡ before.units) × (not (is_compilation name) ≡ true)
 unfolding with_unit
-there-joined adding kept from (Compilation id) unit before after h = absurd cc
-there-joined adding kept from (TypeUnit signature) unit before after h =
-    let units = λ (n : New) (is : n ≡ after). ap (λ (n : New). n.units) (sym is) in
-    let same = by-choice _ (bytes_eq kept unit.whole.bytes) _ _ _ (same-ok _ after h) (units _)
-    (units _) in
-    (same, refl)
+there-joined adding kept from name unit before after h = grind arith
 
 -- the names that were there before some units
 abbrev before_names : Adding → New → List DwarfObject

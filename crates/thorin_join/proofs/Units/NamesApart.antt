@@ -1,36 +1,25 @@
 -- Names of units that are apart: no two places have one name.
-use Rattle.std.proofs.Common.{[], ◌≡◌, ◌∙◌, ℕ, ◌<◌, Bool, true, false, List, ◌∷◌, ◌++◌, length, map}
-use Rattle.std.proofs.Common.{true≢false, inl, inr, get_or, All, AllPairs, ap, sym, refl, arith}
-use Rattle.std.proofs.Common.{eq-eqb, eqb-true, append_assoc, append-nil}
-use Rattle.thorin_join.proofs.Terms.{by-bool, Compilation, DwarfObject, entry_ids, identifier_of}
-use Rattle.thorin_join.proofs.Terms.{IndexEntry, is_chosen, is_compilation, joining, length-map}
-use Rattle.thorin_join.proofs.Terms.{list_any, rows_of, same_name, TypeUnit}
-use Rattle.std.proofs.lemmas.Bool.{cases_order, false_from_ne_true}
-use Rattle.std.proofs.lemmas.List.Elements.{filter_passes}
-use Rattle.std.proofs.lemmas.List.Folds.{list_any_at}
+use Rattle.thorin_join.proofs.Terms
+use Terms.{◌++◌, ◌<◌, [], All, AllPairs, ap, append-nil, append_assoc, AreApart, AreDistinct, arith}
+use Terms.{Bool, by-bool, cases_order, DwarfObject, entry_ids, false, false_from_ne_true}
+use Terms.{filter_passes, get_or, identifier_of, IndexEntry, inl, inr, is_chosen, is_compilation}
+use Terms.{joining, length, length-map, List, list_any, list_any_at, map, rows_of, same_name, sym}
+use Terms.{true, true≢false, ℕ, ◌∙◌, ◌∷◌, ◌≡◌}
 use Rattle.std.proofs.lemmas.List.Kept.{AllPairs-filter}
 use Rattle.std.proofs.lemmas.List.Quantifiers.{all_pairs_push}
 use Rattle.std.proofs.lemmas.List.{get_or-map as get_or-at}
 use Rattle.std.proofs.Math.ListN.{get_or-map}
-use Rattle.dwp_table.specs.Table.{AreDistinct}
-use Rattle.thorin_join.specs.Represents.{AreApart}
-use Rattle.dwp_base.proofs.Bools.{is-false}
 
 -- one name is the other
 
 pub same_name-true : (a b : DwarfObject) → same_name a b ≡ true → a ≡ b
-same_name-true (Compilation a) (Compilation b) h = ap (λ n. Compilation (record { 0 = n }))
-    (eqb-true a.0 b.0 h)
-same_name-true (TypeUnit a) (TypeUnit b) h = ap (λ n. TypeUnit (record { 0 = n }))
-    (eqb-true a.0 b.0 h)
-same_name-true _ _ h = absurd cc
+same_name-true a b h = grind arith
 
 pub same_name-self : (a : DwarfObject) → same_name a a ≡ true
-same_name-self (Compilation a) = eq-eqb a.0 a.0 refl
-same_name-self (TypeUnit a) = eq-eqb a.0 a.0 refl
+same_name-self a = grind arith
 
 pub same_name-sym : (a b : DwarfObject) → same_name a b ≡ true → same_name b a ≡ true
-same_name-sym a b h = rw (same_name-true a b h) (same_name-self b)
+same_name-sym a b h = grind arith
 
 pub apart-more : (names : List DwarfObject) (name : DwarfObject) → AreApart names
     → list_any (same_name name) names ≡ false → AreApart (names ++ name ∷ [])
@@ -55,14 +44,11 @@ joined_distinct names (u ∷ rest) h =
 
 pub same-sort : (a b : DwarfObject) → is_compilation a ≡ is_compilation b
     → identifier_of a ≡ identifier_of b → same_name a b ≡ true
-same-sort (Compilation a) (Compilation b) sort e = eq-eqb a.0 b.0 e
-same-sort (TypeUnit a) (TypeUnit b) sort e = eq-eqb a.0 b.0 e
-same-sort _ _ sort e = absurd cc
+same-sort a b sort e = grind arith
 
 -- rows of one sort have names of it
 pub chosen-sort : (b : Bool) (row : IndexEntry) → is_chosen b row ≡ true → is_compilation row.id ≡ b
-chosen-sort true row h = h
-chosen-sort false row h = is-false _ h
+chosen-sort b row h = grind arith
 
 -- the identifiers of rows of one kind with names that are apart are distinct
 chosen-distinct : (b : Bool) (rows : List IndexEntry) → All (λ r. is_chosen b r ≡ true) rows

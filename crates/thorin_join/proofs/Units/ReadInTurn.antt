@@ -1,13 +1,12 @@
 -- The units of an input are read one after another, and each is added to what those before it gave.
-use Rattle.std.proofs.Common.{[], ◌≡◌, ◌∙◌, List, ◌∷◌, ◌++◌, refl, Result, Ok, Option, Some, None}
-use Rattle.thorin_join.proofs.Terms.{Adding, as_error, bind-ok, bind-was, DwarfObject, ErrorValue}
-use Rattle.thorin_join.proofs.Terms.{New, same-ok, section, source_units, unit_section, UnitRead}
-use Rattle.thorin_join.proofs.Terms.{UnitSection, Used}
-use Rattle.dwp_dwarf.specs.Units.{units}
-use Rattle.thorin_errors.specs.Errors.{ParseUnitHeader}
-use Rattle.thorin_input.specs.NewUnits.{Met, kept_bytes, with_unit, name_for, with_read}
-use Rattle.thorin_input.specs.NewUnits.{with_each_read, none_met, once_test, with_section_at}
-use Rattle.thorin_input.specs.NewUnits.{with_section_in, with_section, with_each_section, new_units}
+use Rattle.thorin_join.proofs.Terms
+use Terms.{◌++◌, [], Adding, arith, as_error, bind-ok, bind-was, DwarfObject, ErrorValue}
+use Terms.{kept_bytes, List, name_for, New, new_units, None, Ok, Option, ParseUnitHeader, refl}
+use Terms.{Result, same-ok, section, Some, source_units, unit_section, UnitRead, units, UnitSection}
+use Terms.{Used, with_unit, ◌∙◌, ◌∷◌, ◌≡◌}
+use Rattle.thorin_input.specs.NewUnits.{Met, with_read, with_each_read, none_met, once_test}
+use Rattle.thorin_input.specs.NewUnits.{with_section_at, with_section_in, with_section}
+use Rattle.thorin_input.specs.NewUnits.{with_each_section}
 use Rattle.thorin_join.specs.Meaning.{named_unit, named_each, named_at, named_sections}
 use Rattle.thorin_join.proofs.Units.HeadersRead.{Listed, Reads}
 
@@ -46,11 +45,9 @@ module _ (adding : Adding) where
       let name = bind-was (name_for adding.source from.kind unit.0) _ here.0 unit.2 in
       let others = each-read from here.0 after rest here.2 in
       let one : DwarfObject × UnitRead = (name.0, record { from = from.kind; unit = unit.0 }) in
-      let named : named_unit adding.source from.kind read ≡ Ok one =
-      bind-ok _ _ _ unit.1 ∙ bind-ok _ _ _ name.1 in
       record {
         all = one ∷ others.all;
-        is = bind-ok _ _ _ named ∙ bind-ok _ _ _ others.is;
+        is = grind (arith, unit.1, name.1, others.is);
         steps = (here.0, record { from = from; kind = refl; is = name.2 }, others.steps);
       }
 

@@ -1,26 +1,18 @@
 -- The units of an input are whole units of their names, wherever their bytes come to stand.
-use Rattle.std.proofs.Common.{◌≡◌, ◌∙◌, inl, inr, ℕ, zero, suc, ◌+◌, nat_eq, List, ◌++◌}
-use Rattle.std.proofs.Common.{length, drop, ap, sym, refl, Result, Ok, Err, Some, None}
-use Rattle.std.proofs.Common.{arith, slice_get, take-append-drop}
-use Rattle.thorin_join.proofs.Terms.{bind-was, by-bool, Compilation}
-use Rattle.thorin_join.proofs.Terms.{DwarfObject, Encoding, Endianness, Input, IsWhole}
-use Rattle.thorin_join.proofs.Terms.{kind_at, none-some, place_for, ReadError}
-use Rattle.thorin_join.proofs.Terms.{same-ok, section, SectionKind, Source, source_units}
-use Rattle.thorin_join.proofs.Terms.{UnitRead, UnitSection}
-use Rattle.dwp_dwarf.specs.Units.{Unit as Header, unit_at, listed, units_within}
-use Rattle.dwp_dwarf.specs.Units.{units}
-use Rattle.dwp_dwarf.specs.declared.unit.UnitSection.TheVariants as places
-use Rattle.dwp_index.specs.Package.{encoding_in}
-use Rattle.thorin_join.specs.Laid.{type_signature, name_signature}
-use Rattle.thorin_join.proofs.Units.HeadersRead.{read-alone, name-identity, Listed, Reads}
-use Rattle.thorin_join.proofs.Units.HeadersRead.{each-all, WasRead, sections-are}
-use Rattle.dwp_dwarf.proofs.Units.{unit_taken}
+use Rattle.thorin_join.proofs.Terms
+use Terms.{◌+◌, ◌++◌, All-weaker, ap, arith, bind-was, by-bool, Compilation, drop, DwarfObject}
+use Terms.{Each, encoding_in, Endianness, Err, Header, Input, IsWhole, kind_at, length, List}
+use Terms.{listed, name_signature, nat_eq, None, Ok, place_for, ReadError, refl, Result, same-ok}
+use Terms.{section, SectionKind, slice_get, Some, Source, source_units, suc, sym, take-append-drop}
+use Terms.{type_signature, unit_at, unit_taken, UnitRead, units, UnitSection, zero, ℕ, ◌∙◌, ◌≡◌}
+use Rattle.dwp_dwarf.specs.Units.{units_within}
+use Rattle.thorin_join.proofs.Units.HeadersRead.{read-alone, name-identity, Listed, Reads, each-all}
+use Rattle.thorin_join.proofs.Units.HeadersRead.{WasRead, sections-are}
 use Rattle.thorin_join.proofs.Units.Sorts.{identity-sort}
 use Rattle.thorin_join.proofs.Moved.RootEntries.{IsShifted}
 use Rattle.thorin_join.proofs.Moved.Readings.{plain}
 use Rattle.thorin_join.proofs.Moved.Units.{unit-moves, unit-anywhere, FiveOrType, unit-five}
-use Rattle.std.specs.List.{AllByRecursion as Each}
-use Rattle.std.proofs.ByRecursion.{All-weaker}
+use Rattle.dwp_dwarf.specs.declared.unit.UnitSection.TheVariants as places
 
 -- a unit as it is read of its own bytes alone
 pub record ReadsAlone (order : Endianness) (place : UnitSection) (unit : Header) : Type 0 where
@@ -51,17 +43,7 @@ AreKnown order place reads = (k : ℕ) (unit : Header) → slice_get reads k ≡
 -- in the other section
 pub other-alone : (order : Endianness) (place other : UnitSection) (unit : Header)
     → unit.encoding.version ≡ 5 → ReadsAlone order place unit → ReadsAlone order other unit
-other-alone order place other unit five a = record {
-  alone = a.alone;
-  rest = a.rest;
-  read = unit-anywhere place other (section order unit.whole.bytes) a.alone a.rest
-      (ap (λ (e : Encoding). e.version) a.encoding ∙ five) a.read;
-  whole = a.whole;
-  type = a.type;
-  encoding = a.encoding;
-  behind = a.behind;
-  shifted = a.shifted;
-}
+other-alone order place other unit five a = grind (arith, unit-anywhere place other)
 
 -- a unit is a whole one of its name where it goes to
 abbrev pub Goes : Endianness → DwarfObject × UnitRead → Type 0
@@ -69,8 +51,7 @@ Goes order read = IsWhole order (place_for read.0 read.1.from) read.0 read.1.uni
 
 pub five-named : (unit : Header) (sort : type_signature unit.unit_type ≡ None) → FiveOrType unit
     → unit.encoding.version ≡ 5
-five-named unit sort (inl five) = five
-five-named unit sort (inr t) = absurd (none-some t.0 (sym sort ∙ ap type_signature t.2))
+five-named unit sort known = grind arith
 
 module _ (order : Endianness) (place : UnitSection) where
   within-at : (n d : ℕ) (left : List ℕ) (k : ℕ) (u : Header)
@@ -128,7 +109,7 @@ module _ (order : Endianness) (place : UnitSection) where
         };
       } in
       let five = λ (is : place ≡ places.Types).
-      (unit-five i).gives (unit, at.rest) (ap (λ p. unit_at p i) (sym is) ∙ at.read) in
+      unit-five i at.rest unit (ap (λ p. unit_at p i) (sym is) ∙ at.read) in
       (known, five)
 
 -- where a unit goes to it is read alone

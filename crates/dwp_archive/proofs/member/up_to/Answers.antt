@@ -1,8 +1,7 @@
 use Rattle.std.proofs.Common.{◌≡◌, ℕ, ◌==◌, List, Some, None, length, take, get_or, ap, ◌∙◌, sym}
-use Rattle.std.proofs.Common.{arith}
+use Rattle.std.proofs.Common.{arith, take_all}
 use Rattle.std.specs.List.{position_or_len, before_first}
 use Rattle.std.proofs.lemmas.Bool.{false_from_ne_true}
-use Rattle.std.proofs.lemmas.List.{take_all}
 use Rattle.std.proofs.lemmas.List.Sums.{position_or_len_is}
 use Rattle.memchr.specs.Find.{IsFirstByte, is_byte}
 use Rattle.dwp_archive.proofs.member.up_to.Goals as goal

@@ -1,24 +1,23 @@
 use Rattle.std.proofs.Common.{◌∙◌, ◌+◌, ◌-◌, List, map, sym, ap, arith}
+use Rattle.std.proofs.lemmas.Bool.Decides.{nat_tests}
 use Rattle.std.proofs.lemmas.Result.{err_from_is_err_and}
 use Rattle.dwp_archive.specs.Entries.{Member}
 use Rattle.dwp_archive.specs.Members.{members_from}
 use Rattle.dwp_archive.specs.View.{member, entry}
 use Rattle.dwp_archive.proofs.Entering.{behind, entry_taken, entry_fails, entries_end, entries_done}
-use Rattle.dwp_archive.proofs.Entering.{some_left, none_left}
 use Rattle.dwp_archive.proofs.reading.members_in.Goals as goal
 
 pub returns-then-is_empty : goal.returns-then-is_empty
 returns-then-is_empty c =
     sym c.loop.invariant ∙ entries_end c.args.most c.loop.counter c.loop.names.now c.loop.rest.now
-    (map member c.loop.members.items)
-    (none_left _ (sym c.is_empty.ensures ∙ c.if-is_empty.true))
+    (map member c.loop.members.items) (grind (arith, nat_tests))
 
 pub returns-in_err-entry : goal.returns-in_err-entry
 returns-in_err-entry c =
     let p = err_from_is_err_and c.from_residual.result c.from_residual.ensures.1 in
     rw (p.1, p.2) (λ h. sym c.loop.invariant ∙ entry_fails c.args.most c.loop.counter
     c.loop.names.now c.loop.rest.now (map member c.loop.members.items) _ c.loop-test.true
-    (some_left _ (sym c.is_empty.ensures ∙ c.if-is_empty.false)) c.in_err-entry.ensures)
+    (grind (arith, nat_tests)) c.in_err-entry.ensures)
 
 pub loop-preserved : goal.loop-preserved
 loop-preserved c =
@@ -27,7 +26,7 @@ loop-preserved c =
     ap (λ (front : List Member). behind front left) c.in_ok-add.ensures
     ∙ sym (entry_taken c.args.most c.loop.counter c.loop.names.now c.loop.rest.now
     (map member c.loop.members.items) (entry c.in_ok-entry.entry) c.loop-test.true
-    (some_left _ (sym c.is_empty.ensures ∙ c.if-is_empty.false)) c.in_ok-entry.ensures)
+    (grind (arith, nat_tests)) c.in_ok-entry.ensures)
     ∙ c.loop.invariant
 
 pub returns : goal.returns

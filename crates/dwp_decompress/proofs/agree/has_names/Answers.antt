@@ -1,5 +1,4 @@
-use Rattle.std.proofs.Common.{◌+◌, ◌++◌, ℕ, List, length}
-use Rattle.std.specs.Prelude.{option_map}
+use Rattle.std.proofs.Common.{◌+◌, ◌++◌, ℕ, List, length, option_map}
 use Rattle.dwp_elf_read.specs.View.{section}
 use Rattle.dwp_decompress.specs.Result.{with_names}
 use Rattle.dwp_decompress.proofs.Sections.{is_own}

@@ -1,5 +1,4 @@
-use Rattle.std.proofs.Common.{length, Some}
-use Rattle.std.specs.Prelude.{option_map}
+use Rattle.std.proofs.Common.{length, Some, option_map}
 use Rattle.dwp_elf_read.specs.View.{section}
 use Rattle.dwp_decompress.specs.Names.{plain_name}
 use Rattle.dwp_decompress.specs.Result.{with_plain, plain_flags}

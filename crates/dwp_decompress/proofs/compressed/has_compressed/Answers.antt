@@ -1,5 +1,4 @@
-use Rattle.std.proofs.Common.{◌≤◌, length, sym, ap, ◌∙◌, arith}
-use Rattle.std.specs.Prelude.{option_map}
+use Rattle.std.proofs.Common.{◌≤◌, length, sym, ap, ◌∙◌, arith, option_map}
 use Rattle.std.proofs.lemmas.List.{drop_all}
 use Rattle.dwp_elf_read.specs.View.{elf, section}
 use Rattle.dwp_decompress.proofs.Sections.{drop_step}

@@ -1,11 +1,10 @@
-use Rattle.std.proofs.Common.{◌∙◌, ℕ, Option, sym, ap, arith}
+use Rattle.std.proofs.Common.{◌∙◌, ℕ, Option, sym, ap, arith, option_map}
 use Rattle.std.specs.Global.{Vec}
-use Rattle.std.specs.Prelude.{option_map}
 use Rattle.std.proofs.lemmas.Result.{err_from_is_err_and}
 use Rattle.dwp_elf_read.specs.View.{elf, section}
 use Rattle.dwp_decompress.specs.Result.{contents_of, plain_contents}
-use Rattle.dwp_decompress.proofs.Sections.{behind_none, contents_step, contents_fail}
-use Rattle.dwp_decompress.proofs.Sections.{contents_end, plain_more}
+use Rattle.dwp_decompress.proofs.Sections.{behind_none, contents_step, contents_fail, contents_end}
+use Rattle.dwp_decompress.proofs.Sections.{plain_more}
 use Rattle.dwp_decompress.proofs.contents.contents_in.Goals as goal
 use Rattle.dwp_decompress.proofs.contents.contents_in.Goals.{in-Some+in_ok-content+in_ok-push}
 use Rattle.dwp_decompress.proofs.contents.contents_in.Goals.{in_default}

@@ -1,6 +1,5 @@
-use Rattle.std.proofs.Common.{◌∙◌, ℕ, sym, ap, arith}
+use Rattle.std.proofs.Common.{◌∙◌, ℕ, sym, ap, arith, option_map}
 use Rattle.std.specs.Global.{Vec}
-use Rattle.std.specs.Prelude.{option_map}
 use Rattle.dwp_elf_read.specs.View.{elf, section}
 use Rattle.dwp_decompress.proofs.Sections.{names_step, names_end}
 use Rattle.dwp_decompress.proofs.names.added_names.Goals as goal

@@ -1,5 +1,4 @@
-use Rattle.std.proofs.Common.{sym, refl, ◌∙◌}
-use Rattle.std.proofs.lemmas.Result.{err_from_is_err_and}
+use Rattle.dwp_dwarf.proofs.Terms.{err_from_is_err_and, refl, sym, ◌∙◌}
 use Rattle.dwp_dwarf.proofs.Readings.{shorter}
 use Rattle.dwp_dwarf.proofs.Tables.{reads_specification, specifications-cases, past-other}
 use Rattle.dwp_dwarf.proofs.abbrev.after_specifications.Goals as goal

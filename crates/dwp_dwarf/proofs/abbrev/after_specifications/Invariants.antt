@@ -1,5 +1,4 @@
-use Rattle.std.proofs.Common.{◌≡◌, length}
-use Rattle.dwp_dwarf.specs.Abbreviations.{past_specifications}
+use Rattle.dwp_dwarf.proofs.Terms.{length, past_specifications, ◌≡◌}
 use Rattle.dwp_dwarf.proofs.abbrev.after_specifications.Given as goal
 
 -- what is left of the list ends where all of it does

@@ -1,5 +1,4 @@
-use Rattle.std.proofs.Common.{refl}
-use Rattle.dwp_dwarf.specs.Abbreviations.{declaration_at}
+use Rattle.dwp_dwarf.proofs.Terms.{declaration_at, refl}
 use Rattle.dwp_dwarf.proofs.Tables.{passed_list}
 use Rattle.dwp_dwarf.proofs.abbrev.read_declaration.Goals as goal
 

@@ -1,5 +1,4 @@
-use Rattle.std.proofs.Common.{sym, refl, ◌∙◌, arith}
-use Rattle.std.proofs.lemmas.Grind.{common_steps}
+use Rattle.dwp_dwarf.proofs.Terms.{arith, common_steps, refl, sym, ◌∙◌}
 use Rattle.dwp_dwarf.proofs.Tables.{pairs-cases}
 use Rattle.dwp_dwarf.proofs.entry.next_specification.Goals as goal
 

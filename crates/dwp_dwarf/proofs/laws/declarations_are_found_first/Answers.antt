@@ -1,4 +1,4 @@
-use Rattle.std.proofs.Common.{Ok, Err, Some, None}
+use Rattle.dwp_dwarf.proofs.Terms.{Err, None, Ok, Some}
 use Rattle.dwp_dwarf.proofs.Tables.{said}
 use Rattle.dwp_dwarf.proofs.laws.declarations_are_found_first.Goals as goal
 

@@ -1,7 +1,5 @@
-use Rattle.std.proofs.Common.{◌≡◌, ◌++◌, map, length}
-use Rattle.dwp_dwarf.specs.Abbreviations.{pairs_in}
-use Rattle.dwp_dwarf.specs.Declarations.{specification_of}
-use Rattle.dwp_dwarf.specs.Needed.{needed, none_met}
+use Rattle.dwp_dwarf.proofs.Terms
+use Terms.{◌++◌, length, map, needed, none_met, pairs_in, specification_of, ◌≡◌}
 use Rattle.dwp_dwarf.proofs.needed.list_needed.Given as goal
 
 -- those that are listed and those that are left are all

@@ -1,7 +1,4 @@
-use Rattle.std.proofs.Common.{◌≡◌, map, drop}
-use Rattle.dwp_dwarf.specs.Declarations.{specification_of}
-use Rattle.dwp_dwarf.specs.Entries.{attributes}
-use Rattle.dwp_dwarf.specs.Numbers.{first_number}
+use Rattle.dwp_dwarf.proofs.Terms.{attributes, drop, first_number, map, specification_of, ◌≡◌}
 use Rattle.dwp_dwarf.proofs.number.number_listed.Given as goal
 
 -- the first number of those that are left is the first of all

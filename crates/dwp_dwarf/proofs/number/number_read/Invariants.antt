@@ -1,6 +1,4 @@
-use Rattle.std.proofs.Common.{◌≡◌}
-use Rattle.dwp_dwarf.specs.Attributes.{attributes_left}
-use Rattle.dwp_dwarf.specs.Numbers.{first_number}
+use Rattle.dwp_dwarf.proofs.Terms.{attributes_left, first_number, ◌≡◌}
 use Rattle.dwp_dwarf.proofs.number.number_read.Given as goal
 
 -- the first number of those that are left is the first of all

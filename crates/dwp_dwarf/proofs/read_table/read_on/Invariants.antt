@@ -1,6 +1,4 @@
-use Rattle.std.proofs.Common.{◌≡◌, ℕ, length, None, nat_cmp}
-use Rattle.std.specs.BTreeMap.{get}
-use Rattle.dwp_dwarf.specs.Remembered.{remembered}
+use Rattle.dwp_dwarf.proofs.Terms.{get, length, nat_cmp, None, remembered, ℕ, ◌≡◌}
 use Rattle.dwp_dwarf.proofs.read_table.read_on.Given as goal
 
 -- nothing changes of what the memory and the rest say, and the code isn't remembered yet

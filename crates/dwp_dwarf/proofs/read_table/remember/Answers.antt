@@ -1,8 +1,6 @@
-use Rattle.std.proofs.Common.{◌≡◌, sym, ◌∙◌, refl, false, Option, Some, None, is_some, nat_cmp}
-use Rattle.std.specs.BTreeMap.{get}
-use Rattle.dwp_bytes.specs.Input.{Input}
-use Rattle.dwp_dwarf.specs.Remembered.{known_or}
-use Rattle.dwp_dwarf.specs.declared.abbrev.Abbreviation.{Abbreviation}
+use Rattle.dwp_dwarf.proofs.Terms
+use Terms.{Abbreviation, false, get, Input, is_some, known_or, nat_cmp, None, Option, refl, Some}
+use Terms.{sym, ◌∙◌, ◌≡◌}
 use Rattle.dwp_dwarf.proofs.Keys.{by_key, on_ok, key_apart}
 use Rattle.dwp_dwarf.proofs.Tables.{Found, look_up-here, look_up-other}
 use Rattle.dwp_dwarf.proofs.read_table.remember.Goals as goal

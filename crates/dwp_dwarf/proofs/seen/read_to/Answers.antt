@@ -1,5 +1,4 @@
-use Rattle.std.proofs.Common.{sym, ◌∙◌}
-use Rattle.std.proofs.lemmas.Result.{err_from_is_err_and}
+use Rattle.dwp_dwarf.proofs.Terms.{err_from_is_err_and, sym, ◌∙◌}
 use Rattle.dwp_dwarf.proofs.Tables.{next_shorter, look_up-end, look_up-error, look_up-here}
 use Rattle.dwp_dwarf.proofs.Tables.{look_up-other}
 use Rattle.dwp_dwarf.proofs.seen.read_to.Goals as goal

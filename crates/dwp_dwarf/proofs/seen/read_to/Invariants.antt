@@ -1,5 +1,4 @@
-use Rattle.std.proofs.Common.{◌≡◌, length}
-use Rattle.dwp_dwarf.specs.Abbreviations.{declaration}
+use Rattle.dwp_dwarf.proofs.Terms.{declaration, length, ◌≡◌}
 use Rattle.dwp_dwarf.proofs.seen.read_to.Given as goal
 
 -- what the rest says of the code is what all of it says

@@ -1,9 +1,6 @@
-use Rattle.std.proofs.Common.{◌∙◌, ◌+◌, map, drop, ap, sym}
-use Rattle.std.proofs.lemmas.List.{drop_more}
-use Rattle.dwp_dwarf.specs.Attributes.{attribute_of}
-use Rattle.dwp_dwarf.specs.Declarations.{specification_of}
-use Rattle.dwp_dwarf.specs.Entries.{attributes}
-use Rattle.dwp_dwarf.specs.Split.{SplitAttributes, attributes_of}
+use Rattle.dwp_dwarf.proofs.Terms
+use Terms.{◌+◌, ap, attribute_of, attributes, attributes_of, drop, drop_more, map, specification_of}
+use Terms.{SplitAttributes, sym, ◌∙◌}
 use Rattle.dwp_dwarf.specs.declared.abbrev.AttributeSpecification.{AttributeSpecification}
 use Rattle.dwp_dwarf.proofs.NeededAttributes.{after, after-first}
 use Rattle.dwp_dwarf.proofs.split.split_listed.Goals as goal

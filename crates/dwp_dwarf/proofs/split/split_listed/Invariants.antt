@@ -1,7 +1,5 @@
-use Rattle.std.proofs.Common.{◌≡◌, map, drop}
-use Rattle.dwp_dwarf.specs.Declarations.{specification_of}
-use Rattle.dwp_dwarf.specs.Entries.{attributes}
-use Rattle.dwp_dwarf.specs.Split.{attributes_of, split_in}
+use Rattle.dwp_dwarf.proofs.Terms
+use Terms.{attributes, attributes_of, drop, map, specification_of, split_in, ◌≡◌}
 use Rattle.dwp_dwarf.proofs.NeededAttributes.{after}
 use Rattle.dwp_dwarf.proofs.split.split_listed.Given as goal
 

@@ -1,7 +1,7 @@
-use Rattle.std.proofs.Common.{◌≡◌, ◌∙◌, ap, sym, Ok, ◌∷◌, rules}
-use Rattle.dwp_dwarf.specs.Attributes.{attribute_of, attribute_seen, attributes_left}
+use Rattle.dwp_dwarf.proofs.Terms
+use Terms.{ap, attribute_of, attribute_seen, attributes_left, attributes_of, Ok, rules, sym, ◌∙◌}
+use Terms.{◌∷◌, ◌≡◌}
 use Rattle.dwp_dwarf.proofs.NeededAttributes.{after, after-first}
-use Rattle.dwp_dwarf.specs.Split.{attributes_of}
 use Rattle.dwp_dwarf.proofs.split.split_read.Goals as goal
 
 pub loop-attribute-preserved : goal.loop-attribute-preserved

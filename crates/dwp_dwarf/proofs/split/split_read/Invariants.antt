@@ -1,6 +1,4 @@
-use Rattle.std.proofs.Common.{◌≡◌}
-use Rattle.dwp_dwarf.specs.Attributes.{attributes_left, entry_of}
-use Rattle.dwp_dwarf.specs.Split.{attributes_of, split_in}
+use Rattle.dwp_dwarf.proofs.Terms.{attributes_left, attributes_of, entry_of, split_in, ◌≡◌}
 use Rattle.dwp_dwarf.proofs.NeededAttributes.{after}
 use Rattle.dwp_dwarf.proofs.split.split_read.Given as goal
 

@@ -1,5 +1,4 @@
-use Rattle.std.proofs.Common.{◌≡◌, length}
-use Rattle.dwp_dwarf.specs.Forms.{named_form_at}
+use Rattle.dwp_dwarf.proofs.Terms.{length, named_form_at, ◌≡◌}
 use Rattle.dwp_dwarf.proofs.value.named_form.Given as goal
 
 -- the form named so far names the same form in the end

@@ -1,4 +1,4 @@
-use Rattle.std.proofs.Common.{◌∙◌, ne_eqb, rules}
+use Rattle.dwp_dwarf.proofs.Terms.{ne_eqb, rules, ◌∙◌}
 use Rattle.dwp_dwarf.proofs.Keys.{if_map, if_both}
 use Rattle.dwp_dwarf.proofs.NewVersions.{value_here, others_here, value_beside, others_beside}
 use Rattle.dwp_dwarf.proofs.versions.+insert_below.Goals as goal

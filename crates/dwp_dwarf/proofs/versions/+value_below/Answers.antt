@@ -1,5 +1,4 @@
-use Rattle.std.proofs.Common.{refl, arith}
-use Rattle.std.proofs.lemmas.Grind.{common_steps}
+use Rattle.dwp_dwarf.proofs.Terms.{arith, common_steps, refl}
 use Rattle.dwp_dwarf.specs.Versions.{value_below}
 use Rattle.dwp_dwarf.proofs.NewVersions.{one_level}
 use Rattle.dwp_dwarf.proofs.versions.+value_below.Goals as goal

@@ -1,14 +1,11 @@
-use Rattle.std.proofs.Common.{ap, refl, sym, length, arith}
-use Rattle.std.proofs.lemmas.Result.{err_from_is_err_and}
+use Rattle.dwp_elf.proofs.Terms.{ap, arith, common_steps, length, refl}
 use Rattle.dwp_elf.proofs.Changes.{at_first, absent, contents_of-set_same}
 use Rattle.dwp_elf.proofs.contents.move_to.Goals as goal
 
 pub returns-in_err-extend_from_slice-in-Some-clause-unchanged :
     goal.returns-in_err-extend_from_slice-in-Some-clause-unchanged
 returns-in_err-extend_from_slice-in-Some-clause-unchanged c =
-    rw (err_from_is_err_and c.from_residual.result c.from_residual.ensures.1).1
-    (contents_of-set_same _ _ _ _ c.index_mut-section.ensures.value refl
-    c.in_err-extend_from_slice-in-Some.ensures.items)
+    grind (arith, common_steps, contents_of-set_same)
 
 pub returns-in_ok-extend_from_slice-in-Some-clause-contents :
     goal.returns-in_ok-extend_from_slice-in-Some-clause-contents
@@ -30,6 +27,4 @@ returns-in_ok-push-in-None-clause-contents c =
     c.in-None.ensures)).added _ _ refl refl)
 
 pub returns-in_ok-push-in-None-clause-place : goal.returns-in_ok-push-in-None-clause-place
-returns-in_ok-push-in-None-clause-place c =
-    ap length (sym (absent c.args.kind c.args.sections.now.items (rw c.deref.ensures.value at
-    c.in-None.ensures)).content)
+returns-in_ok-push-in-None-clause-place c = grind (arith, common_steps, absent)

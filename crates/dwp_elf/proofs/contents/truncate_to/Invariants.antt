@@ -1,5 +1,4 @@
-use Rattle.std.proofs.Common.{◌≡◌, ◌≤◌, length}
-use Rattle.dwp_elf.specs.Contents.{contents_of}
+use Rattle.dwp_elf.proofs.Terms.{contents_of, length, ◌≡◌, ◌≤◌}
 use Rattle.dwp_elf.proofs.Changes.{cut}
 use Rattle.dwp_elf.proofs.contents.truncate_to.Given as goal
 

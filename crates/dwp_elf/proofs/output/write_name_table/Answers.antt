@@ -1,7 +1,4 @@
-use Rattle.std.proofs.Common.{[], ◌∷◌, ◌++◌}
-use Rattle.std.specs.Prelude.{codes}
-use Rattle.dwp_elf.specs.Contents.{contents_of}
-use Rattle.dwp_elf.specs.FileText.{names_of}
+use Rattle.dwp_elf.proofs.Terms.{◌++◌, [], codes, contents_of, names_of, ◌∷◌}
 use Rattle.dwp_elf.proofs.SoFar.{part_after, part_before, Writes-after, failed}
 use Rattle.dwp_elf.proofs.output.write_name_table.Goals as goal
 

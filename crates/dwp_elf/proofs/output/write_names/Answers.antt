@@ -1,4 +1,4 @@
-use Rattle.std.proofs.Common.{[], ◌∷◌, refl, ◌∙◌}
+use Rattle.dwp_elf.proofs.Terms.{[], refl, ◌∙◌, ◌∷◌}
 use Rattle.dwp_elf.proofs.Parts.{names_of-drop, names_of-end}
 use Rattle.dwp_elf.proofs.SoFar.{so_far_more, so_far_all, so_far_part, failed}
 use Rattle.dwp_elf.proofs.output.write_names.Goals as goal

@@ -1,7 +1,4 @@
-use Rattle.std.proofs.Common.{drop}
-use Rattle.dwp_elf.specs.Contents.{contents_of}
-use Rattle.dwp_elf.specs.FileText.{names_of}
-use Rattle.std.specs.declared.io.ErrorKind.{ErrorKind}
+use Rattle.dwp_elf.proofs.Terms.{contents_of, drop, ErrorKind, names_of}
 use Rattle.dwp_elf.proofs.SoFar.{SoFar}
 use Rattle.dwp_elf.proofs.output.write_names.Given as goal
 

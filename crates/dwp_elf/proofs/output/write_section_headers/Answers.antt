@@ -1,4 +1,4 @@
-use Rattle.std.proofs.Common.{length, refl, ap, ◌∙◌, arith}
+use Rattle.dwp_elf.proofs.Terms.{ap, arith, length, refl, ◌∙◌}
 use Rattle.dwp_elf.proofs.Parts.{length-content_bytes-drop, headers_from-drop, headers_from-end}
 use Rattle.dwp_elf.proofs.Parts.{length-name_of, limit-le}
 use Rattle.dwp_elf.proofs.SoFar.{so_far_more, so_far_part, Writes-so_far, failed}
@@ -7,8 +7,11 @@ use Rattle.dwp_elf.proofs.output.write_section_headers.Goals as goal
 pub section_header-header-requires-clause-size_fits :
     goal.section_header-header-requires-clause-size_fits
 section_header-header-requires-clause-size_fits g c =
-    let step = length-content_bytes-drop _ _ _ c.loop-section-test.true c.section-item.is in
-    omega (arith, step, c.section-item.result.1.ok.0)
+    omega (
+      arith,
+      length-content_bytes-drop _ _ _ c.loop-section-test.true c.section-item.is,
+      c.section-item.result.1.ok.0,
+    )
 
 pub returns-in_err-write_whole-clause-text : goal.returns-in_err-write_whole-clause-text
 returns-in_err-write_whole-clause-text g c =
@@ -19,9 +22,7 @@ returns-in_err-write_whole-clause-text g c =
     c.in_err-write_whole.ensures.text)
 
 pub overflow_add-place : goal.overflow_add-place
-overflow_add-place g c =
-    let step = length-content_bytes-drop _ _ _ c.loop-section-test.true c.section-item.is in
-    omega (arith, step, c.section-item.result.1.ok.0, limit-le c.args.class)
+overflow_add-place g c = grind (arith, length-content_bytes-drop, limit-le)
 
 pub loop-section-preserved : goal.loop-section-preserved
 loop-section-preserved g c =

@@ -1,8 +1,6 @@
-use Rattle.std.proofs.Common.{◌≡◌, ◌+◌, ◌*◌, ◌≤◌, length, drop}
-use Rattle.dwp_elf.specs.Contents.{contents_of}
-use Rattle.dwp_elf_read.specs.Layout.{header_size}
-use Rattle.dwp_elf.specs.FileText.{content_bytes, headers_from}
-use Rattle.std.specs.declared.io.ErrorKind.{ErrorKind}
+use Rattle.dwp_elf.proofs.Terms
+use Terms.{◌*◌, ◌+◌, content_bytes, contents_of, drop, ErrorKind, header_size, headers_from, length}
+use Terms.{◌≡◌, ◌≤◌}
 use Rattle.dwp_elf.proofs.SoFar.{SoFar}
 use Rattle.dwp_elf.proofs.output.write_section_headers.Given as goal
 

@@ -1,6 +1,6 @@
-use Rattle.std.proofs.Common.{◌<◌, ◌++◌, length, take, sym, ap, ◌∙◌, arith, take-append-drop}
+use Rattle.std.proofs.Common.{take-append-drop}
+use Rattle.dwp_elf.proofs.Terms.{◌++◌, ◌<◌, ap, arith, length, sym, take, take_rest, ◌∙◌}
 use Rattle.std.proofs.lemmas.Bool.Decides.{nat_tests}
-use Rattle.std.proofs.lemmas.List.{take_rest}
 use Rattle.dwp_elf.proofs.SoFar.{so_far_none, so_far_more, so_far_stop, Keeps-from_none, failed}
 use Rattle.dwp_elf.proofs.output.write_whole.Goals as goal
 

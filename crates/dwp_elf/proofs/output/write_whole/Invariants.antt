@@ -1,5 +1,4 @@
-use Rattle.std.proofs.Common.{length}
-use Rattle.std.specs.declared.io.ErrorKind.{ErrorKind}
+use Rattle.dwp_elf.proofs.Terms.{ErrorKind, length}
 use Rattle.dwp_elf.proofs.SoFar.{SoFar}
 use Rattle.dwp_elf.proofs.output.write_whole.Given as goal
 

@@ -1,5 +1,4 @@
-use Rattle.std.proofs.Common.{◌≡◌, ℕ, ◌≤◌, take, replicate}
-use Rattle.std.proofs.lemmas.List.{take-replicate}
+use Rattle.dwp_elf.proofs.Terms.{replicate, take, take-replicate, ℕ, ◌≡◌, ◌≤◌}
 use Rattle.dwp_elf.proofs.output.write_zeros.Goals as goal
 
 zeros_of : (n : ℕ) → n ≤ 64 → take n (replicate {A = ℕ} 64 0) ≡ replicate n 0

@@ -1,6 +1,4 @@
-use Rattle.std.proofs.Common.{◌≡◌, ◌+◌, length, drop}
-use Rattle.dwp_elf.specs.Contents.{contents_of}
-use Rattle.dwp_elf.specs.FileText.{content_bytes}
+use Rattle.dwp_elf.proofs.Terms.{◌+◌, content_bytes, contents_of, drop, length, ◌≡◌}
 use Rattle.dwp_elf.proofs.places.content_size.Given as goal
 
 abbrev pub invariant-loop-section : goal.invariant-loop-section

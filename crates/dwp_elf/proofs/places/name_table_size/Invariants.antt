@@ -1,6 +1,5 @@
-use Rattle.std.proofs.Common.{◌≡◌, ◌+◌, ◌*◌, ◌≤◌, length, drop}
-use Rattle.dwp_elf.specs.Contents.{contents_of}
-use Rattle.dwp_elf.specs.FileText.{names_of, name_table}
+use Rattle.dwp_elf.proofs.Terms
+use Terms.{◌*◌, ◌+◌, contents_of, drop, length, name_table, names_of, ◌≡◌, ◌≤◌}
 use Rattle.dwp_elf.proofs.places.name_table_size.Given as goal
 
 abbrev pub invariant-loop-section : goal.invariant-loop-section

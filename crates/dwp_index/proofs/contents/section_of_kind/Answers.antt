@@ -1,10 +1,9 @@
-use Rattle.std.proofs.Common.{sym, ap, ◌∙◌, arith}
-use Rattle.std.specs.Prelude.{option_map}
-use Rattle.dwp_elf_read.specs.View.{elf, section}
-use Rattle.dwp_index.specs.Contents.{is_of_kind}
+use Rattle.std.proofs.Common.{sym, ap, ◌∙◌, arith, option_map}
+use Rattle.dwp_index.proofs.Terms.{elf, is_of_kind}
+use Rattle.dwp_elf_read.specs.View.{section}
 use Rattle.dwp_base.proofs.Finds.{find_hit, find_miss, slice_get_none, find_end}
-use Rattle.dwp_index.proofs.contents.section_of_kind.Goals as goal
 use Rattle.dwp_index.proofs.contents.section_of_kind.Goals.{in-Some+else-is_of_kind, in_default}
+use Rattle.dwp_index.proofs.contents.section_of_kind.Goals as goal
 
 pub returns-then-is_of_kind-clause-first : goal.returns-then-is_of_kind-clause-first
 returns-then-is_of_kind-clause-first c =

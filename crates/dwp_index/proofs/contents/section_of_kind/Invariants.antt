@@ -1,7 +1,5 @@
-use Rattle.std.proofs.Common.{◌≡◌, drop}
-use Rattle.std.specs.List.{find}
-use Rattle.dwp_elf_read.specs.View.{elf}
-use Rattle.dwp_index.specs.Contents.{is_of_kind}
+use Rattle.std.proofs.Common.{◌≡◌, drop, find}
+use Rattle.dwp_index.proofs.Terms.{elf, is_of_kind}
 use Rattle.dwp_index.proofs.contents.section_of_kind.Given as goal
 
 -- the sections so far are of other kinds

@@ -1,5 +1,4 @@
-use Rattle.std.proofs.Common.{refl, sym, ◌∙◌, eq-eqb}
-use Rattle.std.proofs.lemmas.Bool.{ne_eqb}
+use Rattle.std.proofs.Common.{refl, sym, ◌∙◌, eq-eqb, ne_eqb}
 use Rattle.dwp_index.proofs.NumberLists.{position-step}
 use Rattle.dwp_index.proofs.parsing.place_of_number.Goals as goal
 

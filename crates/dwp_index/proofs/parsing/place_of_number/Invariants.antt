@@ -1,6 +1,5 @@
 use Rattle.std.proofs.Common.{◌≡◌, ◌-◌, ◌*◌, drop, eqb}
-use Rattle.std.specs.List.{position_from}
-use Rattle.dwp_index.specs.IndexBytes.{numbers}
+use Rattle.dwp_index.proofs.Terms.{numbers, position_from}
 use Rattle.dwp_index.proofs.parsing.place_of_number.Given as goal
 
 abbrev pub invariant-loop-i : goal.invariant-loop-i

@@ -1,11 +1,8 @@
-use Rattle.std.proofs.Common.{◌≡◌, ◌-◌, refl, sym, ap, ◌∙◌, arith}
-use Rattle.std.specs.Prelude.{is_none, is_some}
-use Rattle.dwp_table.specs.Columns.{kind_of_column}
-use Rattle.dwp_index.specs.IndexBytes.{numbers}
-use Rattle.dwp_index.specs.Places.{NO_COLUMN}
+use Rattle.std.proofs.Common.{true, false, ◌≡◌, ◌-◌, refl, sym, ap, ◌∙◌, arith, is_none, is_some}
+use Rattle.dwp_index.proofs.Terms.{kind_of_column, NO_COLUMN, numbers}
 use Rattle.dwp_index.proofs.NumberLists.{length-numbers, numbers_more}
-use Rattle.dwp_index.proofs.Columns.{one_more, none_yet, says_none, says_some, among, ends, unknown}
-use Rattle.dwp_index.proofs.Columns.{repeated, goes_on, done}
+use Rattle.dwp_index.proofs.Columns.{one_more, none_yet, says_none, says_some, among, ends, further}
+use Rattle.dwp_index.proofs.Columns.{done}
 use Rattle.dwp_index.proofs.parsing.read_columns.Goals as goal
 
 pub loop-i-init : goal.loop-i-init
@@ -24,8 +21,8 @@ returns-in_default-clause-exact c =
     let none = ap (λ n. is_none (kind_of_column c.args.version n))
     (sym c.read_u32_at-number.ensures) ∙ ap is_none (sym c.kind_of_column.ensures) ∙ ap is_none
     c.in_default.is in
-    sym c.loop-i.invariant.so_far ∙ unknown c.args.order c.args.version c.args.bytes.now
-    c.args.count c.loop-i.i c.loop-i-test.true (omega arith) none
+    sym c.loop-i.invariant.so_far ∙ further c.args.order c.args.version c.args.bytes.now
+    c.args.count c.loop-i.i c.loop-i-test.true (omega arith) true _ none refl
 
 pub returns-then-get-clause-exact : goal.returns-then-get-clause-exact
 returns-then-get-clause-exact c =
@@ -36,8 +33,8 @@ returns-then-get-clause-exact c =
     let again = among c.args.version _ (numbers c.args.order 4 i bytes) c.in-Some.kind named
     ∙ ap is_some (says_some i _ _ _ (c.loop-i.invariant.places c.in-Some.kind)
     (sym (c.get.ensures.value NO_COLUMN)) c.if-get.true).0 in
-    sym c.loop-i.invariant.so_far ∙ repeated c.args.order c.args.version bytes c.args.count i
-    c.loop-i-test.true (omega arith) (ap is_none named) again
+    sym c.loop-i.invariant.so_far ∙ further c.args.order c.args.version bytes c.args.count i
+    c.loop-i-test.true (omega arith) false true (ap is_none named) again
 
 pub loop-i-preserved : goal.loop-i-preserved
 loop-i-preserved c =
@@ -50,8 +47,8 @@ loop-i-preserved c =
     ∙ ap is_some (says_none i _ _ _ (c.loop-i.invariant.places c.in-Some.kind) refl none) in
     record {
       within = omega arith;
-      so_far = sym (goes_on c.args.order c.args.version bytes c.args.count i c.loop-i-test.true
-          (omega arith) (ap is_none named) fresh) ∙ c.loop-i.invariant.so_far;
+      so_far = sym (further c.args.order c.args.version bytes c.args.count i c.loop-i-test.true
+          (omega arith) false false (ap is_none named) fresh) ∙ c.loop-i.invariant.so_far;
       places = one_more _ _ c.args.version i _ (numbers c.args.order 4 i bytes) _ c.in-Some.kind
           (numbers_more c.args.order 4 i bytes) (length-numbers c.args.order 4 i bytes)
           (omega arith) c.loop-i.invariant.places named none (c.set.ensures.each NO_COLUMN);

@@ -1,6 +1,5 @@
 use Rattle.std.proofs.Common.{◌≡◌, ◌*◌, ◌≤◌, length, []}
-use Rattle.dwp_index.specs.IndexBytes.{numbers, columns_at}
-use Rattle.dwp_index.specs.Places.{ArePlaces}
+use Rattle.dwp_index.proofs.Terms.{ArePlaces, columns_at, numbers}
 use Rattle.dwp_index.proofs.Columns.{Behind}
 use Rattle.dwp_index.proofs.parsing.read_columns.Given as goal
 

@@ -1,5 +1,4 @@
-use Rattle.std.proofs.Common.{◌≡◌, suc, ◌+◌, ◌-◌, length, get_or, refl, sym, ◌∙◌, arith}
-use Rattle.std.proofs.lemmas.Bool.{ne_eqb}
+use Rattle.std.proofs.Common.{◌≡◌, suc, ◌+◌, ◌-◌, length, get_or, refl, sym, ◌∙◌, arith, ne_eqb}
 use Rattle.dwp_index.specs.Used.{used_in}
 use Rattle.dwp_index.proofs.units.used_slot.Goals as goal
 

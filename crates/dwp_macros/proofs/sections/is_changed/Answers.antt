@@ -1,5 +1,4 @@
-use Rattle.std.proofs.Common.{◌≡◌, ◌+◌, ◌-◌, ◌<◌, ◌≤◌, length, sym, ap, ◌∙◌, arith}
-use Rattle.std.specs.Prelude.{option_map}
+use Rattle.std.proofs.Common.{◌≡◌, ◌+◌, ◌-◌, ◌<◌, ◌≤◌, length, sym, ap, ◌∙◌, arith, option_map}
 use Rattle.dwp_elf_read.specs.View.{elf, section}
 use Rattle.dwp_macros.specs.Last.{has_macros, is_index}
 use Rattle.dwp_macros.proofs.Walks.{any_step, any_end, several_step, several_end}

@@ -1,6 +1,6 @@
+use Rattle.dwp_strings.proofs.Terms.{arith, refl}
 use Rattle.dwp_strings.proofs.LaneLemmas.{lanes_some, lanes_all, lanes_zero}
 use Rattle.dwp_strings.proofs.ends.before_zero.Goals as goal
-use Rattle.std.proofs.Common.{refl, arith}
 
 pub returns-then-zeros-eq0-clause-some : goal.returns-then-zeros-eq0-clause-some
 returns-then-zeros-eq0-clause-some c k less within =

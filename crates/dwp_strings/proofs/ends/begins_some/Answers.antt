@@ -1,5 +1,4 @@
-use Rattle.std.proofs.Common.{◌≡◌, ◌+◌, arith}
-use Rattle.std.proofs.lemmas.Bool.{leb-true}
+use Rattle.dwp_strings.proofs.Terms.{◌+◌, arith, leb-true, ◌≡◌}
 use Rattle.dwp_strings.proofs.LaneLemmas.{lanes_some}
 use Rattle.dwp_strings.proofs.ends.begins_some.Goals as goal
 

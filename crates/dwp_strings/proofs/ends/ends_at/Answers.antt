@@ -1,5 +1,4 @@
-use Rattle.std.proofs.Common.{◌+◌, ◌-◌, refl, arith}
-use Rattle.dwp_strings.proofs.LaneLemmas.{range_more}
+use Rattle.dwp_strings.proofs.Terms.{◌+◌, ◌-◌, arith, refl}
 use Rattle.dwp_strings.proofs.ends.ends_at.Goals as goal
 
 pub returns-then-end-le-LANES : goal.returns-then-end-le-LANES
@@ -7,17 +6,19 @@ returns-then-end-le-LANES c = λ is.
     record {
       within = c.requires.within;
       ended = c.requires.ended;
-      before = range_more _ 32 (c.args.end - 32) 32 c.args.end
-          (range_more _ 0 0 32 32 (λ k less. absurd (omega arith)) (c.are_some.ensures.first is)
-          (omega arith) (omega arith)) (c.are_some.ensures.second is) (omega arith) (omega arith);
+      before = λ k less. grind (
+        arith,
+        c.are_some.ensures.first is k,
+        c.are_some.ensures.second is (k - (c.args.end - 32)),
+      );
     }
 
 pub loop-at-preserved : goal.loop-at-preserved
-loop-at-preserved c =
-    let at = c.loop-at.at in
-    range_more _ (at + 32) (at + 32) 32 (at + 64) (range_more _ at at 32 (at + 32)
-    c.loop-at.invariant (c.if-not-are_some.ensures.first refl) (omega arith) (omega arith))
-    (c.if-not-are_some.ensures.second refl) (omega arith) (omega arith)
+loop-at-preserved c = λ k less. grind (
+  arith,
+  c.if-not-are_some.ensures.first refl (k - c.loop-at.at),
+  c.if-not-are_some.ensures.second refl (k - (c.loop-at.at + 32)),
+)
 
 pub returns : goal.returns
 returns c = λ is.
@@ -25,8 +26,9 @@ returns c = λ is.
     record {
       within = c.requires.within;
       ended = c.requires.ended;
-      before = range_more _ (last + 32) (last + 32) 32 c.args.end
-          (range_more _ c.loop-at.at last 32 (last + 32) c.loop-at.invariant
-          (c.are_some-2.ensures.first is) (omega arith) (omega arith))
-          (c.are_some-2.ensures.second is) (omega arith) (omega arith);
+      before = λ k less. grind (
+        arith,
+        c.are_some-2.ensures.first is (k - last),
+        c.are_some-2.ensures.second is (k - (last + 32)),
+      );
     }

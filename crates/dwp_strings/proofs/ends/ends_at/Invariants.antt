@@ -1,4 +1,4 @@
-use Rattle.std.proofs.Common.{◌≢◌, ℕ, ◌-◌, ◌<◌, slice_index}
+use Rattle.dwp_strings.proofs.Terms.{◌-◌, ◌<◌, slice_index, ℕ, ◌≢◌}
 use Rattle.dwp_strings.proofs.ends.ends_at.Given as goal
 
 abbrev pub invariant-loop-at : goal.invariant-loop-at

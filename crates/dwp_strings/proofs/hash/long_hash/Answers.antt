@@ -1,4 +1,4 @@
-use Rattle.std.proofs.Common.{◌+◌, ◌∙◌, arith, refl}
+use Rattle.dwp_strings.proofs.Terms.{◌+◌, arith, refl, ◌∙◌}
 use Rattle.dwp_strings.proofs.HashLemmas.{mixed_first, mixed_more, mixed_all}
 use Rattle.dwp_strings.proofs.hash.long_hash.Goals as goal
 

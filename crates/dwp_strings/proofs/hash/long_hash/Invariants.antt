@@ -1,4 +1,4 @@
-use Rattle.std.proofs.Common.{◌≡◌, ◌-◌, ◌%◌, ◌<◌, length}
+use Rattle.dwp_strings.proofs.Terms.{◌%◌, ◌-◌, ◌<◌, length, ◌≡◌}
 use Rattle.dwp_strings.proofs.HashLemmas.{mixed_to}
 use Rattle.dwp_strings.proofs.hash.long_hash.Given as goal
 

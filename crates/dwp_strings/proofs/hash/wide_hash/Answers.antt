@@ -1,5 +1,4 @@
-use Rattle.std.proofs.Common.{◌∙◌, rules, arith, refl}
-use Rattle.dwp_strings.specs.Places.{wide}
+use Rattle.dwp_strings.proofs.Terms.{arith, refl, rules, wide, ◌∙◌}
 use Rattle.dwp_strings.proofs.HashLemmas.{mixed_first, mixed_more, mixed_all}
 use Rattle.dwp_strings.proofs.hash.wide_hash.Goals as goal
 

@@ -1,7 +1,6 @@
-use Rattle.std.proofs.Common.{◌+◌, ◌-◌, ℕ, List, length, take, drop, arith}
+use Rattle.dwp_strings.proofs.Terms.{◌+◌, ◌-◌, arith, drop, length, List, take, take_rest, ℕ}
 use Rattle.std.specs.Hash.FoldHasher.{read_u64}
 use Rattle.dwp_strings.proofs.HashLemmas.{read_behind}
-use Rattle.std.proofs.lemmas.List.{take_rest}
 use Rattle.dwp_strings.proofs.hash.word_at.Goals as goal
 
 pub returns : goal.returns

@@ -1,29 +1,26 @@
-use Rattle.std.proofs.Common.{◌∙◌, refl, arith}
-use Rattle.dwp_strings.proofs.PlacesLemmas.{same_or, has_of, slot_within}
+use Rattle.dwp_strings.proofs.Terms.{◌-◌, arith, free, get_or, home, place_of, refl, ◌∙◌}
+use Rattle.dwp_strings.proofs.PlacesLemmas.{each_from, slot_within}
 use Rattle.dwp_strings.proofs.places.put_again.Goals as goal
 
 pub loop-number-preserved : goal.loop-number-preserved
 loop-number-preserved c = record {
-  same = λ j less. same_or _ c.loop-number.number j
-      (λ here. rw (← here) (λ some. c.if-not-put.ensures.put refl _ (omega (arith, some))))
-      (λ apart some. c.put.ensures.kept _ _
-      (c.loop-number.invariant.same j (omega (arith, apart)) some));
+  same = λ j less some. grind (
+    arith,
+    c.if-not-put.ensures.put refl ((get_or c.args.others.now j free).behind - 1),
+    c.put.ensures.kept,
+    c.loop-number.invariant.same j,
+  );
   long = c.put.ensures.long ∙ c.loop-number.invariant.long;
 }
 
 pub loop-number-preserved-then-slot-eq0 : goal.loop-number-preserved-then-slot-eq0
 loop-number-preserved-then-slot-eq0 c = record {
-  same = λ j less. same_or _ c.loop-number.number j
-      (λ here. rw (← here) (λ some. absurd (some c.if-slot-eq0.true)))
-      (λ apart. c.loop-number.invariant.same j (omega (arith, apart)));
+  same = λ j less some. grind (arith, c.loop-number.invariant.same j);
   long = c.loop-number.invariant.long;
 }
 
 pub returns-clause-kept : goal.returns-clause-kept
-returns-clause-kept c = λ other h n is.
-    let there = has_of c.args.others.now other h n is in
-    rw (there.same, there.place) at
-    (c.loop-number.invariant.same there.number (omega (
-      arith,
-      slot_within c.args.others.now there.number there.used,
-    )) there.used)
+unfolding place_of
+returns-clause-kept c = λ other h n. each_from c.args.others.now c.loop-number.slots c.args.size
+    (home other h) 128 h n (λ j some. c.loop-number.invariant.same j
+    (omega (arith, slot_within c.args.others.now j some)) some)

@@ -1,5 +1,4 @@
-use Rattle.std.proofs.Common.{◌≡◌, ◌≢◌, ℕ, ◌<◌, ◌-◌, Some, length, get_or}
-use Rattle.dwp_strings.specs.Places.{free, place_of}
+use Rattle.dwp_strings.proofs.Terms.{◌-◌, ◌<◌, free, get_or, length, place_of, Some, ℕ, ◌≡◌, ◌≢◌}
 use Rattle.dwp_strings.proofs.places.put_again.Given as goal
 
 abbrev pub invariant-loop-number : goal.invariant-loop-number

@@ -1,4 +1,4 @@
-use Rattle.std.proofs.Common.{◌≡◌}
+use Rattle.dwp_strings.proofs.Terms.{◌≡◌}
 use Rattle.dwp_strings.proofs.PlacesLemmas.{ArePassed}
 use Rattle.dwp_strings.proofs.places.put_over.Given as goal
 

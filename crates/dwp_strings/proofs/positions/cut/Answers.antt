@@ -1,10 +1,10 @@
-use Rattle.std.proofs.Common.{◌≡◌, ◌<◌, ◌+◌, ◌/◌, length, get_or, [], ap, arith}
-use Rattle.std.proofs.lemmas.List.{get_or_read}
-use Rattle.dwp_strings.specs.Chunks.{pieces, IsHalved}
+use Rattle.dwp_strings.proofs.Terms
+use Terms.{◌+◌, ◌/◌, ◌<◌, [], add-one, ap, arith, get_or, get_or_read, length, pieces, ◌≡◌}
+use Rattle.dwp_strings.specs.Chunks.{IsHalved}
 use Rattle.dwp_strings.proofs.ChunkLemmas.{start_within, halves_same, halves_begun, halves_short}
 use Rattle.dwp_strings.proofs.PieceLemmas.{counts, length-pieces, piece_read, piece_halved}
-use Rattle.dwp_strings.proofs.positions.cut.Goals as goal
 use Rattle.dwp_strings.proofs.positions.cut.Goals.{After-index}
+use Rattle.dwp_strings.proofs.positions.cut.Goals as goal
 
 there : (c : goal.After-index) → c.args.at < length (pieces c.args.chunks.now.items)
 there c = omega (arith, length-pieces c.args.chunks.now)
@@ -52,9 +52,16 @@ returns c =
     let there = there after in
     let halved = halved after in
     record {
-      begun = halves_begun _ _ c.args.at there halved c.args.starts.now.items _ c.requires.begun
-          (rw (← start after, ← c.reserve-2.ensures.items) (rw c.unwrap-2.ensures at
-          c.insert-2.ensures.items));
+      begun = grind (
+        arith,
+        halves_begun _ _ c.args.at there halved,
+        c.requires.begun,
+        add-one c.args.at,
+        start after,
+        c.reserve-2.ensures.items,
+        c.unwrap-2.ensures,
+        c.insert-2.ensures.items,
+      );
       same = halves_same _ _ c.args.at there halved;
       short = halves_short _ _ c.args.at there halved c.requires.short;
       halved = halved;

@@ -1,4 +1,4 @@
-use Rattle.std.proofs.Common.{rules, filter, nat_lt, arith}
+use Rattle.dwp_strings.proofs.Terms.{arith, filter, nat_lt, rules}
 use Rattle.std.proofs.lemmas.Fn.{filter_same}
 use Rattle.dwp_strings.proofs.PieceLemmas.{piece_changed}
 use Rattle.dwp_strings.proofs.positions.keep.Goals as goal

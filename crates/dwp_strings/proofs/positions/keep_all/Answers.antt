@@ -1,35 +1,24 @@
-use Rattle.std.proofs.Common.{◌+◌, nat_lt, length, ap, arith}
-use Rattle.dwp_strings.specs.Chunks.{pieces}
-use Rattle.dwp_strings.proofs.ChunkLemmas.{kept_within, kept_long, kept_there, kept_more}
-use Rattle.dwp_strings.proofs.ChunkLemmas.{kept_all, chunked_all, short_filter}
+use Rattle.std.proofs.Common.{length-set}
+use Rattle.dwp_strings.proofs.Terms.{◌+◌, ◌<◌, ap, arith, length, nat_lt, pieces}
+use Rattle.dwp_strings.proofs.ChunkLemmas.{kept_within, kept_more, kept_all, chunked_all}
+use Rattle.dwp_strings.proofs.ChunkLemmas.{short_filter}
 use Rattle.dwp_strings.proofs.PieceLemmas.{length-pieces, piece_read}
 use Rattle.dwp_strings.proofs.positions.keep_all.Goals as goal
 
 pub keep-requires : goal.keep-requires
-keep-requires c = omega (
-  arith,
-  c.loop-at.invariant.long,
-  kept_long _ _ _ _ _ _ c.loop-at.invariant,
-  length-pieces c.loop-at.chunks,
-)
+keep-requires c = grind (arith, length-pieces, c.loop-at.invariant.long)
 
 pub index-requires : goal.index-requires
-index-requires c = omega (
-  arith,
-  kept_there _ _ _ _ _ _ c.loop-at.invariant _ _ (omega arith) c.keep.ensures,
-  length-pieces c.keep.new.chunks,
-)
+index-requires c =
+    grind (arith, length-pieces, length-set, c.loop-at.invariant.long, c.keep.ensures)
 
 pub loop-at-preserved : goal.loop-at-preserved
 loop-at-preserved c =
-    let there = kept_there _ _ _ _ _ _ c.loop-at.invariant _ _ (omega arith) c.keep.ensures in
-    kept_more _ _ _ _ _ _ c.loop-at.invariant _ _ (omega arith) c.keep.ensures (omega (
-      arith,
-      ap length (piece_read c.keep.new.chunks.items c.loop-at.at c.index.result.now
-          (omega (arith, there, length-pieces c.keep.new.chunks, c.keep.new.chunks.ok.0))
-          c.index.ensures),
-      c.index.result.now.ok.0,
-    ))
+    let there : c.loop-at.at < length c.keep.new.chunks.items =
+    grind (arith, length-pieces, length-set, c.loop-at.invariant.long, c.keep.ensures) in
+    let piece = piece_read _ _ c.index.result.now there c.index.ensures in
+    kept_more _ _ _ _ _ _ c.loop-at.invariant _ _ (omega arith) c.keep.ensures
+    (omega (arith, ap length piece, c.index.result.now.ok.0))
 
 pub overflow_add-total : goal.overflow_add-total
 overflow_add-total c = omega (

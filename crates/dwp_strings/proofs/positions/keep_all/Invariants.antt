@@ -1,5 +1,4 @@
-use Rattle.std.proofs.Common.{filter, nat_lt}
-use Rattle.dwp_strings.specs.Chunks.{pieces}
+use Rattle.dwp_strings.proofs.Terms.{filter, nat_lt, pieces}
 use Rattle.dwp_strings.proofs.ChunkLemmas.{IsKept}
 use Rattle.dwp_strings.proofs.positions.keep_all.Given as goal
 

@@ -1,4 +1,4 @@
-use Rattle.std.proofs.Common.{insert, arith}
+use Rattle.dwp_strings.proofs.Terms.{arith, insert}
 use Rattle.std.proofs.lemmas.Result.{err_from_is_err_and}
 use Rattle.dwp_strings.proofs.PieceLemmas.{piece_changed, piece_unchanged}
 use Rattle.dwp_strings.proofs.positions.put.Goals as goal

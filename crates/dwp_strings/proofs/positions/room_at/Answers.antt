@@ -1,18 +1,12 @@
-use Rattle.std.proofs.Common.{◌<◌, ◌∙◌, length, arith, rules}
-use Rattle.std.proofs.lemmas.List.{get_or_read}
-use Rattle.dwp_strings.specs.Chunks.{pieces}
+use Rattle.dwp_strings.proofs.Terms.{◌<◌, arith, get_or_read, length, pieces, rules, ◌∙◌}
 use Rattle.dwp_strings.proofs.ChunkLemmas.{first_start, IsInHalf, halves_room, in_half}
 use Rattle.dwp_strings.proofs.PieceLemmas.{counts}
-use Rattle.dwp_strings.proofs.positions.room_at.Goals as goal
 use Rattle.dwp_strings.proofs.positions.room_at.Goals.{In_ok-cut}
+use Rattle.dwp_strings.proofs.positions.room_at.Goals as goal
 
 pub chunk_of-at-requires-clause-first : goal.chunk_of-at-requires-clause-first
-chunk_of-at-requires-clause-first c = omega (
-  arith,
-  (first_start c.deref.result.now
-      (pieces c.args.chunks.now.items) (c.deref.ensures.value ∙ c.requires.begun)
-      (grind (arith, counts))).1,
-)
+chunk_of-at-requires-clause-first c =
+    rw (c.deref.ensures.value, c.requires.begun, first_start) (omega arith)
 
 there : (c : goal.In_ok-cut) → c.chunk_of-at.result < length (pieces c.args.chunks.now.items)
 there c = grind (arith, counts)

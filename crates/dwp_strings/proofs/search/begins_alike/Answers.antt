@@ -1,9 +1,8 @@
-use Rattle.std.proofs.Common.{◌∙◌, drop, sym, arith}
-use Rattle.std.proofs.lemmas.Bool.{eqb-true}
-use Rattle.std.proofs.lemmas.List.{get_or-drop, length-drop, take_rest}
+use Rattle.std.proofs.Common.{eqb-true, length-drop}
+use Rattle.dwp_strings.proofs.Terms.{arith, drop, get_or-drop, sym, take_rest, ◌∙◌}
 use Rattle.dwp_strings.proofs.EndLemmas.{alike_front}
-use Rattle.dwp_strings.proofs.search.begins_alike.Goals as goal
 use Rattle.dwp_strings.proofs.search.begins_alike.Goals.{then-at-eq0, else-at-eq0}
+use Rattle.dwp_strings.proofs.search.begins_alike.Goals as goal
 
 pub returns-then-bytes-at-eq0 : goal.returns-then-bytes-at-eq0
 returns-then-bytes-at-eq0 c = λ is.

@@ -1,4 +1,4 @@
-use Rattle.std.proofs.Common.{◌+◌, ◌-◌, refl, arith}
+use Rattle.dwp_strings.proofs.Terms.{◌+◌, ◌-◌, arith, refl}
 use Rattle.dwp_strings.proofs.LaneLemmas.{range_more, same_fronts}
 use Rattle.dwp_strings.proofs.search.begins_same.Goals as goal
 

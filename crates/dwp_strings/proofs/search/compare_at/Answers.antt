@@ -1,4 +1,4 @@
-use Rattle.std.proofs.Common.{◌∙◌, sym, arith}
+use Rattle.dwp_strings.proofs.Terms.{arith, sym, ◌∙◌}
 use Rattle.dwp_strings.proofs.CompareLemmas.{compared_at, compared_short, first_decides}
 use Rattle.dwp_strings.proofs.search.compare_at.Goals as goal
 

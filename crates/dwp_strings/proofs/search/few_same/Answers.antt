@@ -1,5 +1,4 @@
-use Rattle.std.proofs.Common.{◌≡◌, ◌+◌, arith}
-use Rattle.std.proofs.lemmas.Bool.{leb-true}
+use Rattle.dwp_strings.proofs.Terms.{◌+◌, arith, leb-true, ◌≡◌}
 use Rattle.dwp_strings.proofs.LaneLemmas.{lanes_same_before, same_fronts}
 use Rattle.dwp_strings.proofs.search.few_same.Goals as goal
 

@@ -1,8 +1,6 @@
-use Rattle.std.proofs.Common.{◌∙◌, nat_eq, ap, sym}
-use Rattle.std.specs.Cmp.{Equal-is}
-use Rattle.std.proofs.lemmas.Bool.{eqb-true}
-use Rattle.std.proofs.lemmas.Cmp.{nat_list_cmp_total, tied_itself}
-use Rattle.std.proofs.lemmas.Map.Lookups.{exact_bytes}
+use Rattle.std.proofs.Common.{eqb-true}
+use Rattle.dwp_strings.proofs.Terms
+use Terms.{ap, Equal-is, exact_bytes, nat_eq, nat_list_cmp_total, sym, tied_itself, ◌∙◌}
 use Rattle.dwp_strings.proofs.CompareLemmas.{alike_at}
 use Rattle.dwp_strings.proofs.search.is_at.Goals as goal
 

@@ -1,5 +1,4 @@
-use Rattle.std.proofs.Common.{◌<◌, length, ◌^◌, ◌∙◌, sym, arith}
-use Rattle.std.proofs.lemmas.Map.Lookups.{exact_bytes}
+use Rattle.dwp_strings.proofs.Terms.{◌<◌, ◌^◌, arith, exact_bytes, length, sym, ◌∙◌}
 use Rattle.dwp_strings.proofs.CompareLemmas.{halved_more, before_more, behind_more}
 use Rattle.dwp_strings.proofs.TableLemmas.{positions_within, known_position}
 use Rattle.dwp_strings.proofs.search.search.Goals as goal

@@ -1,6 +1,4 @@
-use Rattle.std.proofs.Common.{ℕ, ◌<◌, ◌≤◌, ◌-◌, length, slice_index}
-use Rattle.dwp_bytes.specs.StringOffsets.{string_from}
-use Rattle.dwp_strings.specs.Strings.{IsBefore}
+use Rattle.dwp_strings.proofs.Terms.{◌-◌, ◌<◌, IsBefore, length, slice_index, string_from, ℕ, ◌≤◌}
 use Rattle.dwp_strings.proofs.CompareLemmas.{IsHalved}
 use Rattle.dwp_strings.proofs.search.search.Given as goal
 

@@ -1,5 +1,4 @@
-use Rattle.std.proofs.Common.{ap, sym, ◌∙◌, ◌+◌, ◌-◌}
-use Rattle.std.specs.Prelude.{bit_and}
+use Rattle.std.proofs.Common.{ap, sym, ◌∙◌, ◌+◌, ◌-◌, bit_and}
 use Rattle.dwp_table.specs.Probing.{step}
 use Rattle.dwp_table.proofs.Places.{place-next}
 use Rattle.dwp_table.proofs.row.place_after.Goals as goal

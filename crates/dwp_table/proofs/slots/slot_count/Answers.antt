@@ -1,7 +1,5 @@
-use Rattle.std.proofs.Common.{suc, inr, sym, subst, arith}
-use Rattle.std.specs.Prelude.{IsTrue}
+use Rattle.std.proofs.Common.{suc, inr, sym, subst, arith, IsTrue, pow-suc}
 use Rattle.std.specs.Int.{is_power_of_two}
-use Rattle.std.proofs.Math.Nat.{pow-suc}
 use Rattle.dwp_table.proofs.Numbers.{has_slots, is_power}
 use Rattle.dwp_table.proofs.slots.slot_count.Goals as goal
 

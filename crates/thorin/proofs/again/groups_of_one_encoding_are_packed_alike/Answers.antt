@@ -1,9 +1,5 @@
-use Rattle.std.proofs.Common.{[], ◌∷◌}
-use Rattle.std.proofs.lemmas.List.Elements.{All-head, All-tail}
+use Rattle.thorin.proofs.Terms.{[], All-head, All-tail, HasCommonEncoding, start, units_in, ◌∷◌}
 use Rattle.thorin_again.specs.Again.{HaveEncodingOf}
-use Rattle.thorin_join.specs.Builder.{start}
-use Rattle.thorin_join.specs.Represents.{units_in}
-use Rattle.thorin.specs.Again.{HasCommonEncoding}
 use Rattle.thorin.proofs.Running.{each-taken, as-written}
 use Rattle.thorin.proofs.again.groups_of_one_encoding_are_packed_alike.Goals as goal
 

@@ -1,4 +1,4 @@
-use Rattle.thorin_join.specs.Builder.{start}
+use Rattle.thorin.proofs.Terms.{start}
 use Rattle.thorin.proofs.Running.{each-taken}
 use Rattle.thorin.proofs.TakenAgain.{groups-left}
 use Rattle.thorin.proofs.again.packages_of_groups_are_taken_again.Goals as goal

@@ -1,7 +1,4 @@
-use Rattle.thorin_join.specs.Builder.{start}
-use Rattle.thorin_again.specs.OneEncoding.{AnswersAs}
-use Rattle.thorin_join.specs.Represents.{units_in}
-use Rattle.thorin.specs.Again.{IsTakenAgain}
+use Rattle.thorin.proofs.Terms.{AnswersAs, IsTakenAgain, start, units_in}
 use Rattle.thorin.proofs.Running.{run-accepts}
 use Rattle.thorin.proofs.TakenAgain.{if-written}
 use Rattle.thorin.proofs.again.packed_files_are_taken_again.Goals as goal

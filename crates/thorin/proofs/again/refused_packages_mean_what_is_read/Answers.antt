@@ -1,8 +1,5 @@
-use Rattle.std.proofs.Common.{sym, subst, ◌≡◌, Ok}
+use Rattle.thorin.proofs.Terms.{IsPackageOf, Ok, start, subst, sym, taken, units_in, ◌≡◌}
 use Rattle.thorin_again.specs.Again.{HaveEncodingOf, MeansWhereTaken}
-use Rattle.thorin_join.specs.Builder.{start, taken}
-use Rattle.thorin_join.specs.Join.{IsPackageOf}
-use Rattle.thorin_join.specs.Represents.{units_in}
 use Rattle.thorin.proofs.GroupMeaning.{sound-taken}
 use Rattle.thorin.proofs.Running.{begun-then, read-text, as-written}
 use Rattle.thorin.proofs.TakenAgain.{plain-encoding}

@@ -1,5 +1,4 @@
-use Rattle.thorin_again.specs.OneEncoding.{AnswersAs}
-use Rattle.thorin_join.specs.Represents.{units_in}
+use Rattle.thorin.proofs.Terms.{AnswersAs, units_in}
 use Rattle.thorin.proofs.Running.{read-text, as-written}
 use Rattle.thorin.proofs.again.written_packages_are_taken_again.Goals as goal
 

@@ -1,13 +1,7 @@
-use Rattle.std.proofs.Common.{◌≡◌, ◌∙◌, ℕ, ◌+◌, List, [], ◌∷◌, ◌++◌, take, drop, get_or, Ok, Bor}
-use Rattle.std.proofs.Common.{Err, IfOk, inl, inr, subst, sym, ap, refl, take_all}
-use Rattle.std.proofs.lemmas.List.{map_more}
-use Rattle.std.proofs.lemmas.Result.{err_from_is_err_and}
-use Rattle.dwp_base.proofs.Steps.{bind-ok, bind-err}
-use Rattle.thorin_join.specs.Builder.{start, taken}
-use Rattle.thorin_join.specs.Join.{JoinAll, IsPackageOf}
-use Rattle.thorin_join.specs.Represents.{units_in}
-use Rattle.thorin.specs.Groups.{taken_each, bytes_in, PacksAlone}
-use Rattle.thorin.specs.Run.{Writes}
+use Rattle.thorin.proofs.Terms
+use Terms.{◌+◌, ◌++◌, [], ap, bind-err, bind-ok, Bor, bytes_in, drop, Err, err_from_is_err_and}
+use Terms.{get_or, IfOk, inl, inr, IsPackageOf, JoinAll, List, map_more, Ok, PacksAlone, refl}
+use Terms.{start, subst, sym, take, take_all, taken, taken_each, units_in, Writes, ℕ, ◌∙◌, ◌∷◌, ◌≡◌}
 use Rattle.thorin.proofs.Running.{join-append, taken-then, mapped-around}
 use Rattle.thorin.proofs.groups.pack_alone.Goals as goal
 

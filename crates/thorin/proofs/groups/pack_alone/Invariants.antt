@@ -1,8 +1,4 @@
-use Rattle.std.proofs.Common.{◌≡◌, [], take, Ok}
-use Rattle.thorin_join.specs.Builder.{start}
-use Rattle.thorin_join.specs.Join.{JoinAll}
-use Rattle.thorin_join.specs.Represents.{units_in}
-use Rattle.thorin.specs.Groups.{taken_each, bytes_in}
+use Rattle.thorin.proofs.Terms.{[], bytes_in, JoinAll, Ok, start, take, taken_each, units_in, ◌≡◌}
 use Rattle.thorin.proofs.groups.pack_alone.Given as goal
 
 -- the inputs so far were taken, and their units joined

@@ -1,8 +1,7 @@
-use Rattle.std.proofs.Common.{◌≡◌, ℕ, ◌+◌, List, [], ◌∷◌, ◌++◌, take, drop, get_or, Bor, inl}
-use Rattle.std.proofs.Common.{Ok, Err, inr, subst₂, sym, rules, take_all}
-use Rattle.std.proofs.lemmas.List.{map-append, map_more}
-use Rattle.std.proofs.lemmas.Result.{err_from_is_err_and}
-use Rattle.thorin.specs.Groups.{PacksAlone, PacksInGroups, bytes_in, groups_in, ArePackedAlone}
+use Rattle.thorin.proofs.Terms
+use Terms.{◌+◌, ◌++◌, [], ArePackedAlone, Bor, bytes_in, drop, Err, err_from_is_err_and, get_or}
+use Terms.{groups_in, inl, inr, List, map-append, map_more, Ok, PacksAlone, PacksInGroups, rules}
+use Terms.{subst₂, sym, take, take_all, ℕ, ◌∷◌, ◌≡◌}
 use Rattle.thorin.proofs.Running.{mapped-around, packed-more, if-ok}
 use Rattle.thorin.proofs.groups.pack_groups.Goals as goal
 

@@ -1,5 +1,4 @@
-use Rattle.std.proofs.Common.{take}
-use Rattle.thorin.specs.Groups.{ArePackedAlone, bytes_in, groups_in}
+use Rattle.thorin.proofs.Terms.{ArePackedAlone, bytes_in, groups_in, take}
 use Rattle.thorin.proofs.groups.pack_groups.Given as goal
 
 -- the groups so far were packed

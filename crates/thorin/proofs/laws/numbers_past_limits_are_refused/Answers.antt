@@ -1,10 +1,10 @@
-use Rattle.std.proofs.Common.{◌≡◌, ◌*◌, ◌^◌, true, false, ltb, [], ◌∷◌, length, arith, refl}
-use Rattle.std.proofs.Common.{lt-ltb, le-ltb}
-use Rattle.dwp_elf_read.specs.declared.error.WriteError.TheVariants as written
+use Rattle.thorin.proofs.Terms
+use Terms.{◌*◌, [], ◌^◌, arith, false, le-ltb, length, lt-ltb, ltb, refl, true, ◌∷◌, ◌≡◌}
 use Rattle.dwp_elf.specs.Numbers.{Fits}
 use Rattle.thorin_index.specs.EntryTests.{tests_under}
 use Rattle.thorin_strings.specs.StringOffsets.{offset_limit, fitting_offset, remapped_entry}
-use Rattle.thorin_strings.specs.Strings.{offset_of}
+use Rattle.dwp_strings.specs.Strings.{offset_of}
+use Rattle.dwp_elf_read.specs.declared.error.WriteError.TheVariants as written
 use Rattle.thorin.proofs.laws.numbers_past_limits_are_refused.Goals as goal
 
 pub returns-clause-elf_32_file : goal.returns-clause-elf_32_file

@@ -1,9 +1,7 @@
-use Rattle.std.proofs.Common.{◌≡◌, subst, rules, ◌++◌, ◌∷◌, [], take, get_or, take_all}
-use Rattle.thorin_join.specs.Builder.{start}
-use Rattle.thorin.specs.declared.packing.Input.{Input}
+use Rattle.thorin.proofs.Terms
+use Terms.{◌++◌, [], get_or, Input, Ran, rules, start, subst, take, take_all, take_more, Took, ◌∷◌}
+use Terms.{◌≡◌}
 use Rattle.thorin.specs.declared.packing.Input.TheVariants.{Object}
-use Rattle.std.proofs.lemmas.List.{take_more}
-use Rattle.thorin.specs.Run.{Ran, Took}
 use Rattle.thorin.proofs.Running.{ran-next, run-accepts}
 use Rattle.thorin.proofs.packing.pack.Goals as goal
 

@@ -1,6 +1,4 @@
-use Rattle.std.proofs.Common.{ℕ, List, take}
-use Rattle.thorin_join.specs.Builder.{start}
-use Rattle.thorin.specs.Run.{Ran}
+use Rattle.thorin.proofs.Terms.{List, Ran, start, take, ℕ}
 use Rattle.thorin.proofs.packing.pack.Given as goal
 
 -- the inputs so far ran

@@ -1,5 +1,4 @@
-use Rattle.std.proofs.Common.{inr, refl}
-use Rattle.thorin_again.specs.OwnRefusals.{IsForeseen}
+use Rattle.thorin_again.proofs.Terms.{inr, refl, IsForeseen}
 use Rattle.thorin_again.proofs.Opened.Indexes.{own-plain, read-of}
 use Rattle.thorin_again.proofs.Accepted.OwnUnits.{taken-all}
 use Rattle.thorin_again.proofs.plain.own_units_are_taken.Goals as goal

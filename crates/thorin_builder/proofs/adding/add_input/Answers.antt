@@ -1,5 +1,4 @@
-use Rattle.std.proofs.Common.{◌∙◌, ap, not, inl, inr}
-use Rattle.thorin_builder.specs.StateView.{begun_of}
+use Rattle.thorin_builder.proofs.Terms.{ap, begun_of, inl, inr, not, ◌∙◌}
 use Rattle.thorin_builder.proofs.AddedAgain.{begun-extends}
 use Rattle.thorin_builder.proofs.adding.add_input.Goals.{then-is_none+in-Some-1}
 use Rattle.thorin_builder.proofs.adding.add_input.Goals.{then-is_none+in-None-1, else-is_none}

@@ -1,6 +1,4 @@
-use Rattle.std.proofs.Common.{◌≡◌, rules, inl, inr}
-use Rattle.std.specs.Prelude.{string_bytes}
-use Rattle.thorin_builder.specs.Repeated.{Remembers}
+use Rattle.thorin_builder.proofs.Terms.{inl, inr, Remembers, rules, string_bytes, ◌≡◌}
 use Rattle.thorin_builder.proofs.Extending.{either_way}
 use Rattle.thorin_builder.proofs.executables.remember.Goals as goal
 

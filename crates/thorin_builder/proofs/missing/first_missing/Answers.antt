@@ -1,8 +1,7 @@
-use Rattle.std.proofs.Common.{◌≡◌, ◌∙◌, ℕ, ◌+◌, Bool, true, false, cond, List, ◌∷◌, drop}
-use Rattle.std.proofs.Common.{Some, ap, not, sym, refl, rules, arith}
-use Rattle.thorin_builder.proofs.Terms.{filter, slice_get, is_missing}
-use Rattle.std.proofs.lemmas.List.{at_drop_more}
-use Rattle.std.proofs.lemmas.Option.{get_or_from_slice_get, slice_get_within}
+use Rattle.thorin_builder.proofs.Terms
+use Terms.{◌+◌, ap, arith, at_drop_more, Bool, cond, drop, false, filter, get_or_from_slice_get}
+use Terms.{is_missing, List, not, refl, rules, slice_get_within, Some, sym, true, ℕ, ◌∙◌, ◌∷◌, ◌≡◌}
+use Rattle.std.specs.Prelude.{slice_get}
 use Rattle.dwp_base.proofs.Finds.{slice_get_none}
 use Rattle.thorin_builder.proofs.NewUnitLemmas.{missing-is}
 use Rattle.thorin_builder.proofs.missing.first_missing.Goals.{in-Some+else-not-contains, in_default}

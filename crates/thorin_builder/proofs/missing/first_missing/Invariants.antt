@@ -1,5 +1,4 @@
-use Rattle.std.proofs.Common.{◌≡◌, drop}
-use Rattle.thorin_builder.proofs.Terms.{filter, is_missing}
+use Rattle.thorin_builder.proofs.Terms.{drop, filter, is_missing, ◌≡◌}
 use Rattle.thorin_builder.proofs.missing.first_missing.Given as goal
 
 -- those that were passed over are contained

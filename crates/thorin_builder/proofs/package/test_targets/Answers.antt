@@ -1,5 +1,4 @@
-use Rattle.std.proofs.Common.{◌∙◌, ap, not}
-use Rattle.thorin_join.specs.Builder.{targets_test}
+use Rattle.thorin_builder.proofs.Terms.{ap, not, targets_test, ◌∙◌}
 use Rattle.thorin_builder.proofs.NewUnitLemmas.{missing-is}
 use Rattle.thorin_builder.proofs.package.test_targets.Goals as goal
 

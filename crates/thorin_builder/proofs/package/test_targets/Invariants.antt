@@ -1,6 +1,4 @@
-use Rattle.std.proofs.Common.{◌≡◌}
-use Rattle.std.specs.Prelude.{find}
-use Rattle.thorin_join.specs.Builder.{is_missing}
+use Rattle.thorin_builder.proofs.Terms.{find, is_missing, ◌≡◌}
 use Rattle.thorin_builder.proofs.package.test_targets.Given as goal
 
 -- the first that is missing among those that are left is the first of all

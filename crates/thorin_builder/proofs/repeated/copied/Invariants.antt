@@ -1,5 +1,4 @@
-use Rattle.std.proofs.Common.{◌≡◌, ◌++◌, map, drop}
-use Rattle.thorin_input.specs.View.{part}
+use Rattle.thorin_builder.proofs.Terms.{◌++◌, drop, map, part, ◌≡◌}
 use Rattle.thorin_builder.proofs.repeated.copied.Given as goal
 
 -- the parts so far, and those that are left, are all

@@ -1,7 +1,4 @@
-use Rattle.std.proofs.Common.{◌≡◌, map, drop}
-use Rattle.dwp_elf.specs.FileText.{Object}
-use Rattle.thorin_input.specs.Growing.{IsGrown, with_parts}
-use Rattle.thorin_input.specs.View.{part}
+use Rattle.thorin_builder.proofs.Terms.{drop, IsGrown, map, Object, part, with_parts, ◌≡◌}
 use Rattle.thorin_builder.proofs.repeated.put_each.Given as goal
 
 -- the parts that are left, added to what there is, give what all give; and nothing was lost

@@ -1,5 +1,4 @@
-use Rattle.std.proofs.Common.{◌≡◌, drop}
-use Rattle.thorin_join.specs.Builder.{rows_of, IdentifiersFit}
+use Rattle.thorin_builder.proofs.Terms.{drop, IdentifiersFit, rows_of, ◌≡◌}
 use Rattle.thorin_builder.proofs.state.are_all.Given as goal
 
 -- all are chosen where those that are left are; all identifiers have 64 bits where those have

@@ -1,5 +1,4 @@
-use Rattle.std.proofs.Common.{◌≡◌, ◌++◌, drop}
-use Rattle.thorin_join.specs.Builder.{rows_of, IdentifiersFit}
+use Rattle.thorin_builder.proofs.Terms.{◌++◌, drop, IdentifiersFit, rows_of, ◌≡◌}
 use Rattle.thorin_builder.proofs.state.rows_of.Given as goal
 
 -- those chosen so far, and those chosen of the rows that are left, are those of all; all

@@ -1,5 +1,4 @@
-use Rattle.std.proofs.Common.{◌≡◌, length}
-use Rattle.std.specs.Prelude.{string_bytes}
+use Rattle.std.proofs.Common.{◌≡◌, length, string_bytes}
 use Rattle.dwp_dwarf.specs.Sections.{strings_of}
 use Rattle.dwp_dwarf.specs.Units.{units_left}
 use Rattle.thorin_executable.specs.Places.{IsKept}

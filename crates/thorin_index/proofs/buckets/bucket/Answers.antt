@@ -1,5 +1,4 @@
-use Rattle.std.proofs.Common.{◌≡◌}
-use Rattle.std.specs.Prelude.{replicate}
+use Rattle.thorin_index.proofs.Terms.{replicate, ◌≡◌}
 use Rattle.thorin_index.proofs.buckets.bucket.Goals as goal
 
 pub place_units-requires-clause-unused : goal.place_units-requires-clause-unused

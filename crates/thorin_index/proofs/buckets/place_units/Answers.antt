@@ -1,5 +1,6 @@
-use Rattle.std.proofs.Common.{◌≡◌, ◌∙◌, ◌+◌, ◌++◌, ◌∷◌, [], arith, length, map, refl, take}
-use Rattle.std.proofs.lemmas.List.{length-map, length-take-le, map_more}
+use Rattle.thorin_index.proofs.Terms
+use Terms.{◌+◌, ◌++◌, [], arith, length, length-map, length-take-le, map, map_more, refl, take, ◌∙◌}
+use Terms.{◌∷◌, ◌≡◌}
 use Rattle.thorin_index.proofs.Looks.{looked_more, none_looked}
 use Rattle.thorin_index.proofs.buckets.place_units.Goals as goal
 

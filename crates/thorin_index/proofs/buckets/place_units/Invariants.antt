@@ -1,6 +1,4 @@
-use Rattle.std.proofs.Common.{map, take}
-use Rattle.dwp_table.specs.Table.{IsHashTable}
-use Rattle.thorin_index.specs.Buckets.{IsLooked}
+use Rattle.thorin_index.proofs.Terms.{IsHashTable, IsLooked, map, take}
 use Rattle.thorin_index.proofs.buckets.place_units.Given as goal
 
 -- the units so far stand in the table

@@ -1,5 +1,4 @@
-use Rattle.std.proofs.Common.{◌≡◌, drop}
-use Rattle.thorin_index.specs.EntryTests.{each, encoding_test}
+use Rattle.thorin_index.proofs.Terms.{drop, each, encoding_test, ◌≡◌}
 use Rattle.thorin_index.proofs.entry_tests.test_encodings.Given as goal
 
 -- what is left has the first error of all

@@ -1,7 +1,5 @@
-use Rattle.std.specs.Prelude.{codes}
-use Rattle.std.proofs.Common.{refl}
+use Rattle.thorin_index.proofs.Terms.{codes, offset_or_0, refl, size_or_0}
 use Rattle.std.proofs.lemmas.Result.{on_ok_weaker}
-use Rattle.thorin_index.specs.Entries.{offset_or_0, size_or_0}
 use Rattle.thorin_index.proofs.Each.{rows_fit}
 use Rattle.thorin_index.proofs.entry_tests.test_entries.Goals as goal
 

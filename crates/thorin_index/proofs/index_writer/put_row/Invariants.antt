@@ -1,7 +1,5 @@
-use Rattle.std.proofs.Common.{◌≡◌, ◌++◌, take, get_or}
-use Rattle.thorin_index.specs.IndexText.{row_numbers, numbers_bytes}
-use Rattle.thorin_index.specs.Measures.{measure_of}
-use Rattle.thorin_index.specs.Rows.{blank}
+use Rattle.thorin_index.proofs.Terms
+use Terms.{◌++◌, blank, get_or, measure_of, numbers_bytes, row_numbers, take, ◌≡◌}
 use Rattle.thorin_index.proofs.index_writer.put_row.Given as goal
 
 abbrev pub invariant-loop-kind : goal.invariant-loop-kind

@@ -1,6 +1,4 @@
-use Rattle.std.proofs.Common.{◌≡◌, ◌++◌, take}
-use Rattle.thorin_index.specs.IndexText.{rows_bytes}
-use Rattle.thorin_index.specs.Measures.{measure_of}
+use Rattle.thorin_index.proofs.Terms.{◌++◌, measure_of, rows_bytes, take, ◌≡◌}
 use Rattle.thorin_index.proofs.index_writer.put_rows.Given as goal
 
 abbrev pub invariant-loop-place : goal.invariant-loop-place

@@ -1,23 +1,17 @@
-use Rattle.std.proofs.Common.{◌≡◌, ◌∙◌, ℕ, zero, suc, ◌-◌, ◌<◌, ◌≤◌, List, length, get_or, arith}
-use Rattle.std.proofs.Common.{ap, refl}
-use Rattle.std.proofs.lemmas.List.{get_or-map}
-use Rattle.dwp_table.specs.Objects.{identifier_of}
-use Rattle.dwp_table.specs.Table.{signature_of}
-use Rattle.thorin_index.specs.declared.entry.IndexEntry.{IndexEntry}
-use Rattle.thorin_index.specs.IndexText.{entry_ids}
-use Rattle.thorin_index.specs.Rows.{blank}
+use Rattle.thorin_index.proofs.Terms
+use Terms.{◌-◌, ◌<◌, ap, arith, blank, entry_ids, get_or, get_or-map, identifier_of, IndexEntry}
+use Terms.{length, List, refl, signature_of, suc, ℕ, ◌∙◌, ◌≡◌}
 use Rattle.thorin_index.proofs.index_writer.signature.Goals as goal
 
-signature_at : (entries : List IndexEntry) (row : ℕ) (d : IndexEntry) → 0 < row
-    → row ≤ length entries
-    → identifier_of (get_or entries (row - 1) d).id ≡ signature_of (entry_ids entries) row
-signature_at entries zero d h le = absurd (omega arith)
-signature_at entries (suc r) d h le =
-    let same : suc r - 1 ≡ r = omega arith in
-    rw (same, get_or-map (λ (x : IndexEntry). identifier_of x.id) entries r d 0 (omega arith)) refl
+signature_at : (entries : List IndexEntry) (r row : ℕ) (d : IndexEntry) → row ≡ suc r
+    → r < length entries
+    → identifier_of (get_or entries r d).id ≡ signature_of (entry_ids entries) row
+signature_at entries r row d is within =
+    rw (is, get_or-map (λ (x : IndexEntry). identifier_of x.id) entries r d 0 within) refl
 
 pub returns-else-row-eq0 : goal.returns-else-row-eq0
 returns-else-row-eq0 c =
     c.index.ensures
     ∙ ap identifier_of c.unit.ensures
-    ∙ signature_at c.args.rows.now c.args.row blank (omega arith) c.requires
+    ∙ signature_at c.args.rows.now (c.args.row - 1) c.args.row blank (omega arith)
+    (omega (arith, c.requires))

@@ -1,4 +1,4 @@
-use Rattle.std.proofs.Common.{◌∙◌, refl, sym, arith}
+use Rattle.thorin_index.proofs.Terms.{arith, refl, sym, ◌∙◌}
 use Rattle.thorin_index.proofs.RowLemmas.{one_more, same_entries}
 use Rattle.thorin_index.proofs.rows.same_entry.Goals as goal
 

@@ -1,5 +1,5 @@
-use Rattle.std.proofs.Common.{◌∷◌, [], ◌++◌, ◌∙◌, ◌-◌, Some, ap, arith, refl, sym}
-use Rattle.std.proofs.lemmas.List.{get_or_push, length_push}
+use Rattle.thorin_index.proofs.Terms
+use Terms.{◌++◌, ◌-◌, [], ap, arith, get_or_push, length_push, refl, Some, sym, ◌∙◌, ◌∷◌}
 use Rattle.std.proofs.lemmas.Option.{slice_get-get_or, slice_get_read}
 use Rattle.thorin_index.proofs.rows.share.Goals as goal
 

@@ -14,13 +14,10 @@ loop-part-preserved c =
     let steps : into_iter_items at.part-iterator ≡ p ∷ left = c.in-Some.ensures.steps.0 in
     let put : c.put_part.new.file ≡ record at.file {
       contents = with_bytes p.kind (part p).1 at.file.contents;
-    } = search (rules, c.in_ok-put_part.ensures.contents) in
-    let was = at.invariant.2 in
-    let gone = c.in-Some.ensures.steps.1 in
-    let short = ap length steps in (
+    } = search (rules, c.in_ok-put_part.ensures.contents) in (
       rw put (rw steps at at.invariant.0),
       λ before grown. c.put_part.ensures.grown before (at.invariant.1 before grown),
-      omega arith,
+      omega (arith, c.in-Some.ensures.steps.1, ap length steps),
     )
 
 pub returns-clause-contents : goal.returns-clause-contents

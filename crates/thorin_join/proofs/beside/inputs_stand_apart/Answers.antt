@@ -1,4 +1,4 @@
-use Rattle.std.proofs.Common.{Some}
+use Rattle.thorin_join.proofs.Terms.{Some}
 use Rattle.thorin_join.proofs.Rows.StandApart.{stand-apart}
 use Rattle.thorin_join.proofs.beside.inputs_stand_apart.Goals as goal
 

@@ -1,5 +1,4 @@
-use Rattle.std.proofs.Common.{map, sym, ap, arith, ◌<◌, length, ◌∙◌}
-use Rattle.std.specs.Option.{option_copied}
+use Rattle.std.proofs.Common.{map, sym, ap, arith, ◌<◌, length, ◌∙◌, option_copied}
 use Rattle.thorin_packaged.specs.RangeKeys.{range_at}
 use Rattle.thorin_packaged.specs.PackagedOffsets.{with_rows}
 use Rattle.thorin_packaged.proofs.RowSteps.{row_stored, row_absent, rows_none}

@@ -1,7 +1,7 @@
 use Rattle.std.proofs.Common.{arith}
 use Rattle.std.proofs.lemmas.List.{take_rest}
 use Rattle.dwp_strings.proofs.EndLemmas.{ended_free}
-use Rattle.thorin_strings.proofs.ReadLemmas.{ended_read}
+use Rattle.thorin_strings.proofs.KnownLemmas.{ended_read}
 use Rattle.thorin_strings.proofs.known.known_string.Goals as goal
 
 pub returns-clause-meaning : goal.returns-clause-meaning

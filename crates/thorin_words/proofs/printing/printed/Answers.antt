@@ -1,9 +1,7 @@
-use Rattle.std.proofs.Common.{sym, ap, ◌∙◌}
-use Rattle.std.proofs.lemmas.List.{map-id}
+use Rattle.std.proofs.Common.{map-id}
 use Rattle.std.proofs.lemmas.Iterator.{YieldsList-from_chars}
 use Rattle.std.proofs.lemmas.Iterator.Consumers.{YieldsList-end}
-use Rattle.std.specs.List.{flat_map}
-use Rattle.thorin_words.specs.Printed.{printed, printed_character}
+use Rattle.thorin_words.specs.Printed.{printed}
 use Rattle.thorin_words.proofs.printing.printed.Goals as goal
 
 pub returns : goal.returns
@@ -11,4 +9,4 @@ unfolding printed
 returns c =
     let all = YieldsList-end (YieldsList-from_chars c.args.text.now c.utf8.text cc)
     c.loop-c.yielded _ c.loop-c.yielded_by _ _ c.in-None.is c.next.ensures.steps in
-    c.loop-c.invariant ∙ ap (flat_map printed_character) (sym (map-id c.loop-c.yielded) ∙ all.0)
+    cc (map-id c.loop-c.yielded)

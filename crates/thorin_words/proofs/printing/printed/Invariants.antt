@@ -1,5 +1,4 @@
-use Rattle.std.proofs.Common.{◌≡◌, string_bytes}
-use Rattle.std.specs.List.{flat_map}
+use Rattle.std.proofs.Common.{◌≡◌, string_bytes, flat_map}
 use Rattle.thorin_words.specs.Printed.{printed_character}
 use Rattle.thorin_words.proofs.printing.printed.Given as goal
 

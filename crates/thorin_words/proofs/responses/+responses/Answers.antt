@@ -1,5 +1,4 @@
-use Rattle.std.proofs.Common.{rules, arith, refl}
-use Rattle.std.proofs.Common.{◌∙◌}
+use Rattle.std.proofs.Common.{rules, arith, refl, ◌∙◌}
 use Rattle.thorin_words.specs.Responses.{words_in}
 use Rattle.thorin_words.proofs.Standing.{begin, onward, ended, stopped, filed, inner, refused}
 use Rattle.thorin_words.proofs.Standing.{itself}

@@ -1,6 +1,5 @@
-use Rattle.std.proofs.Common.{◌≡◌, drop, string_bytes}
+use Rattle.std.proofs.Common.{◌≡◌, drop, string_bytes, bytes_eq}
 use Rattle.std.specs.List.{list_any}
-use Rattle.std.specs.Str.{bytes_eq}
 use Rattle.thorin_words.proofs.responses.is_any.Given as goal
 
 abbrev pub invariant-loop-outer : goal.invariant-loop-outer

@@ -13,16 +13,6 @@ returns-in_err-byte g c =
       ap g.Self.Reader.input c.loop.invariant.0,
     )
 
-pub overflow_cast-result : goal.overflow_cast-result
-overflow_cast-result g c =
-    let far = c.loop.invariant.1 in
-    omega (
-      arith,
-      ints,
-      seven_more _ _ _ c.from.result far.scaled c.loop-test.true far.below
-          (omega arith),
-    )
-
 pub returns-then-byte-lt64 : goal.returns-then-byte-lt64
 returns-then-byte-lt64 g c =
     let far = c.loop.invariant.1 in
@@ -30,31 +20,6 @@ returns-then-byte-lt64 g c =
     (omega arith) in
     rw c.from.ensures (sleb_low far (omega arith) c.in_ok-byte.ensures c.if-byte-lt64.true m
     (omega (arith, ints, m)))
-
-pub overflow_cast-result-then-byte-lt128 : goal.overflow_cast-result-then-byte-lt128
-overflow_cast-result-then-byte-lt128 g c =
-    let far = c.loop.invariant.1 in
-    let m = small _ _ far.scaled c.loop-test.true in omega (arith, ints, m, far.below)
-
-pub overflow_cast-result-then-byte-lt128-2 : goal.overflow_cast-result-then-byte-lt128-2
-overflow_cast-result-then-byte-lt128-2 g c =
-    let far = c.loop.invariant.1 in
-    omega (
-      arith,
-      ints,
-      seven_more _ _ _ c.from-then-byte-lt128.result far.scaled c.loop-test.true
-          far.below (omega arith),
-    )
-
-pub overflow_sub-result : goal.overflow_sub-result
-overflow_sub-result g c =
-    let far = c.loop.invariant.1 in
-    omega (
-      arith,
-      ints,
-      seven_more _ _ _ c.from-then-byte-lt128.result far.scaled c.loop-test.true
-          far.below (omega arith),
-    )
 
 pub returns-then-byte-lt128 : goal.returns-then-byte-lt128
 returns-then-byte-lt128 g c =

@@ -42,12 +42,6 @@ returns-then-last-gt1 g c = (
   ap g.Self.Reader.input c.loop.invariant.0,
 )
 
-pub overflow_add-result-2 : goal.overflow_add-result-2
-overflow_add-result-2 g c =
-    let nine : c.loop.counter ≡ 9 = omega arith in
-    let far = rw nine at c.loop.invariant.1 in
-    omega (arith, last_fits _ _ c.from-2.result far.below far.scaled (omega arith))
-
 pub returns : goal.returns
 returns g c =
     let nine : c.loop.counter ≡ 9 = omega arith in

@@ -1,6 +1,5 @@
-use Rattle.std.proofs.Common.{ℕ, sym, ap, ◌∙◌}
+use Rattle.std.proofs.Common.{ℕ, sym, ap, ◌∙◌, option_map}
 use Rattle.std.specs.Global.{Vec}
-use Rattle.std.specs.Prelude.{option_map}
 use Rattle.dwp_elf_read.specs.View.{section}
 use Rattle.dwp_decompress.proofs.agree.Expected.agrees_at.Goals as goal
 

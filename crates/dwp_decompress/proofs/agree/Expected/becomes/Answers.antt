@@ -1,5 +1,4 @@
-use Rattle.std.proofs.Common.{Some, sym, ap, ◌∙◌}
-use Rattle.std.specs.Prelude.{option_map}
+use Rattle.std.proofs.Common.{Some, sym, ap, ◌∙◌, option_map}
 use Rattle.dwp_elf_read.specs.View.{section}
 use Rattle.dwp_decompress.proofs.agree.Expected.becomes.Goals as goal
 

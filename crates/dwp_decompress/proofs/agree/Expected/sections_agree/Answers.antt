@@ -8,11 +8,8 @@ pub loop-i-init : goal.loop-i-init
 loop-i-init c h = h
 
 pub loop-i-preserved : goal.loop-i-preserved
-loop-i-preserved c h =
-    c.loop-i.invariant (agree_step c.args.self.now.names c.args.self.now.added.now
-    (elf c.args.old.now).sections (elf c.args.new.now).sections
-    (plain_contents c.args.self.now.contents.now.items) c.loop-i.i
-    (c.agrees_at.ensures c.if-not-agrees_at.false) h)
+loop-i-preserved c h = c.loop-i.invariant
+    (agree_step _ _ _ _ _ _ (c.agrees_at.ensures c.if-not-agrees_at.false) h)
 
 pub returns : goal.returns
 returns c t =

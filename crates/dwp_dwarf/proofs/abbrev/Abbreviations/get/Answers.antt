@@ -1,6 +1,4 @@
-use Rattle.std.proofs.Common.{sym, refl, ◌∙◌, ne_eqb}
-use Rattle.std.proofs.lemmas.Result.{err_from_is_err_and}
-use Rattle.dwp_dwarf.specs.Grammar.{next_at}
+use Rattle.dwp_dwarf.proofs.Terms.{err_from_is_err_and, ne_eqb, next_at, refl, sym, ◌∙◌}
 use Rattle.dwp_dwarf.proofs.Tables.{look_up, look_up-here, look_up-other, next_shorter, next_is}
 use Rattle.dwp_dwarf.proofs.abbrev.Abbreviations.get.Goals as goal
 

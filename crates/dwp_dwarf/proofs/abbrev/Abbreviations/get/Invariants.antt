@@ -1,5 +1,4 @@
-use Rattle.std.proofs.Common.{◌≡◌, length}
-use Rattle.dwp_dwarf.specs.Abbreviations.{declaration}
+use Rattle.dwp_dwarf.proofs.Terms.{declaration, length, ◌≡◌}
 use Rattle.dwp_dwarf.proofs.abbrev.Abbreviations.get.Given as goal
 
 -- the first declaration in what is left is the first one in all

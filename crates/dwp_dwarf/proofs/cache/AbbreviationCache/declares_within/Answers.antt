@@ -1,4 +1,4 @@
-use Rattle.std.proofs.Common.{◌≡◌, ◌≤◌, ◌+◌, length, ap, sym, arith, leb-true}
+use Rattle.dwp_dwarf.proofs.Terms.{◌+◌, ap, arith, leb-true, length, sym, ◌≡◌, ◌≤◌}
 use Rattle.dwp_dwarf.proofs.Places.{same_within}
 use Rattle.dwp_dwarf.proofs.cache.AbbreviationCache.declares_within.Goals as goal
 

@@ -1,4 +1,4 @@
-use Rattle.std.proofs.Common.{sym, ap, ◌∙◌, Ok, refl}
+use Rattle.dwp_dwarf.proofs.Terms.{ap, Ok, refl, sym, ◌∙◌}
 use Rattle.dwp_dwarf.proofs.Keys.{none_each, none_there}
 use Rattle.dwp_dwarf.proofs.Offsets.{from_start}
 use Rattle.dwp_dwarf.proofs.Places.{none_numbered}

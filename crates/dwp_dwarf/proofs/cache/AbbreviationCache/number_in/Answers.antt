@@ -1,6 +1,4 @@
-use Rattle.std.proofs.Common.{refl, ◌≡◌}
-use Rattle.dwp_dwarf.specs.Chains.{StandsAt}
-use Rattle.dwp_dwarf.specs.Declarations.{declaration_of}
+use Rattle.dwp_dwarf.proofs.Terms.{declaration_of, refl, StandsAt, ◌≡◌}
 use Rattle.dwp_dwarf.proofs.Places.{stands_first}
 use Rattle.dwp_dwarf.proofs.cache.AbbreviationCache.number_in.Given.{Over}
 use Rattle.dwp_dwarf.proofs.cache.AbbreviationCache.number_in.Goals as goal

@@ -1,17 +1,12 @@
-use Rattle.std.proofs.Common.{◌≡◌, Ok, subst}
-use Rattle.dwp_base.specs.Reading.{Answers}
-use Rattle.dwp_bytes.specs.Input.{Input}
-use Rattle.dwp_dwarf.specs.Chains.{StandsAt}
-use Rattle.dwp_dwarf.specs.Declarations.{declaration_of}
-use Rattle.dwp_dwarf.specs.Entries.{DebugEntry, entry}
-use Rattle.dwp_dwarf.specs.Offsets.{from_at}
-use Rattle.dwp_dwarf.specs.Split.{attributes_of, split_in}
+use Rattle.dwp_dwarf.proofs.Terms
+use Terms.{Answers, attributes_of, DebugEntry, declaration_of, entry, from_at, Input, Ok, split_in}
+use Terms.{StandsAt, subst, ◌≡◌}
 use Rattle.dwp_dwarf.proofs.Places.{stands_first}
 use Rattle.dwp_dwarf.proofs.cache.AbbreviationCache.split_in.Given.{Over}
-use Rattle.dwp_dwarf.proofs.cache.AbbreviationCache.split_in.Goals as goal
 use Rattle.dwp_dwarf.proofs.cache.AbbreviationCache.split_in.Goals.{in-Some-first}
 use Rattle.dwp_dwarf.proofs.cache.AbbreviationCache.split_in.Goals.{in_default-first+else-is_known}
 use Rattle.dwp_dwarf.proofs.cache.AbbreviationCache.split_in.Goals.{in_default-first+then-is_known+then-is_at_hand}
+use Rattle.dwp_dwarf.proofs.cache.AbbreviationCache.split_in.Goals as goal
 
 -- the declaration of the code stands where it was first found
 stands : (g : Over) (c : goal.After-split-split g)

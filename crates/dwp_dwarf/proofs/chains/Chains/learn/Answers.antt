@@ -1,5 +1,5 @@
+use Rattle.dwp_dwarf.proofs.Terms.{rules}
 use Rattle.dwp_dwarf.proofs.Places.{places_stay, place_put}
-use Rattle.std.proofs.Common.{rules}
 use Rattle.dwp_dwarf.proofs.chains.Chains.learn.Goals as goal
 
 pub returns-in_default-place_at-clause-places : goal.returns-in_default-place_at-clause-places

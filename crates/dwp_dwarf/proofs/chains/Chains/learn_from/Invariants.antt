@@ -1,5 +1,4 @@
-use Rattle.std.proofs.Common.{◌≡◌, vec_len}
-use Rattle.dwp_dwarf.specs.Chains.{RemembersPlaces}
+use Rattle.dwp_dwarf.proofs.Terms.{RemembersPlaces, vec_len, ◌≡◌}
 use Rattle.dwp_dwarf.proofs.chains.Chains.learn_from.Given as goal
 
 -- what is remembered stays right, and no list changes

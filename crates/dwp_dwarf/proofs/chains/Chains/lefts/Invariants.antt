@@ -1,4 +1,4 @@
-use Rattle.std.proofs.Common.{length}
+use Rattle.dwp_dwarf.proofs.Terms.{length}
 use Rattle.dwp_dwarf.proofs.chains.Chains.lefts.Given as goal
 
 abbrev pub decreases-loop-lefts : goal.decreases-loop-lefts

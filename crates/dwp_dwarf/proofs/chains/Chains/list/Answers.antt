@@ -1,4 +1,4 @@
-use Rattle.std.proofs.Common.{sym, ◌∙◌}
+use Rattle.dwp_dwarf.proofs.Terms.{sym, ◌∙◌}
 use Rattle.dwp_dwarf.proofs.Keys.{on_ok, key_apart, one_more}
 use Rattle.dwp_dwarf.specs.Chains.{ListedAt}
 use Rattle.dwp_dwarf.proofs.chains.Chains.list.Goals as goal

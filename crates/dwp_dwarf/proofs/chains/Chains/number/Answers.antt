@@ -1,6 +1,4 @@
-use Rattle.std.proofs.Common.{sym, ◌∙◌, rules}
-use Rattle.dwp_dwarf.specs.Declarations.{declaration_of}
-use Rattle.dwp_dwarf.specs.Needed.{none_met}
+use Rattle.dwp_dwarf.proofs.Terms.{declaration_of, none_met, rules, sym, ◌∙◌}
 use Rattle.dwp_dwarf.proofs.NeededAttributes.{first_needed}
 use Rattle.dwp_dwarf.proofs.Places.{one_stands, chains_listed}
 use Rattle.dwp_dwarf.proofs.chains.Chains.number.Goals as goal

@@ -1,4 +1,4 @@
-use Rattle.std.proofs.Common.{length, refl, ◌∙◌, sym}
+use Rattle.dwp_dwarf.proofs.Terms.{length, refl, sym, ◌∙◌}
 use Rattle.dwp_dwarf.proofs.Places.{place_stays, place_end, place_next}
 use Rattle.dwp_dwarf.proofs.NewVersions.{grows_none}
 use Rattle.dwp_dwarf.proofs.Tables.{look_up-end, look_up-error}

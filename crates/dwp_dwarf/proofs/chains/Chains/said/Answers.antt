@@ -1,5 +1,5 @@
+use Rattle.dwp_dwarf.proofs.Terms.{rules}
 use Rattle.dwp_dwarf.proofs.Places.{said_is}
-use Rattle.std.proofs.Common.{rules}
 use Rattle.dwp_dwarf.proofs.chains.Chains.said.Goals as goal
 
 pub returns : goal.returns

@@ -1,5 +1,4 @@
-use Rattle.std.proofs.Common.{Some, Ok, ap, sym, ◌∙◌}
-use Rattle.dwp_dwarf.specs.Abbreviations.{Declaration}
+use Rattle.dwp_dwarf.proofs.Terms.{ap, Declaration, Ok, Some, sym, ◌∙◌}
 use Rattle.dwp_dwarf.proofs.chains.Chains.said_by.Goals as goal
 
 pub returns-in_default : goal.returns-in_default

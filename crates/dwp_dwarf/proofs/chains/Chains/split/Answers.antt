@@ -1,4 +1,4 @@
-use Rattle.std.proofs.Common.{sym, rules}
+use Rattle.dwp_dwarf.proofs.Terms.{rules, sym}
 use Rattle.dwp_dwarf.proofs.NeededAttributes.{split_needed}
 use Rattle.dwp_dwarf.proofs.Places.{one_stands, chains_listed}
 use Rattle.dwp_dwarf.proofs.chains.Chains.split.Goals as goal

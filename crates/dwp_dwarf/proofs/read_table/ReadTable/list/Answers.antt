@@ -1,6 +1,5 @@
-use Rattle.std.proofs.Common.{sym, ◌∙◌}
+use Rattle.dwp_dwarf.proofs.Terms.{ListsNeeded, sym, ◌∙◌}
 use Rattle.dwp_dwarf.proofs.Keys.{on_ok, key_apart, one_more}
-use Rattle.dwp_dwarf.specs.Remembered.{ListsNeeded}
 use Rattle.dwp_dwarf.proofs.read_table.ReadTable.list.Goals as goal
 
 pub returns-then-is_ok-clause-lists : goal.returns-then-is_ok-clause-lists

@@ -1,6 +1,4 @@
-use Rattle.std.proofs.Common.{◌≡◌, sym, ◌∙◌}
-use Rattle.dwp_dwarf.specs.Declarations.{declaration_of}
-use Rattle.dwp_dwarf.specs.Needed.{none_met}
+use Rattle.dwp_dwarf.proofs.Terms.{declaration_of, none_met, sym, ◌∙◌, ◌≡◌}
 use Rattle.dwp_dwarf.proofs.NeededAttributes.{first_needed}
 use Rattle.dwp_dwarf.proofs.Readings.{one_answer}
 use Rattle.dwp_dwarf.proofs.read_table.ReadTable.number.Goals as goal

@@ -1,4 +1,4 @@
-use Rattle.std.proofs.Common.{◌≡◌, sym}
+use Rattle.dwp_dwarf.proofs.Terms.{sym, ◌≡◌}
 use Rattle.dwp_dwarf.proofs.Keys.{by_key}
 use Rattle.dwp_dwarf.proofs.Readings.{one_answer}
 use Rattle.dwp_dwarf.proofs.read_table.ReadTable.remember.Goals as goal

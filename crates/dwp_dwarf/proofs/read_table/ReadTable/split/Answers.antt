@@ -1,5 +1,4 @@
-use Rattle.std.proofs.Common.{◌≡◌, sym}
-use Rattle.dwp_dwarf.specs.Declarations.{declaration_of}
+use Rattle.dwp_dwarf.proofs.Terms.{declaration_of, sym, ◌≡◌}
 use Rattle.dwp_dwarf.proofs.NeededAttributes.{split_needed}
 use Rattle.dwp_dwarf.proofs.Readings.{one_answer}
 use Rattle.dwp_dwarf.proofs.read_table.ReadTable.split.Goals as goal

@@ -1,8 +1,8 @@
-use Rattle.std.proofs.Common.{sym, ◌∙◌, refl, ap, arith, length, rules}
+use Rattle.dwp_dwarf.proofs.Terms.{ap, arith, length, refl, rules, sym, ◌∙◌}
 use Rattle.dwp_dwarf.proofs.Units.{first_unit, nothing_left}
-use Rattle.dwp_dwarf.proofs.unit.UnitHeadersIterator.next.Goals as goal
 use Rattle.dwp_dwarf.proofs.unit.UnitHeadersIterator.next.Goals.{then-self-via-then-self}
 use Rattle.dwp_dwarf.proofs.unit.UnitHeadersIterator.next.Goals.{then-self-via-else-self+then-is_empty}
+use Rattle.dwp_dwarf.proofs.unit.UnitHeadersIterator.next.Goals as goal
 
 pub returns-clause-steps : goal.returns-clause-steps
 returns-clause-steps g c = search (rules, first_unit)

@@ -1,7 +1,6 @@
-use Rattle.std.proofs.Common.{sym, ◌∙◌}
+use Rattle.dwp_elf.proofs.Terms.{arith, common_steps}
 use Rattle.dwp_elf.proofs.Limits.{length-file_text}
 use Rattle.dwp_elf.proofs.object.WritableObject.file_size.Goals as goal
 
 pub returns-clause-size : goal.returns-clause-size
-returns-clause-size c =
-    (c.in_ok-places.ensures.fits, c.in_ok-places.ensures.ok.size ∙ sym (length-file_text _))
+returns-clause-size c = grind (arith, common_steps, length-file_text)

@@ -1,4 +1,4 @@
-use Rattle.std.proofs.Common.{refl, ◌∙◌}
+use Rattle.dwp_elf.proofs.Terms.{refl, ◌∙◌}
 use Rattle.dwp_elf.proofs.SoFar.{part_after, part_before, Writes-after, failed}
 use Rattle.dwp_elf.proofs.Parts.{text_parts}
 use Rattle.dwp_elf.proofs.object.WritableObject.write_parts.Goals as goal

@@ -1,9 +1,6 @@
-use Rattle.std.proofs.Common.{rules}
-use Rattle.std.specs.Prelude.{Ok, Err}
-use Rattle.dwp_base.specs.Reading.{Answers}
+use Rattle.std.proofs.Common.{rules, Ok, Err}
+use Rattle.dwp_index.proofs.Terms.{Answers, content_among, contents_of, elf}
 use Rattle.dwp_base.proofs.KindsRead.{answers-each}
-use Rattle.dwp_elf_read.specs.View.{elf}
-use Rattle.dwp_index.specs.Contents.{content_among, contents_of}
 use Rattle.dwp_index.proofs.contents.Contents.read.Goals as goal
 
 pub returns-in-Ok : goal.returns-in-Ok

@@ -1,11 +1,6 @@
-use Rattle.std.proofs.Common.{◌≡◌, ℕ, ◌+◌, ◌≤◌, List, length, sym, ap, ◌∙◌}
-use Rattle.std.specs.Prelude.{Some}
-use Rattle.std.specs.Option.{option_copied}
-use Rattle.dwp_table.specs.Objects.{identifier_of}
-use Rattle.dwp_table.specs.Table.{IsIndex, FindsExactly}
+use Rattle.std.proofs.Common.{◌≡◌, ℕ, ◌+◌, ◌≤◌, List, length, sym, ap, ◌∙◌, Some, option_copied}
+use Rattle.dwp_index.proofs.Terms.{FindsExactly, identifier_of, Index, index_for, IsIndex}
 use Rattle.dwp_index.specs.Finding.{slots_for}
-use Rattle.dwp_index.specs.Index.{Index}
-use Rattle.dwp_index.specs.Package.{index_for}
 use Rattle.dwp_index.proofs.PackageLookUp.{answered, slots_of}
 use Rattle.dwp_index.proofs.package.PackageFile.find_counted.Goals as goal
 

@@ -1,6 +1,5 @@
-use Rattle.std.proofs.Common.{◌≡◌, ap, ◌∙◌}
-use Rattle.std.specs.Option.{option_copied}
-use Rattle.dwp_index.specs.Package.{Package}
+use Rattle.std.proofs.Common.{◌≡◌, ap, ◌∙◌, option_copied}
+use Rattle.dwp_index.proofs.Terms.{Package}
 use Rattle.dwp_index.proofs.UsedOnce.{entries_once}
 use Rattle.dwp_index.proofs.package.PackageFile.units.Goals as goal
 

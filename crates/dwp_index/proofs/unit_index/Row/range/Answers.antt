@@ -1,6 +1,6 @@
 use Rattle.std.proofs.Common.{ℕ, List, refl, sym, ◌∙◌, arith}
+use Rattle.dwp_index.proofs.Terms.{NO_COLUMN}
 use Rattle.dwp_index.specs.RowFields.{ranges_in}
-use Rattle.dwp_index.specs.Places.{NO_COLUMN}
 use Rattle.dwp_index.proofs.NumberLists.{get_or-numbers}
 use Rattle.dwp_index.proofs.Columns.{says_none, says_some}
 use Rattle.dwp_index.proofs.Views.{range-by}

@@ -1,5 +1,5 @@
 use Rattle.std.proofs.Common.{sym, ap, ◌∙◌, inl, inr, arith}
-use Rattle.dwp_table.specs.Probing.{row_of}
+use Rattle.dwp_index.proofs.Terms.{row_of}
 use Rattle.dwp_index.proofs.Views.{end-start, end-on, ended, unended, row_of-used, slots-length}
 use Rattle.dwp_index.proofs.unit_index.UnitIndex.look_up.Goals as goal
 
@@ -22,19 +22,15 @@ loop-looked-init c =
 
 pub returns-then-row-eq0 : goal.returns-then-row-eq0
 returns-then-row-eq0 c =
-    let v = c.args.self.now in
-    let slots = slots-length c.self.inside v c.self.view_is in
+    let slots = slots-length c.self.inside c.args.self.now c.self.view_is in
     let unused = sym c.slot-signature.ensures.row ∙ c.if-row-eq0.true in
-    let end = ended v.signatures v.rows c.args.identifier c.loop-looked.looked c.loop-looked.at
-    (omega arith) c.loop-looked.invariant.rest c.loop-looked.invariant.at_place (inl unused) in
+    let end = ended _ _ _ c.loop-looked.invariant (omega arith) (inl unused) in
     record { row = sym (end.0 ∙ ap row_of unused); count = sym end.1 }
 
 pub returns-then-signature-identifier : goal.returns-then-signature-identifier
 returns-then-signature-identifier c =
-    let v = c.args.self.now in
-    let slots = slots-length c.self.inside v c.self.view_is in
-    let end = ended v.signatures v.rows c.args.identifier c.loop-looked.looked c.loop-looked.at
-    (omega arith) c.loop-looked.invariant.rest c.loop-looked.invariant.at_place
+    let slots = slots-length c.self.inside c.args.self.now c.self.view_is in
+    let end = ended _ _ _ c.loop-looked.invariant (omega arith)
     (inr (sym c.slot-signature.ensures.signature ∙ c.if-signature-identifier.true)) in
     record {
       row = sym (end.0 ∙ ap row_of (sym c.slot-signature.ensures.row)
@@ -56,8 +52,7 @@ loop-looked-preserved c =
       at_place = rw slots (c.place_after-at.ensures.next c.loop-looked.looked
           (rw slots at c.loop-looked.invariant.at_place));
       within = omega (arith, c.place_after-at.ensures.within);
-      rest = end-on _ _ _ c.loop-looked.looked c.loop-looked.at (omega arith)
-          c.loop-looked.invariant.rest c.loop-looked.invariant.at_place
+      rest = end-on _ _ _ c.loop-looked.invariant (omega arith)
           (λ e. c.if-row-eq0.false (c.slot-signature.ensures.row ∙ e))
           (λ e. c.if-signature-identifier.false (c.slot-signature.ensures.signature ∙ e));
     }

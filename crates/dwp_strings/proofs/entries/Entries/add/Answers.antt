@@ -1,4 +1,4 @@
-use Rattle.std.proofs.Common.{◌+◌, inl, refl, arith, rules}
+use Rattle.dwp_strings.proofs.Terms.{◌+◌, arith, inl, refl, rules}
 use Rattle.dwp_strings.proofs.UsedLemmas.{two_pushes}
 use Rattle.dwp_strings.proofs.HashedLemmas.{added, entries_few, unplaced, carried_kept}
 use Rattle.dwp_strings.proofs.TableLemmas.{indexed_push}

@@ -1,5 +1,5 @@
-use Rattle.std.proofs.Common.{◌+◌, ◌++◌, ◌∙◌, inl, take, ap, sym, refl, arith, rules}
-use Rattle.dwp_strings.specs.Ends.{IsFirstZero}
+use Rattle.dwp_strings.proofs.Terms
+use Terms.{◌+◌, ◌++◌, ap, arith, inl, IsFirstZero, refl, rules, sym, take, ◌∙◌}
 use Rattle.dwp_strings.proofs.EndLemmas.{ended_free, ended_front, ended_take}
 use Rattle.dwp_strings.proofs.UsedLemmas.{ok_from_some}
 use Rattle.dwp_strings.proofs.HashedLemmas.{added, entries_few, unplaced, carried_kept}

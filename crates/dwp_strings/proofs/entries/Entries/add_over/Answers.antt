@@ -1,6 +1,4 @@
-use Rattle.std.proofs.Common.{◌+◌, ◌∙◌, inl, sym, refl, arith, rules}
-use Rattle.std.proofs.lemmas.Bool.{false≢true}
-use Rattle.dwp_strings.specs.Strings.{BeginsAt}
+use Rattle.dwp_strings.proofs.Terms.{◌+◌, arith, BeginsAt, false≢true, inl, refl, rules, sym, ◌∙◌}
 use Rattle.dwp_strings.proofs.UsedLemmas.{two_pushes}
 use Rattle.dwp_strings.proofs.HashedLemmas.{added, entries_few, misplaced, carried_over}
 use Rattle.dwp_strings.proofs.HashedLemmas.{begins_at_offset}

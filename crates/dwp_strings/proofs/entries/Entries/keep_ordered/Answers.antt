@@ -1,7 +1,7 @@
-use Rattle.std.proofs.Common.{◌∙◌, sym, refl}
+use Rattle.dwp_strings.proofs.Terms.{refl, sym, ◌∙◌}
 use Rattle.dwp_strings.proofs.PlaceLemmas.{offset_there, known_place_in}
-use Rattle.dwp_strings.proofs.HashedLemmas.{hashed_kept, entries_few, carried_among}
-use Rattle.dwp_strings.proofs.HashedLemmas.{absent_there, inserted_or}
+use Rattle.dwp_strings.proofs.HashedLemmas.{hashed_kept, entries_few, carried_among, absent_there}
+use Rattle.dwp_strings.proofs.HashedLemmas.{inserted_or}
 use Rattle.dwp_strings.proofs.Named.{string_was}
 use Rattle.dwp_strings.proofs.entries.Entries.keep_ordered.Goals as goal
 

@@ -1,5 +1,4 @@
-use Rattle.std.proofs.Common.{◌≡◌, ◌+◌, inr, length, insert, refl, arith, rules}
-use Rattle.dwp_strings.specs.Hashed.{held}
+use Rattle.dwp_strings.proofs.Terms.{◌+◌, arith, held, inr, insert, length, refl, rules, ◌≡◌}
 use Rattle.dwp_strings.proofs.UsedLemmas.{used_found, two_pushes}
 use Rattle.dwp_strings.proofs.HashedLemmas.{added, entries_few, unordered, among_more}
 use Rattle.dwp_strings.proofs.HashedLemmas.{carried_among, among_one, absent_there}

@@ -1,6 +1,5 @@
-use Rattle.std.proofs.Common.{◌∙◌, ap, refl}
+use Rattle.dwp_strings.proofs.Terms.{ap, place_of, refl, ◌∙◌}
 use Rattle.dwp_strings.specs.declared.places.Places.{Places}
-use Rattle.dwp_strings.specs.Places.{place_of}
 use Rattle.dwp_strings.proofs.HashedLemmas.{hashed_kept, carried_shared, begins_at_offset}
 use Rattle.dwp_strings.proofs.entries.Entries.share.Goals as goal
 

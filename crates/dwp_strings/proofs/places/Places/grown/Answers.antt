@@ -1,6 +1,5 @@
-use Rattle.std.proofs.Common.{◌∙◌, refl}
+use Rattle.dwp_strings.proofs.Terms.{refl, with_items_is, ◌∙◌}
 use Rattle.std.specs.Vec.{with_items}
-use Rattle.std.proofs.lemmas.List.{with_items_is}
 use Rattle.dwp_strings.proofs.places.Places.grown.Goals as goal
 
 pub returns-clause-entered : goal.returns-clause-entered

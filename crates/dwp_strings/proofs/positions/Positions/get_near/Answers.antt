@@ -1,18 +1,19 @@
-use Rattle.std.proofs.Common.{◌≡◌, ◌<◌, ◌-◌, length, get_or, ap, sym, ◌∙◌, arith}
-use Rattle.std.specs.List.{concat}
-use Rattle.std.proofs.lemmas.List.{get_or_read}
-use Rattle.dwp_strings.specs.Chunks.{pieces, IsPieceOf}
-use Rattle.dwp_strings.proofs.ChunkLemmas.{first_start, some_piece, placed}
+use Rattle.dwp_strings.proofs.Terms
+use Terms.{◌-◌, ◌<◌, ap, arith, concat, get_or, get_or_read, IsPieceOf, length, pieces, sym, ◌∙◌}
+use Terms.{◌≡◌}
+use Rattle.dwp_strings.proofs.ChunkLemmas.{length-starts_from, first_start, some_piece, placed}
 use Rattle.dwp_strings.proofs.PieceLemmas.{length-pieces, piece_read}
-use Rattle.dwp_strings.proofs.positions.Positions.get_near.Goals as goal
 use Rattle.dwp_strings.proofs.positions.Positions.get_near.Goals.{After-index}
+use Rattle.dwp_strings.proofs.positions.Positions.get_near.Goals as goal
 
 pub chunk_of-at-requires : goal.chunk_of-at-requires
 chunk_of-at-requires c =
-    let first = first_start c.as_slice.result.now _
-    (c.as_slice.ensures.value ∙ c.self.invariant.begun)
-    (some_piece _ (omega (arith, ap length c.self.view_is))) in
-    record { some = first.0; first = omega (arith, first.1) }
+    let some = some_piece (pieces c.self.inside.chunks.items)
+    (omega (arith, ap length c.self.view_is)) in
+    rw (c.as_slice.ensures.value, c.self.invariant.begun) (record {
+      some = omega (arith, some, length-starts_from 0 (pieces c.self.inside.chunks.items));
+      first = rw first_start (omega arith);
+    })
 
 -- what the rank finds
 found : (c : goal.After-index) → (c.args.rank - c.index.result.now < length

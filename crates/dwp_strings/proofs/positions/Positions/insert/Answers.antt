@@ -1,12 +1,11 @@
-use Rattle.std.proofs.Common.{◌≡◌, ◌<◌, ◌≤◌, ◌+◌, ◌^◌, length, insert, ap, sym, ◌∙◌, arith}
-use Rattle.std.specs.List.{concat}
-use Rattle.std.proofs.lemmas.List.{get_or_read, with_items_is}
-use Rattle.std.proofs.lemmas.List.Elements.{All-weaker}
-use Rattle.dwp_strings.specs.Chunks.{pieces, IsChunked}
-use Rattle.dwp_strings.proofs.ChunkLemmas.{placed, chunk_inserted, starts_bounded, raised}
-use Rattle.dwp_strings.proofs.ChunkLemmas.{length-raised}
-use Rattle.dwp_strings.proofs.positions.Positions.insert.Goals as goal
+use Rattle.dwp_strings.proofs.Terms
+use Terms.{◌+◌, ap, arith, concat, get_or_default, get_or_read, insert, IsChunked, length, pieces}
+use Terms.{sym, with_items_is, ◌∙◌, ◌≡◌}
+use Rattle.std.proofs.lemmas.Grind.{common_steps}
+use Rattle.dwp_strings.proofs.ChunkLemmas.{length-starts_from, start_within, placed, raised}
+use Rattle.dwp_strings.proofs.ChunkLemmas.{chunk_inserted}
 use Rattle.dwp_strings.proofs.positions.Positions.insert.Goals.{After-raise}
+use Rattle.dwp_strings.proofs.positions.Positions.insert.Goals as goal
 
 pub put-requires-clause-within : goal.put-requires-clause-within
 put-requires-clause-within c = (placed _ _ _ _ _ c.in_ok-at.ensures.begun c.in_ok-at.ensures.at
@@ -16,10 +15,14 @@ put-requires-clause-within c = (placed _ _ _ _ _ c.in_ok-at.ensures.begun c.in_o
 pub raise-requires-clause-small : goal.raise-requires-clause-small
 raise-requires-clause-small c =
     let whole = ap length (c.in_ok-at.ensures.same ∙ c.self.view_is) in
-    rw (c.deref_mut.ensures.value, c.in_ok-at.ensures.begun)
-    (All-weaker (λ s. s ≤ length (concat (pieces c.room_at.new.chunks.items))) (λ s.
-    s + 1 < 2 ^ 64) (λ s h. omega (arith, whole, c.requires.small)) _
-    (starts_bounded (pieces c.room_at.new.chunks.items)))
+    rw (c.deref_mut.ensures.value, c.in_ok-at.ensures.begun) (λ i d less. grind (
+      arith,
+      whole,
+      c.requires.small,
+      get_or_default,
+      length-starts_from,
+      start_within (pieces c.room_at.new.chunks.items) i 0,
+    ))
 
 inserted : (c : goal.After-raise) → (concat (pieces c.put.new.chunks.items)
     ≡ insert (concat (pieces c.room_at.new.chunks.items)) c.args.rank c.args.position)
@@ -35,8 +38,7 @@ inserted c =
 
 pub invariant_of-self-2 : goal.invariant_of-self-2
 invariant_of-self-2 c =
-    rw (with_items_is c.room_at.new.starts c.raise.new.starts (ap length c.raise.ensures ∙
-    length-raised (c.in_ok-at.at + 1) c.deref_mut.result.now ∙ c.deref_mut.ensures.len))
+    rw (with_items_is c.room_at.new.starts c.raise.new.starts (grind (arith, common_steps)))
     (inserted (goal.at.invariant_of-self-2 c).After-raise).1
 
 pub returns-clause-ok : goal.returns-clause-ok

@@ -1,6 +1,4 @@
-use Rattle.std.proofs.Common.{ap, ◌∙◌, filter, nat_lt}
-use Rattle.std.specs.List.{concat}
-use Rattle.dwp_strings.specs.Chunks.{pieces}
+use Rattle.dwp_strings.proofs.Terms.{ap, concat, filter, nat_lt, pieces, ◌∙◌}
 use Rattle.dwp_strings.proofs.ChunkLemmas.{concat-filter}
 use Rattle.dwp_strings.proofs.positions.Positions.keep_below.Goals as goal
 

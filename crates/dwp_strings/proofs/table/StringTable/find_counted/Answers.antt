@@ -1,16 +1,12 @@
-use Rattle.std.proofs.Common.{◌≡◌, ◌↔◌, ◌∙◌, false, true, Contains, Some, inl, inr, ap, sym, refl}
-use Rattle.std.proofs.Common.{arith}
-use Rattle.std.proofs.lemmas.List.Elements.{All-contains}
-use Rattle.std.proofs.lemmas.Bool.{false≢true}
-use Rattle.dwp_strings.specs.Strings.{IsZeroFree, offset_of}
-use Rattle.dwp_strings.specs.Places.{place_of, IsOrdered}
-use Rattle.dwp_strings.specs.Hashed.{held}
+use Rattle.dwp_strings.proofs.Terms
+use Terms.{All-contains, ap, arith, Contains, false, false≢true, held, inl, inr, IsOrdered}
+use Terms.{IsZeroFree, offset_of, place_of, refl, Some, sym, true, ◌↔◌, ◌∙◌, ◌≡◌}
 use Rattle.dwp_strings.proofs.StringLemmas.{zero_within, zero_free-strings_in}
 use Rattle.dwp_strings.proofs.PlaceLemmas.{known_place_in}
 use Rattle.dwp_strings.proofs.HashedLemmas.{misplaced, unplaced, unordered, absent_there}
 use Rattle.dwp_strings.proofs.TableLemmas.{positions_few}
-use Rattle.dwp_strings.proofs.table.StringTable.find_counted.Goals as goal
 use Rattle.dwp_strings.proofs.table.StringTable.find_counted.Goals.{in-Ok, in-Err}
+use Rattle.dwp_strings.proofs.table.StringTable.find_counted.Goals as goal
 
 is_absent : {P : Type 0} → (P → ⊥) → (false ≡ true) ↔ P
 is_absent absent = (λ e. absurd (false≢true e), λ there. absurd (absent there))

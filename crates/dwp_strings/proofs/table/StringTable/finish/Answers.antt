@@ -1,4 +1,4 @@
-use Rattle.std.proofs.Common.{rules}
+use Rattle.dwp_strings.proofs.Terms.{rules}
 use Rattle.dwp_strings.proofs.HashedLemmas.{findable_table}
 use Rattle.dwp_strings.proofs.table.StringTable.finish.Goals as goal
 

@@ -1,4 +1,4 @@
-use Rattle.std.proofs.Common.{◌∙◌, ap, sym, length, arith}
+use Rattle.dwp_strings.proofs.Terms.{ap, arith, length, sym, ◌∙◌}
 use Rattle.dwp_strings.specs.declared.table.TableMark.{TableMark}
 use Rattle.dwp_strings.proofs.HashedLemmas.{findable_take}
 use Rattle.dwp_strings.proofs.TableLemmas.{nothing_after}

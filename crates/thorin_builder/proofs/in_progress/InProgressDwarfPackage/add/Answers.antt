@@ -1,5 +1,4 @@
-use Rattle.std.proofs.Common.{rules}
-use Rattle.thorin_builder.proofs.Terms.{on_err, in_progress_of}
+use Rattle.thorin_builder.proofs.Terms.{in_progress_of, on_err, rules}
 use Rattle.thorin_builder.proofs.in_progress.InProgressDwarfPackage.add.Goals.{then-is_err}
 use Rattle.thorin_builder.proofs.in_progress.InProgressDwarfPackage.add.Goals.{else-is_err}
 use Rattle.thorin_builder.proofs.Extending.{no_err}

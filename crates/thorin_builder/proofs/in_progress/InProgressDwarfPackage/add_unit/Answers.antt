@@ -1,6 +1,4 @@
-use Rattle.std.proofs.Common.{◌∙◌}
-use Rattle.thorin_builder.proofs.Terms.{take-append_seam, at_least}
-use Rattle.std.proofs.lemmas.List.{take-append-le}
+use Rattle.thorin_builder.proofs.Terms.{at_least, take-append-le, take-append_seam, ◌∙◌}
 use Rattle.thorin_builder.proofs.in_progress.InProgressDwarfPackage.add_unit.Goals as goal
 
 pub returns-in-Ok-clause-extends : goal.returns-in-Ok-clause-extends

@@ -1,7 +1,5 @@
-use Rattle.std.proofs.Common.{suc, arith, ◌≡◌, ◌∙◌, ap, get_or}
-use Rattle.std.proofs.lemmas.List.{get_or_default}
-use Rattle.thorin_index.specs.Rows.{blank}
-use Rattle.thorin_join.specs.State.{InProgress, with_new_units}
+use Rattle.thorin_builder.proofs.Terms
+use Terms.{ap, arith, blank, get_or, get_or_default, InProgress, suc, with_new_units, ◌∙◌, ◌≡◌}
 use Rattle.thorin_builder.proofs.NewUnitLemmas.{with_rows}
 use Rattle.thorin_builder.proofs.in_progress.InProgressDwarfPackage.add_units.Goals as goal
 

@@ -1,6 +1,5 @@
-use Rattle.std.proofs.Common.{◌≡◌}
-use Rattle.thorin_builder.proofs.Terms.{in_progress_of, new_of}
-use Rattle.thorin_join.specs.State.{InProgress, Extends, with_new_units}
+use Rattle.thorin_builder.proofs.Terms
+use Terms.{Extends, in_progress_of, InProgress, new_of, with_new_units, ◌≡◌}
 use Rattle.thorin_builder.proofs.NewUnitLemmas.{AreNumbered, with_rows}
 use Rattle.thorin_builder.proofs.in_progress.InProgressDwarfPackage.add_units.Given as goal
 

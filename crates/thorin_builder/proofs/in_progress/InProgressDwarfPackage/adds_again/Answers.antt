@@ -1,27 +1,22 @@
-use Rattle.std.proofs.Common.{◌≡◌, ◌∙◌, ℕ, List, map, ap, sym, refl, rules, [], Some, None, Ok}
-use Rattle.thorin_builder.proofs.Terms.{append-nil, take-length, DwarfObject, IndexEntry, New}
-use Rattle.thorin_builder.proofs.Terms.{parts_of, unit_bytes, held_units, in_progress_of, Repeated}
-use Rattle.std.proofs.lemmas.Option.{IfSome_then}
-use Rattle.std.proofs.lemmas.Result.{IfOk-weaker}
+use Rattle.thorin_builder.proofs.Terms
+use Terms.{[], ap, append-nil, Contents, DwarfObject, file_encoding, held_units, IfOk-weaker}
+use Terms.{IfSome_then, in_progress_of, IndexEntry, InProgress, input_file_of, IsLater, List, map}
+use Terms.{New, None, Ok, one_encoding, order_test, own_encoding, parts_of, refl, Repeated, rules}
+use Terms.{Some, Source, sym, take-length, unit_bytes, with_all, with_input, with_more}
+use Terms.{with_new_units, with_parts, with_source, with_source_or_new, with_units, ℕ, ◌∙◌, ◌≡◌}
 use Rattle.dwp_base.specs.declared.endian.Endianness.{Endianness}
-use Rattle.dwp_base.specs.declared.endian.Endianness.TheVariants.{Little, Big}
 use Rattle.dwp_elf.specs.Contents.{content_of}
 use Rattle.dwp_elf_read.specs.View.{elf}
 use Rattle.dwp_index.specs.Package.{part_of, place_of}
 use Rattle.thorin_index.specs.Entries.{contribution_to}
-use Rattle.thorin_input.specs.Encodings.{own_encoding, file_encoding, one_encoding}
-use Rattle.thorin_input.specs.Growing.{Contents, with_parts}
-use Rattle.thorin_input.specs.Indexes.{Source}
-use Rattle.thorin_input.specs.Used.{input_file_of}
-use Rattle.thorin_input.specs.View as view
-use Rattle.thorin_join.specs.Builder.{with_input, with_units, with_source_or_new, order_test}
-use Rattle.thorin_join.specs.State.{InProgress, kind_at, with_source, with_all, with_new_units}
+use Rattle.thorin_join.specs.State.{kind_at}
 use Rattle.thorin_join.proofs.Parts.Appended.{content-with_parts, parts-none}
 use Rattle.thorin_join.proofs.Rows.OneAdded.{not-shared}
-use Rattle.thorin_builder.specs.Repeated.{IsLater, AddsNoUnit, with_more}
+use Rattle.thorin_builder.specs.Repeated.{AddsNoUnit}
 use Rattle.thorin_builder.proofs.AddedAgain.{later-refl, with_again}
 use Rattle.thorin_builder.proofs.Extending.{with_source-is}
 use Rattle.thorin_builder.proofs.Later.{parts-later, units-later}
+use Rattle.thorin_input.specs.View as view
 use Rattle.thorin_builder.proofs.in_progress.InProgressDwarfPackage.adds_again.Goals as goal
 
 -- an input without units adds nothing
@@ -73,8 +68,7 @@ held-apart source strings parts h made =
 order-tested : (order : Endianness) (made : InProgress) → made.file.order ≡ order
     → order_test order (Some made) ≡ Ok tt
 unfolding order_test
-order-tested Little made h = rw h refl
-order-tested Big made h = rw h refl
+order-tested order made h = grind rules
 
 pub returns-clause-found : goal.returns-clause-found
 unfolding own_encoding file_encoding with_input with_units with_source_or_new

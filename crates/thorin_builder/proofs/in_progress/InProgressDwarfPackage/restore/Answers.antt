@@ -1,5 +1,5 @@
-use Rattle.std.proofs.Common.{◌∙◌, ℕ, ap, sym, map, take, length}
-use Rattle.thorin_builder.proofs.Terms.{DebugTypeSignature, IndexEntry, DwarfObject}
+use Rattle.thorin_builder.proofs.Terms.{ap, DwarfObject, IndexEntry, length, map, sym, take, ℕ, ◌∙◌}
+use Rattle.dwp_table.specs.declared.object.DebugTypeSignature.{DebugTypeSignature}
 use Rattle.std.specs.List.{take-map}
 use Rattle.thorin_builder.proofs.in_progress.InProgressDwarfPackage.restore.Goals as goal
 

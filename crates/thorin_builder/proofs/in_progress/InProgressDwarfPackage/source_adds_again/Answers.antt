@@ -1,4 +1,4 @@
-use Rattle.thorin_builder.specs.StateView.{in_progress_of}
+use Rattle.thorin_builder.proofs.Terms.{in_progress_of}
 use Rattle.thorin_builder.proofs.in_progress.InProgressDwarfPackage.source_adds_again.Goals as goal
 
 pub returns-clause-same : goal.returns-clause-same

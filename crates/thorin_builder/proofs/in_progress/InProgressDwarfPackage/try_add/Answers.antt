@@ -1,11 +1,10 @@
-use Rattle.std.proofs.Common.{◌≡◌, ◌∙◌, ℕ, ap, map, sym, rules, List, Ok}
-use Rattle.thorin_builder.proofs.Terms.{take-length, new_of, in_progress_of}
-use Rattle.thorin_input.specs.Growing.{Contents}
-use Rattle.thorin_input.specs.View as view
-use Rattle.thorin_join.specs.State.{Extends, with_all, with_new_units}
+use Rattle.thorin_builder.proofs.Terms
+use Terms.{ap, Contents, Extends, in_progress_of, List, map, new_of, Ok, rules, sym, take-length}
+use Terms.{with_all, with_new_units, ℕ, ◌∙◌, ◌≡◌}
 use Rattle.thorin_builder.proofs.Extending.{grown-extends, strings-extend, signatures-kept}
 use Rattle.thorin_builder.proofs.Extending.{with_source-is, signatures}
 use Rattle.thorin_builder.proofs.in_progress.InProgressDwarfPackage.try_add.Goals.{After-add_units}
+use Rattle.thorin_input.specs.View as view
 use Rattle.thorin_builder.proofs.in_progress.InProgressDwarfPackage.try_add.Goals as goal
 
 pub returns-in_err-parts-clause-extends : goal.returns-in_err-parts-clause-extends

@@ -1,5 +1,4 @@
-use Rattle.std.proofs.Common.{rules}
-use Rattle.std.proofs.Math.Seq.{take-length}
+use Rattle.thorin_builder.proofs.Terms.{rules, take-length}
 use Rattle.thorin_builder.proofs.Extending.{grown-extends, signatures-kept}
 use Rattle.thorin_builder.proofs.in_progress.InProgressDwarfPackage.try_add_again.Goals as goal
 

@@ -1,10 +1,8 @@
-use Rattle.std.proofs.Common.{◌∙◌, ap, sym, rules}
-use Rattle.thorin_builder.proofs.Terms.{DwarfObject, adding_of}
+use Rattle.thorin_builder.proofs.Terms.{adding_of, ap, DwarfObject, rules, sym, with_first, ◌∙◌}
 use Rattle.indexmap.proofs.CallerLemmas.{insert_entry-new}
-use Rattle.thorin_input.specs.NewUnits.{with_first}
 use Rattle.thorin_builder.proofs.Extending.{either_way}
-use Rattle.thorin_builder.proofs.NewUnitLemmas.{AreNumbered, not_added, added_last}
-use Rattle.thorin_builder.proofs.NewUnitLemmas.{numbered_last, numbered_still}
+use Rattle.thorin_builder.proofs.NewUnitLemmas.{AreNumbered, not_added, added_last, numbered_last}
+use Rattle.thorin_builder.proofs.NewUnitLemmas.{numbered_still}
 use Rattle.thorin_builder.proofs.new_units.NewUnits.add_first.Goals as goal
 
 pub invariant_of-self-2 : goal.invariant_of-self-2

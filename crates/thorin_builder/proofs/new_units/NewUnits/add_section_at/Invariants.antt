@@ -1,10 +1,9 @@
-use Rattle.std.proofs.Common.{◌≡◌, ◌&&◌, Some}
-use Rattle.thorin_builder.proofs.Terms.{list_all, used}
+use Rattle.thorin_builder.proofs.Terms
+use Terms.{◌&&◌, adding_of, all_have, has_encoding, left_in, list_all, met_of, new_of, Some, used}
+use Terms.{with_each_read, ◌≡◌}
 use Rattle.dwp_bytes.specs.Input.{section}
 use Rattle.dwp_dwarf.specs.Units.{units, units_left}
-use Rattle.thorin_input.specs.Encodings.{has_encoding, all_have}
-use Rattle.thorin_input.specs.NewUnits.{with_each_read, with_met}
-use Rattle.thorin_builder.specs.UnitView.{new_of, adding_of, left_in, met_of}
+use Rattle.thorin_input.specs.NewUnits.{with_met}
 use Rattle.thorin_builder.proofs.new_units.NewUnits.add_section_at.Given as goal
 
 -- what the units that are left add to those so far is what all add; and all have the input's

@@ -1,5 +1,4 @@
-use Rattle.std.proofs.Common.{◌∙◌, Some, None}
-use Rattle.thorin_builder.proofs.Terms.{held_units, in_progress_of}
+use Rattle.thorin_builder.proofs.Terms.{held_units, in_progress_of, None, Some, ◌∙◌}
 use Rattle.thorin_builder.proofs.NewUnitLemmas.{kept-are}
 use Rattle.thorin_builder.proofs.new_units.NewUnits.kept_bytes.Goals as goal
 

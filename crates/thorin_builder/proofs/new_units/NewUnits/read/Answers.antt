@@ -1,12 +1,9 @@
-use Rattle.std.proofs.Common.{◌≡◌, ◌∙◌, ◌<◌, ℕ, List, [], map, drop, get_or, length, Err}
-use Rattle.std.proofs.Common.{ap, sym, refl}
-use Rattle.thorin_builder.proofs.Terms.{none_met, used, adding_of}
-use Rattle.std.proofs.lemmas.List.{drop_more}
-use Rattle.std.proofs.lemmas.Result.{err_from_is_err_and}
+use Rattle.thorin_builder.proofs.Terms
+use Terms.{◌<◌, [], adding_of, ap, drop, drop_more, Err, err_from_is_err_and, ErrorValue, get_or}
+use Terms.{length, List, map, Met, New, new_units, none_met, refl, sym, used, with_each_section}
+use Terms.{with_section, ℕ, ◌∙◌, ◌≡◌}
 use Rattle.dwp_base.proofs.Steps.{bind-err}
-use Rattle.thorin_errors.specs.Errors.{ErrorValue}
 use Rattle.thorin_input.specs.declared.object.UsedSection.{UsedSection}
-use Rattle.thorin_input.specs.NewUnits.{Met, New, new_units, with_section, with_each_section}
 use Rattle.thorin_builder.specs.declared.units.Adding.{Adding}
 use Rattle.thorin_builder.proofs.new_units.NewUnits.read.Goals as goal
 

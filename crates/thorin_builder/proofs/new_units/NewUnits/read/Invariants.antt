@@ -1,8 +1,6 @@
-use Rattle.std.proofs.Common.{◌≡◌, ◌&&◌, map, drop, []}
-use Rattle.thorin_builder.proofs.Terms.{list_all, new_of, met_of, adding_of}
-use Rattle.thorin_input.specs.Encodings.{section_has, are_alike}
-use Rattle.thorin_input.specs.NewUnits.{none_met, with_each_section}
-use Rattle.thorin_input.specs.View.{used, source, tables_in}
+use Rattle.thorin_builder.proofs.Terms
+use Terms.{◌&&◌, [], adding_of, are_alike, drop, list_all, map, met_of, new_of, none_met}
+use Terms.{section_has, source, tables_in, used, with_each_section, ◌≡◌}
 use Rattle.thorin_builder.proofs.new_units.NewUnits.read.Given as goal
 
 -- what the sections that are left add to the units so far is what all add; and all have the input's

@@ -1,5 +1,5 @@
-use Rattle.std.proofs.Common.{◌≡◌, ap, rules, Some, None}
-use Rattle.thorin_builder.proofs.Terms.{State, building, in_progress_of, begun_of}
+use Rattle.thorin_builder.proofs.Terms
+use Terms.{ap, begun_of, building, in_progress_of, None, rules, Some, State, ◌≡◌}
 use Rattle.thorin_builder.proofs.AddedAgain.{input-known, taken-known, later-known, with_again}
 use Rattle.thorin_builder.proofs.package.DwarfPackage.add_again.Goals.{in-Some+in_ok-add_again}
 use Rattle.thorin_builder.proofs.package.DwarfPackage.add_again.Goals.{in_default}

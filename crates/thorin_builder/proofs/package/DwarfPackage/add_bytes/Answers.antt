@@ -1,10 +1,7 @@
-use Rattle.std.proofs.Common.{◌≡◌, ◌∙◌, Bool, true, false, not, cond, sym, refl}
-use Rattle.std.proofs.Common.{Option, Some, None}
-use Rattle.thorin_builder.proofs.Terms.{is_some, Encoding, building, begun_of}
-use Rattle.std.proofs.lemmas.Bool.{le-ltb, lt-ltb}
-use Rattle.thorin_builder.specs.declared.in_progress.InProgressDwarfPackage.{InProgressDwarfPackage}
-use Rattle.thorin_join.specs.Builder.{State, with_own, own_after}
-use Rattle.thorin_input.specs.Encodings.{common}
+use Rattle.thorin_builder.proofs.Terms
+use Terms.{begun_of, Bool, building, common, cond, Encoding, InProgressDwarfPackage, le-ltb, lt-ltb}
+use Terms.{not, Option, own_after, rules, State, sym, with_own, ◌∙◌, ◌≡◌}
+use Rattle.std.specs.Prelude.{is_some}
 use Rattle.thorin_builder.proofs.AddedAgain.{joined-later, taken-as}
 use Rattle.thorin_builder.proofs.package.DwarfPackage.add_bytes.Goals.{then-unit_count-units}
 use Rattle.thorin_builder.proofs.package.DwarfPackage.add_bytes.Goals.{else-unit_count-units+then-is_first}
@@ -14,10 +11,7 @@ use Rattle.thorin_builder.proofs.package.DwarfPackage.add_bytes.Goals as goal
 -- the first input has its own encoding, a later one what all have
 with-own : (p : Option InProgressDwarfPackage) (first : Bool) (own found : Option Encoding)
     → is_some p ≡ not first → with_own (begun_of p) own found ≡ cond first found (common own found)
-with-own None true own found h = refl
-with-own None false own found h = absurd cc
-with-own (Some made) true own found h = absurd cc
-with-own (Some made) false own found h = refl
+with-own p first own found h = grind rules
 
 -- a refused object leaves it so
 pub invariant_of-self : goal.invariant_of-self

@@ -1,5 +1,4 @@
-use Rattle.std.proofs.Common.{◌∙◌, rules}
-use Rattle.std.proofs.lemmas.Result.{err_from_is_err_and}
+use Rattle.thorin_builder.proofs.Terms.{err_from_is_err_and, rules, ◌∙◌}
 use Rattle.thorin_builder.proofs.Running.{none-taken, next-taken, next-refused, list-ended}
 use Rattle.thorin_builder.proofs.Running.{list-error}
 use Rattle.thorin_builder.proofs.package.DwarfPackage.add_each.Goals as goal

@@ -1,6 +1,5 @@
-use Rattle.std.proofs.Common.{◌≡◌, length}
+use Rattle.thorin_builder.proofs.Terms.{AreTaken, length, ◌≡◌}
 use Rattle.thorin_builder.proofs.Running.{TakenUpTo}
-use Rattle.thorin_builder.specs.Repeated.{AreTaken}
 use Rattle.thorin_builder.specs.Taking.{IsUnread}
 use Rattle.thorin_builder.proofs.package.DwarfPackage.add_each.Given as goal
 

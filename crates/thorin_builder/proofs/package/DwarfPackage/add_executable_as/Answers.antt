@@ -1,4 +1,4 @@
-use Rattle.std.proofs.Common.{refl, rules, Ok, Err, []}
+use Rattle.thorin_builder.proofs.Terms.{[], Err, Ok, refl, rules}
 use Rattle.thorin_errors.specs.declared.error.InputError.TheVariants.{Io, Memory}
 use Rattle.thorin_builder.proofs.package.DwarfPackage.add_executable_as.Goals as goal
 

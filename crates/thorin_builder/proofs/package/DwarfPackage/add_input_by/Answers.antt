@@ -1,4 +1,4 @@
-use Rattle.std.proofs.Common.{refl, rules, Ok, Err, []}
+use Rattle.thorin_builder.proofs.Terms.{[], Err, Ok, refl, rules}
 use Rattle.thorin_errors.specs.declared.error.InputError.TheVariants.{Io, Memory}
 use Rattle.thorin_builder.specs.Taking.{accepted_of}
 use Rattle.thorin_builder.proofs.package.DwarfPackage.add_input_by.Goals as goal

@@ -1,4 +1,4 @@
-use Rattle.std.proofs.lemmas.Result.{err_from_is_err_and}
+use Rattle.thorin_builder.proofs.Terms.{err_from_is_err_and}
 use Rattle.thorin_builder.proofs.Running.{none-taken, list-error}
 use Rattle.thorin_builder.proofs.package.DwarfPackage.add_named.Goals as goal
 

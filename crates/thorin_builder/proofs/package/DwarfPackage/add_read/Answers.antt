@@ -1,4 +1,4 @@
-use Rattle.std.proofs.Common.{rules, inl}
+use Rattle.thorin_builder.proofs.Terms.{inl, rules}
 use Rattle.thorin_builder.proofs.package.DwarfPackage.add_read.Goals.{then-not-is_there+in-Some}
 use Rattle.thorin_builder.proofs.package.DwarfPackage.add_read.Goals.{then-not-is_there+in_default}
 use Rattle.thorin_builder.proofs.package.DwarfPackage.add_read.Goals.{else-not-is_there}

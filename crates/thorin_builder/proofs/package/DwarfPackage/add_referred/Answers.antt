@@ -1,4 +1,4 @@
-use Rattle.std.proofs.Common.{refl, rules, Ok, Err, []}
+use Rattle.thorin_builder.proofs.Terms.{[], Err, Ok, refl, rules}
 use Rattle.std.specs.Path.{path_bytes}
 use Rattle.thorin_errors.specs.declared.error.InputError.TheVariants.{Io, Memory}
 use Rattle.thorin_builder.specs.Taking.{Outcome, PassesOver, TakesReferredFile, accepted_of}

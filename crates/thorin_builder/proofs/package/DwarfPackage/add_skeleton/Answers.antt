@@ -1,8 +1,6 @@
-use Rattle.std.proofs.Common.{ℕ, List, refl, rules, inl, inr, [], Ok, Err}
-use Rattle.std.proofs.lemmas.Result.{on_ok_weaker}
+use Rattle.thorin_builder.proofs.Terms
+use Terms.{[], Err, inl, inr, IsTaken, List, Ok, on_ok_weaker, refl, rules, State, ℕ}
 use Rattle.thorin_errors.specs.declared.error.InputError.TheVariants.{Io, Memory}
-use Rattle.thorin_join.specs.Builder.{State}
-use Rattle.thorin_builder.specs.Repeated.{IsTaken}
 use Rattle.thorin_builder.specs.Taking.{Outcome, TakesReferredFile, TakesSkeleton, accepted_of}
 use Rattle.thorin_builder.proofs.AddedAgain.{are-taken-later, target-kept, taken-found}
 use Rattle.thorin_builder.proofs.package.DwarfPackage.add_skeleton.Given.{Over}

@@ -1,5 +1,4 @@
-use Rattle.std.proofs.Common.{◌≡◌, ◌∙◌, ap, sym, Some, rules}
-use Rattle.thorin_builder.proofs.Terms.{names_in, in_progress_of}
+use Rattle.thorin_builder.proofs.Terms.{ap, in_progress_of, names_in, rules, Some, sym, ◌∙◌, ◌≡◌}
 use Rattle.thorin_builder.proofs.Running.{names-begun}
 use Rattle.thorin_builder.proofs.package.DwarfPackage.contained_units.Goals as goal
 

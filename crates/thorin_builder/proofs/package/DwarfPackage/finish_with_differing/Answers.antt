@@ -1,8 +1,6 @@
-use Rattle.std.proofs.Common.{◌≡◌, Ok, Err, Result, IfOk, rules}
-use Rattle.dwp_elf.specs.FileText.{Object as File}
-use Rattle.thorin_errors.specs.declared.error.Error.{Error}
-use Rattle.thorin_errors.specs.Answers.{Gives}
-use Rattle.thorin_join.specs.Builder.{State, finish_test, IsFinishedState}
+use Rattle.thorin_builder.proofs.Terms
+use Terms.{Err, Error, File, finish_test, Gives, IfOk, IsFinishedState, Ok, Result, rules, State}
+use Terms.{◌≡◌}
 use Rattle.thorin_again.specs.OwnAccepted.{IsAcceptedOnceWritten, IsAcceptedByNewOnceWritten}
 use Rattle.thorin_builder.proofs.package.DwarfPackage.finish_with_differing.Goals as goal
 

@@ -1,5 +1,4 @@
-use Rattle.std.proofs.Common.{◌∙◌, ap, refl}
-use Rattle.thorin_builder.proofs.Terms.{list_any, same_name}
+use Rattle.thorin_builder.proofs.Terms.{ap, list_any, refl, same_name, ◌∙◌}
 use Rattle.thorin_builder.proofs.NewUnitLemmas.{among-is}
 use Rattle.thorin_builder.proofs.Running.{names-begun}
 use Rattle.thorin_builder.proofs.package.DwarfPackage.is_there.Goals as goal

@@ -1,5 +1,4 @@
-use Rattle.std.proofs.Common.{◌∙◌, ap₂, rules}
-use Rattle.thorin_builder.proofs.Terms.{filter, is_missing}
+use Rattle.thorin_builder.proofs.Terms.{ap₂, filter, is_missing, rules, ◌∙◌}
 use Rattle.thorin_builder.proofs.Running.{names-begun}
 use Rattle.thorin_builder.proofs.package.DwarfPackage.missing_targets.Goals as goal
 

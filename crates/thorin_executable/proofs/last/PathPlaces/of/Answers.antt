@@ -1,5 +1,4 @@
-use Rattle.std.proofs.Common.{◌≡◌, Some, ap, rules}
-use Rattle.std.specs.Prelude.{option_map}
+use Rattle.std.proofs.Common.{◌≡◌, Some, ap, rules, option_map}
 use Rattle.dwp_dwarf.specs.Attributes.{attribute_of}
 use Rattle.dwp_dwarf.specs.Split.{attributes_of}
 use Rattle.thorin_executable.specs.Paths.{base_of}

@@ -1,9 +1,6 @@
-use Rattle.std.proofs.Common.{◌≡◌, ◌∙◌, [], arith, drop, sym}
-use Rattle.std.proofs.lemmas.List.{drop_all}
+use Rattle.thorin_index.proofs.Terms
+use Terms.{[], arith, blank, drop, drop_all, parts_test, sym, test_of, ◌∙◌, ◌≡◌}
 use Rattle.std.proofs.lemmas.Result.{err_from_is_err_and}
-use Rattle.thorin_index.specs.EntryTests.{parts_test}
-use Rattle.thorin_index.specs.PartTests.{test_of}
-use Rattle.thorin_index.specs.Rows.{blank}
 use Rattle.thorin_index.proofs.Each.{each_passed, next_fails, next_passes}
 use Rattle.thorin_index.proofs.entry_tests.PartTest.test_entries.Goals as goal
 

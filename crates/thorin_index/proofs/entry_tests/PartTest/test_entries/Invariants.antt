@@ -1,6 +1,4 @@
-use Rattle.std.proofs.Common.{◌≡◌, drop}
-use Rattle.thorin_index.specs.EntryTests.{each, parts_test}
-use Rattle.thorin_index.specs.PartTests.{test_of}
+use Rattle.thorin_index.proofs.Terms.{drop, each, parts_test, test_of, ◌≡◌}
 use Rattle.thorin_index.proofs.entry_tests.PartTest.test_entries.Given as goal
 
 -- what is left has the first error of all

@@ -1,7 +1,5 @@
-use Rattle.std.proofs.Common.{◌≡◌, drop, get_or}
+use Rattle.thorin_index.proofs.Terms.{blank, drop, get_or, test_of, ◌≡◌}
 use Rattle.thorin_index.specs.EntryTests.{each_part}
-use Rattle.thorin_index.specs.PartTests.{test_of}
-use Rattle.thorin_index.specs.Rows.{blank}
 use Rattle.thorin_index.proofs.entry_tests.PartTest.test_parts.Given as goal
 
 -- what is left has the first error of all

@@ -1,4 +1,4 @@
-use Rattle.std.proofs.Common.{◌∙◌}
+use Rattle.thorin_index.proofs.Terms.{◌∙◌}
 use Rattle.thorin_index.proofs.RowLemmas.{kept_rows, numbered_pushed, on_err, pushed}
 use Rattle.thorin_index.proofs.rows.IndexRows.push.Goals as goal
 

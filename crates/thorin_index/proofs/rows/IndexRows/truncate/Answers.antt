@@ -1,6 +1,4 @@
-use Rattle.std.proofs.Common.{refl}
-use Rattle.std.proofs.lemmas.List.{take-map}
-use Rattle.thorin_index.specs.Rows.{row_of}
+use Rattle.thorin_index.proofs.Terms.{refl, row_of, take-map}
 use Rattle.thorin_index.proofs.rows.IndexRows.truncate.Goals as goal
 
 pub returns : goal.returns

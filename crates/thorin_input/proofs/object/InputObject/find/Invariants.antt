@@ -1,5 +1,4 @@
-use Rattle.std.proofs.Common.{◌≡◌, map, drop}
-use Rattle.std.specs.Prelude.{find}
+use Rattle.std.proofs.Common.{◌≡◌, map, drop, find}
 use Rattle.thorin_input.specs.Used.{has_kind}
 use Rattle.thorin_input.specs.View.{used}
 use Rattle.thorin_input.proofs.object.InputObject.find.Given as goal

@@ -1,5 +1,4 @@
-use Rattle.std.proofs.Common.{◌≡◌, ap, arith, sym, refl, ◌∙◌}
-use Rattle.std.specs.Option.{option_copied}
+use Rattle.std.proofs.Common.{◌≡◌, ap, arith, sym, refl, ◌∙◌, option_copied}
 use Rattle.thorin_packaged.specs.RowPlaces.{row_by_place}
 use Rattle.thorin_packaged.proofs.RowSteps.{from_end, from_absent, from_range}
 use Rattle.thorin_packaged.proofs.row_places.RowPlaces.new.Goals as goal

@@ -1,7 +1,6 @@
 use Rattle.std.proofs.Common.{arith}
 use Rattle.std.proofs.lemmas.List.{take_rest}
-use Rattle.thorin_strings.proofs.ReadLemmas.{read_front}
-use Rattle.thorin_strings.proofs.KnownLemmas.{read_used}
+use Rattle.thorin_strings.proofs.KnownLemmas.{read_front, read_used}
 use Rattle.thorin_strings.proofs.table.PackageStringTable.guessed_offset.Goals as goal
 
 pub returns-clause-meaning : goal.returns-clause-meaning

@@ -1,0 +1,46 @@
+-- The names that proofs of this crate cite most, passed on from one place. Declares nothing.
+pub use Rattle.std.proofs.Common.{BTreeMap, Bool, Err, IfSome, List, None, Ok, OnOk, Option, Result}
+pub use Rattle.std.proofs.Common.{Some, [], add-zero, ap, append-nil, append_assoc, arith, cond}
+pub use Rattle.std.proofs.Common.{drop, eq-eqb, eqb, eqb-true, false, find, flat_map, if◌then◌else◌}
+pub use Rattle.std.proofs.Common.{is_err, is_none, is_ok, is_some, le-ltb, leb, leb-true, length}
+pub use Rattle.std.proofs.Common.{length-append, length-drop, length-take, length-take-le, lt-ltb}
+pub use Rattle.std.proofs.Common.{ltb, ltb-false, ltb-true, map, nat_cmp, ne_eqb, ok_or, refl}
+pub use Rattle.std.proofs.Common.{rules, slice_get, subst, suc, sym, take, take-add}
+pub use Rattle.std.proofs.Common.{take-append-drop, true, vec_len, zero, ℕ, ◌%◌, ◌&&◌, ◌++◌, ◌+◌}
+pub use Rattle.std.proofs.Common.{◌-◌, ◌<◌, ◌↔◌, ◌∙◌, ◌∷◌, ◌≡◌, ◌≢◌, ◌≤◌}
+pub use Rattle.std.proofs.lemmas.Bool.{eqb-false}
+pub use Rattle.std.proofs.lemmas.Grind.{common_steps}
+pub use Rattle.std.proofs.lemmas.List.{drop-take, drop_more, nil_from_length}
+pub use Rattle.std.proofs.lemmas.Result.{err_from_is_err_and}
+pub use Rattle.std.specs.BTreeMap.{get}
+pub use Rattle.dwp_base.proofs.Bools.{by-bool, neither}
+pub use Rattle.dwp_base.specs.Reading.{Answers, ◌>>=◌}
+pub use Rattle.dwp_bytes.specs.Input.{Goes, Input, front}
+unfoldable pub use Rattle.dwp_bytes.specs.Input.{byte_at, skip_at, split_at}
+unfoldable pub use Rattle.dwp_bytes.specs.Leb.{leb_at, uleb_at}
+pub use Rattle.dwp_bytes.specs.declared.encoding.Encoding.{Encoding}
+pub use Rattle.dwp_bytes.specs.declared.encoding.Format.{Format}
+pub use Rattle.dwp_bytes.specs.declared.error.ReadError.{ReadError}
+pub use Rattle.dwp_bytes.specs.declared.error.ReadError.TheVariants.{OffsetOutOfRange}
+pub use Rattle.dwp_bytes.specs.declared.error.ReadError.TheVariants.{UnexpectedEof, UnknownCode}
+pub use Rattle.dwp_bytes.specs.declared.error.ReadError.TheVariants.{UnknownForm}
+pub use Rattle.dwp_dwarf.specs.Abbreviations.{Declaration, Specification, past_specifications}
+unfoldable pub use Rattle.dwp_dwarf.specs.Abbreviations.{declaration, declaration_at, pairs_in}
+pub use Rattle.dwp_dwarf.specs.Attributes.{attribute_of, attribute_seen, attributes_left, entry_of}
+pub use Rattle.dwp_dwarf.specs.Chains.{RemembersPlaces, StandsAt}
+pub use Rattle.dwp_dwarf.specs.Declarations.{declaration_of, found_of, specification_of}
+pub use Rattle.dwp_dwarf.specs.Entries.{DebugAttribute, DebugEntry, attributes, entry}
+unfoldable pub use Rattle.dwp_dwarf.specs.Entries.{attribute_at}
+pub use Rattle.dwp_dwarf.specs.Forms.{layout_of}
+unfoldable pub use Rattle.dwp_dwarf.specs.Forms.{named_form_at, past_value, value_at}
+unfoldable pub use Rattle.dwp_dwarf.specs.Grammar.{next_at}
+pub use Rattle.dwp_dwarf.specs.Needed.{is_needed, is_unmet, met, needed, none_met}
+pub use Rattle.dwp_dwarf.specs.Numbers.{first_number, has_bytes, named_number, number_or}
+unfoldable pub use Rattle.dwp_dwarf.specs.Offsets.{from_at}
+pub use Rattle.dwp_dwarf.specs.Remembered.{ListsNeeded, known_or, remembered}
+pub use Rattle.dwp_dwarf.specs.Split.{SplitAttributes, attributes_of}
+unfoldable pub use Rattle.dwp_dwarf.specs.Split.{split_in}
+pub use Rattle.dwp_dwarf.specs.Units.{Unit}
+pub use Rattle.dwp_dwarf.specs.declared.abbrev.Abbreviation.{Abbreviation}
+pub use Rattle.dwp_dwarf.specs.declared.form.Layout.TheVariants.{Fixed}
+pub use Rattle.dwp_dwarf.specs.declared.versions.Node.{Node}
