@@ -1,20 +1,24 @@
 -- The string at the front of some bytes, up to the first zero.
-use Rattle.std.proofs.Common.{get_or-take, length-take}
+use Rattle.std.proofs.Common.{get_or-take, IfSome, IsNone, length-take, unwrap_or}
 use Rattle.dwp_strings.proofs.Terms
 use Terms.{◌+◌, ◌++◌, ◌<◌, [], add-one, ap, arith, eq-eqb, eqb, get_or, get_or_default, IsFirstZero}
 use Terms.{IsZeroFree, length, List, ne_eqb, position_or_len_is, suc, take, take-suc, terminated}
-use Terms.{zero, ℕ, ◌∙◌, ◌∷◌, ◌≡◌}
+use Terms.{None, Option, refl, Some, sym, zero, ℕ, ◌∙◌, ◌∷◌, ◌≡◌, ◌≢◌}
 use Rattle.dwp_strings.proofs.CompareLemmas.{front_string, front_string-cons}
 
 -- no byte of it is zero
-pub ended_free : (rest : List ℕ) (end : ℕ) → IsFirstZero rest end → IsZeroFree (take end rest)
-ended_free rest end is_zero = λ k d below same. grind (
+pub before_free : (rest : List ℕ) (end : ℕ) → ((k : ℕ) → k < end → get_or rest k 0 ≢ 0)
+    → IsZeroFree (take end rest)
+before_free rest end before = λ k d below same. grind (
   arith,
   length-take end rest,
-  is_zero.before k,
+  before k,
   get_or_default rest k 0 d,
   get_or-take end rest k d,
 )
+
+pub ended_free : (rest : List ℕ) (end : ℕ) → IsFirstZero rest end → IsZeroFree (take end rest)
+ended_free rest end is_zero = before_free rest end is_zero.before
 
 -- bytes that are the same as far as a zero begin with the same string
 pub alike_front : (xs ys : List ℕ) (end : ℕ) → end < length xs → end < length ys
@@ -41,3 +45,25 @@ pub ended_take : (rest : List ℕ) (end : ℕ) → IsFirstZero rest end → take
 ended_take rest end is_zero =
     rw add-one (take-suc rest end 0 is_zero.within ∙ ap (λ b. take end rest ++ b ∷
     []) is_zero.ended)
+
+-- the first zero as far as one ends it
+pub first_front : (rest : List ℕ) (end : ℕ) (first : Option ℕ) → end < length rest
+    → get_or rest end 0 ≡ 0 → IfSome first (IsFirstZero (take end rest))
+    → (IsNone first → IsZeroFree (take end rest))
+    → take (unwrap_or first end) rest ≡ front_string rest
+first_front rest end None within ended some none =
+    let long = length-take end rest in
+    let taken = get_or-take end rest in
+    sym (ended_front rest end record {
+      within = within;
+      ended = ended;
+      before = λ k less. grind (arith, none refl k 0, long, taken k 0);
+    })
+first_front rest end (Some first) within ended some none =
+    let long = length-take end rest in
+    let taken = get_or-take end rest in
+    sym (ended_front rest first record {
+      within = omega (arith, some.within, long);
+      ended = grind (arith, some.within, some.ended, long, taken first 0);
+      before = λ k less. grind (arith, some.within, some.before k less, long, taken k 0);
+    })

@@ -1,8 +1,9 @@
 //! Where strings end, looked for 64 bytes at a time: few are longer than some such steps.
 
-ghost use Rattle.std.specs.Prelude.{◌≡◌, ◌≢◌, ℕ, ◌+◌, ◌<◌, ◌≤◌, length, slice_index, IfSome};
-ghost use Rattle.std.specs.Prelude.{IsTrue};
+ghost use Rattle.std.specs.Prelude.{◌≡◌, ◌≢◌, ℕ, ◌+◌, ◌*◌, ◌<◌, ◌≤◌, length, take, slice_index};
+ghost use Rattle.std.specs.Prelude.{IfSome, IsNone, IsTrue};
 ghost use Rattle.dwp_strings.specs.Ends.{IsFirstZero};
+ghost use Rattle.dwp_strings.specs.Strings.{IsZeroFree};
 
 use memchr::memchr;
 use std::simd::prelude::*;
@@ -31,11 +32,13 @@ fn before_zero(bytes: &[u8], at: usize) -> usize
     zeros.trailing_zeros() as usize
 }
 
-/// Where the string at the front of some bytes ends, where so many steps find it, and it isn't near
-/// their end.
+/// Where the string at the front of some bytes ends, where so many steps of 64 bytes find it. None
+/// also where fewer bytes are left for a step.
 #[inline(always)]
 pub fn short_end(bytes: &[u8], rounds: usize) -> Option<usize>
-    ensures { IfSome result (IsFirstZero bytes.now) }
+    ensures some { IfSome result (IsFirstZero bytes.now) }
+    ensures none { IsNone result → rounds * 64 ≤ length bytes.now
+        → IsZeroFree (take (rounds * 64) bytes.now) }
 {
     for round in 0..rounds {
         let at = round * LANES;
@@ -53,7 +56,8 @@ pub fn short_end(bytes: &[u8], rounds: usize) -> Option<usize>
 /// Where the string at the front of some bytes ends; none where it has no end.
 #[inline(never)]
 pub fn end_of(bytes: &[u8]) -> Option<usize>
-    ensures { IfSome result (IsFirstZero bytes.now) }
+    ensures some { IfSome result (IsFirstZero bytes.now) }
+    ensures none { IsNone result → IsZeroFree bytes.now }
 {
     match memchr(0, bytes) {
         Some(end) => Some(end),

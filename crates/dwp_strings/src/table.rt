@@ -21,8 +21,7 @@ pub struct TableMark {
     pub bytes: usize,
 }
 
-/// Distinct strings, in order of first use. In clauses the table is the list of
-/// these strings.
+/// Distinct strings, in order of first use. In clauses the table is the list of these strings.
 ///
 /// No string is copied but into the data. A string is found by its hash, which has the string's
 /// place. Those that share a hash, and new ones where no more hashes get places, are kept by their

@@ -1,5 +1,5 @@
-//! Entries of string offsets of four bytes whose strings are told by their hashes, one after the
-//! other: nearly all are such.
+//! Entries of string offsets of four bytes whose strings end before that of the next entry: nearly
+//! all are such.
 
 ghost use Rattle.std.specs.Prelude.{◌≡◌, ◌≤◌, ◌<◌, ◌+◌, ◌-◌, ◌*◌, ◌^◌, ℕ, List, length, take, Ok};
 ghost use Rattle.std.specs.Prelude.{IsNone, IfSome};
@@ -15,11 +15,14 @@ use crate::words::{WordRange, word_at, write_word};
 /// are looked for among those that are remembered.
 const SHORT: u64 = 512;
 
+/// As many bytes as four bytes can count.
+const MANY: u64 = 0x1_0000_0000;
+
 impl PackageStringTable {
-    /// The offset of the string at an offset of its section, which is short and ends before the
-    /// next one. None where it isn't that, where fewer bytes are left than a short string may have,
-    /// which `last` tells, where its hash doesn't tell its place or four bytes don't hold it, and for
-    /// want of memory; nothing changed then.
+    /// The offset of the string at an offset of its section, which is short where the next begins
+    /// behind it. None where it isn't, where fewer bytes are left than a short string may have, which
+    /// `last` tells, where four bytes may not hold its place, and for want of memory; nothing changed
+    /// then.
     #[inline(always)]
     fn guessed_offset(&mut self, debug_str: &[u8], last: u64, named: u64, after: u64) -> Option<u64>
         requires { last + 512 ≤ length debug_str.now }
@@ -30,7 +33,7 @@ impl PackageStringTable {
         ensures none { IsNone result → self.new ≡ self.old }
     {
         let end = after.wrapping_sub(named).wrapping_sub(1);
-        if end >= SHORT || named > last {
+        if end >= SHORT || named > last || self.data().len() as u64 >= MANY {
             return None;
         }
         let rest = &debug_str[named as usize..];
@@ -38,7 +41,9 @@ impl PackageStringTable {
         if rest[end] != 0 {
             return None;
         }
-        let offset = self.place_guessed(rest, end)?;
+        let Ok(offset) = self.place_ended(rest, end) else {
+            return None;
+        };
         Some(offset as u64)
     }
 

@@ -1,8 +1,8 @@
 use Rattle.dwp_strings.proofs.Terms.{◌*◌, ◌-◌, arith}
 use Rattle.dwp_strings.proofs.ends.short_end.Goals as goal
 
-pub returns-then-some-lt-LANES : goal.returns-then-some-lt-LANES
-returns-then-some-lt-LANES c = record {
+pub returns-then-some-lt-LANES-clause-some : goal.returns-then-some-lt-LANES-clause-some
+returns-then-some-lt-LANES-clause-some c = record {
   within = omega arith;
   ended = c.before_zero-some.ensures.zero (omega arith);
   before = λ k less.

@@ -6,7 +6,7 @@ use Rattle.thorin_strings.proofs.known.short_string.Goals as goal
 
 pub returns-clause-meaning : goal.returns-clause-meaning
 returns-clause-meaning c = ended_read c.args.debug_str.now _ c.args.offset _ (omega arith)
-    (take_rest c.args.debug_str.now c.args.offset) c.in_ok-length.ensures
+    (take_rest c.args.debug_str.now c.args.offset) c.in_ok-length.ensures.some
 
 pub returns-clause-zero_free : goal.returns-clause-zero_free
-returns-clause-zero_free c = ended_free _ _ c.in_ok-length.ensures
+returns-clause-zero_free c = ended_free _ _ c.in_ok-length.ensures.some
