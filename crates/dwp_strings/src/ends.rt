@@ -32,13 +32,12 @@ fn before_zero(bytes: &[u8], at: usize) -> usize
     zeros.trailing_zeros() as usize
 }
 
-/// Where the string at the front of some bytes ends, where so many steps of 64 bytes find it. None
-/// also where fewer bytes are left for a step.
+/// Where the string at the front of some bytes ends, where so many whole steps of 64 bytes find it.
 #[inline(always)]
 pub fn short_end(bytes: &[u8], rounds: usize) -> Option<usize>
     ensures some { IfSome result (IsFirstZero bytes.now) }
-    ensures none { IsNone result → rounds * 64 ≤ length bytes.now
-        → IsZeroFree (take (rounds * 64) bytes.now) }
+    ensures none { IsNone result → (steps : ℕ) → steps ≤ rounds → steps * 64 ≤ length bytes.now
+        → IsZeroFree (take (steps * 64) bytes.now) }
 {
     for round in 0..rounds {
         let at = round * LANES;
