@@ -1,14 +1,13 @@
 -- One walk over the sections of an input: what is known of those so far, with those that are left.
 use Rattle.std.proofs.Common.{◌≡◌, ◌∙◌, ℕ, Bool, true, false, not, eqb, ◌||◌, ◌&&◌, List, [], ◌∷◌}
 use Rattle.std.proofs.Common.{map, Option, Some, None, Result, Ok, Err, refl, sym, ap, find}
-use Rattle.std.proofs.Common.{is_some, option_and_then, ok_or, MatchResult}
+use Rattle.std.proofs.Common.{arith, is_some, option_and_then, ok_or, MatchResult}
 use Rattle.std.specs.List.{list_any}
 use Rattle.std.proofs.Math.Bool.{or_assoc, or-false}
 use Rattle.dwp_base.specs.declared.endian.Endianness.{Endianness}
 use Rattle.dwp_base.specs.declared.section.SectionKind.{SectionKind}
 use Rattle.dwp_base.specs.declared.section.SectionKind.TheVariants as kinds
-use Rattle.dwp_base.specs.Sections.{name_of, compressed_name_of, kind_named, all_kinds, same_kind}
-use Rattle.dwp_base.proofs.Bools.{by-bool}
+use Rattle.dwp_base.specs.Sections.{name_of, compressed_name_of, kind_named, all_kinds}
 use Rattle.dwp_elf_read.specs.declared.error.ReadError.TheVariants.{Compressed, SectionRange}
 use Rattle.dwp_elf_read.specs.Elf.{Elf, SectionMeaning, SHT_NOBITS, name_is, is_named}
 use Rattle.dwp_elf_read.specs.Elf.{has_compressed_flag}
@@ -19,7 +18,7 @@ use Rattle.thorin_errors.specs.Errors.{ErrorValue, error_of, DecompressData, Obj
 use Rattle.thorin_errors.specs.Answers.{Gives, MemoryAside, as_error}
 use Rattle.thorin_errors.specs.declared.error.Error.{Error}
 use Rattle.thorin_input.specs.Encodings.{is_index, is_plain}
-use Rattle.thorin_input.specs.Used.{Used, used_kind, unusable, used_bytes, has_kind, with_used}
+use Rattle.thorin_input.specs.Used.{Used, used_kind, used_bytes, has_kind, with_used}
 use Rattle.thorin_input.specs.Used.{used_from, input_file_of}
 use Rattle.thorin_input.specs.View as view
 use Rattle.thorin_input.specs.declared.object.InputObject.{InputObject}
@@ -55,33 +54,21 @@ pub bytes-plain : (kind : SectionKind) (s : SectionMeaning)
     → (has_compressed_flag s || name_is (compressed_name_of kind) s.name) ≡ false
     → used_bytes kind s ≡ as_error ObjectRead (ok_or s.content SectionRange)
 unfolding used_bytes contents.used_bytes
-bytes-plain kind s h = rw (← called_is_older kind s.name, h) (range-error s.content)
-  where
-    range-error : (content : Option (List ℕ)) → as_error unusable (ok_or content SectionRange)
-        ≡ as_error ObjectRead (ok_or content SectionRange)
-    range-error None = refl
-    range-error (Some bytes) = refl
+bytes-plain kind s h = grind (arith, called_is_older kind s.name, h)
 
 -- ---- kinds among those that are used
 
 pub found-any : {A : Type 0} (test : A → Bool) (xs : List A) → is_some (find test xs) ≡
     list_any test xs
 found-any test [] = refl
-found-any test (x ∷ xs) =
-    by-bool _ (test x) (λ e. rw e refl) (λ e. rw e (found-any test xs))
+found-any test (x ∷ xs) = grind (arith, found-any test xs)
 
 -- an index is one of the two
-both : (a b x y : Bool) → ((a || b) || (x || y)) ≡ ((a || x) || (b || y))
-both true b x y = refl
-both false true true y = refl
-both false true false y = refl
-both false false x y = refl
-
 pub either-index : (ss : List UsedSection) → (list_any (has_kind kinds.CuIndex) (map view.used ss)
     || list_any (has_kind kinds.TuIndex) (map view.used ss))
     ≡ list_any (λ s. is_index (view.used s)) ss
 either-index [] = refl
-either-index (s ∷ ss) = rw (← either-index ss) (both (same_kind s.kind kinds.CuIndex) _ _ _)
+either-index (s ∷ ss) = grind (arith, either-index ss)
 
 any-index : (ss : List UsedSection)
     → list_any (λ s. is_index (view.used s)) ss ≡ list_any is_index (map view.used ss)

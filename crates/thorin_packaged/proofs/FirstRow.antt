@@ -1,10 +1,10 @@
 -- The first row that a test finds.
-use Rattle.std.proofs.Common.{◌≡◌, ◌≢◌, ℕ, zero, suc, ◌+◌, ◌<◌, ◌≤◌, Bool, true, false, eqb, length}
-use Rattle.std.proofs.Common.{map, Some, None, Ok, Err, Option, Result, ap, ap₂, refl, ⊎_elim}
-use Rattle.std.proofs.Common.{arith, MatchOption, option_and_then, eqb-true, eq-eqb}
+use Rattle.std.proofs.Common.{◌≡◌, ◌≢◌, ℕ, zero, suc, ◌+◌, ◌<◌, ◌≤◌, Bool, true, false, length}
+use Rattle.std.proofs.Common.{map, Some, None, Ok, Err, Option, Result, refl}
+use Rattle.std.proofs.Common.{arith, MatchOption, option_and_then}
 use Rattle.std.specs.List.{position_from, range_with_len}
 use Rattle.std.specs.Result.{result_ok}
-use Rattle.std.proofs.lemmas.Bool.{cases_eq, and_parts}
+use Rattle.std.proofs.lemmas.Bool.{cases_eq}
 use Rattle.std.proofs.lemmas.Bool.Decides.{nat_tests}
 use Rattle.dwp_base.proofs.Bools.{by-bool}
 use Rattle.dwp_base.specs.declared.section.SectionKind.{SectionKind}
@@ -30,9 +30,7 @@ module _ {X : Type 0} (t : X → Bool) (f : ℕ → X) where
   IsFound a end found = MatchOption found (NonePasses a end) (IsFirstAt a end)
 
   more_fail : (a end : ℕ) → t (f a) ≡ false → NonePasses (a + 1) end → NonePasses a end
-  more_fail a end fails others j from below =
-      ⊎_elim (λ (same : j ≡ a). rw same fails) (λ other. others j (omega arith) below)
-      (cases_eq j a)
+  more_fail a end fails others j from below = grind (arith, cases_eq j a, others j)
 
   one_fails : (a end : ℕ) (found : Option ℕ) → t (f a) ≡ false → IsFound (a + 1) end found
       → IsFound a end found
@@ -61,11 +59,7 @@ module _ {X : Type 0} (t : X → Bool) (f : ℕ → X) where
 -- ---- a row's range
 pub range_is : (range : Contribution) (found : Option Contribution) → is_range range found ≡ true
     → found ≡ Some range
-range_is range None passes = absurd cc
-range_is range (Some r) passes =
-    let both = and_parts (eqb r.offset.0 range.offset.0) (eqb r.size range.size) passes in
-    ap₂ (λ (o s : ℕ). Some (record { offset = record { 0 = o }; size = s }))
-    (eqb-true r.offset.0 range.offset.0 both.0) (eqb-true r.size range.size both.1)
+range_is range found passes = grind (arith, nat_tests)
 
 row_with : (kind : SectionKind) (range : Contribution) (found : Result Ranges ReadError)
     → option_and_then (λ row. range_in row kind) (result_ok found) ≡ Some range → (row : Ranges)
@@ -98,8 +92,7 @@ module _ (index : Index) (kind : SectionKind) (range : Contribution) where
 
   has_range : (number : ℕ) (row : Ranges) → row_in index number ≡ Ok row
       → range_in row kind ≡ Some range → test (of_row number) ≡ true
-  has_range number row there has =
-      rw (there, has, eq-eqb range.offset.0 _ refl, eq-eqb range.size _ refl) refl
+  has_range number row there has = grind (arith, nat_tests)
 
   row_found : (number : ℕ) → test (of_row number) ≡ true → (row : Ranges)
       × (row_in index number ≡ Ok row) × (range_in row kind ≡ Some range)
@@ -146,11 +139,14 @@ module _ (index : Index) (kind : SectionKind) (range : Contribution) where
 
       found_there : (found : Option ℕ)
           → IsFound test of_row 1 (1 + length index.offsets) found → found ≡ Some number
-      found_there None none =
-          absurd (let fails = none number first.low (omega (arith, first.high)) in cc passes)
+      found_there None none = grind (arith, none number, first.low, first.high, passes)
       found_there (Some i) at =
           let row = row_found i at.here in
-          let not_below : i < number → ⊥ = λ less. first.first i row.0 less row.1 row.2 in
-          let not_above : number < i → ⊥ =
-          λ less. (let fails = at.before number first.low less in cc passes) in
-          ap Some (omega (arith, not_below, not_above))
+          grind (
+            arith,
+            first.first i row.0,
+            row.1,
+            row.2,
+            at.before number first.low,
+            passes,
+          )

@@ -1,7 +1,7 @@
 -- String offsets without a header, joined, are read in turn.
 use Rattle.std.proofs.Common.{◌≡◌, ℕ, ◌+◌, ◌-◌, ◌*◌, ◌/◌, ◌<◌, ◌≤◌, cond, ltb, List, ◌++◌, length}
 use Rattle.std.proofs.Common.{drop, ap, refl, ⊎_elim, arith, length-append, take, Some, None, Ok}
-use Rattle.std.proofs.Common.{sym, ◌∙◌, drop_at, drop-drop, length-drop, lt-ltb, le-ltb, add-mul}
+use Rattle.std.proofs.Common.{sym, ◌∙◌, drop_at, drop-drop, length-drop, lt-ltb, add-mul}
 use Rattle.std.proofs.lemmas.List.{get_or_append_left, drop-append-le}
 use Rattle.std.proofs.lemmas.Bool.{cases_lt, lt-leb}
 use Rattle.std.proofs.lemmas.Bool.Decides.{nat_tests}
@@ -99,11 +99,7 @@ module _ (order : Endianness) (encoding : Encoding) (first second : List ℕ) (n
       i ≡ cond (ltb i n) (string_in order encoding strings first i) (string_in order encoding
       strings second (i - n))
   unfolding string_in
-  joined_read strings i =
-      ⊎_elim
-      (λ less. rw (lt-ltb i n less, entry_before i less) refl)
-      (λ past. rw (le-ltb i n past, entry_behind i past) refl)
-      (cases_lt i n)
+  joined_read strings i = grind (arith, nat_tests, entry_before i, entry_behind i)
 
 -- ---- a rewritten range of string offsets reads as it read before
 offset_is : (order : Endianness) (format : Format) (bytes : List ℕ) (at offset : ℕ)
@@ -119,18 +115,18 @@ named_read : (order : Endianness) (encoding : Encoding) (section bytes : List �
 unfolding string_in entry_in named_at
 named_read order encoding section bytes i string less h =
     let offset = bind-was _ _ string h in
-    rw (
-      lt-ltb i (entry_count encoding (length bytes)) less,
+    grind (
+      arith,
+      nat_tests,
       offset_is order encoding.format bytes _ offset.0 (as_error_ok _ _ offset.0 offset.1),
       as_error_ok _ (string_at section offset.0) string offset.2,
-    ) refl
+    )
 
 -- past the last there is none
 past_read : (order : Endianness) (encoding : Encoding) (section bytes : List ℕ) (i : ℕ)
     → entry_count encoding (length bytes) ≤ i → string_in order encoding section bytes i ≡ Ok None
 unfolding string_in entry_in
-past_read order encoding section bytes i past =
-    rw (le-ltb i (entry_count encoding (length bytes)) past) refl
+past_read order encoding section bytes i past = grind (arith, nat_tests)
 
 pub strings_again : (order : Endianness) (encoding : Encoding) (section bytes : List ℕ)
     (before : List (List ℕ)) (rewritten : List ℕ) (after final : List (List ℕ)) → NamesTheSame order

@@ -1,8 +1,7 @@
 -- The range of each row is among the ranges.
 use Rattle.std.proofs.Common.{◌≡◌, ℕ, zero, suc, ◌-◌, List, [], ◌∷◌, length, get_or, Some, None}
-use Rattle.std.proofs.Common.{Option, Ok, ap, sym, refl, ◌∙◌, ◌⊎◌, inl, inr, arith, is_eq, Ordering}
-use Rattle.std.proofs.Common.{Less, Equal, Greater}
-use Rattle.std.specs.Ordering.{match_ordering}
+use Rattle.std.proofs.Common.{Option, Ok, ap, sym, refl, ◌∙◌, ◌⊎◌, inl, arith, is_eq}
+use Rattle.std.proofs.Common.{Equal}
 use Rattle.std.specs.BTreeSet.{insert_key}
 use Rattle.std.proofs.lemmas.Option.{same_Some}
 use Rattle.std.proofs.lemmas.List.FromFn.{get_or-map-range_with_len}
@@ -26,36 +25,22 @@ equal_same r x equal = same_Some _ _ (range_is x (Some r) (sym (key_test r x) �
 inserted : (ranges : List Contribution) (k r : Contribution) → IsIn r (k ∷ ranges)
     → IsIn r (insert_key place_cmp ranges k)
 inserted [] k r there = there
-inserted (x ∷ xs) k r there = by (place_cmp k x) refl (inserted xs k r) there
-  where
-    by : (o : Ordering) → place_cmp k x ≡ o
-        → (IsIn r (k ∷ xs) → IsIn r (insert_key place_cmp xs k)) → IsIn r (k ∷ x ∷ xs)
-        → IsIn r (match_ordering o (k ∷ x ∷ xs) (x ∷ xs) (x ∷ insert_key place_cmp xs k))
-    by Less is later there = there
-    by Equal is later (inl same) = inl (same ∙ equal_same k x is)
-    by Equal is later (inr there) = there
-    by Greater is later (inl same) = inr (later (inl same))
-    by Greater is later (inr (inl first)) = inl first
-    by Greater is later (inr (inr there)) = inr (later (inr there))
+inserted (x ∷ xs) k r there = grind (arith, equal_same k x, inserted xs k r)
 
 -- ---- with those of rows
 rows_still : (rows : List (Option Contribution)) (ranges : List Contribution) (r : Contribution)
     → IsIn r ranges → IsIn r (with_ranges rows ranges)
 rows_still [] ranges r there = there
-rows_still (None ∷ rows) ranges r there = rows_still rows ranges r there
-rows_still (Some k ∷ rows) ranges r there = rows_still rows (insert_key place_cmp ranges k) r
-    (inserted ranges k r (inr there))
+rows_still (row ∷ rows) ranges r there = grind (arith, rows_still rows, inserted ranges)
 
 rows_there : (rows : List (Option Contribution)) (ranges : List Contribution) (r : Contribution)
     (k : ℕ) → get_or rows k None ≡ Some r → IsIn r (with_ranges rows ranges)
 rows_there [] ranges r k at = absurd cc
-rows_there (None ∷ rows) ranges r zero at = absurd cc
-rows_there (Some x ∷ rows) ranges r zero at =
-    rows_still rows (insert_key place_cmp ranges x) r
-    (inserted ranges x r (inl (sym (same_Some _ _ at))))
-rows_there (None ∷ rows) ranges r (suc k) at = rows_there rows ranges r k at
-rows_there (Some x ∷ rows) ranges r (suc k) at =
-    rows_there rows (insert_key place_cmp ranges x) r k at
+rows_there (row ∷ rows) ranges r zero at =
+    let there = rows_still rows (insert_key place_cmp ranges r) r
+    (inserted ranges r r (inl refl)) in
+    grind (arith, there)
+rows_there (row ∷ rows) ranges r (suc k) at = grind (arith, rows_there rows)
 
 -- ---- of both indexes
 index_still : (index : Option Index) (ranges : List Contribution) (r : Contribution) → IsIn r ranges

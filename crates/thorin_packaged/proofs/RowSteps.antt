@@ -1,8 +1,8 @@
 -- Going over the rows of an index.
 use Rattle.std.proofs.Common.{◌≡◌, ℕ, ◌-◌, ◌+◌, ◌<◌, ◌≤◌, eqb, ◌&&◌, [], ◌∷◌, length, drop, map}
-use Rattle.std.proofs.Common.{Some, None, refl, ◌∙◌, arith, List, ap}
+use Rattle.std.proofs.Common.{Some, None, refl, ◌∙◌, arith, List}
 use Rattle.std.specs.List.{position_from, range_with_len}
-use Rattle.std.specs.Ordering.{is_eq, nat_cmp, ordering_then, match_ordering}
+use Rattle.std.specs.Ordering.{is_eq, nat_cmp, ordering_then}
 use Rattle.std.specs.BTreeMap.{BTreeMap, get, is_at, Updates}
 use Rattle.std.proofs.lemmas.Bool.Decides.{nat_tests}
 use Rattle.std.proofs.lemmas.List.{drop_more, drop_all}
@@ -12,7 +12,6 @@ use Rattle.dwp_base.specs.declared.section.Contribution.{Contribution}
 use Rattle.dwp_index.specs.Index.{Index}
 use Rattle.thorin_packaged.specs.RowPlaces.{is_range, range_of_row, ranges_of}
 use Rattle.thorin_packaged.specs.RowPlaceFields.{pair_cmp}
-use Rattle.std.specs.declared.cmp.Ordering.TheVariants.{Less, Equal, Greater}
 use Rattle.std.specs.BTreeSet.{insert_key}
 use Rattle.dwp_base.specs.declared.section.SectionKind.TheVariants.{StrOffsets}
 use Rattle.thorin_packaged.specs.RangeKeys.{range_at}
@@ -91,14 +90,7 @@ pub map-insert_key : (keys : List (ℕ × ℕ)) (key : ℕ × ℕ)
     → map range_at (insert_key pair_cmp keys key) ≡ insert_key place_cmp
     (map range_at keys) (range_at key)
 map-insert_key [] key = refl
-map-insert_key (x ∷ xs) key = elim (pair_cmp key x) as (λ o. map range_at (match_ordering o
-    (key ∷ x ∷ xs) (x ∷ xs) (x ∷ insert_key pair_cmp xs key)) ≡ match_ordering o
-    (range_at key ∷ range_at x ∷ map range_at xs) (range_at x ∷ map range_at xs)
-    (range_at x ∷ insert_key place_cmp (map range_at xs) (range_at key))) [
-      | Less ↦ refl
-      | Equal ↦ refl
-      | Greater ↦ ap (λ l. range_at x ∷ l) (map-insert_key xs key)
-    ]
+map-insert_key (x ∷ xs) key = grind (arith, map-insert_key xs key)
 
 -- ---- one row after another
 module _ (index : Index) (n : ℕ) where

@@ -1,13 +1,10 @@
 -- What words ask for.
-use Rattle.std.proofs.Common.{◌≡◌, ◌≢◌, ◌∙◌, ℕ, Bool, true, List, [], ◌∷◌, codes, Some, None, find}
-use Rattle.std.proofs.Common.{bytes_eq, inl, inr, refl, sym}
+use Rattle.std.proofs.Common.{◌≡◌, ◌≢◌, ℕ, Bool, true, List, [], ◌∷◌, codes, Some, None, find}
+use Rattle.std.proofs.Common.{bytes_eq, inl, inr, refl, arith}
 use Rattle.std.specs.Str.Pattern.{FindsTextPrefix, StripsPrefix}
-use Rattle.std.proofs.lemmas.Bool.{false≢true}
-use Rattle.std.proofs.lemmas.Option.{same_Some}
 use Rattle.std.proofs.lemmas.Slice.Eq.{bytes_eq-Decides}
-use Rattle.dwp_base.specs.Sections.{short_name, kind_of_short_name, all_kinds, rank_of}
+use Rattle.dwp_base.specs.Sections.{short_name, kind_of_short_name, all_kinds}
 use Rattle.dwp_base.specs.declared.section.SectionKind.{SectionKind}
-use Rattle.dwp_base.proofs.Bools.{by-bool}
 use Rattle.dwp_base.proofs.EveryKind.{at-rank}
 use Rattle.thorin_queries.specs.Finding.{HasDigits}
 use Rattle.dwp_index.proofs.HeldContents.{found-none}
@@ -24,9 +21,7 @@ digits_alone text h = inr (h, refl)
 -- what is found passes
 found-passes : {X : Type 0} (p : X → Bool) (xs : List X) (x : X) → find p xs ≡ Some x → p x ≡ true
 found-passes p [] x e = absurd cc
-found-passes p (y ∷ ys) x e = by-bool _ (p y)
-    (λ here. rw (same_Some _ _ (rw here at e)) at here)
-    (λ there. found-passes p ys x (rw there at e))
+found-passes p (y ∷ ys) x e = grind (arith, found-passes p ys x)
 
 -- the kind that was found by its short name
 pub its_short_name : (text : List ℕ) (kind : SectionKind) → kind_of_short_name text ≡ Some kind
@@ -38,6 +33,6 @@ its_short_name text kind e =
 -- a text that is the short name of no kind
 pub no_short_name : (text : List ℕ) → kind_of_short_name text ≡ None → (kind : SectionKind)
     → text ≢ short_name kind
-no_short_name text e kind same = false≢true
-    (sym (found-none (λ k. bytes_eq text (short_name k)) all_kinds (rank_of kind) kind e
-    (at-rank kind)) ∙ (bytes_eq-Decides text (short_name kind)).1 same)
+no_short_name text e kind same =
+    let other = found-none (λ k. bytes_eq text (short_name k)) all_kinds _ kind e (at-rank kind) in
+    cc ((bytes_eq-Decides text (short_name kind)).1 same)

@@ -4,17 +4,15 @@ use Rattle.std.proofs.Common.{Option, Result, Ok, Err, Bor, refl, length, inl, i
 use Rattle.std.proofs.Common.{append_assoc}
 use Rattle.std.specs.declared.io.Error.{Error as IoError}
 use Rattle.std.proofs.KnownBytes.{Appends-trans, Keeps-refl}
-use Rattle.dwp_base.proofs.Bools.{by-bool}
 use Rattle.dwp_elf_read.specs.Elf.{elf_of}
 use Rattle.dwp_elf_read.specs.declared.error.ReadError.{ReadError as ElfError}
 use Rattle.dwp_index.specs.Package.{Package, package_of}
 use Rattle.dwp_index.specs.declared.units.UnitEntry.{UnitEntry}
 use Rattle.thorin_executable.specs.Skeletons.{skeletons_by}
 use Rattle.thorin_queries.specs.Answers.{FailsToRead}
-use Rattle.thorin_queries.specs.Checking.{has_no_index, TellsTaken, TellsExecutable}
-use Rattle.thorin_queries.specs.Checking.{TellsPackage, FailsOne, IsOfReading, IsOfChecking}
-use Rattle.thorin_queries.specs.Checking.{Finishes, ChecksIndexed, ChecksPackage, ChecksBytes}
-use Rattle.thorin_queries.specs.Checking.{Checks}
+use Rattle.thorin_queries.specs.Checking.{has_no_index, TellsTaken, TellsExecutable, TellsPackage}
+use Rattle.thorin_queries.specs.Checking.{FailsOne, IsOfReading, IsOfChecking, Finishes}
+use Rattle.thorin_queries.specs.Checking.{ChecksIndexed, ChecksPackage, ChecksBytes, Checks}
 use Rattle.thorin_queries.specs.Faults.{TellsListed}
 use Rattle.thorin_queries.specs.Listing.{AreByRow}
 use Rattle.thorin_queries.specs.Telling.{IsOfPrinting, Grows, fault_count, Progress, Outcome, Told}
@@ -29,15 +27,11 @@ module _ (offer : List ℕ → Result (List ℕ) IoError → Type 0) where
 
   pub of_printing : (executables : List (Bor (List ℕ))) (failure : Failure) → IsOfPrinting failure
       → IsOfChecking offer executables failure
-  of_printing executables failures.Line h = tt
-  of_printing executables failures.Memory h = tt
-  of_printing executables _ h = absurd h
+  of_printing executables failure h = grind (arith)
 
   pub executable_unread : (path : List ℕ) (failure : Failure) (a : Option (List ℕ))
       → FailsToRead offer path failure → IsOfReading offer path failure × Grows a a
-  executable_unread path failures.Memory a h = (tt, none_grown a)
-  executable_unread path failures.Input a h = (h, none_grown a)
-  executable_unread path _ a h = absurd h
+  executable_unread path failure a h = grind (arith, none_grown a)
 
   -- one of them is one of all
   fails_one : (es : List (Bor (List ℕ))) (i : ℕ) (d : Bor (List ℕ)) → i < length es
@@ -49,10 +43,7 @@ module _ (offer : List ℕ → Result (List ℕ) IoError → Type 0) where
   pub reading_one : (es : List (Bor (List ℕ))) (i : ℕ) (d : Bor (List ℕ)) (failure : Failure)
       → i < length es → IsOfReading offer (get_or es i d).now failure
       → IsOfChecking offer es failure
-  reading_one es i d failures.Input lt h = fails_one es i d lt h
-  reading_one es i d failures.Line lt h = tt
-  reading_one es i d failures.Memory lt h = tt
-  reading_one es i d _ lt h = absurd h
+  reading_one es i d failure lt h = grind (arith, fails_one es i d lt)
 
   -- ---- an executable
 
@@ -63,9 +54,7 @@ module _ (offer : List ℕ → Result (List ℕ) IoError → Type 0) where
       (TellsExecutable offer reading pack executable) a b result
   executable_read reading pack executable a b (Ok done) bytes lent read same t =
       told_as t (λ lines k. record { bytes = bytes; read = read; tells = rw same at k })
-  executable_read reading pack executable a b (Err failures.Line) bytes lent read same t = t
-  executable_read reading pack executable a b (Err failures.Memory) bytes lent read same t = t
-  executable_read reading pack executable a b (Err _) bytes lent read same t = absurd t.0
+  executable_read reading pack executable a b (Err failure) bytes lent read same t = grind (arith)
 
 -- ---- what is taken for an executable
 
@@ -73,11 +62,8 @@ module _ (reading : Reading) (pack : Package) (executable bytes : List ℕ) (a b
   pub taken_as_it_is : (result : Outcome)
       → Tells (TellsListed pack executable (skeletons_by reading.nameless bytes)) a b result
       → Tells (TellsTaken reading pack executable bytes) a b result
-  taken_as_it_is result = tells_as a b result (λ lines k. record {
-    taken = bytes;
-    is_taken = by-bool _ reading.decompresses (λ e. rw e tt) (λ e. rw e refl);
-    listed = k;
-  })
+  taken_as_it_is result = tells_as a b result
+      (λ lines k. record { taken = bytes; is_taken = grind (arith); listed = k })
 
   pub taken_plain : (result : Outcome) (plain : List ℕ) → reading.decompresses ≡ true
       → Tells (TellsListed pack executable (skeletons_by reading.nameless plain)) a b result

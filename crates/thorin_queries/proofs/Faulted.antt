@@ -1,7 +1,8 @@
 -- Faults that were told.
 use Rattle.std.proofs.Common.{◌≡◌, ◌≢◌, ℕ, Bool, true, false, ◌&&◌, List, [], ◌∷◌, ◌++◌, codes, map}
 use Rattle.std.proofs.Common.{Option, Some, None, is_none, Result, Ok, Err, IfOk, OnOk, String}
-use Rattle.std.proofs.Common.{string_bytes, Global, decimal, refl, sym, inl, inr}
+use Rattle.std.proofs.Common.{string_bytes, Global, decimal, refl, sym, inl, inr, arith}
+use Rattle.std.proofs.KnownBytes.{Appends-trans}
 use Rattle.std.proofs.lemmas.List.{map-append}
 use Rattle.dwp_base.specs.declared.section.SectionKind.{SectionKind}
 use Rattle.dwp_base.specs.declared.section.SectionKind.TheVariants.{Abbrev}
@@ -9,23 +10,19 @@ use Rattle.dwp_bytes.specs.declared.error.ReadError.{ReadError}
 use Rattle.dwp_index.specs.Index.{range_in}
 use Rattle.dwp_index.specs.Package.{Package, FoundUnit, found}
 use Rattle.dwp_index.specs.declared.error.PackageError.{PackageError}
-use Rattle.dwp_index.specs.declared.error.PackageError.TheVariants.{Range}
 use Rattle.dwp_index.specs.declared.units.UnitEntry.{UnitEntry}
 use Rattle.dwp_table.specs.declared.object.DwarfObject.{DwarfObject}
 use Rattle.thorin_queries.specs.Checking.{TellsSomeStrings}
 use Rattle.thorin_queries.specs.Ends.{fault_of}
 use Rattle.thorin_queries.specs.Faults.{fault_line, TellsText, IsTextOf, IsSomeText, IsUnreadText}
 use Rattle.thorin_queries.specs.Faults.{IsOwnText, TellsOwn, TellsItself, TellsFound, TellsUnit}
-use Rattle.thorin_queries.specs.Faults.{has_abbreviations, is_bare, string_text}
-use Rattle.thorin_queries.specs.Faults.{TellsString, TellsStrings, TellsStringsOf, row_line}
-use Rattle.thorin_queries.specs.Faults.{AreRows, broken_line, IsBroken}
+use Rattle.thorin_queries.specs.Faults.{has_abbreviations, string_text, TellsString, TellsStrings}
+use Rattle.thorin_queries.specs.Faults.{TellsStringsOf, row_line, AreRows, broken_line, IsBroken}
 use Rattle.thorin_queries.specs.Overlaps.{IsClash, overlap_text}
 use Rattle.thorin_queries.specs.Telling.{Outcome, Progress, Told, Tells, IsLine, ForEach}
 use Rattle.thorin_queries.specs.Telling.{IsOfPrinting, Grows, PassesOn}
 use Rattle.thorin_queries.specs.declared.output.Failure.{Failure}
-use Rattle.thorin_queries.specs.declared.output.Failure.TheVariants as failures
-use Rattle.thorin_queries.proofs.Told.{none_told, tells_as, stopped_behind, then_or, in_turn}
-use Rattle.thorin_queries.proofs.Told.{passed}
+use Rattle.thorin_queries.proofs.Told.{none_told, tells_as, then_or, passed}
 
 -- ---- texts
 
@@ -33,24 +30,20 @@ module _ {E : Type 0} (P : List (List ℕ) → Type 0) (object : DwarfObject) wh
   -- what is made for a fault was told
   pub text_told : (text : Result (Option (String Global)) E) (a b : Progress) (result : Outcome)
       → IsTextOf P object text → TellsText object text a b result → Tells P a b result
-  text_told (Ok text) a b result is h = tells_as a b result (λ lines e. rw e is) h
-  text_told (Err cause) a b result is h = rw h.0 (tt, h.1)
+  text_told text a b result is h = grind (arith)
 
   -- a text of which something holds was made
   pub made : (Q : List ℕ → Type 0) (text : Result (String Global) E)
       (result : Result (Option (String Global)) E)
       → ((t : List ℕ) → Q t → P (fault_line object t ∷ []))
       → IfOk text (λ t. Q (string_bytes t)) → IsSomeText text result → IsTextOf P object result
-  made Q (Ok t) result goes is so = rw so (goes (string_bytes t) is)
-  made Q (Err cause) result goes is so = rw so tt
+  made Q text result goes is so = grind (arith, goes)
 
 -- lines were told, and then not what was to be made for a fault
 pub text_stopped : {E : Type 0} {P : List (List ℕ) → Type 0} {a b : Progress} (object : DwarfObject)
     (text : Result (Option (String Global)) E) (c : Progress) (failure : Failure) → Told P a b
     → TellsText object text b c (Err failure) → IsOfPrinting failure × Grows a.written c.written
-text_stopped object (Ok text) c failure p h = stopped_behind c.written p h
-text_stopped object (Err cause) c failure p h =
-    let same : failure ≡ failures.Memory = cc h.0 in (rw same tt, (stopped_behind c.written p h).1)
+text_stopped object text c failure p h = grind (arith, Appends-trans)
 
 -- ---- units
 
@@ -65,16 +58,14 @@ module _ (pack : Package) (entry : UnitEntry) where
       → (text : List ℕ) → IsUnreadText cause text
       → TellsUnit pack entry (fault_line entry.object text ∷ [])
   unfolding TellsUnit
-  unit_unread (Range kind) e text is = rw (e, is) refl
-  unit_unread cause e text is = rw e (text, refl)
+  unit_unread cause e text is = grind (arith)
 
   pub unit_some : {E : Type 0} (unit : FoundUnit) (text : Result (Option (String Global)) E)
       → found pack entry.object ≡ Ok (Some unit)
       → IsTextOf (TellsFound pack entry unit) entry.object text
       → IsTextOf (TellsUnit pack entry) entry.object text
   unfolding TellsUnit
-  unit_some unit (Ok text) e h = rw e h
-  unit_some unit (Err cause) e h = tt
+  unit_some unit text e h = grind (arith)
 
   module _ (unit : FoundUnit) where
     pub other_row : unit.number ≢ entry.row → (text : List ℕ)
@@ -88,15 +79,12 @@ module _ (pack : Package) (entry : UnitEntry) where
         pub in_bare_row : bare ≡ true → (text : List ℕ)
             → text ≡ codes "its row has no abbreviations"
             → TellsFound pack entry unit (fault_line entry.object text ∷ [])
-        in_bare_row e text so =
-            let bare_row : true ≡ is_bare pack unit = cc in inr (row, rw (← bare_row, so) refl)
+        in_bare_row e text so = grind (arith)
 
         pub in_whole_row : {E : Type 0} (text : Result (Option (String Global)) E) → bare ≡ false
             → IsTextOf (TellsItself pack entry.object unit) entry.object text
             → IsTextOf (TellsFound pack entry unit) entry.object text
-        in_whole_row (Ok text) e h =
-            let whole_row : false ≡ is_bare pack unit = cc in inr (row, rw (← whole_row) h)
-        in_whole_row (Err cause) e h = tt
+        in_whole_row text e h = grind (arith)
 
 module _ (pack : Package) (object : DwarfObject) (unit : FoundUnit) where
   pub overlapped : (kind : SectionKind) (other : DwarfObject) → IsClash pack unit kind other
@@ -107,8 +95,7 @@ module _ (pack : Package) (object : DwarfObject) (unit : FoundUnit) where
 
   pub of_its_own : {E : Type 0} (text : Result (Option (String Global)) E)
       → IsTextOf (TellsOwn object) object text → IsTextOf (TellsItself pack object unit) object text
-  of_its_own (Ok text) h = inr h
-  of_its_own (Err cause) h = tt
+  of_its_own text h = grind (arith)
 
 pub own_fault : (object : DwarfObject) (text : List ℕ) → IsOwnText text
     → TellsOwn object (fault_line object text ∷ [])
@@ -151,15 +138,13 @@ broken executable a b result text = tells_as a b result (λ lines e. (text, e))
 
 pub string_fine : (object : DwarfObject) (i : ℕ) (read : Result (Option (List ℕ)) ReadError)
     → None ≡ fault_of read → TellsString object i read []
-string_fine object i (Ok string) e = refl
-string_fine object i (Err cause) e = absurd cc
+string_fine object i read e = grind (arith)
 
 pub string_faulty : (object : DwarfObject) (i : ℕ) (read : Result (Option (List ℕ)) ReadError)
     (error : ReadError) → Some error ≡ fault_of read → (text : List ℕ)
     → ((cause : List ℕ) × (text ≡ string_text i cause))
     → TellsString object i read (fault_line object text ∷ [])
-string_faulty object i (Ok string) error e text is = absurd cc
-string_faulty object i (Err cause) error e text is = (is.0, rw is.1 refl)
+string_faulty object i read error e text is = grind (arith)
 
 pub strings_some : (object : DwarfObject) (looked : Result (Option FoundUnit) PackageError)
     (a b : Progress) (result : Outcome) (unit : FoundUnit) → looked ≡ Ok (Some unit)
@@ -170,13 +155,11 @@ for_each_of : {X Y : Type 0} (P : Y → List (List ℕ) → Type 0) (f : X → Y
     (lines : List (List ℕ)) → ForEach (λ x. P (f x)) xs lines → ForEach P (map f xs) lines
 for_each_of P f [] lines h = h
 for_each_of P f (x ∷ xs) lines h =
-    rw h.all (in_turn h.first h.rest h.is_first (for_each_of P f xs h.rest h.is_rest))
+    grind (arith, for_each_of P f xs h.rest h.is_rest)
 
 pub some_strings : {R : Type 0} (pack : Package) (strings : List (R × DwarfObject))
     (a b : Progress) (result : Outcome)
     → Tells (ForEach (λ s. TellsStringsOf s.1 (found pack s.1)) strings) a b result
     → Tells (TellsSomeStrings pack) a b result
-some_strings pack strings a b result = tells_as a b result (λ lines l. (
-  map (λ s. s.1) strings,
-  for_each_of (λ o. TellsStringsOf o (found pack o)) (λ s. s.1) strings lines l,
-))
+some_strings pack strings a b result = tells_as a b result
+    (λ lines l. (_, for_each_of (λ o. TellsStringsOf o (found pack o)) (λ s. s.1) strings lines l))

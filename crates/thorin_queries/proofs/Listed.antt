@@ -1,6 +1,6 @@
 -- What was listed.
-use Rattle.std.proofs.Common.{◌≡◌, ◌∙◌, ℕ, Bool, true, false, List, [], ◌++◌, Option, Result, Ok}
-use Rattle.std.proofs.Common.{Err, refl, sym, inl, inr, append-nil, true≢false}
+use Rattle.std.proofs.Common.{◌≡◌, ℕ, Bool, true, false, List, [], ◌++◌, Option, Result, Ok}
+use Rattle.std.proofs.Common.{Err, arith, refl, inl, inr, append-nil}
 use Rattle.std.specs.declared.io.Error.{Error as IoError}
 use Rattle.std.proofs.KnownBytes.{Appends-nil, Keeps-refl}
 use Rattle.dwp_index.specs.Package.{Package}
@@ -19,27 +19,19 @@ module _ (form : ListForm) (lines : Lines) (is_all : Bool) (old text : List ℕ)
   -- up to a unit that can't be looked up
   pub listed_part : is_all ≡ false
       → IsListed form lines (record { printed = text; answer = Err failures.Malformed })
-  listed_part ends =
-      record { totals = []; no_totals = λ e. refl; is = rw (← all, ends, added, none) refl }
+  listed_part ends = record { totals = []; no_totals = λ e. refl; is = grind (arith) }
 
   -- without totals
   pub listed_plain : is_all ≡ true
       → IsListed form lines (record { printed = text; answer = Ok 0 })
-  listed_plain goes = record {
-    totals = [];
-    no_totals = λ e. refl;
-    is = rw (← all, goes, added, none, append-nil) refl;
-  }
+  listed_plain goes = record { totals = []; no_totals = λ e. refl; is = grind (arith, append-nil) }
 
   -- with totals
   pub listed_sized : (new : List ℕ) → is_all ≡ true → form.sizes ≡ true
       → ((totals : List ℕ) × (new ≡ text ++ totals))
       → IsListed form lines (record { printed = new; answer = Ok 0 })
-  listed_sized new goes asked more = record {
-    totals = more.0;
-    no_totals = λ e. absurd (true≢false (sym asked ∙ e));
-    is = rw (← all, goes, more.1, added, none) refl;
-  }
+  listed_sized new goes asked more =
+      record { totals = more.0; no_totals = λ e. absurd cc; is = grind (arith, more.1) }
 
 -- ---- what came of it
 

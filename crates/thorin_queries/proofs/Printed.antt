@@ -1,5 +1,5 @@
 -- What was printed, or begun.
-use Rattle.std.proofs.Common.{ℕ, Bool, List, [], length, take, Option, Result, Ok, Err, OnErr, refl}
+use Rattle.std.proofs.Common.{ℕ, Bool, List, [], length, take, Option, Result, Err, refl}
 use Rattle.std.proofs.Common.{inr, arith, take_all}
 use Rattle.std.specs.declared.io.Error.{Error as IoError}
 use Rattle.std.specs.Io.KnownBytes.{Appends, Keeps}
@@ -23,21 +23,13 @@ whole old new bytes h = (length bytes, rw (take_all (length bytes) bytes (omega 
 pub came : (given : Result ℕ Failure) (text : List ℕ) (old new : Option (List ℕ))
     → Appends old new text
     → Comes given (record { printed = text; answer = given }) old new
-came (Ok status) text old new h = (refl, h)
-came (Err failures.Line) text old new h = whole old new text h
-came (Err failures.Memory) text old new h = whole old new text h
-came (Err failure) text old new h = (refl, h)
+came given text old new h = grind (arith, whole old new text h)
 
 -- a write failed
 pub stopped : (given : Result ℕ Failure) (text : List ℕ) (old new : Option (List ℕ))
     → HasBeginning old new text
     → Comes (Err failures.Line) (record { printed = text; answer = given }) old new
 stopped given text old new h = h
-
--- what holds at any error
-pub on_err : {X E : Type 0} (result : Result X E) (P : Type 0) → P → OnErr result P
-on_err (Ok x) P h = tt
-on_err (Err e) P h = h
 
 -- nothing was handed over
 pub nothing : (a : Option (List ℕ)) (bytes : List ℕ) → HasBeginning a a bytes
@@ -48,10 +40,9 @@ nothing a bytes = (0, Appends-nil a)
 pub part : (old middle new : Option (List ℕ)) (all rest : List ℕ) → SoFar old middle all rest
     → Keeps middle new → HasBeginning old new all
 unfolding HasBeginning
-part old middle new all rest s k = (
-  length s.done,
-  rw (s.split, take-append_seam s.done rest) (Appends-kept old middle new s.done s.appended k),
-)
+part old middle new all rest s k =
+    let kept = Appends-kept old middle new s.done s.appended k in
+    (length s.done, rw (s.split, take-append_seam s.done rest) kept)
 
 -- a write that took no bytes, and one that was interrupted
 pub none_taken : (old new : Option (List ℕ)) (bytes : List ℕ)
@@ -75,6 +66,4 @@ pub not_sought : (offer : List ℕ → Result (List ℕ) IoError → Type 0) (pa
     (wanted : Result Wanted Failure) (failure : Failure)
     → Seeks as_json object wanted (Err failure)
     → FindsAsked offer path as_json a a object wanted (Err failure)
-not_sought offer path as_json a (Ok object) (Ok wanted) failure h = absurd cc
-not_sought offer path as_json a (Ok object) (Err cause) failure h = (cc, Keeps-refl a)
-not_sought offer path as_json a (Err cause) wanted failure h = (cc, Keeps-refl a)
+not_sought offer path as_json a object wanted failure h = grind (arith, Keeps-refl a)

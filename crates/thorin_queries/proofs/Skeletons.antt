@@ -1,6 +1,6 @@
 -- What was told of the units that an executable names.
 use Rattle.std.proofs.Common.{◌≡◌, ◌≢◌, List, [], ◌∷◌, ◌++◌, ℕ, Option, Some, None, Result, Ok, Err}
-use Rattle.std.proofs.Common.{OnOk, refl, append_assoc, append-nil}
+use Rattle.std.proofs.Common.{OnOk, arith, refl, append_assoc, append-nil}
 use Rattle.dwp_index.specs.Package.{Package, FoundUnit, found}
 use Rattle.dwp_index.specs.declared.error.PackageError.{PackageError}
 use Rattle.thorin_executable.specs.Skeletons.{Named, Listed}
@@ -11,7 +11,7 @@ use Rattle.thorin_errors.specs.declared.error.Error.TheVariants.{Memory}
 use Rattle.thorin_queries.specs.Faults.{fault_line, missing_text, missing_lines, IsBroken, TellsEnd}
 use Rattle.thorin_queries.specs.Faults.{TellsListed}
 use Rattle.thorin_queries.specs.Telling.{Outcome, Progress, Told, Tells, Is}
-use Rattle.thorin_queries.proofs.Told.{told_then, told_as, stopped_behind}
+use Rattle.thorin_queries.proofs.Told.{told_then, stopped_behind}
 
 module _ (executable : List ℕ) (named : Named)
     (looked : Result (Option FoundUnit) PackageError) where
@@ -39,9 +39,8 @@ module _ (pack : Package) (executable : List ℕ) where
       → MemoryAside error (listed ≡ ([], Some (error_of error)))
       → OnOk result (error ≢ Memory) → Tells (IsBroken executable) a b result
       → Tells (TellsListed pack executable listed) a b result
-  read_broken listed a b error (Ok done) aside known h =
-      told_as h (λ lines k. at_end listed lines (aside known) k)
-  read_broken listed a b error (Err failure) aside known h = h
+  read_broken listed a b error result aside known h =
+      grind (arith, at_end {end = Some (error_of error)} listed)
 
   module _ (all : Listed) where
     -- what is told of those that are left makes, behind these lines, what is told of all
@@ -56,11 +55,8 @@ module _ (pack : Package) (executable : List ℕ) where
         → (ls ms : List (List ℕ)) → GoesOn before ls
         → Is (missing_lines executable first (found pack first.0)) ms → GoesOn after (ls ++ ms)
     on_next before after first e ls ms h k = record {
-      on = λ more t. rw (append_assoc ls ms more) (h.on (ms ++ more) (rw e (record {
-        ended = t.ended;
-        end = t.end;
-        all = rw (t.all, k, append_assoc) refl;
-      })));
+      on = λ more t. rw (append_assoc ls ms more) (h.on (ms ++ more) (rw e
+          (record { ended = t.ended; end = t.end; all = rw (t.all, k, append_assoc) refl })));
     }
 
     pub on_end : (before : Listed) → before ≡ ([], None) → (ls : List (List ℕ))

@@ -1,6 +1,6 @@
 -- Lines that were told.
-use Rattle.std.proofs.Common.{◌≡◌, ◌∙◌, ℕ, ◌+◌, ◌-◌, ◌^◌, ◌<◌, ◌≤◌, List, [], ◌∷◌, ◌++◌, length}
-use Rattle.std.proofs.Common.{min, Option, Result, Ok, Err, OnOk, take, get_or, refl, sym, arith}
+use Rattle.std.proofs.Common.{◌≡◌, ℕ, ◌+◌, ◌-◌, ◌^◌, ◌<◌, ◌≤◌, List, [], ◌∷◌, ◌++◌, length}
+use Rattle.std.proofs.Common.{min, Option, Result, OnOk, take, get_or, refl, sym, arith, rules}
 use Rattle.std.proofs.Common.{append_assoc, append-nil, take_all}
 use Rattle.std.specs.Io.KnownBytes.{Appends, Keeps}
 use Rattle.std.proofs.KnownBytes.{Appends-nil, Appends-trans, Appends-kept}
@@ -9,8 +9,7 @@ use Rattle.std.proofs.lemmas.List.{take_more}
 use Rattle.std.proofs.lemmas.List.Folds.{concat-append}
 use Rattle.thorin_queries.specs.Answers.{HasBeginning}
 use Rattle.thorin_queries.specs.Telling.{Grows, counted_on, Progress, Told, TellsOr, Tells, IsLine}
-use Rattle.thorin_queries.specs.Telling.{IsNone, Prints, HandsOver, PassesOn, Outcome, InTurn}
-use Rattle.thorin_queries.specs.Telling.{ForEach}
+use Rattle.thorin_queries.specs.Telling.{Prints, HandsOver, PassesOn, Outcome, InTurn, ForEach}
 use Rattle.thorin_queries.specs.declared.output.Failure.{Failure}
 
 -- ---- what was printed
@@ -37,8 +36,7 @@ not_flushed a b c text h k = (text, Appends-kept a b c text h k)
 -- what waited was handed over, and then nothing waited
 pub handed_over : (a b : Option (List ℕ)) (held lent left : List ℕ) (result : Outcome)
     → lent ≡ held → left ≡ [] → Prints lent a b result → HandsOver a held b left result
-handed_over a b held lent left (Ok done) same none p = (rw same at p, none)
-handed_over a b held lent left (Err failure) same none p = p
+handed_over a b held lent left result same none p = grind (arith)
 
 -- ---- how many
 
@@ -50,21 +48,13 @@ counted-append n (x ∷ xs) ys = counted-append (min (n + 1) (2 ^ 64 - 1)) xs ys
 pub counted_from : (n : ℕ) (lines : List (List ℕ)) → n ≤ 2 ^ 64 - 1
     → counted_on n lines ≡ min (n + length lines) (2 ^ 64 - 1)
 counted_from n [] fits = omega arith
-counted_from n (line ∷ lines) fits =
-    counted_from (min (n + 1) (2 ^ 64 - 1)) lines (omega arith) ∙ omega arith
+counted_from n (line ∷ lines) fits = grind (arith, counted_from (min (n + 1) (2 ^ 64 - 1)) lines)
 
 -- ---- lines
 
 -- none, where nothing was done
 pub none_told : (P : List (List ℕ) → Type 0) → P [] → (a : Progress) → Told P a a
-none_told P none a = record {
-  lines = [];
-  are = none;
-  handed = [];
-  added = Appends-nil a.written;
-  split = append-nil a.waiting;
-  counted = refl;
-}
+none_told P none a = search (rules, Appends-nil, append-nil)
 
 -- lines of one kind, and behind them those of another
 pub told_then : {P Q R : List (List ℕ) → Type 0} {a b c : Progress}
@@ -82,14 +72,12 @@ told_then {a = a} {b = b} {c = c} joins p q = record {
 -- lines of which more holds
 pub told_as : {P Q : List (List ℕ) → Type 0} {a b : Progress} → Told P a b
     → ((lines : List (List ℕ)) → P lines → Q lines) → Told Q a b
-told_as {b = b} t goes = told_then {Q = IsNone}
-    (λ xs ys h none. rw (none, append-nil) (goes xs h)) t (none_told IsNone refl b)
+told_as t goes = grind (arith)
 
 -- the same, where telling them may have stopped
 pub tells_as : {P Q : List (List ℕ) → Type 0} (a b : Progress) (result : Outcome)
     → ((lines : List (List ℕ)) → P lines → Q lines) → Tells P a b result → Tells Q a b result
-tells_as a b (Ok done) goes t = told_as t goes
-tells_as a b (Err failure) goes t = t
+tells_as a b result goes t = grind (arith)
 
 -- what comes next stopped
 pub stopped_behind : {P : List (List ℕ) → Type 0} {Why : Type 0} {a b : Progress}
@@ -106,8 +94,7 @@ module _ (P Q : List (List ℕ) → Type 0) (Stops : Failure → Type 0) (a b c 
   pub then_or : (R : List (List ℕ) → Type 0)
       → ((xs ys : List (List ℕ)) → P xs → Q ys → R (xs ++ ys)) → (result : Outcome) → Told P a b
       → TellsOr Stops Q b c result → TellsOr Stops R a c result
-  then_or R joins (Ok done) p q = told_then joins p q
-  then_or R joins (Err failure) p q = stopped_behind c.written p q
+  then_or R joins result p q = grind (arith, told_then {R = R} {c = c} joins p, Appends-trans)
 
   pub in_turn_or : (result : Outcome) → Told P a b → TellsOr Stops Q b c result
       → TellsOr Stops (InTurn P Q) a c result
@@ -119,25 +106,16 @@ pub passed : (line : List ℕ) (written : Option (List ℕ)) (held more : List �
     → OnOk put (more ≡ held ++ line)
     → PassesOn put (record { written = written; waiting = more; count = count }) new result
     → Tells (IsLine line) (record { written = written; waiting = held; count = count }) new result
-passed line written held more count new (Ok done) (Ok also) e p = record {
-  lines = line ∷ [];
-  are = refl;
-  handed = p.handed;
-  added = p.added;
-  split = rw (append-nil line, ← e) p.split;
-  counted = p.counted;
-}
-passed line written held more count new (Ok done) (Err failure) e p = p
-passed line written held more count new (Err cause) result e p = rw p.0 (tt, p.1)
+passed line written held more count new put result e p = grind (arith, append-nil)
 
 -- ---- lines for each of a list
 
 module _ {X : Type 0} (P : X → List (List ℕ) → Type 0) where
   for_each_more : (xs : List X) (x : X) (lines more : List (List ℕ)) → ForEach P xs lines
       → P x more → ForEach P (xs ++ (x ∷ [])) (lines ++ more)
-  for_each_more [] x lines more h p = rw (h, ← append-nil more) (in_turn more [] p refl)
-  for_each_more (y ∷ ys) x lines more h p = rw (h.all, append_assoc) (in_turn h.first
-      (h.rest ++ more) h.is_first (for_each_more ys x h.rest more h.is_rest p))
+  for_each_more [] x lines more h p = grind (arith, append-nil)
+  for_each_more (y ∷ ys) x lines more h p =
+      grind (arith, append_assoc, for_each_more ys x h.rest more h.is_rest p)
 
   -- those of one more
   pub told_more : (xs ys : List X) (x : X) {a b c : Progress} → ys ≡ xs ++ (x ∷ [])

@@ -10,7 +10,6 @@ returns-in-Ok g c =
     c.finish.ensures
 
 pub returns : goal.returns
-returns g c = rw c.give_up.ensures.same (
-  c.in-Err.ensures.0,
-  grown _ _ _ c.in-Err.ensures.1 c.give_up.ensures.grown,
-)
+returns g c =
+    let more = grown _ _ _ c.in-Err.ensures.1 c.give_up.ensures.grown in
+    rw c.give_up.ensures.same (c.in-Err.ensures.0, more)

@@ -7,8 +7,7 @@ loop-i-preserved g c =
     told_next _ _ c.loop-i.i _ c.loop-i-test.true c.loop-i.invariant c.in-Ok.ensures
 
 pub returns-in-Err : goal.returns-in-Err
-returns-in-Err g c = stopped_behind _ c.loop-i.invariant (
-  reading_one (g.F.FileReader.offer c.args.files.now) _ c.loop-i.i _ _ c.loop-i-test.true
-      c.in-Err.ensures.0,
-  c.in-Err.ensures.1,
-)
+returns-in-Err g c =
+    let fails = reading_one (g.F.FileReader.offer c.args.files.now) _ c.loop-i.i _ _
+    c.loop-i-test.true c.in-Err.ensures.0 in
+    stopped_behind _ c.loop-i.invariant (fails, c.in-Err.ensures.1)

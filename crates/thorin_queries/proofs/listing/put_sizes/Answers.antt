@@ -1,10 +1,7 @@
-use Rattle.dwp_index.specs.Index.{range_in}
-use Rattle.thorin_queries.specs.Listing.{range_size}
 use Rattle.thorin_queries.proofs.Lines.{flat_map_next}
 use Rattle.thorin_queries.proofs.listing.put_sizes.Goals as goal
 
 pub loop-kind-preserved : goal.loop-kind-preserved
 loop-kind-preserved c =
-    flat_map_next (λ kind. range_size c.args.as_json kind (range_in c.args.unit.now.row kind))
-    _ c.loop-kind.kind-index _ _ _ _ c.loop-kind-test.true c.loop-kind.invariant
+    flat_map_next _ _ c.loop-kind.kind-index _ _ _ _ c.loop-kind-test.true c.loop-kind.invariant
     (rw c.range.ensures at c.in_ok-put_size.ensures)

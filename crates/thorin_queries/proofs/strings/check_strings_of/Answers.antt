@@ -5,8 +5,7 @@ use Rattle.thorin_queries.proofs.strings.check_strings_of.Goals as goal
 
 pub check_each_string-requires : goal.check_each_string-requires
 check_each_string-requires g c =
-    of_found c.args.pack.now c.args.object c.in-Ok-Some.unit c.args.ends c.requires
-    (rw c.in-Ok-Some.field-0-is at c.in-Ok-Some.ensures)
+    of_found _ _ _ _ c.requires (rw c.in-Ok-Some.field-0-is at c.in-Ok-Some.ensures)
 
 pub returns-in-Ok-None : goal.returns-in-Ok-None
 returns-in-Ok-None g c =
