@@ -1,18 +1,14 @@
 -- The first row that a test finds.
-use Rattle.std.proofs.Common.{◌≡◌, ◌≢◌, ℕ, zero, suc, ◌+◌, ◌<◌, ◌≤◌, Bool, true, false, length}
-use Rattle.std.proofs.Common.{map, Some, None, Ok, Err, Option, Result, refl}
-use Rattle.std.proofs.Common.{arith, MatchOption, option_and_then}
-use Rattle.std.specs.List.{position_from, range_with_len}
+use Rattle.thorin_packaged.proofs.Terms.{cases_eq, Contribution, Index, is_range, nat_tests}
+use Rattle.thorin_packaged.proofs.Terms.{position_from, range_in, range_of_row, range_with_len}
+use Rattle.thorin_packaged.proofs.Terms.{Ranges, ranges_of, row_in, SectionKind}
+use Rattle.std.proofs.Common.{◌≡◌, ◌≢◌, ℕ, zero, suc, ◌+◌, ◌<◌, ◌≤◌, Bool, true, false, length, map}
+use Rattle.std.proofs.Common.{Some, None, Ok, Err, Option, Result, refl, arith, MatchOption}
+use Rattle.std.proofs.Common.{option_and_then}
 use Rattle.std.specs.Result.{result_ok}
-use Rattle.std.proofs.lemmas.Bool.{cases_eq}
-use Rattle.std.proofs.lemmas.Bool.Decides.{nat_tests}
 use Rattle.dwp_base.proofs.Bools.{by-bool}
-use Rattle.dwp_base.specs.declared.section.SectionKind.{SectionKind}
-use Rattle.dwp_base.specs.declared.section.Contribution.{Contribution}
 use Rattle.dwp_bytes.specs.declared.error.ReadError.{ReadError}
-use Rattle.dwp_index.specs.Index.{Index, Ranges, row_in, range_in}
-use Rattle.thorin_packaged.specs.RowPlaces.{IsFirstWith, is_range, range_of_row, ranges_of}
-use Rattle.thorin_packaged.specs.RowPlaces.{row_by_place}
+use Rattle.thorin_packaged.specs.RowPlaces.{IsFirstWith, row_by_place}
 
 -- ---- the first of f a, f (a + 1) and so on that passes a test
 module _ {X : Type 0} (t : X → Bool) (f : ℕ → X) where

@@ -4,3 +4,4 @@ pub mod RewriteSteps
 pub mod RowRanges
 pub mod ReadAlike
 pub mod OffsetsJoined
+pub mod Terms

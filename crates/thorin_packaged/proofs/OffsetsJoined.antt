@@ -1,25 +1,20 @@
 -- String offsets without a header, joined, are read in turn.
+use Rattle.thorin_packaged.proofs.Terms.{data_of, Encoding, Endianness, header_size, IsTable}
+use Rattle.thorin_packaged.proofs.Terms.{NamesTheSame, nat_tests, offset_size, ReadsAlike}
 use Rattle.std.proofs.Common.{◌≡◌, ℕ, ◌+◌, ◌-◌, ◌*◌, ◌/◌, ◌<◌, ◌≤◌, cond, ltb, List, ◌++◌, length}
 use Rattle.std.proofs.Common.{drop, ap, refl, ⊎_elim, arith, length-append, take, Some, None, Ok}
 use Rattle.std.proofs.Common.{sym, ◌∙◌, drop_at, drop-drop, length-drop, lt-ltb, add-mul}
 use Rattle.std.proofs.lemmas.List.{get_or_append_left, drop-append-le}
 use Rattle.std.proofs.lemmas.Bool.{cases_lt, lt-leb}
-use Rattle.std.proofs.lemmas.Bool.Decides.{nat_tests}
 use Rattle.std.proofs.lemmas.Nat.{row_fits}
-use Rattle.dwp_base.specs.declared.endian.Endianness.{Endianness}
 use Rattle.dwp_base.specs.declared.endian.Endianness.TheVariants.{Little, Big}
 use Rattle.dwp_base.specs.Numbers.{number}
-use Rattle.dwp_bytes.specs.declared.encoding.Encoding.{Encoding}
 use Rattle.dwp_bytes.specs.declared.encoding.Format.{Format}
 use Rattle.dwp_bytes.specs.declared.encoding.Format.TheVariants.{Dwarf32, Dwarf64}
-use Rattle.dwp_bytes.specs.Encoding.{offset_size}
-use Rattle.dwp_bytes.specs.StringOffsets.{header_size, entry_count, string_at}
+use Rattle.dwp_bytes.specs.StringOffsets.{entry_count, string_at}
 use Rattle.dwp_index.specs.Strings.{entry_in, string_in}
-use Rattle.dwp_strings.specs.Strings.{data_of, IsTable}
 use Rattle.thorin_strings.specs.StringOffsets.{offset_at, named_at}
-use Rattle.thorin_strings.specs.Rewritten.{NamesTheSame}
 use Rattle.dwp_base.proofs.Steps.{bind-was, guard-ok}
-use Rattle.thorin_packaged.specs.ReadStrings.{ReadsAlike}
 use Rattle.thorin_strings.proofs.NamedEntries.{as_error_ok}
 
 -- a number in front doesn't depend on what follows it

@@ -1,27 +1,18 @@
 -- A package's string offsets, rewritten, read as they read before.
-use Rattle.std.proofs.Common.{◌≡◌, ℕ, ◌+◌, ◌-◌, ◌≤◌, List, [], ◌∷◌, ◌++◌, length}
-use Rattle.std.proofs.Common.{take, drop, slice_range, Option, Ok, ap, sym, subst}
-use Rattle.std.proofs.Common.{refl, ◌∙◌, ⊎_elim, append_assoc, length-append, length-drop, arith}
+use Rattle.thorin_packaged.proofs.Terms.{cases_eq, Contribution, data_of, Encoding, Endianness}
+use Rattle.thorin_packaged.proofs.Terms.{header_size, Index, IsTable, kept_more, NamesTheSame}
+use Rattle.thorin_packaged.proofs.Terms.{offset_ranges, offset_size, ranges_test, ReadsAlike}
+use Rattle.thorin_packaged.proofs.Terms.{remapped, rewritten_from}
+use Rattle.std.proofs.Common.{◌≡◌, ℕ, ◌+◌, ◌-◌, ◌≤◌, List, [], ◌∷◌, ◌++◌, length, take, drop}
+use Rattle.std.proofs.Common.{slice_range, Option, Ok, ap, sym, subst, refl, ◌∙◌, ⊎_elim}
+use Rattle.std.proofs.Common.{append_assoc, length-append, length-drop, arith}
 use Rattle.std.proofs.Math.Nat.{div-add-mod}
-use Rattle.std.proofs.lemmas.Bool.{cases_eq}
 use Rattle.std.proofs.lemmas.List.{drop_at, take_at, take_all, length-take-le}
-use Rattle.dwp_base.specs.declared.endian.Endianness.{Endianness}
-use Rattle.dwp_base.specs.declared.section.Contribution.{Contribution}
 use Rattle.dwp_base.proofs.Steps.{bind-was, same-ok}
-use Rattle.dwp_bytes.specs.declared.encoding.Encoding.{Encoding}
-use Rattle.dwp_bytes.specs.Encoding.{offset_size}
-use Rattle.dwp_bytes.specs.StringOffsets.{header_size}
-use Rattle.dwp_index.specs.Index.{Index}
-use Rattle.thorin_strings.specs.Rewritten.{NamesTheSame}
-use Rattle.thorin_strings.specs.StringOffsets.{remapped}
-use Rattle.dwp_strings.specs.Strings.{IsTable, data_of}
-use Rattle.thorin_packaged.specs.ReadStrings.{ReadsAlike}
-use Rattle.thorin_packaged.specs.PackagedOffsets.{offset_ranges, packaged_offsets, ranges_test}
-use Rattle.thorin_packaged.specs.PackagedOffsets.{rewritten_from}
+use Rattle.thorin_packaged.specs.PackagedOffsets.{packaged_offsets}
 use Rattle.thorin_packaged.specs.PackagedReading.{PackageReadsAlike, RangeReadsAlike, range_bytes}
 use Rattle.thorin_packaged.proofs.RewriteSteps.{IsNext, next_passed}
 use Rattle.thorin_packaged.proofs.RowRanges.{IsIn, compilation_there, type_there}
-use Rattle.thorin_strings.proofs.RemapLemmas.{kept_more}
 
 -- ---- parts of lists
 slice_front : (front range rest : List ℕ) (a b : ℕ) → length front ≡ a → length range ≡ b - a

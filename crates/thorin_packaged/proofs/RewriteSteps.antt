@@ -1,19 +1,13 @@
 -- Rewriting one range after another.
-use Rattle.std.proofs.Common.{◌≡◌, ℕ, ◌+◌, ◌-◌, ◌%◌, ◌<◌, ◌≤◌, eqb, ltb}
-use Rattle.std.proofs.Common.{leb, ◌&&◌, cond, not, List, ◌∷◌, ◌++◌, length, get_or, take, drop}
-use Rattle.std.proofs.Common.{slice_range, Ok, Err, Result, ap, sym, refl, ◌∙◌, append_assoc, arith}
-use Rattle.std.proofs.lemmas.Bool.Decides.{nat_tests}
+use Rattle.thorin_packaged.proofs.Terms.{Contribution, Encoding, Endianness, header_size, kept_more}
+use Rattle.thorin_packaged.proofs.Terms.{nat_tests, offset_size, ranges_test, remapped}
+use Rattle.thorin_packaged.proofs.Terms.{rewritten_from}
+use Rattle.std.proofs.Common.{◌≡◌, ℕ, ◌+◌, ◌-◌, ◌%◌, ◌<◌, ◌≤◌, eqb, ltb, leb, ◌&&◌, cond, not, List}
+use Rattle.std.proofs.Common.{◌∷◌, ◌++◌, length, get_or, take, drop, slice_range, Ok, Err, Result}
+use Rattle.std.proofs.Common.{ap, sym, refl, ◌∙◌, append_assoc, arith}
 use Rattle.std.proofs.lemmas.List.{at_drop_more, at_drop_all}
-use Rattle.dwp_base.specs.declared.endian.Endianness.{Endianness}
-use Rattle.dwp_base.specs.declared.section.Contribution.{Contribution}
 use Rattle.dwp_base.specs.Reading.{◌>>=◌}
-use Rattle.dwp_bytes.specs.declared.encoding.Encoding.{Encoding}
-use Rattle.dwp_bytes.specs.Encoding.{offset_size}
-use Rattle.dwp_bytes.specs.StringOffsets.{header_size}
 use Rattle.thorin_errors.specs.Errors.{ErrorValue, BadStringOffsets, OverlappingStringOffsets}
-use Rattle.thorin_strings.specs.StringOffsets.{remapped}
-use Rattle.thorin_packaged.specs.PackagedOffsets.{ranges_test, rewritten_from}
-use Rattle.thorin_strings.proofs.RemapLemmas.{kept_more}
 
 -- ---- what the tests say of the next range
 pub record IsNext (encoding : Encoding) (size last : ℕ) (r : Contribution)

@@ -1,15 +1,11 @@
 -- The range of each row is among the ranges.
+use Rattle.thorin_packaged.proofs.Terms.{Contribution, Index, insert_key, offset_ranges, place_cmp}
+use Rattle.thorin_packaged.proofs.Terms.{range_in, range_of_row, Ranges, ranges_of, row_in}
+use Rattle.thorin_packaged.proofs.Terms.{StrOffsets, with_ranges, with_rows}
 use Rattle.std.proofs.Common.{◌≡◌, ℕ, zero, suc, ◌-◌, List, [], ◌∷◌, length, get_or, Some, None}
-use Rattle.std.proofs.Common.{Option, Ok, ap, sym, refl, ◌∙◌, ◌⊎◌, inl, arith, is_eq}
-use Rattle.std.proofs.Common.{Equal}
-use Rattle.std.specs.BTreeSet.{insert_key}
+use Rattle.std.proofs.Common.{Option, Ok, ap, sym, refl, ◌∙◌, ◌⊎◌, inl, arith, is_eq, Equal}
 use Rattle.std.proofs.lemmas.Option.{same_Some}
 use Rattle.std.proofs.lemmas.List.FromFn.{get_or-map-range_with_len}
-use Rattle.dwp_base.specs.declared.section.SectionKind.TheVariants.{StrOffsets}
-use Rattle.dwp_base.specs.declared.section.Contribution.{Contribution}
-use Rattle.dwp_index.specs.Index.{Index, Ranges, row_in, range_in}
-use Rattle.thorin_packaged.specs.RowPlaces.{range_of_row, ranges_of}
-use Rattle.thorin_packaged.specs.PackagedOffsets.{offset_ranges, place_cmp, with_ranges, with_rows}
 use Rattle.thorin_packaged.proofs.RowSteps.{key_test}
 use Rattle.thorin_packaged.proofs.FirstRow.{range_is, range_of_found, numbered}
 

@@ -1,21 +1,14 @@
 -- Going over the rows of an index.
+use Rattle.thorin_packaged.proofs.Terms
+use Terms.{Contribution, Index, insert_key, is_range, nat_tests, place_cmp, position_from, range_at}
+use Terms.{range_of_row, range_with_len, ranges_of, SectionKind, StrOffsets, with_ranges}
 use Rattle.std.proofs.Common.{◌≡◌, ℕ, ◌-◌, ◌+◌, ◌<◌, ◌≤◌, eqb, ◌&&◌, [], ◌∷◌, length, drop, map}
 use Rattle.std.proofs.Common.{Some, None, refl, ◌∙◌, arith, List}
-use Rattle.std.specs.List.{position_from, range_with_len}
 use Rattle.std.specs.Ordering.{is_eq, nat_cmp, ordering_then}
 use Rattle.std.specs.BTreeMap.{BTreeMap, get, is_at, Updates}
-use Rattle.std.proofs.lemmas.Bool.Decides.{nat_tests}
 use Rattle.std.proofs.lemmas.List.{drop_more, drop_all}
 use Rattle.std.proofs.lemmas.List.FromFn.{length-map-range_with_len, get_or-map-range_with_len}
-use Rattle.dwp_base.specs.declared.section.SectionKind.{SectionKind}
-use Rattle.dwp_base.specs.declared.section.Contribution.{Contribution}
-use Rattle.dwp_index.specs.Index.{Index}
-use Rattle.thorin_packaged.specs.RowPlaces.{is_range, range_of_row, ranges_of}
 use Rattle.thorin_packaged.specs.RowPlaceFields.{pair_cmp}
-use Rattle.std.specs.BTreeSet.{insert_key}
-use Rattle.dwp_base.specs.declared.section.SectionKind.TheVariants.{StrOffsets}
-use Rattle.thorin_packaged.specs.RangeKeys.{range_at}
-use Rattle.thorin_packaged.specs.PackagedOffsets.{place_cmp, with_ranges}
 
 -- ---- the ranges from a row on
 pub ranges_from : (index : Index) (kind : SectionKind) (n : ℕ) → n < length index.offsets

@@ -1,6 +1,5 @@
+use Rattle.thorin_packaged.proofs.Terms.{range_at, with_rows}
 use Rattle.std.proofs.Common.{map, sym, ap, arith, ◌<◌, length, ◌∙◌, option_copied}
-use Rattle.thorin_packaged.specs.RangeKeys.{range_at}
-use Rattle.thorin_packaged.specs.PackagedOffsets.{with_rows}
 use Rattle.thorin_packaged.proofs.RowSteps.{row_stored, row_absent, rows_none}
 use Rattle.thorin_packaged.proofs.offset_ranges.add_rows.Goals as goal
 use Rattle.thorin_packaged.proofs.offset_ranges.add_rows.Goals.{in-Some-range_of_row+in_ok-insert}

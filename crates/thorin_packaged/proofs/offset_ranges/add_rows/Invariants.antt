@@ -1,8 +1,5 @@
+use Rattle.thorin_packaged.proofs.Terms.{range_at, ranges_of, StrOffsets, with_ranges}
 use Rattle.std.proofs.Common.{◌≡◌, drop, map}
-use Rattle.dwp_base.specs.declared.section.SectionKind.TheVariants.{StrOffsets}
-use Rattle.thorin_packaged.specs.RowPlaces.{ranges_of}
-use Rattle.thorin_packaged.specs.RangeKeys.{range_at}
-use Rattle.thorin_packaged.specs.PackagedOffsets.{with_ranges}
 use Rattle.thorin_packaged.proofs.offset_ranges.add_rows.Given as goal
 
 -- those so far with those of the rows that are left are all
