@@ -1,15 +1,14 @@
 -- A written file is read as the package of its contents.
 use Rattle.thorin_join.proofs.Terms
-use Terms.{◌+◌, ◌<◌, [], ◌^◌, ap, arith, by-bool, Class, codes, content_of, count_of, elf_of}
-use Terms.{Endianness, file_text, Index, index_in_section, inl, inr, is-same, KindsDiffer, List}
-use Terms.{name_of, Ok, Option, package_of, refl, same_kind, SectionKind, sections_of, Some, ℕ, ◌∷◌}
-use Terms.{◌≡◌, ◌≤◌}
+use Terms.{◌+◌, ◌<◌, [], ◌^◌, arith, by-bool, Class, codes, content_of, count_of, elf_of}
+use Terms.{Endianness, file_text, Index, index_in_section, inl, inr, is-same, KindsDiffer, List, Ok}
+use Terms.{Option, package_of, refl, same_kind, SectionKind, sections_of, ℕ, ◌∷◌, ◌≡◌, ◌≤◌}
 use Rattle.dwp_base.specs.declared.class.Class.TheVariants.{Elf32, Elf64}
 use Rattle.dwp_base.specs.declared.section.SectionKind.TheVariants.{CuIndex, TuIndex}
 use Rattle.dwp_elf_read.specs.Layout.{word_size}
 use Rattle.dwp_elf.specs.FileText.{Object, headers_place, name_table}
 use Rattle.dwp_elf.specs.Numbers.{Fits}
-use Rattle.dwp_elf.specs.Written.{plain_section, written_sections, written_elf}
+use Rattle.dwp_elf.specs.Written.{written_sections, written_elf}
 use Rattle.dwp_index.specs.Holding.{HasContent}
 use Rattle.dwp_index.proofs.HeldContents.{package_is, another_kind, foreign, empty}
 use Rattle.dwp_elf.proofs.KindCounts.{length-KindsDiffer}
@@ -32,35 +31,25 @@ pub nothing : (kind : SectionKind) (cs : List (SectionKind × List ℕ)) → cou
 nothing kind [] h = refl
 nothing kind (c ∷ cs) h =
     by-bool _ (same_kind c.0 kind)
-    (λ same. let one = rw same at h in absurd (omega (arith, one)))
-    (λ other. let none = rw other at h in rw other (nothing kind cs (omega (arith, none))))
+    (λ same. absurd (let one = rw same at h in omega arith))
+    (λ other. let none = rw other at h in rw other (nothing kind cs (omega arith)))
 
 -- each content of a kind is in its section, or has no bytes and nothing follows
 held_from : (kind : SectionKind) (number : ℕ) (names : List ℕ) (cs : List (SectionKind × List ℕ))
     → count_of kind cs ≤ 1
     → HasContent (written_sections number names cs) kind (content_of kind cs)
-held_from kind number names [] h =
-    let table = plain_section number 3 (codes ".shstrtab") names in
-    inr (foreign table kind (codes ".shstrtab") refl refl, refl)
+held_from kind number names [] h = inr (foreign _ kind (codes ".shstrtab") refl refl, refl)
 held_from kind number names ((k, []) ∷ cs) h =
     let rest = held_from kind (number + 1) names cs (omega (arith, h)) in
-    let none = empty (plain_section number 1 (name_of k) []) kind refl in
     by-bool _ (same_kind k kind)
     (λ same. let one = rw same at h in
-    rw same (inr (none, rw (nothing kind cs (omega (arith, one))) at rest)))
-    (λ apart. rw apart (inr (none, rest)))
+    rw same (inr (empty _ kind refl, rw (nothing kind cs (omega arith)) at rest)))
+    (λ apart. rw apart (inr (empty _ kind refl, rest)))
 held_from kind number names ((k, b ∷ bs) ∷ cs) h =
+    let rest = held_from kind (number + 1) names cs (omega (arith, h)) in
     by-bool _ (same_kind k kind)
-    (λ same. rw same (inl (record {
-      name_is = ap (λ x. Some (name_of x)) (is-same k kind same);
-      size_is = refl;
-      content_is = refl;
-      some = omega arith;
-      has_bytes = λ e. absurd (omega (arith, e));
-      stored = refl;
-    })))
-    (λ apart. let rest = held_from kind (number + 1) names cs (omega (arith, h)) in
-    rw apart (inr (another_kind _ kind k refl apart, rest)))
+    (λ same. let is = is-same k kind same in rw same (inl (grind (arith, is))))
+    (λ apart. rw apart (inr (another_kind _ kind k refl apart, rest)))
 
 -- ---- the package
 
@@ -80,10 +69,9 @@ IsReadAs bytes o = (compilations types : Option Index)
 pub package_held : (bytes : List ℕ) (o : Object) → KindsDiffer o.contents
     → elf_of bytes ≡ Ok (written_elf o) → IsReadAs bytes o
 package_held bytes o h back compilations types c t =
-    let held = λ (kind : SectionKind). held_from kind 1 (name_table o.contents) o.contents
-    (h kind) in
     package_is bytes (written_elf o) (λ kind. content_of kind o.contents) compilations types back
-    (λ kind. inr (empty (plain_section 0 0 [] []) kind refl, held kind)) c t
+    (λ kind. inr (empty _ kind refl, held_from kind 1 (name_table o.contents) o.contents (h kind)))
+    c t
 
 pub package_read : (o : Object) → KindsDiffer o.contents → o.machine < 256 ^ 2 → Fits o
     → IsReadAs (file_text o) o

@@ -1,15 +1,14 @@
 -- The file of a finished package means the units that stand in the ranges of its rows.
 use Rattle.thorin_join.proofs.Terms
-use Terms.{◌++◌, [], ap, AreRowsOf, arith, Bool, cond, content_of, data_of, entry_ids, false, File}
-use Terms.{file_text, IdentifiersFit, Index, index_tests, IndexEntry, InProgress, is_compilation}
-use Terms.{IsFinished, IsIndexOf, IsPackageOnceWritten, IsSound, IsSoundBegun, kind_at, List}
-use Terms.{meaning_at, not, Ok, Option, refl, rows_of, same_kind, SectionKind, Some, take-length}
-use Terms.{true, units_in, units_of, UnitSection, with_bytes, ℕ, ◌∙◌, ◌≡◌}
+use Terms.{◌++◌, [], ap, AreRowsOf, arith, Bool, cond, content_of, data_of, false, File, file_text}
+use Terms.{IdentifiersFit, index_tests, InProgress, is_compilation, IsFinished}
+use Terms.{IsPackageOnceWritten, IsSound, IsSoundBegun, kind_at, List, meaning_at, not, Ok, refl}
+use Terms.{rows_of, same_kind, SectionKind, Some, take-length, true, units_in, units_of}
+use Terms.{UnitSection, with_bytes, ℕ, ◌≡◌}
 use Rattle.thorin_join.specs.State.{names_of}
-use Rattle.dwp_index.specs.Naming.{IsIndexOfIds}
 use Rattle.dwp_index.proofs.UsedOnce.{entries_once}
 use Rattle.thorin_join.specs.Builder.{State, IsFinishedState, finish_test, indexes_test}
-use Rattle.thorin_join.proofs.Files.Indexes.{HasRows, index-read, chosen-fit}
+use Rattle.thorin_join.proofs.Files.Indexes.{index-read, chosen-fit}
 use Rattle.thorin_join.proofs.Units.NamesApart.{distinct_chosen}
 use Rattle.thorin_join.proofs.Rows.Stay.{Grows, grows-trans, grows-with_bytes, keep-rows}
 use Rattle.thorin_join.proofs.Files.UnitsFound.{package-finds}
@@ -17,7 +16,6 @@ use Rattle.thorin_join.proofs.Parts.Appended.{content-with_bytes}
 use Rattle.thorin_join.proofs.Files.Contents.{package_held}
 use Rattle.thorin_join.proofs.Files.RowsFound.{ids-chosen, members}
 use Rattle.dwp_base.specs.declared.section.SectionKind.TheVariants as kinds
-use Rattle.dwp_dwarf.specs.declared.unit.UnitSection.TheVariants as places
 
 -- the tests of finishing
 pub record Tested (made : InProgress) : Type 0 where
@@ -54,63 +52,53 @@ module _ (made : InProgress) (file : File) (f : IsFinished made file) where
 
   pub finished-strings : content_of kinds.Str made.file.contents ≡ [] → content_of kinds.Str
       file.contents ≡ data_of made.strings
-  finished-strings none =
-      finished-content kinds.Str ∙ ap (λ l. l ++ data_of made.strings) none
+  finished-strings none = rw none at (finished-content kinds.Str)
 
   pub finished-compilations : content_of kinds.CuIndex made.file.contents ≡ []
       → content_of kinds.CuIndex file.contents ≡ f.compilation_index
-  finished-compilations none =
-      finished-content kinds.CuIndex ∙ ap (λ l. l ++ f.compilation_index) none
+  finished-compilations none = rw none at (finished-content kinds.CuIndex)
 
   pub finished-types : content_of kinds.TuIndex made.file.contents ≡ [] → content_of kinds.TuIndex
       file.contents ≡ f.type_index
-  finished-types none = finished-content kinds.TuIndex ∙ ap (λ l. l ++ f.type_index) none
+  finished-types none = rw none at (finished-content kinds.TuIndex)
 
   -- the units' own bytes
   pub finished-own : (place : UnitSection) → content_of (kind_at place) file.contents ≡ content_of
       (kind_at place) made.file.contents
   finished-own place = grind (arith, finished-content (kind_at place))
 
-index-ids : (index : Option Index) (rows : List IndexEntry) → HasRows index rows
-    → IsIndexOfIds index (entry_ids rows)
-index-ids index rows has = grind arith
-
--- the file of a finished package is a package of its units
-package-is : (made : InProgress) (file : File) → IsSound made → Tested made
-    → IdentifiersFit made.rows → IsFinished made file → IsPackageOnceWritten (units_of made) file
-package-is made file sound tested fits f differ back =
-    let of = meaning_at made.file.order made.file.contents made.strings in
-    let units = sound.units in
-    let indexed = λ (b : Bool) (bytes : List ℕ)
-    (is : IsIndexOf made.file.order (rows_of b made.rows) bytes)
-    (passes : index_tests (rows_of b made.rows) ≡ Ok tt).
-    index-read made.file.order (rows_of b made.rows) bytes is passes
-    (distinct_chosen b made.rows (names_of made) refl sound.apart) (chosen-fit b made.rows fits) in
-    let c = indexed true f.compilation_index f.compilations tested.compilation_rows in
-    let t = indexed false f.type_index f.types tested.type_rows in
-    let order = finished-order made file f in
-    let once = entries_once c.index t.index _ _ (index-ids c.index _ c.has)
-    (index-ids t.index _ t.has) in
-    let ids = ids-chosen of is_compilation made.rows in
-    let others = ids-chosen of (λ name. not (is_compilation name)) made.rows in
-    let rows : AreRowsOf file.order file.contents made.strings made.rows (members of made.rows) =
-    rw order (keep-rows made.file.order made.file.contents file.contents made.strings made.strings
-    made.rows (units_of made) (finished-grows made file f) (take-length made.strings) units.rows) in
-    record {
-      pack = _;
-      parsed = package_held (file_text file) file differ back c.index t.index
-          (rw (order, finished-compilations made file f units.no_compilations) c.read)
-          (rw (order, finished-types made file f units.no_types) t.read);
-      named = rw (← ids, ← others) once;
-      finds = λ name. package-finds file.order file.contents c.index t.index made.strings
-          (finished-strings made file f units.no_strings) units.table made.rows name of rows
-          c.has t.has;
-    }
+  -- it is a package of the units
+  package-is : IsSound made → Tested made → IdentifiersFit made.rows
+      → IsPackageOnceWritten (units_of made) file
+  package-is sound tested fits differ back =
+      let of = meaning_at made.file.order made.file.contents made.strings in
+      let units = sound.units in
+      let apart = λ (b : Bool). distinct_chosen b made.rows (names_of made) refl sound.apart in
+      let c = index-read made.file.order (rows_of true made.rows) f.compilation_index f.compilations
+      tested.compilation_rows (apart true) (chosen-fit true made.rows fits) in
+      let t = index-read made.file.order (rows_of false made.rows) f.type_index f.types
+      tested.type_rows (apart false) (chosen-fit false made.rows fits) in
+      let rows : AreRowsOf file.order file.contents made.strings made.rows (members of made.rows) =
+      rw finished-order (keep-rows made.file.order made.file.contents file.contents made.strings
+      made.strings made.rows (units_of made) finished-grows (take-length made.strings)
+      units.rows) in
+      record {
+        pack = _;
+        parsed = package_held (file_text file) file differ back c.index t.index
+            (rw (finished-order, finished-compilations units.no_compilations) c.read)
+            (rw (finished-order, finished-types units.no_types) t.read);
+        named = rw (
+          ← ids-chosen of is_compilation made.rows,
+          ← ids-chosen of (λ name. not (is_compilation name)) made.rows,
+        ) (entries_once c.index t.index _ _ (grind (arith, c.has)) (grind (arith, t.has)));
+        finds = λ name. package-finds file.order file.contents c.index t.index made.strings
+            (finished-strings units.no_strings) units.table made.rows name of rows c.has t.has;
+      }
 
 -- so is that of a finished state
 pub finished-is : (state : State) (file : File) → IsSoundBegun state.begun
     → finish_test state ≡ Ok tt
     → IsFinishedState state file → IsPackageOnceWritten (units_in state) file
 finished-is state file sound tested f =
-    rw f.begun (package-is f.made file (rw f.begun at sound)
-    (tested-state state f.made f.begun tested) f.identifiers f.finished)
+    rw f.begun (package-is f.made file f.finished (rw f.begun at sound)
+    (tested-state state f.made f.begun tested) f.identifiers)

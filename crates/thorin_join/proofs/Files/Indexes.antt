@@ -2,8 +2,8 @@
 use Rattle.thorin_join.proofs.Terms
 use Terms.{◌<◌, [], ◌^◌, AreDistinct, arith, Bool, Endianness, entry_ids, Err, HasEntries}
 use Terms.{IdentifiersFit, Index, index_in_section, index_tests, index_version_of, IndexEntry}
-use Terms.{IsIndexOf, length, List, None, Ok, Option, refl, rows_of, slice_index, Some, suc}
-use Terms.{UnexpectedEof, zero, ℕ, ◌∷◌, ◌≡◌}
+use Terms.{IsIndexOf, length, List, None, Ok, Option, refl, rows_of, slice_index, Some}
+use Terms.{UnexpectedEof, ℕ, ◌∷◌, ◌≡◌}
 use Rattle.dwp_index.specs.IndexBytes.{index_of, version_of}
 use Rattle.thorin_index.proofs.ReadAgain.{index_is_read}
 use Rattle.thorin_index.proofs.RowsAgain.{written_rows}
@@ -48,6 +48,4 @@ index-read order (row ∷ rows) bytes text tested distinct fit =
 pub chosen-fit : (b : Bool) (rows : List IndexEntry) → IdentifiersFit rows → (r : ℕ)
     → slice_index (entry_ids (rows_of b rows)) r < 2 ^ 64
 chosen-fit b [] h r = omega arith
-chosen-fit b (row ∷ rows) h zero = grind (arith, chosen-fit b rows h.1 zero)
-chosen-fit b (row ∷ rows) h (suc r) =
-    grind (arith, chosen-fit b rows h.1 (suc r), chosen-fit b rows h.1 r)
+chosen-fit b (row ∷ rows) h r = grind (arith, chosen-fit b rows h.1)

@@ -1,19 +1,10 @@
 -- The row of a name, and the names without one.
 use Rattle.thorin_join.proofs.Terms
-use Terms.{◌<◌, [], ap, AreRowsOf, arith, Bool, by-bool, Contents, DwarfObject, Endianness}
-use Terms.{entry_ids, false, filter, identifier_of, IndexEntry, is_chosen, is_compilation}
-use Terms.{IsNotNamed, IsRowOf, length, length-map, List, lookup, map, MatchOption, Meaning}
-use Terms.{Members, None, Option, refl, rows_of, same_name, same_sort, slice_get, slice_index, Some}
-use Terms.{suc, sym, true, true≢false, zero, ℕ, ◌∙◌, ◌∷◌, ◌≡◌}
+use Terms.{◌<◌, [], AreRowsOf, arith, Bool, by-bool, Contents, DwarfObject, Endianness, entry_ids}
+use Terms.{false, filter, identifier_of, IndexEntry, is_chosen, is_compilation, IsNotNamed, IsRowOf}
+use Terms.{length, List, lookup, map, MatchOption, Meaning, Members, None, Option, refl, rows_of}
+use Terms.{same_name, same_sort, slice_get, slice_index, Some, suc, true, zero, ℕ, ◌∷◌, ◌≡◌}
 use Rattle.thorin_join.proofs.Units.NamesApart.{same_name-true, same-sort, chosen-sort}
-
--- a row is among those of its sort
-sort-chosen : (name : DwarfObject) (row : IndexEntry) → is_chosen (is_compilation name) row ≡
-    same_sort name row.id
-sort-chosen name row = grind arith
-
-sort-self : (name : DwarfObject) → same_sort name name ≡ true
-sort-self name = grind arith
 
 -- the identifier at the place of a row
 pub id-at : (rows : List IndexEntry) (place : ℕ) (row : IndexEntry) → slice_get rows place ≡ Some
@@ -32,16 +23,14 @@ pub ids-chosen : (of : IndexEntry → Meaning) (passes : DwarfObject → Bool) (
     → entry_ids (filter (λ r. passes r.id) rows)
     ≡ map (λ u. identifier_of u.0) (filter (λ u. passes u.0) (members of rows))
 ids-chosen of passes [] = refl
-ids-chosen of passes (r ∷ rs) =
-    grind (arith, ids-chosen of passes rs)
+ids-chosen of passes (r ∷ rs) = grind (arith, ids-chosen of passes rs)
 
 -- there are as many rows of a name's sort as units
 pub rows-counted : (of : IndexEntry → Meaning) (rows : List IndexEntry) (name : DwarfObject)
     → length (entry_ids (rows_of (is_compilation name) rows))
     ≡ length (filter (λ u. same_sort name u.0) (members of rows))
-rows-counted of rows name =
-    ap (λ p. length (entry_ids (filter p rows))) (λ i row. sort-chosen name row i)
-    ∙ ap length (ids-chosen of (same_sort name) rows) ∙ length-map _ (λ u. identifier_of u.0)
+rows-counted of [] name = refl
+rows-counted of (r ∷ rs) name = grind (arith, rows-counted of rs name)
 
 module _ (order : Endianness) (contents : Contents) (strings : List (List ℕ))
     (name : DwarfObject) where
@@ -59,12 +48,7 @@ module _ (order : Endianness) (contents : Contents) (strings : List (List ℕ))
   another : (r : IndexEntry) (own : List IndexEntry) → is_compilation r.id ≡ is_compilation name
       → same_name name r.id ≡ false → (found : Option Meaning) → Looked own found
       → Looked (r ∷ own) found
-  another r own sort other None none = λ p. elim p as (λ k. k < length (entry_ids (r ∷ own))
-      → slice_index (entry_ids (r ∷ own)) k ≡ identifier_of name → ⊥) [
-        | zero ↦ λ within same.
-            true≢false (sym (same-sort name r.id (sym sort) (sym same)) ∙ other)
-        | suc k ↦ λ within. none k (omega arith)
-      ]
+  another r own sort other None none = λ p within same. grind (arith, same-sort name r.id, none)
   another r own sort other (Some unit) f =
       record { place = suc f.place; row = f.row; at = f.at; is = f.is }
 
@@ -75,7 +59,7 @@ module _ (order : Endianness) (contents : Contents) (strings : List (List ℕ))
   looked of (r ∷ rs) are =
       by-bool _ (same_name name r.id)
       (λ same. let is = same_name-true name r.id same in
-      let chosen = sort-chosen name r ∙ ap (same_sort name) (sym is) ∙ sort-self name in
+      let chosen : is_chosen (is_compilation name) r ≡ true = grind arith in
       rw (same, chosen) (record { place = 0; row = r; at = refl; is = rw is are.0 }))
       (λ other. rw other (by-bool _ (is_chosen (is_compilation name) r)
       (λ chosen. rw chosen (another r _ (chosen-sort (is_compilation name) r chosen) other _

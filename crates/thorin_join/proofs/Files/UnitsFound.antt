@@ -4,9 +4,9 @@ use Terms.{◌+◌, ◌<◌, ap, AreRowsOf, arith, content_of, Contents, Contrib
 use Terms.{data_of, DwarfObject, Endianness, entry_ids, false, filter, GivesNone, GivesUnit}
 use Terms.{HasEntries, identifier_of, Index, IndexEntry, is_compilation, IsTable, IsUnit, IsUnitOf}
 use Terms.{kind_at, kind_of, length, length-map, limit_of, List, lookup, MatchOption, Meaning}
-use Terms.{nat_tests, None, none-some, Option, own_bytes, own_place, Package, part_of, range_in}
-use Terms.{refl, row_bytes, rows_of, same_name, same_sort, SectionKind, sections_of, slice_get}
-use Terms.{Some, sym, take-length, true, unit_of, UnitSection, ℕ, ◌∙◌, ◌≡◌, ◌≤◌}
+use Terms.{nat_tests, None, Option, own_bytes, own_place, Package, part_of, range_in, refl}
+use Terms.{row_bytes, rows_of, same_name, same_sort, SectionKind, sections_of, Some, sym}
+use Terms.{take-length, true, unit_of, ℕ, ◌∙◌, ◌≡◌, ◌≤◌}
 use Rattle.dwp_table.proofs.Tables.{finds_exactly}
 use Rattle.dwp_index.specs.Contents.{content}
 use Rattle.dwp_index.specs.Package.{index_for}
@@ -17,9 +17,6 @@ use Rattle.thorin_join.proofs.Files.Indexes.{HasRows}
 use Rattle.thorin_join.proofs.Files.RowsFound.{RowFound, Looked, looked, id-at, members}
 use Rattle.thorin_join.proofs.Files.RowsFound.{rows-counted}
 use Rattle.dwp_base.specs.declared.section.SectionKind.TheVariants as kinds
-
-kind-same : (place : UnitSection) → kind_of place ≡ kind_at place
-kind-same place = grind arith
 
 pub part-there : (part : Option Contribution) → ((range : Contribution) → part ≡ Some range
     → 0 < range.size) → non_empty part ≡ part
@@ -61,8 +58,9 @@ module _ (order : Endianness) (contents : Contents) (compilations types : Option
     place-is = rw (range-is kinds.Types) (sym f.is.owns.place_is)
 
     own-are : own_bytes pack.contents name parts.row ≡ unit.bytes
-    own-are = rw (place-is, kind-same f.is.owns.place, bytes-are (kind_at f.is.owns.place))
-        f.is.owns.bytes
+    own-are =
+        let same : kind_of f.is.owns.place ≡ kind_at f.is.owns.place = grind arith in
+        rw (place-is, same, bytes-are (kind_at f.is.owns.place)) f.is.owns.bytes
 
     found-unit : IsUnitOf pack name (entry_ids own) index f.place parts.row f.is.owns.encoding
     found-unit = record {
@@ -94,38 +92,28 @@ module _ (order : Endianness) (contents : Contents) (compilations types : Option
     Gives found = MatchOption found (GivesNone pack name (limit_of units))
         (GivesUnit pack name (limit_of units))
 
-    -- the limit is one more than there are units, where there are any
-    some-limit : (n count : ℕ) → 0 < n → count ≤ n + 1 → count ≤ limit_of n
-    some-limit n count some few = grind arith
-
     -- by the index of the name's sort, and by what the units have under it
     gives : (index : Option Index) → index_for pack name ≡ index → HasRows index own
         → (found : Option Meaning) → Looked order contents strings name own found → Gives found
     gives None there has None absent =
         let g = no_index pack name there in
         record { count = g.count; few = omega (arith, g.few); counted = g.counted }
-    gives None there has (Some unit) f =
-        absurd (none-some f.row (ap (λ l. slice_get l f.place) (sym has) ∙ f.at))
+    gives None there has (Some unit) f = let at = rw has at f.at in absurd cc
     gives (Some i) there has None absent =
         let g = absent_unit finds_exactly pack name (entry_ids own) i
         (record { index_is = there; slots = has.1.slots }) absent in
-        let counted = rows-counted of rows name in
         let many = length-map own (λ (row : IndexEntry). identifier_of row.id) in
-        record {
-          count = g.count;
-          few = some-limit units g.count (omega (arith, counted, many, has.2))
-              (omega (arith, counted, g.few));
-          counted = g.counted;
-        }
+        let few : g.count ≤ limit_of units =
+        grind (arith, rows-counted of rows name, many, has.2, g.few) in
+        record { count = g.count; few = few; counted = g.counted }
     gives (Some i) there has (Some unit) f =
         let found = found-unit unit f i has.0 has.1 in
         let g = present_unit finds_exactly pack name (entry_ids own) i f.place _ f.is.owns.encoding
         (record { index_is = there; slots = has.1.slots }) found in
-        let within : f.place < units = omega (arith, rows-counted of rows name, found.within) in
         record {
           found = _;
           count = g.count;
-          few = some-limit units g.count (omega (arith, within)) (omega (arith, within, g.few));
+          few = grind (arith, rows-counted of rows name, found.within, g.few);
           counted = g.counted;
           is = found-is unit f i has.0 has.1;
         }

@@ -14,7 +14,7 @@ use Rattle.thorin_join.proofs.Rows.LieInTurn.{can-lie, laid-lies}
 use Rattle.thorin_join.proofs.Parts.Appended.{content-with_parts, parts-none}
 use Rattle.thorin_join.proofs.Parts.FirstUses.{parts-follow}
 use Rattle.thorin_join.proofs.Rows.OfUnits.{row-shares, is-unit_row}
-use Rattle.thorin_join.proofs.Rows.AllAdded.{AllNew, joined-new, units-added, AllCanBeAdded}
+use Rattle.thorin_join.proofs.Rows.AllAdded.{joined-new, units-added, AllCanBeAdded}
 use Rattle.thorin_join.proofs.Units.Whole.{Goes, units-go}
 use Rattle.thorin_join.proofs.Units.HeadersRead.{each-joining, News, Reads}
 use Rattle.thorin_join.proofs.Units.InRows.{rows-keys, keys-units, units-are}
@@ -27,17 +27,12 @@ use Rattle.dwp_dwarf.specs.declared.unit.UnitSection.TheVariants as places
 abbrev all_meant : Source → Reads → List (DwarfObject × Option Meaning)
 all_meant source us = map {B = DwarfObject × Option Meaning} (meant source) us
 
-joining-meant : (source : Source) (names : List DwarfObject) (us : Reads)
-    → joining names (all_meant source us) ≡ all_meant source (joining names us)
-joining-meant source names [] = refl
-joining-meant source names (u ∷ us) =
-    grind (arith, joining-meant source names us, joining-meant source (names ++ u.0 ∷ []) us)
-
-can_join-meant : (source : Source) (names : List DwarfObject) (us : Reads)
-    → can_join names (all_meant source us) ≡ can_join names us
-can_join-meant source names [] = refl
-can_join-meant source names (u ∷ us) =
-    grind (arith, can_join-meant source names us, can_join-meant source (names ++ u.0 ∷ []) us)
+join-meant : (source : Source) (names : List DwarfObject) (us : Reads)
+    → (joining names (all_meant source us) ≡ all_meant source (joining names us))
+    × (can_join names (all_meant source us) ≡ can_join names us)
+join-meant source names [] = (refl, refl)
+join-meant source names (u ∷ us) =
+    grind (arith, join-meant source names us, join-meant source (names ++ u.0 ∷ []) us)
 
 -- ---- the units that are added, with all that belongs to them
 
@@ -114,7 +109,6 @@ pub source-joins : (bytes : List ℕ) (source : Source) (before now : InProgress
 unfolding source_meaning
 source-joins bytes source before now sound same meaning h =
     let m = source-made source before now h in
-    let order = before.file.order in
     let old = before.file.contents in
     let parts = m.parts in
     let us = m.new.units in
@@ -125,18 +119,16 @@ source-joins bytes source before now sound same meaning h =
     let names : held ≡ keys ms = keys-held before ∙ sym (keys-units before) in
     let kept = parts-follow source before.strings parts m.after rep.table m.parts_are in
     let none = parts-none source before.strings parts m.after m.parts_are in
-    let all = units-go source j.all j.is in
     let r = ready source before parts m.after rep.table m.parts_are us (joining held j.all) j.are
-    (each-joining (Goes source.object.order) held j.all all) in
+    (each-joining (Goes source.object.order) held j.all (units-go source j.all j.is)) in
     let q = with_all_parts before parts m.after (before.differing ++ m.new.differing) in
     let added = added-keys (adding source before parts) us (joining held j.all) j.are in
-    let fresh : AllNew (names_of before) (keys us) =
-    rw (added, ← keys-held before) (joined-new held j.all) in
-    let rows = keep-rows order old q.file.contents before.strings m.after before.rows ms
-    (grows-with_parts parts old) kept.kept rep.rows in
     let a = units-added q.file.contents q us ms r.members
-    (λ kind. record { rest = []; is = sym (append-nil (content_of kind q.file.contents)) }) fresh
-    (subst (λ o. AllCanBeAdded o q.file.contents m.after us r.members) same r.can) rows
+    (λ kind. record { rest = []; is = sym (append-nil (content_of kind q.file.contents)) })
+    (rw (added, ← keys-held before) (joined-new held j.all))
+    (subst (λ o. AllCanBeAdded o q.file.contents m.after us r.members) same r.can)
+    (keep-rows before.file.order old q.file.contents before.strings m.after before.rows ms
+    (grows-with_parts parts old) kept.kept rep.rows)
     (laid-lies before parts (λ place. none (kind_at place) (not-shared place).0
     (not-shared place).2) sound.laid) in
     let still : (kind : SectionKind) → same_kind kinds.Info kind ≡ false
@@ -157,9 +149,9 @@ source-joins bytes source before now sound same meaning h =
       joins = record {
         units = all_meant source j.all;
         meaning = meaning ∙ bind-ok (source_units source) j.all _ j.is;
-        defined = rw (← names) (can_join-meant source held j.all ∙ j.defined);
+        defined = rw (← names) ((join-meant source held j.all).1 ∙ j.defined);
         added = r.members;
-        joined = rw (← names) (joining-meant source held j.all ∙ r.are);
+        joined = rw (← names) ((join-meant source held j.all).0 ∙ r.are);
         is = sym are;
       };
       sound = record {

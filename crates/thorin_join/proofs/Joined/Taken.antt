@@ -4,7 +4,7 @@ use Rattle.thorin_join.proofs.Terms
 use Terms.{[], ap, arith, begun_by, Elf, false, first, has_info, indexes_of, inl, InProgress}
 use Terms.{input_file_of, inr, IsSound, List, named_in, None, offsets_used, Ok, opened, Option}
 use Terms.{order_test, package_or_new, refl, Some, Source, Str, strings_begun, sum_by, sym, true}
-use Terms.{with_input, with_source, with_strings, ℕ, ◌∙◌, ◌≡◌, ◌⊎◌}
+use Terms.{with_input, with_source, ℕ, ◌∙◌, ◌≡◌, ◌⊎◌}
 use Rattle.thorin_input.specs.Encodings.{encoding_of}
 use Rattle.thorin_join.specs.Builder.{with_source_or_new, with_units}
 use Rattle.thorin_join.specs.FirstUse.{named_in_file, used_by, UsesStrings}
@@ -55,23 +55,20 @@ unfolding used_by named_in_file
 uses-strings bytes begun now fine h =
     let t = takes bytes begun (Some now) h in
     let start = same-begun strings_begun t.file refl begun in
-    let distinct = fine.units.table.distinct in
     elim t.does [
       | inl u ↦
           let v = u.1 in
-          let named = named_in v.source v.source.object.sections in
+          let brings = source-brings v.source _ v.made (source-made v.source _ v.made v.with) in
           record {
-            used = named;
+            used = named_in v.source v.source.object.sections;
             named = rw (t.opens, u.0, v.object_is, v.encoding_is, v.indexes_are) refl;
-            strings = ap strings_begun (sym v.is)
-                ∙ (source-brings v.source _ v.made (source-made v.source _ v.made v.with)).are
-                ∙ ap (λ l. with_strings l named) start;
-            distinct = distinct;
+            strings = cc (v.is, brings.are, start);
+            distinct = fine.units.table.distinct;
           }
       | inr n ↦ record {
         used = [];
         named = rw (t.opens, n.0) refl;
-        strings = ap strings_begun (sym n.1) ∙ start;
-        distinct = distinct;
+        strings = cc (n.1, start);
+        distinct = fine.units.table.distinct;
       }
     ]
