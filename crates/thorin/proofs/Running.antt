@@ -11,8 +11,9 @@ use Rattle.thorin_errors.specs.declared.error.InputError.{InputError}
 use Rattle.thorin_errors.specs.declared.error.InputError.TheVariants.{Io, Memory as no_memory}
 use Rattle.thorin_errors.specs.declared.error.MissingReferencedObjectBehaviour.{MissingReferencedObjectBehaviour}
 use Rattle.thorin_executable.specs.Skeletons.{Listed, skeletons_of, named_skeletons_of}
-use Rattle.thorin_builder.specs.Taking.{Outcome, Takes, TakesRead, with_target, TakesReferred}
+use Rattle.thorin_builder.specs.Taking.{Came, Outcome, TakesBytes, TakesRead, TakesReferred, came}
 use Rattle.thorin_builder.specs.Taking.{TakesSkeleton, TakesSkeletons, TakesExecutableRead}
+use Rattle.thorin_builder.specs.Taking.{with_target}
 use Rattle.thorin_builder.proofs.Running.{Offer}
 use Rattle.thorin.specs.declared.packing.Input.TheVariants as inputs
 
@@ -75,12 +76,11 @@ none-accepted : (accepted : List (List ℕ)) (old new : State) → new ≡ old �
 none-accepted accepted old new same none = rw (none, same) ((old.targets, refl), refl)
 
 -- so it is by what came of something
-abbrev Accepting : (State → Outcome → State → List (List ℕ) → Type 0) → Type 0
+abbrev Accepting : (State → Came → Type 0) → Type 0
 Accepting takes = (old new : State) (outcome : Outcome) (accepted : List (List ℕ))
-    → takes old outcome new accepted → Accepts accepted old new
+    → takes old (came outcome new accepted) → Accepts accepted old new
 
-of-bytes : (bytes : List ℕ) → Accepting (λ old outcome new accepted. Takes bytes old outcome new
-    × (accepted ≡ accepted_of outcome bytes))
+of-bytes : (bytes : List ℕ) → Accepting (TakesBytes bytes)
 of-bytes bytes old new (Ok x) accepted takes = rw takes.1 (
   (old.targets, new, takes.0.meaning, (new.targets, refl)),
   (units_in new, takes.0.joins, refl),
@@ -129,7 +129,8 @@ module _ (offer : Offer) (missing : MissingReferencedObjectBehaviour) where
   of-executable names (Err e) old new outcome accepted takes =
       none-accepted accepted old new takes.1 takes.2
 
-of-input : (offer : Offer) (input : Input) → Accepting (TakesInput offer input)
+of-input : (offer : Offer) (input : Input)
+    → Accepting (λ old c. TakesInput offer input old c.outcome c.new c.accepted)
 of-input offer (inputs.Object path) old new outcome accepted (t, is) =
     rw is (of-read t.read old new outcome t.accepted t.taken)
 of-input offer (inputs.Bytes bytes) old new outcome accepted takes =

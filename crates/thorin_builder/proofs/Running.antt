@@ -8,7 +8,7 @@ use Rattle.std.specs.declared.io.Error.{Error as IoError}
 use Rattle.thorin_errors.specs.Errors.{Memory}
 use Rattle.thorin_errors.specs.declared.error.MissingReferencedObjectBehaviour.{MissingReferencedObjectBehaviour}
 use Rattle.thorin_executable.specs.Skeletons.{Listed}
-use Rattle.thorin_builder.specs.Taking.{Outcome, TakesSkeleton, TakesSkeletons, TakesNamed}
+use Rattle.thorin_builder.specs.Taking.{Outcome, TakesSkeleton, TakesSkeletons, TakesNamed, came}
 use Rattle.thorin_join.proofs.Units.InRows.{keys-units}
 
 abbrev pub Offer : Type 1
@@ -25,8 +25,8 @@ module _ (offer : Offer) (missing : MissingReferencedObjectBehaviour) (all : Lis
     pub are : (done ++ left.0, left.1) ≡ all
     pub goes_on : (rest : List (DwarfObject × List ℕ)) (error : Option ErrorValue)
         (outcome : Outcome) (new : State) (here : List (List ℕ))
-        → TakesSkeletons offer missing rest error middle outcome new here
-        → TakesSkeletons offer missing (done ++ rest) error old outcome new (before ++ here)
+        → TakesSkeletons offer missing rest error middle (came outcome new here)
+        → TakesSkeletons offer missing (done ++ rest) error old (came outcome new (before ++ here))
 
   -- none was taken yet
   pub none-taken : TakenUpTo all old
@@ -39,7 +39,7 @@ module _ (offer : Offer) (missing : MissingReferencedObjectBehaviour) (all : Lis
 
     -- one more was taken
     pub next-taken : (rest : Listed) (n : DwarfObject × List ℕ) (new : State) (here : List (List ℕ))
-        → left ≡ (n ∷ rest.0, rest.1) → TakesSkeleton offer missing n middle (Ok tt) new here
+        → left ≡ (n ∷ rest.0, rest.1) → TakesSkeleton offer missing n middle (came (Ok tt) new here)
         → TakenUpTo rest new
     next-taken rest n new here first took = record {
       done = so_far.done ++ n ∷ [];
@@ -59,8 +59,8 @@ module _ (offer : Offer) (missing : MissingReferencedObjectBehaviour) (all : Lis
     ends : (rest : List (DwarfObject × List ℕ)) (error : Option ErrorValue) (outcome : Outcome)
         (new : State) (here : List (List ℕ))
         → (error ≢ Some Memory → left ≡ (rest, error)) → take (length rest) left.0 ≡ rest
-        → TakesSkeletons offer missing rest error middle outcome new here
-        → (accepted : List (List ℕ)) × TakesNamed offer missing all old outcome new accepted
+        → TakesSkeletons offer missing rest error middle (came outcome new here)
+        → (accepted : List (List ℕ)) × TakesNamed offer missing all old (came outcome new accepted)
     ends rest error outcome new here is front took = (
       so_far.before ++ here,
       record {
@@ -80,8 +80,8 @@ module _ (offer : Offer) (missing : MissingReferencedObjectBehaviour) (all : Lis
     -- one was refused
     pub next-refused : (rest : Listed) (n : DwarfObject × List ℕ) (new : State) (e : Error)
         (here : List (List ℕ))
-        → left ≡ (n ∷ rest.0, rest.1) → TakesSkeleton offer missing n middle (Err e) new here
-        → (accepted : List (List ℕ)) × TakesNamed offer missing all old (Err e) new accepted
+        → left ≡ (n ∷ rest.0, rest.1) → TakesSkeleton offer missing n middle (came (Err e) new here)
+        → (accepted : List (List ℕ)) × TakesNamed offer missing all old (came (Err e) new accepted)
     next-refused rest n new e here first took =
         ends (n ∷ rest.0) rest.1 (Err e) new here (λ other. first)
         (ap (λ (l : Listed). take (length (n ∷ rest.0)) l.0) first ∙ take-length (n ∷ rest.0))
@@ -89,13 +89,13 @@ module _ (offer : Offer) (missing : MissingReferencedObjectBehaviour) (all : Lis
 
     -- the list ended, or with an error
     pub list-ended : left ≡ ([], None)
-        → (accepted : List (List ℕ)) × TakesNamed offer missing all old (Ok tt) middle accepted
-    list-ended is = ends [] None (Ok tt) middle [] (λ other. is) refl (refl, refl, refl)
+        → (accepted : List (List ℕ)) × TakesNamed offer missing all old (came (Ok tt) middle accepted)
+    list-ended is = ends [] None (Ok tt) middle [] (λ other. is) refl (refl, (refl, refl))
 
     pub list-error : (e : Error) → MemoryAside e (left ≡ ([], Some (error_of e)))
-        → (accepted : List (List ℕ)) × TakesNamed offer missing all old (Err e) middle accepted
+        → (accepted : List (List ℕ)) × TakesNamed offer missing all old (came (Err e) middle accepted)
     list-error e is = ends [] (Some (error_of e)) (Err e) middle []
-        (λ other. is (λ m. other (ap (λ f. Some (error_of f)) m))) refl (refl, refl, refl)
+        (λ other. is (λ m. other (ap (λ f. Some (error_of f)) m))) refl (refl, (refl, refl))
 
 -- the names of a builder's units
 pub names-begun : (state : State) → keys (units_in state) ≡ names_in state.begun

@@ -40,7 +40,7 @@ pub use Rattle.thorin_input.specs.Used.{Used, first, input_file_of}
 pub use Rattle.thorin_input.specs.View.{part, source, tables_in, used}
 pub use Rattle.thorin_join.proofs.Parts.Strings.{front-front}
 pub use Rattle.thorin_join.specs.Builder.{IdentifiersFit, IsFinishedState, State, is_missing}
-pub use Rattle.thorin_join.specs.Builder.{names_in, own_after, rows_of, with_own}
+pub use Rattle.thorin_join.specs.Builder.{names_in, own_after, with_own}
 unfoldable pub use Rattle.thorin_join.specs.Builder.{finish_test, order_test, taken, targets_test}
 unfoldable pub use Rattle.thorin_join.specs.Builder.{with_input, with_source_or_new, with_units}
 pub use Rattle.thorin_join.specs.Meaning.{Meaning, keys}

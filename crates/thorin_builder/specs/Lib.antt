@@ -5,3 +5,4 @@ pub mod BuilderView
 pub mod Missing
 pub mod Taking
 pub mod Repeated
+pub mod RowsByIndex

@@ -36,6 +36,25 @@ abbrev pub accepted_of : Outcome → List ℕ → List (List ℕ)
 accepted_of (Ok x) bytes = bytes ∷ []
 accepted_of (Err e) bytes = []
 
+-- what came of a call that takes inputs: its outcome, the state behind it, and the bytes of those
+-- that were accepted
+pub record Came : Type 0 where
+  pub outcome : Outcome
+  pub new : State
+  pub accepted : List (List ℕ)
+
+abbrev pub came : Outcome → State → List (List ℕ) → Came
+came outcome new accepted = record { outcome = outcome; new = new; accepted = accepted }
+
+-- the bytes were taken
+abbrev pub TakesBytes : List ℕ → State → Came → Type 0
+TakesBytes bytes old c =
+    Takes bytes old c.outcome c.new × (c.accepted ≡ accepted_of c.outcome bytes)
+
+-- nothing was taken, and nothing changed
+abbrev pub TakesNothing : State → Came → Type 0
+TakesNothing old c = (c.new ≡ old) × (c.accepted ≡ [])
+
 -- a read answered what may be answered there, want of memory aside
 abbrev pub MayRead : (Result (List ℕ) IoError → Type 0) → Result (List ℕ) InputError → Type 0
 MayRead offered (Ok bytes) = offered (Ok bytes)
@@ -43,11 +62,9 @@ MayRead offered (Err (input_error.Io cause)) = offered (Err cause)
 MayRead offered (Err input_error.Memory) = Unit {0}
 
 -- what a read gave was taken; where it failed, that is the outcome, and nothing changed
-abbrev pub TakesRead : Result (List ℕ) InputError → State → Outcome → State → List (List ℕ) → Type 0
-TakesRead (Ok bytes) old outcome new accepted =
-    Takes bytes old outcome new × (accepted ≡ accepted_of outcome bytes)
-TakesRead (Err e) old outcome new accepted =
-    (outcome ≡ Err (input_error e)) × (new ≡ old) × (accepted ≡ [])
+abbrev pub TakesRead : Result (List ℕ) InputError → State → Came → Type 0
+TakesRead (Ok bytes) old c = TakesBytes bytes old c
+TakesRead (Err e) old c = (c.outcome ≡ Err (input_error e)) × TakesNothing old c
 
 -- the same for the object at a path, of which that may be read
 pub record TakesFile (offered : Result (List ℕ) IoError
@@ -55,7 +72,7 @@ pub record TakesFile (offered : Result (List ℕ) IoError
   pub read : Result (List ℕ) InputError
   pub within : MayRead offered read
   pub accepted : List (List ℕ)
-  pub taken : TakesRead read old outcome new accepted
+  pub taken : TakesRead read old (came outcome new accepted)
 
 -- ---- executables
 
@@ -78,13 +95,12 @@ PassesOver behaviour.Error cause outcome = outcome ≡ Err (error.ReadInput caus
 
 -- what a read of such an object gave was taken; a failed read alone may be passed over
 abbrev pub TakesReferred : MissingReferencedObjectBehaviour → Result (List ℕ) InputError → State
-    → Outcome → State → List (List ℕ) → Type 0
-TakesReferred missing (Ok bytes) old outcome new accepted =
-    Takes bytes old outcome new × (accepted ≡ accepted_of outcome bytes)
-TakesReferred missing (Err (input_error.Io cause)) old outcome new accepted =
-    PassesOver missing cause outcome × (new ≡ old) × (accepted ≡ [])
-TakesReferred missing (Err input_error.Memory) old outcome new accepted =
-    (outcome ≡ Err error.Memory) × (new ≡ old) × (accepted ≡ [])
+    → Came → Type 0
+TakesReferred missing (Ok bytes) old c = TakesBytes bytes old c
+TakesReferred missing (Err (input_error.Io cause)) old c =
+    PassesOver missing cause c.outcome × TakesNothing old c
+TakesReferred missing (Err input_error.Memory) old c =
+    (c.outcome ≡ Err error.Memory) × TakesNothing old c
 
 -- a read of such an object may fail, and then it is passed over
 pub record CanBePassedOver (offered : Result (List ℕ) IoError → Type 0)
@@ -104,25 +120,24 @@ pub record TakesReferredFile (offered : Result (List ℕ) IoError → Type 0) (m
   pub read : Result (List ℕ) InputError
   pub within : MayRead offered read
   pub accepted : List (List ℕ)
-  pub taken : TakesReferred missing read old outcome new accepted
+  pub taken : TakesReferred missing read old (came outcome new accepted)
 
 -- a unit that isn't there was among the targets, and then its object was taken
-pub record TakesAbsent (offer : List ℕ → Result (List ℕ) IoError
-    → Type 0) (missing : MissingReferencedObjectBehaviour) (named : DwarfObject × List ℕ)
-    (old : State) (outcome : Outcome) (new : State) (accepted : List (List ℕ)) : Type 0 where
+pub record TakesAbsent (offer : List ℕ → Result (List ℕ) IoError → Type 0)
+    (missing : MissingReferencedObjectBehaviour) (named : DwarfObject × List ℕ) (old : State)
+    (c : Came) : Type 0 where
   pub absent : is_there named.0 old ≡ false
-  pub file : TakesReferredFile (offer named.1) missing (with_target named.0 old) outcome new
-  pub accepted_is : accepted ≡ file.accepted
+  pub file : TakesReferredFile (offer named.1) missing (with_target named.0 old) c.outcome c.new
+  pub accepted_is : c.accepted ≡ file.accepted
 
 -- a unit that an executable refers to, with the path of its object: it is there; or its object was
 -- taken; or memory ran out before
 abbrev pub TakesSkeleton : (List ℕ → Result (List ℕ) IoError → Type 0)
-    → MissingReferencedObjectBehaviour → DwarfObject × List ℕ → State → Outcome → State
-    → List (List ℕ) → Type 0
-TakesSkeleton offer missing named old outcome new accepted =
-    ((is_there named.0 old ≡ true) × (outcome ≡ Ok tt) × (new ≡ old) × (accepted ≡ []))
-    ⊎ (TakesAbsent offer missing named old outcome new accepted
-    ⊎ ((outcome ≡ Err error.Memory) × (new ≡ old) × (accepted ≡ [])))
+    → MissingReferencedObjectBehaviour → DwarfObject × List ℕ → State → Came → Type 0
+TakesSkeleton offer missing named old c =
+    ((is_there named.0 old ≡ true) × (c.outcome ≡ Ok tt) × TakesNothing old c)
+    ⊎ (TakesAbsent offer missing named old c
+    ⊎ ((c.outcome ≡ Err error.Memory) × TakesNothing old c))
 
 -- what comes of a list's end: nothing, or the error that ended it
 abbrev pub EndsWith : Option ErrorValue → Outcome → Type 0
@@ -137,41 +152,40 @@ pub record Step : Type 0 where
   pub later : List (List ℕ)
 
 -- after the first of a list: a refusal ends it there, with all that came before
-abbrev pub GoesOn : Outcome → Step → Outcome → State → List (List ℕ) → Type 0 → Type 0
-GoesOn (Ok x) s outcome new accepted rest = rest × (accepted ≡ s.here ++ s.later)
-GoesOn (Err e) s outcome new accepted rest =
-    (outcome ≡ Err e) × (new ≡ s.middle) × (accepted ≡ s.here)
+abbrev pub GoesOn : Outcome → Step → Came → Type 0 → Type 0
+GoesOn (Ok x) s c rest = rest × (c.accepted ≡ s.here ++ s.later)
+GoesOn (Err e) s c rest = (c.outcome ≡ Err e) × (c.new ≡ s.middle) × (c.accepted ≡ s.here)
 
 -- the units that an executable refers to, in order, up to the first refusal
 abbrev pub TakesSkeletons : (List ℕ → Result (List ℕ) IoError → Type 0)
     → MissingReferencedObjectBehaviour → List (DwarfObject × List ℕ) → Option ErrorValue → State
-    → Outcome → State → List (List ℕ) → Type 0
-TakesSkeletons offer missing [] error old outcome new accepted =
-    EndsWith error outcome × (new ≡ old) × (accepted ≡ [])
-TakesSkeletons offer missing (named ∷ rest) error old outcome new accepted =
-    (s : Step) × (first : Outcome) × TakesSkeleton offer missing named old first s.middle s.here
-    × GoesOn first s outcome new accepted
-    (TakesSkeletons offer missing rest error s.middle outcome new s.later)
+    → Came → Type 0
+TakesSkeletons offer missing [] error old c = EndsWith error c.outcome × TakesNothing old c
+TakesSkeletons offer missing (named ∷ rest) error old c =
+    (s : Step) × (first : Outcome)
+    × TakesSkeleton offer missing named old (came first s.middle s.here)
+    × GoesOn first s c
+    (TakesSkeletons offer missing rest error s.middle (came c.outcome c.new s.later))
 
 -- the units that an executable refers to and the error that ends their list; where memory ran out,
 -- the first of them
-pub record TakesNamed (offer : List ℕ → Result (List ℕ) IoError
-    → Type 0) (missing : MissingReferencedObjectBehaviour) (meaning : Listed) (old : State)
-    (outcome : Outcome) (new : State) (accepted : List (List ℕ)) : Type 0 where
+pub record TakesNamed (offer : List ℕ → Result (List ℕ) IoError → Type 0)
+    (missing : MissingReferencedObjectBehaviour) (meaning : Listed) (old : State) (c : Came) :
+    Type 0 where
   pub named : List (DwarfObject × List ℕ)
   pub error : Option ErrorValue
   pub are : error ≢ Some Memory → meaning ≡ (named, error)
   pub front : take (length named) meaning.0 ≡ named
-  pub taken : TakesSkeletons offer missing named error old outcome new accepted
+  pub taken : TakesSkeletons offer missing named error old c
 
 -- what a read of an executable gave was taken; `names` says which units its bytes name
 abbrev pub TakesExecutableRead : (names : List ℕ → Listed)
     → (List ℕ → Result (List ℕ) IoError → Type 0) → MissingReferencedObjectBehaviour
-    → Result (List ℕ) InputError → State → Outcome → State → List (List ℕ) → Type 0
-TakesExecutableRead names offer missing (Ok bytes) old outcome new accepted =
-    TakesNamed offer missing (names bytes) old outcome new accepted
-TakesExecutableRead names offer missing (Err e) old outcome new accepted =
-    (outcome ≡ Err (input_error e)) × (new ≡ old) × (accepted ≡ [])
+    → Result (List ℕ) InputError → State → Came → Type 0
+TakesExecutableRead names offer missing (Ok bytes) old c =
+    TakesNamed offer missing (names bytes) old c
+TakesExecutableRead names offer missing (Err e) old c =
+    (c.outcome ≡ Err (input_error e)) × TakesNothing old c
 
 -- the same for the executable at a path, of which that may be read
 pub record TakesExecutableBy (names : List ℕ → Listed) (offer : List ℕ → Result (List ℕ) IoError
@@ -180,7 +194,7 @@ pub record TakesExecutableBy (names : List ℕ → Listed) (offer : List ℕ →
   pub read : Result (List ℕ) InputError
   pub within : MayRead (offer path) read
   pub accepted : List (List ℕ)
-  pub taken : TakesExecutableRead names offer missing read old outcome new accepted
+  pub taken : TakesExecutableRead names offer missing read old (came outcome new accepted)
 
 -- where a unit that names no object is an error
 abbrev pub TakesExecutable : (offer : List ℕ → Result (List ℕ) IoError → Type 0) → List ℕ

@@ -5,7 +5,7 @@ ghost use Rattle.std.specs.Prelude.{◌≡◌, ℕ, List, IsTrue, Option, OnOk};
 ghost use Rattle.std.specs.Path.{path_bytes};
 ghost use Rattle.thorin_builder.specs.Taking.{TakesExecutable, TakesExecutableSkippingNameless};
 ghost use Rattle.thorin_builder.specs.Taking.{TakesExecutableBy, TakesNamed, TakesSkeleton};
-ghost use Rattle.thorin_builder.specs.Taking.{TakesReferredFile, Takes, IsUnread, is_there};
+ghost use Rattle.thorin_builder.specs.Taking.{TakesReferredFile, Takes, IsUnread, came, is_there};
 ghost use Rattle.thorin_builder.specs.Repeated.{AddsAgainTo, AreTaken, IsLaterBegun, Remembers};
 ghost use Rattle.thorin_join.specs.State.{InProgress};
 ghost use Rattle.thorin_executable.specs.Skeletons.{skeletons_by};
@@ -167,7 +167,8 @@ impl<'output, 'session: 'output, Sess: Session<RelocationEntry>> DwarfPackage<
         nameless: NamelessUnits,
     ) -> Result<(), Error>
         ensures taken { (accepted : List (List ℕ)) × TakesNamed (R.offer reader.now) missing
-            (skeletons_by nameless bytes.now) self.old.state result self.new.state accepted }
+            (skeletons_by nameless bytes.now) self.old.state
+            (came result self.new.state accepted) }
         ensures session { self.new.session ≡ self.old.session }
     {
         let session = self.session();
@@ -186,7 +187,7 @@ impl<'output, 'session: 'output, Sess: Session<RelocationEntry>> DwarfPackage<
         missing: MissingReferencedObjectBehaviour,
     ) -> Result<(), Error>
         ensures taken { (accepted : List (List ℕ)) × TakesNamed (R.offer reader.now) missing
-            units.old.listed self.old.state result self.new.state accepted }
+            units.old.listed self.old.state (came result self.new.state accepted) }
         ensures session { self.new.session ≡ self.old.session }
     {
         let mut known = Known {
@@ -219,7 +220,8 @@ impl<'output, 'session: 'output, Sess: Session<RelocationEntry>> DwarfPackage<
         requires known { AreTaken (R.offer reader.now) known.old.taken.entries
             self.old.state.begun }
         ensures taken { (accepted : List (List ℕ)) × TakesSkeleton (R.offer reader.now) missing
-            (named.entry.target, named.entry.path.now) self.old.state result self.new.state accepted }
+            (named.entry.target, named.entry.path.now) self.old.state
+            (came result self.new.state accepted) }
         ensures unread { IsUnread (R.offer reader.now named.entry.path.now) missing known.new.is_unread }
         ensures known { OnOk result (AreTaken (R.offer reader.now) known.new.taken.entries
             self.new.state.begun) }

@@ -9,11 +9,12 @@ ghost use Rattle.thorin_errors.specs.Answers.{Gives};
 ghost use Rattle.thorin_index.specs.EntryTests.{index_tests};
 ghost use Rattle.thorin_index.specs.IndexText.{IsIndexOf};
 ghost use Rattle.dwp_strings.specs.Marks.{mark_of};
-ghost use Rattle.thorin_join.specs.Builder.{IsFinished, indexes_test, IdentifiersFit, rows_of};
+ghost use Rattle.thorin_join.specs.Builder.{IsFinished, indexes_test, IdentifiersFit};
 ghost use Rattle.thorin_input.specs.Encodings.{are_alike};
 ghost use Rattle.thorin_input.specs.Names.{same_name, is_compilation};
 ghost use Rattle.thorin_again.specs.Own.{has_sections};
 ghost use Rattle.thorin_join.specs.State as spec;
+ghost use Rattle.thorin_builder.specs.RowsByIndex.{has_compilations, rows_in};
 ghost use Rattle.thorin_builder.specs.StateView.{in_progress_of, mark_in};
 ghost use Rattle.thorin_builder.specs.UnitView.{new_of};
 ghost use Rattle.thorin_input.specs.View as view;
@@ -273,23 +274,29 @@ impl InProgressDwarfPackage {
     }
 }
 
-/// The index of the compilation units, or that of the type units. Refuses as `write_index` does.
+/// One of a package's two indexes (DWARF 5, 7.3.5.3).
+#[derive(Clone, Copy, PartialEq, Eq)]
+enum Index {
+    Compilations,
+    TypeUnits,
+}
+
+/// The bytes of an index. Refuses as `write_index` does.
 fn index_of(
     alloc: Global,
     order: Endianness,
     rows: &IndexRows,
-    compilations: bool,
+    index: Index,
 ) -> Result<Vec<u8>, Error>
-    ensures refusal { Gives (λ _. tt) result (index_tests (rows_of compilations rows.now)) }
-    ensures written { IfOk result (λ bytes.
-        IsIndexOf order (rows_of compilations rows.now) bytes.items) }
+    ensures refusal { Gives (λ _. tt) result (index_tests (rows_in index rows.now)) }
+    ensures written { IfOk result (λ bytes. IsIndexOf order (rows_in index rows.now) bytes.items) }
     ensures identifiers { OnOk result (IdentifiersFit rows.now) }
 {
     // (mostly all units are of one kind: their rows aren't copied then)
-    if are_all(rows, compilations) {
+    if are_all(rows, index) {
         return write_rows(alloc, order, rows);
     }
-    let chosen = rows_of(alloc, rows, compilations)?;
+    let chosen = rows_in(alloc, rows, index)?;
     write_rows(alloc, order, &chosen)
 }
 
@@ -314,47 +321,47 @@ fn finished(
 {
     let mut object = object;
     let order = object.endianness();
-    let compilations = index_of(alloc, order, rows, true)?;
-    let types = index_of(alloc, order, rows, false)?;
+    let compilations = index_of(alloc, order, rows, Index::Compilations)?;
+    let types = index_of(alloc, order, rows, Index::TypeUnits)?;
     put_moved(&mut object, SectionKind::Str, strings.finish())?;
     put_moved(&mut object, SectionKind::CuIndex, compilations)?;
     put_moved(&mut object, SectionKind::TuIndex, types)?;
     Ok(object)
 }
 
-/// Whether a name is that of a compilation unit.
-fn is_compilation(name: DwarfObject) -> bool
-    ensures kind { result ≡ is_compilation name }
+/// The index in which a unit's row stands.
+fn index_with(name: DwarfObject) -> Index
+    ensures index { has_compilations result ≡ is_compilation name }
     ensures identifier { identifier_of name < 2 ^ 64 }
 {
     match name {
-        DwarfObject::Compilation(_) => true,
-        DwarfObject::TypeUnit(_) => false,
+        DwarfObject::Compilation(_) => Index::Compilations,
+        DwarfObject::TypeUnit(_) => Index::TypeUnits,
     }
 }
 
-/// Whether all rows are those of compilation units, or those of type units.
-fn are_all(rows: &IndexRows, compilations: bool) -> bool
-    ensures all { result ≡ true → rows_of compilations rows.now ≡ rows.now }
+/// Whether all rows stand in an index.
+fn are_all(rows: &IndexRows, index: Index) -> bool
+    ensures all { result ≡ true → rows_in index rows.now ≡ rows.now }
     ensures identifiers { result ≡ true → IdentifiersFit rows.now }
 {
     for place in 0..rows.len() {
-        if is_compilation(rows.unit(place)) != compilations {
+        if index_with(rows.unit(place)) != index {
             return false;
         }
     }
     true
 }
 
-/// The rows of compilation units, or those of type units.
-fn rows_of(alloc: Global, rows: &IndexRows, compilations: bool) -> Result<IndexRows, Error>
-    ensures rows { IfOk result (λ chosen. chosen ≡ rows_of compilations rows.now) }
+/// The rows that stand in an index.
+fn rows_in(alloc: Global, rows: &IndexRows, index: Index) -> Result<IndexRows, Error>
+    ensures rows { IfOk result (λ chosen. chosen ≡ rows_in index rows.now) }
     ensures identifiers { OnOk result (IdentifiersFit rows.now) }
     ensures refused { IfErr result (λ e. e ≡ Error.Memory) }
 {
     let mut chosen = IndexRows::new(alloc);
     for place in 0..rows.len() {
-        if is_compilation(rows.unit(place)) == compilations {
+        if index_with(rows.unit(place)) == index {
             chosen.push(&rows.entry(place))?;
         }
     }

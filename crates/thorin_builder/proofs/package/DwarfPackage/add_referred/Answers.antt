@@ -39,7 +39,7 @@ failed g c outcome passes =
       read = Err (Io c.in-Err-Io.e);
       within = rw c.new.ensures at fails;
       accepted = [];
-      taken = (passes, refl, refl);
+      taken = (passes, (refl, refl));
     }
 
 pub returns-in-Skip-clause-taken : goal.returns-in-Skip-clause-taken
@@ -52,4 +52,4 @@ returns-in-Error-clause-taken g c =
 
 pub returns-in-Err-Memory-clause-taken : goal.returns-in-Err-Memory-clause-taken
 returns-in-Err-Memory-clause-taken g c =
-    record { read = Err Memory; within = tt; accepted = []; taken = (refl, refl, refl) }
+    record { read = Err Memory; within = tt; accepted = []; taken = (refl, (refl, refl)) }

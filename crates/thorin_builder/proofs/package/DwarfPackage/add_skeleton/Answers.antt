@@ -1,7 +1,7 @@
 use Rattle.thorin_builder.proofs.Terms
 use Terms.{[], Err, inl, inr, IsTaken, List, Ok, on_ok_weaker, refl, rules, State, ℕ}
 use Rattle.thorin_errors.specs.declared.error.InputError.TheVariants.{Io, Memory}
-use Rattle.thorin_builder.specs.Taking.{Outcome, TakesReferredFile, TakesSkeleton, accepted_of}
+use Rattle.thorin_builder.specs.Taking.{Outcome, TakesReferredFile, TakesSkeleton, accepted_of, came}
 use Rattle.thorin_builder.proofs.AddedAgain.{are-taken-later, target-kept, taken-found}
 use Rattle.thorin_builder.proofs.package.DwarfPackage.add_skeleton.Given.{Over}
 use Rattle.thorin_builder.proofs.package.DwarfPackage.add_skeleton.Goals.{In_ok-add_target, In-Some}
@@ -10,15 +10,15 @@ use Rattle.thorin_builder.proofs.package.DwarfPackage.add_skeleton.Goals as goal
 pub returns-in_err-add_target-clause-taken : goal.returns-in_err-add_target-clause-taken
 returns-in_err-add_target-clause-taken g c =
     let refused = c.in_err-add_target.ensures.refused in
-    ([], inr (inr (search (rules, c.from_residual.ensures, refused), refused.1, refl)))
+    ([], inr (inr (search (rules, c.from_residual.ensures, refused), (refused.1, refl))))
 
 -- what comes of the object, once the unit is among the targets
 took : (g : Over) (c : goal.In_ok-add_target g) (outcome : Outcome) (new : State)
     → TakesReferredFile (g.R.InputReader.offer c.args.reader.now c.args.named.path.now)
     c.args.missing c.add_target.new.self.state outcome new
     → (accepted : List (List ℕ)) × TakesSkeleton (g.R.InputReader.offer c.args.reader.now)
-    c.args.missing (c.args.named.target, c.args.named.path.now) c.args.self.now.state outcome new
-    accepted
+    c.args.missing (c.args.named.target, c.args.named.path.now) c.args.self.now.state
+    (came outcome new accepted)
 took g c outcome new file =
     let moved = rw c.in_ok-add_target.ensures.target at file in (
       moved.accepted,
@@ -36,7 +36,7 @@ returns-then-known-clause-taken g c =
       read = Err (Io can.cause);
       within = can.fails;
       accepted = [];
-      taken = (rw can.skips refl, refl, refl);
+      taken = (rw can.skips refl, (refl, refl));
     })
 
 -- what is known of the object
@@ -57,7 +57,7 @@ add_again-requires g c =
 pub returns-then-not-admits-clause-taken : goal.returns-then-not-admits-clause-taken
 returns-then-not-admits-clause-taken g c =
     took g (goal.at.returns-then-not-admits-clause-taken g c).In_ok-add_target _ _
-    (record { read = Err Memory; within = tt; accepted = []; taken = (refl, refl, refl) })
+    (record { read = Err Memory; within = tt; accepted = []; taken = (refl, (refl, refl)) })
 
 pub returns-else-not-admits-clause-taken : goal.returns-else-not-admits-clause-taken
 returns-else-not-admits-clause-taken g c =
