@@ -1,21 +1,21 @@
 -- A written package of plain objects of one encoding is accepted: by any package of its byte
 -- order, unless it is foreseen otherwise, and by a new one.
 use Rattle.thorin_again.proofs.Terms
-use Terms.{UnlessStringOffset, abbreviations_test, All-from_recursion, with_source_or_new, Encoding}
-use Terms.{IsPermutation-map, finished-strings, list_any-append, IsFinishedState, same_name-self, ℕ}
-use Terms.{same_name-true, package_or_new, written_object, finished-order, HaveEncodingOf, order_of}
-use Terms.{file_encoding, list_any_none, length-filter, IsEquivalence, own_encoding, IsSoundBegun}
-use Terms.{finished-own, has_sections, DwarfObject, SectionKind, KindsDiffer, written_elf, HoldsOwn}
-use Terms.{units_begun, with_source, counts_once, input-keeps, finished-is, has_content, length-map}
-use Terms.{packs_again, content_of, ErrorValue, indexes_of, own_source, IsForeseen, HoldsPlain, ◌≡◌}
-use Terms.{InProgress, look_limit, keys-units, same_name, file_text, new_units, is_shared, parts_of}
-use Terms.{new-sound, rewritten, all_meant, same_sort, units_of, units_in, limit_of, is_some, subst}
-use Terms.{Meaning, Members, joining, by-bool, is_used, data_of, Indexes, IsPlain, Option, length}
-use Terms.{elf_of, adding, false, arith, Joins, IsOwn, AllOf, Parts, start, Bool, cond, List, refl}
-use Terms.{◌||◌, true, Some, None, keys, both, File, ◌∙◌, ◌∷◌, sym, ◌<◌, Err, inl, inr, [], ap, Ok}
-use Rattle.thorin_again.proofs.Lists.InOrder.{some-there, there-back, meant_or}
+use Terms.{All-from_recursion, UnlessStringOffset, abbreviations_test, with_source_or_new, Encoding}
+use Terms.{IsPermutation-map, finished-strings, IsFinishedState, list_any-append, HaveEncodingOf, ℕ}
+use Terms.{finished-order, package_or_new, same_name-self, same_name-true, written_object, HoldsOwn}
+use Terms.{IsEquivalence, file_encoding, length-filter, list_any_none, IsSoundBegun, finished-own}
+use Terms.{has_sections, own_encoding, DwarfObject, KindsDiffer, SectionKind, counts_once, limit_of}
+use Terms.{finished-is, has_content, input-keeps, packs_again, units_begun, with_source, ErrorValue}
+use Terms.{written_elf, HoldsPlain, InProgress, IsForeseen, content_of, indexes_of, keys-units, inl}
+use Terms.{length-map, look_limit, own_source, all_meant, file_text, new-sound, new_units, order_of}
+use Terms.{rewritten, same_name, same_sort, parts_of, units_in, units_of, Indexes, IsPlain, Meaning}
+use Terms.{Members, data_of, is_used, joining, Option, adding, elf_of, length, AllOf, IsOwn, Joins}
+use Terms.{Parts, arith, false, start, subst, Bool, File, List, None, Some, both, cond, keys, refl}
+use Terms.{true, ◌||◌, inr, sym, ◌<◌, ◌∙◌, ◌∷◌, ◌≡◌, Ok, [], ap}
+use Rattle.thorin_again.proofs.Lists.InOrder.{there-back, meant_or}
 use Rattle.std.proofs.Common.{IsPermutation, length-append, append_assoc, ltb-true, Result, nat_lt}
-use Rattle.std.proofs.Common.{lt-ltb, ◌++◌, not}
+use Rattle.std.proofs.Common.{◌++◌, not}
 use Rattle.thorin_join.specs.Builder.{finish_test, begun_by, State, taken}
 use Rattle.std.proofs.lemmas.List.Sorted.{IsPermutation-middle, sum_by-IsPermutation}
 use Rattle.thorin_join.specs.Meaning.{input_meaning}
@@ -24,20 +24,21 @@ use Rattle.std.proofs.lemmas.Simd.{map-map}
 use Rattle.std.proofs.lemmas.Map.Keys.{IsDistinct-IsPermutation, IsDistinct-from_apart}
 use Rattle.indexmap.proofs.MapLemmas.{lookup_permutation}
 use Rattle.thorin_join.specs.Join.{IsPackageOf}
-use Rattle.thorin_again.proofs.Lists.OneEncoding.{answers-whole, own-encoded, input-order, first-of}
+use Rattle.thorin_again.proofs.Lists.OneEncoding.{answers-whole, input-order, own-encoded, first-of}
 use Rattle.thorin_again.proofs.Lists.OneEncoding.{AreEncoded, Finds}
 use Rattle.thorin_again.proofs.Accepted.OwnUnits.{taken-all, flips}
 use Rattle.thorin_again.specs.OwnAccepted.{IsAcceptedByNew, IsAccepted}
 use Rattle.thorin_again.proofs.Opened.Indexes.{own-offsets-alone, finished-shared, own-offsets}
-use Rattle.thorin_again.proofs.Opened.Indexes.{up-to-parts, in-format, lie-used, own-made, lie-kept}
+use Rattle.thorin_again.proofs.Opened.Indexes.{up-to-parts, in-format, lie-kept, lie-used, own-made}
 use Rattle.thorin_again.proofs.Opened.Indexes.{OwnMade, read-of}
-use Rattle.thorin_again.proofs.Opened.Sections.{present-written, own-parts-tried, object-written}
-use Rattle.thorin_again.proofs.Opened.Sections.{input-encoding, info-written, opened-elf, and-then}
+use Rattle.thorin_again.proofs.Opened.Sections.{own-parts-tried, present-written, input-encoding}
+use Rattle.thorin_again.proofs.Opened.Sections.{object-written, info-written, opened-elf, and-then}
 use Rattle.thorin_again.proofs.Opened.Sections.{answered, Unless}
 use Rattle.thorin_again.proofs.Kept.OneEncoding.{begun-now}
 use Rattle.thorin_again.proofs.Meant.Package.{again-is}
 use Rattle.dwp_base.specs.declared.section.SectionKind.TheVariants as kinds
 use Rattle.dwp_dwarf.specs.declared.unit.UnitSection.TheVariants as places
+use Rattle.std.proofs.lemmas.Bool.Decides.{nat_tests}
 
 -- ---- names
 
@@ -57,9 +58,9 @@ joining-apart names (u ∷ us) h =
     let apart = IsDistinct-IsPermutation same_name flips _ _
     (IsPermutation-middle names u.0 (keys us)) h in
     let new = list_any_none (same_name u.0) (names ++ keys us) (All-from_recursion _ _ apart.0) in
-    let first = rw (list_any-append (same_name u.0) names (keys us)) at new in
-    let rest = joining-apart (names ++ u.0 ∷ []) us (rw append_assoc h) in
-    grind (arith, first, rest)
+    let there = list_any-append (same_name u.0) names (keys us) in
+    let rest = joining-apart (names ++ u.0 ∷ []) us in
+    grind (arith, new, there, h, rest, append_assoc names (u.0 ∷ []) (keys us))
 
 -- ---- units
 
@@ -84,8 +85,8 @@ alone-finds : (us vs : Members) (bytes : List ℕ) → IsPermutation us vs → I
 alone-finds us vs bytes perm distinct p name =
     let apart = IsDistinct-IsPermutation same_name flips (keys us) (keys vs)
     (IsPermutation-map (λ u. u.0) us vs perm) distinct in
-    let same = lookup_permutation equivalence us vs perm apart (same_name name) (λ x y h.
-    ap (λ n. same_name n y) (same_name-true name x h)) in
+    let same = lookup_permutation equivalence us vs perm apart (same_name name)
+    (equivalence.congr name) in
     let test : DwarfObject × Meaning → Bool = λ u. same_sort name u.0 in
     let limit : look_limit us name ≡ look_limit vs name = ap limit_of (length-filter test us
     ∙ sym (sum_by-IsPermutation (λ u. cond (test u) 1 0) us vs perm)
@@ -96,8 +97,7 @@ alone-finds us vs bytes perm distinct p name =
 
 -- the refusal of a string's offset is foreseen
 foreseen : {X : Type 0} (r : Result X ErrorValue) → UnlessStringOffset r → Unless IsForeseen r
-foreseen (Ok x) h = tt
-foreseen (Err e) h = inl h
+foreseen r h = grind arith
 
 data-there : (strings : List (List ℕ)) → 0 < length strings → 0 < length (data_of strings)
 data-there [] h = absurd (omega (arith, h))
@@ -110,8 +110,7 @@ module _ (state : State) (file : File) (sound : IsSoundBegun state.begun) (holds
     (packs : packs_again state ≡ true) (differ : KindsDiffer file.contents)
     (back : elf_of (file_text file) ≡ Ok (written_elf file)) where
   there : (encoding : Encoding) × (state.own ≡ Some encoding) × (has_sections state.begun ≡ true)
-  there = let two = both (is_some state.own) (has_sections state.begun) packs in
-      let own = some-there is_some refl state.own two.0 in (own.0, own.1, two.1)
+  there = grind (arith, packs)
 
   abbrev encoding : Encoding
   encoding = there.0
@@ -152,11 +151,10 @@ module _ (state : State) (file : File) (sound : IsSoundBegun state.begun) (holds
   strings-there : 0 < length (content_of kinds.StrOffsets file.contents)
       → (written_object file).has_strings ≡ true
   strings-there some =
-      let offsets : has_content kinds.StrOffsets f.made ≡ true = lt-ltb 0 _
-      (rw (finished-shared _ _ f.finished kinds.StrOffsets refl) at some) in
-      let strings = ltb-true 0 (length f.made.strings) (rw offsets at has-both.1) in
-      present-written kinds.Str file (rw (finished-strings _ _ f.finished
-      has.sound.units.no_strings) (data-there f.made.strings strings))
+      let offsets = finished-shared f.made file f.finished kinds.StrOffsets refl in
+      let strings = finished-strings f.made file f.finished has.sound.units.no_strings in
+      present-written kinds.Str file
+      (grind (arith, nat_tests, has-both.1, offsets, strings, data-there f.made.strings))
 
   -- rows name each kind that has bytes, but those that count once
   kind-used : (kind : SectionKind) → 0 < length (content_of kind file.contents)
@@ -166,9 +164,7 @@ module _ (state : State) (file : File) (sound : IsSoundBegun state.begun) (holds
   kind-used kinds.Types some once = lie-used file.order places.Types 0 f.made.rows _
       (lie-kept _ _ has.sound.laid f.finished places.Types) some
   kind-used kind some once =
-      by-bool _ (is_shared kind)
-      (λ shared. plain.named kind shared (rw (finished-shared _ _ f.finished kind shared) at some))
-      (λ other. absurd cc)
+      grind (arith, plain.named kind, finished-shared f.made file f.finished kind)
 
   -- ---- the file's bytes are taken, as far as its parts and its units are
 

@@ -2,28 +2,20 @@
 -- turn. Each section that units share has a part that a row names, where plain objects add units.
 use Rattle.thorin_again.proofs.Terms
 use Terms.{AllPass-from_list_all, get_or_from_slice_get, content-with_bytes, content-with_parts, Ok}
-use Terms.{slice_get_within, contribution_to, list_any-append, with_unit_added, with_all_parts, eqb}
-use Terms.{with_new_units, HasNamedParts, same_encoding, Contribution, each-joining, has_encoding}
-use Terms.{joined_parts, sections-are, DwarfObject, SectionKind, UnitSection, section_has, Contents}
-use Terms.{source-made, with_source, ErrorValue, InProgress, IndexEntry, content_of, is_package, []}
-use Terms.{true≢false, is_shared, range_put, row-other, same_kind, Encoding, UnitRead, each-all, ap}
-use Terms.{eqb-true, known-in, list_all, list_any, or-right, units-go, IsKnown, NewUnit, WasRead, ℕ}
-use Terms.{by-bool, is_some, is_used, joining, kind_at, same-ok, section, Adding, Header, Option}
-use Terms.{Source, adding, common, differ, length, row_at, AllSo, Reads, arith, false, subst, units}
-use Terms.{Each, Goes, List, Made, News, Some, Used, both, keys, refl, true, sym, ◌<◌, ◌∙◌, ◌∷◌}
-use Terms.{◌≡◌}
+use Terms.{recursion_from_All, slice_get_within, contribution_to, list_any-append, with_unit_added}
+use Terms.{with_all_parts, with_new_units, HasNamedParts, same_encoding, Contribution, each-joining}
+use Terms.{has_encoding, joined_parts, sections-are, DwarfObject, SectionKind, UnitSection, IsKnown}
+use Terms.{section_has, All-weaker, ErrorValue, InProgress, IndexEntry, content_of, is_package, eqb}
+use Terms.{is_shared, range_put, same_kind, Contents, Encoding, UnitRead, each-all, eqb-true, AllSo}
+use Terms.{known-in, list_all, list_any, or-right, units-go, NewUnit, WasRead, by-bool, is_some, []}
+use Terms.{is_used, joining, kind_at, same-ok, section, Adding, Header, Option, Source, adding, sym}
+use Terms.{common, length, row_at, Reads, arith, false, subst, units, Each, Goes, List, Made, News}
+use Terms.{Some, Used, keys, refl, true, ◌<◌, ◌∙◌, ◌∷◌, ◌≡◌, ap, ℕ}
 use Rattle.std.proofs.Common.{length-append, ◌++◌}
 use Rattle.thorin_join.proofs.Parts.FirstUses.{each-unit as unit-by-unit}
 use Rattle.thorin_join.proofs.Units.JoinedByName.{units-joined, UnitsJoined, AreAdded, IsAdded}
 use Rattle.thorin_join.proofs.Rows.OfUnits.{adjusted-plain, is-unit_row, whole-part}
 use Rattle.std.proofs.lemmas.Bool.Decides.{nat_tests}
-use Rattle.dwp_dwarf.specs.declared.unit.UnitSection.TheVariants as places
-
--- two that hold of each hold together
-each-both : {X : Type 0} (P Q : X → Type 0) (xs : List X) → Each P xs → Each Q xs
-    → Each (λ x. P x × Q x) xs
-each-both P Q [] h k = tt
-each-both P Q (x ∷ xs) h k = ((h.0, k.0), each-both P Q xs h.1 k.1)
 
 -- ---- encodings that are alike are one
 
@@ -46,32 +38,29 @@ OfOne source place unit =
 pub of-one : (source : Source) (sections : List Used)
     → list_all (section_has source.encoding source.object.order) sections ≡ true
     → Each (AllSo source (OfOne source)) sections
-of-one source [] has = tt
-of-one source (used ∷ rest) has =
+of-one source sections has =
     let order = source.object.order in
-    let two = both (section_has source.encoding order used) _ has in (
-      λ place here k unit there.
-          let reads = units place (section order used.bytes) in
-          let passes = AllPass-from_list_all (has_encoding source.encoding) reads
-          (rw here at two.0) k (Ok unit) (slice_get_within reads k (Ok unit) there) in (
-            known-in order place used.bytes k unit there,
-            encoding-eq unit.encoding source.encoding
-                (rw (get_or_from_slice_get reads k (Ok unit) (Ok unit) there) at passes),
-          ),
-      of-one source rest two.1,
-    )
+    let e = source.encoding in
+    let all = AllPass-from_list_all (section_has e order) sections has in
+    All-weaker (λ used. section_has e order used ≡ true) (AllSo source (OfOne source))
+    (λ used passes place here k unit there.
+    let reads = units place (section order used.bytes) in
+    let is = AllPass-from_list_all (has_encoding e) reads (rw here at passes) k (Ok unit)
+    (slice_get_within reads k (Ok unit) there) in
+    let same = encoding-eq unit.encoding e
+    (rw (get_or_from_slice_get reads k (Ok unit) (Ok unit) there) at is) in
+    (known-in order place used.bytes k unit there, same))
+    sections (recursion_from_All _ sections all)
 
 -- ---- units that are added
 
 -- what holds of a unit for one that was read
-pub each-new : (add : Adding) (P : DwarfObject × NewUnit → Type 0)
-    (Q : DwarfObject × UnitRead → Type 0) → ((n : DwarfObject × NewUnit)
-    (r : DwarfObject × UnitRead) → IsAdded add n r → Q r → P n) → (ns : News) (rs : Reads)
-    → AreAdded add ns rs → Each Q rs → Each P ns
-each-new add P Q f [] rs are h = tt
-each-new add P Q f (n ∷ ns) [] are h = absurd are
-each-new add P Q f (n ∷ ns) (r ∷ rs) are h =
-    (f n r are.0 h.0, each-new add P Q f ns rs are.1 h.1)
+each-new : (add : Adding) (P : DwarfObject × NewUnit → Type 0)
+    (Q R : DwarfObject × UnitRead → Type 0) → ((n : DwarfObject × NewUnit)
+    (r : DwarfObject × UnitRead) → IsAdded add n r → Q r → R r → P n) → (ns : News) (rs : Reads)
+    → AreAdded add ns rs → Each Q rs → Each R rs → Each P ns
+each-new add P Q R f [] rs are h k = tt
+each-new add P Q R f (n ∷ ns) rs are h k = grind (arith, f n, each-new add P Q R f ns)
 
 -- what stays so of a package with one more of such units
 pub each-added : (P : InProgress → Type 0) (Q : DwarfObject × NewUnit → Type 0)
@@ -81,26 +70,16 @@ each-added P Q keeps = unit-by-unit (λ p us now. Each Q us → P p → P now) (
     (λ p u us now later are h. later are.1 h)
     (λ p u us now later are h. later are.1 (keeps p u are.0 h))
 
--- and with one more of any
-pub each-unit : (P : InProgress → Type 0)
-    → ((p : InProgress) (u : DwarfObject × NewUnit) → P p → P (with_unit_added p u))
-    → (p : InProgress) (us : News) → P p → P (with_new_units p us)
-each-unit P keeps p us h =
-    each-added P (λ u. Unit {0}) (λ p u one. keeps p u) p us (each-all _ (λ u. tt) us) h
-
 -- units' own bytes go to other sections
 shared-apart : (place : UnitSection) (kind : SectionKind) → is_shared kind ≡ true
     → same_kind (kind_at place) kind ≡ false
-shared-apart place kind shared = differ (kind_at place) kind (λ e. true≢false (sym shared
-    ∙ ap is_shared (sym e) ∙ elim place as (λ p. is_shared (kind_at p) ≡ false)
-    [ places.Info ↦ refl | places.Types ↦ refl ]))
+shared-apart place kind shared = grind arith
 
 -- the row of a unit has what it shares
 pub shared-row : (shared : IndexEntry) (c : Contents) (name : DwarfObject) (x : List ℕ)
     (place : UnitSection) (kind : SectionKind) → is_shared kind ≡ true
     → contribution_to kind (row_at shared c name x place) ≡ contribution_to kind shared
-shared-row shared c name x place kind is = row-other shared c name x place kind
-    (shared-apart place kind is)
+shared-row shared c name x place kind is = grind arith
 
 -- ---- a plain object that was added
 
@@ -140,7 +119,7 @@ module _ {source : Source} {before now : InProgress} (a : Made source before now
   pub with-any : (P : InProgress → Type 0)
       → ((p : InProgress) (u : DwarfObject × NewUnit) → P p → P (with_unit_added p u))
       → P parted → P now
-  with-any P keeps h = subst P a.is (each-unit P keeps parted a.new.units h)
+  with-any P keeps = with-each P (λ u. Unit {0}) (λ p u one. keeps p u) (each-all _ (λ u. tt) _)
 
   pub order-added : now.file.order ≡ before.file.order
   order-added = with-any (λ p. p.file.order ≡ before.file.order) (λ p u h. h) refl
@@ -172,10 +151,9 @@ module _ {source : Source} {before now : InProgress} (a : Made source before now
   news-are T read P f =
       let held = keys (adding source before a.parts).held in
       let j = joined in
-      each-new (adding source before a.parts) P _ (λ n r is k. f n r is k.0 k.1) a.new.units
-      (joining held j.all) j.are (each-joining _ held j.all (each-both (Goes source.object.order)
-      (WasRead source T) j.all (units-go source j.all j.is)
-      (sections-are source T source.object.sections j.all read j.is)))
+      each-new (adding source before a.parts) P _ _ f a.new.units (joining held j.all) j.are
+      (each-joining _ held j.all (units-go source j.all j.is))
+      (each-joining _ held j.all (sections-are source T source.object.sections j.all read j.is))
 
   -- each has the part that was put of a shared section
   pub rows-share : is_package source.indexes ≡ false → (kind : SectionKind)
@@ -183,26 +161,23 @@ module _ {source : Source} {before now : InProgress} (a : Made source before now
       → P (range_put kind (joined_parts kind a.parts) before.file.contents)
       → Each (RowHas (λ row. P (contribution_to kind row))) a.new.units
   rows-share plain kind shared P h =
-      each-new (adding source before a.parts) (RowHas (λ row. P (contribution_to kind row)))
-      (λ r. Unit {0}) (λ n r is fine c. subst P (sym (shared-row n.1.row c n.0 n.1.bytes n.1.place
-      kind shared ∙ plain-part source before a.parts n r plain is kind shared)) h) a.new.units
-      _ joined.are (each-all (λ r. Unit {0}) (λ r. tt) _)
+      news-are (λ place unit. Unit {0}) (each-all _ (λ used place at k unit there. tt) _)
+      (RowHas (λ row. P (contribution_to kind row))) (λ n r is goes was c. subst P
+      (sym (shared-row n.1.row c n.0 n.1.bytes n.1.place kind shared
+      ∙ plain-part source before a.parts n r plain is kind shared)) h)
 
-pub named-kept : (source : Source) (before now : InProgress) → is_package source.indexes ≡ false
-    → with_source source before ≡ Ok now → length before.rows < length now.rows
-    → HasNamedParts before → HasNamedParts now
-named-kept source before now plain h more named kind shared some =
-    let a = source-made source before now h in
-    let part = joined_parts kind a.parts in
-    let content = ap length (content-added a kind shared) ∙ length-append
-    (content_of kind before.file.contents) part in
-    let test = λ (row : IndexEntry). is_some (contribution_to kind row) in
-    let last = λ (p : InProgress) (u : DwarfObject × NewUnit).
-    list_any-append test p.rows (row_with p.file.contents u ∷ []) in
-    by-bool _ (eqb (length part) 0)
-    (λ none. with-any a (λ p. is_used p.rows kind ≡ true) (λ p u k. last p u ∙ rw k refl)
-    (named kind shared (omega (arith, eqb-true (length part) 0 none, content, some))))
-    (λ there. once-more a more (λ p. is_used p.rows kind ≡ true)
-    (RowHas (λ row. test row ≡ true))
-    (λ p u has. last p u ∙ or-right (list_any test p.rows) _ (rw (has p.file.contents) refl))
-    (rows-share a plain kind shared (λ o. is_some o ≡ true) (rw there refl)))
+  pub named-kept : is_package source.indexes ≡ false → length before.rows < length now.rows
+      → HasNamedParts before → HasNamedParts now
+  named-kept plain more named kind shared some =
+      let part = joined_parts kind a.parts in
+      let content = ap length (content-added kind shared) ∙ length-append
+      (content_of kind before.file.contents) part in
+      let test = λ (row : IndexEntry). is_some (contribution_to kind row) in
+      let last = λ (p : InProgress) (u : DwarfObject × NewUnit).
+      list_any-append test p.rows (row_with p.file.contents u ∷ []) in
+      by-bool _ (eqb (length part) 0)
+      (λ none. with-any (λ p. is_used p.rows kind ≡ true) (λ p u k. last p u ∙ rw k refl)
+      (named kind shared (omega (arith, eqb-true (length part) 0 none, content, some))))
+      (λ there. once-more more (λ p. is_used p.rows kind ≡ true) (RowHas (λ row. test row ≡ true))
+      (λ p u has. last p u ∙ or-right (list_any test p.rows) _ (rw (has p.file.contents) refl))
+      (rows-share plain kind shared (λ o. is_some o ≡ true) (rw there refl)))

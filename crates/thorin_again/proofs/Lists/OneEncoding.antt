@@ -3,36 +3,31 @@
 -- what is written has the encoding, as an input.
 use Rattle.thorin_again.proofs.Terms
 use Terms.{IsFinishedState, finished-order, first_encoding, package_or_new, written_object, All-map}
-use Terms.{first_outside, found_counted, IsSoundBegun, finished-own, sections-are, source_units, Ok}
-use Terms.{DwarfObject, KindsDiffer, MatchOption, NamesItself, UnitSection, encoding_of, All-weaker}
-use Terms.{finished-is, section_has, source-made, units_begun, written_elf, Endianness, InProgress}
-use Terms.{IndexEntry, content_of, length-map, look_limit, made-order, meaning_at, one_answer, File}
-use Terms.{same-begun, unit_bytes, AreRowsOf, GivesNone, GivesUnit, ReadError, file_text, none-some}
-use Terms.{same_Some, same_name, All-cons, All-head, All-tail, AreTaken, Contents, Encoding, Header}
-use Terms.{bind-was, each-all, list_all, older_at, order_of, place_of, range_in, units_in, units_of}
-use Terms.{All-nil, EachRow, IsPlain, IsSound, Meaning, Members, WasRead, kind_at, members, rows_at}
-use Terms.{same-ok, section, unit_at, IfSome, Option, Ranges, Source, elf_of, length, lookup, AllOf}
-use Terms.{opened, Input, Joins, Reads, arith, start, subst, takes, units, List, None, Some, refl}
-use Terms.{true, All, Elf, Err, Lie, inl, inr, map, sym, ◌<◌, ◌∙◌, ◌∷◌, ◌≡◌, [], ap, ℕ}
+use Terms.{IsSoundBegun, finished-own, sections-are, source_units, units_within, DwarfObject, AllOf}
+use Terms.{KindsDiffer, MatchOption, NamesItself, UnitSection, encoding_of, finished-is, All-weaker}
+use Terms.{section_has, source-made, units_begun, written_elf, Endianness, InProgress, IndexEntry}
+use Terms.{TakesUnits, content_of, length-map, look_limit, made-order, meaning_at, one_answer, File}
+use Terms.{same-begun, unit_bytes, AreRowsOf, GivesNone, GivesUnit, ReadError, file_text, same_name}
+use Terms.{All-cons, All-head, All-tail, AreTaken, Contents, Encoding, bind-was, each-all, list_all}
+use Terms.{older_at, order_of, place_of, units_in, units_of, All-nil, EachRow, IsPlain, IsSound, Ok}
+use Terms.{Meaning, Members, WasRead, kind_at, members, same-ok, section, unit_at, Header, IfSome}
+use Terms.{Option, Source, elf_of, length, lookup, opened, Input, Joins, Reads, arith, start, subst}
+use Terms.{takes, units, List, None, Some, refl, true, All, Elf, inl, inr, map, sym, ◌<◌, ◌∙◌, ◌∷◌}
+use Terms.{◌≡◌, [], ap, ℕ}
+use Rattle.dwp_index.specs.Package.{found_counted, encoding_in, unit_at_row, package_of, Package}
+use Rattle.dwp_index.specs.Package.{unit_in}
 use Rattle.dwp_dwarf.specs.Units.{header_at}
-use Rattle.thorin_join.specs.Builder.{finish_test, IsFinished, with_input, State, taken}
+use Rattle.thorin_join.specs.Builder.{finish_test, IsFinished, with_input, State}
 use Rattle.thorin_again.specs.Again.{input_encoding}
-use Rattle.dwp_index.specs.Package.{index_in_section, encoding_in, row_counted, unit_of_row}
-use Rattle.dwp_index.specs.Package.{all_inside, package_of, row_bytes, Package, kind_of, unit_in}
 use Rattle.thorin_again.proofs.Kept.EachUnit.{order-added, of-one, OfOne}
-use Rattle.thorin_again.proofs.Kept.OneEncoding.{units-hold, begun-now, CanMean}
+use Rattle.thorin_again.proofs.Kept.OneEncoding.{units-hold, begun-all, CanMean}
 use Rattle.std.proofs.lemmas.Map.Views.{IfSome-lookup_from_All}
-use Rattle.dwp_index.specs.Contents.{contents_of, content}
-use Rattle.dwp_index.specs.declared.error.PackageError.{PackageError}
-use Rattle.dwp_index.proofs.RowsOfUnits.{by_row}
 use Rattle.thorin_again.specs.OneEncoding.{HaveEncodingOnceWritten, AnswersOnceWritten, GivesWhole}
 use Rattle.thorin_again.specs.OneEncoding.{IsOfOneEncoding, IsOfEncoding, AnswersAs}
 use Rattle.thorin_again.proofs.Lists.InOrder.{packages-in-order}
-use Rattle.thorin_again.proofs.Opened.Sections.{input-encoding, first-written, opened-elf}
-use Rattle.thorin_again.proofs.Kept.Names.{info-there}
+use Rattle.thorin_again.proofs.Opened.Sections.{input-encoding, first-written}
+use Rattle.thorin_again.proofs.Kept.Names.{info-there, HasInfo}
 use Rattle.thorin_again.proofs.Meant.RowByRow.{of-section, read-alone}
-use Rattle.dwp_base.specs.declared.section.SectionKind.TheVariants as kinds
-use Rattle.dwp_index.specs.declared.error.PackageError.TheVariants as errors
 use Rattle.dwp_index.specs.Package as index
 use Rattle.dwp_dwarf.specs.declared.unit.UnitSection.TheVariants as places
 
@@ -85,24 +80,12 @@ input-order bytes file begun now order opens h =
     ] ∙ new-order t.file begun
     ∙ ap (λ (e : Elf). order_of begun e.order) (one_answer (opened bytes) t.opens opens)
 
-pub taken-order : (bytes : List ℕ) (file : Elf) (old new : State) (order : Endianness)
-    → elf_of bytes ≡ Ok file → taken bytes old ≡ Ok new
-    → order_of new.begun order ≡ order_of old.begun file.order
-taken-order bytes file old new order is h = input-order bytes file old.begun new.begun order
-    (opened-elf bytes file is) (begun-now bytes old new h)
-
 -- ---- one input
 
 -- the header of each unit has the encoding that is recorded of it, in the package's byte order
 abbrev Encoded : Option InProgress → Type 0
 Encoded begun = (made : InProgress) → begun ≡ Some made
     → AreEncoded made.file.order (units_of made)
-
-encoded-before : (begun : Option InProgress) (own order : Endianness) → order_of begun own ≡ order
-    → Encoded begun → AreEncoded order (units_begun begun)
-encoded-before None own order is h = All-nil (λ (u : DwarfObject × Meaning). IsEncoded order u.1)
-encoded-before (Some made) own order is h =
-    subst (λ o. AreEncoded o (units_of made)) is (h made refl)
 
 input-encoded : (bytes : List ℕ) (begun now : Option InProgress)
     → IsOfOneEncoding bytes → Joins bytes (units_begun begun) (units_begun now)
@@ -118,39 +101,17 @@ input-encoded bytes begun now one j h before made is =
     (made-order t.file u.source.object begun u.object_is u.order_is ∙ new-order t.file begun ∙ own)
     (read-encoded u.source all
     (one t.file u.source.object u.source.encoding t.opens u.object_is u.encoding_is) read))
-    (encoded-before begun t.file.order order own before))
+    (begun-all (IsEncoded order) begun (λ old was. subst (λ o. AreEncoded o (units_of old))
+    (ap (λ b. order_of b t.file.order) (sym was) ∙ own) (before old was))))
 
 -- ---- look-ups
 
 -- the header of a unit that was found
-abbrev HasHeader : Package → index.FoundUnit → Type 0
-HasHeader pack found =
-    (place : UnitSection) × (encoding_in pack.order place found.bytes ≡ Ok found.encoding)
-
 found-header : (pack : Package) (name : DwarfObject) (found : index.FoundUnit) (count : ℕ)
-    → found_counted pack name ≡ Ok (Some found, count) → HasHeader pack found
-unfolding unit_in
-found-header pack name found count h =
-    let s = bind-was (row_counted pack name) (unit_of_row pack name) (Some found, count)
-    (sym (by_row pack name) ∙ h) in
-    by s.0 s.2
-  where
-    unit : Option index.FoundUnit × ℕ → Option index.FoundUnit
-    unit x = x.0
-
-    by : (x : Option (ℕ × Ranges) × ℕ) → unit_of_row pack name x ≡ Ok (Some found, count)
-        → HasHeader pack found
-    by (None, c) k = absurd (none-some found (ap unit (same-ok {E = PackageError} _ _ k)))
-    by (Some (number, row), c) k =
-        let u = bind-was (unit_in pack name number row) _ (Some found, count) k in
-        let inside = bind-was (all_inside (first_outside pack.contents row)) _ u.0 u.1 in
-        let place = place_of name (range_in row kinds.Types) in
-        let read = encoding_in pack.order place (row_bytes pack.contents row (kind_of place)) in
-        let s = bind-was (index.as_error errors.Unit read) _ u.0 inside.2 in
-        let is = (elim read as (λ r. index.as_error errors.Unit r ≡ Ok s.0 → r ≡ Ok s.0)
-        [ Ok y ↦ λ k. cc | Err e ↦ λ k. absurd cc ]) s.1 in
-        subst (HasHeader pack) (same-ok {E = PackageError} _ u.0 s.2
-        ∙ same_Some u.0 found (ap unit (same-ok {E = PackageError} _ _ u.2))) (place, is)
+    → found_counted pack name ≡ Ok (Some found, count) → (place : UnitSection)
+    × (encoding_in pack.order place found.bytes ≡ Ok found.encoding)
+unfolding found_counted unit_at_row unit_in
+found-header pack name found count h = grind arith
 
 -- what look-ups of these units give
 abbrev pub Finds : Package → Members → Type 0
@@ -161,11 +122,7 @@ Finds pack units = (name : DwarfObject) → MatchOption (lookup (same_name name)
 pack-order : (bytes : List ℕ) (file : Elf) (pack : Package) → elf_of bytes ≡ Ok file
     → package_of bytes ≡ Ok pack → pack.order ≡ file.order
 unfolding package_of
-pack-order bytes file pack is h =
-    let s2 = bind-was (index.as_error errors.Elf (contents_of file.sections)) _ pack (rw is at h) in
-    let s3 = bind-was (index_in_section file.order (content s2.0 kinds.CuIndex)) _ pack s2.2 in
-    let s4 = bind-was (index_in_section file.order (content s2.0 kinds.TuIndex)) _ pack s3.2 in
-    ap (λ (p : Package). p.order) (sym (same-ok {E = PackageError} _ pack s4.2))
+pack-order bytes file pack is h = grind arith
 
 -- look-ups give all strings
 pub answers-whole : (order : Endianness) (units : Members) (file : File)
@@ -250,6 +207,12 @@ own-encoded made encoding sound plain all = rows-encoded made.file.order encodin
 abbrev pub IsAlike : Endianness → Encoding → DwarfObject × Meaning → Type 0
 IsAlike order encoding u = IsEncoded order u.1 × (u.1.encoding ≡ encoding)
 
+-- where there are bytes, something is read of them
+units-there : (order : Endianness) (bytes : List ℕ) → 0 < length bytes
+    → units places.Info (section order bytes) ≡ [] → ⊥
+unfolding units units_within
+units-there order bytes some none = grind arith
+
 -- so has the first unit that is read of info
 pub first-of : (made : InProgress) (file : File) (encoding : Encoding)
     → IsSound made → IsFinished made file → KindsDiffer file.contents
@@ -261,37 +224,26 @@ first-of made file encoding sound fin differ alike some =
     let order = made.file.order in
     let contents = made.file.contents in
     let mean : IndexEntry → Meaning = λ row. meaning_at order contents made.strings row in
-    let held = first-written (kind_at places.Info) file.contents differ
-    ∙ finished-own made file fin places.Info in
+    let Is = IsAlike order encoding in
+    let own = finished-own made file fin places.Info in
+    let held = first-written (kind_at places.Info) file.contents differ ∙ own in
     (λ i. first_encoding (units places.Info (section (finished-order made file fin i) (held i))))
     ∙ of-section order contents places.Info made.rows
-    (λ todo got. All (IsAlike order encoding) (members mean todo)
-    → 0 < length (rows_at places.Info todo) → first_encoding got ≡ Ok encoding)
-    (λ are none. absurd (omega (arith, none)))
-    (λ r rs got other later are more. later (All-tail (IsAlike order encoding) (r.id, mean r)
-    (members mean rs) are) (rw other at more))
-    (λ r rs h got u later are more.
-    let is = All-head (IsAlike order encoding) (r.id, mean r) (members mean rs) are in
+    (λ todo got. All Is (members mean todo) → (got ≡ [] → ⊥) → first_encoding got ≡ Ok encoding)
+    (λ are none. absurd (none refl))
+    (λ r rs got other later are. later (All-tail Is (r.id, mean r) (members mean rs) are))
+    (λ r rs h got u later are none.
+    let is = All-head Is (r.id, mean r) (members mean rs) are in
     ap Ok (u.shifted.encoding ∙ is.0 (place_of r.id r.debug_types) u.alone u.rest (read-alone u)
     ∙ is.1))
-    sound.laid.once sound.laid.info alike ((elim (rows_at places.Info made.rows) as
-    (λ rows. Lie order places.Info 0 rows (content_of (kind_at places.Info) contents)
-    → 0 < length rows) [
-      | [] ↦ λ none. let no = ap length (finished-own made file fin places.Info ∙ none) in
-          absurd (omega (arith, some))
-      | r ∷ rs ↦ λ lie. omega arith
-    ]) sound.laid.info)
+    sound.laid.once sound.laid.info alike (units-there order _ (rw own at some))
 
 -- ---- inputs of this encoding
 
--- info has bytes where there are units
-abbrev HasInfo : InProgress → Type 0
-HasInfo made = 0 < length made.rows → 0 < length (content_of kinds.Info made.file.contents)
-
--- all units have the encoding too
+-- all units have the encoding too, and info has bytes where there are units
 abbrev Filled : Encoding → Option InProgress → Type 0
 Filled e begun = AllOf e (units_begun begun)
-    × ((made : InProgress) → begun ≡ Some made → HasInfo made)
+    × ((made : InProgress) → begun ≡ Some made → 0 < length made.rows → HasInfo made)
 
 input-filled : (e : Encoding) (bytes : List ℕ) (begun now : Option InProgress)
     → IsOfEncoding e bytes → Joins bytes (units_begun begun) (units_begun now)
@@ -299,20 +251,15 @@ input-filled : (e : Encoding) (bytes : List ℕ) (begun now : Option InProgress)
 unfolding input_encoding
 input-filled e bytes begun now one j h before =
     let t = takes bytes begun now h in
-    let info = (elim begun as (λ b. ((made : InProgress) → b ≡ Some made → HasInfo made)
-    → HasInfo (package_or_new t.file b)) [
-      | None ↦ λ has some. absurd (omega (arith, some))
-      | Some made ↦ λ has. has made refl
-    ]) before.1 in (
+    let old = package_or_new t.file begun in
+    let info : 0 < length old.rows → HasInfo old = grind (arith, before.1) in
+    let there = λ (u : TakesUnits t.file begun now).
+    info-there (source-made u.source old u.made u.with) u.encoding_is info in (
       units-hold (λ unit. unit.encoding ≡ e) j t
           (λ u all read. each-all _ (λ r unit made. made.0
           ∙ one.1 u.source.encoding (rw (t.opens, u.object_is) u.encoding_is)) all)
           before.0,
-      λ made is. elim t.does [
-        | inl w ↦ subst HasInfo (same_Some _ made (w.1.is ∙ is)) (λ some. info-there w.1.source
-            (package_or_new t.file begun) w.1.made w.1.encoding_is w.1.with info)
-        | inr none ↦ subst HasInfo (same_Some _ made (none.1 ∙ is)) info
-      ],
+      λ made is. grind (arith, t.does, is, info, there),
     )
 
 pub inputs-alike : (e : Encoding) (accepted : List (List ℕ)) (state : State)
@@ -320,11 +267,10 @@ pub inputs-alike : (e : Encoding) (accepted : List (List ℕ)) (state : State)
     → IsFinishedState state file → HaveEncodingOnceWritten (units_in state) file
 inputs-alike e accepted state are one file f differ back k d within =
     let units = All-nil (λ (u : DwarfObject × Meaning). u.1.encoding ≡ e) in
-    let is = packages-in-order (IsOfEncoding e) (λ begun. Encoded begun
-    × Filled e begun) (λ bytes begun now q j h before. (
-      input-encoded bytes begun now q.0 j h before.0,
-      input-filled e bytes begun now q j h before.1,
-    )) accepted state are one (λ made none. absurd cc, (units, λ made none. absurd cc)) in
+    let is = packages-in-order (IsOfEncoding e) (λ begun. Encoded begun × Filled e begun)
+    (λ bytes begun now q j h before. let encoded = input-encoded bytes begun now q.0 j h before.0 in
+    (encoded, input-filled e bytes begun now q j h before.1)) accepted state are one
+    (λ made none. absurd cc, (units, λ made none. absurd cc)) in
     let made = f.made in
     let filled = is.1.1 in
     let encoded = is.1.0 made f.begun in

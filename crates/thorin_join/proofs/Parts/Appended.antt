@@ -1,19 +1,15 @@
 -- What the parts of an input are for the contents that they are added to.
 use Rattle.thorin_join.proofs.Terms
-use Terms.{◌&&◌, ◌++◌, [], ap, append-nil, append_assoc, appended, arith, bind-was, by-bool, cond}
-use Terms.{content_of, Contents, ErrorValue, false, false_from_ne_true, has_part, if◌then◌else◌}
-use Terms.{is-same, is_copied, joined_parts, length, List, Ok, or-right, Parts, parts_of, refl}
-use Terms.{rewritten, same-ok, same-self, same_kind, SectionKind, Source, stands_once, StrOffsets}
-use Terms.{subst, sym, true, true≢false, Used, with_bytes, with_each_part, with_offsets, with_part}
-use Terms.{with_parts, ℕ, ◌∙◌, ◌∷◌, ◌≡◌, ◌⊎◌}
+use Terms.{list_any-append, ◌||◌, ap, by-bool, ◌∙◌, ◌&&◌, ◌++◌, [], append-nil, append_assoc}
+use Terms.{appended, arith, bind-was, cond, content_of, Contents, false, false_from_ne_true}
+use Terms.{has_part, if◌then◌else◌, is-same, is_copied, joined_parts, length, List, Ok, Parts}
+use Terms.{parts_of, refl, rewritten, same-self, same_kind, SectionKind, Source, stands_once}
+use Terms.{StrOffsets, sym, true, Used, with_bytes, with_each_part, with_offsets, with_part}
+use Terms.{with_parts, ℕ, ◌∷◌, ◌≡◌, ◌⊎◌}
 use Rattle.thorin_join.specs.Meaning.{joined_content}
 
 pub differ : (a b : SectionKind) → (a ≡ b → ⊥) → same_kind a b ≡ false
 differ a b apart = false_from_ne_true _ (λ same. apart (is-same a b same))
-
-kind-unlike : (a b c : SectionKind) → same_kind a b ≡ false → same_kind a c ≡ true
-    → same_kind b c ≡ false
-kind-unlike a b c h i = differ b c (λ e. true≢false (sym i ∙ ap (same_kind a) (sym e) ∙ h))
 
 -- ---- bytes that are added to a section
 pub content-appended : (kind k : SectionKind) (bytes : List ℕ) (c : Contents)
@@ -24,8 +20,7 @@ content-appended kind k bytes (d ∷ ds) =
     by-bool _ (same_kind d.0 k)
     (λ same. rw (same, ← is-same d.0 k same)
     (by-bool _ (same_kind d.0 kind) (λ here. rw here) (λ later. rw later)))
-    (λ other. rw other (by-bool _ (same_kind d.0 kind)
-    (λ here. rw (here, kind-unlike d.0 k kind other here))
+    (λ other. rw other (by-bool _ (same_kind d.0 kind) (λ here. rw here (grind arith))
     (λ later. rw (later, content-appended kind k bytes ds))))
 
 pub no-bytes : (bytes : List ℕ) → length bytes ≡ 0 → bytes ≡ []
@@ -43,9 +38,7 @@ pub content-with_parts : (kind : SectionKind) (parts c : Contents)
 unfolding with_parts
 content-with_parts kind [] c = sym (append-nil (content_of kind c))
 content-with_parts kind (p ∷ ps) c =
-    let later = content-with_parts kind ps (with_bytes p.0 p.1 c) in
-    let put = content-with_bytes kind p.0 p.1 c in
-    grind (arith, later, put, append_assoc (content_of kind c) p.1 (joined_parts kind ps))
+    grind (arith, content-with_parts kind ps, content-with_bytes kind p.0 p.1, append_assoc {A = ℕ})
 
 -- ---- what a section adds to the parts
 -- joined parts with one more
@@ -55,24 +48,18 @@ pub joined_parts-more : (kind : SectionKind) (a : Contents) (k : SectionKind) (b
 joined_parts-more kind [] k bytes = ap (λ v. cond (same_kind k kind) v []) (append-nil bytes)
 joined_parts-more kind (p ∷ ps) k bytes =
     rw (joined_parts-more kind ps k bytes) (by-bool _ (same_kind p.0 kind)
-    (λ same. rw same (sym (append_assoc p.1 (joined_parts kind ps) _))) (λ other. rw other refl))
+    (λ same. rw same (sym (append_assoc p.1 (joined_parts kind ps) _))) (λ other. rw other))
 
 pub joined_parts-other : (kind : SectionKind) (a : Contents) (k : SectionKind) (bytes : List ℕ)
     → same_kind k kind ≡ false
     → joined_parts kind (a ++ (k, bytes) ∷ []) ≡ joined_parts kind a
-joined_parts-other kind a k bytes other = joined_parts-more kind a k bytes ∙ rw other
-    (append-nil (joined_parts kind a))
+joined_parts-other kind a k bytes other =
+    joined_parts-more kind a k bytes ∙ rw other (append-nil (joined_parts kind a))
 
 -- whether there is a part of a kind, with one more
-pub has-last : (kind : SectionKind) (a : Contents) (bytes : List ℕ)
-    → has_part kind (a ++ (kind, bytes) ∷ []) ≡ true
-has-last kind [] bytes = rw (same-self kind) refl
-has-last kind (p ∷ ps) bytes = or-right (same_kind p.0 kind) _ (has-last kind ps bytes)
-
-pub has-other : (kind : SectionKind) (a : Contents) (k : SectionKind) (bytes : List ℕ)
-    → same_kind k kind ≡ false → has_part kind (a ++ (k, bytes) ∷ []) ≡ has_part kind a
-has-other kind [] k bytes other = rw other
-has-other kind (p ∷ ps) k bytes other = rw (has-other kind ps k bytes other)
+pub has_part-more : (kind : SectionKind) (a : Contents) (k : SectionKind) (bytes : List ℕ)
+    → has_part kind (a ++ (k, bytes) ∷ []) ≡ (has_part kind a || (same_kind k kind || false))
+has_part-more kind a k bytes = list_any-append (λ part. same_kind part.0 kind) a ((k, bytes) ∷ [])
 
 module _ (source : Source) where
   -- string offsets were rewritten
@@ -108,61 +95,30 @@ module _ (source : Source) where
       → (sections : List Used) (before after : Parts)
       → with_each_part source before sections ≡ Ok after → P before sections after
   unfolding with_each_part
-  each-part P none more [] before after h =
-      subst (P before []) (same-ok {E = ErrorValue} before after h) (none before)
+  each-part P none more [] before after h = grind (arith, none before)
   each-part P none more (s ∷ ss) before after h =
       let next = bind-was (with_part source before s) _ after h in
       more before s next.0 ss after (step before s next.0 next.1) next.2
       (each-part P none more ss next.0 after next.2)
 
-  -- ---- a section adds to its kind alone
-  pub adds-offsets : (before : Parts) (s : Used) (next : Parts) → same_kind s.kind StrOffsets ≡ true
-      → Adds before s next → Rewritten before s.bytes next
-  adds-offsets before s next offsets adds = grind arith
-
-  -- one that is copied adds itself, any other but string offsets adds nothing
-  pub adds-plain : (before : Parts) (s : Used) (next : Parts) → same_kind s.kind StrOffsets ≡ false
-      → Adds before s next
-      → next ≡ cond (is_copied s.kind) (before.0 ++ (s.kind, s.bytes) ∷ [], before.1) before
-  adds-plain before s next plain adds = grind arith
-
-  module _ (kind : SectionKind) where
-    pub adds-copied : (before : Parts) (s : Used) (next : Parts) → Adds before s next
-        → is_copied kind ≡ true → same_kind s.kind kind ≡ true
-        → next ≡ (before.0 ++ (kind, s.bytes) ∷ [], before.1)
-    adds-copied before s next adds copied same =
-        grind (arith, is-same)
-
-    pub adds-other : (before : Parts) (s : Used) (next : Parts) → Adds before s next
-        → same_kind s.kind kind ≡ false → (has_part kind next.0 ≡ has_part kind before.0)
-        × (joined_parts kind next.0 ≡ joined_parts kind before.0)
-    adds-other before s next adds other =
-        grind (arith, joined_parts-other kind before.0, has-other kind before.0, is-same)
-
 module _ (source : Source) (strings : List (List ℕ)) (parts : Contents) (after : List (List ℕ))
     (h : parts_of source strings ≡ Ok (parts, after)) (kind : SectionKind) where
+  parts-plain : same_kind StrOffsets kind ≡ false → joined_parts kind parts
+      ≡ cond (is_copied kind) (joined_content kind source.object.sections) []
+  parts-plain apart =
+      each-part source (λ before ss next. joined_parts kind next.0 ≡ joined_parts kind before.0
+      ++ cond (is_copied kind) (joined_content kind ss) [])
+      (λ parts. grind (arith, append-nil (joined_parts kind parts.0)))
+      (λ before s next ss last made rest later.
+      grind (arith, joined_parts-more kind, is-same s.kind kind, append_assoc {A = ℕ}, same-self))
+      source.object.sections ([], strings) (parts, after) h
+
   -- sections that are copied, joined
   pub parts-copied : is_copied kind ≡ true
       → joined_parts kind parts ≡ joined_content kind source.object.sections
-  parts-copied copied =
-      each-part source (λ before ss next.
-      joined_parts kind next.0 ≡ joined_parts kind before.0 ++ joined_content kind ss)
-      (λ parts. sym (append-nil (joined_parts kind parts.0)))
-      (λ before s next ss last made rest later.
-      let same = adds-copied source kind before s next made.adds copied in
-      let other = adds-other source kind before s next made.adds in
-      let more = joined_parts-more kind before.0 kind s.bytes in
-      grind (arith, later, same, other, more, append_assoc {A = ℕ}, same-self kind))
-      source.object.sections ([], strings) (parts, after) h
+  parts-copied copied = grind (arith, is-same StrOffsets kind, parts-plain)
 
   -- of units, strings and indexes there is no part
   pub parts-none : is_copied kind ≡ false → same_kind StrOffsets kind ≡ false
       → joined_parts kind parts ≡ []
-  parts-none none apart =
-      each-part source (λ before ss next. joined_parts kind next.0 ≡ joined_parts kind before.0)
-      (λ parts. refl)
-      (λ before s next ss last made rest later.
-      let other = adds-other source kind before s next made.adds in
-      let plain = kind-unlike StrOffsets kind StrOffsets apart refl in
-      grind (arith, later, other, plain, is-same s.kind kind, adds-plain source before s next))
-      source.object.sections ([], strings) (parts, after) h
+  parts-none none apart = grind (arith, parts-plain apart)

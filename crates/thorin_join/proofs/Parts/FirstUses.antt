@@ -1,32 +1,30 @@
 -- What the sections of an input bring: the strings that their string offsets name, in order of
 -- first use, how many bytes these have, and the parts.
 use Rattle.thorin_join.proofs.Terms
-use Terms.{◌*◌, ◌+◌, ◌++◌, ◌-◌, ◌<◌, [], ap, arith, as_error, as_error_ok, bind-was, by-bool}
+use Terms.{SectionKind, ◌*◌, ◌+◌, ◌++◌, ◌-◌, ◌<◌, [], arith, bind-was, by-bool, nat_tests}
 use Terms.{bytes_of_contents, bytes_of_strings, cond, Contents, Contribution, drop, DwarfObject}
 use Terms.{each_from, Encoding, Endianness, entry_count, eqb, ErrorValue, first, header_size}
 use Terms.{if◌then◌else◌, inl, InProgress, inr, is_copied, is_package, IsTable, IsZeroFree, length}
-use Terms.{length-append, length-drop, length-take, List, list_any, ltb, named_in, NewUnit}
-use Terms.{offset_of, offset_of_entry, offset_size, offsets_used, Ok, packaged_offsets, Parts}
-use Terms.{parts_of, position_or_len, range_bytes, ReadError, refl, remapped, Result}
-use Terms.{result_unwrap_or, rewritten, same-ok, same_kind, same_name, slice_range, Source, Str}
-use Terms.{StrAtOffset, string_at, strings_at, strings_of, StrOffsets, subst, suc, sum_by, take}
+use Terms.{length-append, length-drop, length-take, List, list_any, named_in, NewUnit}
+use Terms.{offset_of_entry, offsets_used, Ok, packaged_offsets, Parts, parts_of, position_or_len}
+use Terms.{refl, remapped, result_unwrap_or, rewritten, same-ok, same_kind, slice_range, Source}
+use Terms.{Str, string_at, strings_at, strings_of, StrOffsets, subst, suc, sum_by, take}
 use Terms.{take-length, true, Used, with_each_part, with_new_unit, with_new_units, with_string}
-use Terms.{with_strings, with_unit_added, zero, ℕ, ◌∙◌, ◌∷◌, ◌≡◌, ◌≤◌}
-use Rattle.thorin_join.proofs.Steps.{kept, past}
-use Rattle.thorin_join.specs.State.{names_of}
+use Terms.{with_strings, with_unit_added, zero, ℕ, ◌∷◌, ◌≡◌, ◌≤◌}
 use Rattle.std.proofs.Math.Nat.{mul-le-mul_right}
 use Rattle.std.proofs.lemmas.List.Sums.{sum_by-cons, sum_by-append, sum_by_push}
 use Rattle.thorin_strings.specs.StringOffsets.{offset_at, named_at, fitting_offset, remapped_entry}
-use Rattle.thorin_strings.specs.StringOffsets.{remapped_entries, entry_at, entry_bytes}
+use Rattle.thorin_strings.specs.StringOffsets.{remapped_entries}
 use Rattle.dwp_strings.proofs.Named.{read_free, string_was, used}
 use Rattle.thorin_strings.proofs.RemapLemmas.{kept_more}
 use Rattle.thorin_strings.proofs.NamedBytes.{entries_long, header_long}
-use Rattle.thorin_packaged.specs.PackagedOffsets.{offset_ranges, ranges_test, rewritten_from}
+use Rattle.thorin_packaged.specs.PackagedOffsets.{ranges_test, rewritten_from}
 use Rattle.thorin_packaged.proofs.RewriteSteps.{next_passed}
 use Rattle.thorin_join.specs.FirstUse.{named_by_ranges, named_by_section}
 use Rattle.thorin_join.proofs.Parts.Appended.{Adds, each-part}
 use Rattle.thorin_join.proofs.Parts.OffsetRanges.{range-of, count-fits, count-none}
 use Rattle.thorin_join.proofs.Units.HeadersRead.{News}
+pub use Rattle.thorin_strings.proofs.NamedEntries.{as_error_ok as error-inv}
 
 -- ---- strings that are used
 with-append : (strings a b : List (List ℕ)) → with_strings strings (a ++ b) ≡ with_strings
@@ -61,26 +59,14 @@ pub record Brings (section : List ℕ) (before named : List (List ℕ)) (size : 
 
 none-brings : {section : List ℕ} {strings : List (List ℕ)} {size : ℕ}
     → Brings section strings [] size strings
-none-brings {section} {strings} = record {
-  are = refl;
-  most = omega arith;
-  follows = λ table. record { table = table; kept = take-length strings };
-}
+none-brings {section} {strings} = grind (arith, take-length strings)
 
 both-bring : {section : List ℕ} {a named b others c : List (List ℕ)} {m n size : ℕ}
     → Brings section a named m b → Brings section b others n c → m + n ≤ size
     → Brings section a (named ++ others) size c
 both-bring {section} {a} {named} {b} {others} {c} first second fits =
     let product = mul-le-mul_right (length section) fits in
-    let all = sum_by-append ended_long named others in
-    record {
-      are = rw (with-append a named others, ← first.are) second.are;
-      most = omega (arith, first.most, second.most, product, all);
-      follows = λ table.
-          let one = first.follows table in
-          let two = second.follows one.table in
-          record { table = two.table; kept = kept_more a b c one.kept two.kept };
-    }
+    grind (arith, with-append a named, sum_by-append ended_long named others, kept_more a b c)
 
 -- a string lies inside its section, with the zero byte that ends it
 zero-within : (xs : List ℕ) → list_any (λ b. eqb b 0) xs ≡ true
@@ -93,20 +79,10 @@ string-brings : (section string : List ℕ) (at : ℕ) (strings : List (List ℕ
     → Brings section strings (string ∷ []) 4 (with_string strings string)
 unfolding string_at
 string-brings section string at strings h =
-    let inside = past (ltb (length section) at) _ _ string h in
     let left = drop at section in
-    let ended = kept (list_any (λ b. eqb b 0) left) _ _ string inside.1 in
-    let is = ap length (same-ok _ string ended.1) in
-    let taken = length-take (position_or_len (λ b. eqb b 0) left) left in
+    let free = subst IsZeroFree (string_was section string at h) (read_free section at) in
     let one = sum_by-cons ended_long string [] in
-    record {
-      are = refl;
-      follows = λ table.
-          let free = subst IsZeroFree (string_was section string at h) (read_free section at) in
-          let new = used strings string table free in
-          record { table = new.table; kept = new.kept };
-      most = omega (arith, is, taken, zero-within left ended.0, length-drop at section, one);
-    }
+    grind (arith, nat_tests, zero-within left, length-drop, length-take, used strings string)
 
 -- ---- the strings that so many first entries name
 -- one more string is read, at the offset of a number
@@ -115,43 +91,37 @@ string-more : (section : List ℕ) (f : ℕ → ℕ) (i n j : ℕ) (l : List (Li
     → strings_at section (each_from f i (suc n)) ≡ Ok (l ++ string ∷ [])
 unfolding strings_at
 string-more section f i zero j l string at h k =
-    let here : i ≡ j = omega arith in
-    grind arith
+    let here : i ≡ j = omega arith in grind arith
 string-more section f i (suc n) j l string at h k =
     grind (arith, string-more section f (i + 1) n j)
-
-pub error-inv : {X : Type 0} (f : ReadError → ErrorValue) (r : Result X ReadError) (x : X)
-    → as_error f r ≡ Ok x → r ≡ Ok x
-error-inv = as_error_ok
 
 pub no-entries : (encoding : Encoding) → entry_count encoding 0 ≡ 0
 no-entries encoding = count-none encoding.format 0 (header_size encoding) (omega arith)
 
 module _ (order : Endianness) (encoding : Encoding) (section bytes : List ℕ) where
+  -- an entry that is rewritten names a string, which is used
+  entry-was : (n : ℕ) (strings : List (List ℕ)) (entry : ℕ × List (List ℕ))
+      → remapped_entry order encoding section bytes n strings ≡ Ok entry → (string : List ℕ)
+      × (string_at section (offset_of_entry order encoding bytes n) ≡ Ok string)
+      × (entry.1 ≡ with_string strings string)
+  unfolding remapped_entry named_at offset_at fitting_offset
+  entry-was n strings entry h = grind arith
+
   entries-named : (n : ℕ) (strings : List (List ℕ)) (out : List ℕ × List (List ℕ))
       → remapped_entries order encoding section bytes n strings ≡ Ok out
       → (named : List (List ℕ)) × (length out.0 ≡ n) × Brings section strings named (n * 4) out.1
       × (strings_at section (each_from (offset_of_entry order encoding bytes) 0 n) ≡ Ok named)
-  unfolding remapped_entries remapped_entry named_at offset_at strings_at
-  entries-named zero strings out h =
-      rw (← same-ok {E = ErrorValue} _ out h) ([], refl, none-brings, refl)
+  unfolding remapped_entries strings_at
+  entries-named zero strings out h = grind (arith, take-length strings)
   entries-named (suc n) strings out h =
-      let s1 = bind-was (remapped_entries order encoding section bytes n strings) _ out h in
-      let before = entries-named n strings s1.0 s1.1 in
-      let s2 = bind-was (remapped_entry order encoding section bytes n s1.0.1) _ out s1.2 in
-      let s3 = bind-was (named_at order encoding section bytes n) _ s2.0 s2.1 in
-      let s4 = bind-was (fitting_offset encoding.format (offset_of s1.0.1 s3.0)) _ s2.0 s3.2 in
-      let s5 = bind-was (entry_at order encoding bytes n) _ s3.0 s3.1 in
-      let f = offset_of_entry order encoding bytes in
-      let here : string_at section (f n) ≡ Ok s3.0 =
-      ap (string_at section) (same-ok {E = ReadError} _ s5.0
-      (past _ _ _ s5.0 (as_error_ok _ _ s5.0 s5.1)).1)
-      ∙ as_error_ok (λ e. StrAtOffset e s5.0) (string_at section s5.0) s3.0 s5.2 in
-      let fits : n * 4 + 4 ≤ suc n * 4 = omega arith in
-      let both = both-bring before.2 (string-brings section s3.0 (f n) s1.0.1 here) fits in
-      let all = string-more section f 0 n n before.0 s3.0 (omega arith) before.3 here in
-      rw (← same-ok {E = ErrorValue} _ out s2.2, ← same-ok {E = ErrorValue} _ s2.0 s4.2)
-      (before.0 ++ s3.0 ∷ [], omega (arith, before.1, length-append {A = ℕ}), both, all)
+      let first = bind-was _ _ out h in
+      let before = entries-named n strings first.0 first.1 in
+      let entry = bind-was _ _ out first.2 in
+      let s = entry-was n first.0.1 entry.0 entry.1 in
+      let both = both-bring before.2 (string-brings section s.0 _ first.0.1 s.1) (omega arith) in
+      let all = string-more section _ 0 n n before.0 s.0 (omega arith) before.3 s.1 in
+      rw (← same-ok {E = ErrorValue} _ out entry.2, s.2)
+      (before.0 ++ s.0 ∷ [], omega (arith, before.1, length-append {A = ℕ}), both, all)
 
   -- a range is rewritten to no more bytes
   range-brings : (size : ℕ) (strings : List (List ℕ)) (out : List ℕ × List (List ℕ))
@@ -163,17 +133,12 @@ module _ (order : Endianness) (encoding : Encoding) (section bytes : List ℕ) w
       (elim (range-of order encoding section bytes size strings out h) [
         | inl none ↦ rw (none.0, no-entries encoding, ← none.1) (none-brings, omega arith)
         | inr r ↦
-            let n = entry_count encoding size in
-            let names = entries-named n strings r.entries r.entries_are in
+            let names = entries-named _ strings r.entries r.entries_are in
             let fits = count-fits encoding.format size (header_size encoding) r.room in
+            let product = mul-le-mul_right (length section) fits.1 in
             let header = header_long order encoding _ r.header r.header_is in
             let entries = entries_long order encoding.format r.entries.0 in
-            let many = ap (λ m. m * offset_size encoding.format) names.1 in
-            let most : 4 * bytes_of_strings names.0 ≤ size * length section =
-            omega (arith, names.2.most, mul-le-mul_right (length section) fits.1) in
-            let long : length (r.header ++ entry_bytes order encoding.format r.entries.0) ≤ size =
-            omega (arith, header, entries, many, fits.0, length-append {A = ℕ}) in
-            rw (names.3, ← r.is) (assumption (names.2, most), long)
+            rw (names.3, ← r.is) (grind (arith, names.1, names.2, fits.0, length-append {A = ℕ}))
       ])
 
 -- ---- the strings that ranges name, one after the other
@@ -181,6 +146,10 @@ pub slice-long : (bytes : List ℕ) (at size : ℕ) → at + size ≤ length byt
     → size ≡ length (slice_range bytes at (at + size))
 slice-long bytes at size h =
     omega (arith, length-drop at bytes, length-take (at + size - at) (drop at bytes))
+
+-- the bytes of one of the contents
+abbrev pub long : SectionKind × List ℕ → ℕ
+long c = length c.1
 
 -- the bytes of a section's part: its string offsets, or the section as it is, where it is copied
 abbrev pub part_bytes : Used → ℕ
@@ -203,19 +172,14 @@ module _ (source : Source) where
       (none-brings, omega (arith, length-drop at bytes))
   ranges-bring bytes at left (r ∷ rs) strings out ends t h =
       let next = next_passed source.encoding (length bytes) at r rs t in
-      let s1 = bind-was (remapped source.object.order source.encoding strings_in
-      (range_bytes bytes r) r.size strings) _ out h in
-      let s2 = bind-was (rewritten_from source.object.order source.encoding strings_in bytes
-      (r.offset.0 + r.size) rs s1.0.1) _ out s1.2 in
-      let here = range-brings source.object.order source.encoding strings_in (range_bytes bytes r)
-      r.size strings s1.0 (slice-long bytes r.offset.0 r.size next.inside) s1.1 in
+      let s1 = bind-was _ _ out h in
+      let s2 = bind-was _ _ out s1.2 in
+      let here = range-brings _ _ _ _ _ _ _ (slice-long bytes r.offset.0 r.size next.inside) s1.1 in
       let later = ranges-bring bytes (r.offset.0 + r.size) (length bytes - (r.offset.0 + r.size)) rs
       s1.0.1 s2.0 (omega arith) next.others s2.1 in
-      let gap = length-take (r.offset.0 - at) (drop at bytes) in
-      let fits : r.size + (length bytes - (r.offset.0 + r.size)) ≤ left = omega arith in
-      let both = both-bring here.0 later.0 fits in
+      let both = both-bring here.0 later.0 (omega arith) in
       rw (← same-ok {E = ErrorValue} _ out s2.2)
-      (both, omega (arith, here.1, later.1, gap, length-append {A = ℕ}))
+      (both, omega (arith, here.1, later.1, length-take {A = ℕ}, length-append {A = ℕ}))
 
   -- ---- a section, and all of them
   section-brings : (bytes : List ℕ) (strings : List (List ℕ)) (out : List ℕ × List (List ℕ))
@@ -225,12 +189,9 @@ module _ (source : Source) where
   unfolding rewritten packaged_offsets
   section-brings bytes strings out h =
       by-bool _ (is_package source.indexes)
-      (λ packed. let ranges = offset_ranges source.indexes.compilations source.indexes.types in
-      let s1 = bind-was (ranges_test source.encoding (length bytes) 0 ranges) _ out
-      (rw packed at h) in
-      rw packed (ranges-bring bytes 0 (length bytes) ranges strings out (omega arith) s1.1 s1.2))
-      (λ plain. rw plain (range-brings source.object.order source.encoding strings_in bytes
-      (length bytes) strings out refl (rw plain at h)))
+      (λ packed. let s1 = bind-was _ _ out (rw packed at h) in
+      rw packed (ranges-bring bytes 0 (length bytes) _ strings out (omega arith) s1.1 s1.2))
+      (λ plain. rw plain (range-brings _ _ _ bytes _ strings out refl (rw plain at h)))
 
   -- what sections bring: the strings that they name, and parts of so many bytes
   abbrev Bring : Parts → (sections : List Used) → Parts → Type 0
@@ -245,27 +206,22 @@ module _ (source : Source) where
       × (bytes_of_contents next.0 ≤ bytes_of_contents before.0 + part_bytes s)
   step-brings before s next (inl (o, w)) =
       let b = section-brings s.bytes before.1 w.written w.rewrites in
-      let all = sum_by_push (λ c. length c.1) before.0 (StrOffsets, w.written.0) in
-      rw (w.is, o) (b.0, omega (arith, b.1, all))
-  step-brings before s next (inr (inl (o, c, is))) =
-      let all = sum_by_push (λ c. length c.1) before.0 (s.kind, s.bytes) in
-      rw (is, c, o) (none-brings, omega (arith, all))
-  step-brings before s next (inr (inr (o, c, is))) = rw (is, o) (none-brings, omega arith)
+      rw (w.is, o) (b.0, omega (arith, sum_by_push long before.0 (StrOffsets, w.written.0)))
+  step-brings before s next (inr plain) =
+      grind (arith, take-length before.1, sum_by_push long before.0)
 
   pub each-brings : (sections : List Used) (before after : Parts)
       → with_each_part source before sections ≡ Ok after → Bring before sections after
   each-brings = each-part source Bring (λ parts. (none-brings, omega arith))
       (λ before s next ss after made rest later.
-      let here = step-brings before s next made.adds in (
-        both-bring here.0 later.0 (omega (arith, sum_by-cons offsets_used s ss)),
-        omega (arith, here.1, later.1, sum_by-cons part_bytes s ss),
-      ))
+      let here = step-brings before s next made.adds in
+      let offsets = sum_by-cons offsets_used s ss in
+      (both-bring here.0 later.0 (omega arith), omega (arith, sum_by-cons part_bytes s ss)))
 
   -- the table of strings goes on from the one before
   pub parts-follow : (strings : List (List ℕ)) (parts : Contents) (after : List (List ℕ))
       → IsTable strings → parts_of source strings ≡ Ok (parts, after) → Follows strings after
-  parts-follow strings parts after table h =
-      (each-brings source.object.sections ([], strings) (parts, after) h).0.follows table
+  parts-follow strings parts after table h = (each-brings _ _ _ h).0.follows table
 
 -- what holds of no units, and with one more that is added or passed over, holds of those of an
 -- input
@@ -278,10 +234,9 @@ pub each-unit : (P : InProgress → News → InProgress → Type 0) → ((p : In
 unfolding with_new_units with_new_unit
 each-unit P none passed added p [] = none p
 each-unit P none passed added p (u ∷ us) =
-    by-bool _ (list_any (same_name u.0) (names_of p))
-    (λ there. rw (there, with_new_units) (passed p u us _ (each-unit P none passed added p us)))
-    (λ new. rw (new, with_new_units)
-    (added p u us _ (each-unit P none passed added (with_unit_added p u) us)))
+    let old = each-unit P none passed added p us in
+    let new = each-unit P none passed added (with_unit_added p u) us in
+    grind (arith, passed p u us _ old, added p u us _ new)
 
 -- units bring no strings
 pub units-strings : (p : InProgress) (us : News) → (with_new_units p us).strings ≡ p.strings

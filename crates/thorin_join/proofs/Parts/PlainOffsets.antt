@@ -1,27 +1,24 @@
 -- The string offsets of the parts of a plain input read alike.
 use Rattle.thorin_join.proofs.Terms
-use Terms.{◌&&◌, ◌*◌, ◌+◌, ◌++◌, ◌-◌, ◌<◌, [], append-nil, append_assoc, arith, Bool, by-bool}
-use Terms.{Contents, data_of, Encoding, entry_count, false, first, has_part, InputFile, is-same}
-use Terms.{is_copied, is_package, IsTable, joined_parts, joined_read, leb, leb-false, length}
-use Terms.{length-append, List, ltb, no_header, offset_size, Ok, Parts, parts_of, ReadsAlike, refl}
-use Terms.{remapped, same_kind, SectionKind, Source, stands_once, Str, StrOffsets, sym, take, true}
+use Terms.{range_named, strings_again, same_kind, SectionKind, inl, inr, ◌&&◌, ◌*◌, ◌+◌, ◌++◌, ◌-◌}
+use Terms.{◌<◌, [], append-nil, append_assoc, arith, Bool, by-bool, Contents, data_of, Encoding}
+use Terms.{entry_count, false, first, has_part, InputFile, is-same, is_package, IsTable}
+use Terms.{joined_parts, joined_read, leb, leb-false, length, length-append, List, no_header}
+use Terms.{offset_size, Ok, Parts, parts_of, ReadsAlike, Source, Str, StrOffsets, sym, take, true}
 use Terms.{true≢false, ◌||◌, ℕ, ◌∙◌, ◌∷◌, ◌≡◌}
 use Rattle.thorin_join.specs.Meaning.{whole_entries, joined_offsets}
-use Rattle.thorin_join.proofs.Parts.OffsetRanges.{alike-by, whole-long, whole-read, empty-alike}
-use Rattle.thorin_join.proofs.Parts.OffsetRanges.{rewritten-long}
-use Rattle.thorin_join.proofs.Parts.Appended.{each-part, joined_parts-more, Rewritten, has-last}
-use Rattle.thorin_join.proofs.Parts.Appended.{has-other as part-other, adds-offsets, adds-plain}
-use Rattle.thorin_join.proofs.Parts.Appended.{adds-other}
-use Rattle.thorin_join.proofs.Parts.OffsetLaws.{names-same, reads-alike}
+use Rattle.thorin_join.proofs.Parts.OffsetRanges.{count-none, whole-long, whole-read, empty-alike}
+use Rattle.thorin_join.proofs.Parts.Appended.{each-part, joined_parts-more, Rewritten}
+use Rattle.thorin_join.proofs.Parts.Appended.{has_part-more, joined_parts-other}
 use Rattle.thorin_join.proofs.Parts.Strings.{front-front, rewritten-plain}
 
 pub has-more : (a : Contents) (bytes : List ℕ) → has_part StrOffsets
     (a ++ (StrOffsets, bytes) ∷ []) ≡ true
-has-more = has-last StrOffsets
+has-more a bytes = grind (arith, has_part-more StrOffsets a StrOffsets bytes)
 
 pub has-other : (a : Contents) (k : SectionKind) (bytes : List ℕ) → same_kind k StrOffsets ≡ false
     → has_part StrOffsets (a ++ (k, bytes) ∷ []) ≡ has_part StrOffsets a
-has-other = part-other StrOffsets
+has-other a k bytes other = grind (arith, has_part-more StrOffsets a k bytes)
 
 -- of a kind that may stand once alone, nothing is there yet
 pub not-there : (packed standard has : Bool) → standard ≡ true
@@ -57,43 +54,33 @@ module _ (source : Source) (plain : is_package source.indexes ≡ false) where
       → ReadsBy before old → (leb 5 encoding.version ≡ true → has_part StrOffsets before.0 ≡ false)
       → Rewritten source before bytes next → ReadsBy next (old ++ whole_entries encoding bytes)
   reads-rewritten before bytes next old so_far once w =
-      let rewrites : remapped object.order encoding section bytes (length bytes) before.1 ≡ Ok
-      w.written = sym (rewritten-plain source bytes before.1 plain) ∙ w.rewrites in
-      let law = names-same object.order encoding section bytes (length bytes) before.1 w.written.0
-      w.written.1 so_far.table rewrites in
+      let law = range_named _ _ _ _ _ _ w.written so_far.table
+      (sym (rewritten-plain source bytes before.1 plain) ∙ w.rewrites) in
       let new = joined_parts StrOffsets before.0 in
       let own = whole_entries encoding bytes in
-      let more = joined_parts-more StrOffsets before.0 StrOffsets w.written.0 in
-      rw (w.is, more, has-more before.0 w.written.0) (record {
+      rw (w.is, joined_parts-more, has-more before.0 w.written.0) (record {
         table = law.table;
         read = λ final table begins.
             let last : (i : ℕ) → ReadsAlike object.order encoding section own (data_of final)
-            w.written.0 i = λ i. alike-by (whole-read object.order encoding section bytes i) refl
-            (reads-alike object.order encoding section bytes before.1 w.written.0 w.written.1 final
-            so_far.table rewrites table begins i) in
+            w.written.0 i = λ i. let alike = strings_again _ _ _ _ _ _ _ final law table begins i in
+            grind (arith, whole-read object.order encoding section bytes i) in
             by-bool _ (leb 5 encoding.version)
             (λ standard. let none = so_far.fresh standard (once standard) in
             rw (none.0, none.1) last)
-            (λ gnu i. let old_version = leb-false 5 encoding.version gnu in
-            let whole = so_far.whole old_version in
-            let one = so_far.read final table
-            (front-front before.1 w.written.1 final law.kept begins) i in
-            let two = last (i - whole.0) in
-            let olds = joined_read object.order encoding old own whole.0 old_version whole.1
-            section i in
-            let news = joined_read object.order encoding new w.written.0 whole.0 old_version whole.2
+            (λ gnu i. let early = leb-false 5 encoding.version gnu in
+            let whole = so_far.whole early in
+            let one = so_far.read final table (front-front _ _ _ law.kept begins) i in
+            let olds = joined_read object.order encoding old own whole.0 early whole.1 section i in
+            let news = joined_read object.order encoding new w.written.0 whole.0 early whole.2
             (data_of final) i in
-            by-bool _ (ltb i whole.0)
-            (λ less. alike-by (rw less at olds) (rw less at news) one)
-            (λ more. alike-by (rw more at olds) (rw more at news) two));
+            grind (arith, olds, news, one, last (i - whole.0)));
         whole = λ gnu.
             let whole = so_far.whole gnu in
             let header = no_header encoding gnu in
-            let long = whole-long encoding bytes (omega (arith, header)) in
-            let many = rewritten-long gnu law in (
+            let long = whole-long encoding bytes (omega (arith, header)) in (
               whole.0 + entry_count encoding (length bytes),
               omega (arith, header, long, whole.1, length-append old own),
-              omega (arith, many, whole.2, length-append new w.written.0),
+              grind (arith, count-none encoding.format, law.none, law.long, length-append new),
             );
         fresh = λ standard has. absurd (true≢false has);
       })
@@ -109,22 +96,15 @@ module _ (source : Source) (plain : is_package source.indexes ≡ false) where
       → ReadsBy after (old ++ joined_offsets encoding ss))
       (λ parts old so_far. rw (append-nil old) so_far)
       (λ before s next ss after made rest later old so_far.
-      by-bool _ (same_kind s.kind StrOffsets)
-      (λ same. let here : (stands_once source StrOffsets && has_part StrOffsets before.0) ≡ false =
-      rw (is-same s.kind StrOffsets same) at made.once in
-      rw (same, ← append_assoc old (whole_entries encoding s.bytes) (joined_offsets encoding ss))
-      (later _ (reads-rewritten before s.bytes next old so_far (λ standard.
-      not-there (is_package source.indexes) (leb 5 encoding.version)
-      (has_part StrOffsets before.0) standard here)
-      (adds-offsets source before s next same made.adds))))
-      (λ other. let adds = adds-other source StrOffsets before s next made.adds other in
-      let strings : next.1 ≡ before.1 = rw (adds-plain source before s next other made.adds)
-      (by-bool _ (is_copied s.kind) (λ c. rw c) (λ c. rw c)) in
-      rw other (later old (rw (adds.0, adds.1, strings) so_far))))
-      object.sections ([], strings) (parts, after) h [] (record {
-        table = table;
-        read = λ final final_table kept i. empty-alike object.order encoding section
-            (data_of final) i;
-        whole = λ old. (0, omega arith, omega arith);
-        fresh = λ standard has. (refl, refl);
-      })).read
+      elim made.adds [
+        | inl (o, w) ↦
+            rw (o, ← append_assoc old (whole_entries encoding s.bytes) (joined_offsets encoding ss))
+            (later _ (reads-rewritten before s.bytes next old so_far (λ standard.
+            not-there _ _ _ standard (rw (is-same s.kind StrOffsets o) at made.once)) w))
+        | inr (inl (o, c, is)) ↦
+            let joined = joined_parts-other StrOffsets before.0 s.kind s.bytes o in
+            rw o (later old (rw (is, has-other before.0 s.kind s.bytes o, joined) so_far))
+        | inr (inr (o, c, is)) ↦ rw o (later old (rw is so_far))
+      ])
+      object.sections ([], strings) (parts, after) h []
+      (grind (arith, empty-alike object.order encoding section))).read

@@ -1,14 +1,13 @@
 -- How the string offsets of an input are rewritten, and what stands in front.
 use Rattle.thorin_join.proofs.Terms
-use Terms.{ap, arith, false, first, is_package, length, length-take, List, packaged_offsets, refl}
-use Terms.{remapped, rewritten, Source, Str, sym, take, take-take, true, ℕ, ◌∙◌, ◌≡◌, ◌≤◌}
+use Terms.{arith, false, first, is_package, length, length-take, List, packaged_offsets, refl}
+use Terms.{remapped, rewritten, Source, Str, take, take-take, true, ℕ, ◌≡◌}
 
 -- what stands in front of what stands in front
 pub front-front : {A : Type 0} (a b c : List A) → take (length a) b ≡ a → take (length b) c ≡ b
     → take (length a) c ≡ a
 front-front a b c first second =
-    let short : length a ≤ length b = omega (arith, ap length first, length-take (length a) b) in
-    sym (take-take (length a) (length b) c short) ∙ ap (take (length a)) second ∙ first
+    grind (arith, length-take (length a) b, take-take (length a) (length b) c)
 
 -- string offsets of a package are rewritten range by range, others as one range
 module _ (source : Source) (bytes : List ℕ) (strings : List (List ℕ)) where

@@ -1,10 +1,9 @@
 -- The units of an input that are added stand in their rows.
 use Rattle.thorin_join.proofs.Terms
-use Terms.{◌++◌, [], ap, append-nil, append_assoc, AreRowsOf, arith, content_of, Contents}
-use Terms.{DwarfObject, Endianness, false, InProgress, joining, keys, kind_at, List, list_any}
-use Terms.{map-append, Members, NewUnit, row_at, same_kind, same_name, SectionKind, sym}
-use Terms.{take-length, UnitSection, with_new_unit, with_new_units, with_unit_added, ℕ, ◌∙◌, ◌∷◌}
-use Terms.{◌≡◌}
+use Terms.{◌++◌, [], append-nil, append_assoc, AreRowsOf, arith, content_of, Contents, DwarfObject}
+use Terms.{Endianness, false, InProgress, joining, keys, kind_at, List, list_any, map-append}
+use Terms.{Members, NewUnit, refl, same_kind, same_name, SectionKind, sym, take-length, UnitSection}
+use Terms.{with_new_unit, with_new_units, with_unit_added, ℕ, ◌∷◌, ◌≡◌}
 use Rattle.thorin_join.specs.State.{names_of}
 use Rattle.thorin_join.proofs.Rows.Stay.{Grows, grows-trans, grows-with_bytes, keep-lie}
 use Rattle.thorin_join.proofs.Rows.Stay.{keep-shares, keep-rows, rows-next}
@@ -29,8 +28,7 @@ joined-new names (u ∷ us) =
 pub names-added : (p : InProgress) (u : DwarfObject × NewUnit) → names_of (with_unit_added p u) ≡
     names_of p ++ u.0 ∷ []
 names-added p u =
-    map-append (λ row. row.id) p.rows (row_at u.1.row p.file.contents u.0 u.1.bytes u.1.place ∷ [])
-    ∙ ap (λ n. names_of p ++ n ∷ []) (row-name u.1.row p.file.contents u.0 u.1.bytes u.1.place)
+    rw (map-append, row-name u.1.row p.file.contents u.0 u.1.bytes u.1.place) refl
 
 -- ---- units that can be added
 
@@ -73,13 +71,7 @@ units-added base p (u ∷ us) ms (m ∷ added) grows new can rows lie =
     let a = units-added base q us (ms ++ m ∷ []) added (grows-trans base c q.file.contents grows
     more) (rw names new.1) can.1 (rows-next order q.file.contents p.strings p.rows ms _ m before
     row) (unit-lies order c p.rows u can.0.can lie) in
-    let other : (kind : SectionKind) → ((place : UnitSection) → same_kind (kind_at place) kind ≡
-    false) → content_of kind (with_new_units q us).file.contents ≡ content_of kind c = λ kind h.
-    a.other kind h ∙ content-with_bytes kind (kind_at u.1.place) u.1.bytes c ∙ rw (h u.1.place) in
-    rw new.0 (assumption (
-      other,
-      rw append_assoc at a.rows,
-      a.names ∙ ap (λ n. n ++ keys us) names
-          ∙ append_assoc (names_of p) (u.0 ∷ []) (keys us),
-    ))
+    let rest = append_assoc ms (m ∷ []) added in
+    let named = append_assoc (names_of p) (u.0 ∷ []) (keys us) in
+    rw new.0 (grind (arith, a, rest, names, named, content-with_bytes))
 units-added base p _ ms _ grows new can rows lie = absurd can

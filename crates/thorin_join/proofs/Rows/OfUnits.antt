@@ -3,27 +3,24 @@
 -- row.
 use Rattle.thorin_join.proofs.Terms
 use Terms.{◌&&◌, ◌+◌, [], all_kinds, ap, arith, bind-was, Bool, by-bool, content_of, Contents}
-use Terms.{Contribution, contribution_to, data_of, DwarfObject, Encoding, entry_by, ErrorValue}
-use Terms.{false, find, first, identifier_of, Index, IndexEntry, Indexes, is_copied, is_none}
-use Terms.{is_package, is_shared, is_some, IsTable, joined_parts, length, LieInside, List, list_all}
-use Terms.{looked_up, Meaning, None, Ok, Option, part_of, parts_of, range_in, range_put, Ranges}
-use Terms.{read_each, ReadsAlike, refl, row_in, row_test, same-ok, SectionKind, Shares, Some}
-use Terms.{Source, Str, StrOffsets, sym, take, take-length, true, unit_row, UnitRead, with_parts}
-use Terms.{◌||◌, ℕ, ◌∙◌, ◌∷◌, ◌≡◌, ◌≤◌}
+use Terms.{Contribution, contribution_to, data_of, DwarfObject, Encoding, entry_by, false, find}
+use Terms.{first, identifier_of, Index, IndexEntry, Indexes, is_copied, is_none, is_package}
+use Terms.{is_shared, is_some, IsTable, joined_parts, length, LieInside, List, list_all, Meaning}
+use Terms.{None, Ok, Option, part_of, parts_of, range_in, range_put, Ranges, read_each, ReadsAlike}
+use Terms.{refl, row_in, row_test, SectionKind, Shares, Some, Source, Str, StrOffsets, sym, take}
+use Terms.{take-length, true, unit_row, UnitRead, with_parts, ◌||◌, ℕ, ◌∙◌, ◌∷◌, ◌≡◌, ◌≤◌}
 use Rattle.dwp_base.specs.ByKind.{value_of}
 use Rattle.dwp_base.proofs.KindsRead.{read-kind}
-use Rattle.thorin_join.proofs.Steps.{kept}
 use Rattle.dwp_base.specs.declared.section.SectionKind.TheVariants.{Info, Types, Abbrev}
-use Rattle.thorin_packaged.specs.RowPlaces.{row_by_place}
-use Rattle.thorin_input.specs.Adjusting.{Adjustor, own_index, row_of, part_by_row, adjusted}
+use Rattle.thorin_input.specs.Adjusting.{Adjustor, own_index, part_by_row, adjusted, row_of}
 use Rattle.thorin_input.specs.Adjusting.{other_index, has_column_for}
 use Rattle.thorin_input.specs.Indexes.{index_for}
 use Rattle.thorin_join.specs.Meaning.{placed_row, pieces_by, part_by, offsets_by, lie_inside}
 use Rattle.thorin_join.specs.Meaning.{meaning_by, unit_meaning, shared_kinds}
-use Rattle.thorin_input.specs.Rows.{whole_row, adjusted_part, unit_part, is_same_row, own_range}
-use Rattle.thorin_join.proofs.Parts.OfPackages.{IsOneOf, RowsRead, parts-first, rows-read}
-use Rattle.thorin_join.proofs.Rows.Ranges.{whole_behind, placed-by, range-none, Lies, Placed}
-use Rattle.thorin_join.proofs.Rows.Ranges.{lies-whole, not-outside, range-some}
+use Rattle.thorin_input.specs.Rows.{whole_row, adjusted_part, unit_part, own_range}
+use Rattle.thorin_join.proofs.Parts.OfPackages.{RowsRead, parts-first, rows-read}
+use Rattle.thorin_join.proofs.Rows.Ranges.{placed-by, range-none, Lies, Placed, lies-whole}
+use Rattle.thorin_join.proofs.Rows.Ranges.{not-outside, range-some}
 use Rattle.thorin_join.proofs.Parts.StringLists.{strings-there}
 use Rattle.thorin_join.proofs.Parts.Appended.{content-with_parts, parts-copied}
 use Rattle.thorin_join.proofs.Parts.OffsetRanges.{empty-alike}
@@ -50,20 +47,6 @@ pub record OwnRow (own : Option Index) (kind : SectionKind) (range : Contributio
   pub there : row_in index number ≡ Ok row
   pub placed : placed_row own kind range ≡ Some row
   pub found : row_of own id ≡ Ok row
-
-same-row : (a b : Option ℕ) → is_same_row a b ≡ true → (n : ℕ) × (a ≡ Some n) × (b ≡ Some n)
-same-row a b h = grind arith
-
-pub own-by : (own : Option Index) (kind : SectionKind) (range : Contribution)
-    (id : ℕ) (row : Ranges)
-    → is_same_row (row_by_place own kind range) (looked_up own id) ≡ true → row_of own id ≡ Ok row
-    → OwnRow own kind range id
-unfolding row_of
-own-by own kind range id row h found = grind arith
-
-pub one-of : (indexes : Indexes) (name : DwarfObject) (index : Index) → index_for indexes name ≡
-    Some index → IsOneOf index indexes
-one-of indexes name index h = grind arith
 
 -- ---- parts that are adjusted
 abbrev pub adjustor : Indexes → SectionKind → Adjustor
@@ -109,13 +92,8 @@ is-unit_row indexes whole name row h =
     let given = λ (kind : SectionKind). unit_part indexes name kind (contribution_to kind whole) in
     let parts = bind-was (read_each given all_kinds) _ row h in
     let part = read-kind given parts.0 None parts.1 in
-    rw (← same-ok {E = ErrorValue} _ row parts.2) (record {
-      encoding = refl;
-      info = sym (same-ok {E = ErrorValue} _ _ (part Info));
-      types = sym (same-ok {E = ErrorValue} _ _ (part Types));
-      parts = λ kind shared. rw (entry-part whole.encoding name (value_of None parts.0) kind shared)
-          (rw shared at (part kind));
-    })
+    let entry = entry-part whole.encoding name (value_of None parts.0) in
+    grind (arith, parts.2, part, part Info, part Types, entry)
 
 -- where the wholes lie
 pub whole-part : (encoding : Encoding) (before parts : Contents) (kind : SectionKind)
@@ -170,10 +148,6 @@ module _ (source : Source) (before parts : Contents) (read : DwarfObject × Unit
   abbrev name : DwarfObject
   name = read.0
 
-  -- what became of the whole of a kind
-  abbrev whole : IndexEntry
-  whole = whole_row source.encoding before parts
-
   -- a kind of which it has a range is shared
   has-shared : (kind : SectionKind) (range : Contribution) → contribution_to kind row ≡ Some range
       → is_shared kind ≡ true
@@ -204,11 +178,7 @@ module _ (source : Source) (before parts : Contents) (read : DwarfObject × Unit
         meaning_is = is ∙ rw (inside, strings.1) refl;
         bytes_are = refl;
         encoding = made.encoding ∙ (whole-else source.encoding before parts).0;
-        lie = record {
-          inside = λ kind range h. rw (content-with_parts kind parts before)
-              ((lies kind (has-shared kind range h)).inside range h);
-          some = λ kind range h. (lies kind (has-shared kind range h)).some range h;
-        };
+        lie = grind (arith, has-shared, lies, content-with_parts);
         shares = record {
           content = λ kind copies. rw (content-with_parts kind parts before)
               ((lies kind (rw copies refl)).part_is ∙ copied kind copies);
@@ -222,9 +192,9 @@ module _ (source : Source) (before parts : Contents) (read : DwarfObject × Unit
   plain-lies : is_package source.indexes ≡ false
       → SharedLie before parts row (λ kind. joined_parts kind parts)
   plain-lies plain kind shared =
-      let is : contribution_to kind whole ≡ contribution_to kind row = same-ok {E = ErrorValue} _ _
-      (sym (adjusted-plain source.indexes name kind (contribution_to kind whole) plain) ∙
-      made.parts kind shared) in
+      let whole = contribution_to kind (whole_row source.encoding before parts) in
+      let is : whole ≡ contribution_to kind row =
+      cc (adjusted-plain source.indexes name kind whole plain, made.parts kind shared) in
       rw (← is, whole-part source.encoding before parts kind shared)
       (lies-whole (content_of kind before) (joined_parts kind parts))
 
@@ -234,29 +204,23 @@ module _ (source : Source) (before parts : Contents) (read : DwarfObject × Unit
     -- it has a row of its own
     own : OwnRow (index_for source.indexes name) read.1.from (own_range read.1.unit)
         (identifier_of name)
-    unfolding row_test
+    unfolding row_test row_of
     own =
-        let found = adjusted-packed source.indexes name packed Abbrev (contribution_to Abbrev whole)
-        (contribution_to Abbrev row) (made.parts Abbrev refl) in
-        own-by _ read.1.from (own_range read.1.unit) (identifier_of name) found.0
-        (kept _ _ _ tt (rw packed at test)).0 found.1
+        let part = made.parts Abbrev refl in
+        let found = adjusted-packed source.indexes name packed Abbrev _ _ part in
+        grind (arith, test, packed, found.1)
 
     each-placed : (kind : SectionKind) → is_shared kind ≡ true → Placed (content_of kind before)
         (joined_parts kind parts) (range_in own.row kind) (contribution_to kind row)
     each-placed kind shared =
-        let front = content_of kind before in
-        let bytes = joined_parts kind parts in
         let adjust = adjustor source.indexes kind in
-        let by = adjusted-packed source.indexes name packed kind (whole_behind front bytes)
-        (contribution_to kind row)
-        (rw (← whole-part source.encoding before parts kind shared) (made.parts kind shared)) in
-        let same = same-ok {E = ErrorValue} by.0 own.row (sym by.1 ∙ own.found) in
-        placed-by front bytes kind (identifier_of name) (range_in own.row kind)
-        (contribution_to kind row) (has_column_for kind (own_index adjust name))
+        let by = adjusted-packed source.indexes name packed kind _ _
+        (rw (whole-part source.encoding before parts kind shared) at (made.parts kind shared)) in
+        let none = range-none own.index own.number own.row kind own.there in
+        placed-by _ _ kind (identifier_of name) _ _ (has_column_for kind (own_index adjust name))
         (has_column_for kind (other_index adjust name)) (range-some own.row kind)
-        (λ none. range-none own.index own.number own.row kind own.there (ap (has_column_for kind)
-        (sym (own-index source.indexes kind name ∙ own.is)) ∙ none))
-        (ap (part_by_row adjust name (whole_behind front bytes)) (sym same) ∙ by.2)
+        (grind (arith, none, own-index source.indexes kind name, own.is))
+        (grind (arith, by.1, by.2, own.found))
 
     -- its string offsets read alike
     packed-reads : (after : List (List ℕ))
@@ -273,12 +237,11 @@ module _ (source : Source) (before parts : Contents) (read : DwarfObject × Unit
         by-range None is = empty-alike source.object.order source.encoding
             (first Str source.object.sections) (data_of final) i
         by-range (Some range) is =
-            let size = reads.size in
             let there = (each-placed StrOffsets refl).within range is in
             let inside : range.offset.0 + range.size
-            ≤ length (first StrOffsets source.object.sections) = omega arith in
+            ≤ length (first StrOffsets source.object.sections) = omega (arith, reads.size) in
             rw (part-inside _ range inside, part-inside _ range there)
-            (reads.rows own.index (one-of source.indexes name own.index own.is) own.number own.row
+            (reads.rows own.index (grind (arith, own.is)) own.number own.row
             range own.there is inside (range-some own.row StrOffsets range is) final table kept i)
 
   -- the ranges of a unit that passed the tests lie behind the contents before

@@ -1,14 +1,13 @@
 -- A unit that is added stands in its row.
 use Rattle.thorin_join.proofs.Terms
-use Terms.{◌+◌, ◌++◌, ◌-◌, ◌<◌, ap, arith, bind-ok, cond, content_of, Contents, Contribution}
-use Terms.{contribution_to, drop-append_seam, DwarfObject, encoding_in, Endianness, false}
-use Terms.{IndexEntry, is-same, is_copied, IsRowOf, IsWhole, kind_at, length, LieInside, List}
-use Terms.{Meaning, ne_eqb, NewUnit, None, range_put, refl, row_at, same-each, same-self, same_kind}
-use Terms.{section, SectionKind, Shares, slice_range, Some, sym, take-length, true≢false, TypeUnit}
-use Terms.{unit_at, UnitSection, with_bytes, ℕ, ◌∙◌, ◌≡◌, ◌⊎◌}
+use Terms.{◌+◌, ◌++◌, ◌<◌, arith, cond, content_of, Contents, Contribution, contribution_to}
+use Terms.{drop-append_seam, DwarfObject, encoding_in, Endianness, false, IndexEntry, is-same}
+use Terms.{is_copied, IsRowOf, IsWhole, kind_at, length, LieInside, List, Meaning, ne_eqb, NewUnit}
+use Terms.{None, range_put, refl, row_at, same-each, same-self, same_kind, SectionKind, Shares}
+use Terms.{slice_range, Some, take-length, TypeUnit, UnitSection, with_bytes, ℕ, ◌∙◌, ◌≡◌, ◌⊎◌}
 use Rattle.thorin_join.proofs.Rows.Stay.{grows-with_bytes, keep-lie, keep-shares}
 use Rattle.thorin_join.proofs.Rows.Ranges.{lies-whole}
-use Rattle.thorin_join.proofs.Parts.Appended.{content-with_bytes, differ}
+use Rattle.thorin_join.proofs.Parts.Appended.{content-with_bytes}
 use Rattle.dwp_base.specs.declared.section.SectionKind.TheVariants as kinds
 use Rattle.dwp_dwarf.specs.declared.unit.UnitSection.TheVariants as places
 use Rattle.dwp_index.specs.Package as index
@@ -27,8 +26,7 @@ pub place-put : (k : SectionKind) (x : List ℕ) (c : Contents) → 0 < length x
 place-put k x c h = rw (ne_eqb (length x) 0 (λ none. absurd (omega arith))) refl
 
 pub own-bytes : (a x : List ℕ) → slice_range (a ++ x) (length a) (length a + length x) ≡ x
-own-bytes a x = let e : length a + length x - length a ≡ length x = omega arith in
-    rw (e, drop-append_seam a x) (take-length x)
+own-bytes a x = grind (arith, drop-append_seam a x, take-length x)
 
 -- the kind of a place is none of those that units share
 pub not-shared : (place : UnitSection) → (is_copied (kind_at place) ≡ false)
@@ -97,21 +95,7 @@ module _ (shared : IndexEntry) (c : Contents) (name : DwarfObject) (x : List ℕ
         let k = kind_at place in
         let there = keep-lie c (with_bytes k x c) shared (grows-with_bytes k x c) lie in
         let own = lies-whole (content_of k c) x in
-        record {
-          inside = λ kind range is. grind (
-            arith,
-            row-part kind,
-            there.inside kind range,
-            own.inside range,
-            content-put k x c,
-          );
-          some = λ kind range is. grind (
-            arith,
-            row-part kind,
-            there.some kind range,
-            own.some range,
-          );
-        }
+        grind (arith, row-part, there.inside, there.some, own.inside, own.some, content-put k x c)
 
     -- a unit whose row shares what belongs to it is the one of its row, once its bytes are added
     pub unit-added : (order : Endianness) (s : List (List ℕ)) (m : DwarfObject × Meaning)
@@ -126,20 +110,13 @@ module _ (shared : IndexEntry) (c : Contents) (name : DwarfObject) (x : List ℕ
           name = row-name place ∙ added.name;
           encoding = grind (arith, added.encoded);
           lie = row-lies added.lie;
-          shares = record {
-            content = λ kind copied. rw (row-other kind (differ (kind_at place) kind (λ e.
-                true≢false (sym copied ∙ ap is_copied (sym e) ∙ (not-shared place).0))))
-                (kept.content kind copied);
-            string = λ final table begins i. rw (row-other kinds.StrOffsets (not-shared place).1)
-                (kept.string final table begins i);
-          };
+          shares = grind (arith, is-same, not-shared place, row-other, kept.content, kept.string);
           owns = record {
             place = place;
             place_is = rw (← added.name) (own-place place can.fits);
             bytes = rw (row-own, content-put (kind_at place) x c)
                 ((lies-whole (content_of (kind_at place) c) x).part_is ∙ added.bytes);
             encoding = can.whole.unit.encoding;
-            header = rw (← added.bytes) (bind-ok (unit_at place (section order x))
-                (can.whole.unit, can.whole.rest) _ can.whole.read);
+            header = grind (arith, added.bytes, can.whole.read);
           };
         }

@@ -23,49 +23,41 @@ EachNew base us = EachRow (LieBehind base) (map (λ u. u.1.row) us)
 added-behind : (source : Source) (before : InProgress) (parts : Contents)
     (ns : News) (rs : Reads) → AreAdded (adding source before parts) ns rs
     → EachNew before.file.contents ns
-added-behind source before parts [] rs are = tt
-added-behind source before parts (n ∷ ns) [] are = absurd are
+added-behind source before parts [] [] are = tt
 added-behind source before parts (n ∷ ns) (r ∷ rs) are =
     let row = is-unit_row source.indexes _ r.0 n.1.row are.0.row in
     let here = row-behind source before.file.contents parts r n.1.row row are.0.tested in
     (here, added-behind source before parts ns rs are.1)
+added-behind source before parts _ _ are = absurd are
 
-record Appended (base : Contents) (rows now : List IndexEntry) : Type 0 where
-  added : List IndexEntry
-  is : now ≡ rows ++ added
-  behind : EachRow (LieBehind base) added
+-- rows that lie behind those before
+abbrev Appended : Contents → (rows now : List IndexEntry) → Type 0
+Appended base rows now =
+    (added : List IndexEntry) × (now ≡ rows ++ added) × EachRow (LieBehind base) added
 
 units-behind : (base : Contents) (p : InProgress) (us : News) → Grows base p.file.contents
     → EachNew base us → Appended base p.rows (with_new_units p us).rows
 units-behind base = each-unit (λ p us now. Grows base p.file.contents → EachNew base us
     → Appended base p.rows now.rows)
-    (λ p grows all. record { added = []; is = sym (append-nil p.rows); behind = tt })
+    (λ p grows all. ([], sym (append-nil p.rows), tt))
     (λ p u us now later grows all. later grows all.1)
     (λ p u us now later grows all. let c = p.file.contents in
     let more = later (grows-trans base c (with_unit_added p u).file.contents grows
     (grows-with_bytes (kind_at u.1.place) u.1.bytes c)) all.1 in
     let row = row_at u.1.row c u.0 u.1.bytes u.1.place in
     let own = (lies-whole (content_of (kind_at u.1.place) c) u.1.bytes).behind in
-    let here : LieBehind base row = λ kind range is. grind (
-      arith,
-      all.0 kind range,
-      own range,
-      front-long (grows kind),
-      row-part u.1.row c u.0 u.1.bytes u.1.place kind,
-    ) in
-    record {
-      added = row ∷ more.added;
-      is = more.is ∙ append_assoc p.rows (row ∷ []) more.added;
-      behind = (here, more.behind);
-    })
+    let part = row-part u.1.row c u.0 u.1.bytes u.1.place in
+    let here : LieBehind base row = λ kind range is.
+    grind (arith, all.0 kind range, own range, front-long (grows kind), part kind) in
+    (row ∷ more.0, more.1 ∙ append_assoc p.rows (row ∷ []) more.0, (here, more.2)))
 
 -- ---- an input
 each-inside : (order : Endianness) (c : Contents) (strings : List (List ℕ)) (rows : List IndexEntry)
     (ms : Members) → AreRowsOf order c strings rows ms → EachRow (LieInside c) rows
-each-inside order c strings [] ms are = tt
-each-inside order c strings (r ∷ rs) [] are = absurd are
+each-inside order c strings [] [] are = tt
 each-inside order c strings (r ∷ rs) (m ∷ ms) are =
     (are.0.lie, each-inside order c strings rs ms are.1)
+each-inside order c strings _ _ are = absurd are
 
 pub sound-inside : (made : InProgress) → IsSound made
     → EachRow (LieInside made.file.contents) made.rows
@@ -89,13 +81,12 @@ stand-apart bytes begun now sound fine h =
           (units-behind c _ m.new.units (grows-with_parts m.parts c) (added-behind u.1.source before
           m.parts m.new.units _ (units-joined (adding u.1.source before m.parts) m.new
           m.new_are).are))
-      | inr n ↦ subst from (same_Some _ _ n.1)
-          (record { added = []; is = sym (append-nil before.rows); behind = tt })
+      | inr n ↦ subst from (same_Some _ _ n.1) ([], sym (append-nil before.rows), tt)
     ] in
     record {
-      added = a.added;
-      rows = rw (← rows) a.is;
+      added = a.0;
+      rows = rw (← rows) a.1;
       first = rw (← contents, ← rows) (sound-inside before (new-sound t.file begun sound));
-      behind = rw (← contents) a.behind;
+      behind = rw (← contents) a.2;
       inside = sound-inside now fine;
     }

@@ -3,9 +3,9 @@ use Rattle.thorin_join.proofs.Terms
 use Terms.{◌+◌, ◌++◌, ◌-◌, [], ap, append-nil, append_assoc, AreRowsOf, arith, by-bool, content_of}
 use Terms.{Contents, Contribution, contribution_to, data_of, drop, drop-append-le, DwarfObject}
 use Terms.{Endianness, HasFront, IndexEntry, IsRowOf, kind_at, le-leb, length, length-append}
-use Terms.{length-drop, LieInside, List, Meaning, Option, Owns, part_of, refl, same_kind}
-use Terms.{SectionKind, Shares, slice_range, Some, string_in, StrOffsets, sym, take, take-append-le}
-use Terms.{with_bytes, ℕ, ◌∙◌, ◌∷◌, ◌≡◌, ◌≤◌}
+use Terms.{length-drop, LieInside, List, Meaning, Owns, part_of, refl, same_kind, SectionKind}
+use Terms.{Shares, slice_range, Some, string_in, StrOffsets, sym, take, take-append-le, with_bytes}
+use Terms.{ℕ, ◌∙◌, ◌∷◌, ◌≡◌, ◌≤◌}
 use Rattle.thorin_join.proofs.Parts.Appended.{content-with_bytes}
 use Rattle.thorin_join.proofs.Parts.Strings.{front-front}
 
@@ -39,24 +39,18 @@ pub part-inside : (a : List ℕ) (range : Contribution) → range.offset.0 + ran
     → part_of a (Some range) ≡ slice_range a range.offset.0 (range.offset.0 + range.size)
 part-inside a range h = rw (le-leb _ _ h) refl
 
-part-kept : (a b : List ℕ) (part : Option Contribution) → HasFront a b → ((range : Contribution)
-    → part ≡ Some range → range.offset.0 + range.size ≤ length a) → part_of b part ≡ part_of a part
-part-kept a b part front inside =
-    grind (arith, inside, front-long front, part-inside, range-front a front.rest)
-
 -- the part of a row
 pub keep-part : (c d : Contents) (row : IndexEntry) → Grows c d → LieInside c row
     → (kind : SectionKind)
     → part_of (content_of kind d) (contribution_to kind row) ≡ part_of (content_of kind c)
     (contribution_to kind row)
-keep-part c d row grows lie kind = part-kept (content_of kind c) (content_of kind d)
-    (contribution_to kind row) (grows kind) (lie.inside kind)
+keep-part c d row grows lie kind = let front = grows kind in
+    let same = range-front (content_of kind c) front.rest in
+    grind (arith, lie.inside kind, front.is, front-long front, part-inside, same)
 
 pub keep-lie : (c d : Contents) (row : IndexEntry) → Grows c d → LieInside c row → LieInside d row
-keep-lie c d row grows lie = record {
-  inside = λ kind range is. omega (arith, front-long (grows kind), lie.inside kind range is);
-  some = lie.some;
-}
+keep-lie c d row grows lie =
+    grind (arith, lie.inside, lie.some, λ (kind : SectionKind). front-long (grows kind))
 
 pub keep-shares : (order : Endianness) (c d : Contents) (s t : List (List ℕ)) (row : IndexEntry)
     (unit : Meaning) → Grows c d → take (length s) t ≡ s → LieInside c row
@@ -74,13 +68,8 @@ pub keep-rows : (order : Endianness) (c d : Contents) (s t : List (List ℕ)) (r
 keep-rows order c d s t [] [] grows longer are = tt
 keep-rows order c d s t (r ∷ rs) (m ∷ ms) grows longer are =
     let is = are.0 in
-    let owns : Owns order d m.0 r m.1 = record {
-      place = is.owns.place;
-      place_is = is.owns.place_is;
-      bytes = keep-part c d r grows is.lie (kind_at is.owns.place) ∙ is.owns.bytes;
-      encoding = is.owns.encoding;
-      header = is.owns.header;
-    } in
+    let bytes = keep-part c d r grows is.lie (kind_at is.owns.place) ∙ is.owns.bytes in
+    let owns : Owns order d m.0 r m.1 = grind (arith, bytes) in
     let shares = keep-shares order c d s t r m.1 grows longer is.lie is.shares in
     let lie = keep-lie c d r grows is.lie in
     (assumption (owns, shares, lie), keep-rows order c d s t rs ms grows longer are.1)

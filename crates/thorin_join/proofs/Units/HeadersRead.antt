@@ -1,15 +1,10 @@
 -- The names and the headers of units that are read, and what holds of each of them.
 use Rattle.thorin_join.proofs.Terms
-use Terms.{◌++◌, [], All-append, ap, arith, bind-was, DwarfObject, Each, encoding_in, Endianness}
-use Terms.{Err, ErrorValue, Header, identity, Input, joining, kind_at, List, name_for, NewUnit}
-use Terms.{None, Ok, Option, ReadError, refl, Result, same-ok, section, SectionKind, slice_get}
-use Terms.{Some, Source, subst, suc, unit_section, unit_taken, UnitRead, units, UnitSection, Used}
-use Terms.{ℕ, ◌∙◌, ◌∷◌, ◌≡◌}
-use Rattle.dwp_dwarf.specs.Units.{unit_bytes}
-use Rattle.dwp_index.proofs.TwoPlaces.{units_alone}
+use Terms.{◌++◌, [], All-append, arith, DwarfObject, Each, Header, identity, Input, joining}
+use Terms.{kind_at, List, name_for, NewUnit, None, Ok, Option, ReadError, refl, Result, section}
+use Terms.{SectionKind, slice_get, Some, Source, suc, unit_section, UnitRead, units, UnitSection}
+use Terms.{Used, ℕ, ◌∷◌, ◌≡◌}
 use Rattle.thorin_join.specs.Meaning.{named_unit, named_each, named_at, named_sections}
-use Rattle.dwp_base.specs.declared.section.SectionKind.TheVariants as kinds
-use Rattle.dwp_dwarf.specs.declared.unit.UnitSection.TheVariants as places
 
 abbrev pub Listed : Type 0
 Listed = List (Result Header ReadError)
@@ -22,12 +17,6 @@ News = List (DwarfObject × NewUnit)
 
 -- ---- the units of an object
 
--- a unit is read from its own bytes alone
-pub read-alone : (order : Endianness) (place : UnitSection) (bytes : List ℕ) (k : ℕ)
-    (unit : Header) → slice_get (units place (section order bytes)) k ≡ Some (Ok unit)
-    → encoding_in order place (unit_bytes unit) ≡ Ok unit.encoding
-read-alone order place bytes k unit = units_alone unit_taken order place unit bytes k
-
 -- what holds of none, and with one more that was read and named before others, holds of those of a
 -- section
 pub each-named : (source : Source) (kind : SectionKind) (P : Listed → Reads → Type 0) → P [] []
@@ -36,16 +25,9 @@ pub each-named : (source : Source) (kind : SectionKind) (P : Listed → Reads �
     → P (Ok unit ∷ reads) ((name, record { from = kind; unit = unit }) ∷ us))
     → (reads : Listed) (us : Reads) → named_each source kind reads ≡ Ok us → P reads us
 unfolding named_each named_unit
-each-named source kind P none more [] us h =
-    subst (P []) (same-ok {E = ErrorValue} [] us h) none
-each-named source kind P none more (Err e ∷ rest) us h = absurd cc
-each-named source kind P none more (Ok unit ∷ rest) us h =
-    let a = bind-was (named_unit source kind (Ok unit)) _ us h in
-    let b = bind-was (named_each source kind rest) _ us a.2 in
-    let name = bind-was (name_for source kind unit) _ a.0 a.1 in
-    let is = ap (λ u. u ∷ b.0) (same-ok {E = ErrorValue} _ a.0 name.2) in
-    subst (P (Ok unit ∷ rest)) (is ∙ same-ok {E = ErrorValue} _ us b.2)
-    (more unit name.0 rest b.0 name.1 (each-named source kind P none more rest b.0 b.1))
+each-named source kind P none more [] us h = grind (arith, none)
+each-named source kind P none more (read ∷ rest) us h =
+    grind (arith, more, each-named source kind P none more rest)
 
 pub kind-place : (kind : SectionKind) (place : UnitSection) → unit_section kind ≡ Some place
     → kind ≡ kind_at place
@@ -89,8 +71,7 @@ module _ (source : Source) (T : UnitSection → Header → Type 0) where
   section-are : (used : Used) → AllSo used → (place : Option UnitSection)
       → unit_section used.kind ≡ place → (us : Reads) → named_at source used place ≡ Ok us
       → Each (WasRead source T) us
-  section-are used so None at us h =
-      subst (Each (WasRead source T)) (same-ok {E = ErrorValue} [] us h) tt
+  section-are used so None at us h = grind arith
   section-are used so (Some place) at us h =
       each-named source used.kind (λ reads us. ((k : ℕ) (unit : Header)
       → slice_get reads k ≡ Some (Ok unit) → T place unit) → Each (WasRead source T) us) (λ _. tt)
@@ -107,12 +88,8 @@ module _ (source : Source) (T : UnitSection → Header → Type 0) where
   pub sections-are : (sections : List Used) (us : Reads) → Each AllSo sections
       → named_sections source sections ≡ Ok us → Each (WasRead source T) us
   unfolding named_sections
-  sections-are [] us so h =
-      subst (Each (WasRead source T)) (same-ok {E = ErrorValue} [] us h) tt
+  sections-are [] us so h = grind arith
   sections-are (used ∷ rest) us so h =
-      let a = bind-was (named_at source used (unit_section used.kind)) _ us h in
-      let b = bind-was (named_sections source rest) _ us a.2 in
-      subst (Each (WasRead source T)) (same-ok {E = ErrorValue} (a.0 ++ b.0) us b.2)
-      (All-append (WasRead source T) a.0 b.0
-      (section-are used so.0 (unit_section used.kind) refl a.0 a.1)
-      (sections-are rest b.0 so.1 b.1))
+      let here = section-are used so.0 (unit_section used.kind) refl in
+      let there = λ (others : Reads). sections-are rest others so.1 in
+      grind (arith, All-append (WasRead source T), here, there)

@@ -1,8 +1,8 @@
 -- The units that a package represents are those that stand in the ranges of its rows.
 use Rattle.thorin_join.proofs.Terms
-use Terms.{[], ap, AreRowsOf, content_of, Contents, contribution_to, data_of, DwarfObject}
+use Terms.{[], ap, AreRowsOf, arith, content_of, Contents, contribution_to, data_of, DwarfObject}
 use Terms.{Endianness, IndexEntry, InProgress, is_copied, IsRowOf, IsTable, keys, List, map}
-use Terms.{Meaning, meaning_at, Members, Ok, part_of, place_of, refl, Represents, result_unwrap_or}
+use Terms.{Meaning, meaning_at, Members, Ok, part_of, refl, Represents, result_unwrap_or}
 use Terms.{SectionKind, strings_of, StrOffsets, sym, take-length, true, units_of, ℕ, ◌∷◌, ◌≡◌}
 use Rattle.thorin_join.specs.State.{names_of, unit_bytes}
 use Rattle.thorin_join.specs.Meaning.{pieces_by, Pieces}
@@ -18,9 +18,7 @@ module _ (order : Endianness) (contents : Contents) (strings : List (List ℕ))
   module _ (row : IndexEntry) (member : DwarfObject × Meaning) (is : IsRowOf order contents strings
       row member) where
     bytes-are : member.1.bytes ≡ unit_bytes contents row
-    bytes-are = let place : place_of row.id row.debug_types ≡ is.owns.place =
-        rw is.name (sym is.owns.place_is) in
-        rw place (sym is.owns.bytes)
+    bytes-are = grind (arith, is.owns.place_is, is.owns.bytes)
 
     strings-found : strings_of order row.encoding (data_of strings)
         (part_of (content_of StrOffsets contents) (contribution_to StrOffsets row)) ≡ Ok

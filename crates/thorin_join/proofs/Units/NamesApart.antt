@@ -1,14 +1,12 @@
 -- Names of units that are apart: no two places have one name.
 use Rattle.thorin_join.proofs.Terms
-use Terms.{◌++◌, ◌<◌, [], All, AllPairs, ap, append-nil, append_assoc, AreApart, AreDistinct, arith}
-use Terms.{Bool, by-bool, cases_order, DwarfObject, entry_ids, false, false_from_ne_true}
-use Terms.{filter_passes, get_or, identifier_of, IndexEntry, inl, inr, is_chosen, is_compilation}
-use Terms.{joining, length, length-map, List, list_any, list_any_at, map, rows_of, same_name, sym}
-use Terms.{true, true≢false, ℕ, ◌∙◌, ◌∷◌, ◌≡◌}
+use Terms.{◌++◌, [], All, AllPairs, append-nil, append_assoc, AreApart, AreDistinct, arith, Bool}
+use Terms.{DwarfObject, entry_ids, false, filter_passes, identifier_of, IndexEntry, is_chosen}
+use Terms.{is_compilation, joining, length-map, List, list_any, list_any_at, map, rows_of}
+use Terms.{same_name, true, ◌∷◌, ◌≡◌}
 use Rattle.std.proofs.lemmas.List.Kept.{AllPairs-filter}
 use Rattle.std.proofs.lemmas.List.Quantifiers.{all_pairs_push}
 use Rattle.std.proofs.lemmas.List.{get_or-map as get_or-at}
-use Rattle.std.proofs.Math.ListN.{get_or-map}
 
 -- one name is the other
 
@@ -24,8 +22,7 @@ same_name-sym a b h = grind arith
 pub apart-more : (names : List DwarfObject) (name : DwarfObject) → AreApart names
     → list_any (same_name name) names ≡ false → AreApart (names ++ name ∷ [])
 apart-more names name h e = all_pairs_push (λ a b. same_name a b ≡ false) names name h
-    (λ k d within. false_from_ne_true _ (λ same. true≢false (sym (list_any_at (same_name name) names
-    k d within (same_name-sym (get_or names k d) name same)) ∙ e)))
+    (λ k d within. grind (arith, list_any_at (same_name name) names k d within, same_name-sym))
 
 pub apart-none : AreApart []
 apart-none i j d before within = absurd (omega arith)
@@ -35,10 +32,9 @@ pub joined_distinct : {X : Type 0} (names : List DwarfObject) (all : List (Dwarf
     → AreApart names → AreApart (names ++ map (λ u. u.0) (joining names all))
 joined_distinct names [] h = rw (append-nil names) h
 joined_distinct names (u ∷ rest) h =
-    by-bool _ (list_any (same_name u.0) names)
-    (λ there. rw there (joined_distinct names rest h))
-    (λ new. rw new (rw append_assoc at
-    (joined_distinct (names ++ u.0 ∷ []) rest (apart-more names u.0 h new))))
+    let new = λ (n : list_any (same_name u.0) names ≡ false). rw append_assoc at
+    (joined_distinct (names ++ u.0 ∷ []) rest (apart-more names u.0 h n)) in
+    grind (arith, joined_distinct names rest h, new)
 
 -- two rows of one kind with one identifier have one name
 
@@ -56,20 +52,9 @@ chosen-distinct : (b : Bool) (rows : List IndexEntry) → All (λ r. is_chosen b
 chosen-distinct b [] chosen apart i j hi hj h = absurd (omega arith)
 chosen-distinct b (d ∷ rest) chosen apart i j hi hj h =
     let long = length-map rest (λ (r : IndexEntry). identifier_of r.id) in
-    elim (cases_order i j) [
-      | inr (inl before) ↦ absurd (differ i j before (omega (arith, long)) h)
-      | inl same ↦ same
-      | inr (inr after) ↦ absurd (differ j i after (omega (arith, long)) (sym h))
-    ]
-  where
-    differ : (i j : ℕ) → i < j → j < length (d ∷ rest) → get_or (entry_ids (d ∷ rest)) i 0 ≡ get_or
-        (entry_ids (d ∷ rest)) j 0 → ⊥
-    differ i j before within h =
-        let id = get_or-at (λ r. identifier_of r.id) (d ∷ rest) in
-        let sort = chosen-sort b (get_or (d ∷ rest) i d) (chosen i d (omega arith))
-        ∙ sym (chosen-sort b (get_or (d ∷ rest) j d) (chosen j d within)) in
-        true≢false (sym (same-sort (get_or (d ∷ rest) i d).id (get_or (d ∷ rest) j d).id sort
-        (sym (id i d 0 (omega arith)) ∙ h ∙ id j d 0 within)) ∙ apart i j d before within)
+    let at = get_or-at (λ (r : IndexEntry). identifier_of r.id) (d ∷ rest) in
+    let sort = chosen-sort b in
+    grind (arith, long, at i d 0, at j d 0, chosen, sort, same-sort, apart i j d, apart j i d)
 
 -- rows whose names are apart: those of one kind have distinct identifiers
 pub distinct_chosen : (b : Bool) (rows : List IndexEntry) (names : List DwarfObject)
@@ -77,6 +62,6 @@ pub distinct_chosen : (b : Bool) (rows : List IndexEntry) (names : List DwarfObj
 distinct_chosen b rows names h apart =
     chosen-distinct b (rows_of b rows) (filter_passes (is_chosen b) rows)
     (AllPairs-filter (λ r s. same_name r.id s.id ≡ false) (is_chosen b) rows
-    (λ i j d before within. let at = get_or-map (λ r. r.id) rows in
+    (λ i j d before within. let at = get_or-at (λ (r : IndexEntry). r.id) rows in
     let long = length-map rows (λ (r : IndexEntry). r.id) in
-    rw (← h, at i d, at j d) at (apart i j d.id before (omega (arith, long, ap length h)))))
+    grind (arith, h, long, at i d d.id, at j d d.id, apart i j d.id)))

@@ -1,12 +1,10 @@
 -- The units of an input are read one after another, and each is added to what those before it gave.
 use Rattle.thorin_join.proofs.Terms
-use Terms.{◌++◌, [], Adding, arith, as_error, bind-ok, bind-was, DwarfObject, ErrorValue}
-use Terms.{kept_bytes, List, name_for, New, new_units, None, Ok, Option, ParseUnitHeader, refl}
-use Terms.{Result, same-ok, section, Some, source_units, unit_section, UnitRead, units, UnitSection}
-use Terms.{Used, with_unit, ◌∙◌, ◌∷◌, ◌≡◌}
-use Rattle.thorin_input.specs.NewUnits.{Met, with_read, with_each_read, none_met, once_test}
-use Rattle.thorin_input.specs.NewUnits.{with_section_at, with_section_in, with_section}
-use Rattle.thorin_input.specs.NewUnits.{with_each_section}
+use Terms.{◌++◌, [], Adding, arith, as_error, bind-was, DwarfObject, ErrorValue, kept_bytes, List}
+use Terms.{name_for, New, new_units, Ok, Option, ParseUnitHeader, refl, Result, same-ok}
+use Terms.{source_units, unit_section, UnitRead, UnitSection, Used, with_unit, ◌∷◌, ◌≡◌}
+use Rattle.thorin_input.specs.NewUnits.{Met, with_read, with_each_read, none_met, with_section_at}
+use Rattle.thorin_input.specs.NewUnits.{with_section_in, with_section, with_each_section}
 use Rattle.thorin_join.specs.Meaning.{named_unit, named_each, named_at, named_sections}
 use Rattle.thorin_join.proofs.Units.HeadersRead.{Listed, Reads}
 
@@ -55,13 +53,7 @@ module _ (adding : Adding) where
       → with_section_in adding from place before ≡ Ok after
       → AreRead before.1 after.1 (named_at adding.source from place)
   unfolding with_section_at
-  section-read from None before after h =
-      rw (← same-ok _ after h) (record { all = []; is = refl; steps = refl })
-  section-read from (Some place) before after h =
-      let reads = units place (section adding.source.object.order from.bytes) in
-      let s1 = bind-was (once_test adding place before.0) _ after h in
-      let s2 = bind-was (with_each_read adding from before.1 reads) _ after s1.2 in
-      rw (← same-ok _ after s2.2) (each-read from before.1 s2.0 reads s2.1)
+  section-read from place before after h = grind (arith, each-read from before.1)
 
   sections-read : (before after : Met × New) (sections : List Used)
       → with_each_section adding before sections ≡ Ok after
@@ -73,17 +65,11 @@ module _ (adding : Adding) where
       let here = bind-was (with_section adding before from) _ after h in
       let one = section-read from (unit_section from.kind) before here.0 here.1 in
       let others = sections-read here.0 after rest here.2 in
-      record {
-        all = one.all ++ others.all;
-        is = bind-ok _ _ _ one.is ∙ bind-ok _ _ _ others.is;
-        steps = steps-append before.1 here.0.1 after.1 one.all others.all one.steps others.steps;
-      }
+      grind (arith, one.is, others.is, one.steps, others.steps, steps-append)
 
   -- all units of an input
   pub units-read : (new : New) → new_units adding ≡ Ok new
       → AreRead (record { units = []; differing = [] }) new (source_units adding.source)
   unfolding new_units
   units-read new h =
-      let start : Met × New = (none_met, record { units = []; differing = [] }) in
-      let s = bind-was (with_each_section adding start adding.source.object.sections) _ new h in
-      rw (← same-ok _ new s.2) (sections-read start s.0 adding.source.object.sections s.1)
+      grind (arith, sections-read (none_met, record { units = []; differing = [] }))
