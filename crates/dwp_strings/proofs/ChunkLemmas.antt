@@ -1,10 +1,10 @@
 -- A list cut into pieces: where each begins, what a rank finds, and how the whole changes with
 -- them. No piece is long: it is cut in its middle before it would be.
 use Rattle.dwp_strings.proofs.Terms
-use Terms.{◌+◌, ◌++◌, ◌-◌, ◌/◌, ◌<◌, [], add-one, All-cons, All-permutation, ap, append_assoc}
-use Terms.{arith, Bool, concat, concat-append, drop, filter, get_or, get_or-map, get_or_default}
-use Terms.{insert, IsChunked, IsPermutation-insert, IsPieceOf, length, length-append, List, map}
-use Terms.{refl, set, split_at, suc, sym, take, zero, ℕ, ◌∙◌, ◌∷◌, ◌≡◌, ◌≤◌, ◌⊎◌}
+use Terms.{[], add-one, All-cons, All-permutation, ap, append_assoc, arith, Bool, concat}
+use Terms.{concat-append, drop, filter, get_or, get_or-map, get_or_default, insert, IsChunked}
+use Terms.{IsPermutation-insert, IsPieceOf, length, length-append, List, map, refl, set, split_at}
+use Terms.{suc, sym, take, zero, ℕ, ◌++◌, ◌+◌, ◌-◌, ◌/◌, ◌<◌, ◌∙◌, ◌∷◌, ◌≡◌, ◌≤◌, ◌⊎◌}
 use Rattle.std.proofs.lemmas.List.{append-nil, get_or_append_left, get_or-append_right, set_split}
 use Rattle.std.proofs.lemmas.List.{ext_get_or, map_more, take_more_set, take_all, take_more}
 use Rattle.std.proofs.lemmas.List.{take-append-drop, drop_all, length-take, length-drop, length-set}
@@ -95,24 +95,13 @@ module _ (ps : List (List ℕ)) (starts : List ℕ) (rank at start : ℕ)
       let there : at < length ps = grind (arith, piece.there, length-starts_from) in
       let begins : start ≡ length (concat (take at ps)) = grind (arith, start_at 0 ps at there) in
       let low : start ≤ rank = grind (arith, piece.low) in
+      let long = length-concat-take ps at there in
+      let next = start_at 0 ps (at + 1) in
       let last : (rank < start + length (get_or ps at []))
-      ⊎ (length (concat ps) ≡ start + length (get_or ps at [])) = grind (
-        arith,
-        length-concat-take ps at there,
-        start_at 0 ps (at + 1),
-        piece.high,
-        length-starts_from,
-        take_all,
-      ) in
-      record {
-        there = there;
-        begins = begins;
-        low = low;
-        high = omega (arith, last);
-        inside = omega (arith, last);
-        got = λ more.
-            grind (arith, last, concat_around ps at, get_or-append_right, get_or_append_left);
-      }
+      ⊎ (length (concat ps) ≡ start + length (get_or ps at [])) =
+      grind (arith, long, next, piece.high, length-starts_from, take_all) in
+      let around = concat_around ps at there in
+      grind (arith, last, around, get_or-append_right, get_or_append_left)
 
   -- the chunks once one stands there
   pub chunk_inserted : (qs : List (List ℕ)) (new : List ℕ) (count v : ℕ)
@@ -131,9 +120,8 @@ module _ (ps : List (List ℕ)) (starts : List ℕ) (rank at start : ℕ)
       ) in (
         whole,
         record {
-          begun = rw (raise, put, begun, add-one at)
-              (sym (starts_grown 0 ps at _ placed.there longer));
-          counted = omega (arith, ap length whole, length-insert (concat ps) rank v within);
+          begun = grind (arith, starts_grown 0 ps at _ placed.there longer);
+          counted = grind (arith, whole, length-insert (concat ps) rank v);
           short = rw put (All-set (λ p. length p ≤ 1024) ps at _ (omega (arith, longer)) short);
         },
       )
@@ -201,11 +189,8 @@ module _ (f : List ℕ → List ℕ) (ps now : List (List ℕ)) (starts : List �
     kept_all = grind (arith, so_far.kept, so_far.long, kept_long, done, drop_all, append-nil)
 
     pub chunked_all : AreShort (map f ps) → IsChunked now starts total
-    chunked_all short = rw kept_all (record {
-      begun = rw done at (sym (take_all at starts past) ∙ so_far.begun);
-      counted = rw done at so_far.counted;
-      short = short;
-    })
+    chunked_all short = rw kept_all
+        (grind (arith, done, take_all at starts past, so_far.begun, so_far.counted))
 
 -- a piece cut in two
 concat_cut : (ps : List (List ℕ)) (k : ℕ) (front back : List ℕ) → k < length ps
@@ -254,16 +239,11 @@ module _ (ps qs : List (List ℕ)) (at : ℕ) (within : at < length ps)
   halves_room short =
       let front = set ps at (take half (get_or ps at [])) in
       let back = drop half (get_or ps at []) in
-      rw (halved, add-one at) (grind (
-        arith,
-        short at [] within,
-        get_or-insert_below front (suc at) back [] at,
-        get_or-insert_at front (suc at) back [],
-        get_or-set_at,
-        length-set,
-        length-take,
-        length-drop,
-      ))
+      let first = get_or-insert_below front (suc at) back [] at in
+      let second = get_or-insert_at front (suc at) back [] in
+      let lengths = short at [] within in
+      rw (halved, add-one at)
+      (grind (arith, lengths, first, second, get_or-set_at, length-set, length-take, length-drop))
 
   pub in_half : (starts new : List ℕ) (rank : ℕ) → starts ≡ starts_from 0 ps
       → IsPieceOf starts rank at → new ≡ starts_from 0 qs → IsInHalf new rank at
@@ -272,15 +252,6 @@ module _ (ps qs : List (List ℕ)) (at : ℕ) (within : at < length ps)
       grind (arith, halves_begun, length-insert, length-starts_from) in
       record {
         there = omega (arith, piece.there);
-        first = λ less. record {
-          there = omega (arith, piece.there);
-          low = grind (arith, halves_begun, get_or-insert_below, piece.low, length-starts_from);
-          high = λ _. less;
-        };
-        second = λ more. record {
-          there = omega (arith, piece.there);
-          low = more;
-          high = λ next.
-              grind (arith, halves_begun, get_or-insert_above, piece.high, length-starts_from);
-        };
+        first = λ less. grind (arith, halves_begun, get_or-insert_below, length-starts_from);
+        second = λ more. grind (arith, halves_begun, get_or-insert_above, length-starts_from);
       }

@@ -1,10 +1,10 @@
 -- Comparing the string at a place with another one, without looking for its end: by as many bytes
 -- as the other has, and whether a zero follows them. Halving a sorted list of positions.
 use Rattle.dwp_strings.proofs.Terms
-use Terms.{◌+◌, ◌-◌, ◌/◌, ◌<◌, [], ◌^◌, All-head, All-tail, AllPairs, arith, before_first, cases_lt}
-use Terms.{cond, drop, eqb, Equal, exact_bytes, get_or, Greater, IsBefore, IsZeroFree, length, Less}
-use Terms.{List, nat_cmp_is, nat_list_cmp_total, nat_tests, not, Ordering, ranked, string_from, sym}
-use Terms.{take, take_rest, tied_itself, ℕ, ◌↔◌, ◌∙◌, ◌∷◌, ◌≡◌, ◌≢◌, ◌≤◌}
+use Terms.{[], All-head, All-tail, AllPairs, arith, before_first, cases_lt, cond, drop, eqb, Equal}
+use Terms.{exact_bytes, get_or, Greater, IsBefore, IsZeroFree, length, Less, List, nat_cmp_is}
+use Terms.{nat_list_cmp_total, nat_tests, not, Ordering, string_from, sym, take, take_rest}
+use Terms.{tied_itself, ℕ, ◌+◌, ◌-◌, ◌/◌, ◌<◌, ◌^◌, ◌↔◌, ◌∷◌, ◌≡◌, ◌≢◌, ◌≤◌}
 use Rattle.std.specs.Ordering.{nat_cmp, ordering_then}
 use Rattle.std.specs.Cmp.Lexicographic.{slice_cmp}
 use Rattle.std.proofs.lemmas.List.{take_all, get_or_past}
@@ -25,10 +25,6 @@ then-assoc a b c = grind arith
 
 both_equal : (a b : Ordering) → ordering_then a b ≡ Equal → (a ≡ Equal) × (b ≡ Equal)
 both_equal a b h = grind arith
-
--- the first bytes decide where they differ
-pub first_decides : (a b : Ordering) → (a ≡ Equal → ⊥) → a ≡ ordering_then a b
-first_decides a b other = grind arith
 
 -- how as many bytes as a string has, and what follows them, stand to it and a zero
 abbrev pub beside : List ℕ → List ℕ → Ordering
@@ -58,18 +54,17 @@ module _ (bytes : List ℕ) (at : ℕ) (s : List ℕ) (free : IsZeroFree s) wher
   -- where no more bytes are left
   pub compared_short : length rest ≤ length s
       → slice_cmp nat_cmp rest s ≡ slice_cmp nat_cmp (string_from bytes at) s
-  compared_short short =
-      grind (arith, compared_at, take_all (length s) rest, get_or_past rest (length s) 0 short)
+  compared_short short = grind (arith, compared_at, take_all, get_or_past)
 
   -- whether it is the same one
   pub alike_at : ((take (length s) rest ≡ s) × (get_or rest (length s) 0 ≡ 0))
       ↔ (string_from bytes at ≡ s)
-  alike_at = (
-    λ both. exact_bytes _ s (grind (arith, compared_at, tied_itself nat_list_cmp_total s)),
-    λ same.
-        let both = both_equal _ _ (compared_at ∙ rw same (tied_itself nat_list_cmp_total s)) in
-        (exact_bytes _ s both.0, ranked (get_or rest (length s) 0) 0 Equal (sym both.1)),
-  )
+  alike_at =
+      let own = tied_itself nat_list_cmp_total s in
+      let last = nat_cmp_is (get_or rest (length s) 0) 0 Equal in (
+        λ both. exact_bytes _ s (grind (arith, compared_at, own)),
+        λ same. grind (arith, nat_tests, both_equal, compared_at, exact_bytes, own, last),
+      )
 
 -- a window of a search after so many steps, in a list of n: each step took off a digit
 abbrev pub IsHalved : ℕ → ℕ → ℕ → Type 0
@@ -85,20 +80,16 @@ module _ (bytes positions s : List ℕ) (m : ℕ) (sorted : AllPairs (λ p q.
   -- what lies before a string that comes before another comes before that too
   pub before_more : m < length positions → IsBefore (string_from bytes (get_or positions m 0)) s
       → (k : ℕ) → k < m + 1 → IsBefore (string_from bytes (get_or positions k 0)) s
-  before_more within less = λ k below. grind (
-    arith,
-    sorted k m 0,
-    nat_list_cmp_total.trans (string_from bytes (get_or positions k 0))
-        (string_from bytes (get_or positions m 0)) s,
-  )
+  before_more within less = λ k below.
+      let middle = string_from bytes (get_or positions m 0) in
+      let next = nat_list_cmp_total.trans (string_from bytes (get_or positions k 0)) middle s in
+      grind (arith, sorted k m 0, next)
 
   pub behind_more : slice_cmp nat_cmp (string_from bytes (get_or positions m 0)) s ≡ Greater
       → (k : ℕ) → m ≤ k → k < length positions
       → IsBefore s (string_from bytes (get_or positions k 0))
-  behind_more greater = λ k above within. grind (
-    arith,
-    sorted m k 0,
-    nat_list_cmp_total.antisymm s (string_from bytes (get_or positions m 0)),
-    nat_list_cmp_total.trans s (string_from bytes (get_or positions m 0))
-        (string_from bytes (get_or positions k 0)),
-  )
+  behind_more greater = λ k above within.
+      let middle = string_from bytes (get_or positions m 0) in
+      let before = nat_list_cmp_total.antisymm s middle in
+      let next = nat_list_cmp_total.trans s middle (string_from bytes (get_or positions k 0)) in
+      grind (arith, sorted m k 0, before, next)

@@ -1,7 +1,7 @@
 -- The hash of a string, made of blocks of sixteen bytes.
 use Rattle.dwp_strings.proofs.Terms
-use Terms.{◌%◌, ◌*◌, ◌+◌, ◌-◌, ◌/◌, ◌<◌, ◌^◌, arith, drop, get_or-drop, length, List, lt-leb, suc}
-use Terms.{wide, ℕ, ◌≡◌}
+use Terms.{arith, drop, get_or-drop, length, List, lt-leb, suc, wide, ℕ, ◌%◌, ◌*◌, ◌+◌, ◌-◌, ◌/◌}
+use Terms.{◌<◌, ◌^◌, ◌≡◌}
 use Rattle.std.specs.Hash.FoldHasher.{mix, mix_blocks, write, initial, read_u32}
 
 -- the state after the blocks before a place

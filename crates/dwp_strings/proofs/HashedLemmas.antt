@@ -1,11 +1,11 @@
 -- Strings of entries, which are found by their hashes, or else by their order.
 use Rattle.dwp_strings.proofs.Terms
-use Terms.{◌+◌, ◌++◌, ◌<◌, [], ◌^◌, All-contains, ap, arith, BeginsAt, Bool, cases_lt, Contains}
-use Terms.{data_of, Err, false, filter, get_or, get_or-map, held, IfErr, insert, IsFindable}
-use Terms.{IsHashed, IsIndexed, IsOrdered, IsPermutation-insert, IsPlaced, IsTable, IsZeroFree}
-use Terms.{length, length-append, List, lt-ltb, ltb, map, None, not, offset_of, offsets_from, Ok}
-use Terms.{OnErr, OnOk, Option, place_of, refl, Result, Slot, Some, StandsAt, string_from}
-use Terms.{strings_in, suc, sym, take, terminated, true, ℕ, ◌∙◌, ◌∷◌, ◌≡◌, ◌≢◌, ◌≤◌, ⊎_elim}
+use Terms.{[], All-contains, ap, arith, BeginsAt, Bool, cases_eq, cases_lt, Contains, data_of, Err}
+use Terms.{false, filter, get_or, get_or-map, held, IfErr, insert, IsFindable, IsHashed, IsIndexed}
+use Terms.{IsOrdered, IsPermutation-insert, IsPlaced, IsTable, IsZeroFree, length, length-append}
+use Terms.{List, lt-ltb, ltb, map, None, not, offset_of, offsets_from, Ok, OnErr, OnOk, Option}
+use Terms.{place_of, refl, Result, Slot, Some, StandsAt, string_from, strings_in, suc, sym, take}
+use Terms.{terminated, true, ℕ, ⊎_elim, ◌++◌, ◌+◌, ◌<◌, ◌^◌, ◌∙◌, ◌∷◌, ◌≡◌, ◌≢◌, ◌≤◌}
 use Rattle.std.specs.declared.alloc.AllocError.{AllocError}
 use Rattle.std.proofs.lemmas.List.{get_or-take, length-map, length-take, map-append, take-map}
 use Rattle.std.proofs.lemmas.List.{take_at}
@@ -20,7 +20,6 @@ use Rattle.dwp_strings.proofs.OffsetLemmas.{offsets_from-below, offsets_from-tak
 use Rattle.dwp_strings.proofs.OffsetLemmas.{length-offsets_from}
 use Rattle.dwp_strings.proofs.TableLemmas.{strings_push, strings_few, positions_few, stands_apart}
 use Rattle.dwp_strings.proofs.TableLemmas.{indexed_more, indexed_take}
-use Rattle.dwp_strings.proofs.PlacesLemmas.{same_or}
 use Rattle.dwp_strings.proofs.UsedLemmas.{used_new}
 use Rattle.dwp_strings.proofs.Named.{begins_there}
 
@@ -35,12 +34,9 @@ IsFoundIn e h n = IsFound e.places.slots.items e.places.size e.places.is_full e.
 pub entries_few : (e : Entries) → IsHashed e → (e.count + 1 < 2 ^ 64)
     × (length e.ordered + 1 < 2 ^ 64)
 entries_few e table =
-    let long : length (held e) ≤ e.bytes.len = omega (
-      arith,
-      strings_few (held e),
-      ap length table.findable.indexed.ended,
-      e.bytes.ok.0,
-    ) in
+    let ended = ap length table.findable.indexed.ended in
+    let long : length (held e) ≤ e.bytes.len =
+    omega (arith, strings_few (held e), ended, e.bytes.ok.0) in
     let small = e.bytes.small in
     (omega (arith, table.counted), omega (arith, positions_few _ _ table.findable.indexed))
 
@@ -49,31 +45,27 @@ module _ (e : Entries) (table : IsHashed e) where
   stands_there : (s : List ℕ) → Contains (held e) s → BeginsAt e.bytes.items (offset_of (held e) s)
       × (string_from e.bytes.items (offset_of (held e) s) ≡ s)
   stands_there s there =
-      rw table.findable.indexed.ended at (begins_there (held e) s
-      (All-contains IsZeroFree (held e) s (zero_free-strings_in e.bytes.items) there)
-      ((has_Decides (held e) s).1 there))
+      let free = All-contains IsZeroFree (held e) s (zero_free-strings_in e.bytes.items) there in
+      let begins = begins_there (held e) s free in
+      grind (arith, table.findable.indexed.ended, begins, has_Decides (held e) s)
 
   -- a string begins where one is said to
   pub begins_at_offset : (p : ℕ) → Contains (offsets_from 0 (held e)) p → BeginsAt e.bytes.items p
   begins_at_offset p there =
-      let within : there.0 < length (held e) =
-      omega (arith, there.1, length-offsets_from 0 (held e)) in
-      let at = offset_of-at (held e) 0 there.0 [] p table.findable.indexed.distinct within in
-      let same : offset_of (held e) (get_or (held e) there.0 []) ≡ p = omega (arith, at, there.2) in
-      rw same at (stands_there _ (Contains-get_or (held e) there.0 [] within)).0
+      let ss = held e in
+      let at = offset_of-at ss 0 there.0 [] p table.findable.indexed.distinct in
+      let stands = stands_there (get_or ss there.0 []) in
+      let among = Contains-get_or ss there.0 [] in
+      grind (arith, there.2, length-offsets_from 0 ss, at, stands, among)
 
 module _ (e : Entries) (table : IsHashed e) (s : List ℕ) (h : ℕ) (is_hash : h ≡ hash s) where
   -- it is found
   found_at : Contains (held e) s → IsFoundIn e h (offset_of (held e) s)
   found_at there =
-      let k = there.0 in
-      let same : get_or (map hash (held e)) k 0 ≡ h =
-      grind (arith, get_or-map hash (held e) k s 0, there.1, there.2, is_hash) in
-      let at = offset_of-at (held e) 0 k s 0 table.findable.indexed.distinct there.1 in
-      let place : get_or (offsets_from 0 (held e)) k 0 ≡ offset_of (held e) s =
-      grind (arith, at, there.2) in
-      rw (same, place) at (table.findable.found k
-      (omega (arith, there.1, length-map (held e) hash)))
+      let ss = held e in
+      let at = offset_of-at ss 0 there.0 s 0 table.findable.indexed.distinct in
+      let found = table.findable.found there.0 in
+      grind (arith, get_or-map hash ss there.0 s 0, is_hash, at, found, length-map ss hash)
 
   -- a string whose hash has no place isn't there, where more get one
   pub unplaced : e.places.is_full ≡ false → place_in e h ≡ None → Contains (held e) s → ⊥
@@ -115,49 +107,37 @@ carried_among e new same more = λ g m _ found. rw same (grind (arith, found, mo
 module _ (e new : Entries) (h p : ℕ) (full : new.places.is_full ≡ e.places.is_full)
     (ordered : new.ordered ≡ e.ordered) (has : place_in e h ≡ Some p)
     (others : (g : ℕ) → g ≢ h → place_in new g ≡ place_in e g) where
-  carried_by : ((m : ℕ) → Contains (offsets_from 0 (held e)) m → IsFoundIn e h m
-      → IsFoundIn new h m) → Carries e new
-  carried_by here = λ g m begun found. same_or _ g h
-      (λ same. rw same (here m begun (rw same at found)))
-      (λ other. rw (others g other, full, ordered) found)
-
   -- that of strings which share it, and the one there is among those in order
   pub carried_shared : place_in new h ≡ Some shared
       → (Contains (offsets_from 0 (held e)) p → Contains e.ordered p) → Carries e new
-  carried_shared is there =
-      carried_by (λ m begun found. grind (arith, found, has, ordered, is, there, begun))
+  carried_shared is there = λ g m begun found. grind (arith, others g, cases_eq g h)
 
   -- the one there was forgotten
   pub carried_over : p ≢ shared → (Contains (offsets_from 0 (held e)) p → ⊥) → Carries e new
-  carried_over own gone =
-      carried_by (λ m begun found. grind (arith, found, has, own, gone, begun))
+  carried_over own gone = λ g m begun found. grind (arith, others g, cases_eq g h)
 
 -- each string is found where each was
 found_each : (e new : Entries) → IsHashed e → Carries e new → AreRelated (IsFoundIn new)
     (map hash (held e)) (offsets_from 0 (held e))
-found_each e new table more = λ k less. more _ _
-    (Contains-get_or (offsets_from 0 (held e)) k 0
-    (omega (arith, less, length-map (held e) hash, length-offsets_from 0 (held e))))
-    (table.findable.found k less)
+found_each e new table more = λ k less.
+    let offsets = offsets_from 0 (held e) in
+    let next = more (get_or (map hash (held e)) k 0) (get_or offsets k 0) in
+    let among = Contains-get_or offsets k 0 in
+    grind (arith, next, among, length-map, length-offsets_from, table.findable.found k)
 
 -- the strings stay, and are found in another way
 pub hashed_kept : (e new : Entries) → IsHashed e → new.bytes.items ≡ e.bytes.items
     → new.count ≡ e.count → IsIndexed e.bytes.items new.ordered → Carries e new → IsHashed new
 hashed_kept e new table is_new is_count indexed more = record {
-  findable = rw is_new (record {
-    indexed = indexed;
-    found = found_each e new table more;
-  });
-  counted = is_count ∙ table.counted ∙ sym (ap (λ l. length (strings_in l)) is_new);
+  findable = rw is_new (record { indexed = indexed; found = found_each e new table more });
+  counted = grind (arith, is_count, table.counted, is_new);
 }
 
 -- lists that are related one by one, and one more of each
 related_push : (R : ℕ → ℕ → Type 0) (xs ys : List ℕ) (x y : ℕ) → length ys ≡ length xs
     → AreRelated R xs ys → R x y → AreRelated R (xs ++ x ∷ []) (ys ++ y ∷ [])
-related_push R xs ys x y long related last = λ k less. ⊎_elim
-    (λ old. grind (arith, common_steps, related k old))
-    (λ past. grind (arith, common_steps, last))
-    (cases_lt k (length xs))
+related_push R xs ys x y long related last = λ k less.
+    grind (arith, common_steps, related k, cases_lt k (length xs))
 
 -- entries with a new string behind all others
 pub record IsAdded (e new : Entries) (s : List ℕ) (n : ℕ) : Type 0 where
@@ -177,25 +157,18 @@ added e new s h n table free is_hash absent is_new is_long is_count indexed more
     ∙ (strings_push e.bytes.items s ended free).0 in
     let long : n ≡ length e.bytes.items = omega (arith, is_long, e.bytes.ok.0) in
     let far : 0 + length (data_of ss) ≡ n = omega (arith, ap length ended, long) in
+    let related = related_push (IsFoundIn new) (map hash ss) (offsets_from 0 ss) h n
+    (length-offsets_from 0 ss ∙ sym (length-map ss hash)) (found_each e new table more) last in
     record {
       table = record {
         findable = record {
           indexed = rw is_new indexed;
-          found = rw (push, map-append, ← is_hash, offsets_from-append, far)
-              (related_push (IsFoundIn new) (map hash ss) (offsets_from 0 ss) h n
-              (length-offsets_from 0 ss ∙ sym (length-map ss hash))
-              (found_each e new table more) last);
+          found = rw (push, map-append, ← is_hash, offsets_from-append, far) related;
         };
-        counted = omega (
-          arith,
-          is_count,
-          table.counted,
-          ap length push,
-          length-append ss (s ∷ []),
-        );
+        counted = grind (arith, is_count, table.counted, push, length-append);
       };
       placed = used_new e.bytes.items new.bytes.items s n ended free is_new long absent;
-      kept = ap (take (length ss)) push ∙ take_at ss (s ∷ []) _ refl;
+      kept = grind (arith, push, take_at);
     }
 
 -- what a search that found no string says
@@ -207,7 +180,7 @@ absent_there bytes now ordered s r answer same is_err absent =
 -- what is in a list is so when one more goes in
 pub among_more : (xs : List ℕ) (r y p : ℕ) → Contains xs p → Contains (insert xs r y) p
 among_more xs r y p there = Contains-permutation (y ∷ xs) (insert xs r y) p
-    (IsPermutation-insert xs r y) (suc there.0, omega (arith, there.1), there.2)
+    (IsPermutation-insert xs r y) (suc there.0, grind arith, there.2)
 
 pub among_one : (xs : List ℕ) (r y : ℕ) → Contains (insert xs r y) y
 among_one xs r y = Contains-permutation (y ∷ xs) (insert xs r y) y (IsPermutation-insert xs r y)
@@ -230,12 +203,12 @@ kept_below : (xs : List ℕ) (m y : ℕ) → y < m → Contains xs y
 kept_below xs m y below there =
     let low : ℕ → Bool = λ x. ltb x m in
     let high : ℕ → Bool = λ x. not (ltb x m) in
-    ⊎_elim (λ kept. kept)
-    (λ gone.
+    let parted = Contains-permutation xs (filter low xs ++ filter high xs) y
+    (IsPermutation-filter_both low high (λ x. refl) xs) there in
+    ⊎_elim (λ kept. kept) (λ gone.
     let above = All-contains (λ x. high x ≡ true) _ y (filter_passes high xs) gone in
     grind (arith, above, lt-ltb y m below))
-    (Contains-append_cases (filter low xs) (filter high xs) y (Contains-permutation xs _ y
-    (IsPermutation-filter_both low high (λ x. refl) xs) there))
+    (Contains-append_cases (filter low xs) (filter high xs) y parted)
 
 -- back to the first strings
 pub findable_take : (bytes kept : List ℕ) (slots : List Slot) (size : ℕ) (is_full : Bool)
@@ -247,26 +220,20 @@ pub findable_take : (bytes kept : List ℕ) (slots : List Slot) (size : ℕ) (is
 findable_take bytes kept slots size is_full ordered ordered' strings n m table is_strings is_mark
     is_kept is_ordered =
     let ss = strings_in bytes in
-    let long : m ≡ length (data_of (take n ss)) = is_mark ∙ ap (λ l. length (data_of (take n l)))
-    (sym is_strings) in
+    let long : m ≡ length (data_of (take n ss)) = grind (arith, is_mark, is_strings) in
     let new = indexed_take bytes ordered n m table.indexed long in
     let strings' : strings_in kept ≡ take n ss = ap strings_in is_kept ∙ new.0 in
     let found : AreFound kept slots size is_full ordered' = λ k less.
     let first : (k < n) × (k < length (take n ss)) =
     grind (arith, less, length-map, length-take, strings') in
     let place = get_or (offsets_from 0 (take n ss)) k 0 in
-    let is_place : get_or (offsets_from 0 ss) k 0 ≡ place = rw (offsets_from-take n 0 ss)
-    (sym (get_or-take n (offsets_from 0 ss) k 0 first.0)) in
-    let below : place < m = omega (
-      arith,
-      offsets_from-below 0 (take n ss) k 0
-          (omega (arith, length-offsets_from 0 (take n ss))),
-      long,
-    ) in
-    let here =
-    rw is_place at (table.found k (omega (arith, length-take n ss, length-map ss hash))) in
+    let is_place : get_or (offsets_from 0 ss) k 0 ≡ place =
+    grind (arith, offsets_from-take n 0 ss, get_or-take, first.0) in
+    let low = offsets_from-below 0 (take n ss) k 0 in
+    let below : place < m = grind (arith, low, first, length-offsets_from, long) in
+    let here = table.found k (omega (arith, length-take n ss, length-map ss hash)) in
     rw (strings', ← take-map hash n ss, get_or-take n (map hash ss) k 0 first.0)
-    (grind (arith, here, is_ordered, kept_below ordered m place below)) in (
+    (grind (arith, is_place, here, is_ordered, kept_below ordered m place below)) in (
       strings' ∙ ap (take n) is_strings,
       record { indexed = rw (is_kept, is_ordered) new.1; found = found },
     )

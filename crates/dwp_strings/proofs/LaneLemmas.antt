@@ -1,10 +1,9 @@
--- What a mask of at most 64 bytes says of each, and what holds of the bytes of one range after
--- another.
+-- What a mask of at most 64 bytes says of each.
 use Rattle.dwp_strings.proofs.Terms
-use Terms.{◌%◌, ◌+◌, ◌-◌, ◌<◌, ◌^◌, ap, ap₂, arith, Bool, cases_lt, cond, drop, eqb, eqb-false}
-use Terms.{false, get_or, length, List, ltb, map, nat_tests, not, replicate, subst, sym, take, true}
-use Terms.{w64, w8, ℕ, ◌∙◌, ◌≡◌, ◌≢◌, ◌≤◌, ⊎_elim}
-use Rattle.std.proofs.lemmas.List.{ext_get_or, get_or-take, length-take, length-replicate}
+use Terms.{ap, ap₂, arith, Bool, cases_lt, cond, drop, eqb, eqb-false, false, get_or, length, List}
+use Terms.{ltb, map, nat_tests, not, replicate, sym, take, true, w64, w8, ℕ, ◌%◌, ◌+◌, ◌<◌, ◌^◌}
+use Terms.{◌∙◌, ◌≡◌, ◌≢◌, ◌≤◌}
+use Rattle.std.proofs.lemmas.List.{get_or-take, length-take, length-replicate}
 use Rattle.std.specs.Int.{bit_at, trailing_zeros}
 use Rattle.std.specs.Int.Count.{trailing_of_zero}
 use Rattle.std.specs.Simd.Lanes.{zip2, sel_l, mask_l, top}
@@ -12,7 +11,7 @@ use Rattle.std.proofs.lemmas.Simd.{length-zip2, get_or-zip2, get_or-replicate, b
 use Rattle.std.proofs.lemmas.Simd.{tops_compared, mask_l-mod, length-sel_l, get_or-sel_l}
 use Rattle.std.proofs.lemmas.Simd.{length-chunk, get_or-chunk}
 use Rattle.std.proofs.lemmas.Nat.Bits.{bit_at-trailing_zeros}
-use Rattle.std.proofs.lemmas.Bool.{eqb-true}
+use Rattle.std.proofs.lemmas.Grind.{elements}
 
 -- the mask of a test of two vectors of bytes, as it is computed
 abbrev mask_of : (ℕ → ℕ → Bool) → List ℕ → List ℕ → ℕ
@@ -22,31 +21,23 @@ module _ (f : ℕ → ℕ → Bool) (l m : List ℕ) (same : length l ≡ length
   bit : (k : ℕ) → k < length l → cond (f (get_or l k 0) (get_or m k 0)) 1 0 ≡ bit_at
       (mask_of f l m) k
   bit k within =
-      let long = length-zip2 f l m same in
-      rw (tops_compared w8 f l m, mask_l-mod (zip2 f l m) 64 (omega (arith, long)))
-      (grind (arith, get_or-zip2, bit_mask_l))
-
-  lowest : (k : ℕ) → k < length l → (k < trailing_zeros w64 (mask_of f l m)
-      → bit_at (mask_of f l m) k ≡ 0) × (k ≡ trailing_zeros w64 (mask_of f l m)
-      → bit_at (mask_of f l m) k ≡ 1)
-  lowest k within = ⊎_elim
-      (λ some. let low = bit_at-trailing_zeros w64 _ some (omega arith) in
-      (λ less. low.2 k less, λ is. ap (bit_at (mask_of f l m)) is ∙ low.1))
-      (λ none. let e : mask_of f l m ≡ 0 = omega arith in (
-        λ less. omega (arith, ap (λ n. bit_at n k) e),
-        λ is. omega (arith, ap (trailing_zeros w64) e, trailing_of_zero 64),
-      ))
-      (cases_lt 0 (mask_of f l m))
+      let tops = tops_compared w8 f l m in
+      let few_lanes = mask_l-mod (zip2 f l m) 64 in
+      grind (arith, length-zip2 f l m same, tops, few_lanes, get_or-zip2, bit_mask_l)
 
   -- the test fails below the lowest bit that is set
   clear : (k : ℕ) → k < length l → k < trailing_zeros w64 (mask_of f l m)
       → f (get_or l k 0) (get_or m k 0) ≡ false
-  clear k within less = grind (arith, (lowest k within).0 less, bit k within)
+  clear k within less =
+      let low = bit_at-trailing_zeros w64 (mask_of f l m) in
+      grind (arith, bit k within, low, cases_lt 0 (mask_of f l m), trailing_of_zero 64)
 
   -- and passes at that bit
   first_set : (k : ℕ) → k < length l → k ≡ trailing_zeros w64 (mask_of f l m)
       → f (get_or l k 0) (get_or m k 0) ≡ true
-  first_set k within is = grind (arith, (lowest k within).1 is, bit k within)
+  first_set k within is =
+      let low = bit_at-trailing_zeros w64 (mask_of f l m) in
+      grind (arith, bit k within, low, cases_lt 0 (mask_of f l m), trailing_of_zero 64)
 
 -- so many bytes from a place on, compared with zero
 module _ (bytes : List ℕ) (at n : ℕ) (few : n ≤ 64) (room : at + n ≤ length bytes) (k : ℕ)
@@ -60,11 +51,15 @@ module _ (bytes : List ℕ) (at n : ℕ) (few : n ≤ 64) (room : at + n ≤ len
   long : length next ≡ n
   long = length-chunk at n bytes room
 
+  same_long : length next ≡ length (replicate {A = ℕ} n 0)
+  same_long = long ∙ sym (length-replicate n 0)
+
   -- those that aren't
   pub lanes_some : k < trailing_zeros w64 (mask_of eqb next (replicate n 0))
       → get_or bytes (at + k) 0 ≢ 0
-  lanes_some less = eqb-false _ 0 (sym lane ∙ clear eqb next (replicate n 0)
-      (long ∙ sym (length-replicate n 0)) (omega (arith, long)) k (omega (arith, long)) less)
+  lanes_some less =
+      let passed = clear eqb next (replicate n 0) same_long (omega (arith, long)) k in
+      grind (arith, nat_tests, lane, long, passed)
 
   pub lanes_all : mask_of eqb next (replicate n 0) ≡ 0 → get_or bytes (at + k) 0 ≢ 0
   lanes_all none = lanes_some (rw none (omega (arith, trailing_of_zero 64)))
@@ -72,8 +67,9 @@ module _ (bytes : List ℕ) (at n : ℕ) (few : n ≤ 64) (room : at + n ≤ len
   -- the byte at the lowest bit that is set
   pub lanes_zero : k ≡ trailing_zeros w64 (mask_of eqb next (replicate n 0))
       → get_or bytes (at + k) 0 ≡ 0
-  lanes_zero is = eqb-true _ 0 (sym lane ∙ first_set eqb next (replicate n 0)
-      (long ∙ sym (length-replicate n 0)) (omega (arith, long)) k (omega (arith, long)) is)
+  lanes_zero is =
+      let found = first_set eqb next (replicate n 0) same_long (omega (arith, long)) k in
+      grind (arith, nat_tests, lane, long, found)
 
 -- 32 bytes from one place on, and as many from another
 module _ (bytes other : List ℕ) (at to : ℕ) (room : at + 32 ≤ length bytes)
@@ -104,49 +100,29 @@ module _ (bytes other : List ℕ) (at to : ℕ) (room : at + 32 ≤ length bytes
       (sym (tops_compared w8 ltb l m)) ∙ is in
       let some = eqb-false _ _ (clear eqb least (replicate 32 0) long_least (omega arith) k
       (omega arith) (rw none (omega (arith, trailing_of_zero 64)))) in
-      grind (
-        arith,
-        nat_tests,
-        some,
-        long_less,
-        long_l,
-        long_m,
-        get_or-sel_l less l m k 0,
-        get_or-zip2 ltb l m k 0 0 false,
-        get_or-replicate {A = ℕ} 32 k 0 0 within,
-        get_or-chunk at 32 bytes k 0 within,
-        get_or-chunk to 32 other k 0 within,
-      )
+      let selected = get_or-sel_l less l m k 0 in
+      let compared = get_or-zip2 ltb l m k 0 0 false in
+      let zero = get_or-replicate {A = ℕ} 32 k 0 0 within in
+      let first = get_or-chunk at 32 bytes k 0 within in
+      let second = get_or-chunk to 32 other k 0 within in
+      grind (arith, nat_tests, some, selected, compared, zero, first, second, long_l, long_m)
 
   -- those before the first that differ
   pub lanes_same_before : k < trailing_zeros w64 (mask_of (λ a b. not (eqb a b)) l m)
       → get_or bytes (at + k) 0 ≡ get_or other (to + k) 0
-  lanes_same_before less = grind (
-    arith,
-    nat_tests,
-    get_or-chunk at 32 bytes k 0 within,
-    get_or-chunk to 32 other k 0 within,
-    clear (λ a b. not (eqb a b)) l m (omega (arith, long_l, long_m)) (omega (arith, long_l)) k
-        (omega (arith, long_l)) less,
-  )
+  lanes_same_before less =
+      let same = clear (λ a b. not (eqb a b)) l m (omega (arith, long_l, long_m))
+      (omega (arith, long_l)) k (omega (arith, long_l)) less in
+      let first = get_or-chunk at 32 bytes k 0 within in
+      let second = get_or-chunk to 32 other k 0 within in
+      grind (arith, nat_tests, first, second, same)
 
   -- all of them where none do
   pub lanes_same : mask_of (λ a b. not (eqb a b)) l m ≡ 0
       → get_or bytes (at + k) 0 ≡ get_or other (to + k) 0
   lanes_same is = lanes_same_before (rw is (omega (arith, trailing_of_zero 64)))
 
--- what holds before a place, and of so many from another one on
-pub range_more : (P : ℕ → Type 0) (at next n to : ℕ) → ((k : ℕ) → k < at → P k)
-    → ((k : ℕ) → k < n → P (next + k)) → next ≤ at → to ≤ next + n → (k : ℕ) → k < to → P k
-range_more P at next n to earlier more low high k less = ⊎_elim (earlier k)
-    (λ behind.
-    let e : next + (k - next) ≡ k = omega arith in
-    subst P e (more (k - next) (omega arith)))
-    (cases_lt k at)
-
 -- fronts of which each byte is the same
 pub same_fronts : (xs ys : List ℕ) (n : ℕ) → n ≤ length xs → n ≤ length ys
     → ((k : ℕ) → k < n → get_or xs k 0 ≡ get_or ys k 0) → take n xs ≡ take n ys
-same_fronts xs ys n within within' same =
-    ext_get_or 0 _ _ (grind (arith, length-take))
-    (λ k less. grind (arith, length-take, get_or-take))
+same_fronts xs ys n within within' same = grind (arith, elements, get_or-take, length-take)

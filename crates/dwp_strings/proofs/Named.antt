@@ -2,11 +2,10 @@
 use Rattle.std.proofs.Common.{take-append-drop, length-drop, take_all, take_at, length-take}
 use Rattle.std.proofs.Common.{get_or-take}
 use Rattle.dwp_strings.proofs.Terms
-use Terms.{◌+◌, ◌++◌, [], ap, arith, before_first, BeginsAt, Bool, by-bool, bytes_eq}
-use Terms.{bytes_eq-Decides, cond_both, data_of, drop, drop-drop, drop_at, eqb, false, get_or}
-use Terms.{get_or-append-add, IsTable, IsZeroFree, length, length-append, List, list_any}
-use Terms.{list_any-append, offset_of, Ok, position_or_len, refl, string_from, take, terminated}
-use Terms.{true, with_string, ℕ, ◌∙◌, ◌∷◌, ◌≡◌}
+use Terms.{[], arith, BeginsAt, Bool, by-bool, bytes_eq, bytes_eq-Decides, cond_both, data_of, drop}
+use Terms.{drop-drop, drop_at, eqb, false, get_or, get_or-append-add, IsTable, IsZeroFree, length}
+use Terms.{length-append, List, list_any, list_any-append, offset_of, Ok, position_or_len, refl}
+use Terms.{string_from, take, terminated, true, with_string, ℕ, ◌++◌, ◌+◌, ◌∷◌, ◌≡◌}
 use Rattle.std.proofs.lemmas.List.Elements.{All-push, Contains-append_left, Contains-push}
 use Rattle.std.proofs.lemmas.List.Sums.{fails_before_first}
 use Rattle.dwp_bytes.specs.StringOffsets.{string_at}
@@ -28,22 +27,16 @@ pub there_later : (ss final : List (List ℕ)) (s : List ℕ) → take (length s
     → has ss s ≡ true → (has final s ≡ true) × (offset_of final s ≡ offset_of ss s)
 there_later ss final s kept h =
     let more = drop (length ss) final in
-    grind (
-      arith,
-      take-append-drop (length ss) final,
-      (has_Decides (ss ++ more) s).1 (Contains-append_left ss more s ((has_Decides ss s).0 h)),
-      offset_kept ss more s,
-    )
+    let parts = take-append-drop (length ss) final in
+    let front = Contains-append_left ss more s ((has_Decides ss s).0 h) in
+    grind (arith, parts, (has_Decides (ss ++ more) s).1 front, offset_kept ss more s)
 
 -- a string is there once it was used, and has the offset that it was given
 pub there_once_used : (ss : List (List ℕ)) (s : List ℕ) → (has (with_string ss s) s ≡ true)
     × (offset_of (with_string ss s) s ≡ offset_of ss s)
-there_once_used ss s = grind (
-  arith,
-  (has_Decides (ss ++ s ∷ []) s).1 (Contains-push ss s),
-  (bytes_eq-Decides s s).1 refl,
-  offset_kept ss (s ∷ []) s,
-)
+there_once_used ss s =
+    let last = (has_Decides (ss ++ s ∷ []) s).1 (Contains-push ss s) in
+    grind (arith, last, (bytes_eq-Decides s s).1 refl, offset_kept ss (s ∷ []) s)
 
 -- a table once one more string is used
 pub record IsUsed (ss new : List (List ℕ)) (s : List ℕ) : Type 0 where
@@ -72,13 +65,13 @@ stands_there : (ss : List (List ℕ)) (s : List ℕ) → has ss s ≡ true → (
     × (get_or (0 ∷ data_of ss) (offset_of ss s) 0 ≡ 0)
 stands_there [] s h = absurd cc
 stands_there (t ∷ ss) s h = by-bool _ (bytes_eq t s)
-    (λ e. (data_of ss, rw (e, (bytes_eq-Decides t s).0 e) (data_of-cons s ss), rw e))
+    (λ e. (data_of ss, grind (arith, bytes_eq-Decides t s, data_of-cons s ss), rw e))
     (λ e. let later = stands_there ss s (rw e at h) in
     let at = offset_of ss s in
     let past = drop_at (terminated t) (data_of ss) (length t + 1) (length-append t (0 ∷ [])) in (
       later.0,
-      rw e (grind (arith, drop-drop at (length t + 1) (data_of (t ∷ ss)))),
-      rw (e, data_of-cons t ss) (grind (arith, get_or-append-add (0 ∷ t) (0 ∷ data_of ss) at 0)),
+      grind (arith, drop-drop at (length t + 1) (data_of (t ∷ ss))),
+      grind (arith, data_of-cons t ss, get_or-append-add (0 ∷ t) (0 ∷ data_of ss) at 0),
     ))
 
 -- a string begins at its offset
@@ -91,7 +84,7 @@ begins_there ss s free h =
         within = grind (arith, length-drop at (data_of ss), length-append s (0 ∷ there.0));
         behind = λ some. grind (arith, there.2);
       },
-      ap (before_first (λ b. eqb b 0)) there.1 ∙ before_first-ended s there.0 free,
+      grind (arith, there.1, before_first-ended s there.0 free),
     )
 
 -- a table that begins with these strings has its strings at their offsets
@@ -115,9 +108,4 @@ pub read_free : (section : List ℕ) (at : ℕ) → IsZeroFree (string_from sect
 read_free section at = λ k d below same.
     let tail = drop at section in
     let first = position_or_len (λ b. eqb b 0) tail in
-    grind (
-      arith,
-      length-take first tail,
-      fails_before_first (λ b. eqb b 0) tail k d,
-      get_or-take first tail k d,
-    )
+    grind (arith, length-take, get_or-take, fails_before_first (λ b. eqb b 0) tail k d)

@@ -1,9 +1,10 @@
 -- Where strings begin that stand one after another, and the offset of each.
 use Rattle.dwp_strings.proofs.Terms
-use Terms.{◌+◌, ◌++◌, ◌-◌, ◌<◌, [], All, All-head, All-tail, AllPairs, ap, append_assoc, ap₂, arith}
-use Terms.{bytes_eq, bytes_eq-Decides, Contains, data_of, Decides, Decides-by_or, false, get_or}
+use Terms.{[], All, All-head, All-tail, AllPairs, ap, append_assoc, arith, bytes_eq}
+use Terms.{bytes_eq-Decides, Contains, data_of, Decides, Decides-by_or, false, get_or}
 use Terms.{get_or_default, IsZeroFree, length, length-append, List, list_any, map, offset_of}
-use Terms.{offsets_from, refl, string_from, suc, take, terminated, zero, ℕ, ◌∙◌, ◌∷◌, ◌≡◌, ◌≢◌, ◌≤◌}
+use Terms.{offsets_from, refl, string_from, suc, take, terminated, zero, ℕ, ◌++◌, ◌+◌, ◌-◌, ◌<◌}
+use Terms.{◌∙◌, ◌∷◌, ◌≡◌, ◌≢◌, ◌≤◌}
 use Rattle.std.proofs.lemmas.List.Elements.{All-nil, Decides-contains}
 use Rattle.std.proofs.lemmas.List.Quantifiers.{all_pairs_push}
 use Rattle.dwp_strings.proofs.StringLemmas.{string_from-ended, data_of-cons}
@@ -19,17 +20,10 @@ pub map-string_from : (front : List ℕ) (ss : List (List ℕ)) (rest : List ℕ
     (offsets_from n ss) ≡ ss
 map-string_from front [] rest n long free = refl
 map-string_from front (s ∷ ss) rest n long free =
-    let far : length (front ++ terminated s) ≡ n + length s + 1 =
-    omega (arith, length-append front (terminated s), length-append s (0 ∷ [])) in
-    let whole = front ++ (data_of (s ∷ ss) ++ rest) in
-    let here : whole ≡ front ++ (s ++ 0 ∷ (data_of ss ++ rest)) = simp append_assoc in
-    let behind : whole ≡ (front ++ terminated s) ++ (data_of ss ++ rest) = simp append_assoc in
-    let first = string_from-ended front s (data_of ss ++ rest) n long
-    (All-head IsZeroFree s ss free) in
-    let others = map-string_from (front ++ terminated s) ss rest (n + length s + 1) far
-    (All-tail IsZeroFree s ss free) in
-    ap₂ (λ x l. x ∷ l) (ap (λ l. string_from l n) here ∙ first)
-    (ap (λ l. map (string_from l) (offsets_from (n + length s + 1) ss)) behind ∙ others)
+    let behind = data_of ss ++ rest in
+    let first = string_from-ended front s behind n long (All-head IsZeroFree s ss free) in
+    let others = map-string_from (front ++ terminated s) ss rest (n + length s + 1) in
+    grind (arith, append_assoc, length-append, first, others, All-tail IsZeroFree s ss free)
 
 pub AllPairs-rest : {X : Type 0} (R : X → X → Type 0) (x : X) (xs : List X)
     → AllPairs R (x ∷ xs) → AllPairs R xs
@@ -43,14 +37,10 @@ length-offsets_from n (s ∷ ss) = ap suc (length-offsets_from (n + length s + 1
 pub offset_of-at : (ss : List (List ℕ)) (n i : ℕ) (d : List ℕ) (e : ℕ) → AllPairs (λ s t. s ≢ t) ss
     → i < length ss → n + offset_of ss (get_or ss i d) ≡ get_or (offsets_from n ss) i e
 offset_of-at [] n i d e apart within = absurd (omega arith)
-offset_of-at (t ∷ ss) n zero d e apart within = rw ((bytes_eq-Decides t t).1 refl) (omega arith)
+offset_of-at (t ∷ ss) n zero d e apart within = grind (arith, bytes_eq-Decides t t)
 offset_of-at (t ∷ ss) n (suc i) d e apart within =
-    grind (
-      arith,
-      offset_of-at ss (n + length t + 1) i d e (AllPairs-rest (λ s t. s ≢ t) t ss apart),
-      bytes_eq-Decides t (get_or ss i d),
-      apart 0 (suc i) d,
-    )
+    let rest = offset_of-at ss (n + length t + 1) i d e (AllPairs-rest (λ s t. s ≢ t) t ss apart) in
+    grind (arith, rest, bytes_eq-Decides t (get_or ss i d), apart 0 (suc i) d)
 
 -- whether a string is there
 pub has_Decides : (ss : List (List ℕ)) (s : List ℕ)
@@ -85,13 +75,10 @@ offsets_from-take (suc n) at (s ∷ ss) = grind (arith, offsets_from-take n (at 
 -- each begins before the end of the part, and none before its start
 pub offsets_from-below : (n : ℕ) (ss : List (List ℕ)) → All (λ p. p < n + length (data_of ss))
     (offsets_from n ss)
+offsets_from-below n (s ∷ ss) = λ i d within.
+    let rest = offsets_from-below (n + length s + 1) ss (i - 1) d in
+    grind (arith, length-data_of-cons s ss, rest)
 offsets_from-below n [] = All-nil _
-offsets_from-below n (s ∷ ss) =
-    λ i d within. grind (
-      arith,
-      length-data_of-cons s ss,
-      offsets_from-below (n + length s + 1) ss (i - 1) d,
-    )
 
 pub offsets_from-above : (n : ℕ) (ss : List (List ℕ)) → All (λ p. n ≤ p) (offsets_from n ss)
 offsets_from-above n [] = All-nil _

@@ -1,18 +1,15 @@
 -- What the vectors of a list hold, as one of them changes or is cut in two.
 use Rattle.dwp_strings.proofs.Terms
-use Terms.{◌+◌, ◌++◌, ◌-◌, ◌/◌, ◌<◌, [], add-one, ap, ap₂, arith, drop, get_or, get_or-map, insert}
-use Terms.{length, List, pieces, set, sym, take, take_rest, Vec, ℕ, ◌∙◌, ◌∷◌, ◌≡◌}
+use Terms.{[], add-one, ap, ap₂, arith, drop, get_or, get_or-map, insert, length, List, pieces, set}
+use Terms.{sym, take, take_rest, Vec, ℕ, ◌++◌, ◌+◌, ◌-◌, ◌/◌, ◌<◌, ◌∙◌, ◌∷◌, ◌≡◌}
 use Rattle.std.proofs.lemmas.List.{map-append, map-set, take-map, drop-map, set-get_or, length-map}
 use Rattle.dwp_strings.specs.Chunks.{IsHalved}
 use Rattle.dwp_strings.proofs.ChunkLemmas.{length-starts_from}
 
 pub length-pieces : {A B : Type 0} (chunks : Vec (Vec ℕ A) B) → length (pieces chunks.items) ≡
     chunks.len
-length-pieces {A} chunks = omega (
-  arith,
-  length-map chunks.items (λ (chunk : Vec ℕ A). chunk.items),
-  chunks.ok.0,
-)
+length-pieces {A} chunks =
+    omega (arith, length-map chunks.items (λ (chunk : Vec ℕ A). chunk.items), chunks.ok.0)
 
 -- how many chunks and starts there are
 pub ruleset counts = (length-starts_from, length-pieces)

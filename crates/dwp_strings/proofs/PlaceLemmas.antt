@@ -1,7 +1,7 @@
 -- A place of a section of ended strings at which a string begins.
 use Rattle.dwp_strings.proofs.Terms
-use Terms.{◌+◌, [], AllPairs, arith, BeginsAt, by-bool, Contains, data_of, eqb, get_or, List}
-use Terms.{offset_of, offsets_from, string_from, strings_in, suc, zero, ℕ, ◌∷◌, ◌≡◌, ◌≢◌}
+use Terms.{[], AllPairs, arith, BeginsAt, by-bool, Contains, data_of, eqb, get_or, List, offset_of}
+use Terms.{offsets_from, string_from, strings_in, suc, zero, ℕ, ◌+◌, ◌∷◌, ◌≡◌, ◌≢◌}
 use Rattle.dwp_strings.proofs.TableLemmas.{known_offset_in}
 
 offset_from : (n : ℕ) (bytes : List ℕ) (at : ℕ) → BeginsAt bytes at
@@ -21,9 +21,7 @@ offset_from n (b ∷ bytes) (suc m) begins =
 -- it is the offset of a string
 pub offset_there : (bytes : List ℕ) (at : ℕ) → BeginsAt bytes at
     → Contains (offsets_from 0 (strings_in bytes)) at
-offset_there bytes at begins =
-    let e : 0 + at ≡ at = omega arith in
-    rw e at (offset_from 0 bytes at begins)
+offset_there bytes at begins = grind (arith, offset_from 0 bytes at begins)
 
 -- of the string that begins there
 pub known_place_in : (bytes s : List ℕ) (at : ℕ) → data_of (strings_in bytes) ≡ bytes

@@ -1,13 +1,9 @@
 -- Places of strings by their hashes, in slots.
 use Rattle.dwp_strings.proofs.Terms
-use Terms.{◌+◌, ◌-◌, ◌<◌, ap, arith, cases_eq, cases_lt, free, get_or, home, length, List, None}
-use Terms.{place_of, refl, set, Slot, Some, suc, sym, zero, ℕ, ◌∙◌, ◌≡◌, ◌≢◌, ◌≤◌, ⊎_elim}
+use Terms.{ap, arith, cases_lt, free, get_or, home, length, List, None, place_of, refl, set, Slot}
+use Terms.{Some, suc, zero, ℕ, ◌+◌, ◌-◌, ◌<◌, ◌≡◌, ◌≢◌, ◌≤◌}
 use Rattle.std.proofs.lemmas.List.{get_or-set_other, get_or-set_same, get_or_past}
 use Rattle.dwp_strings.specs.Places.{place_from}
-
--- two numbers are the same or not
-pub same_or : (A : Type 0) (a b : ℕ) → (a ≡ b → A) → (a ≢ b → A) → A
-same_or A a b same other = ⊎_elim same other (cases_eq a b)
 
 -- past all slots each is free
 pub free_past : (slots : List Slot) (k : ℕ) → length slots ≤ k → (get_or slots k free).behind ≡ 0
@@ -49,13 +45,11 @@ module _ (slots : List Slot) (h k : ℕ) where
       pub found_of : k < at + 128 → slot.behind ≢ 0 → slot.hash ≡ h
           → place_of slots size h ≡ Some (slot.behind - 1)
       unfolding place_of
-      found_of high some same = ap (λ a. place_from slots a 128 h) (sym is_at)
-          ∙ slot_from at 128 low passed high some same
+      found_of high some same = grind (arith, slot_from at 128 low passed high some same)
 
       pub none_of : (k < at + 128 → slot.behind ≡ 0) → place_of slots size h ≡ None
       unfolding place_of
-      none_of none = ap (λ a. place_from slots a 128 h) (sym is_at)
-          ∙ none_from at 128 low passed none
+      none_of none = grind (arith, none_from at 128 low passed none)
 
 -- each slot has its place among others, and so has each hash
 pub each_from : (slots new : List Slot) (size at n h p : ℕ)
@@ -82,13 +76,10 @@ module _ (slots : List Slot) (s : Slot) (k : ℕ) where
         → place_from slots at n s.hash ≡ None
         → place_from (set slots k s) at n s.hash ≡ Some (s.behind - 1)
     put_from at zero low high used none = absurd (omega arith)
-    put_from at (suc n) low high used none = grind (
-      arith,
-      put_from (at + 1) n,
-      used at,
-      get_or-set_same slots k s free within,
-      get_or-set_other slots k at s free,
-    )
+    put_from at (suc n) low high used none =
+        let here = get_or-set_same slots k s free within in
+        let other = get_or-set_other slots k at s free in
+        grind (arith, put_from (at + 1) n, used at, here, other)
 
     -- or the first one, once it has another place
     pub shared_of : (size h at : ℕ) → at ≡ home size h → at ≤ k → k < at + 128
@@ -105,9 +96,6 @@ module _ (slots : List Slot) (s : Slot) (k : ℕ) where
         → (get_or slots k free).behind ≢ 0 → h ≢ s.hash
         → place_from (set slots k s) at n h ≡ place_from slots at n h
     others_from at zero h same was other = refl
-    others_from at (suc n) h same was other = grind (
-      arith,
-      others_from (at + 1) n h,
-      get_or-set_same slots k s free within,
-      get_or-set_other slots k at s free,
-    )
+    others_from at (suc n) h same was other =
+        let here = get_or-set_same slots k s free within in
+        grind (arith, others_from (at + 1) n h, here, get_or-set_other slots k at s free)

@@ -1,10 +1,10 @@
 -- The strings of a section in which each is ended by a zero byte.
 use Rattle.std.proofs.Common.{take_at, eqb-true}
 use Rattle.dwp_strings.proofs.Terms
-use Terms.{◌++◌, [], All, All-cons, All-head, All-tail, ap, append_assoc, arith, before_first}
-use Terms.{by-bool, data_of, drop_at, eq-eqb, eqb, eqb-false, false, IsZeroFree, length}
-use Terms.{length-append, List, ne_eqb, None, onto_first, Option, position_or_len_is, refl, Some}
-use Terms.{string_from, strings_in, sym, take, true, ℕ, ◌∙◌, ◌∷◌, ◌≡◌, ◌≢◌}
+use Terms.{[], All, All-cons, All-head, All-tail, append_assoc, arith, before_first, by-bool}
+use Terms.{data_of, drop_at, eqb, eqb-false, IsZeroFree, length, length-append, List, nat_tests}
+use Terms.{None, onto_first, Option, position_or_len_is, refl, Some, string_from, strings_in, true}
+use Terms.{ℕ, ◌++◌, ◌∷◌, ◌≡◌, ◌≢◌}
 use Rattle.std.specs.Option.{is_some}
 use Rattle.std.proofs.lemmas.List.{get_or_at, get_or_append_left}
 use Rattle.std.proofs.lemmas.List.Elements.{All-nil}
@@ -13,26 +13,21 @@ use Rattle.memchr.specs.Find.{IsFirstByte, is_byte}
 pub before_first-ended : (s rest : List ℕ) → IsZeroFree s → before_first (λ b. eqb b 0)
     (s ++ 0 ∷ rest) ≡ s
 before_first-ended s rest free =
-    ap (λ n. take n (s ++ 0 ∷ rest)) (position_or_len_is (λ b. eqb b 0) (s ++ 0 ∷ rest) (length s) 0
-    (omega (arith, length-append s (0 ∷ rest)))
-    (λ k below. ne_eqb _ 0 (λ e.
-    free k 0 below (sym (get_or_append_left s (0 ∷ rest) 0 k below) ∙ e)))
-    (λ _. eq-eqb _ 0 (get_or_at s 0 rest 0 (length s) refl)))
-    ∙ take_at s (0 ∷ rest) (length s) refl
+    let first = position_or_len_is (λ b. eqb b 0) (s ++ 0 ∷ rest) (length s) 0 in
+    let before = λ (k : ℕ). free k 0 in
+    grind (arith, nat_tests, first, before, get_or_at, get_or_append_left, take_at, length-append)
 
 -- the string behind some bytes
 pub string_from-ended : (front s rest : List ℕ) (n : ℕ) → length front ≡ n → IsZeroFree s
     → string_from (front ++ (s ++ 0 ∷ rest)) n ≡ s
-string_from-ended front s rest n long free =
-    ap (before_first (λ b. eqb b 0)) (drop_at front (s ++ 0 ∷ rest) n long) ∙
-    before_first-ended s rest free
+string_from-ended front s rest n long free = grind (arith, drop_at, before_first-ended s rest free)
 
 pub strings_in-ended : (s rest : List ℕ) → IsZeroFree s → strings_in (s ++ 0 ∷ rest) ≡ s
     ∷ strings_in rest
 strings_in-ended [] rest free = refl
 strings_in-ended (b ∷ s) rest free =
-    let other : eqb b 0 ≡ false = ne_eqb b 0 (All-head (λ b. b ≢ 0) b s free) in
-    rw other (ap (onto_first b) (strings_in-ended s rest (All-tail (λ b. b ≢ 0) b s free)))
+    let other = All-head (λ b. b ≢ 0) b s free in
+    grind (arith, nat_tests, other, strings_in-ended s rest (All-tail (λ b. b ≢ 0) b s free))
 
 pub data_of-cons : (s : List ℕ) (ss : List (List ℕ)) → data_of (s ∷ ss) ≡ s ++ 0 ∷ data_of ss
 data_of-cons s ss = append_assoc s (0 ∷ []) (data_of ss)
@@ -40,9 +35,9 @@ data_of-cons s ss = append_assoc s (0 ∷ []) (data_of ss)
 pub strings_in-data_of : (ss : List (List ℕ)) → All IsZeroFree ss → strings_in (data_of ss) ≡ ss
 strings_in-data_of [] free = refl
 strings_in-data_of (s ∷ ss) free =
-    ap strings_in (data_of-cons s ss)
-    ∙ strings_in-ended s (data_of ss) (All-head IsZeroFree s ss free)
-    ∙ ap (λ l. s ∷ l) (strings_in-data_of ss (All-tail IsZeroFree s ss free))
+    let first = All-head IsZeroFree s ss free in
+    let others = strings_in-data_of ss (All-tail IsZeroFree s ss free) in
+    grind (arith, data_of-cons, strings_in-ended, first, others)
 
 onto_first-zero_free : (b : ℕ) (ss : List (List ℕ)) → b ≢ 0 → All IsZeroFree ss
     → All IsZeroFree (onto_first b ss)

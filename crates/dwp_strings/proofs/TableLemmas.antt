@@ -1,24 +1,26 @@
 -- Some positions of a table's strings, in the strings' order.
 use Rattle.std.proofs.Common.{take_at, append-nil, take-append-drop, length-take, get_or-take}
 use Rattle.dwp_strings.proofs.Terms
-use Terms.{◌+◌, ◌++◌, ◌<◌, [], All, All-cons, All-contains, All-permutation, AllPairs, ap, arith}
-use Terms.{Contains, data_of, Decides-eqb, drop, filter, get_or, get_or-map, get_or_default, insert}
-use Terms.{IsBefore, IsIndexed, IsPermutation-insert, IsZeroFree, length, length-append, List, ltb}
-use Terms.{ltb-true, nat_eq_equiv, nat_list_cmp_total, offset_of, offsets_from, refl, StandsAt}
-use Terms.{string_from, strings_in, suc, sym, take, terminated, tied_itself, zero, ℕ, ◌∙◌, ◌∷◌, ◌≡◌}
-use Terms.{◌≢◌, ◌≤◌, ⊎_elim}
+use Terms.{[], All, All-cons, All-contains, All-permutation, AllPairs, ap, arith, Contains, data_of}
+use Terms.{Decides-eqb, drop, filter, get_or, get_or-map, get_or_default, insert, IsBefore}
+use Terms.{IsIndexed, IsPermutation-insert, IsZeroFree, length, length-append, List, ltb, ltb-true}
+use Terms.{nat_eq_equiv, nat_list_cmp_total, offset_of, offsets_from, refl, StandsAt, string_from}
+use Terms.{strings_in, sym, take, terminated, tied_itself, ℕ, ⊎_elim, ◌++◌, ◌+◌, ◌-◌, ◌<◌, ◌∙◌, ◌∷◌}
+use Terms.{◌≡◌, ◌≢◌, ◌≤◌}
+use Rattle.std.proofs.lemmas.List.Edits.{length-insert, get_or-insert_below, get_or-insert_at}
+use Rattle.std.proofs.lemmas.List.Edits.{get_or-insert_above}
 use Rattle.std.proofs.lemmas.List.{flat_map_more, nil_from_length}
 use Rattle.std.proofs.lemmas.List.Elements.{All-take, All-push, All-filter, filter_passes}
 use Rattle.std.proofs.lemmas.List.Elements.{Contains-get_or, Contains-append_left, Contains-push}
 use Rattle.std.proofs.lemmas.List.Elements.{Contains-append_cases}
-use Rattle.std.proofs.lemmas.List.Kept.{AllPairs-cons, AllPairs-filter}
+use Rattle.std.proofs.lemmas.List.Kept.{AllPairs-filter}
 use Rattle.std.proofs.lemmas.Map.Made.{length-le_from_is_member, IsDistinct-from_AllPairs}
 use Rattle.std.proofs.lemmas.Map.Made.{is_member-Decides}
 use Rattle.std.proofs.lemmas.List.Concat.{flat_map-append}
 use Rattle.dwp_strings.proofs.StringLemmas.{strings_in-data_of, zero_free-strings_in}
 use Rattle.dwp_strings.proofs.StringLemmas.{string_from-ended}
 use Rattle.dwp_strings.proofs.OffsetLemmas.{map-string_from, length-offsets_from, offset_of-at}
-use Rattle.dwp_strings.proofs.OffsetLemmas.{AllPairs-rest, length-data_of-cons, offsets_from-append}
+use Rattle.dwp_strings.proofs.OffsetLemmas.{length-data_of-cons, offsets_from-append}
 use Rattle.dwp_strings.proofs.OffsetLemmas.{offsets_from-below, distinct_push, offsets_from-above}
 
 -- a string that begins at an offset is the section's, whatever comes behind
@@ -26,10 +28,8 @@ string_there : (bytes rest : List ℕ) (p : ℕ) → data_of (strings_in bytes) 
     → (there : Contains (offsets_from 0 (strings_in bytes)) p)
     → string_from (bytes ++ rest) p ≡ get_or (strings_in bytes) there.0 []
 string_there bytes rest p ended there =
-    let f = string_from (bytes ++ rest) in
-    let all = map-string_from [] (strings_in bytes) rest 0 refl (zero_free-strings_in bytes) in
-    sym (get_or-map f (offsets_from 0 (strings_in bytes)) there.0 p [] there.1 ∙ ap f there.2)
-    ∙ ap (λ l. get_or l there.0 []) (rw ended at all)
+    let whole = map-string_from [] (strings_in bytes) rest 0 refl (zero_free-strings_in bytes) in
+    grind (arith, whole, get_or-map, there.2)
 
 -- each position is within the section
 pub positions_within : (bytes positions : List ℕ) → IsIndexed bytes positions
@@ -38,7 +38,7 @@ positions_within bytes positions table = λ i d within.
     let ss = strings_in bytes in
     let low = All-contains (λ p. p < 0 + length (data_of ss)) (offsets_from 0 ss) _
     (offsets_from-below 0 ss) (table.begun i d within) in
-    omega (arith, low, ap length table.ended)
+    grind (arith, low, table.ended)
 
 -- no string comes before itself
 not_before_itself : (s : List ℕ) → IsBefore s s → ⊥
@@ -50,55 +50,43 @@ pub known_offset_in : (bytes s : List ℕ) (p : ℕ) → data_of (strings_in byt
     → string_from bytes p ≡ s → Contains (strings_in bytes) s × (p ≡ offset_of (strings_in bytes) s)
 known_offset_in bytes s p ended distinct there is =
     let ss = strings_in bytes in
-    let i = there.0 in
-    let within : i < length ss = omega (arith, there.1, length-offsets_from 0 ss) in
-    let string = sym (rw (append-nil bytes) at (string_there bytes [] p ended there)) ∙ is in
-    let offset = offset_of-at ss 0 i [] p distinct within in
-    rw (← string) (Contains-get_or ss i [] within, omega (arith, offset, there.2))
-
--- a position is such an offset
-pub known_position : (bytes positions s : List ℕ) (r p : ℕ) → IsIndexed bytes positions
-    → r < length positions → p ≡ get_or positions r 0 → string_from bytes p ≡ s
-    → Contains (strings_in bytes) s × (p ≡ offset_of (strings_in bytes) s)
-known_position bytes positions s r p table within is_position is =
-    known_offset_in bytes s p table.ended table.distinct (rw is_position (table.begun r 0 within))
-    is
+    let string = string_there bytes [] p ended there in
+    let offset = offset_of-at ss 0 there.0 [] p distinct in
+    let among = Contains-get_or ss there.0 [] in
+    grind (arith, string, append-nil bytes, offset, length-offsets_from 0 ss, among)
 
 -- a string that would stand at a rank isn't at any position
 pub stands_apart : (bytes positions s : List ℕ) (r p : ℕ) → StandsAt bytes positions s r
     → Contains positions p → string_from bytes p ≡ s → ⊥
 stands_apart bytes positions s r p stands there is =
-    let same = get_or_default positions there.0 0 p there.1 ∙ there.2 in
-    grind (arith, same, is, not_before_itself s, stands.before there.0, stands.behind there.0)
+    let same = get_or_default positions there.0 0 p there.1 in
+    grind (arith, same, not_before_itself s, stands.before there.0, stands.behind there.0)
 
 -- no more positions than strings
 pub positions_few : (bytes positions : List ℕ) → IsIndexed bytes positions
     → length positions ≤ length (strings_in bytes)
 positions_few bytes positions table =
     let offsets = offsets_from 0 (strings_in bytes) in
+    let apart = λ (i j d : ℕ). not_before_itself (string_from bytes (get_or positions j d)) in
     let few = length-le_from_is_member nat_eq_equiv positions offsets
-    (IsDistinct-from_AllPairs Decides-eqb positions (λ i j d less within same.
-    not_before_itself (string_from bytes (get_or positions j d))
-    (rw same at (table.sorted i j d less within))))
+    (IsDistinct-from_AllPairs Decides-eqb positions
+    (λ i j d less within same. grind (arith, apart i j d, table.sorted i j d less within)))
     (λ q there. (is_member-Decides Decides-eqb offsets q).1 (All-contains (Contains offsets)
     positions q table.begun ((is_member-Decides Decides-eqb positions q).0 there))) in
     omega (arith, few, length-offsets_from 0 (strings_in bytes))
+
+-- where the elements stand once one more is inserted
+ruleset inserted = (length-insert, get_or-insert_below, get_or-insert_at, get_or-insert_above)
 
 -- a list stays in order when a number goes between what is before it and what is behind
 pub insert_in_order : (R : ℕ → ℕ → Type 0) (xs : List ℕ) (r y : ℕ) → AllPairs R xs → r ≤ length xs
     → ((k : ℕ) → k < r → R (get_or xs k 0) y) → ((k : ℕ) → r ≤ k → k < length xs
     → R y (get_or xs k 0)) → AllPairs R (insert xs r y)
-insert_in_order R xs zero y apart fits before behind = AllPairs-cons R y xs (λ k d within.
-    rw (get_or_default xs k d 0 within) (behind k (omega arith) within)) apart
-insert_in_order R [] (suc r) y apart fits before behind = absurd (omega arith)
-insert_in_order R (x ∷ xs) (suc r) y apart fits before behind =
-    let rest = AllPairs-rest R x xs apart in
-    AllPairs-cons R x (insert xs r y)
-    (All-permutation (R x) (y ∷ xs) (insert xs r y) (IsPermutation-insert xs r y)
-    (All-cons (R x) y xs (before 0 (omega arith)) (λ k d within.
-    apart 0 (suc k) d (omega arith) (omega arith))))
-    (insert_in_order R xs r y rest (omega arith) (λ k less. before (suc k) (omega arith))
-    (λ k low within. behind (suc k) (omega arith) (omega arith)))
+insert_in_order R xs r y apart fits before behind = λ i j d less within.
+    let lower = apart i j 0 in
+    let across = apart i (j - 1) 0 in
+    let upper = apart (i - 1) (j - 1) 0 in
+    grind (arith, inserted, get_or_default, lower, across, upper, before i, behind (j - 1))
 
 -- strings stay where they are when bytes come behind them
 agree_longer : (bytes rest positions : List ℕ) → data_of (strings_in bytes) ≡ bytes
@@ -111,8 +99,7 @@ agree_longer bytes rest positions ended begun = λ k d within.
 
 order_agrees : (f g : ℕ → List ℕ) (xs : List ℕ) → All (λ x. f x ≡ g x) xs
     → AllPairs (λ p q. IsBefore (f p) (f q)) xs → AllPairs (λ p q. IsBefore (g p) (g q)) xs
-order_agrees f g xs agree h = λ i j d less within.
-    rw (agree i d (omega arith), agree j d within) at (h i j d less within)
+order_agrees f g xs agree h = λ i j d less within. grind (arith, agree i d, agree j d, h i j d)
 
 -- a string goes last
 pub strings_push : (bytes s : List ℕ) → data_of (strings_in bytes) ≡ bytes → IsZeroFree s
@@ -120,21 +107,16 @@ pub strings_push : (bytes s : List ℕ) → data_of (strings_in bytes) ≡ bytes
     × (data_of (strings_in (bytes ++ terminated s)) ≡ bytes ++ terminated s)
 strings_push bytes s ended free =
     let ss = strings_in bytes in
-    let whole : data_of (ss ++ s ∷ []) ≡ bytes ++ terminated s =
-    sym (flat_map_more terminated [] ss s) ∙ ap (λ l. l ++ terminated s) ended in
-    let free = All-push IsZeroFree ss s (zero_free-strings_in bytes) free in
-    let strings = rw whole at (strings_in-data_of (ss ++ s ∷ []) free) in
-    (strings, ap data_of strings ∙ whole)
+    let whole = flat_map_more terminated [] ss s in
+    let each = All-push IsZeroFree ss s (zero_free-strings_in bytes) free in
+    grind (arith, whole, strings_in-data_of (ss ++ s ∷ []) each)
 
 -- where its strings begin
 grown_offsets : (bytes s : List ℕ) → data_of (strings_in bytes) ≡ bytes → IsZeroFree s
     → offsets_from 0 (strings_in (bytes ++ terminated s)) ≡ offsets_from 0 (strings_in bytes)
     ++ length bytes ∷ []
 grown_offsets bytes s ended free =
-    let far : 0 + length (data_of (strings_in bytes)) ≡ length bytes =
-    omega (arith, ap length ended) in
-    rw ((strings_push bytes s ended free).0, offsets_from-append 0 (strings_in bytes) (s ∷ []), far)
-    refl
+    grind (arith, strings_push bytes s ended free, offsets_from-append, ended)
 
 -- a new string goes last
 pub indexed_push : (bytes positions s : List ℕ) → IsIndexed bytes positions → IsZeroFree s
@@ -209,13 +191,9 @@ indexed_take bytes positions n m table long =
     let there = All-filter (λ p. ltb p m) (λ p. Contains (offsets_from 0 ss) p) positions
     table.begun i d within in
     let end = 0 + length (data_of front) in
-    rw strings (⊎_elim (λ here. here) (λ far. absurd (omega (
-      arith,
-      low,
-      long,
-      All-contains
-          (λ p. end ≤ p) (offsets_from end back) _ (offsets_from-above end back) far,
-    )))
+    let past = All-contains (λ p. end ≤ p) (offsets_from end back) (get_or few i d)
+    (offsets_from-above end back) in
+    rw strings (⊎_elim (λ here. here) (λ far. absurd (omega (arith, low, long, past far)))
     (Contains-append_cases (offsets_from 0 front) _ _ (rw parted at there))) in
     let agree = rw (take-append-drop m bytes)
     at (agree_longer short (drop m bytes) few whole begun) in (

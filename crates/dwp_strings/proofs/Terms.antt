@@ -2,17 +2,17 @@
 pub use Rattle.std.proofs.Common.{All, AllPairs, Bool, Contains, Decides, Equal, Err, Greater}
 pub use Rattle.std.proofs.Common.{IfErr, Less, List, None, Ok, OnErr, OnOk, Option, Ordering}
 pub use Rattle.std.proofs.Common.{Result, Some, Vec, [], add-one, ap, append_assoc, ap₂, arith}
-pub use Rattle.std.proofs.Common.{cond, drop, drop-drop, drop_at, eq-eqb, eqb, false, filter}
+pub use Rattle.std.proofs.Common.{cond, drop, drop-drop, drop_at, eqb, false, filter}
 pub use Rattle.std.proofs.Common.{get_or, get_or-append-add, get_or-drop, inl, inr, insert}
-pub use Rattle.std.proofs.Common.{leb-true, length, length-append, ltb, ltb-true, map, nat_eq}
-pub use Rattle.std.proofs.Common.{nat_lt, ne_eqb, not, refl, replicate, rules, set, slice_index}
-pub use Rattle.std.proofs.Common.{subst, suc, sym, take, true, w64, w8, zero, ℕ, ⊎_elim, ◌%◌, ◌*◌}
+pub use Rattle.std.proofs.Common.{leb-true, length, length-append, ltb, ltb-true, map}
+pub use Rattle.std.proofs.Common.{nat_lt, not, refl, replicate, rules, set, slice_index}
+pub use Rattle.std.proofs.Common.{suc, sym, take, true, w64, w8, zero, ℕ, ⊎_elim, ◌%◌, ◌*◌}
 pub use Rattle.std.proofs.Common.{◌++◌, ◌+◌, ◌-◌, ◌/◌, ◌<◌, ◌^◌, ◌↔◌, ◌∙◌, ◌∷◌, ◌≡◌, ◌≢◌, ◌≤◌, ◌⊎◌}
 pub use Rattle.std.proofs.Math.Seq.{split_at, take-suc}
 pub use Rattle.std.proofs.lemmas.Bool.{cases_eq, cases_lt, cond-true, cond_both, eqb-false}
 pub use Rattle.std.proofs.lemmas.Bool.{false≢true, lt-leb, lt-ltb}
 pub use Rattle.std.proofs.lemmas.Bool.Decides.{Decides-by_or, Decides-eqb, nat_tests}
-pub use Rattle.std.proofs.lemmas.Cmp.{nat_eq_equiv, nat_list_cmp_total, ranked, tied_itself}
+pub use Rattle.std.proofs.lemmas.Cmp.{nat_eq_equiv, nat_list_cmp_total, tied_itself}
 pub use Rattle.std.proofs.lemmas.List.{get_or-map, get_or_default, get_or_read, take_rest}
 pub use Rattle.std.proofs.lemmas.List.{with_items_is}
 pub use Rattle.std.proofs.lemmas.List.Elements.{All-cons, All-contains, All-head, All-tail}

@@ -1,9 +1,7 @@
 -- A string of a section that is used.
 use Rattle.dwp_strings.proofs.Terms
-use Terms.{◌++◌, [], append_assoc, arith, BeginsAt, cond-true, Contains, data_of, IsIndexed}
-use Terms.{IsPlaced, IsZeroFree, length, List, offset_of, Ok, Result, Some, string_from, strings_in}
-use Terms.{sym, terminated, ℕ, ◌∷◌, ◌≡◌}
-use Rattle.std.specs.Result.{result_ok}
+use Terms.{arith, BeginsAt, cond-true, Contains, data_of, IsIndexed, IsPlaced, IsZeroFree, length}
+use Terms.{List, offset_of, string_from, strings_in, sym, terminated, ℕ, ◌++◌, ◌≡◌}
 use Rattle.dwp_strings.proofs.OffsetLemmas.{offset_of-absent, has_Decides}
 use Rattle.dwp_strings.proofs.TableLemmas.{strings_push}
 use Rattle.dwp_strings.proofs.PlaceLemmas.{known_place_in}
@@ -26,18 +24,6 @@ pub used_new : (bytes new s : List ℕ) (n : ℕ) → data_of (strings_in bytes)
     → new ≡ bytes ++ terminated s → n ≡ length bytes → (Contains (strings_in bytes) s → ⊥)
     → IsPlaced (strings_in bytes) (strings_in new) s n
 used_new bytes new s n ended free is_new is_long absent =
-    grind (
-      arith,
-      has_Decides (strings_in bytes) s,
-      offset_of-absent (strings_in bytes) s,
-      strings_push bytes s ended free,
-    )
-
--- the bytes of a string and of its end, one after the other
-pub two_pushes : (bytes kept longer new s : List ℕ) → kept ≡ bytes → longer ≡ kept ++ s
-    → new ≡ longer ++ 0 ∷ [] → new ≡ bytes ++ terminated s
-two_pushes bytes kept longer new s e1 e2 e3 = rw (e3, e2, e1) (append_assoc bytes s (0 ∷ []))
-
--- a result whose value was taken
-pub ok_from_some : {A E : Type 0} (r : Result A E) (x : A) → result_ok r ≡ Some x → r ≡ Ok x
-ok_from_some r x is = grind arith
+    let ss = strings_in bytes in
+    let push = strings_push bytes s ended free in
+    grind (arith, has_Decides ss s, offset_of-absent ss s, push)

@@ -3,7 +3,7 @@
 use Rattle.std.proofs.Common.{◌≡◌, ℕ, zero, suc, ◌+◌, ◌*◌, ◌<◌, ◌≤◌, List, [], ◌∷◌, ◌++◌, length}
 use Rattle.std.proofs.Common.{take, Ok, Err, refl, arith, add-one, ◌-◌, ◌^◌, codes, Option, drop}
 use Rattle.std.proofs.Common.{get_or, eqb, ap, ◌∙◌}
-use Rattle.std.proofs.lemmas.List.{flat_map_more}
+use Rattle.std.proofs.lemmas.List.{flat_map_more, take_rest}
 use Rattle.std.proofs.lemmas.Bool.{cases_eq, eq-eqb}
 use Rattle.std.proofs.lemmas.List.Folds.{list_any_at}
 use Rattle.std.specs.Option.{IfSome, IsSomeAnd}
@@ -20,26 +20,30 @@ use Rattle.thorin_strings.specs.StringOffsets.{header_of, remapped_entry, remapp
 use Rattle.thorin_strings.specs.StringOffsets.{entry_bytes, remapped, offset_limit, entry_at}
 use Rattle.thorin_strings.specs.StringOffsets.{string_read, named_at, fitting_offset}
 use Rattle.thorin_strings.specs.Written.{AreWritten}
-use Rattle.dwp_strings.specs.Strings.{data_of, offset_of, IsPlaced}
+use Rattle.dwp_strings.specs.Strings.{data_of, offset_of, IsPlaced, IsZeroFree}
 use Rattle.thorin_strings.specs.Known.{offset_read, IsKnown, AreKnown}
 use Rattle.dwp_strings.specs.Ends.{IsFirstZero}
 use Rattle.dwp_strings.proofs.CompareLemmas.{front_string}
-use Rattle.dwp_strings.proofs.EndLemmas.{ended_front}
+use Rattle.dwp_strings.proofs.EndLemmas.{ended_front, ended_free}
 use Rattle.dwp_strings.proofs.Named.{there_later, there_once_used}
 use Rattle.dwp_strings.proofs.OffsetLemmas.{length-data_of-cons}
 
 -- the string at a place of a section, before any zero
-pub read_front : (section rest : List ℕ) (at end : ℕ) → at ≤ length section → rest ≡ drop at section
-    → end < length rest → get_or rest end 0 ≡ 0 → string_read section at ≡ Ok (front_string rest)
+pub read_front : (section rest : List ℕ) (at end : ℕ) → at ≤ length section
+    → rest ≡ take (length section - at) (drop at section) → end < length rest
+    → get_or rest end 0 ≡ 0 → string_read section at ≡ Ok (front_string rest)
 unfolding string_at
 read_front section rest at end inside is within is_zero =
-    rw (← is) (grind (arith, list_any_at (λ b. eqb b 0) rest end 0 within (eq-eqb _ 0 is_zero)))
+    rw (← (is ∙ take_rest section at))
+    (grind (arith, list_any_at (λ b. eqb b 0) rest end 0 within (eq-eqb _ 0 is_zero)))
 
-pub ended_read : (section rest : List ℕ) (at end : ℕ) → at ≤ length section → rest ≡ drop at section
-    → IsFirstZero rest end → string_read section at ≡ Ok (take end rest)
+-- up to the first zero
+pub ended_read : (section rest : List ℕ) (at end : ℕ) → at ≤ length section
+    → rest ≡ take (length section - at) (drop at section) → IsFirstZero rest end
+    → (string_read section at ≡ Ok (take end rest)) × IsZeroFree (take end rest)
 ended_read section rest at end inside is is_zero =
-    read_front section rest at end inside is is_zero.within is_zero.ended
-    ∙ ap Ok (ended_front rest end is_zero)
+    let read = read_front section rest at end inside is is_zero.within is_zero.ended in
+    (read ∙ ap Ok (ended_front rest end is_zero), ended_free rest end is_zero)
 
 -- a string was read and used
 pub was_read : (section : List ℕ) (at place : ℕ) (old new : List (List ℕ)) → offset_read section at

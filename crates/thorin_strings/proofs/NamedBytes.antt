@@ -1,7 +1,7 @@
 -- The header of a range of string offsets, and the bytes of its entries, as they are read.
-use Rattle.std.proofs.Common.{◌≡◌, ℕ, zero, suc, ◌+◌, ◌*◌, ◌<◌, ◌≤◌, List, [], ◌∷◌, ◌++◌, length}
-use Rattle.std.proofs.Common.{drop, get_or, Ok, sym, refl, arith, length-append, drop_at}
-use Rattle.std.proofs.Common.{drop-drop, zero-mul, suc-mul}
+use Rattle.std.proofs.Common.{◌≡◌, ℕ, zero, suc, ◌*◌, ◌<◌, ◌≤◌, List, [], ◌∷◌, ◌++◌, length, drop}
+use Rattle.std.proofs.Common.{get_or, Ok, sym, refl, arith, length-append, drop_at, drop-drop}
+use Rattle.std.proofs.Common.{zero-mul, suc-mul}
 use Rattle.std.proofs.lemmas.Bool.Decides.{nat_tests}
 use Rattle.std.proofs.lemmas.Nat.{from_le_bytes-to_le_bytes_4, from_le_bytes-to_le_bytes_8}
 use Rattle.std.proofs.lemmas.Nat.{from_be_bytes-to_be_bytes_4, from_be_bytes-to_be_bytes_8}
@@ -12,8 +12,8 @@ use Rattle.dwp_bytes.specs.declared.encoding.Encoding.{Encoding}
 use Rattle.dwp_bytes.specs.declared.encoding.Format.{Format}
 use Rattle.dwp_bytes.specs.declared.encoding.Format.TheVariants.{Dwarf32, Dwarf64}
 use Rattle.dwp_bytes.specs.Encoding.{offset_size}
-use Rattle.dwp_bytes.specs.StringOffsets.{length_size, header_size}
-use Rattle.thorin_strings.specs.StringOffsets.{offset_limit, initial_length, header_of, entry_bytes}
+use Rattle.dwp_bytes.specs.StringOffsets.{header_size}
+use Rattle.thorin_strings.specs.StringOffsets.{offset_limit, header_of, entry_bytes}
 
 -- a number that fits is written in so many bytes, and read from them
 kept : (order : Endianness) (format : Format) (x : ℕ) (rest : List ℕ)
@@ -29,15 +29,13 @@ kept Big Dwarf64 x rest = (refl, λ h. omega (arith, from_be_bytes-to_be_bytes_8
 pub entries_long : (order : Endianness) (format : Format) (offsets : List ℕ)
     → length (entry_bytes order format offsets) ≡ length offsets * offset_size format
 entries_long order format [] = sym (zero-mul (offset_size format))
-entries_long order format (x ∷ xs) =
-    let width = offset_size format in
-    grind (
-      arith,
-      length-append (number_bytes order width x) (entry_bytes order format xs),
-      (kept order format x []).0,
-      entries_long order format xs,
-      suc-mul (length xs) width,
-    )
+entries_long order format (x ∷ xs) = grind (
+  arith,
+  length-append,
+  (kept order format x []).0,
+  entries_long order format xs,
+  suc-mul (length xs) (offset_size format),
+)
 
 pub entry_read : (order : Endianness) (format : Format) (offsets : List ℕ) (i : ℕ)
     → i < length offsets → get_or offsets i 0 ≤ offset_limit format
@@ -48,24 +46,13 @@ entry_read order format (x ∷ xs) zero less fits =
     grind (arith, zero-mul (offset_size format), kept order format x (entry_bytes order format xs))
 entry_read order format (x ∷ xs) (suc i) less fits =
     let width = offset_size format in
-    let next : suc i * width ≡ width + i * width = omega (arith, suc-mul i width) in
-    let past = drop_at (number_bytes order width x) (entry_bytes order format xs) width
-    (kept order format x []).0 in
-    grind (
-      arith,
-      next,
-      past,
-      drop-drop (i * width) width (entry_bytes order format (x ∷ xs)),
-      entry_read order format xs i,
-    )
+    let bytes = entry_bytes order format (x ∷ xs) in
+    let long = (kept order format x []).0 in
+    let read = entry_read order format xs i in
+    grind (arith, suc-mul i width, drop_at, drop-drop (i * width) width bytes, long, read)
 
 -- the header
-head_long : (order : Endianness) (format : Format) (n : ℕ) → length (initial_length order format n
-    ++ number_bytes order 2 5 ++ number_bytes order 2 0) ≡ length_size format + 4
-head_long order format n = grind arith
-
 pub header_long : (order : Endianness) (encoding : Encoding) (size : ℕ) (header : List ℕ)
     → header_of order encoding size ≡ Ok header → length header ≡ header_size encoding
 unfolding header_of
-header_long order encoding size header h =
-    grind (arith, nat_tests, head_long order encoding.format (size + 4))
+header_long order encoding size header h = grind (arith, nat_tests)

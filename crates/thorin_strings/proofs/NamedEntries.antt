@@ -1,8 +1,7 @@
 -- What rewritten entries name, and a range of them.
 use Rattle.std.proofs.Common.{◌≡◌, ℕ, zero, suc, ◌<◌, ◌≤◌, true, ltb, List, [], ◌∷◌, length, take}
-use Rattle.std.proofs.Common.{get_or, Result, Ok, sym, refl, ◌∙◌, ⊎_elim, arith, length-append}
-use Rattle.std.proofs.Common.{take_all, ltb-false, drop-drop, drop_at, eqb-true, eqb}
-use Rattle.std.proofs.Common.{◌+◌, ◌*◌, ◌++◌}
+use Rattle.std.proofs.Common.{get_or, Result, Ok, sym, ◌∙◌, ⊎_elim, arith, length-append, take_all}
+use Rattle.std.proofs.Common.{ltb-false, drop-drop, drop_at, eqb-true, eqb, ◌+◌, ◌*◌, ◌++◌}
 use Rattle.std.proofs.lemmas.List.{get_or_append_left, get_or_push}
 use Rattle.std.proofs.lemmas.Bool.{cases_eq, eqb-false}
 use Rattle.std.proofs.lemmas.Nat.{row_fits}
@@ -77,12 +76,7 @@ module _ (order : Endianness) (encoding : Encoding) (section bytes : List ℕ) w
       → IsTable before → remapped_entries order encoding section bytes n before ≡ Ok entries
       → EntriesKeep n before entries.0 entries.1
   unfolding remapped_entries
-  entries_keep zero before entries table h = rw (← same-ok _ _ h) (record {
-    table = table;
-    kept = take_all (length before) before (omega arith);
-    long = refl;
-    each = λ i less. absurd (omega arith);
-  })
+  entries_keep zero before entries table h = grind (arith, take_all)
   entries_keep (suc n) before entries table h =
       let first = bind-was (remapped_entries order encoding section bytes n before) _ entries h in
       let entry = bind-was (remapped_entry order encoding section bytes n first.0.1) _
@@ -113,11 +107,7 @@ module _ (order : Endianness) (encoding : Encoding) (section bytes : List ℕ) w
       (many : length offsets ≡ n) where
     range_long : length (header ++ entry_bytes order encoding.format offsets)
         ≡ header_size encoding + n * offset_size encoding.format
-    range_long = grind (
-      arith,
-      entries_long order encoding.format offsets,
-      length-append header (entry_bytes order encoding.format offsets),
-    )
+    range_long = grind (arith, entries_long, length-append)
 
     one_named : (strings : List (List ℕ)) (i : ℕ) → i < n
         → EntryNames i strings (get_or offsets i 0)
@@ -128,6 +118,7 @@ module _ (order : Endianness) (encoding : Encoding) (section bytes : List ℕ) w
         let width = offset_size encoding.format in
         let tail = entry_bytes order encoding.format offsets in
         let read = entry_read order encoding.format offsets i (omega (arith, many)) entry.fits in
+        let past = drop_at header tail (header_size encoding) front in
         record {
           string = entry.string;
           there = (has_Decides strings entry.string).0 entry.there.0;
@@ -135,15 +126,8 @@ module _ (order : Endianness) (encoding : Encoding) (section bytes : List ℕ) w
           new = λ final table kept.
               (let free = named_free i entry.string entry.old in
               let found = read_later strings final entry.string kept free entry.there.0 in
-              grind (
-                arith,
-                range_long,
-                row_fits i width n width less,
-                drop-drop (i * width) (header_size encoding) (header ++ tail),
-                drop_at header tail (header_size encoding) front,
-                read,
-                found,
-              ));
+              let room = row_fits i width n width less in
+              grind (arith, range_long, drop-drop, read, found));
         }
 
   pub range_named : (size : ℕ) (before : List (List ℕ)) (range : List ℕ × List (List ℕ))
@@ -151,15 +135,7 @@ module _ (order : Endianness) (encoding : Encoding) (section bytes : List ℕ) w
       → NamesTheSame order encoding section bytes size before range.0 range.1
   unfolding remapped
   range_named size before range table h = by-bool _ (eqb size 0)
-      (λ empty. let is_zero = eqb-true size 0 empty in
-      rw (is_zero, ← same-ok _ _ (rw empty at h)) (record {
-        table = table;
-        kept = take_all (length before) before (omega arith);
-        count = refl;
-        none = λ _. refl;
-        long = λ some. absurd (some refl);
-        named = λ i less. absurd (grind arith);
-      }))
+      (λ empty. grind (arith, take_all, eqb-true size 0 empty))
       (λ some. by-choice _ (ltb size (header_size encoding)) _ _ _ (rw some at h) (λ e. absurd cc)
       (λ whole. let n = entry_count encoding size in
       let header = bind-was (header_of order encoding (n * offset_size encoding.format)) _ range

@@ -1,26 +1,23 @@
 -- What a unit of a written package means as an input: just what was joined.
 use Rattle.thorin_again.proofs.Terms
-use Terms.{get_or_append_left, row_abbreviations, abbreviations_for, slice_get_within, Contribution}
-use Terms.{slice_get-get_or, contribution_to, name_signature, is_compilation, name-identity, nat_eq}
-use Terms.{identity-sort, filter-append, identifier_of, FindsExactly, not-outside, take-length, ◌≡◌}
-use Terms.{SectionKind, UnitSection, DwarfObject, Compilation, pieces-same, content_of, HasEntries}
-use Terms.{IndexEntry, meaning_at, InProgress, strings_of, part-there, Endianness, own_source, zero}
-use Terms.{All-filter, lie_inside, is_outside, eqb-false, none-some, same_Some, is_chosen, eqb-true}
-use Terms.{index_for, looked_up, AreRowsOf, entry_ids, LieInside, range_in, HasParts, Contents, ◌∙◌}
-use Terms.{name_for, row_test, Encoding, TypeUnit, section, part_of, data_of, rows_of, Indexes, ◌<◌}
-use Terms.{Meaning, kind_at, HasRows, members, same-ok, by-bool, length, Option, eq-eqb, Header, []}
-use Terms.{Ranges, Source, row_of, false, arith, Input, Index, first, id-at, AllOf, Bool, true, ◌∷◌}
-use Terms.{List, refl, Some, None, kept, File, sym, ap, Ok, ℕ}
-use Rattle.std.proofs.Common.{slice_get, is_none, get_or, ◌++◌, find, suc, ◌+◌, ◌≢◌, ap₂}
+use Terms.{get_or_append_left, abbreviations_for, row_abbreviations, slice_get-get_or, Contribution}
+use Terms.{slice_get_within, contribution_to, is_compilation, name_signature, filter-append, Header}
+use Terms.{identifier_of, identity-sort, name-identity, FindsExactly, DwarfObject, SectionKind, sym}
+use Terms.{UnitSection, not-outside, pieces-same, take-length, All-filter, Endianness, HasEntries}
+use Terms.{InProgress, IndexEntry, content_of, is_outside, lie_inside, meaning_at, own_source, Bool}
+use Terms.{part-there, strings_of, AreRowsOf, LieInside, entry_ids, index_for, is_chosen, looked_up}
+use Terms.{nat_tests, none-some, Contents, Encoding, HasParts, eqb-true, name_for, range_in, Option}
+use Terms.{row_test, HasRows, Indexes, IsRowOf, Meaning, by-bool, kind_at, members, part_of, Ranges}
+use Terms.{rows_of, section, Source, length, nat_eq, row_of, AllOf, Index, Input, arith, false, ◌<◌}
+use Terms.{first, id-at, File, List, None, Some, refl, true, zero, ◌∙◌, ◌∷◌, ◌≡◌, Ok, [], ap, ℕ}
+use Rattle.std.proofs.Common.{slice_get, is_none, get_or, find, ◌++◌, ap₂, suc, ◌+◌, ◌≢◌, ◌≤◌}
 use Rattle.thorin_join.specs.Meaning.{meaning_with, shared_kinds, unit_meaning, meaning_by}
-use Rattle.thorin_join.proofs.Terms.{IsRowOf}
-use Rattle.thorin_identity.specs.Identity.{identity_by, identity}
+use Rattle.thorin_identity.specs.Identity.{identity}
 use Rattle.dwp_index.specs.Index.{row_in}
 use Rattle.dwp_table.specs.Probing.{look_count, found_row}
 use Rattle.thorin_packaged.specs.RowPlaces.{row_by_place}
-use Rattle.thorin_input.specs.Rows.{numbered_abbreviations, is_same_row, is_compile, own_range}
-use Rattle.thorin_again.proofs.Meant.RowByRow.{non_empty-some, bytes-own, range_at, IsUnitOf}
-use Rattle.thorin_again.proofs.Meant.RowByRow.{at-seam, IsBelow}
+use Rattle.thorin_input.specs.Rows.{numbered_abbreviations, own_range}
+use Rattle.thorin_again.proofs.Meant.RowByRow.{bytes-own, IsUnitOf, range_at, IsBelow, at-seam}
 use Rattle.thorin_packaged.proofs.FirstRow.{first_found}
 use Rattle.dwp_table.proofs.Tables.{finds_exactly}
 use Rattle.thorin_join.proofs.Parts.StringLists.{strings-are}
@@ -42,11 +39,8 @@ same-name indexes id name h same = grind arith
 some-index : (index : Option Index) (rows : List IndexEntry) (row : IndexEntry) (n : ℕ)
     → HasRows index rows → slice_get rows n ≡ Some row → (i : Index) × (index ≡ Some i)
     × ((version : ℕ) × HasEntries version rows i)
-some-index None rows row n has at = let none = rw has at at in absurd cc
+some-index None rows row n has at = grind arith
 some-index (Some i) rows row n has at = (i, refl, (has.0, has.1))
-
-same-number : (looked : Option ℕ) (n : ℕ) → is_same_row (Some n) looked ≡ true → looked ≡ Some n
-same-number looked n h = grind (arith, eqb-true)
 
 -- the unit of a row, and its encoding
 unit-of : (order : Endianness) (contents : Contents) (strings : List (List ℕ)) (encoding : Encoding)
@@ -74,9 +68,8 @@ module _ {encoding : Encoding} {file : File} {indexes : Indexes} {made : InProgr
 
   joined : IsRowOf file.order file.contents made.strings row (row.id, mean row)
       × (encoding ≡ (mean row).encoding)
-  joined = unit-of file.order file.contents made.strings encoding mean u.before later row
-      (rw u.split at (rows-kept made file read.own.sound read.finished))
-      (rw u.split at read.own.all)
+  joined = unit-of _ _ _ encoding mean u.before later row (rw u.split at (rows-kept made file
+      read.own.sound read.finished)) (rw u.split at read.own.all)
 
   pub row-lies : LieInside file.contents row
   row-lies = joined.0.lie
@@ -98,10 +91,7 @@ module _ {encoding : Encoding} {file : File} {indexes : Indexes} {made : InProgr
   number = length (rows_of sort u.before)
 
   chosen-are : chosen ≡ rows_of sort u.before ++ row ∷ rows_of sort later
-  chosen-are =
-      let own_sort : is_chosen sort row ≡ true = grind arith in
-      ap (rows_of sort) u.split
-      ∙ rw (filter-append (is_chosen sort) u.before (row ∷ later), own_sort) refl
+  chosen-are = grind (arith, u.split, filter-append (is_chosen sort) u.before (row ∷ later))
 
   at : slice_get chosen number ≡ Some row
   at = rw chosen-are (at-seam (rows_of sort u.before) (rows_of sort later))
@@ -109,11 +99,8 @@ module _ {encoding : Encoding} {file : File} {indexes : Indexes} {made : InProgr
   pub there : (i : Index) × (index_for indexes row.id ≡ Some i)
       × ((version : ℕ) × HasEntries version chosen i)
   there =
-      let has = elim row.id as
-      (λ id. HasRows (index_for indexes id) (rows_of (is_compilation id) made.rows)) [
-        | Compilation id ↦ read.again.compilations
-        | TypeUnit signature ↦ read.again.types
-      ] in
+      let has : HasRows (index_for indexes row.id) chosen =
+      grind (arith, read.again.compilations, read.again.types) in
       some-index (index_for indexes row.id) chosen row number has at
 
   abbrev index : Index
@@ -138,28 +125,21 @@ module _ {encoding : Encoding} {file : File} {indexes : Indexes} {made : InProgr
       let inside = slice_get_within chosen number row at in
       let ps = there.2.1.each l r (slice_get-get_or chosen l row (omega arith)) in
       let next : suc l ≡ l + 1 = omega arith in
-      let same : other ≡ ps.row = same-ok _ _ (sym h ∙ ap (row_in index) next ∙ ps.there) in
-      let has_range = non_empty-some (contribution_to kind r) range
-      (sym (ps.parts kind) ∙ ap (λ x. range_in x kind) (sym same) ∙ e) in
-      let early = ap (λ rs. contribution_to kind (get_or rs l row)) chosen-are
-      ∙ ap (contribution_to kind) (get_or_append_left (rows_of sort u.before)
-      (row ∷ rows_of sort later) row l within) in
+      let has_range : contribution_to kind r ≡ Some range =
+      grind (arith, h, next, ps.there, ps.parts kind, e) in
+      let early = get_or_append_left (rows_of sort u.before) (row ∷ rows_of sort later) row l within
+      in
       let low = All-filter (is_chosen sort) (IsBelow kind u.offset) u.before u.below l row within
-      range (sym early ∙ has_range) in
+      range (grind (arith, has_range, chosen-are, early)) in
       omega arith
 
   row-first : row_by_place (Some index) kind range ≡ Some (number + 1)
-  row-first = first_found index kind range (number + 1) (record {
-    row = parts.row;
-    there = parts.there;
-    has = found-range kind ∙ u.range;
-    low = omega arith;
-    high = omega (arith, there.2.1.count, slice_get_within chosen number row at);
-    first = none-before;
-  })
-
-  by-place : row_by_place (index_for indexes row.id) kind range ≡ Some (number + 1)
-  by-place = rw there.1 row-first
+  row-first =
+      let has = found-range kind ∙ u.range in
+      let inside = slice_get_within chosen number row at in
+      let high : number + 1 ≤ length index.offsets = omega (arith, there.2.1.count, inside) in
+      let low : 1 ≤ number + 1 = omega arith in
+      first_found index kind range (number + 1) (search (parts.there, has, low, high, none-before))
 
   -- ---- what belongs to it
 
@@ -170,23 +150,20 @@ module _ {encoding : Encoding} {file : File} {indexes : Indexes} {made : InProgr
   outside : (k : SectionKind) → is_outside (first k source.object.sections) (range_in parts.row k) ≡
       false
   outside k = ap₂ is_outside (read.again.held k) (found-range k)
-      ∙ not-outside (content_of k file.contents) (content_of k file.contents)
-      (contribution_to k row) refl (row-lies.inside k)
+      ∙ not-outside _ _ _ refl (row-lies.inside k)
 
   means : meaning_by source u.own (Some parts.row) ≡ Some (mean row)
   unfolding meaning_by
   means =
       let is = joined.0 in
-      let own_is = sym (bytes-own u) ∙ ap (λ p. part_of (content_of (kind_at p) file.contents)
-      (contribution_to (kind_at p) row)) (sym is.owns.place_is) ∙ is.owns.bytes in
+      let own_is : u.own ≡ (mean row).bytes =
+      grind (arith, bytes-own u, is.owns.place_is, is.owns.bytes) in
       let inside : lie_inside source (Some parts.row) ≡ true = λ i. is_none (find (λ k. outside k i)
       shared_kinds) in
       let strings_are =
       (λ i. strings_of file.order (joined.1 i)
       ((read.again.held kinds.Str ∙ read.again.strings_are) i) (bytes-are kinds.StrOffsets i))
-      ∙ strings-are file.order (mean row).encoding (data_of made.strings)
-      (part_of (content_of kinds.StrOffsets file.contents) (contribution_to kinds.StrOffsets row))
-      (mean row).strings (is.shares.string made.strings read.again.table
+      ∙ strings-are _ _ _ _ _ (is.shares.string made.strings read.again.table
       (take-length made.strings)) in
       rw inside (ap (meaning_with source u.own (Some parts.row)) strings_are
       ∙ (λ i. Some (record {
@@ -201,8 +178,7 @@ module _ {encoding : Encoding} {file : File} {indexes : Indexes} {made : InProgr
   finds : (name : DwarfObject) → FindsExactly (entry_ids chosen) (identifier_of name)
       (found_row index.signatures index.rows (identifier_of name))
       (look_count index.signatures index.rows (identifier_of name))
-  finds name = finds_exactly (entry_ids chosen) index.signatures index.rows
-      (identifier_of name) there.2.1.slots
+  finds name = finds_exactly _ _ _ _ there.2.1.slots
 
   looked : looked_up (index_for indexes row.id) (identifier_of row.id) ≡ Some (number + 1)
   looked = let id = id-at chosen number row at in
@@ -210,43 +186,39 @@ module _ {encoding : Encoding} {file : File} {indexes : Indexes} {made : InProgr
 
   pub found-row : row_of (index_for indexes row.id) (identifier_of row.id) ≡ Ok parts.row
   unfolding row_of
-  found-row = let number_is = rw there.1 at looked in rw (there.1, number_is, parts.there) refl
+  found-row = grind (arith, there.1, looked, parts.there)
 
   -- what has that row has that identifier
   same-id : (name : DwarfObject) → looked_up (index_for indexes row.id) (identifier_of name)
       ≡ Some (number + 1) → identifier_of row.id ≡ identifier_of name
   same-id name found =
       let row_is = rw there.1 at found in
+      let number_is = (id-at chosen number row at).1 in
       by-bool _ (nat_eq (identifier_of row.id) (identifier_of name)) (eqb-true _ _) (λ other.
-      absurd (none-some (number + 1) (sym ((finds name).absent_row (λ r within is_there.
-      let next : r + 1 ≡ number + 1 = same_Some _ _ (sym ((finds name).present_row r within
-      is_there) ∙ row_is) in
-      let same : r ≡ number = omega arith in
-      eqb-false _ _ other (sym (id-at chosen number row at).1 ∙ rw same at is_there))) ∙ row_is)))
+      absurd (none-some (number + 1) (sym ((finds name).absent_row (λ r within is.
+      grind (arith, nat_tests, other, (finds name).present_row r within is, row_is, is, number_is)))
+      ∙ row_is)))
 
   own-range : own_range h ≡ range
   own-range = ap (λ (i : Input). range_at i.place i.bytes) u.whole
 
   -- the unit has the name of its row, and means what was joined
   pub row-means-again : (name : DwarfObject) → name_for source kind h ≡ Ok name
-      → (is_compilation name ≡ true → row_test indexes kind name h ≡ Ok tt)
-      → (name ≡ row.id)
+      → (is_compilation name ≡ true → row_test indexes kind name h ≡ Ok tt) → (name ≡ row.id)
       × (unit_meaning source (name, record { from = kind; unit = h }) ≡ Some (mean row))
   unfolding unit_meaning row_test
   row-means-again name named tested =
       let id = name-identity source kind h name named in
       let is_name : name ≡ row.id = same-name indexes row.id name
-      (sym (identity-sort id.0 h name id.1) ∙ u.sort) (λ c alike. same-id name (same-number _
-      (number + 1) (kept _ _ _ _ (rw (read.again.packed, alike, own-range, by-place) at
-      (tested c))).0)) in
+      (sym (identity-sort id.0 h name id.1) ∙ u.sort) (λ c alike. same-id name
+      (grind (arith, nat_tests, tested c, read.again.packed, own-range, there.1, row-first))) in
       let whole = ap (λ (i : Input). meaning_by source i.bytes (Some parts.row)) u.whole ∙ means in
       (is_name, rw (read.again.packed, is_name, own-range, there.1, row-first, parts.there) whole)
 
   -- it passes the test of its row
   pub row-tested : row_test indexes kind row.id h ≡ Ok tt
   unfolding row_test
-  row-tested = let same = eq-eqb (number + 1) (number + 1) refl in
-      rw (read.again.packed, own-range, by-place, looked, same) refl
+  row-tested = grind (arith, nat_tests, read.again.packed, own-range, there.1, row-first, looked)
 
   abbrev abbreviations : Input
   abbreviations =
@@ -256,12 +228,6 @@ module _ {encoding : Encoding} {file : File} {indexes : Indexes} {made : InProgr
   pub named-again : identity abbreviations h ≡ Ok (Some row.id) → name_for source kind h ≡ Ok row.id
   unfolding name_for abbreviations_for row_abbreviations numbered_abbreviations identity
   named-again named =
-      by-bool _ (is_compile h.unit_type)
-      (λ compiled.
-      let same : indexes.compilations ≡ index_for indexes row.id = grind (arith, u.sort) in
-      rw (read.again.packed, compiled, same, there.1, own-range, row-first, parts.there)
-      (rw (outside kinds.Abbrev, bytes-are kinds.Abbrev, named) refl))
-      (λ other.
-      let same : identity_by (section file.order (first kinds.Abbrev source.object.sections)) h
-      h.unit_type ≡ identity_by abbreviations h h.unit_type = grind arith in
-      rw (read.again.packed, other, same, named) refl)
+      let inside = outside kinds.Abbrev in
+      let bytes = bytes-are kinds.Abbrev in
+      grind (arith, read.again.packed, there.1, own-range, row-first, parts.there, inside, bytes)

@@ -1,31 +1,32 @@
 -- A finished package, taken as an input, means the units that were joined in it.
 use Rattle.thorin_again.proofs.Terms
-use Terms.{abbreviations_test, with_source_or_new, All-from_recursion, IsPermutation-map, new_units}
-use Terms.{drop-append_seam, take-append_seam, IsFinishedState, MeansWhereTaken, is_compilation, []}
-use Terms.{written_object, package_or_new, HaveEncodingOf, eqb-suc-zero, units_within, source_units}
-use Terms.{unit_section, written_used, IsSoundBegun, SectionKind, UnitSection, KindsDiffer, is_used}
-use Terms.{DwarfObject, with_source, written_elf, encoding_of, append-nil, content_of, indexes_of}
-use Terms.{InProgress, own_source, map-append, length-map, IndexEntry, meaning_at, with_units, true}
-use Terms.{file_text, all_meant, Contents, UnitRead, name_for, row_test, bind-was, Encoding, Option}
-use Terms.{parts_of, units_of, units_in, has_info, All-head, All-tail, no-bytes, All-take, All-drop}
-use Terms.{by-bool, section, Indexes, joining, Meaning, Members, NewUnit, kind_at, same-ok, rows_at}
-use Terms.{IsSound, members, length, Source, Adding, adding, elf_of, opened, subst, arith, units, ℕ}
-use Terms.{Reads, IsOwn, AllOf, is_at, first, List, refl, Each, both, keys, File, ◌≡◌, ◌∙◌, ◌∷◌, Ok}
-use Terms.{sym, All, map, ◌<◌, ap}
-use Rattle.std.proofs.Common.{IsPermutation, ◌++◌, ap₂, ◌≢◌}
+use Terms.{All-from_recursion, with_source_or_new, Any-from_list_any, IsPermutation-map, ErrorValue}
+use Terms.{drop-append_seam, take-append_seam, IsFinishedState, MeansWhereTaken, HaveEncodingOf, Ok}
+use Terms.{is_compilation, package_or_new, written_object, IsSoundBegun, eqb-suc-zero, source_units}
+use Terms.{unit_section, units_within, written_used, DwarfObject, KindsDiffer, SectionKind, Indexes}
+use Terms.{UnitSection, encoding_of, source-made, with_source, written_elf, InProgress, IndexEntry}
+use Terms.{append-nil, content_of, indexes_of, length-map, map-append, meaning_at, own_source, Each}
+use Terms.{with_units, all_meant, file_text, All-drop, All-head, All-tail, All-take, Contents, File}
+use Terms.{Encoding, UnitRead, bind-was, has_info, name_for, no-bytes, row_test, units_in, units_of}
+use Terms.{IsSound, Meaning, Members, NewUnit, by-bool, joining, kind_at, members, rows_at, same-ok}
+use Terms.{section, Adding, Option, Source, adding, elf_of, length, opened, AllOf, IsOwn, Reads, []}
+use Terms.{arith, first, is_at, subst, units, List, refl, true, All, map, sym, ◌<◌, ◌∙◌, ◌∷◌, ◌≡◌}
+use Terms.{ap, ℕ}
+use Rattle.std.proofs.Common.{IsPermutation, Result, ◌++◌, ap₂, ◌≢◌}
 use Rattle.thorin_join.specs.Builder.{finish_test, order_test, with_input, State, taken}
 use Rattle.std.proofs.lemmas.List.Sorted.{IsPermutation-append_right, IsPermutation-append_comm}
 use Rattle.std.proofs.lemmas.List.Sorted.{IsPermutation-filter_both, IsPermutation-trans}
 use Rattle.std.proofs.lemmas.List.Sorted.{IsPermutation-refl, IsPermutation-sym, All-permutation}
-use Rattle.thorin_join.specs.Meaning.{named_sections, source_meaning, object_meaning, input_meaning}
+use Rattle.thorin_join.specs.Meaning.{named_sections, object_meaning, source_meaning, input_meaning}
 use Rattle.thorin_join.specs.Meaning.{named_each, named_unit, can_join, named_at, meant}
-use Rattle.thorin_join.proofs.Units.JoinedByName.{units-joined, AreAdded}
-use Rattle.thorin_again.proofs.Opened.Sections.{object-written, input-encoding, first-written}
-use Rattle.thorin_again.proofs.Opened.Sections.{rest-differ, none-behind, empty-first, section_of}
-use Rattle.thorin_again.proofs.Opened.Sections.{opened-elf, no-info}
-use Rattle.thorin_again.proofs.Meant.RowByRow.{each-place, of-section}
+use Rattle.thorin_join.proofs.Units.JoinedByName.{AreAdded}
+use Rattle.thorin_again.proofs.Opened.Sections.{input-encoding, object-written, first-written}
+use Rattle.thorin_again.proofs.Opened.Sections.{empty-first, none-behind, rest-differ, opened-elf}
+use Rattle.thorin_again.proofs.Opened.Sections.{section_of, no-info}
+use Rattle.thorin_again.proofs.Meant.RowByRow.{of-section}
 use Rattle.thorin_again.proofs.Meant.OneRow.{row-means-again}
-use Rattle.thorin_again.proofs.Opened.Indexes.{lie-kept, lie-used, IsReadOf, read-of}
+use Rattle.thorin_again.proofs.Opened.Indexes.{IsReadOf, lie-kept, lie-used, read-of}
+use Rattle.thorin_again.proofs.Kept.EachUnit.{joined}
 use Rattle.dwp_base.specs.declared.section.SectionKind.TheVariants as kinds
 use Rattle.dwp_dwarf.specs.declared.unit.UnitSection.TheVariants as places
 
@@ -41,19 +42,20 @@ joined-tested : (adding : Adding) (names : List DwarfObject) (all : Reads)
 joined-tested adding names [] ns can are = tt
 joined-tested adding names (u ∷ us) [] can are = grind (arith, joined-tested adding names us [])
 joined-tested adding names (u ∷ us) (n ∷ ns) can are =
-    grind (
-      arith,
-      joined-tested adding names us (n ∷ ns),
-      joined-tested adding (names ++ u.0 ∷ []) us ns,
-    )
+    let passed = joined-tested adding names us (n ∷ ns) in
+    grind (arith, passed, joined-tested adding (names ++ u.0 ∷ []) us ns)
 
 -- ---- the units of info and of types
 
-record Split (source : Source) (cs : Contents) (all : Reads) : Type 0 where
-  of : UnitSection → Reads
-  read : (place : UnitSection) → named_each source (kind_at place) (units place
-      (section source.object.order (content_of (kind_at place) cs))) ≡ Ok (of place)
-  are : IsPermutation (of places.Info ++ of places.Types) all
+-- what is read of the content of a section of units
+abbrev read_at : Source → Contents → UnitSection → Result Reads ErrorValue
+read_at source cs place = named_each source (kind_at place)
+    (units place (section source.object.order (content_of (kind_at place) cs)))
+
+-- those of info and those of types are all of these, in some order
+abbrev Split : Source → Contents → Reads → Type 0
+Split source cs all = (infos types : Reads) × (read_at source cs places.Info ≡ Ok infos)
+    × (read_at source cs places.Types ≡ Ok types) × IsPermutation (infos ++ types) all
 
 -- one more section, behind which no other of its place has units
 section-split : (source : Source) (c : SectionKind × List ℕ) (cs : Contents)
@@ -63,49 +65,27 @@ section-split : (source : Source) (c : SectionKind × List ℕ) (cs : Contents)
 unfolding named_each units units_within
 section-split source (kinds.Info, bytes) cs here others apart rest h =
     let behind = none-behind kinds.Info (kinds.Info, bytes) cs apart refl in
-    let none : rest.of places.Info ≡ [] =
-    sym (same-ok [] _ (rw behind at (rest.read places.Info))) in
-    record {
-      of = each-place (λ place. Reads) here (rest.of places.Types);
-      read = each-place _ h (rest.read places.Types);
-      are = IsPermutation-append_right here (rest.of places.Types) others (rw none at rest.are);
-    }
+    let none : rest.0 ≡ [] = grind (arith, rest.2, behind) in
+    (here, rest.1, h, rest.3, IsPermutation-append_right here rest.1 others (rw none at rest.4))
 section-split source (kinds.Types, bytes) cs here others apart rest h =
     let behind = none-behind kinds.Types (kinds.Types, bytes) cs apart refl in
-    let none : rest.of places.Types ≡ [] =
-    sym (same-ok [] _ (rw behind at (rest.read places.Types))) in
-    record {
-      of = each-place (λ place. Reads) (rest.of places.Info) here;
-      read = each-place _ (rest.read places.Info) h;
-      are = IsPermutation-trans _ (here ++ rest.of places.Info) _
-          (IsPermutation-append_comm (rest.of places.Info) here)
-          (IsPermutation-append_right here (rest.of places.Info) others
-          (rw (none, append-nil) at rest.are));
-    }
-section-split source (kind, bytes) cs here others apart rest h =
-    rw (← same-ok [] here h) (record {
-      of = rest.of;
-      read = each-place _ (rest.read places.Info) (rest.read places.Types);
-      are = rest.are;
-    })
+    let none : rest.1 ≡ [] = grind (arith, rest.3, behind) in
+    let are = IsPermutation-trans _ (here ++ rest.0) _ (IsPermutation-append_comm rest.0 here)
+    (IsPermutation-append_right here rest.0 others (rw (none, append-nil) at rest.4)) in
+    (rest.0, here, rest.2, h, are)
+section-split source (kind, bytes) cs here others apart rest h = rw (← same-ok [] here h) rest
 
 -- the units of a file's sections are those of info and those of types, in some order
 sections-split : (source : Source) (cs : Contents) (all : Reads) → KindsDiffer cs
     → named_sections source (written_used cs) ≡ Ok all → Split source cs all
 unfolding named_sections named_each units units_within
 sections-split source [] all differ h =
-    rw (← same-ok [] all h) (record {
-      of = λ place. [];
-      read = each-place _ refl refl;
-      are = IsPermutation-refl [];
-    })
+    rw (← same-ok [] all h) ([], [], refl, refl, IsPermutation-refl [])
 sections-split source ((kind, []) ∷ cs) all differ h =
     let rest = sections-split source cs all (rest-differ (kind, []) cs differ) h in
-    record {
-      of = rest.of;
-      read = λ place. rw (empty-first (kind_at place) kind cs differ) (rest.read place);
-      are = rest.are;
-    }
+    let info = empty-first kinds.Info kind cs differ in
+    let types = empty-first kinds.Types kind cs differ in
+    (rest.0, rest.1, rw info rest.2, rw types rest.3, rest.4)
 sections-split source ((kind, b ∷ bs) ∷ cs) all differ h =
     let c : SectionKind × List ℕ = (kind, b ∷ bs) in
     let s1 = bind-was (named_at source (section_of c) (unit_section kind)) _ all
@@ -120,8 +100,7 @@ sections-split source ((kind, b ∷ bs) ∷ cs) all differ h =
 encoding-none : (file : File) (e : Encoding) → KindsDiffer file.contents
     → content_of kinds.Info file.contents ≡ [] → encoding_of (written_object file) ≡ Ok e → ⊥
 unfolding encoding_of units units_within
-encoding-none file e differ none h =
-    let no = rw (first-written kinds.Info file.contents differ, none) at h in absurd cc
+encoding-none file e differ none h = grind (arith, first-written kinds.Info file.contents differ)
 
 -- a file that is taken, with what is read of it
 module _ {encoding : Encoding} {file : File} {indexes : Indexes} {made : InProgress}
@@ -137,19 +116,10 @@ module _ {encoding : Encoding} {file : File} {indexes : Indexes} {made : InProgr
   abbrev units_meant : Reads → List (DwarfObject × Option Meaning)
   units_meant us = map {B = DwarfObject × Option Meaning} (meant source) us
 
-  split : Split source file.contents all
-  split = sections-split source file.contents all is.kinds units_are
-
-  tested-at : (place : UnitSection) → All (IsTested source) (split.of place)
-  tested-at =
-      let n = length (split.of places.Info) in
-      let both = All-permutation (IsTested source) _ _ (IsPermutation-sym _ _ split.are) tested in
-      each-place _ (rw take-append_seam at (All-take (IsTested source) n _ both))
-      (rw drop-append_seam at (All-drop (IsTested source) n _ both))
-
   -- the units of a section mean what its rows do, in their order
-  units-are : (place : UnitSection) → units_meant (split.of place) ≡ all_meant
-      (members mean (rows_at place made.rows))
+  units-are : (place : UnitSection) (us : Reads) → read_at source file.contents place ≡ Ok us
+      → All (IsTested source) us
+      → units_meant us ≡ all_meant (members mean (rows_at place made.rows))
   unfolding named_each named_unit
   units-are place =
       let laid = is.own.sound.laid in
@@ -164,27 +134,30 @@ module _ {encoding : Encoding} {file : File} {indexes : Indexes} {made : InProgr
       let s2 = bind-was (named_each source (kind_at place) got) _ us s1.2 in
       let t = bind-was (name_for source (kind_at place) h) _ s1.0 s1.1 in
       let unit : DwarfObject × UnitRead = (t.0, record { from = kind_at place; unit = h }) in
-      let found : us ≡ unit ∷ s2.0 = sym (same-ok _ us s2.2)
-      ∙ ap (λ l. l ∷ s2.0) (sym (same-ok unit _ t.2)) in
+      let found : us ≡ unit ∷ s2.0 = grind (arith, s2.2, t.2) in
       let each = subst (All (IsTested source)) found rest in
       let means = row-means-again is u t.0 t.1 (All-head (IsTested source) unit s2.0 each) in
       rw u.here (ap units_meant found ∙ (λ i. (means.0 i, means.1 i) ∷ later s2.0 s2.1
       (All-tail (IsTested source) unit s2.0 each) i)))
-      laid.once (lie-kept made file laid is.finished place) (split.of place)
-      (split.read place) (tested-at place)
+      laid.once (lie-kept made file laid is.finished place)
 
   rows-meant : IsPermutation (all_meant (units_of made)) (units_meant all)
   rows-meant =
-      let infos = rows_at places.Info made.rows in
-      let types = rows_at places.Types made.rows in
       let apart = IsPermutation-filter_both (is_at places.Info) (is_at places.Types)
       (λ row. grind arith) made.rows in
-      let joined : all_meant (members mean (infos ++ types)) ≡ units_meant (split.of
-      places.Info ++ split.of places.Types) = simp map-append
-      (ap₂ (λ a b. a ++ b) (sym (units-are places.Info)) (sym (units-are places.Types))) in
+      let split = sections-split source file.contents all is.kinds units_are in
+      let n = length split.0 in
+      let both = All-permutation (IsTested source) _ _ (IsPermutation-sym _ _ split.4) tested in
+      let i = units-are places.Info split.0 split.2
+      (rw take-append_seam at (All-take (IsTested source) n _ both)) in
+      let t = units-are places.Types split.1 split.3
+      (rw drop-append_seam at (All-drop (IsTested source) n _ both)) in
+      let joined : all_meant (members mean (rows_at places.Info made.rows ++ rows_at places.Types
+      made.rows)) ≡ units_meant (split.0 ++ split.1) =
+      simp map-append (ap₂ (λ a b. a ++ b) (sym i) (sym t)) in
       IsPermutation-trans _ _ _
       (IsPermutation-map _ _ _ (IsPermutation-map _ made.rows _ apart))
-      (rw joined (IsPermutation-map (meant source) _ all split.are))
+      (rw joined (IsPermutation-map (meant source) _ all split.4))
 
 -- the file of a finished state
 module _ (state : State) (file : File) (begun : IsSoundBegun state.begun)
@@ -212,11 +185,10 @@ module _ (state : State) (file : File) (begun : IsSoundBegun state.begun)
       let info : 0 < length held =
       let none : length held ≢ 0 = λ none. encoding-none file encoding differ (no-bytes held none)
       first in omega (arith, none) in
-      let some : 0 < length fin.made.rows =
-      let used = lie-used file.order places.Info 0 fin.made.rows held
-      (lie-kept fin.made file sound.laid fin.finished places.Info) info in
-      (elim fin.made.rows as (λ rs. is_used rs kinds.Info ≡ true → 0 < length rs)
-      [ [] ↦ λ e. absurd cc | r ∷ rs ↦ λ e. omega arith ]) used in
+      let lie = lie-kept fin.made file sound.laid fin.finished places.Info in
+      let used = Any-from_list_any _ fin.made.rows
+      (lie-used _ places.Info 0 fin.made.rows _ lie info) in
+      let some : 0 < length fin.made.rows = omega (arith, used.2) in
       let long : length (units_of fin.made) ≡ length fin.made.rows = length-map fin.made.rows _ in
       let units : 0 < length (units_in state) = rw fin.begun (omega (arith, some, long)) in
       let all : AllOf encoding (units_in state) = λ k d within.
@@ -232,23 +204,19 @@ module _ (state : State) (file : File) (begun : IsSoundBegun state.begun)
       with_source
   units-again had now info h meaning means =
       let object = written_object file in
-      let s1 = bind-was (encoding_of object) _ now
-      (rw (opens, info, object-written file differ) at h) in
+      let s1 = bind-was _ _ now (rw (opens, info, object-written file differ) at h) in
       let s2 = bind-was (order_test object.order had) _ now s1.2 in
       let s3 = bind-was (indexes_of object s1.0) _ now s2.2 in
       let source = own_source file s1.0 s3.0 in
       let before = package_or_new (written_elf file) had in
       let s4 = bind-was (with_source source before) _ now s3.2 in
-      let t1 = bind-was (parts_of source before.strings) _ s4.0 s4.1 in
-      let t2 = bind-was (abbreviations_test object) _ s4.0 t1.2 in
-      let add = adding source before t1.0.0 in
-      let t3 = bind-was (new_units add) _ s4.0 t2.2 in
-      let j = units-joined add t3.0 t3.1 in
+      let a = source-made source before s4.0 s4.1 in
+      let j = joined a in
       subst (IsPermutation (all_meant (units_of fin.made))) (same-ok _ meaning
       (rw (opens, info, object-written file differ, s1.1, s3.1, j.is) at means))
       (rows-meant (is-read s1.0 s3.0 s1.1 s3.1) j.all j.is
-      (All-from_recursion (IsTested add.source) j.all
-      (joined-tested add (keys add.held) j.all t3.0.units j.defined j.are)))
+      (All-from_recursion (IsTested source) j.all (joined-tested (adding source before a.parts)
+      _ j.all a.new.units j.defined j.are)))
 
   pub again-is : MeansWhereTaken (units_in state) (file_text file)
   unfolding taken input_meaning
@@ -258,5 +226,5 @@ module _ (state : State) (file : File) (begun : IsSoundBegun state.begun)
       (λ info. units-again before.begun now.0 info now.1 meaning means)
       (λ none.
       let no_units : meaning ≡ [] = same-ok _ _ (sym (rw (opens, none) at means)) in
-      rw no_units (subst (λ us. IsPermutation (all_meant us) []) (sym (none-joined
-      (units_of fin.made) (rw fin.begun at one) (no-info file none))) (IsPermutation-refl []))))
+      rw (no_units, none-joined (units_of fin.made) (rw fin.begun at one) (no-info file none))
+      (IsPermutation-refl [])))

@@ -1,17 +1,16 @@
 -- What the rows of a written package are for an input, and which begin before a place. A section of
 -- units of such a package is read as the units of its rows, one after another.
 use Rattle.thorin_again.proofs.Terms
-use Terms.{drop-append_seam, take-append_seam, contribution_to, type_signature, name_signature, ◌≡◌}
-use Terms.{Contribution, HaveOneRange, units_within, SectionKind, UnitSection, part-inside, IsTable}
-use Terms.{content_of, IndexEntry, is_package, same_place, Endianness, unit_bytes, unit-moves, true}
-use Terms.{none-some, same_Some, non_empty, ReadError, IsShifted, Contents, place_of, data_of, List}
-use Terms.{rows_of, rows_at, HasRows, by-bool, section, unit_at, part_of, kind_at, All-nil, length}
-use Terms.{Option, ne_eqb, Source, Header, false, arith, is_at, first, Input, after, units, plain}
-use Terms.{refl, Some, zero, ◌<◌, All, ◌∙◌, ◌-◌, ◌∷◌, sym, Lie, ap, Ok, [], ℕ}
+use Terms.{drop-append_seam, take-append_seam, contribution_to, name_signature, type_signature, All}
+use Terms.{Contribution, HaveOneRange, units_within, SectionKind, UnitSection, part-inside, All-nil}
+use Terms.{Endianness, IndexEntry, content_of, is_package, same_place, unit-moves, unit_bytes, List}
+use Terms.{IsShifted, ReadError, Contents, place_of, HasRows, IsTable, by-bool, data_of, kind_at, ℕ}
+use Terms.{part_of, rows_at, rows_of, section, unit_at, Header, Source, length, ne_eqb, Input, Some}
+use Terms.{after, arith, false, first, is_at, plain, units, refl, true, zero, Lie, sym, ◌-◌, ◌<◌}
+use Terms.{◌∙◌, ◌∷◌, ◌≡◌, Ok, [], ap}
 use Rattle.std.proofs.Common.{length-append, append_assoc, slice_get, Result, ◌++◌, suc, ◌+◌, ◌≤◌}
 use Rattle.std.proofs.lemmas.List.Elements.{All-weaker, All-push}
 use Rattle.dwp_base.specs.declared.section.SectionKind.TheVariants as kinds
-use Rattle.dwp_dwarf.specs.declared.unit.UnitSection.TheVariants as places
 
 -- an input that was read of a written package of these rows
 pub record IsAgain (source : Source) (contents : Contents) (strings : List (List ℕ))
@@ -27,25 +26,12 @@ pub record IsAgain (source : Source) (contents : Contents) (strings : List (List
 abbrev pub range_at : ℕ → List ℕ → Contribution
 range_at offset own = record { offset = record { 0 = offset }; size = length own }
 
--- a row begins before this offset; each of these does
+-- a row begins before this offset
 abbrev pub IsBelow : SectionKind → ℕ → IndexEntry → Type 0
 IsBelow kind n row = (c : Contribution) → contribution_to kind row ≡ Some c → c.offset.0 < n
 
-abbrev pub Below : SectionKind → ℕ → List IndexEntry → Type 0
-Below kind n rows = All (IsBelow kind n) rows
-
-pub non_empty-some : (part : Option Contribution) (range : Contribution) → non_empty part ≡ Some
-    range → part ≡ Some range
-non_empty-some part range h = grind arith
-
 pub place-eq : (a b : UnitSection) → same_place a b ≡ true → a ≡ b
 place-eq a b h = grind arith
-
--- what there is at either place
-abbrev pub each-place : (P : UnitSection → Type 0) → P places.Info → P places.Types
-    → (place : UnitSection) → P place
-each-place P info types places.Info = info
-each-place P info types places.Types = types
 
 -- ---- units one after another
 
@@ -67,7 +53,7 @@ pub record IsUnitOf (order : Endianness) (contents : Contents) (place : UnitSect
   pub here : is_at place row ≡ true
   pub offset : ℕ
   pub own : List ℕ
-  pub below : Below (kind_at place) offset before
+  pub below : All (IsBelow (kind_at place) offset) before
   pub range : contribution_to (kind_at place) row ≡ Some (range_at offset own)
   pub part : part_of (content_of (kind_at place) contents) (Some (range_at offset own)) ≡ own
   pub whole : unit.whole ≡ plain order offset own
@@ -91,9 +77,7 @@ module _ {order : Endianness} {contents : Contents} {place : UnitSection} {rows 
   place-is = place-eq place (place_of row.id row.debug_types) u.here
 
   pub bytes-own : unit_bytes contents row ≡ u.own
-  bytes-own =
-      ap (λ p. part_of (content_of (kind_at p) contents) (contribution_to (kind_at p) row))
-      (sym place-is) ∙ ap (part_of (content_of (kind_at place) contents)) u.range ∙ u.part
+  bytes-own = grind (arith, place-is, u.range, u.part)
 
   -- it is read of its row's bytes alone
   pub read-alone : unit_at (place_of row.id row.debug_types) (section order (unit_bytes contents
@@ -114,7 +98,7 @@ module _ (order : Endianness) (contents : Contents) (place : UnitSection) (rows 
 
   -- from rows on whose units begin at an offset of the section
   from : (before todo : List IndexEntry) (pre bytes : List ℕ) (offset n : ℕ)
-      → rows ≡ before ++ todo → HaveOneRange todo → Below kind offset before
+      → rows ≡ before ++ todo → HaveOneRange todo → All (IsBelow kind offset) before
       → Lie order place offset (rows_at place todo) bytes
       → content_of kind contents ≡ pre ++ bytes → length pre ≡ offset → length bytes ≤ n
       → P todo (units_within n place (plain order offset bytes))
@@ -129,15 +113,13 @@ module _ (order : Endianness) (contents : Contents) (place : UnitSection) (rows 
       let head = l.0 in
       let own = head.own in
       let end = offset + length own in
-      let moved = unit-moves order place own head.rest offset head.is.unit head.is.rest
-      head.is.read in
+      let moved = unit-moves order place own head.rest offset _ _ head.is.read in
       let left : after (length head.is.unit.whole.bytes) (plain order offset (own ++ head.rest)) ≡
       plain order end head.rest =
       rw head.is.whole (ap (plain order end) (drop-append_seam own head.rest)) in
       let read : unit_at place (plain order offset bytes) ≡ Ok
-      (moved.unit, plain order end head.rest)
-      = ap (λ l. unit_at place (plain order offset l)) head.are ∙ moved.read
-      ∙ ap (λ i. Ok (moved.unit, i)) left in
+      (moved.unit, plain order end head.rest) = ap (λ l. unit_at place (plain order offset l))
+      head.are ∙ moved.read ∙ ap (λ i. Ok (moved.unit, i)) left in
       let long = ap length head.are ∙ length-append own head.rest in
       let some : 0 < length bytes = omega (arith, head.is.some) in
       let more : n ≡ suc (n - 1) = omega arith in
@@ -160,17 +142,12 @@ module _ (order : Endianness) (contents : Contents) (place : UnitSection) (rows 
         shifted = assumption (sym moved.type, sym moved.encoding);
       }) (from (before ++ r ∷ []) rs (pre ++ own) head.rest end (n - 1) next once.1
       (All-push (IsBelow kind end) before r
-      (All-weaker (IsBelow kind offset) (IsBelow kind end) (λ x h c e. let low =
-      h c e in omega arith)
-      before below)
-      (λ c e. let same = ap (λ (x : Contribution). x.offset.0)
-      (same_Some _ _ (sym head.range ∙ e)) in
-      omega (arith, head.is.some)))
+      (All-weaker (IsBelow kind offset) (IsBelow kind end) (λ x h c e. omega (arith, h c e))
+      before below) (λ c e. grind (arith, head.range, head.is.some)))
       l.1 (content_is ∙ sym (append_assoc pre own head.rest))
       (length-append pre own ∙ ap (λ k. k + length own) at) (omega (arith, head.is.some)))))
       (λ other. passed r rs _ other (from (before ++ r ∷ []) rs pre bytes offset n next once.1
-      (All-push (IsBelow kind offset) before r below (λ c e.
-      absurd (none-some c (sym (once.0 place other) ∙ e))))
+      (All-push (IsBelow kind offset) before r below (λ c e. grind (arith, once.0 place other)))
       (rw other at lie) content at fuel))
 
   pub of-section : HaveOneRange rows

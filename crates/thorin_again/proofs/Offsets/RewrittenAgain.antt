@@ -3,19 +3,16 @@
 -- are rewritten unless the offset of a string doesn't fit; those that were rewritten, once more
 -- from the same strings on, give the same strings.
 use Rattle.thorin_again.proofs.Terms
-use Terms.{get_or_from_slice_get, All-from_recursion, recursion_from_All, Any-from_list_any, Format}
-use Terms.{slice_get_within, contribution_to, drop-append-add, list_any-append, slice_get_cases, Ok}
-use Terms.{IsStringOffset, drop-append-le, range_with_len, slice_get_read, OffsetAtIndex, error-inv}
-use Terms.{Contribution, IsWholeRange, number_front, SectionKind, all_kept_by, count-again, Dwarf32}
-use Terms.{entry_count, header_size, length-drop, offset_size, range-front, range_bytes, Endianness}
-use Terms.{ErrorValue, IndexEntry, StrOffsets, nat_cmp_is, is_chosen, no_header, non_empty, Dwarf64}
-use Terms.{string_at, string_in, Encoding, HasOneOf, HasParts, IsOfSome, as_error, bind-was, Option}
-use Terms.{entry_in, list_any, named_at, range_in, EachRow, HasRows, IsAmong, add-mul, is_some, inl}
-use Terms.{is_used, rows_of, same-ok, length, ne_eqb, ⊎_elim, Index, arith, false, subst, ◌>>=◌, []}
-use Terms.{Bool, Each, List, None, Some, Tile, refl, true, zero, inr, ltb, map, sym, ◌*◌, ◌-◌, ◌<◌}
-use Terms.{◌∙◌, ◌∷◌, ◌≡◌, ap, ℕ}
-use Rattle.std.proofs.Common.{length-append, slice_range, slice_get, add-zero, Greater, le-ltb, suc}
-use Rattle.std.proofs.Common.{lt-ltb, Equal, Less, drop, ◌++◌, ◌%◌, ◌+◌, ◌≤◌, ◌⊎◌}
+use Terms.{get_or_from_slice_get, All-from_recursion, UnlessStringOffset, recursion_from_All, Index}
+use Terms.{Any-from_list_any, slice_get_within, contribution_to, drop-append-add, list_any-append}
+use Terms.{slice_get_cases, drop-append-le, range_with_len, slice_get_read, Contribution, is_chosen}
+use Terms.{IsWholeRange, number_front, SectionKind, all_kept_by, count-again, header_size, Encoding}
+use Terms.{length-drop, offset_size, range-front, range_bytes, Endianness, IndexEntry, StrOffsets}
+use Terms.{nat_tests, no_header, string_at, string_in, HasOneOf, HasParts, IsOfSome, bind-was, Bool}
+use Terms.{entry_in, list_any, named_at, EachRow, HasRows, IsAmong, add-mul, is_some, is_used, Each}
+use Terms.{rows_of, Option, length, ⊎_elim, arith, false, subst, ◌>>=◌, List, None, Some, Tile, inl}
+use Terms.{refl, true, zero, inr, map, sym, ◌*◌, ◌<◌, ◌∙◌, ◌∷◌, ◌≡◌, Ok, [], ℕ}
+use Rattle.std.proofs.Common.{length-append, slice_range, slice_get, drop, ◌++◌, suc, ◌+◌, ◌≤◌, ◌⊎◌}
 use Rattle.std.specs.BTreeSet.{insert_key}
 use Rattle.std.proofs.lemmas.List.FromFn.{get_or-map-range_with_len, length-map-range_with_len}
 use Rattle.std.proofs.lemmas.List.Sorted.{IsPermutation-filter_both, list_any-IsPermutation}
@@ -24,14 +21,10 @@ use Rattle.thorin_packaged.specs.PackagedOffsets.{with_ranges, place_cmp, with_r
 use Rattle.thorin_packaged.specs.RowPlaces.{range_of_row, ranges_of, is_range}
 use Rattle.thorin_packaged.proofs.FirstRow.{range_of_found, range_is}
 use Rattle.thorin_packaged.proofs.RowRanges.{compilation_there, type_there}
-use Rattle.thorin_again.proofs.Meant.RowByRow.{non_empty-some}
 use Rattle.std.proofs.lemmas.Nat.{row_fits}
 use Rattle.dwp_base.specs.Numbers.{number}
-use Rattle.thorin_errors.specs.Errors.{StrAtOffset}
 use Rattle.thorin_strings.specs.StringOffsets.{remapped_entries, fitting_offset, remapped_entry}
 use Rattle.thorin_strings.specs.StringOffsets.{entry_bytes, offset_at, remapped}
-use Rattle.thorin_again.proofs.Opened.Sections.{and-then, Unless}
-use Rattle.std.proofs.lemmas.Bool.Decides.{nat_tests}
 
 -- ---- the rows of compilation units and those of type units
 
@@ -74,25 +67,19 @@ some-has : (r : Contribution) (rows : List IndexEntry) → IsOfSome r rows
 some-has r [] h = absurd h
 some-has r (row ∷ rows) h = grind (arith, nat_tests, some-has r rows)
 
-own-range : (r : Contribution) (row : IndexEntry) (index : Index) (n : ℕ) → 0 < r.size
-    → has-range r row ≡ true → (parts : HasParts index n row)
-    → range_in parts.row StrOffsets ≡ Some r
-own-range r row index n some has parts =
-    parts.parts StrOffsets ∙ ap non_empty (range_is r row.debug_str_offsets has)
-    ∙ rw (ne_eqb r.size 0 (λ none. omega arith)) refl
-
 ranges-there : (compilations types : Option Index) (rows : List IndexEntry) (r : Contribution)
     → HasRows compilations (rows_of true rows) → HasRows types (rows_of false rows)
     → 0 < r.size → IsOfSome r rows → IsAmong r (offset_ranges compilations types)
 ranges-there compilations types rows r c t some h =
     ⊎_elim
-    (λ u. by-passing _ (has-range r) compilations (rows_of true rows) c u
-    (λ index n row is at has parts.
+    (λ u. by-passing _ (has-range r) compilations _ c u (λ index n row is at has parts.
     rw is (compilation_there index (n + 1) parts.row r parts.there
-    (own-range r row index (n + 1) some has parts) types)))
-    (λ u. by-passing _ (has-range r) types (rows_of false rows) t u (λ index n row is at has parts.
+    (grind (arith, nat_tests, parts.parts StrOffsets, range_is r row.debug_str_offsets has))
+    types)))
+    (λ u. by-passing _ (has-range r) types _ t u (λ index n row is at has parts.
     rw is (type_there index (n + 1) parts.row r parts.there
-    (own-range r row index (n + 1) some has parts) compilations)))
+    (grind (arith, nat_tests, parts.parts StrOffsets, range_is r row.debug_str_offsets has))
+    compilations)))
     (any-chosen (has-range r) rows (some-has r rows h))
 
 -- ---- ranges in the order of others, of which some may be left out
@@ -103,22 +90,13 @@ IsPartOf xs (y ∷ ys) = ((zs : List Contribution) × (xs ≡ y ∷ zs) × IsPar
 
 part-among : (xs ys : List Contribution) (r : Contribution) → IsPartOf xs ys → IsAmong r xs
     → IsAmong r ys
-part-among xs [] r part h = subst (IsAmong r) part h
-part-among xs (y ∷ ys) r (inl (zs, is, p)) h = grind (arith, part-among zs ys r p)
-part-among xs (y ∷ ys) r (inr p) h = inr (part-among xs ys r p h)
+part-among xs [] r part h = grind arith
+part-among [] (y ∷ ys) r part h = absurd h
+part-among (x ∷ xs) (y ∷ ys) r part h = grind (arith, part-among xs ys r, part-among (x ∷ xs) ys r)
 
 none-part : (ys : List Contribution) → IsPartOf [] ys
 none-part [] = refl
 none-part (y ∷ ys) = inr (none-part ys)
-
--- bytes that were written, and the strings after them
-abbrev Written : Type 0
-Written = List ℕ × List (List ℕ)
-
-whole-rest : (format : Format) (size header count : ℕ) → size ≡ header + count * offset_size format
-    → (size - header) % offset_size format ≡ 0
-whole-rest Dwarf32 size header count e = omega (arith, e)
-whole-rest Dwarf64 size header count e = omega (arith, e)
 
 -- ranges that lie one directly behind the other
 module _ (order : Endianness) (encoding : Encoding) where
@@ -140,33 +118,22 @@ module _ (order : Endianness) (encoding : Encoding) where
   put-part : (at end : ℕ) (ys xs : List Contribution) (r : Contribution) → Tile order encoding at ys
       end → IsPartOf xs ys → IsAmong r ys → IsPartOf (insert_key place_cmp xs r) ys
   put-part at end [] xs r tile part h = absurd h
-  put-part at end (y ∷ ys) xs r tile (inl (zs, is, p)) (inl e) =
-      let same : place_cmp y y ≡ Equal = grind (arith, nat_tests) in
-      rw (is, e, same) (inl (zs, refl, p))
-  put-part at end (y ∷ ys) xs r tile (inl (zs, is, p)) (inr h) =
-      rw (is, ← nat_cmp_is r.offset.0 y.offset.0 Greater (tile-apart at end y ys r tile h))
-      (inl (insert_key place_cmp zs r, refl, put-part (at + y.size) end ys zs r tile.2 p h))
-  put-part at end (y ∷ ys) [] r tile (inr p) (inl e) = inl ([], rw e refl, p)
-  put-part at end (y ∷ ys) (x ∷ xs) r tile (inr p) (inl e) =
-      let less = tile-apart at end y ys x tile (part-among (x ∷ xs) ys x p (inl refl)) in
-      rw (e, ← nat_cmp_is y.offset.0 x.offset.0 Less less) (inl (x ∷ xs, refl, p))
-  put-part at end (y ∷ ys) xs r tile (inr p) (inr h) =
-      inr (put-part (at + y.size) end ys xs r tile.2 p h)
+  put-part at end (y ∷ ys) [] r tile part h =
+      grind (arith, put-part (at + y.size) end ys [] r tile.2)
+  put-part at end (y ∷ ys) (x ∷ xs) r tile part h =
+      let rest = λ (zs : List Contribution). put-part (at + y.size) end ys zs r tile.2 in
+      let less = λ (z : Contribution). tile-apart at end y ys z tile in
+      grind (arith, nat_tests, rest xs, rest (x ∷ xs), less r, less x, part-among (x ∷ xs) ys x)
 
   -- part of them, in their order, and each of them: all
   all-same : (at end : ℕ) (ys xs : List Contribution) → Tile order encoding at ys end
       → IsPartOf xs ys → ((r : Contribution) → IsAmong r ys → IsAmong r xs) → xs ≡ ys
   all-same at end [] xs tile part all = part
   all-same at end (y ∷ ys) xs tile (inl (zs, is, p)) all =
-      is ∙ ap (λ l. y ∷ l) (all-same (at + y.size) end ys zs tile.2 p (λ r h.
-      let less = tile-apart at end y ys r tile h in
-      let there = subst (IsAmong r) is (all r (inr h)) in grind arith))
+      let less = λ (r : Contribution). tile-apart at end y ys r tile in
+      grind (arith, all-same (at + y.size) end ys zs tile.2 p (λ r h. grind (arith, all r, less r)))
   all-same at end (y ∷ ys) xs tile (inr p) all =
-      absurd (omega (
-        arith,
-        tile-apart at end y ys y tile
-            (part-among xs ys y p (all y (inl refl))),
-      ))
+      grind (arith, tile-apart at end y ys y tile, part-among xs ys y p, all y)
 
   module _ (end : ℕ) (ys : List Contribution) (tile : Tile order encoding 0 ys end) where
     each-part : (ranges : List (Option Contribution)) (xs : List Contribution)
@@ -190,11 +157,10 @@ module _ (order : Endianness) (encoding : Encoding) where
         elim (slice_get_cases rows n).1 [
           | inl there ↦
               let parts = has.1.each n there.0 there.2 in
+              let found = range_of_found index StrOffsets (n + 1) parts.row parts.there in
+              let at = get_or-map-range_with_len range 1 count n (n + 1) d within (omega arith) in
               at-row (HasOneOf ys) rows n there.0 each there.2 r
-              (non_empty-some there.0.debug_str_offsets r (sym (parts.parts StrOffsets)
-              ∙ sym (range_of_found index StrOffsets (n + 1) parts.row parts.there)
-              ∙ sym (get_or-map-range_with_len range 1 count n (n + 1) d within (omega arith))
-              ∙ e))
+              (grind (arith, parts.parts StrOffsets, found, at, e))
           | inr past ↦ absurd (omega (arith, within, past.0, has.1.count))
         ])) part
 
@@ -206,8 +172,8 @@ module _ (order : Endianness) (encoding : Encoding) where
     unfolding offset_ranges
     ranges-are compilations types rows c t has named =
         let chosen = λ (b : Bool). all_kept_by (is_chosen b) (HasOneOf ys) rows has in
-        all-same 0 end ys _ tile (index-part types (rows_of false rows) _ t (chosen false)
-        (index-part compilations (rows_of true rows) [] c (chosen true) (none-part ys)))
+        all-same 0 end ys _ tile (index-part types _ _ t (chosen false)
+        (index-part compilations _ _ c (chosen true) (none-part ys)))
         (λ r h. ranges-there compilations types rows r c t (tile-lies 0 end ys r tile h).1.some
         (named r h))
 
@@ -215,18 +181,15 @@ module _ (order : Endianness) (encoding : Encoding) where
   width = offset_size encoding.format
 
   -- ranges that lie one directly behind the other pass the tests
-  pub tile-tested : (size at end last : ℕ) (ys : List Contribution)
-      → Tile order encoding at ys end
+  pub tile-tested : (size at end last : ℕ) (ys : List Contribution) → Tile order encoding at ys end
       → end ≤ size → last ≤ at → ranges_test encoding size last ys ≡ Ok tt
   unfolding ranges_test
   tile-tested size at end last [] tile inside behind = refl
   tile-tested size at end last (y ∷ ys) tile inside behind =
-      let whole = whole-rest encoding.format y.size (header_size encoding) tile.1.count
-      tile.1.long in
       let within = tile-end (at + y.size) end ys tile.2 in
       let rest = tile-tested size (at + y.size) end (y.offset.0 + y.size) ys tile.2 inside
       (omega (arith, tile.0)) in
-      grind (arith, nat_tests, tile.0, tile.1.long, within, whole, rest)
+      grind (arith, nat_tests, tile.0, tile.1.long, within, rest)
 
   -- a whole range has its entries behind its header
   pub whole-remapped : (section bytes : List ℕ) (size : ℕ) (strings : List (List ℕ))
@@ -246,14 +209,12 @@ module _ (order : Endianness) (encoding : Encoding) where
         × (named_at order encoding section bytes k ≡ Ok string)
 
     entries-rewritten : (n : ℕ) (strings : List (List ℕ)) → AreNamed n
-        → Unless IsStringOffset (remapped_entries order encoding section bytes n strings)
+        → UnlessStringOffset (remapped_entries order encoding section bytes n strings)
     unfolding remapped_entries remapped_entry fitting_offset
     entries-rewritten zero strings named = tt
     entries-rewritten (suc n) strings named =
-        let here = named n (omega arith) in
-        and-then IsStringOffset _ _
-        (entries-rewritten n strings (λ k less. named k (omega (arith, less))))
-        (λ before e. rw here.1 (grind arith))
+        let rest = entries-rewritten n strings (λ k less. named k (omega (arith, less))) in
+        grind (arith, rest, named n (omega arith))
 
     -- entries of all the bytes that a reader of packages reads
     pub are-named : (size : ℕ) → size ≡ length bytes → (whole : IsWholeRange order encoding size)
@@ -261,16 +222,12 @@ module _ (order : Endianness) (encoding : Encoding) where
         → ((k : ℕ) → string_in order encoding section bytes k ≡ Ok (there k)) → AreNamed whole.count
     unfolding named_at offset_at string_in entry_in
     are-named size long whole there read k less =
-        let at = header_size encoding + k * width in
-        let count = count-again encoding.format (length bytes) (header_size encoding) whole.count
-        (omega (arith, whole.long, long)) in
-        let room : k * width + width ≤ whole.count * width =
-        row_fits k width whole.count width less (omega arith) in
-        let enough = le-ltb (length bytes) (at + width) (omega (arith, whole.long, room, long)) in
-        let offset = number order width (drop at bytes) in
-        let within = lt-ltb k (entry_count encoding (length bytes)) (omega (arith, count, less)) in
-        let s = bind-was (string_at section offset) _ (there k) (rw within at (read k)) in
-        (s.0, rw enough (ap (as_error (λ e. StrAtOffset e offset)) s.1))
+        let count = count-again encoding.format _ _ _ whole.long in
+        let room = row_fits k width whole.count width less (omega arith) in
+        let offset = number order width (drop (header_size encoding + k * width) bytes) in
+        let s = bind-was (string_at section offset) (λ string. Ok (Some string)) (there k)
+        (grind (arith, nat_tests, count, room, whole.long, read k)) in
+        (s.0, grind (arith, nat_tests, room, whole.long, s.1))
 
   -- a range of these bytes is whole, and each of its entries names a string
   abbrev pub CanRewrite : (section bytes : List ℕ) → Contribution → Type 0
@@ -281,19 +238,16 @@ module _ (order : Endianness) (encoding : Encoding) where
   pub all-rewritten : (section bytes : List ℕ) (at : ℕ) (ranges : List Contribution)
       (strings : List (List ℕ)) → ((r : Contribution) → IsAmong r ranges
       → CanRewrite section bytes r)
-      → Unless IsStringOffset (rewritten_from order encoding section bytes at ranges strings)
+      → UnlessStringOffset (rewritten_from order encoding section bytes at ranges strings)
   unfolding rewritten_from
   all-rewritten section bytes at [] strings can = tt
   all-rewritten section bytes at (r ∷ rs) strings can =
       let here = can r (inl refl) in
-      let own = range_bytes bytes r in
-      and-then IsStringOffset (remapped order encoding section own r.size strings) _
-      (rw (whole-remapped section own r.size strings here.0)
-      (and-then IsStringOffset _ _ (entries-rewritten section own here.0.count strings here.1)
-      (λ entries e. tt)))
-      (λ range e. and-then IsStringOffset _ _
-      (all-rewritten section bytes (r.offset.0 + r.size) rs range.1 (λ x h. can x (inr h)))
-      (λ rest f. tt))
+      let is = whole-remapped section (range_bytes bytes r) r.size strings here.0 in
+      let one = entries-rewritten section _ here.0.count strings here.1 in
+      let rest = λ (after : List (List ℕ)). all-rewritten section bytes (r.offset.0 + r.size) rs
+      after (λ x h. can x (inr h)) in
+      grind (arith, is, one, rest)
 
   -- so many entries, rewritten from these strings on, give those
   abbrev pub Lead : (section bytes : List ℕ) → ℕ → (before after : List (List ℕ)) → Type 0
@@ -317,46 +271,34 @@ module _ (order : Endianness) (encoding : Encoding) where
     unfolding named_at offset_at
     named-front k less =
         let at = header_size encoding + k * width in
-        let fits : k * width + width ≤ n * width = row_fits k width n width less (omega arith) in
-        let room : at + width ≤ length xs = omega (arith, no_header encoding old, fits, long) in
+        let fits = row_fits k width n width less (omega arith) in
+        let none = no_header encoding old in
         let same = number_front order encoding.format (drop at xs) ys
-        (omega (arith, room, length-drop at xs)) in
-        grind (arith, nat_tests, same, drop-append-le at xs ys, length-append xs ys)
+        (omega (arith, none, fits, length-drop at xs)) in
+        grind (arith, nat_tests, same, none, fits, drop-append-le at xs ys, length-append xs ys)
 
     named-back : (k : ℕ) (string : List ℕ) → named_at order encoding section ys k ≡ Ok string
         → named_at order encoding section (xs ++ ys) (n + k) ≡ Ok string
     unfolding named_at offset_at
     named-back k string h =
         let at = header_size encoding + k * width in
-        let s = bind-was (as_error (λ e. OffsetAtIndex e k) (offset_at order encoding.format ys at))
-        _ string h in
         let place : header_size encoding + (n + k) * width ≡ length xs + at =
         omega (arith, long, add-mul n k width) in
-        let same : ltb (length (xs ++ ys)) (length xs + at + width) ≡ ltb (length ys) (at + width) =
-        grind (arith, nat_tests, length-append xs ys) in
-        let there = error-inv (λ e. OffsetAtIndex e k) _ s.0 s.1 in
-        rw (place, same, drop-append-add xs ys at, there) s.2
+        grind (arith, nat_tests, place, length-append xs ys, drop-append-add xs ys)
 
     -- first those of the one, then those of the other
     pub leads-joined : (m : ℕ) (before middle after : List (List ℕ)) → Lead section xs n before
         middle → Lead section ys m middle after → Lead section (xs ++ ys) (n + m) before after
     unfolding remapped_entries remapped_entry
     leads-joined zero before middle after first second =
-        let same = same-ok {E = ErrorValue} ([], middle) (second.0, after) second.1 in
         let alike = entries-alike section section (xs ++ ys) xs n before named-front in
-        (first.0, rw (add-zero, alike, first.1) (ap (λ (w : Written). Ok (first.0, w.1)) same))
+        (first.0, grind (arith, first.1, second.1, alike))
     leads-joined (suc m) before middle after first second =
-        let s1 = bind-was (remapped_entries order encoding section ys m middle) _
-        (second.0, after) second.1 in
-        let s2 = bind-was (remapped_entry order encoding section ys m s1.0.1) _
-        (second.0, after) s1.2 in
-        let s3 = bind-was (named_at order encoding section ys m) _ s2.0 s2.1 in
-        let same = same-ok {E = ErrorValue} _ (second.0, after) s2.2 in
-        let rest = leads-joined m before middle s1.0.1 first (s1.0.0, s1.1) in
         let next : n + suc m ≡ suc (n + m) = omega arith in
-        let offsets = rest.0 ++ s2.0.0 ∷ [] in
-        let is = ap (λ (w : Written). Ok (offsets, w.1)) same in
-        (offsets, rw (next, rest.1, named-back m s3.0 s3.1, s3.2) is)
+        let s1 = bind-was (remapped_entries order encoding section ys m middle) _ _ second.1 in
+        let s2 = bind-was (remapped_entry order encoding section ys m s1.0.1) _ _ s1.2 in
+        let rest = leads-joined m before middle s1.0.1 first (s1.0.0, s1.1) in
+        (rest.0 ++ s2.0.0 ∷ [], rw next (grind (arith, rest.1, s2.1, s2.2, named-back m)))
 
   -- ---- ranges in turn
 
@@ -388,20 +330,15 @@ module _ (order : Endianness) (encoding : Encoding) where
       → InTurn section (old ++ new) place (ranges ++ tail) before after
   unfolding rewritten_from
   grown section old new place at end [] tail before middle after here tile fits first second =
-      let same = same-ok {E = ErrorValue} (drop place old, before) (first.0, middle) first.1 in
-      let strings : before ≡ middle = ap (λ (w : Written). w.1) same in
-      rw (here ∙ tile, strings) second
+      (second.0, grind (arith, first.1, second.1))
   grown section old new place at end (r ∷ ranges) tail before middle after here tile fits first
       second =
-      let s1 = bind-was (remapped order encoding section (range_bytes old r) r.size before) _
-      (first.0, middle) first.1 in
-      let s2 = bind-was (rewritten_from order encoding section old (r.offset.0 + r.size) ranges
-      s1.0.1) _ (first.0, middle) s1.2 in
-      let same = same-ok {E = ErrorValue} _ (first.0, middle) s2.2 in
+      let s1 = bind-was (remapped order encoding section (range_bytes old r) r.size before) _ _
+      first.1 in
+      let s2 = bind-was (rewritten_from order encoding section old _ ranges s1.0.1) _ _ s1.2 in
       let within = tile-end (at + r.size) end ranges tile.2 in
       let front = range-front old new r.offset.0 r.size (omega (arith, tile.0, within, fits)) in
       turn section (old ++ new) place r (ranges ++ tail) before s1.0.1 after
-      (s1.0.0, rw front s1.1)
-      (grown section old new (r.offset.0 + r.size) (at + r.size) end ranges tail s1.0.1 middle after
-      (omega (arith, tile.0)) tile.2 fits
-      (s2.0.0, s2.1 ∙ ap (λ (w : Written). Ok (s2.0.0, w.1)) same) second)
+      (s1.0.0, rw front s1.1) (grown section old new (r.offset.0 + r.size) (at + r.size) end ranges
+      tail s1.0.1 middle after (omega (arith, tile.0)) tile.2 fits
+      (s2.0.0, grind (arith, s2.1, s2.2)) second)

@@ -4,21 +4,21 @@ use Rattle.thorin_again.proofs.Terms
 use Terms.{joined_parts-more, HasTiledOffsets, rewritten-plain, units-strings, Contribution, Source}
 use Terms.{IsWholeRange, joined_parts, GiveStrings, count-again, entry_count, front-front, Contents}
 use Terms.{header_size, offset_size, source-made, take-length, with_source, All-weaker, Endianness}
-use Terms.{ErrorValue, InProgress, IndexEntry, StrOffsets, append-nil, content_of, is_package, Bool}
-use Terms.{no-entries, true≢false, eqb-false, no_header, none-some, own-bytes, place-put, range_for}
-use Terms.{range_put, same_Some, Encoding, HasOneOf, IsOfSome, eqb-true, has_part, no-bytes, length}
-use Terms.{parts_of, range-of, zero-mul, EachRow, IsAmong, IsTable, add-mul, by-bool, data_of, List}
-use Terms.{is-same, same-ok, ⊎_elim, Added, Parts, arith, false, first, subst, Some, Tile, Used, Ok}
-use Terms.{refl, true, ◌&&◌, Str, eqb, inl, inr, sym, ◌*◌, ◌<◌, ◌∙◌, ◌∷◌, ◌≡◌, [], ap, ℕ}
-use Rattle.std.proofs.Common.{length-append, leb-false, add-zero, lt-ltb, take, ◌++◌, leb, ◌+◌, ◌⊎◌}
+use Terms.{InProgress, IndexEntry, StrOffsets, content_of, is_package, no-entries, true≢false, Bool}
+use Terms.{eqb-false, no_header, none-some, own-bytes, place-put, range_for, range_put, same_Some}
+use Terms.{Encoding, HasOneOf, IsOfSome, eqb-true, has_part, parts_of, range-of, zero-mul, EachRow}
+use Terms.{IsAmong, IsTable, add-mul, by-bool, data_of, is-same, length, ⊎_elim, Added, Parts, List}
+use Terms.{arith, false, first, subst, Some, Tile, Used, refl, true, ◌&&◌, Str, eqb, inl, inr, sym}
+use Terms.{◌*◌, ◌<◌, ◌∙◌, ◌∷◌, ◌≡◌, Ok, [], ap, ℕ}
+use Rattle.std.proofs.Common.{length-append, leb-false, lt-ltb, take, ◌++◌, leb, ◌+◌, ◌⊎◌}
 use Rattle.std.proofs.ByRecursion.{All-append}
 use Rattle.thorin_input.specs.Parts.{stands_once}
 use Rattle.thorin_strings.specs.StringOffsets.{remapped_entries, entry_bytes, header_of, remapped}
 use Rattle.thorin_again.proofs.Offsets.RewrittenAgain.{whole-remapped, entries-alike, leads-joined}
-use Rattle.thorin_again.proofs.Offsets.RewrittenAgain.{no-turn, grown, Lead, turn}
+use Rattle.thorin_again.proofs.Offsets.RewrittenAgain.{no-turn, InTurn, grown, Lead, turn}
 use Rattle.thorin_join.proofs.Parts.Appended.{joined_parts-other, Rewritten, each-part, Adds}
 use Rattle.thorin_join.proofs.Parts.OffsetLaws.{names-same}
-use Rattle.thorin_join.proofs.Parts.PlainOffsets.{has-other, not-there, has-more}
+use Rattle.thorin_join.proofs.Parts.PlainOffsets.{has-other, has-more}
 use Rattle.thorin_again.proofs.Kept.EachUnit.{content-added, order-added, rows-share, once-more}
 use Rattle.thorin_again.proofs.Kept.EachUnit.{with-each, row_with, with-any, RowHas, parted}
 
@@ -69,11 +69,9 @@ module _ (source : Source) (plain : is_package source.indexes ≡ false) (start 
             let count = ap (entry_count encoding) none.0 ∙ no-entries encoding in
             rw (← none.1) (inl (refl, count), ([], rw count refl))
         | inr r ↦
-            let law = names-same order encoding section bytes (length bytes) strings written.0
-            written.1 table h in
-            let is = ap (λ (w : List ℕ × List (List ℕ)). Ok (r.entries.0, w.1)) r.is in
+            let law = names-same _ _ _ _ _ strings written.0 written.1 table h in
             let long = law.long (eqb-false (length bytes) 0 r.some) in
-            (inr (long, r.header, r.header_is), (r.entries.0, r.entries_are ∙ is))
+            (inr (long, r.header, r.header_is), (r.entries.0, grind (arith, r.entries_are, r.is)))
       ]
 
   -- before DWARF 5 there are the entries alone
@@ -91,8 +89,7 @@ module _ (source : Source) (plain : is_package source.indexes ≡ false) (start 
       let m = entry_count encoding (length bytes) in
       let rewrites : remapped order encoding section bytes (length bytes) before.1 ≡ Ok w.written =
       sym (rewritten-plain source bytes before.1 plain) ∙ w.rewrites in
-      let law = names-same order encoding section bytes (length bytes) before.1 own strings
-      so_far.table rewrites in
+      let law = names-same _ _ _ _ _ _ own strings so_far.table rewrites in
       let one = one-fills bytes before.1 w.written so_far.table rewrites in
       let alone : Again own m before.1 strings = λ final table kept.
       let same = entries-alike order encoding (data_of final) section own bytes m before.1
@@ -111,9 +108,9 @@ module _ (source : Source) (plain : is_package source.indexes ≡ false) (start 
       omega (arith, long, more, no_header encoding old, both, length-append new own) in (
         so_far.count + m,
         inr (size, [], rw (lt-ltb encoding.version 5 old) refl),
-        λ final table kept. leads-joined order encoding old (data_of final) new own so_far.count
-            long m start before.1 strings (so_far.again final table
-            (front-front before.1 strings final law.kept kept)) (alone final table kept),
+        λ final table kept. leads-joined order encoding old _ new own _ long m start _ _
+            (so_far.again final table (front-front _ _ final law.kept kept))
+            (alone final table kept),
       )) in
       let more = joined_parts-more StrOffsets before.0 StrOffsets own in
       rw (w.is, has-more before.0 own, more) (record {
@@ -129,9 +126,8 @@ module _ (source : Source) (plain : is_package source.indexes ≡ false) (start 
       → (stands_once source s.kind && has_part s.kind before.0) ≡ false → Adds source before s
       next → MadeBy next
   made-step before s next so_far once (inl (o, w)) =
-      made-rewritten before s.bytes next so_far (λ standard. not-there (is_package source.indexes)
-      (leb 5 encoding.version) (has_part StrOffsets before.0) standard
-      (rw (is-same s.kind StrOffsets o) at once)) w
+      made-rewritten before s.bytes next so_far
+      (λ standard. grind (arith, once, is-same s.kind StrOffsets o)) w
   made-step before s next so_far once (inr (inl (o, c, is))) =
       let joined = joined_parts-other StrOffsets before.0 s.kind s.bytes o in
       rw (is, has-other before.0 s.kind s.bytes o, joined) so_far
@@ -164,30 +160,22 @@ module _ (source : Source) (plain : is_package source.indexes ≡ false) (start 
   made-fills new after has made = by-bool _ (eqb (length new) 0)
       (λ none.
       let empty = eqb-true (length new) 0 none in
-      let no : made.count ≡ 0 = ⊎_elim (λ n. n.1) (λ f. sym (count-again encoding.format
-      (length new) (header_size encoding) made.count f.0) ∙ ap (entry_count encoding) empty
-      ∙ no-entries encoding) made.fills in
-      let lead = rw no at (made.again after made.table (take-length after)) in
-      let same = sym (same-ok {E = ErrorValue} ([], start) (lead.0, after) lead.1) in
-      inl (empty, ap (λ (w : List ℕ × List (List ℕ)). w.1) same))
+      let again = count-again encoding.format (length new) (header_size encoding) made.count in
+      let none : made.count ≡ 0 = grind (arith, made.fills, empty, no-entries encoding, again) in
+      let lead = rw none at (made.again after made.table (take-length after)) in
+      inl (empty, grind (arith, lead.1)))
       (λ some.
-      let there = eqb-false (length new) 0 some in
+      let there : 0 < length new = omega (arith, eqb-false (length new) 0 some) in
       elim made.fills [
-        | inl none ↦ absurd (there none.0)
+        | inl none ↦ absurd (omega (arith, there, none.0))
         | inr f ↦
-            let whole : IsWholeRange order encoding (length new) = record {
-              some = omega (arith, there);
-              count = made.count;
-              long = f.0;
-              header = f.1;
-              written = f.2;
-            } in
+            let whole : IsWholeRange order encoding (length new) =
+            record { some = there; count = made.count; long = f.0; header = f.1; written = f.2 } in
             inr (
               whole,
               λ final table kept. let lead = made.again final table kept in (
                 whole.header ++ entry_bytes order encoding.format lead.0,
-                whole-remapped order encoding (data_of final) new (length new) start whole
-                    ∙ rw lead.1 refl,
+                whole-remapped _ _ (data_of final) new _ start whole ∙ rw lead.1 refl,
               ),
             )
       ])
@@ -197,25 +185,17 @@ abbrev Any : {X : Type 0} → (X → Type 0) → List X → Type 0
 Any P [] = ⊥
 Any P (x ∷ xs) = P x ⊎ Any P xs
 
-any-left : {X : Type 0} (P : X → Type 0) (xs ys : List X) → Any P xs → Any P (xs ++ ys)
-any-left P [] ys h = absurd h
-any-left P (x ∷ xs) ys h = grind (arith, any-left P xs ys)
+any-append : {X : Type 0} (P : X → Type 0) (xs ys : List X) → (Any P xs ⊎ Any P ys
+    → Any P (xs ++ ys)) × (Any P (xs ++ ys) → Any P xs ⊎ Any P ys)
+any-append P [] ys = grind arith
+any-append P (x ∷ xs) ys = grind (arith, any-append P xs ys)
 
-any-right : {X : Type 0} (P : X → Type 0) (xs ys : List X) → Any P ys → Any P (xs ++ ys)
-any-right P [] ys h = h
-any-right P (x ∷ xs) ys h = inr (any-right P xs ys h)
-
-any-either : {X : Type 0} (P : X → Type 0) (xs ys : List X) → Any P (xs ++ ys)
-    → Any P xs ⊎ Any P ys
-any-either P [] ys h = inr h
-any-either P (x ∷ xs) ys h = grind (arith, any-either P xs ys)
-
-tile-append : (o : Endianness) (e : Encoding) (at : ℕ) (rs : List Contribution) (end : ℕ)
-    (r : Contribution) → Tile o e at rs end → r.offset.0 ≡ end → IsWholeRange o e r.size
-    → Tile o e at (rs ++ r ∷ []) (end + r.size)
-tile-append o e at [] end r h from whole = (from ∙ sym h, whole, ap (λ n. n + r.size) h)
-tile-append o e at (x ∷ rs) end r h from whole =
-    grind (arith, tile-append o e (at + x.size) rs end r)
+tile-append : (o : Endianness) (e : Encoding) (at : ℕ) (rs more : List Contribution)
+    (middle end : ℕ) → Tile o e at rs middle → Tile o e middle more end
+    → Tile o e at (rs ++ more) end
+tile-append o e at [] more middle end tile behind = rw tile behind
+tile-append o e at (x ∷ rs) more middle end tile behind =
+    (tile.0, tile.1, tile-append o e (at + x.size) rs more middle end tile.2 behind)
 
 -- a plain object that was added
 module _ (source : Source) (before now : InProgress)
@@ -241,13 +221,14 @@ module _ (source : Source) (before now : InProgress)
   abbrev part : MadeBy source plain before.strings (a.parts, a.after)
   part = part-made source plain before.strings a.parts a.after table a.parts_are
 
-  -- what these ranges more are of the section and the strings before them, and of the rows
+  -- what these ranges more are of the section and the strings behind the others, and of the rows
   made-so : (ranges : List Contribution)
-      → Tile now_order source.encoding 0 (tiled.ranges ++ ranges) (length old + length joined)
+      → Tile now_order source.encoding (length old) ranges (length old + length joined)
       → ((r : Contribution) → range_put StrOffsets joined before.file.contents ≡ Some r
-      → IsAmong r ranges)
-      → ((r : Contribution) → IsAmong r ranges → IsOfSome r now.rows)
-      → GiveStrings now_order source.encoding (old ++ joined) (tiled.ranges ++ ranges) a.after
+      → IsAmong r ranges) → ((r : Contribution) → IsAmong r ranges → IsOfSome r now.rows)
+      → ((final : List (List ℕ)) → IsTable final → take (length a.after) final ≡ a.after
+      → InTurn now_order source.encoding (data_of final) (old ++ joined) (length old) ranges
+      before.strings a.after)
       → HasTiledOffsets source.encoding now
   made-so ranges tile new named gives =
       let all = tiled.ranges ++ ranges in
@@ -256,58 +237,52 @@ module _ (source : Source) (before now : InProgress)
       let order_is = order-added a in
       let strings_are : now.strings ≡ a.after =
       ap (λ (p : InProgress). p.strings) (sym a.is) ∙ units-strings (parted a) a.new.units in
+      let among = λ (r : Contribution). any-append (λ x. r ≡ x) tiled.ranges ranges in
       record {
         ranges = all;
-        tile = rw (order_is, content, length-append old joined) tile;
+        tile = rw (order_is, content, length-append old joined) (tile-append now_order
+            source.encoding 0 tiled.ranges ranges _ _ tiled.tile tile);
         rows = with-each a (λ p. EachRow (HasOneOf all) p.rows) (RowHas (HasOneOf all))
             (λ p u has rows. All-append (HasOneOf all) p.rows (row_with p.file.contents u ∷ [])
             rows (has p.file.contents, tt))
             (rows-share a plain StrOffsets refl (λ part. (r : Contribution)
-            → part ≡ Some r → IsAmong r all)
-            (λ r e. any-right (λ x. r ≡ x) tiled.ranges ranges (new r e)))
-            (All-weaker (HasOneOf tiled.ranges) (HasOneOf all) (λ row has r e.
-            any-left (λ x. r ≡ x) tiled.ranges ranges (has r e)) before.rows tiled.rows);
-        named = λ r h. ⊎_elim (λ k. with-any a (λ p. IsOfSome r p.rows) (λ p u so. any-left
-            (λ (row : IndexEntry). row.debug_str_offsets ≡ Some r) p.rows
-            (row_with p.file.contents u ∷ []) so) (tiled.named r k)) (named r)
-            (any-either (λ x. r ≡ x) tiled.ranges ranges h);
+            → part ≡ Some r → IsAmong r all) (λ r e. (among r).0 (inr (new r e))))
+            (All-weaker (HasOneOf tiled.ranges) (HasOneOf all)
+            (λ row has r e. (among r).0 (inl (has r e))) before.rows tiled.rows);
+        named = λ r h. ⊎_elim (λ k. with-any a (λ p. IsOfSome r p.rows)
+            (λ p u so. (any-append (λ (row : IndexEntry). row.debug_str_offsets ≡ Some r) p.rows
+            (row_with p.file.contents u ∷ [])).0 (inl so)) (tiled.named r k)) (named r)
+            ((among r).1 h);
         strings = rw (order_is, content) (subst (GiveStrings now_order source.encoding (old ++
-            joined) all) (sym strings_are) gives);
+            joined) all) (sym strings_are) (λ final table front. grown now_order source.encoding
+            _ old joined 0 0 _ tiled.ranges ranges [] _ a.after refl tiled.tile (omega arith)
+            (tiled.strings final table (front-front _ _ final part.kept front))
+            (gives final table front)));
       }
 
   pub tiled-kept : HasTiledOffsets source.encoding now
   tiled-kept = elim (made-fills source plain before.strings joined a.after
       (has_part StrOffsets a.parts) part) [
-        | inl none ↦
-            made-so [] (rw (append-nil tiled.ranges, none.0, add-zero (length old)) tiled.tile)
+        | inl none ↦ made-so [] (omega (arith, none.0))
             (λ r e. absurd (none-some r (rw none.0 at e))) (λ r h. absurd h)
-            (rw (append-nil tiled.ranges, none.1, no-bytes joined none.0, append-nil old)
-            tiled.strings)
+            (λ final table front. rw none.1 (no-turn now_order source.encoding _ _ _ _))
         | inr whole ↦
+            let put = place-put StrOffsets joined before.file.contents whole.0.some in
+            let is_some = λ (row : IndexEntry). row.debug_str_offsets ≡ Some range in
             let is_whole = subst (λ o. IsWholeRange o source.encoding (length joined)) same
             whole.0 in
-            let put = place-put StrOffsets joined before.file.contents whole.0.some in
-            made-so (range ∷ []) (tile-append now_order source.encoding 0 tiled.ranges (length old)
-            range tiled.tile refl is_whole)
+            made-so (range ∷ []) (refl, is_whole, refl)
             (λ r e. inl (same_Some r range (sym e ∙ put)))
             (λ r h. ⊎_elim (λ e. subst (λ x. IsOfSome x now.rows) (sym e)
-            (once-more a more (λ p. IsOfSome range p.rows)
-            (RowHas (λ row. row.debug_str_offsets ≡ Some range))
-            (λ p u has. any-right (λ (row : IndexEntry). row.debug_str_offsets ≡ Some range) p.rows
-            (row_with p.file.contents u ∷ []) (inl (has p.file.contents)))
+            (once-more a more (λ p. IsOfSome range p.rows) (RowHas is_some)
+            (λ p u has. (any-append is_some p.rows (row_with p.file.contents u ∷ [])).0
+            (inr (inl (has p.file.contents))))
             (rows-share a plain StrOffsets refl (λ part. part ≡ Some range) put)))
             (λ k. absurd k) h)
-            (λ final final_table front. let one = whole.1 final final_table front in
-            grown now_order source.encoding (data_of final) old joined 0 0 (length old) tiled.ranges
-            (range ∷ []) [] before.strings a.after refl tiled.tile (omega arith)
-            (tiled.strings final final_table
-            (front-front before.strings a.after final part.kept front))
-            (turn now_order source.encoding (data_of final) (old ++ joined) (length old) range []
-            before.strings a.after a.after (
-              one.0,
-              rw (own-bytes old joined) (subst (λ o. remapped o
-                  source.encoding (data_of final) joined (length joined) before.strings
-                  ≡ Ok (one.0, a.after)) same one.1),
-            ) (no-turn now_order source.encoding (data_of final)
-            (old ++ joined) (length old + length joined) a.after)))
+            (λ final table front.
+            let one = whole.1 final table front in
+            let again = subst (λ o. remapped o source.encoding (data_of final) joined
+            (length joined) before.strings ≡ Ok (one.0, a.after)) same one.1 in
+            turn now_order source.encoding _ _ _ range [] _ a.after a.after
+            (one.0, rw (own-bytes old joined) again) (no-turn now_order source.encoding _ _ _ _))
       ]

@@ -3,27 +3,22 @@
 -- indexes, and its string offsets.
 use Rattle.thorin_again.proofs.Terms
 use Terms.{UnlessStringOffset, rewritten-package, finished-strings, HasTiledOffsets, TakesUpToParts}
-use Terms.{finished-grows, finished-order, finished-types, written_object, used_sections, AreRowsOf}
-use Terms.{Contribution, IsWholeRange, eqb-suc-zero, finished-own, is_in_format, version_test, Bool}
-use Terms.{AreDistinct, DwarfObject, KindsDiffer, SectionKind, UnitSection, counts_once, All-filter}
-use Terms.{index_tests, is_of_units, part-inside, range_bytes, take-length, written_elf, Endianness}
-use Terms.{InProgress, IndexEntry, content_of, get_or-map, indexes_of, is_package, length-map, File}
-use Terms.{meaning_at, own_source, slice-long, with_units, entry_ids, file_text, is_chosen, HasRows}
-use Terms.{is_shared, keep-rows, rewritten, same_Some, string_in, All-tail, Contents, Encoding, All}
-use Terms.{IsOfSome, index_in, names_of, or_right, order_of, units_of, Indexes, IsPlain, IsSound, ℕ}
-use Terms.{IsTable, Meaning, Members, by-bool, data_of, is_some, is_used, kind_at, or_left, part_of}
-use Terms.{rows_at, rows_of, same-ok, IsLaid, Option, Tested, length, ⊎_elim, AllOf, Index, IsOwn}
-use Terms.{arith, false, first, subst, List, None, Some, refl, true, ◌||◌, Lie, inl, inr, sym, ◌<◌}
-use Terms.{◌∙◌, ◌∷◌, ◌≡◌, Ok, [], ap}
-use Rattle.std.proofs.Common.{slice_index, slice_get, leb, not, ◌^◌}
+use Terms.{nil_from_length, finished-grows, finished-order, finished-types, written_object, HasRows}
+use Terms.{Contribution, IsWholeRange, finished-own, is_in_format, version_test, AreDistinct, AllOf}
+use Terms.{DwarfObject, KindsDiffer, SectionKind, UnitSection, counts_once, index_tests, All-filter}
+use Terms.{is_of_units, part-inside, range_bytes, take-length, written_elf, Endianness, InProgress}
+use Terms.{IndexEntry, content_of, get_or-map, indexes_of, is_package, length-map, meaning_at, Bool}
+use Terms.{own_source, slice-long, with_units, AreRowsOf, IsIndexOf, entry_ids, file_text, All-tail}
+use Terms.{is_chosen, is_shared, keep-rows, nat_tests, rewritten, same-each, same_Some, Contents, ℕ}
+use Terms.{Encoding, IsOfSome, index_in, names_of, order_of, units_of, Indexes, IsPlain, IsSound}
+use Terms.{IsTable, Meaning, Members, data_of, is_some, is_used, kind_at, rows_at, rows_of, same-ok}
+use Terms.{IsLaid, Option, Tested, length, Index, IsOwn, arith, false, first, subst, File, List, Ok}
+use Terms.{None, Some, cond, refl, true, ◌||◌, All, Lie, inl, inr, sym, ◌<◌, ◌∙◌, ◌∷◌, ◌≡◌, [], ap}
+use Rattle.std.proofs.Common.{slice_index, slice_get, not, ◌^◌}
 use Rattle.thorin_join.specs.Builder.{IsFinished, order_test, same_order, with_input, State}
-use Rattle.thorin_join.proofs.Terms.{IsIndexOf, same-each}
 use Rattle.thorin_join.proofs.Files.Indexes.{chosen-fit, no-bytes}
-use Rattle.dwp_base.specs.declared.endian.Endianness.TheVariants.{Little, Big}
 use Rattle.dwp_bytes.specs.Encoding.{index_version_of}
-use Rattle.dwp_index.specs.IndexBytes.{index_of}
 use Rattle.thorin_index.proofs.Each.{have_passed, used_known}
-use Rattle.thorin_index.specs.ReadBack.{index_with}
 use Rattle.thorin_index.proofs.ReadAgain.{index_is_read}
 use Rattle.thorin_index.proofs.RowsAgain.{written_rows}
 use Rattle.thorin_again.proofs.Opened.Sections.{object-written, first-written, info-written}
@@ -31,11 +26,12 @@ use Rattle.thorin_again.proofs.Opened.Sections.{opened-elf}
 use Rattle.thorin_join.proofs.Files.Finished.{finished-compilations, finished-content, tested-state}
 use Rattle.dwp_table.specs.Columns.{column_of}
 use Rattle.thorin_join.proofs.Units.NamesApart.{distinct_chosen}
-use Rattle.thorin_again.proofs.Meant.RowByRow.{each-place, IsAgain}
+use Rattle.thorin_again.proofs.Meant.RowByRow.{IsAgain}
 use Rattle.thorin_again.proofs.Offsets.RewrittenAgain.{all-rewritten, tile-tested, used-chosen}
 use Rattle.thorin_again.proofs.Offsets.RewrittenAgain.{CanRewrite, ranges-are, are-named, tile-lies}
 use Rattle.thorin_packaged.specs.PackagedOffsets.{packaged_offsets, rewritten_from}
 use Rattle.dwp_base.specs.declared.section.SectionKind.TheVariants as kinds
+use Rattle.dwp_dwarf.specs.declared.unit.UnitSection.TheVariants as places
 
 -- rows come from inputs of this version
 abbrev pub HaveVersion : ℕ → List IndexEntry → Type 0
@@ -43,58 +39,38 @@ HaveVersion version rows = All (λ row. row.encoding.version ≡ version) rows
 
 -- ---- an index is read again
 
--- it is read from these bytes, has these rows, and goes with inputs of their version
-pub record IndexTaken (order : Endianness) (rows : List IndexEntry) (bytes : List ℕ) : Type 0 where
+-- it is read from these bytes, has these rows, and goes with inputs of this encoding
+pub record IndexTaken (order : Endianness) (encoding : Encoding) (rows : List IndexEntry)
+    (bytes : List ℕ) : Type 0 where
   pub index : Option Index
   pub taken : (kind : SectionKind) → index_in order kind bytes ≡ Ok index
-  pub fits : (encoding : Encoding) (kind : SectionKind) → HaveVersion encoding.version rows
-      → version_test encoding kind index ≡ Ok tt
-  pub there : is_some index ≡ is_some (slice_get rows 0)
-  pub has : AreDistinct (entry_ids rows) → HasRows index rows
+  pub fits : (kind : SectionKind) → version_test encoding kind index ≡ Ok tt
+  pub has : HasRows index rows
 
-some-taken : (order : Endianness) (kind : SectionKind) (bytes : List ℕ) (index : Index)
-    → index_of order bytes ≡ Ok index → index_in order kind bytes ≡ Ok (Some index)
-unfolding index_in
-some-taken order kind [] index read = let none = rw (no-bytes order) at read in absurd cc
-some-taken order kind (b ∷ bs) index read = rw (eqb-suc-zero, read) refl
-
-index-taken : (order : Endianness) (rows : List IndexEntry) (bytes : List ℕ)
+index-taken : (order : Endianness) (encoding : Encoding) (rows : List IndexEntry) (bytes : List ℕ)
     → IsIndexOf order rows bytes → index_tests rows ≡ Ok tt
-    → ((r : ℕ) → slice_index (entry_ids rows) r < 2 ^ 64) → IndexTaken order rows bytes
+    → ((r : ℕ) → slice_index (entry_ids rows) r < 2 ^ 64) → AreDistinct (entry_ids rows)
+    → HaveVersion encoding.version rows → IndexTaken order encoding rows bytes
 unfolding index_in
-index-taken order [] bytes text tested fit = record {
-  index = None;
-  taken = λ kind. rw text refl;
-  fits = λ encoding kind have. refl;
-  there = refl;
-  has = λ distinct. refl;
-}
-index-taken order (row ∷ rows) bytes text tested fit =
-    let version = index_version_of row.encoding.version in
-    let index = index_with version (used_sections (row ∷ rows)) (row ∷ rows) text.rows in
+index-taken order encoding [] bytes text tested fit distinct have =
+    record { index = None; taken = λ kind. rw text refl; fits = λ kind. refl; has = refl }
+index-taken order encoding (row ∷ rows) bytes text tested fit distinct have =
     let read = index_is_read order row.encoding (row ∷ rows) bytes tested fit text in
+    let entries = written_rows order row.encoding (row ∷ rows) bytes tested distinct fit text _
+    read in
     record {
-      index = Some index;
-      taken = λ kind. some-taken order kind bytes index read;
-      fits = λ encoding kind have. rw (have 0 row (omega arith)) (by-bool _ (leb 5 encoding.version)
-          (λ e. rw e refl) (λ e. rw e refl));
-      there = refl;
-      has = λ distinct.
-          let has = written_rows order row.encoding (row ∷ rows) bytes tested distinct fit text
-          index read in
-          (version, has, omega arith);
+      index = Some _;
+      taken = λ kind. grind (arith, nat_tests, read, no-bytes order, nil_from_length bytes);
+      fits = λ kind. grind (arith, nat_tests, have 0 row (omega arith));
+      has = (index_version_of row.encoding.version, entries, omega arith);
     }
 
-version-chosen : (b : Bool) (version : ℕ) (rows : List IndexEntry) → HaveVersion version rows
-    → HaveVersion version (rows_of b rows)
-version-chosen b version = All-filter (is_chosen b) (λ row. row.encoding.version ≡ version)
-
 -- where there is a row, one of the indexes has rows
-one-is-there : (rows : List IndexEntry) → (rows ≡ [] → ⊥)
-    → (is_some (slice_get (rows_of true rows) 0) || is_some (slice_get (rows_of false rows) 0)) ≡
-    true
-one-is-there [] some = absurd (some refl)
-one-is-there (row ∷ rows) some = grind arith
+one-is-there : (compilations types : Option Index) (rows : List IndexEntry)
+    → HasRows compilations (rows_of true rows) → HasRows types (rows_of false rows)
+    → (rows ≡ [] → ⊥) → (is_some compilations || is_some types) ≡ true
+one-is-there c t [] of_c of_t some = absurd (some refl)
+one-is-there c t (row ∷ rows) of_c of_t some = grind arith
 
 -- ---- the package of an own file
 
@@ -110,18 +86,17 @@ pub record OwnMade (encoding : Encoding) (made : InProgress) : Type 0 where
 pub rows-kept : (made : InProgress) (file : File) → IsSound made → IsFinished made file
     → AreRowsOf file.order file.contents made.strings made.rows (units_of made)
 rows-kept made file sound f =
-    rw (finished-order made file f) (keep-rows made.file.order made.file.contents file.contents
-    made.strings made.strings made.rows _ (finished-grows made file f) (take-length made.strings)
-    sound.units.rows)
+    rw (finished-order made file f) (keep-rows _ _ _ _ _ made.rows _ (finished-grows made file f)
+    (take-length made.strings) sound.units.rows)
 
 -- and they lie in turn
 pub lie-kept : (made : InProgress) (file : File) → IsLaid made → IsFinished made file
     → (place : UnitSection) → Lie file.order place 0 (rows_at place made.rows)
     (content_of (kind_at place) file.contents)
-lie-kept made file laid f place =
-    rw (finished-order made file f, finished-own made file f place) (each-place
-    (λ p. Lie made.file.order p 0 (rows_at p made.rows) (content_of (kind_at p) made.file.contents))
-    laid.info laid.types place)
+lie-kept made file laid f places.Info =
+    rw (finished-order made file f, finished-own made file f places.Info) laid.info
+lie-kept made file laid f places.Types =
+    rw (finished-order made file f, finished-own made file f places.Types) laid.types
 
 -- a finished package, read again of its file with these indexes
 pub record IsReadOf (encoding : Encoding) (file : File) (indexes : Indexes)
@@ -151,9 +126,8 @@ module _ {state : State} {encoding : Encoding} {file : File} (own : IsOwn state 
         tests = tested-state state made begun own.tested;
         all = all;
         some = λ none. omega (arith, some, long, ap length none);
-        version = λ k d within. ap (λ (e : Encoding). e.version)
-            (rw (get_or-map unit made.rows k d) at
-            (all k (unit d) (omega (arith, within, long))));
+        version = λ k d within. let is = all k (unit d) (omega (arith, within, long)) in
+            grind (arith, is, get_or-map unit made.rows k d);
       }
 
   pub own-plain : {other : InProgress} → state.begun ≡ Some other → IsPlain encoding other
@@ -161,57 +135,50 @@ module _ {state : State} {encoding : Encoding} {file : File} (own : IsOwn state 
   own-plain {other} begun plain =
       subst (IsPlain encoding) (same_Some other made (sym begun ∙ own.finished.begun)) plain
 
-  compilations-taken : IndexTaken file.order (rows_of true made.rows)
-      (first kinds.CuIndex (written_object file).sections)
-  compilations-taken =
-      let same = finished-compilations made file f own-made.sound.units.no_compilations in
-      subst (λ o. IndexTaken o (rows_of true made.rows) (first kinds.CuIndex (written_object
-      file).sections)) (sym (finished-order made file f))
-      (rw (first-written kinds.CuIndex file.contents own.kinds, same) (index-taken
-      made.file.order (rows_of true made.rows) f.compilation_index f.compilations
-      own-made.tests.compilation_rows (chosen-fit true made.rows own.finished.identifiers)))
+  sort-taken : (b : Bool) (kind : SectionKind)
+      → IsIndexOf made.file.order (rows_of b made.rows) (content_of kind file.contents)
+      → index_tests (rows_of b made.rows) ≡ Ok tt
+      → IndexTaken file.order encoding (rows_of b made.rows)
+      (first kind (written_object file).sections)
+  sort-taken b kind text tested =
+      subst (λ o. IndexTaken o encoding (rows_of b made.rows)
+      (first kind (written_object file).sections)) (sym (finished-order made file f))
+      (rw (first-written kind file.contents own.kinds) (index-taken _ encoding _ _ text tested
+      (chosen-fit b made.rows own.finished.identifiers)
+      (distinct_chosen b made.rows (names_of made) refl own-made.sound.apart)
+      (All-filter (is_chosen b) (λ row. row.encoding.version ≡ encoding.version) made.rows
+      own-made.version)))
 
-  types-taken : IndexTaken file.order (rows_of false made.rows)
-      (first kinds.TuIndex (written_object file).sections)
-  types-taken =
-      let same = finished-types made file f own-made.sound.units.no_types in
-      subst (λ o. IndexTaken o (rows_of false made.rows) (first kinds.TuIndex (written_object
-      file).sections)) (sym (finished-order made file f))
-      (rw (first-written kinds.TuIndex file.contents own.kinds, same) (index-taken
-      made.file.order (rows_of false made.rows) f.type_index f.types
-      own-made.tests.type_rows (chosen-fit false made.rows own.finished.identifiers)))
+  taken : (b : Bool) → IndexTaken file.order encoding (rows_of b made.rows)
+      (first (cond b kinds.CuIndex kinds.TuIndex) (written_object file).sections)
+  taken true = sort-taken true kinds.CuIndex (rw (finished-compilations made file f
+      own-made.sound.units.no_compilations) f.compilations) own-made.tests.compilation_rows
+  taken false = sort-taken false kinds.TuIndex (rw (finished-types made file f
+      own-made.sound.units.no_types) f.types) own-made.tests.type_rows
 
   abbrev indexes-taken : Indexes
-  indexes-taken = record { compilations = compilations-taken.index; types = types-taken.index }
+  indexes-taken = record { compilations = (taken true).index; types = (taken false).index }
 
   indexes-packed : is_package indexes-taken ≡ true
-  indexes-packed =
-      rw (compilations-taken.there, types-taken.there) (one-is-there made.rows own-made.some)
+  indexes-packed = one-is-there _ _ made.rows (taken true).has (taken false).has own-made.some
 
   indexes-read : indexes_of (written_object file) encoding ≡ Ok indexes-taken
   unfolding indexes_of
   indexes-read =
-      let chosen = λ (b : Bool). version-chosen b _ made.rows own-made.version in
-      let c = compilations-taken.fits encoding kinds.CuIndex (chosen true) in
-      let t = types-taken.fits encoding kinds.TuIndex (chosen false) in
-      rw (compilations-taken.taken kinds.CuIndex, types-taken.taken kinds.TuIndex, c, t) refl
+      let c = taken true in
+      let t = taken false in
+      rw (c.taken kinds.CuIndex, t.taken kinds.TuIndex, c.fits kinds.CuIndex, t.fits kinds.TuIndex)
+      refl
 
-  pub read-of : (indexes : Indexes)
-      → indexes_of (written_object file) encoding ≡ Ok indexes
+  pub read-of : (indexes : Indexes) → indexes_of (written_object file) encoding ≡ Ok indexes
       → IsReadOf encoding file indexes made
   read-of indexes read =
       let same : indexes ≡ indexes-taken = same-ok _ _ (sym read ∙ indexes-read) in
       let units = own-made.sound.units in
-      let distinct = λ (b : Bool).
-      distinct_chosen b made.rows (names_of made) refl own-made.sound.apart in
-      let again : IsAgain (own_source file encoding indexes) file.contents made.strings
-      made.rows = rw same (assumption (
-        indexes-packed,
-        (λ (kind : SectionKind). first-written kind file.contents own.kinds),
-        finished-strings made file f units.no_strings,
-        compilations-taken.has (distinct true),
-        types-taken.has (distinct false),
-      )) in
+      let held = λ (kind : SectionKind). first-written kind file.contents own.kinds in
+      let strings = finished-strings made file f units.no_strings in
+      let again : IsAgain (own_source file encoding indexes) file.contents made.strings made.rows =
+      rw same (assumption (indexes-packed, held, strings, (taken true).has, (taken false).has)) in
       assumption own-made
 
 -- an own file is taken up to its parts
@@ -222,7 +189,7 @@ unfolding with_input with_units order_test
 up-to-parts state encoding file own before same =
     let opens = opened-elf (file_text file) (written_elf file) own.read_back in
     let object = object-written file own.kinds in
-    let order = elim file.order as (λ o. same_order o o ≡ true) [ Little ↦ refl | Big ↦ refl ] in
+    let order : same_order file.order file.order ≡ true = grind arith in
     let read = indexes-read own in
     record {
       indexes = _;
@@ -247,13 +214,10 @@ pub in-format : (encoding : Encoding) (rows : List IndexEntry) → HaveVersion e
     → (kind : SectionKind) → (counts_once kind ≡ false → is_used rows kind ≡ true)
     → is_in_format encoding kind ≡ true
 in-format encoding rows have c t kind used =
-    by-bool _ (is_of_units kind)
-    (λ of.
     let column = λ (b : Bool). column-of encoding.version kind (rows_of b rows)
-    (version-chosen b encoding.version rows have) in
-    or_right _ _ (⊎_elim (column true c) (column false t) (used-chosen kind rows (used
-    (same-each counts_once (λ k. not (is_of_units k)) refl kind ∙ ap not of)))))
-    (λ other. or_left _ _ (ap not other))
+    (All-filter (is_chosen b) (λ row. row.encoding.version ≡ encoding.version) rows have) in
+    let once = same-each counts_once (λ k. not (is_of_units k)) refl kind in
+    grind (arith, column true c, column false t, used-chosen kind rows, used, once)
 
 -- a section of units that has bytes is one that a row names
 pub lie-used : (order : Endianness) (place : UnitSection) (offset : ℕ) (rows : List IndexEntry)
@@ -267,10 +231,7 @@ lie-used order place offset (r ∷ rs) bytes lie some =
 pub finished-shared : (made : InProgress) (file : File) → IsFinished made file
     → (kind : SectionKind) → is_shared kind ≡ true → content_of kind file.contents ≡ content_of kind
     made.file.contents
-finished-shared made file f kinds.Str shared = absurd cc
-finished-shared made file f kinds.CuIndex shared = absurd cc
-finished-shared made file f kinds.TuIndex shared = absurd cc
-finished-shared made file f kind shared = finished-content made file f kind
+finished-shared made file f kind shared = grind (arith, finished-content made file f kind)
 
 -- ---- string offsets
 
@@ -287,14 +248,13 @@ module _ (order : Endianness) (encoding : Encoding) (c : Contents) (strings : Li
       let bytes = content_of kinds.StrOffsets c in
       let own = range_bytes bytes range in
       let inside = are.0.lie.inside kinds.StrOffsets range e in
-      let own_is : own ≡ part_of bytes row.debug_str_offsets =
-      sym (ap (part_of bytes) e ∙ part-inside bytes range inside) in
-      let same = all 0 m (omega arith) in (
+      let part = part-inside bytes range inside in
+      let same = all 0 m (omega arith) in
+      let read = λ (k : ℕ). are.0.shares.string strings table (take-length strings) k in
+      let long = slice-long bytes range.offset.0 range.size inside in (
         whole,
-        are-named order encoding (data_of strings) own range.size
-            (slice-long bytes range.offset.0 range.size inside) whole (slice_get m.1.strings) (λ k.
-            (λ i. string_in order (sym same i) (data_of strings) (own_is i) k)
-            ∙ are.0.shares.string strings table (take-length strings) k),
+        are-named order encoding (data_of strings) own range.size long whole
+            (slice_get m.1.strings) (λ k. grind (arith, e, part, same, read k)),
       )
   some-can (row ∷ rows) (m ∷ ms) are all (inr h) = some-can rows ms are.1
       (All-tail (λ (u : DwarfObject × Meaning). u.1.encoding ≡ encoding) m ms all) h
@@ -315,13 +275,10 @@ module _ {encoding : Encoding} {file : File} {indexes : Indexes} {made : InProgr
       let f = is.finished in
       let again = is.again in
       let size = length (content_of kinds.StrOffsets made.file.contents) in
-      let ranges = ranges-are made.file.order encoding size tiled.ranges tiled.tile
-      indexes.compilations indexes.types made.rows again.compilations again.types tiled.rows
-      tiled.named in
-      let tested = tile-tested made.file.order encoding size 0 size 0 tiled.ranges tiled.tile
-      (omega arith) (omega arith) in
-      rewritten-package (own_source file encoding indexes)
-      (content_of kinds.StrOffsets file.contents) strings again.packed
+      let ranges = ranges-are _ encoding size tiled.ranges tiled.tile _ _ made.rows
+      again.compilations again.types tiled.rows tiled.named in
+      let tested = tile-tested _ encoding size 0 size 0 _ tiled.tile (omega arith) (omega arith) in
+      rewritten-package (own_source file encoding indexes) _ strings again.packed
       ∙ (λ i. packaged_offsets (finished-order made file f i) encoding indexes.compilations
       indexes.types ((again.held kinds.Str ∙ again.strings_are) i)
       (finished-shared made file f kinds.StrOffsets refl i) strings)
@@ -334,15 +291,13 @@ module _ {encoding : Encoding} {file : File} {indexes : Indexes} {made : InProgr
   own-offsets strings =
       let units = is.own.sound.units in
       let bytes = content_of kinds.StrOffsets made.file.contents in
-      rw (offsets-are strings) (all-rewritten made.file.order encoding (data_of made.strings) bytes
-      0 tiled.ranges strings (λ r h. some-can made.file.order encoding made.file.contents
-      made.strings units.table r (tile-lies made.file.order encoding 0 (length bytes) tiled.ranges r
-      tiled.tile h).1 made.rows (units_of made) units.rows is.own.all (tiled.named r h)))
+      rw (offsets-are strings) (all-rewritten _ _ _ bytes 0 tiled.ranges strings (λ r h.
+      some-can _ _ _ _ units.table r (tile-lies _ _ 0 _ tiled.ranges r tiled.tile h).1 made.rows _
+      units.rows is.own.all (tiled.named r h)))
 
   -- where there are no strings they are, with the package's strings
   pub own-offsets-alone : (w : List ℕ × List (List ℕ)) × (rewritten
       (own_source file encoding indexes) (content_of kinds.StrOffsets file.contents) [] ≡ Ok w)
   own-offsets-alone =
-      let given = tiled.strings made.strings is.own.sound.units.table
-      (take-length made.strings) in
+      let given = tiled.strings made.strings is.own.sound.units.table (take-length made.strings) in
       ((given.0, made.strings), offsets-are [] ∙ given.1)

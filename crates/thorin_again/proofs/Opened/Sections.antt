@@ -3,32 +3,27 @@
 -- string offsets are.
 use Rattle.thorin_again.proofs.Terms
 use Terms.{written_sections, list_any-append, nil_from_length, written_object, input_file_of, Parts}
-use Terms.{plain_section, eqb-suc-zero, is_in_format, written_used, KindsDiffer, SectionKind, arith}
-use Terms.{encoding_of, written_elf, ErrorValue, StrOffsets, TakesParts, append-nil, cond-false, Ok}
-use Terms.{content_of, name_table, and-false, bind-bind, file_text, found-any, is_copied, rewritten}
-use Terms.{same-self, same_kind, used_kind, Contents, bind-was, count_of, has_info, has_part, false}
-use Terms.{list_any, or-false, or_right, parts_of, CanTake, by-bool, is-same, name_of, or_left, Elf}
-use Terms.{Source, elf_of, length, opened, first, subst, ◌>>=◌, Bool, File, Info, List, Used, cond}
-use Terms.{refl, true, Err, eqb, sym, ◌<◌, ◌∙◌, ◌∷◌, ◌≡◌, [], ap, ℕ}
+use Terms.{plain_section, is_in_format, written_used, KindsDiffer, SectionKind, encoding_of, Source}
+use Terms.{written_elf, ErrorValue, StrOffsets, TakesParts, append-nil, content_of, name_table, Elf}
+use Terms.{file_text, found-any, nat_tests, rewritten, same-self, same_kind, used_kind, Contents, ℕ}
+use Terms.{count_of, has_info, has_part, list_any, or_right, parts_of, CanTake, is-same, name_of}
+use Terms.{elf_of, length, opened, arith, false, first, subst, ◌>>=◌, Bool, File, Info, List, Used}
+use Terms.{cond, refl, true, Err, sym, ◌<◌, ◌∙◌, ◌∷◌, ◌≡◌, Ok, [], ap}
 use Rattle.thorin_again.specs.Again.{input_encoding}
 use Rattle.thorin_input.specs.Parts.{with_each_part, with_offsets, with_part}
-use Rattle.std.proofs.Common.{append_assoc, bytes_eq, Result, ◌++◌, not, ◌+◌, ◌≤◌}
+use Rattle.std.proofs.Common.{append_assoc, bytes_eq, Result, ◌++◌, ◌+◌, ◌≤◌}
 use Rattle.dwp_base.proofs.EveryKind.{kind-named, not-older, every}
 use Rattle.dwp_elf_read.specs.Elf.{SectionMeaning, is_named}
-use Rattle.dwp_elf_read.specs.Identification.{identity_of, kind_of}
+use Rattle.dwp_elf_read.specs.Identification.{identity_of}
 use Rattle.dwp_index.specs.Contents.{is_of_kind}
 use Rattle.thorin_input.specs.Used.{is_present, used_bytes, used_from, has_kind, is_of}
 use Rattle.thorin_join.proofs.Files.Contents.{nothing}
-use Rattle.std.proofs.lemmas.Bool.Decides.{nat_tests}
 use Rattle.dwp_index.specs.Contents as contents
 
 -- a written file is opened
 pub opened-elf : (bytes : List ℕ) (file : Elf) → elf_of bytes ≡ Ok file → opened bytes ≡ Ok file
 unfolding opened elf_of identity_of
-opened-elf bytes file h =
-    let i = bind-was (identity_of bytes) _ file h in
-    let k = bind-was (kind_of bytes) _ i.0 i.1 in
-    grind (arith, i.1, k.1)
+opened-elf bytes file h = grind arith
 
 -- a content as a section
 abbrev pub section_of : SectionKind × List ℕ → Used
@@ -67,8 +62,7 @@ pub fresh-more : {X : Type 0} (test : SectionKind → X → Bool) (xs : List X) 
     → Fresh (λ kind. list_any (test kind) xs) (c ∷ cs)
     → Fresh (λ kind. list_any (test kind) (xs ++ x ∷ [])) cs
 fresh-more test xs x c cs same fresh kind =
-    rw (list_any-append (test kind) xs (x ∷ []), same kind, or-false)
-    (grind (arith, nat_tests, fresh kind))
+    grind (arith, nat_tests, list_any-append (test kind) xs (x ∷ []), same kind, fresh kind)
 
 pub not-seen : (seen : SectionKind → Bool) (c : SectionKind × List ℕ) (cs : Contents)
     → Fresh seen (c ∷ cs) → seen c.0 ≡ false
@@ -82,17 +76,14 @@ Seen used kind = list_any (has_kind kind) used
 used-written : (n : ℕ) (names : List ℕ) (cs : Contents) (used : List Used) → Fresh (Seen used) cs
     → used_from used (written_sections n names cs) ≡ Ok (used ++ written_used cs)
 unfolding used_from used_bytes contents.used_bytes used_kind is_of_kind
-used-written n names [] used fresh = by-bool _ (eqb (length names) 0)
-    (λ none. rw (none, append-nil) refl) (λ some. rw (some, append-nil) refl)
+used-written n names [] used fresh = grind (arith, nat_tests, append-nil used)
 used-written n names (c ∷ cs) used fresh =
-    by-bool _ (eqb (length c.1) 0)
-    (λ none. rw none
-    (used-written (n + 1) names cs used (fresh-rest (Seen used) c cs fresh)))
-    (λ some. let new = found-any (has_kind c.0) used ∙ not-seen (Seen used) c cs fresh in
-    rw (some, kind-named c.0, new, and-false, not-older c.0)
-    (used-written (n + 1) names cs (used ++ section_of c ∷ [])
-    (fresh-more has_kind used (section_of c) c cs (λ kind. refl) fresh)
-    ∙ ap Ok (append_assoc used (section_of c ∷ []) (written_used cs))))
+    let new = found-any (has_kind c.0) used ∙ not-seen (Seen used) c cs fresh in
+    let passed = used-written (n + 1) names cs used (fresh-rest (Seen used) c cs fresh) in
+    let more = used-written (n + 1) names cs (used ++ section_of c ∷ [])
+    (fresh-more has_kind used (section_of c) c cs (λ kind. refl) fresh) in
+    let both = append_assoc used (section_of c ∷ []) (written_used cs) in
+    grind (arith, nat_tests, new, kind-named c.0, not-older c.0, passed, more, both)
 
 -- a written file as an input
 pub object-written : (file : File) → KindsDiffer file.contents → input_file_of (written_elf file) ≡
@@ -115,12 +106,9 @@ input-encoding file differ back =
 pub first-written : (kind : SectionKind) (cs : Contents) → KindsDiffer cs
     → first kind (written_used cs) ≡ content_of kind cs
 first-written kind [] differ = refl
-first-written kind ((k, []) ∷ cs) differ =
-    first-written kind cs (rest-differ (k, []) cs differ) ∙ sym (empty-first kind k cs differ)
-first-written kind ((k, b ∷ bs) ∷ cs) differ =
-    rw eqb-suc-zero (by-bool _ (same_kind k kind)
-    (λ same. rw same refl)
-    (λ other. rw other (first-written kind cs (rest-differ (k, b ∷ bs) cs differ))))
+first-written kind (c ∷ cs) differ =
+    let rest = first-written kind cs (rest-differ c cs differ) in
+    grind (arith, nat_tests, rest, none-behind kind c cs differ, nil_from_length c.1)
 
 -- ---- what is there by name
 
@@ -131,10 +119,7 @@ module _ (kind : SectionKind) (test : SectionMeaning → Bool)
       → list_any test (written_sections n names cs) ≡ true
   is-among n names [] h = absurd (omega (arith, h))
   is-among n names (c ∷ cs) h =
-      by-bool _ (same_kind c.0 kind)
-      (λ same. or_left (test (plain_section n 1 (name_of c.0) c.1)) _
-      (rw (is-same c.0 kind same) (meets n c.1)))
-      (λ other. or_right _ _ (is-among (n + 1) names cs (rw other at h)))
+      grind (arith, nat_tests, is-among (n + 1) names cs, meets n c.1, is-same c.0 kind)
 
   in-file : (file : File) → 0 < length (content_of kind file.contents)
       → list_any test (written_elf file).sections ≡ true
@@ -144,9 +129,9 @@ module _ (kind : SectionKind) (test : SectionMeaning → Bool)
 pub present-written : (kind : SectionKind) (file : File)
     → 0 < length (content_of kind file.contents) → is_present kind (written_elf file) ≡ true
 present-written kind file h =
+    let named = every (λ k. bytes_eq (name_of k) (name_of k)) refl kind in
     found-any (is_named (name_of kind)) (written_elf file).sections
-    ∙ in-file kind (is_named (name_of kind)) (λ n bytes. every (λ k. bytes_eq (name_of k)
-    (name_of k)) refl kind) file h
+    ∙ in-file kind (is_named (name_of kind)) (λ n bytes. named) file h
 
 -- and units are
 pub info-written : (file : File) → 0 < length (content_of Info file.contents)
@@ -167,8 +152,7 @@ Fares E P (Err e) = E e
 pub then-fares : {X Y : Type 0} (E : ErrorValue → Type 0) (P : X → Type 0) (Q : Y → Type 0)
     (r : Result X ErrorValue) (f : X → Result Y ErrorValue) → Fares E P r
     → ((x : X) → P x → Fares E Q (f x)) → Fares E Q (r >>= f)
-then-fares E P Q (Ok x) f h k = k x h
-then-fares E P Q (Err e) f h k = h
+then-fares E P Q r f h k = grind arith
 
 -- an answer, or an error of some sort
 abbrev pub Unless : (ErrorValue → Type 0) → {X : Type 0} → Result X ErrorValue → Type 0
@@ -179,13 +163,11 @@ Unless E (Err e) = E e
 pub and-then : (E : ErrorValue → Type 0) {X Y : Type 0} (r : Result X ErrorValue)
     (f : X → Result Y ErrorValue) → Unless E r → ((x : X) → r ≡ Ok x → Unless E (f x))
     → Unless E (r >>= f)
-and-then E (Ok x) f h k = k x refl
-and-then E (Err e) f h k = h
+and-then E r f h k = grind arith
 
 -- where no error is of that sort, there is an answer
 pub answered : {X : Type 0} (r : Result X ErrorValue) → Unless (λ e. ⊥) r → (x : X) × (r ≡ Ok x)
-answered (Ok x) h = (x, refl)
-answered (Err e) h = absurd h
+answered r h = grind arith
 
 -- a content behind the first is that of its kind in the whole
 pub behind : (kind : SectionKind) (c : SectionKind × List ℕ) (cs : Contents) → KindsDiffer (c ∷ cs)
@@ -226,7 +208,6 @@ module _ (E : ErrorValue → Type 0) (source : Source) where
       (fresh-rest (Had before) (kind, []) cs fresh) (can-rest (kind, []) cs before.1 before.1
       (fresh-differ (Had before) ((kind, []) ∷ cs) fresh) (λ s. refl) can)
   parts-tried ((kind, b ∷ bs) ∷ cs) before fresh can =
-      let bytes = b ∷ bs in
       let c : SectionKind × List ℕ = (kind, b ∷ bs) in
       let differ = fresh-differ (Had before) (c ∷ cs) fresh in
       let rest = fresh-rest (Had before) c cs fresh in
@@ -234,24 +215,16 @@ module _ (E : ErrorValue → Type 0) (source : Source) where
       let more = λ (put : List ℕ) (k : SectionKind) (is : kind ≡ k).
       fresh-more (λ j (part : SectionKind × List ℕ). same_kind part.0 j) before.0 (k, put) c cs
       (λ j. ap (λ l. same_kind l j) (sym is)) fresh in
-      let fits = can.format kind (rw (front c cs) (omega arith)) in
-      rw (eqb-suc-zero, not-seen (Had before) c cs fresh, and-false, fits)
-      (by-bool _ (same_kind kind StrOffsets)
-      (λ same.
-      let had = (rw same at can.offsets) (omega arith) in
-      let offsets : with_offsets source before bytes ≡ (rewritten source bytes before.1 >>= λ w.
-      Ok (before.0 ++ (StrOffsets, w.0) ∷ [], w.1)) = cond-false _ _ _ (ap not had.0) in
-      rw (same, offsets, bind-bind)
-      (and-then E (rewritten source bytes before.1) _ had.1
-      (λ w is. parts-tried cs (before.0 ++ (StrOffsets, w.0) ∷ [], w.1)
+      let offsets = λ (w : List ℕ × List (List ℕ)) (same : same_kind kind StrOffsets ≡ true).
+      parts-tried cs (before.0 ++ (StrOffsets, w.0) ∷ [], w.1)
       (more w.0 StrOffsets (is-same kind StrOffsets same))
-      (can-rest c cs before.1 w.1 differ (λ s. let no =
-      ap length (none-behind StrOffsets c cs differ
-      same) in absurd (omega arith)) can))))
-      (λ other. by-bool _ (is_copied kind)
-      (λ copied. rw (copied, other) (parts-tried cs (before.0 ++ c ∷ [], before.1)
-      (more bytes kind refl) same-strings))
-      (λ apart. rw (apart, other) (parts-tried cs before rest same-strings))))
+      (can-rest c cs before.1 w.1 differ
+      (λ s. grind (arith, none-behind StrOffsets c cs differ same)) can) in
+      let copied = parts-tried cs (before.0 ++ c ∷ [], before.1) (more (b ∷ bs) kind refl)
+      same-strings in
+      let left = parts-tried cs before rest same-strings in
+      let new = not-seen (Had before) c cs fresh in
+      grind (arith, nat_tests, can.format kind, front c cs, new, can.offsets, offsets, copied, left)
 
   -- those of an input that has the sections of written contents
   pub own-parts-tried : (contents : Contents) (strings : List (List ℕ))
@@ -267,7 +240,4 @@ pub own-parts : (source : Source) (contents : Contents) (strings : List (List �
     → CanTake source contents strings → TakesParts source strings
 own-parts source contents strings are differ can =
     answered (parts_of source strings) (own-parts-tried (λ e. ⊥) source contents strings are differ
-    (record {
-      format = can.format;
-      offsets = λ some. (can.has some, rw (can.written some).1 tt);
-    }))
+    (record { format = can.format; offsets = λ some. (can.has some, rw (can.written some).1 tt) }))

@@ -1,17 +1,15 @@
-use Rattle.dwp_strings.proofs.Terms.{◌*◌, ◌-◌, arith}
+use Rattle.dwp_strings.proofs.Terms.{arith, ◌*◌, ◌-◌}
 use Rattle.dwp_strings.proofs.ends.short_end.Goals as goal
 
 pub returns-then-some-lt-LANES-clause-some : goal.returns-then-some-lt-LANES-clause-some
-returns-then-some-lt-LANES-clause-some c = record {
-  within = omega arith;
-  ended = c.before_zero-some.ensures.zero (omega arith);
-  before = λ k less.
-      grind (arith, c.before_zero-some.ensures.some (k - c.loop-round.round * 64));
-}
+returns-then-some-lt-LANES-clause-some c =
+    let some = c.before_zero-some.ensures.some in
+    let at = c.loop-round.round * 64 in
+    let zero = c.before_zero-some.ensures.zero (omega arith) in
+    record { within = omega arith; ended = zero; before = λ k less. grind (arith, some (k - at)) }
 
 pub loop-round-preserved : goal.loop-round-preserved
-loop-round-preserved c = record {
-  within = omega arith;
-  some = λ k less.
-      grind (arith, c.before_zero-some.ensures.some (k - c.loop-round.round * 64));
-}
+loop-round-preserved c =
+    let some = c.before_zero-some.ensures.some in
+    let at = c.loop-round.round * 64 in
+    record { within = omega arith; some = λ k less. grind (arith, some (k - at)) }

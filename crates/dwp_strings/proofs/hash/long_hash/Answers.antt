@@ -1,13 +1,10 @@
-use Rattle.dwp_strings.proofs.Terms.{◌+◌, arith, refl, ◌∙◌}
+use Rattle.dwp_strings.proofs.Terms.{arith, refl, ◌+◌, ◌∙◌}
 use Rattle.dwp_strings.proofs.HashLemmas.{mixed_first, mixed_more, mixed_all}
 use Rattle.dwp_strings.proofs.hash.long_hash.Goals as goal
 
 pub loop-at-init : goal.loop-at-init
-loop-at-init c = record {
-  whole = refl;
-  within = omega arith;
-  so_far = mixed_first c.args.bytes.now _ refl;
-}
+loop-at-init c =
+    record { whole = refl; within = omega arith; so_far = mixed_first c.args.bytes.now _ refl }
 
 pub loop-at-preserved : goal.loop-at-preserved
 loop-at-preserved c =

@@ -28,6 +28,5 @@ pub returns-clause-given : goal.returns-clause-given
 returns-clause-given c = λ n is.
     let none = none_of c.loop-number.slots c.args.hash c.loop-number.number c.args.size _
     c.home-home.ensures.value (omega arith) c.loop-number.invariant.passed
-    (λ more. free_past c.loop-number.slots c.loop-number.number (rw c.loop-number.invariant.same
-    (omega (arith, c.behind_last-last.ensures.far (omega arith))))) in
+    (λ more. grind (arith, free_past, c.behind_last-last.ensures)) in
     cc

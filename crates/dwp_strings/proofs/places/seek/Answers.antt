@@ -17,6 +17,4 @@ returns-then-slot-hash-clause-found c = search (rules, found_of)
 
 pub returns-clause-none : goal.returns-clause-none
 returns-clause-none c = none_of _ _ c.loop-number.number _ _ c.home-home.ensures.value (omega arith)
-    c.loop-number.invariant
-    (λ more. free_past c.args.slots.now c.loop-number.number
-    (omega (arith, c.behind_last-last.ensures.far (omega arith))))
+    c.loop-number.invariant (λ more. grind (arith, free_past, c.behind_last-last.ensures))

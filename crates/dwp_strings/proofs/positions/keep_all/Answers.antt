@@ -1,16 +1,15 @@
 use Rattle.std.proofs.Common.{length-set}
-use Rattle.dwp_strings.proofs.Terms.{◌+◌, ◌<◌, ap, arith, length, nat_lt, pieces}
+use Rattle.dwp_strings.proofs.Terms.{ap, arith, length, nat_lt, pieces, ◌+◌, ◌<◌}
 use Rattle.dwp_strings.proofs.ChunkLemmas.{kept_within, kept_more, kept_all, chunked_all}
 use Rattle.dwp_strings.proofs.ChunkLemmas.{short_filter}
-use Rattle.dwp_strings.proofs.PieceLemmas.{length-pieces, piece_read}
+use Rattle.dwp_strings.proofs.PieceLemmas.{length-pieces, piece_read, counts}
 use Rattle.dwp_strings.proofs.positions.keep_all.Goals as goal
 
 pub keep-requires : goal.keep-requires
 keep-requires c = grind (arith, length-pieces, c.loop-at.invariant.long)
 
 pub index-requires : goal.index-requires
-index-requires c =
-    grind (arith, length-pieces, length-set, c.loop-at.invariant.long, c.keep.ensures)
+index-requires c = grind (arith, counts, length-set, c.loop-at.invariant.long, c.keep.ensures)
 
 pub loop-at-preserved : goal.loop-at-preserved
 loop-at-preserved c =
@@ -21,12 +20,10 @@ loop-at-preserved c =
     (omega (arith, ap length piece, c.index.result.now.ok.0))
 
 pub overflow_add-total : goal.overflow_add-total
-overflow_add-total c = omega (
-  arith,
-  (loop-at-preserved c).counted,
-  kept_within (λ p. nat_lt p c.args.limit) (pieces c.args.chunks.now.items) (c.loop-at.at + 1),
-  c.requires.small,
-)
+overflow_add-total c =
+    let within = kept_within (λ p. nat_lt p c.args.limit) (pieces c.args.chunks.now.items)
+    (c.loop-at.at + 1) in
+    omega (arith, (loop-at-preserved c).counted, within, c.requires.small)
 
 pub returns-clause-kept : goal.returns-clause-kept
 returns-clause-kept c = kept_all _ _ _ _ _ _ c.loop-at.invariant (omega arith)

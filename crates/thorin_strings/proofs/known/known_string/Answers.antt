@@ -1,12 +1,9 @@
-use Rattle.std.proofs.Common.{arith}
-use Rattle.std.proofs.lemmas.List.{take_rest}
-use Rattle.dwp_strings.proofs.EndLemmas.{ended_free}
+use Rattle.std.proofs.Common.{arith, refl}
 use Rattle.thorin_strings.proofs.KnownLemmas.{ended_read}
 use Rattle.thorin_strings.proofs.known.known_string.Goals as goal
 
-pub returns-clause-meaning : goal.returns-clause-meaning
-returns-clause-meaning c = ended_read c.args.debug_str.now _ c.args.offset _ (omega arith)
-    (take_rest c.args.debug_str.now c.args.offset) c.in_ok-end.ensures.some
-
-pub returns-clause-zero_free : goal.returns-clause-zero_free
-returns-clause-zero_free c = ended_free _ _ c.in_ok-end.ensures.some
+pub returns : goal.returns
+returns c =
+    let read = ended_read c.args.debug_str.now _ c.args.offset _ (omega arith) refl
+    c.in_ok-end.ensures.some in
+    record { meaning = read.0; zero_free = read.1 }

@@ -1,5 +1,4 @@
-use Rattle.dwp_strings.proofs.Terms.{◌+◌, arith, inl, refl, rules}
-use Rattle.dwp_strings.proofs.UsedLemmas.{two_pushes}
+use Rattle.dwp_strings.proofs.Terms.{append_assoc, arith, inl, refl, rules, ◌+◌}
 use Rattle.dwp_strings.proofs.HashedLemmas.{added, entries_few, unplaced, carried_kept}
 use Rattle.dwp_strings.proofs.TableLemmas.{indexed_push}
 use Rattle.dwp_strings.proofs.entries.Entries.add.Goals as goal
@@ -10,18 +9,13 @@ overflow_add-self c = omega (arith, (entries_few c.args.self.now c.requires.tabl
 pub returns : goal.returns
 returns c =
     let e = c.args.self.now in
-    let new = record e {
-      bytes = c.push.new.self;
-      count = e.count + 1;
-      places = c.enter.new.self;
-    } in
+    let places = c.enter.new.self in
+    let new = record e { bytes = c.push.new.self; count = e.count + 1; places = places } in
     let s = c.args.string.now in
     let table = c.requires.table in
     let absent = unplaced e table s c.args.hash c.requires.hashed c.requires.open c.requires.none in
     let done = added e new s c.args.hash _ table c.requires.zero_free c.requires.hashed absent
-    (two_pushes _ _ _ _ _ c.reserve.ensures.items (rw c.unwrap.ensures at
-    c.extend_from_slice.ensures.items) (rw c.unwrap-2.ensures at c.push.ensures.items))
-    c.len-place.ensures refl
+    (grind (arith, append_assoc)) c.len-place.ensures refl
     (indexed_push e.bytes.items e.ordered s table.findable.indexed c.requires.zero_free absent)
     (carried_kept e new c.requires.open c.enter.ensures.kept refl)
     (inl (c.if-not-enter.ensures.entered refl, c.if-not-enter.ensures.fits refl)) in

@@ -1,7 +1,5 @@
-use Rattle.dwp_strings.proofs.Terms
-use Terms.{◌+◌, ◌++◌, ap, arith, inl, IsFirstZero, refl, rules, sym, take, ◌∙◌}
+use Rattle.dwp_strings.proofs.Terms.{arith, inl, IsFirstZero, refl, rules, take, ◌+◌}
 use Rattle.dwp_strings.proofs.EndLemmas.{ended_free, ended_front, ended_take}
-use Rattle.dwp_strings.proofs.UsedLemmas.{ok_from_some}
 use Rattle.dwp_strings.proofs.HashedLemmas.{added, entries_few, unplaced, carried_kept}
 use Rattle.dwp_strings.proofs.TableLemmas.{indexed_push}
 use Rattle.dwp_strings.proofs.entries.Entries.add_guessed.Goals as goal
@@ -12,20 +10,16 @@ overflow_add-self c = omega (arith, (entries_few c.args.self.now c.requires.tabl
 pub returns : goal.returns
 returns c =
     let e = c.args.self.now in
-    let new = record e {
-      bytes = c.extend_from_slice.new.self;
-      count = e.count + 1;
-      places = c.enter.new.self;
-    } in
+    let bytes = c.extend_from_slice.new.self in
+    let new = record e { bytes = bytes; count = e.count + 1; places = c.enter.new.self } in
     let s = take c.args.end c.args.rest.now in
     let table = c.requires.table in
     let first : IsFirstZero c.args.rest.now c.args.end = c.if-not-ends_at.ensures refl in
     let free = ended_free c.args.rest.now c.args.end first in
+    let ended = ended_take c.args.rest.now c.args.end first in
     let absent = unplaced e table s c.args.hash c.requires.hashed c.if-self.false c.requires.none in
     let done = added e new s c.args.hash _ table free c.requires.hashed absent
-    (rw (ok_from_some _ _ (sym c.in_ok-ok.ensures.value)) at c.extend_from_slice.ensures.items
-    ∙ ap (λ l. e.bytes.items ++ l) (ended_take c.args.rest.now c.args.end first))
-    c.len-place.ensures refl
+    (grind (arith, ended, c.in_ok-ok.ensures.value)) c.len-place.ensures refl
     (indexed_push e.bytes.items e.ordered s table.findable.indexed free absent)
     (carried_kept e new c.if-self.false c.enter.ensures.kept refl)
     (inl (c.if-not-enter.ensures.entered refl, c.if-not-enter.ensures.fits refl)) in

@@ -1,5 +1,5 @@
-use Rattle.dwp_strings.proofs.Terms.{◌+◌, arith, BeginsAt, false≢true, inl, refl, rules, sym, ◌∙◌}
-use Rattle.dwp_strings.proofs.UsedLemmas.{two_pushes}
+use Rattle.dwp_strings.proofs.Terms
+use Terms.{append_assoc, arith, BeginsAt, false≢true, inl, refl, rules, sym, ◌+◌, ◌∙◌}
 use Rattle.dwp_strings.proofs.HashedLemmas.{added, entries_few, misplaced, carried_over}
 use Rattle.dwp_strings.proofs.HashedLemmas.{begins_at_offset}
 use Rattle.dwp_strings.proofs.TableLemmas.{indexed_push}
@@ -11,11 +11,7 @@ overflow_add-self c = omega (arith, (entries_few c.args.self.now c.requires.tabl
 pub returns : goal.returns
 returns c =
     let e = c.args.self.now in
-    let new = record e {
-      bytes = c.push.new.self;
-      count = e.count + 1;
-      places = c.give.new.self;
-    } in
+    let new = record e { bytes = c.push.new.self; count = e.count + 1; places = c.give.new.self } in
     let s = c.args.string.now in
     let table = c.requires.table in
     let gone : BeginsAt e.bytes.items c.args.place → ⊥ = λ begins. false≢true
@@ -23,9 +19,7 @@ returns c =
     let absent = misplaced e table s c.args.hash c.requires.hashed c.args.place c.requires.has
     c.requires.own (λ here. gone here.0) in
     let done = added e new s c.args.hash _ table c.requires.zero_free c.requires.hashed absent
-    (two_pushes _ _ _ _ _ c.reserve.ensures.items (rw c.unwrap.ensures at
-    c.extend_from_slice.ensures.items) (rw c.unwrap-2.ensures at c.push.ensures.items))
-    c.len-last.ensures refl
+    (grind (arith, append_assoc)) c.len-last.ensures refl
     (indexed_push e.bytes.items e.ordered s table.findable.indexed c.requires.zero_free absent)
     (carried_over e new c.args.hash c.args.place c.give.ensures.full refl c.requires.has
     c.give.ensures.others c.requires.own (λ begun. gone (begins_at_offset e table _ begun)))

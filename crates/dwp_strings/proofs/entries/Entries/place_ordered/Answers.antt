@@ -1,5 +1,6 @@
-use Rattle.dwp_strings.proofs.Terms.{◌+◌, arith, held, inr, insert, length, refl, rules, ◌≡◌}
-use Rattle.dwp_strings.proofs.UsedLemmas.{used_found, two_pushes}
+use Rattle.dwp_strings.proofs.Terms
+use Terms.{append_assoc, arith, held, inr, insert, length, refl, rules, ◌+◌, ◌≡◌}
+use Rattle.dwp_strings.proofs.UsedLemmas.{used_found}
 use Rattle.dwp_strings.proofs.HashedLemmas.{added, entries_few, unordered, among_more}
 use Rattle.dwp_strings.proofs.HashedLemmas.{carried_among, among_one, absent_there}
 use Rattle.dwp_strings.proofs.TableLemmas.{indexed_both}
@@ -7,9 +8,7 @@ use Rattle.dwp_strings.proofs.entries.Entries.place_ordered.Goals as goal
 
 pub returns-in-Ok-clause-placed : goal.returns-in-Ok-clause-placed
 returns-in-Ok-clause-placed c =
-    let e = c.args.self.now in
-    let found = rw (c.in-Ok.is, c.as_slice.ensures.value) at c.search.ensures.found in
-    used_found (held e) c.args.string.now c.in-Ok.place found.0 found.1
+    grind (arith, used_found (held c.args.self.now) c.args.string.now, c.search.ensures.found)
 
 pub insert-requires-clause-small : goal.insert-requires-clause-small
 insert-requires-clause-small c = (entries_few c.args.self.now c.requires.table).1
@@ -20,11 +19,8 @@ overflow_add-self c = omega (arith, (entries_few c.args.self.now c.requires.tabl
 pub returns : goal.returns
 returns c =
     let e = c.args.self.now in
-    let new = record e {
-      bytes = c.push.new.self;
-      count = e.count + 1;
-      ordered = c.insert.new.self;
-    } in
+    let ordered = c.insert.new.self in
+    let new = record e { bytes = c.push.new.self; count = e.count + 1; ordered = ordered } in
     let s = c.args.string.now in
     let table = c.requires.table in
     let long : c.len-place.result ≡ length e.bytes.items = omega (arith, e.bytes.ok.0) in
@@ -34,9 +30,7 @@ returns c =
     let inserted : c.insert.new.self ≡ insert e.ordered c.in-Err.rank c.len-place.result =
     c.in_ok-insert.ensures.ok in
     let done = added e new s c.args.hash _ table c.requires.zero_free c.requires.hashed absent
-    (two_pushes _ _ _ _ _ c.reserve.ensures.items (rw c.unwrap.ensures at
-    c.extend_from_slice.ensures.items) (rw c.unwrap-2.ensures at c.push.ensures.items))
-    c.len-place.ensures refl
+    (grind (arith, append_assoc)) c.len-place.ensures refl
     (rw (inserted, long) (indexed_both e.bytes.items e.ordered s c.in-Err.rank
     table.findable.indexed c.requires.zero_free stands absent))
     (carried_among e new refl (λ p there. rw inserted (among_more e.ordered _ _ p there)))

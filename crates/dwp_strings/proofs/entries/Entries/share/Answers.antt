@@ -1,15 +1,12 @@
-use Rattle.dwp_strings.proofs.Terms.{ap, place_of, refl, ◌∙◌}
-use Rattle.dwp_strings.specs.declared.places.Places.{Places}
-use Rattle.dwp_strings.proofs.HashedLemmas.{hashed_kept, carried_shared, begins_at_offset}
+use Rattle.dwp_strings.proofs.Terms.{arith, refl, Some, ◌≡◌}
+use Rattle.dwp_strings.proofs.HashedLemmas.{hashed_kept, carried_shared, begins_at_offset, place_in}
 use Rattle.dwp_strings.proofs.entries.Entries.share.Goals as goal
 
 pub returns-clause-table : goal.returns-clause-table
 returns-clause-table c =
     let e = c.keep_ordered.new.self in
     let table = c.keep_ordered.ensures.table in
-    let has = ap (λ (p : Places). place_of p.slots.items p.size c.args.hash)
-    c.keep_ordered.ensures.places
-    ∙ c.requires.has in
+    let has : place_in e c.args.hash ≡ Some c.args.place = grind arith in
     let new = record e { places = c.share.new.self } in
     hashed_kept e new table refl refl table.findable.indexed
     (carried_shared e new c.args.hash c.args.place c.share.ensures.full refl has

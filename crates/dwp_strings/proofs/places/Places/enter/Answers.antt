@@ -2,11 +2,9 @@ use Rattle.dwp_strings.proofs.Terms.{arith, refl, sym, with_items_is}
 use Rattle.dwp_strings.proofs.places.Places.enter.Goals as goal
 
 pub returns-then-put_next-clause-entered : goal.returns-then-put_next-clause-entered
-returns-then-put_next-clause-entered c = λ _. grind (
-  arith,
-  with_items_is c.args.self.now.slots c.put_next.new.slots,
-  c.if-put_next.ensures.put refl c.args.self.now.size c.args.place,
-)
+returns-then-put_next-clause-entered c = λ _.
+    let given = c.if-put_next.ensures.put refl c.args.self.now.size c.args.place in
+    grind (arith, with_items_is c.args.self.now.slots c.put_next.new.slots, given)
 
 pub returns-clause-entered : goal.returns-clause-entered
 returns-clause-entered c = λ is.

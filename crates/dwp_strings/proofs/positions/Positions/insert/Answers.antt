@@ -1,6 +1,6 @@
 use Rattle.dwp_strings.proofs.Terms
-use Terms.{◌+◌, ap, arith, concat, get_or_default, get_or_read, insert, IsChunked, length, pieces}
-use Terms.{sym, with_items_is, ◌∙◌, ◌≡◌}
+use Terms.{ap, arith, concat, get_or_default, get_or_read, insert, IsChunked, length, pieces, sym}
+use Terms.{with_items_is, ◌+◌, ◌∙◌, ◌≡◌}
 use Rattle.std.proofs.lemmas.Grind.{common_steps}
 use Rattle.dwp_strings.proofs.ChunkLemmas.{length-starts_from, start_within, placed, raised}
 use Rattle.dwp_strings.proofs.ChunkLemmas.{chunk_inserted}
@@ -15,14 +15,9 @@ put-requires-clause-within c = (placed _ _ _ _ _ c.in_ok-at.ensures.begun c.in_o
 pub raise-requires-clause-small : goal.raise-requires-clause-small
 raise-requires-clause-small c =
     let whole = ap length (c.in_ok-at.ensures.same ∙ c.self.view_is) in
-    rw (c.deref_mut.ensures.value, c.in_ok-at.ensures.begun) (λ i d less. grind (
-      arith,
-      whole,
-      c.requires.small,
-      get_or_default,
-      length-starts_from,
-      start_within (pieces c.room_at.new.chunks.items) i 0,
-    ))
+    rw (c.deref_mut.ensures.value, c.in_ok-at.ensures.begun) (λ i d less.
+    let start = start_within (pieces c.room_at.new.chunks.items) i 0 in
+    grind (arith, whole, c.requires.small, get_or_default, length-starts_from, start))
 
 inserted : (c : goal.After-raise) → (concat (pieces c.put.new.chunks.items)
     ≡ insert (concat (pieces c.room_at.new.chunks.items)) c.args.rank c.args.position)

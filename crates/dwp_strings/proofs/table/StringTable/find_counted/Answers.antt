@@ -1,11 +1,10 @@
 use Rattle.dwp_strings.proofs.Terms
-use Terms.{All-contains, ap, arith, Contains, false, false≢true, held, inl, inr, IsOrdered}
-use Terms.{IsZeroFree, offset_of, place_of, refl, Some, sym, true, ◌↔◌, ◌∙◌, ◌≡◌}
+use Terms.{All-contains, arith, Contains, false, false≢true, held, IsZeroFree, offset_of, refl, sym}
+use Terms.{true, ◌↔◌, ◌∙◌, ◌≡◌}
 use Rattle.dwp_strings.proofs.StringLemmas.{zero_within, zero_free-strings_in}
 use Rattle.dwp_strings.proofs.PlaceLemmas.{known_place_in}
 use Rattle.dwp_strings.proofs.HashedLemmas.{misplaced, unplaced, unordered, absent_there}
 use Rattle.dwp_strings.proofs.TableLemmas.{positions_few}
-use Rattle.dwp_strings.proofs.table.StringTable.find_counted.Goals.{in-Ok, in-Err}
 use Rattle.dwp_strings.proofs.table.StringTable.find_counted.Goals as goal
 
 is_absent : {P : Type 0} → (P → ⊥) → (false ≡ true) ↔ P
@@ -21,12 +20,12 @@ returns-in-Err-2-clause-found c = rw (← c.self.view_is) (is_absent (unplaced _
     c.args.string.now c.hash.result c.hash.ensures c.if-self.false c.in-Err-2.ensures.none))
 
 pub returns-in-Ok-place-clause-count : goal.returns-in-Ok-place-clause-count
-returns-in-Ok-place-clause-count c = rw (← c.self.view_is) (λ k few. c.search-found.ensures.count
-    k (omega (arith, positions_few _ _ c.self.invariant.findable.indexed)))
+returns-in-Ok-place-clause-count c = λ k few.
+    grind (arith, c.self.view_is, positions_few, c.search-found.ensures.count k)
 
 pub returns-in-Err-place-clause-count : goal.returns-in-Err-place-clause-count
-returns-in-Err-place-clause-count c = rw (← c.self.view_is) (λ k few. c.search-found.ensures.count
-    k (omega (arith, positions_few _ _ c.self.invariant.findable.indexed)))
+returns-in-Err-place-clause-count c = λ k few.
+    grind (arith, c.self.view_is, positions_few, c.search-found.ensures.count k)
 
 pub returns-in-Err-place-clause-found : goal.returns-in-Err-place-clause-found
 returns-in-Err-place-clause-found c =
@@ -34,17 +33,8 @@ returns-in-Err-place-clause-found c =
     let stands = absent_there e.bytes.items _ e.ordered c.args.string.now _
     c.search-found.result.place c.as_slice.ensures.value c.in-Err-place.is
     c.search-found.ensures.absent in
-    let leads : IsOrdered e.places.slots.items e.places.size e.places.is_full c.hash.result =
-    elim c.match-seek.branch [
-      | in-Ok w ↦ inl (w.in-Ok.ensures.found ∙ ap Some (omega (
-        arith,
-        w.place-is,
-        c.if-place-eq-SHARED.true,
-      )))
-      | in-Err w ↦ inr (w.if-self.true, w.in-Err.ensures.none)
-    ] in
     rw (← c.self.view_is) (is_absent (unordered e c.self.invariant c.args.string.now c.hash.result
-    c.hash.ensures _ leads stands))
+    c.hash.ensures _ (grind (arith, c.match-seek.branch)) stands))
 
 -- the string stands where its hash says
 known : (c : goal.Then-stands_at) → Contains (held c.self.inside.entries) c.args.string.now
@@ -62,13 +52,6 @@ returns-then-stands_at-clause-offset c = rw (← c.self.view_is) (known c).1
 
 pub returns-else-stands_at-clause-found : goal.returns-else-stands_at-clause-found
 returns-else-stands_at-clause-found c =
-    let e = c.self.inside.entries in
-    let has : place_of e.places.slots.items e.places.size c.hash.result ≡ Some c.match-seek.place =
-    elim c.match-seek.branch [
-      | in-Ok w ↦ w.in-Ok.ensures.found ∙ ap Some (sym w.place-is)
-      | in-Err w ↦ absurd (c.if-place-eq-SHARED.false w.place-is)
-    ] in
-    rw (← c.self.view_is) (is_absent (misplaced e c.self.invariant c.args.string.now c.hash.result
-    c.hash.ensures c.match-seek.place has (λ same. c.if-place-eq-SHARED.false (omega (arith, same)))
-    (λ here. false≢true (sym c.if-stands_at.false ∙ c.stands_at.ensures.1
-    (rw c.deref.ensures.value here)))))
+    rw (← c.self.view_is) (is_absent (misplaced c.self.inside.entries c.self.invariant
+    c.args.string.now c.hash.result c.hash.ensures c.match-seek.place
+    (grind (arith, c.match-seek.branch)) (grind arith) (grind (arith, c.stands_at.ensures))))

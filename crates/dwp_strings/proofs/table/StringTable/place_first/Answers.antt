@@ -3,10 +3,7 @@ use Rattle.dwp_strings.proofs.EndLemmas.{first_front}
 use Rattle.dwp_strings.proofs.table.StringTable.place_first.Goals as goal
 
 pub returns-clause-placed : goal.returns-clause-placed
-returns-clause-placed c = grind (
-  arith,
-  c.place.ensures.placed,
-  first_front c.args.bytes.now c.args.end c.end_of.result c.requires.within c.requires.ended
-      c.end_of.ensures.some c.end_of.ensures.none,
-  c.unwrap_or-first.ensures,
-)
+returns-clause-placed c =
+    let front = first_front c.args.bytes.now c.args.end c.end_of.result c.requires.within
+    c.requires.ended c.end_of.ensures.some c.end_of.ensures.none in
+    grind (arith, c.place.ensures.placed, front, c.unwrap_or-first.ensures)

@@ -18,9 +18,9 @@ loop-index-init c = record {
 
 pub returns-in_err-offset-in-None-clause-meaning : goal.returns-in_err-offset-in-None-clause-meaning
 returns-in_err-offset-in-None-clause-meaning c =
-    let p = err_from_is_err_and c.from_residual-in_err-offset-in-None.result
-    c.from_residual-in_err-offset-in-None.ensures.1 in
-    rw (p.1, p.2) (λ other. remapped_refuses _ _ _ _ _ _ _ _ _ c.loop-index.invariant.so_far.1
+    let residual = c.from_residual-in_err-offset-in-None in
+    let was = err_from_is_err_and residual.result residual.ensures.1 in
+    rw (was.1, was.2) (λ other. remapped_refuses _ _ _ _ _ _ _ _ _ c.loop-index.invariant.so_far.1
     (rw c.in-None.ensures.none at (c.in_err-offset-in-None.ensures.meaning other))
     _ _ _ _ c.string_offsets_count-count.ensures c.offset_size-entry_size.ensures
     (omega arith) (omega arith) c.in_ok-out.ensures (omega arith))
@@ -29,24 +29,17 @@ pub loop-index-preserved : goal.loop-index-preserved
 loop-index-preserved c =
     let old = c.loop-index.self in
     let new = c.match-entry_told.self in
-    let now : (remapped_entry c.args.order c.args.encoding c.args.range.now.strings.now
-    c.args.range.now.offsets.now c.loop-index.index old ≡ Ok (c.match-entry_told.offset, new))
-    × (take (length old) new ≡ old)
-    × AreKnown c.args.range.now.strings.now new c.match-entry_told.repeats =
-    elim c.match-entry_told.branch [
-      | in-Some w ↦ rw (w.offset-is, w.self-is, w.repeats-is) (
-        entry_told _ _ _ _ _ _ _ _ c.known_entry-named.result c.known_entry-named.ensures
-            w.in-Some.ensures.meaning
-            (omega (arith, w.in-Some.ensures.fits, c.offset_limit-limit.ensures)),
-        c.entry_told.ensures.kept,
-        c.entry_told.ensures.known,
-      )
-      | in-None+in_ok-offset-in-None w ↦ rw (w.offset-is, w.self-is, w.repeats-is) (
-        rw w.in-None.ensures.none at w.in_ok-offset-in-None.ensures.meaning,
-        rw w.in-None.ensures.none at w.remapped_entry.ensures.kept,
-        w.remapped_entry.ensures.known,
-      )
-    ] in
+    let strings = c.args.range.now.strings.now in
+    let told = entry_told c.args.order c.args.encoding strings c.args.range.now.offsets.now
+    c.loop-index.index c.match-entry_told.offset old new c.known_entry-named.result
+    c.known_entry-named.ensures in
+    let now : (remapped_entry c.args.order c.args.encoding strings c.args.range.now.offsets.now
+    c.loop-index.index old ≡ Ok (c.match-entry_told.offset, new))
+    × (take (length old) new ≡ old) × AreKnown strings new c.match-entry_told.repeats = (
+      grind (arith, told, c.match-entry_told.branch, c.offset_limit-limit.ensures),
+      grind (arith, c.match-entry_told.branch, c.entry_told.ensures.kept),
+      grind (arith, c.match-entry_told.branch, c.entry_told.ensures.known),
+    ) in
     record {
       kept = kept_more _ _ _ c.loop-index.invariant.kept now.1;
       so_far = rewritten_more _ _ _ _ _ _ _ _ _ _ _ _ c.loop-index.invariant.so_far now.0

@@ -1,4 +1,4 @@
-use Rattle.std.proofs.Common.{refl}
+use Rattle.std.proofs.Common.{arith}
 use Rattle.std.proofs.lemmas.Result.{err_from_is_err_and}
 use Rattle.thorin_strings.specs.StringOffsets.{named_at, remapped_entry}
 use Rattle.thorin_strings.proofs.KnownLemmas.{entry_unread}
@@ -7,12 +7,12 @@ use Rattle.thorin_strings.proofs.table.PackageStringTable.remapped_entry.Goals a
 pub returns-in_err-named-clause-meaning : goal.returns-in_err-named-clause-meaning
 unfolding named_at remapped_entry
 returns-in_err-named-clause-meaning c =
-    let p = err_from_is_err_and c.from_residual.result c.from_residual.ensures.1 in
-    rw (p.1, p.2) (λ other. rw (c.in_err-named.ensures other) refl)
+    let was = err_from_is_err_and c.from_residual.result c.from_residual.ensures.1 in
+    grind (arith, was, c.in_err-named.ensures)
 
 pub returns-in_err-offset-clause-meaning : goal.returns-in_err-offset-clause-meaning
 returns-in_err-offset-clause-meaning c =
-    let p = err_from_is_err_and c.from_residual-in_err-offset.result
-    c.from_residual-in_err-offset.ensures.1 in
-    rw (p.1, p.2) (λ other. entry_unread c.args.range.now.order c.args.range.now.encoding
+    let residual = c.from_residual-in_err-offset in
+    let was = err_from_is_err_and residual.result residual.ensures.1 in
+    rw (was.1, was.2) (λ other. entry_unread c.args.range.now.order c.args.range.now.encoding
     _ _ _ _ _ _ c.in_ok-named.ensures (c.in_err-offset.ensures.meaning other))

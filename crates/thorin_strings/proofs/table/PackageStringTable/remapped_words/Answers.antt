@@ -1,6 +1,6 @@
 use Rattle.std.proofs.Common.{◌≡◌, ◌≤◌, ◌+◌, ◌*◌, ◌∙◌, sym, ap, take, length, arith, take_all}
 use Rattle.std.proofs.Common.{append-nil, refl, [], ◌<◌, length-append, length-take, length-drop}
-use Rattle.std.proofs.Common.{◌-◌, ◌/◌}
+use Rattle.std.proofs.Common.{rules}
 use Rattle.std.specs.Vec.{with_items}
 use Rattle.std.proofs.lemmas.List.{with_items_is}
 use Rattle.std.proofs.lemmas.Result.{err_from_is_err_and}
@@ -17,16 +17,11 @@ use Rattle.thorin_strings.proofs.table.PackageStringTable.remapped_words.Goals.{
 use Rattle.thorin_strings.proofs.table.PackageStringTable.remapped_words.Goals.{After-write_told-index}
 
 is_first : (c : goal.After-len-first) → c.len-first.result ≡ header_size c.args.encoding
-is_first c = c.len-first.ensures ∙ c.in_ok-out.out.ok.0
-    ∙ header_long Little c.args.encoding _ c.in_ok-out.out.items c.in_ok-out.ensures
+is_first c = grind (arith, c.len-first.ensures, header_long Little c.args.encoding)
 
 fits : (c : goal.After-len-first) → c.len-first.result + c.string_offsets_count-count.result * 4
     ≤ length c.args.debug_str_offsets.now
-fits c =
-    let whole : c.string_offsets_count-count.result ≡ (c.args.section_size
-    - header_size c.args.encoding) / 4 = c.string_offsets_count-count.ensures ∙ ap (λ f.
-    (c.args.section_size - header_size c.args.encoding) / offset_size f) c.requires.form in
-    omega (arith, is_first c)
+fits c = grind (arith, is_first c, c.string_offsets_count-count.ensures)
 
 pub slice_bounds-append_by_pieces-end : goal.slice_bounds-append_by_pieces-end
 slice_bounds-append_by_pieces-end c =
@@ -36,26 +31,18 @@ pub loop-index-init : goal.loop-index-init
 unfolding remapped_entries
 loop-index-init c =
     let at = (goal.at.loop-index-init c).After-len-first in
-    let none : header_size c.args.encoding + 0 * 4 ≡ c.len-first.result =
-    omega (arith, is_first at) in
+    let first = is_first at in
     record {
       within = omega arith;
-      first = is_first at;
+      first = first;
       kept = take_all _ c.args.self.now (omega arith);
-      so_far = record { offsets = []; entries = refl; written = rw none (sym (append-nil _)) };
-      long = omega (
-        arith,
-        simp (length-append, length-take, length-drop)
-            at (ap length c.in_ok-append_by_pieces.ensures),
-        c.in_ok-out.out.ok.0,
-        fits at,
-      );
+      so_far = record { offsets = []; entries = refl; written = grind (arith, first, append-nil) };
+      long = grind (arith, length-append, length-take, length-drop, fits at);
       known = c.requires.known;
     }
 
 pub other_word-requires-clause-known : goal.other_word-requires-clause-known
-other_word-requires-clause-known c = are_known_later c.args.debug_str.now c.loop-index.self
-    c.write_told-index.new.self _ c.write_told-index.ensures.kept c.loop-index.invariant.known
+other_word-requires-clause-known c = search (rules, are_known_later)
 
 -- so many entries are written before the next, and that is in the range
 written : (c : goal.After-write_told-index) → AreWritten c.args.encoding c.args.debug_str.now
@@ -72,10 +59,10 @@ written c =
 
 pub returns-in_err-offset-clause-meaning : goal.returns-in_err-offset-clause-meaning
 returns-in_err-offset-clause-meaning c =
-    let p = err_from_is_err_and c.from_residual-in_err-offset.result
-    c.from_residual-in_err-offset.ensures.1 in
+    let residual = c.from_residual-in_err-offset in
+    let was = err_from_is_err_and residual.result residual.ensures.1 in
     let so = written (goal.at.returns-in_err-offset-clause-meaning c).After-write_told-index in
-    rw (p.1, p.2) (λ other. remapped_refuses _ _ _ _ _ _ _ _ _ so.0.entries
+    rw (was.1, was.2) (λ other. remapped_refuses _ _ _ _ _ _ _ _ _ so.0.entries
     (c.in_err-offset.ensures.meaning other) _ _ 4 _ c.string_offsets_count-count.ensures
     (sym (ap offset_size c.requires.form)) (omega arith) (omega arith) c.in_ok-out.ensures so.1)
 
