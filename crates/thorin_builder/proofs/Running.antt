@@ -89,11 +89,13 @@ module _ (offer : Offer) (missing : MissingReferencedObjectBehaviour) (all : Lis
 
     -- the list ended, or with an error
     pub list-ended : left ≡ ([], None)
-        → (accepted : List (List ℕ)) × TakesNamed offer missing all old (came (Ok tt) middle accepted)
+        → (accepted : List (List ℕ)) × TakesNamed offer missing all old
+        (came (Ok tt) middle accepted)
     list-ended is = ends [] None (Ok tt) middle [] (λ other. is) refl (refl, (refl, refl))
 
     pub list-error : (e : Error) → MemoryAside e (left ≡ ([], Some (error_of e)))
-        → (accepted : List (List ℕ)) × TakesNamed offer missing all old (came (Err e) middle accepted)
+        → (accepted : List (List ℕ)) × TakesNamed offer missing all old
+        (came (Err e) middle accepted)
     list-error e is = ends [] (Some (error_of e)) (Err e) middle []
         (λ other. is (λ m. other (ap (λ f. Some (error_of f)) m))) refl (refl, (refl, refl))
 
