@@ -1,24 +1,20 @@
 -- The type units that an input's steps pass over and find to differ are those of its list of units.
 use Rattle.thorin.proofs.Terms
-use Terms.{◌++◌, ◌==◌, [], ap, append-nil, append_assoc, bind-was, Compilation, DwarfObject, Elf}
-use Terms.{inl, InProgress, inr, List, lookup, map, map-append, Meaning, None, Ok, Option, refl}
-use Terms.{row_test, rules, same-ok, same_name, Some, Source, source_units, State, sym, taken}
-use Terms.{TypeUnit, unit_row, UnitRead, units_in, Used, ℕ, ◌∙◌, ◌∷◌, ◌≡◌}
+use Terms.{◌++◌, [], ap, append-nil, append_assoc, bind-was, Compilation, DwarfObject, Elf, inl}
+use Terms.{InProgress, inr, List, lookup, map, map-append, Meaning, None, Ok, Option, refl, rules}
+use Terms.{same-ok, same_name, Some, Source, source_units, State, sym, taken, TypeUnit, UnitRead}
+use Terms.{units_in, Used, ℕ, ◌∙◌, ◌∷◌, ◌≡◌}
+use Rattle.thorin_join.proofs.Terms.{Adding, IndexEntry, kept_bytes, meaning_at, New, new_units}
+use Rattle.thorin_join.proofs.Terms.{NewUnit, package_or_new, parts_of, units_begun, with_new_unit}
+use Rattle.thorin_join.proofs.Terms.{with_new_units, with_source, with_unit, with_unit_added}
+use Rattle.thorin_builder.proofs.Terms.{held_units, or_held, with_all, with_first}
 use Rattle.std.proofs.lemmas.Simd.{map-map}
 use Rattle.dwp_dwarf.specs.Units.{Unit as Header}
-use Rattle.thorin_index.specs.declared.entry.IndexEntry.{IndexEntry}
-use Rattle.thorin_input.specs.NewUnits.{NewUnit, New, Adding, or_held, kept_bytes, with_first}
-use Rattle.thorin_input.specs.NewUnits.{with_unit, new_units}
-use Rattle.thorin_input.specs.Parts.{parts_of}
 use Rattle.thorin.specs.Differing.{Bytes, read_bytes, or_there, differing_by, differing, own_bytes}
 use Rattle.thorin.specs.Differing.{object_units, input_units}
-use Rattle.thorin_join.specs.Builder.{package_or_new, differing_begun, differing_in}
-use Rattle.thorin_join.specs.Represents.{meaning_at, units_begun}
-use Rattle.thorin_join.specs.State.{held_units, with_unit_added, adding as adding_to}
-use Rattle.thorin_join.specs.State.{abbreviations_test, with_new_unit, with_new_units, with_all}
-use Rattle.thorin_join.specs.State.{with_source}
+use Rattle.thorin_join.specs.Builder.{differing_begun, differing_in}
+use Rattle.thorin_join.specs.State.{adding as adding_to, abbreviations_test}
 use Rattle.thorin_join.proofs.Joined.Taken.{takes}
-use Rattle.thorin_join.proofs.Steps.{kept}
 use Rattle.thorin_join.proofs.Units.ReadInTurn.{Steps, units-read}
 use Rattle.thorin.proofs.Running.{begun-then}
 
@@ -47,13 +43,11 @@ module _ (adding : Adding) where
   one-step (Some old) from (Compilation id) unit before after later h = absurd cc
   one-step (Some old) from (TypeUnit signature) unit before after later h =
       grind (rules, append_assoc)
-  one-step None from name unit before after later h =
-      let there = kept (from.address == 0) _ _ after h in
-      let s1 = bind-was (row_test adding.source.indexes from.kind name unit) _ after there.1 in
-      let s2 = bind-was (unit_row adding.source.indexes adding.whole name) _ after s1.2 in
-      ap (λ (n : New). n.differing ++ later (new_bytes n.units)) (sym (same-ok _ after s2.2))
-      ∙ ap (λ l. before.differing ++ later l) (map-append {B = DwarfObject × List ℕ}
-      (λ (u : DwarfObject × NewUnit). (u.0, u.1.bytes)) before.units _)
+  one-step None from name unit before after later h = grind (
+    rules,
+    map-append {B = DwarfObject × List ℕ} (λ (u : DwarfObject × NewUnit). (u.0, u.1.bytes))
+        before.units,
+  )
 
   -- what is found to differ, unit by unit
   steps-differ : (before after : New) (us : List (DwarfObject × UnitRead))
@@ -62,14 +56,14 @@ module _ (adding : Adding) where
       (read_bytes us)
   steps-differ before after [] same = rw (← same) (sym (append-nil before.differing))
   steps-differ before after (u ∷ us) (next, step, steps) =
-      let own : DwarfObject × List ℕ = (u.0, u.1.unit.whole.bytes) in
       let rest : Bytes → List ℕ = λ brought. differing adding.held brought (read_bytes us) in
-      steps-differ next after us steps
-      ∙ one-step (kept_bytes adding.held before.units u.0) step.from u.0 u.1.unit before next rest
-      step.is
-      ∙ ap (λ old. before.differing ++ differing_by old own (rest (new_bytes before.units))
-      (rest (new_bytes before.units ++ own ∷ [])))
-      (lookup-bytes u.0 before.units (lookup (same_name u.0) adding.held))
+      grind (
+        rules,
+        steps-differ next after us steps,
+        one-step (kept_bytes adding.held before.units u.0) step.from u.0 u.1.unit before next rest
+            step.is,
+        lookup-bytes u.0 before.units (lookup (same_name u.0) adding.held),
+      )
 
 -- ---- a package
 

@@ -1,21 +1,21 @@
 -- What packing in groups means: the join of all inputs at once.
 use Rattle.thorin.proofs.Terms
 use Terms.{◌++◌, [], ap, append-nil, append_assoc, AreJoined, ArePackedAlone, AreTaken, bind-was}
-use Terms.{both-true, can_join, drop, drop_at, DwarfObject, File, finish_test, flat_map}
-use Terms.{HaveTheirEncodings, InProgress, input_meaning, inputs_of, IsFinishedState, IsPackageOf}
-use Terms.{IsPackageOfAll, IsPackedInGroups, IsPermutation, IsPermutation-sym, IsSoundBegun}
-use Terms.{JoinAll, joining, keys, length, length-map, List, map, map-append, map-set, Meaning}
-use Terms.{Members, Ok, Option, refl, same_name, Some, start, State, subst, swap, sym, take}
-use Terms.{take-append-drop, taken, taken_each, true, units_in, with_input, ℕ, ◌∙◌, ◌∷◌, ◌≡◌}
+use Terms.{both-true, can_join, drop, DwarfObject, File, finish_test, flat_map, HaveTheirEncodings}
+use Terms.{InProgress, input_meaning, inputs_of, IsFinishedState, IsPackageOf, IsPackageOfAll}
+use Terms.{IsPackedInGroups, IsPermutation, IsPermutation-sym, IsSoundBegun, JoinAll, joining, keys}
+use Terms.{length, length-map, List, map, map-append, map-set, Meaning, Members, Ok, Option, refl}
+use Terms.{rules, Some, start, State, subst, swap, sym, take, take-append-drop, taken, taken_each}
+use Terms.{true, units_in, with_input, ℕ, ◌∙◌, ◌∷◌, ◌≡◌}
 use Rattle.std.proofs.Math.ListN.{get_or-map}
-use Rattle.std.specs.List.{IsDistinct, take-map, drop-map}
+use Rattle.std.specs.List.{take-map, drop-map}
 use Rattle.std.specs.List.Sorted.{apply_swaps}
 use Rattle.std.proofs.lemmas.Map.Made.{keys_of-map_values}
 use Rattle.thorin_again.specs.Again.{HaveEncodingOf, all_meant, MeansWhereTaken, MeansOnceWritten}
 use Rattle.thorin.proofs.GroupJoins.{groups-defined, groups-joined, joined-apart, found-again}
 use Rattle.thorin.proofs.GroupJoins.{joined-append}
 use Rattle.thorin.proofs.Running.{begun-then, each-taken, as-written}
-use Rattle.std.proofs.Math.Seq.{take-append_seam}
+use Rattle.std.proofs.Math.Seq.{drop-append_seam, take-append_seam}
 
 -- ---- inputs, and the list of all their units
 
@@ -88,21 +88,21 @@ parted : (front back : Units) (units : Members) → front ++ back ≡ all_meant 
     → (front ≡ all_meant (take (length front) units))
     × (back ≡ all_meant (drop (length front) units))
 parted front back units h =
-    let n = length front in (
-      sym (take-append_seam front back) ∙ ap (take n) h ∙ take-map meant_one n units,
-      sym (drop_at front back n refl) ∙ ap (drop n) h ∙ drop-map meant_one n units,
+    let n = length front in
+    grind (
+      rules,
+      take-append_seam front back,
+      drop-append_seam front back,
+      take-map meant_one n units,
+      drop-map meant_one n units,
     )
-
-none-meant : (units : Members) → [] ≡ all_meant units → units ≡ []
-none-meant [] h = refl
-none-meant (u ∷ us) h = absurd cc
 
 -- and the join of that list is the join of the inputs
 pub joins-all : (inputs : List (List ℕ)) (all : Units) (before added : Members) → AllMean inputs all
     → can_join (keys before) all ≡ true → joining (keys before) all ≡ all_meant added
     → JoinAll inputs before (before ++ added)
-joins-all [] all before added meant defined joined =
-    rw (none-meant added (rw meant at joined)) (append-nil before)
+joins-all [] all before [] meant defined joined = append-nil before
+joins-all [] all before (unit ∷ units) meant defined joined = grind rules
 joins-all (bytes ∷ rest) all before added (here, later, meaning, others, whole) defined joined =
     let front = joining (keys before) here in
     let a = joined-append (keys before) here later in
@@ -123,8 +123,7 @@ joins-all (bytes ∷ rest) all before added (here, later, meaning, others, whole
         joined = parts.0;
         is = refl;
       },
-      subst (λ l. JoinAll rest (before ++ first) l) (append_assoc before first second
-          ∙ ap (λ l. before ++ l) (take-append-drop (length front) added))
+      rw (append_assoc, take-append-drop (length front) added) at
           (joins-all rest later (before ++ first) second others (rw named can.1)
           (rw named parts.1)),
     )
@@ -150,8 +149,7 @@ sound-taken keeps (bytes ∷ rest) old new sound are =
 swap-map : {A B : Type 0} (f : A → B) (xs : List A) (i j : ℕ)
     → swap (map f xs) i j ≡ map f (swap xs i j)
 swap-map f [] i j = refl
-swap-map f (x ∷ xs) i j =
-    rw (get_or-map f (x ∷ xs) j x, get_or-map f (x ∷ xs) i x, map-set, map-set) refl
+swap-map f (x ∷ xs) i j = simp (map-set, get_or-map f (x ∷ xs) j x, get_or-map f (x ∷ xs) i x)
 
 swaps-map : {A B : Type 0} (f : A → B) (xs : List A) (moves : List (ℕ × ℕ))
     → apply_swaps (map f xs) moves ≡ map f (apply_swaps xs moves)
@@ -192,8 +190,7 @@ module _ (keeps : KeepsSound) (again : MeansAgain) where
       let join = join-of g [] units alone.joined in
       let next = bind-was (taken p old) _ new took in
       let rest = grouped gs ps next.0 new later packed.1 has.1 next.2 others in
-      let joined : joining [] join.all ≡ all_meant units =
-      join.joined ∙ ap all_meant (sym join.is) in
+      let joined = rw (← join.is) at join.joined in
       record {
         lists = join.all ∷ rest.lists;
         results = here ∷ rest.results;
@@ -223,8 +220,7 @@ module _ (keeps : KeepsSound) (again : MeansAgain) where
       let parts = grouped groups packed.packages start together.state join.all packed.each has
       together.taken join.meant in
       let lists = flat_map (λ (units : Units). units) parts.lists in
-      let joined : joining [] (flat_map (λ units. units) parts.results) ≡ all_meant join.added =
-      ap (joining []) (sym parts.whole) ∙ join.joined in
+      let joined = rw parts.whole at join.joined in
       let order = lifted meant_one join.added (joining [] lists)
       (IsPermutation-sym (joining [] lists) (all_meant join.added)
       (subst (IsPermutation (joining [] lists)) joined
@@ -236,8 +232,7 @@ module _ (keeps : KeepsSound) (again : MeansAgain) where
             ∙ ap (can_join []) (sym parts.whole) ∙ join.defined) order.1;
         packed = join.added;
         same = IsPermutation-sym join.added order.0 order.2;
-        found = found-again join.added order.0 (subst (IsDistinct same_name)
-            (ap keys join.joined ∙ keys_of-map_values Some join.added) (joined-apart join.all))
-            order.2;
+        found = found-again join.added order.0 (rw
+            (join.joined, keys_of-map_values Some join.added) at (joined-apart join.all)) order.2;
         package_of = subst (λ units. IsPackageOf units file) join.is together.package_of;
       }

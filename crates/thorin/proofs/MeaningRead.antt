@@ -1,36 +1,32 @@
 -- What a package means as an input is what a reader of packages finds in it.
 use Rattle.thorin.proofs.Terms
-use Terms.{◌&&◌, ◌++◌, ◌>>=◌, [], ap, bind-was, Bool, both, by-bool, by-choice, Compilation, cond}
+use Terms.{◌&&◌, ◌++◌, ◌>>=◌, [], ap, bind-was, Bool, both, by-choice, Compilation, cond}
 use Terms.{DwarfObject, Elf, elf_of, Encoding, encoding_of, Endianness, Err, false, find, inl}
 use Terms.{input_file_of, input_meaning, InputFile, inr, is-false, is_none, is_some, List, map}
 use Terms.{Meaning, None, Ok, opened, Option, option_and_then, own_range, ParseFileKind, refl}
 use Terms.{Result, rules, same-ok, SectionMeaning, Some, Source, source_units, sym, true, TypeUnit}
 use Terms.{UnitRead, Used, ◌||◌, ℕ, ◌∙◌, ◌∷◌, ◌≡◌, ◌⊎◌}
-use Rattle.dwp_base.specs.Sections.{name_of, compressed_name_of, all_kinds, kind_named, same_kind}
-use Rattle.dwp_base.specs.declared.section.SectionKind.{SectionKind}
-use Rattle.dwp_base.specs.declared.section.SectionKind.TheVariants.{StrOffsets, Str, CuIndex}
-use Rattle.dwp_base.specs.declared.section.SectionKind.TheVariants.{TuIndex}
+use Rattle.thorin_join.proofs.Terms as Joined
+use Joined.{all_kinds, as_error, by-bool, counts_once, first, has_info, Index, Indexes, is-same}
+use Joined.{is_outside, is_package, name_of, Package, part_of, range_in, Ranges, ReadError}
+use Joined.{row_bytes, same-each, same-self, same_kind, SectionKind, Str, strings_of, StrOffsets}
+use Rattle.dwp_base.specs.Sections.{compressed_name_of, kind_named}
+use Rattle.dwp_base.specs.declared.section.SectionKind.TheVariants.{CuIndex, TuIndex}
 use Rattle.dwp_base.proofs.KindsRead.{read-kind}
-use Rattle.dwp_bytes.specs.declared.error.ReadError.{ReadError}
 use Rattle.dwp_elf_read.specs.declared.kind.FileKind.{FileKind}
 use Rattle.dwp_index.specs.Contents.{content, content_among, contents_of, has_name, is_of_kind}
-use Rattle.dwp_index.specs.Index.{Index, Ranges, range_in}
-use Rattle.dwp_index.specs.Package.{Package, package_of, index_in_section, row_bytes, part_of}
-use Rattle.dwp_index.specs.Package.{is_outside}
-use Rattle.thorin_errors.specs.Answers.{as_error}
-use Rattle.thorin_input.specs.Indexes.{Indexes, is_package, index_for, index_in, version_test}
-use Rattle.thorin_input.specs.Indexes.{indexes_of}
-use Rattle.thorin_input.specs.Used.{elf_in, has_info, used_from, first, used_kind, counts_once}
-use Rattle.thorin_input.specs.Used.{unusable, used_bytes, has_kind, with_used, bytes_of}
+use Rattle.dwp_index.specs.Package.{package_of, index_in_section}
+use Rattle.thorin_input.specs.Indexes.{index_for, index_in, version_test, indexes_of}
+use Rattle.thorin_input.specs.Used.{elf_in, used_from, used_kind, used_bytes, has_kind, with_used}
+use Rattle.thorin_input.specs.Used.{unusable}
 use Rattle.thorin_join.specs.Meaning.{pieces_by, shared_kinds, placed_row, meaning_with, meaning_by}
 use Rattle.thorin_join.specs.Meaning.{unit_meaning, source_meaning, object_meaning}
-use Rattle.thorin_join.specs.Strings.{strings_of}
 use Rattle.thorin.specs.MeaningRead.{has_index, lies_in, unit_with, unit_of_row, unit_of_package}
 use Rattle.thorin.specs.MeaningRead.{MeansByReader}
 use Rattle.std.proofs.Math.Bool.{and-false}
 use Rattle.std.proofs.lemmas.Slice.Eq.{bytes_eq-Decides}
 use Rattle.std.proofs.lemmas.List.Folds.{find-append}
-use Rattle.dwp_base.proofs.EveryKind.{is-same, same-self, same-each, kind-named}
+use Rattle.dwp_base.proofs.EveryKind.{kind-named}
 use Rattle.thorin_input.proofs.Walking.{kind-full}
 use Rattle.dwp_elf_read.specs.Identification as identification
 use Rattle.dwp_index.specs.Package as reader
@@ -106,21 +102,14 @@ module _ (k : SectionKind) (bytes : List ℕ) where
             (rw other at c)
       ])
 
-  none-left : (o : Option Used) → Expects [] o → bytes_of o ≡ bytes
-  unfolding content_among
-  none-left None c = same-ok [] bytes c
-  none-left (Some used) c = c
-
   pub all-used : (ss : List SectionMeaning) (before after : List Used)
       → used_from before ss ≡ Ok after → Expects ss (find (has_kind k) before)
       → first k after ≡ bytes
-  unfolding used_from
-  all-used [] before after h c =
-      rw (← same-ok before after h) (none-left (find (has_kind k) before) c)
+  unfolding used_from content_among
+  all-used [] before after h c = grind rules
   all-used (s ∷ ss) before after h c =
       let t = bind-was (with_used before s (used_kind s)) _ after h in
-      all-used ss t.0 after t.2
-      (one-more s ss before t.0 (find (has_kind k) before) refl t.1 c)
+      all-used ss t.0 after t.2 (one-more s ss before t.0 (find (has_kind k) before) refl t.1 c)
 
 -- ---- the package
 

@@ -1,6 +1,6 @@
 -- A run, one input after the other, what it accepted, and groups that are packed one by one.
 use Rattle.thorin.proofs.Terms
-use Terms.{◌+◌, ◌++◌, ◌<◌, [], accepted_of, ap, append-nil, append_assoc, ArePackedAlone, AreTaken}
+use Terms.{◌+◌, ◌++◌, ◌<◌, [], ap, append-nil, append_assoc, ArePackedAlone, AreTaken}
 use Terms.{bind-was, Compilation, drop, drop_more, DwarfObject, elf_of, Err, ErrorValue, file_text}
 use Terms.{get_or, IfOk, inl, Input, inr, IsPackedAlone, IsWritten, JoinAll, length, List, map}
 use Terms.{map-append, Members, Ok, Option, Ran, refl, Result, rules, same-ok, State, subst, sym}
@@ -71,9 +71,9 @@ more-accepted a b all x y z is h k = rw is (
   join-append a b (units_in x) (units_in y) (units_in z) h.1 k.1,
 )
 
-none-accepted : (accepted : List (List ℕ)) (old new : State) → new ≡ old → accepted ≡ []
+none-accepted : {accepted : List (List ℕ)} {old new : State} → (new ≡ old) × (accepted ≡ [])
     → Accepts accepted old new
-none-accepted accepted old new same none = rw (none, same) ((old.targets, refl), refl)
+none-accepted {old = old} nothing = rw (nothing.1, nothing.0) ((old.targets, refl), refl)
 
 -- so it is by what came of something
 abbrev Accepting : (State → Came → Type 0) → Type 0
@@ -85,36 +85,30 @@ of-bytes bytes old new (Ok x) accepted takes = rw takes.1 (
   (old.targets, new, takes.0.meaning, (new.targets, refl)),
   (units_in new, takes.0.joins, refl),
 )
-of-bytes bytes old new (Err e) accepted takes =
-    none-accepted accepted old new takes.0.unchanged takes.1
+of-bytes bytes old new (Err e) accepted takes = none-accepted (takes.0.unchanged, takes.1)
 
 of-read : (read : Result (List ℕ) InputError) → Accepting (TakesRead read)
 of-read (Ok bytes) old new outcome accepted takes = of-bytes bytes old new outcome accepted takes
-of-read (Err e) old new outcome accepted takes = none-accepted accepted old new takes.1 takes.2
+of-read (Err e) old new outcome accepted takes = none-accepted takes.1
 
 module _ (offer : Offer) (missing : MissingReferencedObjectBehaviour) where
   of-referred : (read : Result (List ℕ) InputError) → Accepting (TakesReferred missing read)
   of-referred (Ok bytes) old new outcome accepted takes =
       of-bytes bytes old new outcome accepted takes
-  of-referred (Err (Io cause)) old new outcome accepted takes =
-      none-accepted accepted old new takes.1 takes.2
-  of-referred (Err no_memory) old new outcome accepted takes =
-      none-accepted accepted old new takes.1 takes.2
+  of-referred (Err (Io cause)) old new outcome accepted takes = none-accepted takes.1
+  of-referred (Err no_memory) old new outcome accepted takes = none-accepted takes.1
 
   of-skeleton : (named : DwarfObject × List ℕ) → Accepting (TakesSkeleton offer missing named)
-  of-skeleton named old new outcome accepted (inl there) =
-      none-accepted accepted old new there.2 there.3
+  of-skeleton named old new outcome accepted (inl there) = none-accepted there.2
   of-skeleton named old new outcome accepted (inr (inl takes)) =
       let file = takes.file in
       rw takes.accepted_is (from-target named.0 file.accepted old new (of-referred file.read
       (with_target named.0 old) new outcome file.accepted file.taken))
-  of-skeleton named old new outcome accepted (inr (inr none)) =
-      none-accepted accepted old new none.1 none.2
+  of-skeleton named old new outcome accepted (inr (inr none)) = none-accepted none.1
 
   of-skeletons : (list : List (DwarfObject × List ℕ)) (error : Option ErrorValue)
       → Accepting (TakesSkeletons offer missing list error)
-  of-skeletons [] error old new outcome accepted takes =
-      none-accepted accepted old new takes.1 takes.2
+  of-skeletons [] error old new outcome accepted takes = none-accepted takes.1
   of-skeletons (n ∷ ns) error old new outcome accepted (s, Ok x, takes, goes) =
       more-accepted s.here s.later accepted old s.middle new goes.1
       (of-skeleton n old s.middle (Ok x) s.here takes)
@@ -126,8 +120,7 @@ module _ (offer : Offer) (missing : MissingReferencedObjectBehaviour) where
       → Accepting (TakesExecutableRead names offer missing read)
   of-executable names (Ok bytes) old new outcome accepted takes =
       of-skeletons takes.named takes.error old new outcome accepted takes.taken
-  of-executable names (Err e) old new outcome accepted takes =
-      none-accepted accepted old new takes.1 takes.2
+  of-executable names (Err e) old new outcome accepted takes = none-accepted takes.1
 
 of-input : (offer : Offer) (input : Input)
     → Accepting (λ old c. TakesInput offer input old c.outcome c.new c.accepted)
@@ -143,7 +136,7 @@ of-input offer (inputs.ExecutableSkippingNameless path missing) old new outcome 
 pub run-accepts : (offer : Offer) (list : List Input) (old new : State) (outcomes : List Outcome)
     (accepted : List (List ℕ)) → Ran offer list old outcomes new accepted
     → Accepts accepted old new
-run-accepts offer [] old new [] accepted ran = none-accepted accepted old new ran.0 ran.1
+run-accepts offer [] old new [] accepted ran = none-accepted ran
 run-accepts offer (i ∷ is) old new (o ∷ os) accepted (s, takes, rest, all) =
     more-accepted s.here s.later accepted old s.middle new all
     (of-input offer i old s.middle o s.here takes)
@@ -178,8 +171,7 @@ taken-then (bytes ∷ done) rest old middle h = grind (rules, taken-then done re
 pub mapped-around : {A B : Type 0} (f : A → B) (xs : List A) (i : ℕ) (d : A) → i < length xs
     → map f xs ≡ map f (take i xs) ++ f (get_or xs i d) ∷ map f (drop (i + 1) xs)
 mapped-around f xs i d h =
-    ap (map f) (sym (take-append-drop i xs)) ∙ map-append f (take i xs) (drop i xs)
-    ∙ rw (drop_more xs i d h) refl
+    grind (rules, take-append-drop i xs, map-append f (take i xs) (drop i xs), drop_more xs i d h)
 
 -- one more group is packed
 pub packed-more : (groups : List (List (List ℕ))) (packages : List (List ℕ)) (group : List (List ℕ))

@@ -1,5 +1,4 @@
 -- What an input adds that adds no unit, however often it is taken.
-use Rattle.std.proofs.Common.{is_some}
 use Rattle.thorin_builder.proofs.Terms
 use Terms.{◌++◌, [], ap, append-nil, append_assoc, AreTaken, arith, begun_of, by-bool, bytes_eq}
 use Terms.{DwarfObject, Encoding, false, front-front, Global, held_units, in_progress_of}
@@ -8,10 +7,10 @@ use Terms.{length, List, lookup, map, map-append, Meaning, meaning_at, names_in,
 use Terms.{Ok, Option, own_after, own_encoding, part, refl, Remembers, Repeated, rules, same_Some}
 use Terms.{Some, State, String, string_bytes, string_eq, sym, take-length, taken, true≢false}
 use Terms.{units_begun, units_of, with_input, with_more, ℕ, ◌∙◌, ◌∷◌, ◌≡◌, ◌⊎◌}
+use Rattle.thorin_join.proofs.Terms.{is_some, Joins}
 use Rattle.std.proofs.lemmas.Simd.{map-map}
 use Rattle.std.proofs.lemmas.Slice.Eq.{bytes_eq-Decides}
 use Rattle.indexmap.specs.IndexMap.{insert_entry}
-use Rattle.thorin_join.specs.Join.{Joins}
 use Rattle.thorin_builder.specs.Repeated.{IsLaterBegun, ExtendsBegun, AddsAgain, AddsAgainTo}
 use Rattle.thorin_builder.specs.Taking.{with_target}
 use Rattle.thorin_builder.proofs.Extending.{extends-refl}
@@ -74,9 +73,7 @@ joined-later bytes (Some made) (Some now) h joins = record {
   order = h.file.order;
   strings = h.strings;
   more = map own-bytes joins.added;
-  held = held-is now ∙ ap (map own-bytes) joins.is
-      ∙ map-append own-bytes (units_of made) joins.added
-      ∙ ap (λ l. l ++ map own-bytes joins.added) (sym (held-is made));
+  held = grind (rules, held-is now, held-is made, map-append own-bytes (units_of made) joins.added);
 }
 
 -- ---- what is remembered of objects, by their paths

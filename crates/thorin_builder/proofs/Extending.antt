@@ -1,8 +1,8 @@
 -- A package that loses nothing of what it had.
 use Rattle.thorin_builder.proofs.Terms
-use Terms.{◌++◌, [], append-nil, Contents, Err, Extends, false, File, InProgress, IsGrown, length}
-use Terms.{List, map, map-append, New, new_units, Ok, parts_of, refl, Result, Source, sym, take}
-use Terms.{take-append_seam, take-length, true, true≢false, with_all, with_source, ℕ, ◌∷◌, ◌≡◌}
+use Terms.{◌++◌, [], append-nil, Contents, Extends, false, File, InProgress, IsGrown, length, List}
+use Terms.{map, map-append, New, new_units, Ok, parts_of, refl, Result, rules, Source, sym, take}
+use Terms.{take-append_seam, take-length, true, with_all, with_source, ℕ, ◌∷◌, ◌≡◌}
 use Rattle.dwp_table.specs.declared.object.DebugTypeSignature.{DebugTypeSignature}
 use Rattle.std.specs.Result.{OnOk, OnErr, is_err}
 use Rattle.thorin_input.specs.Growing.{Begins}
@@ -63,17 +63,14 @@ with_source-is source p parts new hp ha hn =
 
 -- what holds of no error
 pub no_err : {T E : Type 0} (P : Type 0) (r : Result T E) → is_err r ≡ false → OnErr r P
-no_err P (Ok x) h = tt
-no_err P (Err e) h = absurd (true≢false h)
+no_err P r h = grind rules
 
 -- what follows of a value and of an error follows of both
 pub either_way : {T E : Type 0} (r : Result T E) (P Q R : Type 0) → OnOk r P → OnErr r Q → (P → R)
     → (Q → R) → R
-either_way (Ok x) P Q R p q f g = f p
-either_way (Err e) P Q R p q f g = g q
+either_way r P Q R p q f g = grind rules
 
 -- what follows of two facts of a value
 pub on_ok-both : {T E : Type 0} (r : Result T E) (P Q R : Type 0) → OnOk r P → OnOk r Q
     → (P → Q → R) → OnOk r R
-on_ok-both (Ok x) P Q R p q f = f p q
-on_ok-both (Err e) P Q R p q f = tt
+on_ok-both r P Q R p q f = grind rules

@@ -9,12 +9,11 @@ use Rattle.std.proofs.lemmas.List.Elements.{All-push}
 use Rattle.thorin_builder.specs.declared.new_units.NewUnit.{NewUnit as CodeUnit}
 use Rattle.dwp_table.specs.contracts.object.DwarfObjectPartialEq.TheImpl as derived
 
-same_name-at : (a b : DwarfObject) → derived.eq-value.it a b ≡ same_name a b
-same_name-at a b = grind rules
-
 -- `==` is the same name
 pub same_name-is : (a : DwarfObject) → derived.eq-value.it a ≡ same_name a
-same_name-is a = λ i b. same_name-at a b i
+same_name-is a =
+    let at : (b : DwarfObject) → derived.eq-value.it a b ≡ same_name a b = λ b. grind rules in
+    λ i b. at b i
 
 -- a name is among others, or is missing there
 pub among-is : (a : DwarfObject) (names : List DwarfObject) → list_any (derived.eq-value.it a) names

@@ -1,8 +1,8 @@
 -- The units that an executable refers to, one after the other.
 use Rattle.thorin_builder.proofs.Terms
 use Terms.{◌++◌, [], ap, append_assoc, DwarfObject, Err, Error, error_of, ErrorValue, keys, length}
-use Terms.{List, MemoryAside, names_in, None, Ok, Option, refl, Result, Some, State, subst, sym}
-use Terms.{take, take-append-add, take-length, units_begun, units_in, ℕ, ◌∙◌, ◌∷◌, ◌≡◌, ◌≢◌}
+use Terms.{List, MemoryAside, names_in, None, Ok, Option, refl, Result, rules, Some, State, subst}
+use Terms.{sym, take, take-append-add, take-length, units_in, ℕ, ◌∙◌, ◌∷◌, ◌≡◌, ◌≢◌}
 use Rattle.std.proofs.lemmas.List.{length-append}
 use Rattle.std.specs.declared.io.Error.{Error as IoError}
 use Rattle.thorin_errors.specs.Errors.{Memory}
@@ -101,7 +101,4 @@ module _ (offer : Offer) (missing : MissingReferencedObjectBehaviour) (all : Lis
 
 -- the names of a builder's units
 pub names-begun : (state : State) → keys (units_in state) ≡ names_in state.begun
-names-begun state = elim state.begun as (λ begun. keys (units_begun begun) ≡ names_in begun) [
-  | None ↦ refl
-  | Some made ↦ keys-units made
-]
+names-begun state = grind (rules, keys-units)

@@ -1,7 +1,7 @@
 use Rattle.thorin.proofs.Terms
 use Terms.{◌+◌, ◌++◌, [], ap, bind-err, bind-ok, Bor, bytes_in, drop, Err, err_from_is_err_and}
-use Terms.{get_or, IfOk, inl, inr, IsPackageOf, JoinAll, List, map_more, Ok, PacksAlone, refl}
-use Terms.{start, subst, sym, take, take_all, taken, taken_each, units_in, Writes, ℕ, ◌∙◌, ◌∷◌, ◌≡◌}
+use Terms.{get_or, IfOk, inl, inr, IsPackageOf, List, map_more, Ok, PacksAlone, refl, start, sym}
+use Terms.{take, take_all, taken, taken_each, units_in, Writes, ℕ, ◌∙◌, ◌∷◌, ◌≡◌}
 use Rattle.thorin.proofs.Running.{join-append, taken-then, mapped-around}
 use Rattle.thorin.proofs.groups.pack_alone.Goals as goal
 
@@ -51,10 +51,7 @@ pub returns : goal.returns
 returns g c =
     let inputs = c.args.inputs.now in
     let state = c.loop-input.builder.state in
-    let are : (taken_each (bytes_in inputs) start ≡ Ok state)
-    × JoinAll (bytes_in inputs) [] (units_in state) =
-    subst (λ l. (taken_each (bytes_in l) start ≡ Ok state) × JoinAll (bytes_in l) []
-    (units_in state)) (take_all c.loop-input.input-index inputs c.loop-input-test.false)
+    let are = rw (take_all c.loop-input.input-index inputs c.loop-input-test.false) at
     c.loop-input.invariant in
     elim c.written-file.result.0 as (λ r. Writes (λ file. file.items) state r
     → IfOk r (λ file. IsPackageOf (units_in state) file.items)

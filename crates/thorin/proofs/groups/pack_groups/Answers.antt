@@ -1,7 +1,7 @@
 use Rattle.thorin.proofs.Terms
-use Terms.{◌+◌, ◌++◌, [], ArePackedAlone, Bor, bytes_in, drop, Err, err_from_is_err_and, get_or}
-use Terms.{groups_in, inl, inr, List, map-append, map_more, Ok, PacksAlone, PacksInGroups, rules}
-use Terms.{subst₂, sym, take, take_all, ℕ, ◌∷◌, ◌≡◌}
+use Terms.{◌+◌, ◌++◌, [], Bor, bytes_in, drop, Err, err_from_is_err_and, get_or, groups_in, inl}
+use Terms.{inr, List, map-append, map_more, Ok, PacksAlone, PacksInGroups, rules, take, take_all, ℕ}
+use Terms.{◌∷◌, ◌≡◌}
 use Rattle.thorin.proofs.Running.{mapped-around, packed-more, if-ok}
 use Rattle.thorin.proofs.groups.pack_groups.Goals as goal
 
@@ -50,10 +50,8 @@ pub returns : goal.returns
 returns g c =
     let groups = c.args.groups.now in
     let packages = bytes_in c.deref.result.now in
-    let each : ArePackedAlone (groups_in groups) packages =
-    subst₂ (λ l lent. ArePackedAlone (groups_in l) (bytes_in lent))
-    (take_all c.loop-group.group-index groups c.loop-group-test.false)
-    (sym c.deref.ensures.value) c.loop-group.invariant in
+    let whole = take_all c.loop-group.group-index groups c.loop-group-test.false in
+    let each = rw (whole, ← c.deref.ensures.value) at c.loop-group.invariant in
     record {
       packed = elim c.pack_alone-2.result as (λ r. PacksAlone (λ file. file.items) packages r
           → PacksInGroups (λ file. file.items) (groups_in groups) r) [

@@ -1,9 +1,8 @@
 use Rattle.thorin.proofs.Terms
-use Terms.{◌*◌, [], ◌^◌, arith, false, le-ltb, length, lt-ltb, ltb, refl, true, ◌∷◌, ◌≡◌}
+use Terms.{[], arith, refl, ◌∷◌}
 use Rattle.dwp_elf.specs.Numbers.{Fits}
 use Rattle.thorin_index.specs.EntryTests.{tests_under}
-use Rattle.thorin_strings.specs.StringOffsets.{offset_limit, fitting_offset, remapped_entry}
-use Rattle.dwp_strings.specs.Strings.{offset_of}
+use Rattle.thorin_strings.specs.StringOffsets.{fitting_offset, remapped_entry}
 use Rattle.dwp_elf_read.specs.declared.error.WriteError.TheVariants as written
 use Rattle.thorin.proofs.laws.numbers_past_limits_are_refused.Goals as goal
 
@@ -30,13 +29,9 @@ returns-clause-elf_32_writer c o old new (written.Io e) is past h =
 pub returns-clause-unit_count : goal.returns-clause-unit_count
 unfolding tests_under
 returns-clause-unit_count c [] past = absurd (omega (arith, past))
-returns-clause-unit_count c (x ∷ xs) past =
-    let many : ltb (3 * length (x ∷ xs)) (2 ^ 32) ≡ false = le-ltb _ _ past in
-    rw many refl
+returns-clause-unit_count c (x ∷ xs) past = grind arith
 
 pub returns-clause-string_offset : goal.returns-clause-string_offset
 unfolding remapped_entry fitting_offset
 returns-clause-string_offset c order encoding section bytes index strings string named far =
-    let past : ltb (offset_limit encoding.format) (offset_of strings string) ≡ true =
-    lt-ltb _ _ far in
-    rw (named, past) refl
+    grind arith

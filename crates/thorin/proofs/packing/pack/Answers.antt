@@ -1,6 +1,5 @@
-use Rattle.thorin.proofs.Terms
-use Terms.{◌++◌, [], get_or, Input, Ran, rules, start, subst, take, take_all, take_more, Took, ◌∷◌}
-use Terms.{◌≡◌}
+use Rattle.thorin.proofs.Terms.{◌++◌, [], get_or, Input, rules, start, take, take_all, take_more}
+use Rattle.thorin.proofs.Terms.{◌∷◌, ◌≡◌}
 use Rattle.thorin.specs.declared.packing.Input.TheVariants.{Object}
 use Rattle.thorin.proofs.Running.{ran-next, run-accepts}
 use Rattle.thorin.proofs.packing.pack.Goals as goal
@@ -11,9 +10,7 @@ loop-input-preserved g c =
     let none : Input = Object (record { text = record { ref_ptr = (0, 0); now = [] } }) in
     let input = get_or c.args.inputs.now c.loop-input.input-index none in
     let more = take_more c.args.inputs.now c.loop-input.input-index none c.loop-input-test.true in
-    let took : Took offer input c.loop-input.builder.state c.take_input-outcome.result
-    c.take_input-outcome.new.builder.state =
-    c.take_input-outcome.ensures.taken in
+    let took = c.take_input-outcome.ensures.taken in
     let pushed : c.push.new.self.items ≡ c.loop-input.outcomes.items ++ c.take_input-outcome.result
     ∷ [] = search (rules, c.in_ok-push.ensures.items) in
     let ran = ran-next offer (take c.loop-input.input-index c.args.inputs.now) input start
@@ -26,9 +23,7 @@ pub returns-clause-packed : goal.returns-clause-packed
 returns-clause-packed g c =
     let offer = g.Sess.Session.offer c.args.session.now in
     let accepted = c.loop-input.invariant.0 in
-    let ran = subst (λ list. Ran offer list start c.loop-input.outcomes.items
-    c.loop-input.builder.state
-    accepted) (take_all c.loop-input.input-index c.args.inputs.now c.loop-input-test.false)
+    let ran = rw (take_all c.loop-input.input-index c.args.inputs.now c.loop-input-test.false) at
     c.loop-input.invariant.1 in
     record {
       state = c.loop-input.builder.state;

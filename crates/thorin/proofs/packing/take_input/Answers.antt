@@ -3,8 +3,7 @@ use Rattle.thorin.proofs.packing.take_input.Goals as goal
 
 pub returns-in-Object-clause-taken : goal.returns-in-Object-clause-taken
 returns-in-Object-clause-taken g c =
-    let takes = c.add_input_by.ensures.taken in
-    rw c.in-Object.is (record { accepted = takes.accepted; takes = (takes, refl) })
+    rw c.in-Object.is (record { accepted = _; takes = (c.add_input_by.ensures.taken, refl) })
 
 pub returns-in-Bytes-clause-taken : goal.returns-in-Bytes-clause-taken
 returns-in-Bytes-clause-taken g c =
@@ -16,12 +15,11 @@ returns-in-Bytes-clause-taken g c =
 
 pub returns-in-Executable-clause-taken : goal.returns-in-Executable-clause-taken
 returns-in-Executable-clause-taken g c =
-    let takes = c.add_executable_by.ensures.taken in
-    rw c.in-Executable.is (record { accepted = takes.accepted; takes = (takes, refl) })
+    rw c.in-Executable.is
+    (record { accepted = _; takes = (c.add_executable_by.ensures.taken, refl) })
 
 pub returns-in-ExecutableSkippingNameless-clause-taken :
     goal.returns-in-ExecutableSkippingNameless-clause-taken
 returns-in-ExecutableSkippingNameless-clause-taken g c =
-    let takes = c.add_executable_skipping_nameless_by.ensures.taken in
     rw c.in-ExecutableSkippingNameless.is
-    (record { accepted = takes.accepted; takes = (takes, refl) })
+    (record { accepted = _; takes = (c.add_executable_skipping_nameless_by.ensures.taken, refl) })

@@ -4,7 +4,6 @@ use Terms.{is_missing, List, not, refl, rules, slice_get_within, Some, sym, true
 use Rattle.std.specs.Prelude.{slice_get}
 use Rattle.dwp_base.proofs.Finds.{slice_get_none}
 use Rattle.thorin_builder.proofs.NewUnitLemmas.{missing-is}
-use Rattle.thorin_builder.proofs.missing.first_missing.Goals.{in-Some+else-not-contains, in_default}
 use Rattle.thorin_builder.proofs.missing.first_missing.Goals as goal
 
 -- the first of those that are left passes, or is passed over
@@ -27,12 +26,12 @@ pub loop-place-preserved : goal.loop-place-preserved
 loop-place-preserved c =
     let names = c.args.contained.now.keys in
     elim c.match-get_index.branch [
-      | in-Some+else-not-contains w ↦
+      | goal.in-Some+else-not-contains w ↦
           sym (first-left (is_missing names) c.args.targets.now.keys c.loop-place.place
           w.in-Some.target.now false
           (search (rules, w.in-Some.ensures.key, c.get_index.ensures.key))
           (missing-is w.in-Some.target.now names _ w.contains.ensures
           ∙ ap not w.if-not-contains.false)) ∙ c.loop-place.invariant
-      | in_default w ↦ absurd (slice_get_none c.args.targets.now.keys c.loop-place.place
+      | goal.in_default w ↦ absurd (slice_get_none c.args.targets.now.keys c.loop-place.place
           (omega arith) (search (rules, w.in_default, c.get_index.ensures.key)))
     ]

@@ -4,12 +4,9 @@ use Terms.{IfSome_then, in_progress_of, IndexEntry, InProgress, input_file_of, I
 use Terms.{New, None, Ok, one_encoding, order_test, own_encoding, parts_of, refl, Repeated, rules}
 use Terms.{Some, Source, sym, take-length, unit_bytes, with_all, with_input, with_more}
 use Terms.{with_new_units, with_parts, with_source, with_source_or_new, with_units, ℕ, ◌∙◌, ◌≡◌}
-use Rattle.dwp_base.specs.declared.endian.Endianness.{Endianness}
-use Rattle.dwp_elf.specs.Contents.{content_of}
+use Rattle.thorin_join.proofs.Terms.{content_of, contribution_to, Endianness, kind_at, part_of}
+use Rattle.thorin_join.proofs.Terms.{place_of}
 use Rattle.dwp_elf_read.specs.View.{elf}
-use Rattle.dwp_index.specs.Package.{part_of, place_of}
-use Rattle.thorin_index.specs.Entries.{contribution_to}
-use Rattle.thorin_join.specs.State.{kind_at}
 use Rattle.thorin_join.proofs.Parts.Appended.{content-with_parts, parts-none}
 use Rattle.thorin_join.proofs.Rows.OneAdded.{not-shared}
 use Rattle.thorin_builder.specs.Repeated.{AddsNoUnit}

@@ -3,8 +3,8 @@ use Terms.{ap, Contents, Extends, in_progress_of, List, map, new_of, Ok, rules, 
 use Terms.{with_all, with_new_units, ℕ, ◌∙◌, ◌≡◌}
 use Rattle.thorin_builder.proofs.Extending.{grown-extends, strings-extend, signatures-kept}
 use Rattle.thorin_builder.proofs.Extending.{with_source-is, signatures}
-use Rattle.thorin_builder.proofs.in_progress.InProgressDwarfPackage.try_add.Goals.{After-add_units}
 use Rattle.thorin_input.specs.View as view
+use Rattle.thorin_builder.proofs.in_progress.InProgressDwarfPackage.try_add.Goals.{After-add_units}
 use Rattle.thorin_builder.proofs.in_progress.InProgressDwarfPackage.try_add.Goals as goal
 
 pub returns-in_err-parts-clause-extends : goal.returns-in_err-parts-clause-extends

@@ -1,8 +1,7 @@
-use Rattle.thorin_builder.proofs.Terms
-use Terms.{◌&&◌, adding_of, all_have, has_encoding, left_in, list_all, met_of, new_of, Some, used}
-use Terms.{with_each_read, ◌≡◌}
-use Rattle.dwp_bytes.specs.Input.{section}
-use Rattle.dwp_dwarf.specs.Units.{units, units_left}
+use Rattle.thorin_builder.proofs.Terms.{◌&&◌, adding_of, all_have, has_encoding, left_in, list_all}
+use Rattle.thorin_builder.proofs.Terms.{met_of, new_of, Some, used, with_each_read, ◌≡◌}
+use Rattle.thorin_join.proofs.Terms.{section, units}
+use Rattle.dwp_dwarf.specs.Units.{units_left}
 use Rattle.thorin_input.specs.NewUnits.{with_met}
 use Rattle.thorin_builder.proofs.new_units.NewUnits.add_section_at.Given as goal
 

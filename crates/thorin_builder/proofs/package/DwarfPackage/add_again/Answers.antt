@@ -1,8 +1,6 @@
 use Rattle.thorin_builder.proofs.Terms
 use Terms.{ap, begun_of, building, in_progress_of, None, rules, Some, State, ◌≡◌}
 use Rattle.thorin_builder.proofs.AddedAgain.{input-known, taken-known, later-known, with_again}
-use Rattle.thorin_builder.proofs.package.DwarfPackage.add_again.Goals.{in-Some+in_ok-add_again}
-use Rattle.thorin_builder.proofs.package.DwarfPackage.add_again.Goals.{in_default}
 use Rattle.thorin_builder.proofs.package.DwarfPackage.add_again.Goals as goal
 
 pub invariant_of-self-in-Some : goal.invariant_of-self-in-Some
@@ -30,13 +28,13 @@ returns-clause-later g c =
     let again = c.args.again.now in
     let old = c.args.self.now.state in
     elim c.match-self.branch [
-      | in-Some+in_ok-add_again w ↦
+      | goal.in-Some+in_ok-add_again w ↦
           let made = in_progress_of w.in-Some.package in
           let now = in_progress_of w.add_again.new.self in
           let begun : old.begun ≡ Some made = search (rules, c.self.view_is, w.in-Some.is) in
           let added : now ≡ with_again again made = w.in_ok-add_again.ensures.added in
           rw w.self-is (later-known bytes again old made now begun c.requires.known.1 added)
-      | in_default w ↦
+      | goal.in_default w ↦
           let none : old.begun ≡ None = search (rules, c.self.view_is, w.in_default) in
           rw none tt
     ]

@@ -3,9 +3,6 @@ use Terms.{begun_of, Bool, building, common, cond, Encoding, InProgressDwarfPack
 use Terms.{not, Option, own_after, rules, State, sym, with_own, ◌∙◌, ◌≡◌}
 use Rattle.std.specs.Prelude.{is_some}
 use Rattle.thorin_builder.proofs.AddedAgain.{joined-later, taken-as}
-use Rattle.thorin_builder.proofs.package.DwarfPackage.add_bytes.Goals.{then-unit_count-units}
-use Rattle.thorin_builder.proofs.package.DwarfPackage.add_bytes.Goals.{else-unit_count-units+then-is_first}
-use Rattle.thorin_builder.proofs.package.DwarfPackage.add_bytes.Goals.{else-unit_count-units+else-is_first}
 use Rattle.thorin_builder.proofs.package.DwarfPackage.add_bytes.Goals as goal
 
 -- the first input has its own encoding, a later one what all have
@@ -30,10 +27,10 @@ invariant_of-self-2 g c =
       ← c.unit_count-units.ensures,
       ← c.unit_count.ensures,
     ) (elim c.if-unit_count-units.branch [
-      | then-unit_count-units w ↦ rw (le-ltb _ _ w.if-unit_count-units.true) (sym w.self-is)
-      | else-unit_count-units+then-is_first w ↦
+      | goal.then-unit_count-units w ↦ rw (le-ltb _ _ w.if-unit_count-units.true) (sym w.self-is)
+      | goal.else-unit_count-units+then-is_first w ↦
           rw (lt-ltb _ _ w.if-unit_count-units.false, w.if-is_first.true) (sym w.self-is)
-      | else-unit_count-units+else-is_first w ↦
+      | goal.else-unit_count-units+else-is_first w ↦
           rw (lt-ltb _ _ w.if-unit_count-units.false, w.if-is_first.false)
           (sym w.common.ensures ∙ sym w.self-is)
     ]) in

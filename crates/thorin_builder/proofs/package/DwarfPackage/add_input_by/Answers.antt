@@ -1,6 +1,4 @@
-use Rattle.thorin_builder.proofs.Terms.{[], Err, Ok, refl, rules}
-use Rattle.thorin_errors.specs.declared.error.InputError.TheVariants.{Io, Memory}
-use Rattle.thorin_builder.specs.Taking.{accepted_of}
+use Rattle.thorin_builder.proofs.Terms.{[], accepted_of, Err, Io, Memory, Ok, refl, rules}
 use Rattle.thorin_builder.proofs.package.DwarfPackage.add_input_by.Goals as goal
 
 pub returns-in-Ok-clause-taken : goal.returns-in-Ok-clause-taken

@@ -1,7 +1,7 @@
-use Rattle.thorin_builder.proofs.Terms.{[], Err, Ok, refl, rules}
+use Rattle.thorin_builder.proofs.Terms
+use Terms.{[], accepted_of, Err, Io, Memory, Ok, Outcome, refl, rules, TakesReferredFile}
 use Rattle.std.specs.Path.{path_bytes}
-use Rattle.thorin_errors.specs.declared.error.InputError.TheVariants.{Io, Memory}
-use Rattle.thorin_builder.specs.Taking.{Outcome, PassesOver, TakesReferredFile, accepted_of}
+use Rattle.thorin_builder.specs.Taking.{PassesOver}
 use Rattle.thorin_builder.proofs.AddedAgain.{are-taken-later, taken-remembered}
 use Rattle.thorin_builder.proofs.Extending.{on_ok-both}
 use Rattle.thorin_builder.proofs.package.DwarfPackage.add_referred.Given.{Over}

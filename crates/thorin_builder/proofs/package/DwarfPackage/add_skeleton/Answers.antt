@@ -1,8 +1,7 @@
 use Rattle.thorin_builder.proofs.Terms
-use Terms.{[], Err, inl, inr, IsTaken, List, Ok, on_ok_weaker, refl, rules, State, ℕ}
-use Rattle.thorin_errors.specs.declared.error.InputError.TheVariants.{Io, Memory}
-use Rattle.thorin_builder.specs.Taking.{Outcome, TakesReferredFile, TakesSkeleton, accepted_of}
-use Rattle.thorin_builder.specs.Taking.{came}
+use Terms.{[], accepted_of, came, Err, inl, inr, Io, IsTaken, List, Memory, Ok, on_ok_weaker}
+use Terms.{Outcome}
+use Terms.{refl, rules, State, TakesReferredFile, TakesSkeleton, ℕ}
 use Rattle.thorin_builder.proofs.AddedAgain.{are-taken-later, target-kept, taken-found}
 use Rattle.thorin_builder.proofs.package.DwarfPackage.add_skeleton.Given.{Over}
 use Rattle.thorin_builder.proofs.package.DwarfPackage.add_skeleton.Goals.{In_ok-add_target, In-Some}

@@ -1,6 +1,5 @@
-use Rattle.thorin_builder.proofs.Terms
-use Terms.{Err, Error, File, finish_test, Gives, IfOk, IsFinishedState, Ok, Result, rules, State}
-use Terms.{◌≡◌}
+use Rattle.thorin_builder.proofs.Terms.{Error, File, finish_test, Gives, IfOk, IsFinishedState, Ok}
+use Rattle.thorin_builder.proofs.Terms.{Result, rules, State, ◌≡◌}
 use Rattle.thorin_again.specs.OwnAccepted.{IsAcceptedOnceWritten, IsAcceptedByNewOnceWritten}
 use Rattle.thorin_builder.proofs.package.DwarfPackage.finish_with_differing.Goals as goal
 
@@ -8,8 +7,7 @@ use Rattle.thorin_builder.proofs.package.DwarfPackage.finish_with_differing.Goal
 by-law : (P : State → File → Type 0) (r : Result File Error) (state : State)
     → ((file : File) → finish_test state ≡ Ok tt → IsFinishedState state file → P state file)
     → Gives (λ _. tt) r (finish_test state) → IfOk r (IsFinishedState state) → IfOk r (P state)
-by-law P (Ok file) state law tested finished = law file tested finished
-by-law P (Err e) state law tested finished = tt
+by-law P r state law tested finished = grind rules
 
 pub returns-in-Ok-Some-clause-accepted : goal.returns-in-Ok-Some-clause-accepted
 unfolding finish_test
