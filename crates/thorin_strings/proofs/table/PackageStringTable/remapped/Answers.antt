@@ -5,8 +5,6 @@ use Rattle.thorin_strings.specs.Known.{AreKnown}
 use Rattle.thorin_strings.proofs.KnownLemmas.{entry_told, remapped_refuses, rewritten_more}
 use Rattle.thorin_strings.proofs.RemapLemmas.{kept_more}
 use Rattle.thorin_strings.proofs.table.PackageStringTable.remapped.Goals as goal
-use Rattle.thorin_strings.proofs.table.PackageStringTable.remapped.Goals.{in-Some}
-use Rattle.thorin_strings.proofs.table.PackageStringTable.remapped.Goals.{in-None+in_ok-offset-in-None}
 
 pub loop-index-init : goal.loop-index-init
 unfolding remapped_entries
