@@ -84,3 +84,10 @@ pub offsets_from-above : (n : ℕ) (ss : List (List ℕ)) → All (λ p. n ≤ p
 offsets_from-above n [] = All-nil _
 offsets_from-above n (s ∷ ss) =
     λ i d within. grind (arith, offsets_from-above (n + length s + 1) ss (i - 1) d)
+
+-- no string has its offset past the section's end
+pub offset_within : (strings : List (List ℕ)) (string : List ℕ) → offset_of strings string ≤ length
+    (data_of strings)
+offset_within [] string = omega arith
+offset_within (t ∷ strings) string =
+    grind (arith, length-data_of-cons t strings, offset_within strings string)

@@ -1,6 +1,6 @@
 //! Strings behind one another, each of which is found by its hash, or else by its order.
 
-ghost use Rattle.std.specs.Prelude.{◌≡◌, ◌≢◌, ◌<◌, ◌≤◌, [], length, take, OnOk, OnErr, IfOk};
+ghost use Rattle.std.specs.Prelude.{◌≡◌, ◌≢◌, ◌<◌, ◌≤◌, ◌^◌, [], length, take, OnOk, OnErr, IfOk};
 ghost use Rattle.std.specs.Prelude.{IfSome, IsNone, Contains, slice_index, None, Some, false};
 ghost use Rattle.dwp_bytes.specs.StringOffsets.{string_from};
 ghost use Rattle.dwp_strings.specs.Strings.{IsZeroFree, BeginsAt, IsPlaced};
@@ -129,6 +129,7 @@ impl Entries {
         ensures table { IsHashed self.new }
         ensures placed { IfSome result (IsPlaced (held self.old) (held self.new)
             (string_from rest.now 0)) }
+        ensures fits { IfSome result (λ place. place < 2 ^ 32) }
         ensures kept { take (length (held self.old)) (held self.new) ≡ held self.old }
         ensures none { IsNone result → held self.new ≡ held self.old }
     {

@@ -1,9 +1,9 @@
 //! The places of strings in a table, to which new ones are added.
 
-ghost use Rattle.std.specs.Prelude.{◌≡◌, ◌<◌, ◌≤◌, length, take, OnErr, IfOk, IfSome, IsNone};
+ghost use Rattle.std.specs.Prelude.{◌≡◌, ◌<◌, ◌≤◌, ◌^◌, length, take, OnErr, IfOk, IfSome, IsNone};
 ghost use Rattle.std.specs.Prelude.{slice_index};
 ghost use Rattle.dwp_bytes.specs.StringOffsets.{string_from};
-ghost use Rattle.dwp_strings.specs.Strings.{IsZeroFree, IsPlaced};
+ghost use Rattle.dwp_strings.specs.Strings.{data_of, IsZeroFree, IsPlaced};
 
 use crate::ends::end_of;
 use crate::hash::{hash, hash_here};
@@ -11,6 +11,9 @@ use crate::places::SHARED;
 use crate::search::{begins_alike, stands_at};
 use crate::table::StringTable;
 use std::alloc::AllocError;
+
+/// As many bytes as four bytes can count.
+const MANY: usize = 0x1_0000_0000;
 
 /// The place behind a string, where four bytes hold it.
 #[inline(always)]
@@ -63,36 +66,48 @@ impl StringTable {
     }
 
     /// The same of the string that some bytes begin with, of which one is zero: fastest where that is
-    /// the string's end.
+    /// the string's end. None where four bytes may not hold its offset, and then nothing changed.
     ///
     /// # Errors
     /// Want of memory, and then nothing changed.
     #[inline(always)]
-    pub fn place_ended(&mut self, bytes: &[u8], end: usize) -> Result<usize, AllocError>
+    pub fn place_ended(&mut self, bytes: &[u8], end: usize) -> Result<Option<usize>, AllocError>
         requires within { end < length bytes.now }
         requires long { 32 ≤ length bytes.now }
         requires ended { slice_index bytes.now end ≡ 0 }
-        ensures placed { IfOk result (IsPlaced self.old self.new (string_from bytes.now 0)) }
+        ensures placed { IfOk result (λ found. IfSome found (IsPlaced self.old self.new
+            (string_from bytes.now 0))) }
+        ensures fits { IfOk result (λ found. IfSome found (λ offset. offset < 2 ^ 32)) }
+        ensures none { IfOk result (λ found. IsNone found
+            → (2 ^ 32 ≤ length (data_of self.old)) × (self.new ≡ self.old)) }
         ensures kept { take (length self.old) self.new ≡ self.old }
         ensures err { OnErr result (self.new ≡ self.old) }
     {
         match self.place_guessed(bytes, end) {
-            Some(place) => Ok(place),
+            Some(place) => Ok(Some(place)),
             None => self.place_first(bytes, end),
         }
     }
 
     /// The same without the guess: the string ends at the first zero as far as that one.
     #[inline(never)]
-    fn place_first(&mut self, bytes: &[u8], end: usize) -> Result<usize, AllocError>
+    fn place_first(&mut self, bytes: &[u8], end: usize) -> Result<Option<usize>, AllocError>
         requires within { end < length bytes.now }
         requires ended { slice_index bytes.now end ≡ 0 }
-        ensures placed { IfOk result (IsPlaced self.old self.new (string_from bytes.now 0)) }
+        ensures placed { IfOk result (λ found. IfSome found (IsPlaced self.old self.new
+            (string_from bytes.now 0))) }
+        ensures fits { IfOk result (λ found. IfSome found (λ offset. offset < 2 ^ 32)) }
+        ensures none { IfOk result (λ found. IsNone found
+            → (2 ^ 32 ≤ length (data_of self.old)) × (self.new ≡ self.old)) }
         ensures kept { take (length self.old) self.new ≡ self.old }
         ensures err { OnErr result (self.new ≡ self.old) }
     {
+        if self.data().len() >= MANY {
+            return Ok(None);
+        }
         let first = end_of(&bytes[..end]).unwrap_or(end);
-        self.place(&bytes[..first])
+        let place = self.place(&bytes[..first])?;
+        Ok(Some(place))
     }
 
     /// The same by the guess alone. None where the string is new and its end isn't the guessed one,
@@ -104,6 +119,7 @@ impl StringTable {
         requires long { 32 ≤ length bytes.now }
         requires ended { slice_index bytes.now end ≡ 0 }
         ensures placed { IfSome result (IsPlaced self.old self.new (string_from bytes.now 0)) }
+        ensures fits { IfSome result (λ offset. offset < 2 ^ 32) }
         ensures kept { take (length self.old) self.new ≡ self.old }
         ensures none { IsNone result → self.new ≡ self.old }
     {

@@ -333,6 +333,6 @@ fn ended(row: Row<'_>, said: &mut Said) {
 fn put_ended(table: &mut StringTable, bytes: &[u8], end: u16, said: &mut Said) {
     let end = usize::from(end);
     if bytes.len() >= 32 && end < bytes.len() && bytes[end] == 0 {
-        said.put(&table.place_ended(bytes, end).ok());
+        said.put(&table.place_ended(bytes, end).ok().flatten());
     }
 }

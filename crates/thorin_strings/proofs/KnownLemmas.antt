@@ -20,13 +20,12 @@ use Rattle.thorin_strings.specs.StringOffsets.{header_of, remapped_entry, remapp
 use Rattle.thorin_strings.specs.StringOffsets.{entry_bytes, remapped, offset_limit, entry_at}
 use Rattle.thorin_strings.specs.StringOffsets.{string_read, named_at, fitting_offset}
 use Rattle.thorin_strings.specs.Written.{AreWritten}
-use Rattle.dwp_strings.specs.Strings.{data_of, offset_of, IsPlaced, IsZeroFree}
+use Rattle.dwp_strings.specs.Strings.{IsPlaced, IsZeroFree}
 use Rattle.thorin_strings.specs.Known.{offset_read, IsKnown, AreKnown}
 use Rattle.dwp_strings.specs.Ends.{IsFirstZero}
 use Rattle.dwp_strings.proofs.CompareLemmas.{front_string}
 use Rattle.dwp_strings.proofs.EndLemmas.{ended_front, ended_free}
 use Rattle.dwp_strings.proofs.Named.{there_later, there_once_used}
-use Rattle.dwp_strings.proofs.OffsetLemmas.{length-data_of-cons}
 
 -- the string at a place of a section, before any zero
 pub read_front : (section rest : List ℕ) (at end : ℕ) → at ≤ length section
@@ -103,13 +102,6 @@ module _ (order : Endianness) (encoding : Encoding) (section bytes : List ℕ) (
       → remapped_entry order encoding section bytes index old ≡ Err error
   unfolding named_at remapped_entry offset_read
   entry_unread named old error entry h = grind arith
-
--- no string has its offset past the section's end
-pub offset_within : (strings : List (List ℕ)) (string : List ℕ) → offset_of strings string ≤ length
-    (data_of strings)
-offset_within [] string = omega arith
-offset_within (t ∷ strings) string =
-    grind (arith, length-data_of-cons t strings, offset_within strings string)
 
 -- so many entries are rewritten behind other bytes, from the first strings to those that there are
 abbrev pub AreRewritten : Endianness → Encoding → (section bytes : List ℕ) → ℕ → List ℕ

@@ -1,7 +1,7 @@
 //! The table of distinct strings of a package (DWARF 5, 7.26).
 
-ghost use Rattle.std.specs.Prelude.{◌≡◌, ◌↔◌, ◌<◌, ◌≤◌, [], length, take, OnOk, OnErr, IfOk};
-ghost use Rattle.std.specs.Prelude.{IfErr, IsSome, IfSome, IsTrue, Contains, slice_index};
+ghost use Rattle.std.specs.Prelude.{◌≡◌, ◌↔◌, ◌<◌, ◌≤◌, ◌^◌, [], length, take, OnOk, OnErr, IfOk};
+ghost use Rattle.std.specs.Prelude.{IfErr, IsSome, IsNone, IfSome, IsTrue, Contains, slice_index};
 ghost use Rattle.dwp_bytes.specs.StringOffsets.{string_from};
 ghost use Rattle.dwp_strings.specs.Strings.{data_of, offset_of, with_string, IsZeroFree, IsTable};
 ghost use Rattle.dwp_strings.specs.Strings.{IsWithinDigits, IsPlaced};
@@ -91,20 +91,22 @@ impl PackageStringTable {
         self.strings.place(string)
     }
 
-    /// The same of the string that some bytes begin with, as `StringTable::place_ended` tells it.
-    ///
-    /// # Errors
-    /// Want of memory, and then nothing changed.
+    /// The same of the string that some bytes begin with, as `StringTable::place_ended` tells it; None
+    /// also for want of memory.
     #[inline(always)]
-    pub(crate) fn place_ended(&mut self, bytes: &[u8], end: usize) -> Result<usize, AllocError>
+    pub(crate) fn place_ended(&mut self, bytes: &[u8], end: usize) -> Option<usize>
         requires within { end < length bytes.now }
         requires long { 32 ≤ length bytes.now }
         requires ended { slice_index bytes.now end ≡ 0 }
-        ensures placed { IfOk result (IsPlaced self.old self.new (string_from bytes.now 0)) }
+        ensures placed { IfSome result (IsPlaced self.old self.new (string_from bytes.now 0)) }
+        ensures fits { IfSome result (λ offset. offset < 2 ^ 32) }
         ensures kept { take (length self.old) self.new ≡ self.old }
-        ensures err { OnErr result (self.new ≡ self.old) }
+        ensures none { IsNone result → self.new ≡ self.old }
     {
-        self.strings.place_ended(bytes, end)
+        match self.strings.place_ended(bytes, end) {
+            Ok(found) => found,
+            Err(_) => None,
+        }
     }
 
     /// The offset of a string, which is appended where the table lacks it.

@@ -15,9 +15,6 @@ use crate::words::{WordRange, word_at, write_word};
 /// are looked for among those that are remembered.
 const SHORT: u64 = 512;
 
-/// As many bytes as four bytes can count.
-const MANY: u64 = 0x1_0000_0000;
-
 impl PackageStringTable {
     /// The offset of the string at an offset of its section, which is short where the next begins
     /// behind it. None where it isn't, where fewer bytes are left than a short string may have, which
@@ -33,7 +30,7 @@ impl PackageStringTable {
         ensures none { IsNone result → self.new ≡ self.old }
     {
         let end = after.wrapping_sub(named).wrapping_sub(1);
-        if end >= SHORT || named > last || self.data().len() as u64 >= MANY {
+        if end >= SHORT || named > last {
             return None;
         }
         let rest = &debug_str[named as usize..];
@@ -41,9 +38,7 @@ impl PackageStringTable {
         if rest[end] != 0 {
             return None;
         }
-        let Ok(offset) = self.place_ended(rest, end) else {
-            return None;
-        };
+        let offset = self.place_ended(rest, end)?;
         Some(offset as u64)
     }
 

@@ -16,9 +16,9 @@ returns-in-Err-Io-clause-taken g c =
       read = Err (Io io.cause);
       within = search (rules, io.ensures.offered, io.cause-is, io.field-0-is);
       accepted = [];
-      taken = (search (rules, io.cause-is), refl, refl);
+      taken = (search (rules, io.cause-is), (refl, refl));
     }
 
 pub returns-clause-taken : goal.returns-clause-taken
 returns-clause-taken g c =
-    record { read = Err Memory; within = tt; accepted = []; taken = (refl, refl, refl) }
+    record { read = Err Memory; within = tt; accepted = []; taken = (refl, (refl, refl)) }

@@ -14,9 +14,9 @@ returns-in-Err-Io-clause-taken g c = record {
   read = Err (Io c.in-Err-Io.e);
   within = search (rules, c.in-Err-Io.ensures.offered, c.in-Err-Io.e-is, c.in-Err-Io.field-0-is);
   accepted = [];
-  taken = (refl, refl, refl);
+  taken = (refl, (refl, refl));
 }
 
 pub returns-in-Err-Memory-clause-taken : goal.returns-in-Err-Memory-clause-taken
 returns-in-Err-Memory-clause-taken g c =
-    record { read = Err Memory; within = tt; accepted = []; taken = (refl, refl, refl) }
+    record { read = Err Memory; within = tt; accepted = []; taken = (refl, (refl, refl)) }

@@ -1,12 +1,9 @@
 use Rattle.std.proofs.Common.{arith, refl}
-use Rattle.thorin_strings.proofs.KnownLemmas.{read_front, read_used, offset_within}
+use Rattle.thorin_strings.proofs.KnownLemmas.{read_front, read_used}
 use Rattle.thorin_strings.proofs.table.PackageStringTable.guessed_offset.Goals as goal
 
 pub returns-clause-meaning : goal.returns-clause-meaning
 returns-clause-meaning c =
     read_used _ _ _ _ _ _ (read_front c.args.debug_str.now _ c.args.named _ (omega arith)
     refl (omega arith) c.if-rest-end-ne0.false)
-    c.in-Ok.ensures.placed
-
-pub returns-clause-fits : goal.returns-clause-fits
-returns-clause-fits c = grind (arith, offset_within, c.in-Ok.ensures.placed)
+    c.in_ok-offset.ensures.placed

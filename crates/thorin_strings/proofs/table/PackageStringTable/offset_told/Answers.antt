@@ -1,5 +1,6 @@
 use Rattle.std.proofs.Common.{arith}
-use Rattle.thorin_strings.proofs.KnownLemmas.{read_used, known_used, are_known_later, offset_within}
+use Rattle.dwp_strings.proofs.OffsetLemmas.{offset_within}
+use Rattle.thorin_strings.proofs.KnownLemmas.{read_used, known_used, are_known_later}
 use Rattle.thorin_strings.proofs.table.PackageStringTable.offset_told.Goals as goal
 
 pub returns-clause-meaning : goal.returns-clause-meaning

@@ -1,5 +1,6 @@
 use Rattle.std.proofs.Common.{arith}
-use Rattle.thorin_strings.proofs.KnownLemmas.{read_used, offset_within}
+use Rattle.dwp_strings.proofs.OffsetLemmas.{offset_within}
+use Rattle.thorin_strings.proofs.KnownLemmas.{read_used}
 use Rattle.thorin_strings.proofs.table.PackageStringTable.short_offset.Goals as goal
 
 pub returns-clause-meaning : goal.returns-clause-meaning
