@@ -1,9 +1,9 @@
 -- The string at the front of some bytes, up to the first zero.
-use Rattle.std.proofs.Common.{get_or-take, IfSome, IsNone, length-take, unwrap_or}
+use Rattle.std.proofs.Common.{get_or-take, length-take}
 use Rattle.dwp_strings.proofs.Terms
 use Terms.{[], add-one, arith, eqb, get_or, get_or_default, IsFirstZero, IsZeroFree, length, List}
-use Terms.{nat_tests, None, Option, position_or_len_is, refl, Some, suc, sym, take, take-suc}
-use Terms.{terminated, zero, ℕ, ◌+◌, ◌<◌, ◌∷◌, ◌≡◌, ◌≢◌}
+use Terms.{nat_tests, position_or_len_is, suc, take, take-suc, terminated, zero, ℕ, ◌+◌, ◌<◌, ◌∷◌}
+use Terms.{◌≡◌}
 use Rattle.dwp_strings.proofs.CompareLemmas.{front_string, front_string-cons}
 
 -- no byte of it is zero
@@ -33,15 +33,3 @@ ended_front rest end is_zero =
 pub ended_take : (rest : List ℕ) (end : ℕ) → IsFirstZero rest end → take (end + 1) rest ≡
     terminated (take end rest)
 ended_take rest end is_zero = grind (arith, add-one, take-suc rest end 0, is_zero)
-
--- the first zero as far as one ends it
-pub first_front : (rest : List ℕ) (end : ℕ) (first : Option ℕ) → end < length rest
-    → get_or rest end 0 ≡ 0 → IfSome first (IsFirstZero (take end rest))
-    → (IsNone first → IsZeroFree (take end rest))
-    → take (unwrap_or first end) rest ≡ front_string rest
-first_front rest end None within ended some none =
-    let before : (k : ℕ) → k < end → get_or rest k 0 ≢ 0 = λ k less.
-    grind (arith, none refl k 0, length-take, get_or-take) in
-    sym (ended_front rest end (record { within = within; ended = ended; before = before }))
-first_front rest end (Some first) within ended some none =
-    sym (ended_front rest first (grind (arith, some, length-take, get_or-take)))

@@ -3,17 +3,13 @@
 ghost use Rattle.std.specs.Prelude.{◌≡◌, ◌<◌, ◌≤◌, ◌^◌, length, take, OnErr, IfOk, IfSome, IsNone};
 ghost use Rattle.std.specs.Prelude.{slice_index};
 ghost use Rattle.dwp_bytes.specs.StringOffsets.{string_from};
-ghost use Rattle.dwp_strings.specs.Strings.{data_of, IsZeroFree, IsPlaced};
+ghost use Rattle.dwp_strings.specs.Strings.{IsZeroFree, IsPlaced};
 
-use crate::ends::end_of;
 use crate::hash::{hash, hash_here};
 use crate::places::SHARED;
 use crate::search::{begins_alike, stands_at};
 use crate::table::StringTable;
 use std::alloc::AllocError;
-
-/// As many bytes as four bytes can count.
-const MANY: usize = 0x1_0000_0000;
 
 /// The place behind a string, where four bytes hold it.
 #[inline(always)]
@@ -65,56 +61,12 @@ impl StringTable {
         Ok(place)
     }
 
-    /// The same of the string that some bytes begin with, of which one is zero: fastest where that is
-    /// the string's end. None where four bytes may not hold its offset, and then nothing changed.
-    ///
-    /// # Errors
-    /// Want of memory, and then nothing changed.
-    #[inline(always)]
-    pub fn place_ended(&mut self, bytes: &[u8], end: usize) -> Result<Option<usize>, AllocError>
-        requires within { end < length bytes.now }
-        requires long { 32 ≤ length bytes.now }
-        requires ended { slice_index bytes.now end ≡ 0 }
-        ensures placed { IfOk result (λ found. IfSome found (IsPlaced self.old self.new
-            (string_from bytes.now 0))) }
-        ensures fits { IfOk result (λ found. IfSome found (λ offset. offset < 2 ^ 32)) }
-        ensures none { IfOk result (λ found. IsNone found
-            → (2 ^ 32 ≤ length (data_of self.old)) × (self.new ≡ self.old)) }
-        ensures kept { take (length self.old) self.new ≡ self.old }
-        ensures err { OnErr result (self.new ≡ self.old) }
-    {
-        match self.place_guessed(bytes, end) {
-            Some(place) => Ok(Some(place)),
-            None => self.place_first(bytes, end),
-        }
-    }
-
-    /// The same without the guess: the string ends at the first zero as far as that one.
-    #[inline(never)]
-    fn place_first(&mut self, bytes: &[u8], end: usize) -> Result<Option<usize>, AllocError>
-        requires within { end < length bytes.now }
-        requires ended { slice_index bytes.now end ≡ 0 }
-        ensures placed { IfOk result (λ found. IfSome found (IsPlaced self.old self.new
-            (string_from bytes.now 0))) }
-        ensures fits { IfOk result (λ found. IfSome found (λ offset. offset < 2 ^ 32)) }
-        ensures none { IfOk result (λ found. IsNone found
-            → (2 ^ 32 ≤ length (data_of self.old)) × (self.new ≡ self.old)) }
-        ensures kept { take (length self.old) self.new ≡ self.old }
-        ensures err { OnErr result (self.new ≡ self.old) }
-    {
-        if self.data().len() >= MANY {
-            return Ok(None);
-        }
-        let first = end_of(&bytes[..end]).unwrap_or(end);
-        let place = self.place(&bytes[..first])?;
-        Ok(Some(place))
-    }
-
-    /// The same by the guess alone. None where the string is new and its end isn't the guessed one,
-    /// where its hash doesn't tell its place or four bytes don't hold it, and for want of memory;
+    /// The offset of the string that some bytes begin with, of which one is zero, which is guessed
+    /// to be its end. A new string goes last. None where it is new and its end isn't the guessed
+    /// one, where its hash doesn't tell its place or four bytes don't hold it, and for want of memory;
     /// nothing changed then.
     #[inline(always)]
-    fn place_guessed(&mut self, bytes: &[u8], end: usize) -> Option<usize>
+    pub fn place_guessed(&mut self, bytes: &[u8], end: usize) -> Option<usize>
         requires within { end < length bytes.now }
         requires long { 32 ≤ length bytes.now }
         requires ended { slice_index bytes.now end ≡ 0 }

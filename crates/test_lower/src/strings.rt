@@ -5,7 +5,6 @@ ghost use Rattle.thorin_strings.specs.Known.{AreKnown};
 use Endianness::Little;
 use dwp_base::Endianness;
 use dwp_bytes::{Encoding, string_at};
-use dwp_strings::StringTable;
 use test_rows::{Row, Said, Text, encoding, number, order, split};
 use thorin_errors::Error;
 use thorin_strings::{PackageStringOffset, PackageStringTable, Repeats, StringOffsets};
@@ -14,7 +13,6 @@ use thorin_strings::{PackageStringOffset, PackageStringTable, Repeats, StringOff
 pub fn call(row: Row<'_>, said: &mut Said) {
     match row.word(0) {
         "table" | "short_strings" | "crowded" | "in_order" => with_table(row, said),
-        "ended" => ended(row, said),
         "remapped_thrice" => remapped_thrice(row, said),
         "refused_range" => refused_range(row, said),
         _ => crate::packaged::call(row, said),
@@ -318,21 +316,4 @@ fn in_order(table: &mut PackageStringTable, row: Row<'_>, said: &mut Said) -> bo
     let (_found, count) = table.find_counted(row.bytes(3));
     said.put(&(count > 1, count <= 8));
     false
-}
-
-/// Bytes and where one of them is zero, thrice: where the string is that they begin with, and the
-/// table's data in the end.
-fn ended(row: Row<'_>, said: &mut Said) {
-    let mut table = StringTable::new(row.alloc);
-    put_ended(&mut table, row.bytes(1), row.half(2), said);
-    put_ended(&mut table, row.bytes(3), row.half(4), said);
-    put_ended(&mut table, row.bytes(5), row.half(6), said);
-    said.put(&Text(table.data()));
-}
-
-fn put_ended(table: &mut StringTable, bytes: &[u8], end: u16, said: &mut Said) {
-    let end = usize::from(end);
-    if bytes.len() >= 32 && end < bytes.len() && bytes[end] == 0 {
-        said.put(&table.place_ended(bytes, end).ok().flatten());
-    }
 }

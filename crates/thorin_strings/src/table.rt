@@ -91,10 +91,9 @@ impl PackageStringTable {
         self.strings.place(string)
     }
 
-    /// The same of the string that some bytes begin with, as `StringTable::place_ended` tells it; None
-    /// also for want of memory.
+    /// The offset of the string that some bytes begin with, as `StringTable::place_guessed` tells it.
     #[inline(always)]
-    pub(crate) fn place_ended(&mut self, bytes: &[u8], end: usize) -> Option<usize>
+    pub(crate) fn place_guessed(&mut self, bytes: &[u8], end: usize) -> Option<usize>
         requires within { end < length bytes.now }
         requires long { 32 ≤ length bytes.now }
         requires ended { slice_index bytes.now end ≡ 0 }
@@ -103,10 +102,7 @@ impl PackageStringTable {
         ensures kept { take (length self.old) self.new ≡ self.old }
         ensures none { IsNone result → self.new ≡ self.old }
     {
-        match self.strings.place_ended(bytes, end) {
-            Ok(found) => found,
-            Err(_) => None,
-        }
+        self.strings.place_guessed(bytes, end)
     }
 
     /// The offset of a string, which is appended where the table lacks it.

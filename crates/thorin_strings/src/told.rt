@@ -1,5 +1,5 @@
-//! Entries of string offsets of four bytes whose strings end before that of the next entry: nearly
-//! all are such.
+//! Entries of string offsets of four bytes whose strings are told by their hashes, one after the
+//! other: nearly all are such.
 
 ghost use Rattle.std.specs.Prelude.{◌≡◌, ◌≤◌, ◌<◌, ◌+◌, ◌-◌, ◌*◌, ◌^◌, ℕ, List, length, take, Ok};
 ghost use Rattle.std.specs.Prelude.{IsNone, IfSome};
@@ -16,10 +16,10 @@ use crate::words::{WordRange, word_at, write_word};
 const SHORT: u64 = 512;
 
 impl PackageStringTable {
-    /// The offset of the string at an offset of its section, which is short where the next begins
-    /// behind it. None where it isn't, where fewer bytes are left than a short string may have, which
-    /// `last` tells, where four bytes may not hold its place, and for want of memory; nothing changed
-    /// then.
+    /// The offset of the string at an offset of its section, which is short and ends before the
+    /// next one. None where it isn't that, where fewer bytes are left than a short string may have,
+    /// which `last` tells, where its hash doesn't tell its place or four bytes don't hold it, and for
+    /// want of memory; nothing changed then.
     #[inline(always)]
     fn guessed_offset(&mut self, debug_str: &[u8], last: u64, named: u64, after: u64) -> Option<u64>
         requires { last + 512 ≤ length debug_str.now }
@@ -38,7 +38,7 @@ impl PackageStringTable {
         if rest[end] != 0 {
             return None;
         }
-        let offset = self.place_ended(rest, end)?;
+        let offset = self.place_guessed(rest, end)?;
         Some(offset as u64)
     }
 

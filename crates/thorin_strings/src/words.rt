@@ -75,11 +75,11 @@ fn append_by_pieces(out: &mut Vec<u8>, bytes: &[u8]) -> Result<(), AllocError>
     Ok(())
 }
 
-/// How many entries are rewritten one by one where the first of them isn't told as most are.
+/// How many entries are rewritten one by one where the first of them isn't told by a hash.
 const APART: usize = 16;
 
-/// The number of the entry from which on it is tried again to tell entries so, once that came from one
-/// to another.
+/// The number of the entry from which on it is tried again to tell entries by hashes, once that came
+/// from one to another.
 fn next_try(again: usize, from: usize, to: usize) -> usize {
     if from >= again && to == from {
         to.saturating_add(APART)
