@@ -32,7 +32,8 @@ fn before_zero(bytes: &[u8], at: usize) -> usize
     zeros.trailing_zeros() as usize
 }
 
-/// Where the string at the front of some bytes ends, where so many whole steps of 64 bytes find it.
+/// Where the string at the front of some bytes ends; none where no zero stands in so many whole steps
+/// of 64 bytes.
 #[inline(always)]
 pub fn short_end(bytes: &[u8], rounds: usize) -> Option<usize>
     ensures some { IfSome result (IsFirstZero bytes.now) }
