@@ -36,8 +36,8 @@ abbrev pub accepted_of : Outcome → List ℕ → List (List ℕ)
 accepted_of (Ok x) bytes = bytes ∷ []
 accepted_of (Err e) bytes = []
 
--- the outcome of a call that takes inputs, the state after it, and the bytes of the inputs that it
--- accepted
+-- what came of a call that takes inputs: its outcome, the state behind it, and the bytes of those
+-- that were accepted
 pub record Came : Type 0 where
   pub outcome : Outcome
   pub new : State
@@ -109,12 +109,12 @@ pub record CanBePassedOver (offered : Result (List ℕ) IoError → Type 0)
   pub fails : offered (Err cause)
   pub skips : missing ≡ behaviour.Skip
 
--- where this is said, such a read may fail
+-- that is known, or nothing is
 abbrev pub IsUnread : (Result (List ℕ) IoError → Type 0) → MissingReferencedObjectBehaviour → Bool
     → Type 0
 IsUnread offered missing is_unread = IsTrue is_unread → CanBePassedOver offered missing
 
--- what a read of such an object at a path gave was taken
+-- the same for the object at a path, of which that may be read
 pub record TakesReferredFile (offered : Result (List ℕ) IoError → Type 0) (missing :
     MissingReferencedObjectBehaviour) (old : State) (outcome : Outcome) (new : State) : Type 0 where
   pub read : Result (List ℕ) InputError

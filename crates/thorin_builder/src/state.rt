@@ -281,7 +281,7 @@ enum Index {
     TypeUnits,
 }
 
-/// The bytes of one of the indexes. Refuses as `write_index` does.
+/// The bytes of an index. Refuses as `write_index` does.
 fn index_of(
     alloc: Global,
     order: Endianness,
@@ -340,7 +340,7 @@ fn index_with(name: DwarfObject) -> Index
     }
 }
 
-/// Whether all rows stand in the given index.
+/// Whether all rows stand in an index.
 fn are_all(rows: &IndexRows, index: Index) -> bool
     ensures all { result ≡ true → rows_in index rows.now ≡ rows.now }
     ensures identifiers { result ≡ true → IdentifiersFit rows.now }
@@ -353,7 +353,7 @@ fn are_all(rows: &IndexRows, index: Index) -> bool
     true
 }
 
-/// The rows that stand in the given index.
+/// The rows that stand in an index.
 fn rows_in(alloc: Global, rows: &IndexRows, index: Index) -> Result<IndexRows, Error>
     ensures rows { IfOk result (λ chosen. chosen ≡ rows_in index rows.now) }
     ensures identifiers { OnOk result (IdentifiersFit rows.now) }
