@@ -1,4 +1,4 @@
-//! Abbreviations that are remembered (DWARF 5, 7.5.3).
+//! Abbreviations that are looked up by table and code, and remembered (DWARF 5, 7.5.3).
 
 ghost use Rattle.std.specs.Prelude.{◌≡◌, Result, Ok, Err, Some, None, true, false, option_map};
 ghost use Rattle.dwp_base.specs.Reading.{Answers};

@@ -1,4 +1,5 @@
-//! How much was read of tables of abbreviations (DWARF 5, 7.5.3).
+//! The first use of a table of abbreviations, read only as far as is asked, and how much was read of
+//! all of them (DWARF 5, 7.5.3).
 
 ghost use Rattle.std.specs.Prelude.{◌≡◌, Ok, None, IfSome, []};
 ghost use Rattle.std.specs.Ordering.{nat_cmp};

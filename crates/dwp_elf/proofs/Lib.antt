@@ -1,5 +1,6 @@
 pub mod Terms
 pub mod Changes
+pub mod Growth
 pub mod KindCounts
 pub mod Limits
 pub mod Parts

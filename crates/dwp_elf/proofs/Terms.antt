@@ -2,7 +2,7 @@
 pub use Rattle.std.proofs.Common.{Bool, List, None, Some, [], add-one, ap, append-nil, append_assoc}
 pub use Rattle.std.proofs.Common.{arith, codes, drop, get_or, length, length-append, ltb-true, refl}
 pub use Rattle.std.proofs.Common.{replicate, suc, sym, take, true, zero, ℕ, ◌*◌, ◌++◌, ◌+◌, ◌<◌}
-pub use Rattle.std.proofs.Common.{◌^◌, ◌∙◌, ◌∷◌, ◌≡◌, ◌≤◌}
+pub use Rattle.std.proofs.Common.{rules, ◌^◌, ◌∙◌, ◌∷◌, ◌≡◌, ◌≤◌}
 pub use Rattle.std.proofs.Math.Seq.{drop-append-add, drop-append_seam, drop-cons, map-set_same}
 pub use Rattle.std.proofs.Math.Seq.{take-append-add, take-append_seam}
 pub use Rattle.std.proofs.lemmas.Grind.{common_steps}
@@ -25,4 +25,4 @@ pub use Rattle.dwp_elf.specs.Contents.{KindsDiffer, appended, content_of, conten
 pub use Rattle.dwp_elf.specs.Contents.{truncated}
 pub use Rattle.dwp_elf.specs.FileText.{name_table}
 unfoldable pub use Rattle.dwp_elf.specs.FileText.{content_bytes, headers_from, names_of}
-pub use Rattle.dwp_elf.specs.Places.{ArePlaces, PassesLimit, file_length}
+pub use Rattle.dwp_elf.specs.Layout.{IsLayout, PassesLimit, file_length}

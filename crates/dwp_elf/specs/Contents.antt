@@ -19,14 +19,16 @@ abbrev pub content_of : SectionKind → List (SectionKind × List ℕ) → List 
 content_of kind [] = []
 content_of kind (c ∷ cs) = if same_kind c.0 kind then c.1 else content_of kind cs
 
--- the contents once bytes were added at the end of a kind's, the first of a kind making it
+-- the contents once bytes were added at the end of a kind's, or as a new last content where there
+-- is none
 abbrev pub appended : SectionKind → List ℕ → List (SectionKind × List ℕ)
     → List (SectionKind × List ℕ)
 appended kind bytes [] = (kind, bytes) ∷ []
 appended kind bytes (c ∷ cs) =
     if same_kind c.0 kind then (c.0, c.1 ++ bytes) ∷ cs else c ∷ appended kind bytes cs
 
--- as many contents as there are sizes, each cut to its size
+-- the first contents, at most as many as there are sizes, each that is longer cut to its size; one
+-- that is cut to 0 stays, without bytes
 abbrev pub truncated : List (SectionKind × List ℕ) → List ℕ → List (SectionKind × List ℕ)
 truncated [] sizes = []
 truncated (c ∷ cs) [] = []

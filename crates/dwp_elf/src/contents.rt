@@ -3,26 +3,46 @@
 ghost use Rattle.std.specs.Prelude.{◌≡◌, ◌<◌, length, position, IfOk, OnErr};
 ghost use Rattle.dwp_base.specs.Sections.{same_kind};
 ghost use Rattle.dwp_elf.specs.Contents.{contents_of, content_of, appended, truncated};
+ghost use Rattle.dwp_elf.specs.Growing.{lengths};
 
 use dwp_base::SectionKind;
 use std::alloc::{AllocError, Global};
-
-/// Whether two kinds are one.
-fn is_same(a: SectionKind, b: SectionKind) -> bool
-    ensures { result ≡ same_kind a b }
-{
-    a == b
-}
 
 /// The number of the section of a kind.
 fn number_of(sections: &[(SectionKind, Vec<u8>)], kind: SectionKind) -> Option<usize>
     ensures { result ≡ position (λ s. same_kind s.0 kind) sections.now }
 {
-    sections.iter().position(|section| is_same(section.0, kind))
+    sections.iter().position(|section| section.0.is(kind))
 }
 
-/// Adds bytes at the end of the content of a kind, which the first of them make, and tells where
-/// they begin in it.
+/// The content of a kind; no bytes where there is none.
+pub fn content_in(sections: &[(SectionKind, Vec<u8>)], kind: SectionKind) -> &[u8]
+    ensures { result.now ≡ content_of kind (contents_of sections.now) }
+{
+    for section in sections {
+        if section.0.is(kind) {
+            return &section.1;
+        }
+    }
+    &[]
+}
+
+/// The length of each section's content, in their order.
+pub fn lengths_of(
+    alloc: Global,
+    sections: &[(SectionKind, Vec<u8>)],
+) -> Result<Vec<usize>, AllocError>
+    ensures { IfOk result (λ sizes. sizes.items ≡ lengths (contents_of sections.now)) }
+{
+    let mut sizes = Vec::new(alloc);
+    for section in sections {
+        sizes.push(section.1.len())?;
+    }
+    Ok(sizes)
+}
+
+/// Adds bytes at the end of the content of a kind, or as a new last content where there is none, and
+/// tells where they begin in it.
 pub fn append_to(
     alloc: Global,
     sections: &mut Vec<(SectionKind, Vec<u8>)>,
@@ -78,7 +98,8 @@ pub fn move_to(
     }
 }
 
-/// Keeps as many sections as there are sizes, each cut to its size.
+/// Keeps the first sections, at most as many as there are sizes, and cuts each that is longer to its
+/// size; one that is cut to 0 stays, without bytes.
 pub fn truncate_to(sections: &mut Vec<(SectionKind, Vec<u8>)>, sizes: &[usize])
     ensures { contents_of sections.new.items
         ≡ truncated (contents_of sections.old.items) sizes.now }

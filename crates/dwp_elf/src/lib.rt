@@ -5,9 +5,9 @@ mod contents;
 mod gathered;
 mod headers;
 pub mod laws;
+mod layout;
 mod object;
 mod output;
-mod places;
 mod writer;
 
 pub use dwp_base::{Class, Contribution, ContributionOffset, Endianness, SectionKind};

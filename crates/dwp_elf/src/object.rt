@@ -1,29 +1,30 @@
 //! Objects that are made section by section, and written as ELF files.
 
-ghost use Rattle.std.specs.Prelude.{◌≡◌, ◌+◌, ◌<◌, [], length, IfOk, IfErr, OnOk, OnErr, Some};
-ghost use Rattle.std.specs.Prelude.{None, Ok, Err, OkIff};
+ghost use Rattle.std.specs.Prelude.{[], Err, IfErr, IfOk, length, None, Ok, OkIff, OnErr, OnOk};
+ghost use Rattle.std.specs.Prelude.{Some, ◌+◌, ◌<◌, ◌≡◌};
 ghost use Rattle.std.specs.Io.KnownBytes.{Appends};
 ghost use Rattle.std.specs.declared.io.ErrorKind.{ErrorKind};
 ghost use Rattle.dwp_elf_read.specs.Elf.{elf_of};
-ghost use Rattle.dwp_elf_read.specs.declared.error.WriteError.TheVariants.{NumberTooLarge, Memory};
-ghost use Rattle.dwp_elf.specs.Contents.{KindsDiffer, contents_of, content_of, appended, truncated};
-ghost use Rattle.dwp_elf.specs.FileText.{file_text};
+ghost use Rattle.dwp_elf_read.specs.declared.error.WriteError.TheVariants.{Memory, NumberTooLarge};
+ghost use Rattle.dwp_elf.specs.Contents.{content_of, contents_of, KindsDiffer, truncated};
+ghost use Rattle.dwp_elf.specs.FileText.{file_text, Object};
+ghost use Rattle.dwp_elf.specs.Growing.{contribution_put, IsGrown, lengths, with_bytes};
+ghost use Rattle.dwp_elf.specs.Layout.{IsLayout};
 ghost use Rattle.dwp_elf.specs.Numbers.{Fits};
-ghost use Rattle.dwp_elf.specs.Places.{ArePlaces};
-ghost use Rattle.dwp_elf.specs.Refusals.{RefusesFile, RefusesWriter, Blames};
-ghost use Rattle.dwp_elf.specs.Writing.{Writes, Errors};
+ghost use Rattle.dwp_elf.specs.Refusals.{Blames, RefusesFile, RefusesWriter};
+ghost use Rattle.dwp_elf.specs.Writing.{Errors, Writes};
 ghost use Rattle.dwp_elf.specs.Written.{written_elf};
 
-use crate::contents::{append_to, move_to, truncate_to};
+use crate::contents::{append_to, content_in, lengths_of, move_to, truncate_to};
 use crate::headers::{entry_size, file_header};
+use crate::layout::{Layout, layout_of};
 use crate::output::{
     write_contents, write_name_table, write_section_headers, write_whole, write_zeros,
 };
-use crate::places::{Places, places_of};
 use crate::writer::Output;
 use dwp_base::{Class, Contribution, ContributionOffset, Endianness, SectionKind};
 use dwp_elf_read::WriteError;
-use std::alloc::Global;
+use std::alloc::{AllocError, Global};
 use std::io;
 use std::marker::Model;
 
@@ -96,6 +97,23 @@ impl WritableObject {
         self.sections.as_slice()
     }
 
+    /// The content of a kind of section; no bytes where there is none.
+    pub fn content(&self, kind: SectionKind) -> &[u8]
+        ensures { result.now ≡ content_of kind self.now.contents }
+    {
+        content_in(&self.sections, kind)
+    }
+
+    /// The length of each section's content, in their order.
+    ///
+    /// # Errors
+    /// Want of memory.
+    pub fn lengths(&self) -> Result<Vec<usize>, AllocError>
+        ensures { IfOk result (λ sizes. sizes.items ≡ lengths self.now.contents) }
+    {
+        lengths_of(self.alloc, &self.sections)
+    }
+
     /// Adds bytes at the end of a section's content, and tells where they are in it. The first
     /// bytes of a kind make its section; no bytes make none.
     ///
@@ -107,12 +125,11 @@ impl WritableObject {
         bytes: &[u8],
     ) -> Result<Option<Contribution>, WriteError>
         ensures nothing { length bytes.now ≡ 0 → (result ≡ Ok None) × (self.new ≡ self.old) }
-        ensures place { 0 < length bytes.now → IfOk result (λ place. place ≡ Some (record {
-          offset = record { 0 = length (content_of kind self.old.contents) };
-          size = length bytes.now;
-        })) }
-        ensures contents { 0 < length bytes.now → OnOk result
-            (self.new ≡ record self.old { contents = appended kind bytes.now self.old.contents }) }
+        ensures place { IfOk result (λ place.
+            place ≡ contribution_put kind bytes.now self.old.contents) }
+        ensures contents { OnOk result (self.new
+            ≡ record self.old { contents = with_bytes kind bytes.now self.old.contents }) }
+        ensures grown { (before : Object) → IsGrown before self.old → IsGrown before self.new }
         ensures refused { IfErr result (λ e. e ≡ Memory) }
         ensures unchanged { OnErr result (self.new ≡ self.old) }
     {
@@ -139,13 +156,11 @@ impl WritableObject {
         bytes: Vec<u8>,
     ) -> Result<Option<Contribution>, WriteError>
         ensures nothing { length bytes.items ≡ 0 → (result ≡ Ok None) × (self.new ≡ self.old) }
-        ensures place { 0 < length bytes.items → IfOk result (λ place. place ≡ Some (record {
-          offset = record { 0 = length (content_of kind self.old.contents) };
-          size = length bytes.items;
-        })) }
-        ensures contents { 0 < length bytes.items → OnOk result
-            (self.new
-            ≡ record self.old { contents = appended kind bytes.items self.old.contents }) }
+        ensures place { IfOk result (λ place.
+            place ≡ contribution_put kind bytes.items self.old.contents) }
+        ensures contents { OnOk result (self.new
+            ≡ record self.old { contents = with_bytes kind bytes.items self.old.contents }) }
+        ensures grown { (before : Object) → IsGrown before self.old → IsGrown before self.new }
         ensures refused { IfErr result (λ e. e ≡ Memory) }
         ensures unchanged { OnErr result (self.new ≡ self.old) }
     {
@@ -160,10 +175,14 @@ impl WritableObject {
         }))
     }
 
-    /// Keeps the first sections, as many as there are sizes, and cuts each to its size. A section
-    /// that isn't longer than that stays as it is.
+    /// Keeps the first sections, at most as many as there are sizes, and cuts each that is longer to
+    /// its size; one that is cut to 0 stays, without bytes. An object that has only grown since it
+    /// had these lengths is again what it was then.
     pub fn truncate(&mut self, sizes: &[usize])
-        ensures { self.new ≡ record self.old { contents = truncated self.old.contents sizes.now } }
+        ensures cut { self.new
+            ≡ record self.old { contents = truncated self.old.contents sizes.now } }
+        ensures taken_back { (before : Object) → IsGrown before self.old
+            → sizes.now ≡ lengths before.contents → self.new ≡ before }
     {
         truncate_to(&mut self.sections, sizes);
     }
@@ -177,7 +196,7 @@ impl WritableObject {
         ensures size { OkIff result (Fits self.now) (length (file_text self.now)) }
         ensures refused { IfErr result (λ e. e ≡ NumberTooLarge) }
     {
-        Ok(self.places()?.size)
+        Ok(self.layout()?.size)
     }
 
     /// The file as bytes. Read back, it has the contents in order under their names.
@@ -191,11 +210,11 @@ impl WritableObject {
         ensures distinct { OnOk result (KindsDiffer self.now.contents) }
         ensures refused { IfErr result (RefusesFile self.now) }
     {
-        let places = self.places()?;
-        let mut file = Vec::with_capacity(self.alloc, places.size as usize).map_err(
+        let layout = self.layout()?;
+        let mut file = Vec::with_capacity(self.alloc, layout.size as usize).map_err(
             |_| WriteError::Memory,
         )?;
-        self.write_parts(&places, &mut file)
+        self.write_parts(&layout, &mut file)
             .map_err(|_| WriteError::Memory)?;
         Ok(file)
     }
@@ -220,26 +239,26 @@ impl WritableObject {
         ensures untouched { result ≡ Err NumberTooLarge → out.new ≡ out.old }
     {
         let _sections = &self.sections;
-        let places = self.places()?;
-        self.write_parts(&places, out).map_err(WriteError::Io)
+        let layout = self.layout()?;
+        self.write_parts(&layout, out).map_err(WriteError::Io)
     }
 
-    /// Where the parts of the file lie.
+    /// The layout of the file.
     #[tactic(auto, using(crate::proofs::KindCounts::few_sections))]
-    fn places(&self) -> Result<Places, WriteError>
-        ensures ok { IfOk result (ArePlaces self.now.class self.now.contents) }
+    fn layout(&self) -> Result<Layout, WriteError>
+        ensures ok { IfOk result (IsLayout self.now.class self.now.contents) }
         ensures fits { OnOk result (Fits self.now) }
         ensures read_back { OnOk result (elf_of (file_text self.now) ≡ Ok (written_elf self.now)) }
         ensures refused { IfErr result (λ e. (e ≡ NumberTooLarge) × ¬ Fits self.now) }
     {
         let _machine = self.machine;
-        places_of(self.class, &self.sections).ok_or(WriteError::NumberTooLarge)
+        layout_of(self.class, &self.sections).ok_or(WriteError::NumberTooLarge)
     }
 
     /// Hands the parts of the file to a writer, one after the other.
     #[tactic(auto, using(crate::proofs::KindCounts::few_sections))]
-    fn write_parts<O: Output>(&self, places: &Places, out: &mut O) -> io::Result<()>
-        requires { ArePlaces self.now.class self.now.contents places.now }
+    fn write_parts<O: Output>(&self, layout: &Layout, out: &mut O) -> io::Result<()>
+        requires { IsLayout self.now.class self.now.contents layout.now }
         ensures text { Writes result (O.contents out.old) (O.contents out.new)
             (file_text self.now) }
         ensures error { Errors result (O.failed out.old) (O.failed out.new) }
@@ -249,19 +268,19 @@ impl WritableObject {
             self.class,
             self.endianness,
             self.machine,
-            places.headers,
+            layout.headers,
             count,
         );
         write_whole(out, header.as_slice())?;
         write_contents(out, &self.sections)?;
         write_name_table(out, &self.sections)?;
-        write_zeros(out, places.zeros as usize)?;
+        write_zeros(out, layout.zeros as usize)?;
         write_zeros(out, usize::from(entry_size(self.class)))?;
         write_section_headers(
             out,
             self.class,
             self.endianness,
-            places.names_size,
+            layout.names_size,
             &self.sections,
         )
     }

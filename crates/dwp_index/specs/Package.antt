@@ -67,10 +67,11 @@ package_of bytes = do
     types = types;
   })
 
+-- a range lies inside these bytes
 abbrev pub lies_inside : List ℕ → Contribution → Bool
 lies_inside bytes range = nat_le (range.offset.0 + range.size) (length bytes)
 
--- the bytes of a range; none where it is absent
+-- the bytes of a range; none where it is absent or isn't inside
 abbrev pub part_of : List ℕ → Option Contribution → List ℕ
 part_of bytes None = []
 part_of bytes (Some range) = if lies_inside bytes range
@@ -95,6 +96,7 @@ place_of (Compilation id) range = places.Info
 place_of (TypeUnit signature) None = places.Info
 place_of (TypeUnit signature) (Some range) = places.Types
 
+-- the kind of section that units of a place stand in
 abbrev pub kind_of : UnitSection → SectionKind
 kind_of places.Info = kinds.Info
 kind_of places.Types = kinds.Types

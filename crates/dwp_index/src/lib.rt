@@ -19,6 +19,6 @@ pub use dwp_table::{
 };
 pub use error::PackageError;
 pub use package::PackageFile;
-pub use unit::{PackagedUnit, lies_inside, part_of};
+pub use unit::{PackagedUnit, kind_of, lies_inside, part_of};
 pub use unit_index::{Row, UnitIndex};
 pub use units::{UnitEntry, Units};

@@ -152,8 +152,8 @@ pub(crate) fn place_of(object: DwarfObject, range: Option<Contribution>) -> Unit
     }
 }
 
-/// The kind of that section.
-pub(crate) fn kind_of(place: UnitSection) -> SectionKind
+/// The kind of section that units of a place stand in.
+pub fn kind_of(place: UnitSection) -> SectionKind
     ensures { result ≡ kind_of place }
 {
     match place {

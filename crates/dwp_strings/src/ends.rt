@@ -1,8 +1,8 @@
-//! Where strings end, looked for 64 bytes at a time: few are longer than some such steps.
+//! Where strings end, looked for 64 bytes at a time: most end within a few such steps.
 
 ghost use Rattle.std.specs.Prelude.{◌≡◌, ◌≢◌, ℕ, ◌+◌, ◌*◌, ◌<◌, ◌≤◌, length, take, slice_index};
 ghost use Rattle.std.specs.Prelude.{IfSome, IsNone, IsTrue};
-ghost use Rattle.dwp_strings.specs.Ends.{IsFirstZero};
+ghost use Rattle.dwp_strings.specs.Ends.{IsFirstZero, IsNear};
 ghost use Rattle.dwp_strings.specs.Strings.{IsZeroFree};
 
 use memchr::memchr;
@@ -14,7 +14,8 @@ const LANES: usize = 64;
 /// Half of that.
 const HALF: usize = 32;
 
-/// How often at most before `memchr` goes on, which takes larger steps.
+/// How many steps of 64 bytes are looked at before `memchr` is called on all bytes: it takes larger
+/// ones.
 pub const ROUNDS: usize = 4;
 
 /// How many of the next 64 bytes stand before the first zero.
@@ -32,13 +33,14 @@ fn before_zero(bytes: &[u8], at: usize) -> usize
     zeros.trailing_zeros() as usize
 }
 
-/// Where the string at the front of some bytes ends; none where no zero stands in so many whole steps
-/// of 64 bytes.
+/// Where the string at the front of some bytes ends, looked for in so many whole steps of 64 bytes
+/// at most; none where no zero stands in them.
 #[inline(always)]
 pub fn short_end(bytes: &[u8], rounds: usize) -> Option<usize>
     ensures some { IfSome result (IsFirstZero bytes.now) }
     ensures none { IsNone result → (steps : ℕ) → steps ≤ rounds → steps * 64 ≤ length bytes.now
         → IsZeroFree (take (steps * 64) bytes.now) }
+    ensures near { IfSome result (IsNear bytes.now rounds) }
 {
     for round in 0..rounds {
         let at = round * LANES;
@@ -78,7 +80,7 @@ fn are_some(bytes: &[u8], at: usize, other: usize) -> bool
     first.simd_min(second).simd_eq(u8x32::splat(0)).to_bitmask() == 0
 }
 
-/// Whether so many first bytes aren't zero, which are fewer than 32.
+/// Whether none of the first `count` bytes, fewer than 32, is zero.
 #[inline(always)]
 fn begins_some(bytes: &[u8], count: usize) -> bool
     requires within { 32 ≤ length bytes.now }
@@ -90,7 +92,7 @@ fn begins_some(bytes: &[u8], count: usize) -> bool
     zeros.trailing_zeros() as usize >= count
 }
 
-/// Whether the string at the front of some bytes ends at that zero.
+/// True only where the string at the front of some bytes ends at that zero.
 #[inline(always)]
 pub(crate) fn ends_at(bytes: &[u8], end: usize) -> bool
     requires within { end < length bytes.now }

@@ -8,7 +8,7 @@ ghost use Rattle.dwp_strings.specs.Hashed.{held, IsHashed};
 ghost use Rattle.dwp_strings.specs.Places.{hash as hash_of, place_of, shared, IsNext, IsOrdered};
 
 use crate::ends::ends_at;
-use crate::places::Places;
+use crate::places::HashedPlaces;
 use crate::positions::Positions;
 use crate::search::{begins_at, search};
 use dwp_bytes::string_at;
@@ -24,7 +24,7 @@ pub(crate) struct Entries {
     /// Each string and a zero byte.
     pub bytes: Vec<u8>,
     pub count: usize,
-    pub places: Places,
+    pub places: HashedPlaces,
     /// Where those begin that are found by their order, in that order.
     pub ordered: Positions,
 }
@@ -38,7 +38,7 @@ impl Entries {
         Entries {
             bytes: Vec::new(alloc),
             count: 0,
-            places: Places::new(alloc),
+            places: HashedPlaces::new(alloc),
             ordered: Positions::new(alloc),
         }
     }

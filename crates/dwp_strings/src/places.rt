@@ -194,7 +194,7 @@ fn most(size: u32) -> usize {
 /// need more, where four bytes don't hold it, or there is no memory for more slots, it isn't entered,
 /// and none is from then on.
 #[derive(Drop)]
-pub(crate) struct Places {
+pub(crate) struct HashedPlaces {
     pub alloc: Global,
     pub slots: Vec<Slot>,
     pub size: u32,
@@ -204,10 +204,10 @@ pub(crate) struct Places {
     pub is_full: bool,
 }
 
-impl Places {
+impl HashedPlaces {
     /// No places, which take no memory.
     pub fn new(alloc: Global) -> Self {
-        Places {
+        HashedPlaces {
             alloc,
             slots: Vec::new(alloc),
             size: 0,
@@ -230,7 +230,7 @@ impl Places {
     }
 
     /// The same in more slots, with one more. None where they don't fit or there is no memory.
-    fn grown(&self, slot: Slot) -> Option<Places>
+    fn grown(&self, slot: Slot) -> Option<HashedPlaces>
         requires some { slot.behind ≢ 0 }
         ensures entered { IfSome result (λ new. (n : ℕ) → n + 1 ≡ slot.behind
             → place_of new.slots.items new.size slot.hash ≡ Some n) }
@@ -245,7 +245,7 @@ impl Places {
         if !put(&mut slots, size, slot) {
             return None;
         }
-        Some(Places {
+        Some(HashedPlaces {
             alloc: self.alloc,
             slots,
             size,

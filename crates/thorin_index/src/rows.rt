@@ -1,7 +1,7 @@
 //! The rows of an index, each held in few bytes: what neighbouring rows share is held once.
 
-ghost use Rattle.std.specs.Prelude.{◌≡◌, ◌<◌, ◌++◌, [], ◌∷◌, Some, get_or, length, slice_get, take};
-ghost use Rattle.std.specs.Prelude.{IfOk, OnOk, OnErr, IsTrue};
+ghost use Rattle.std.specs.Prelude.{◌≡◌, ◌<◌, ◌≤◌, ◌+◌, ◌++◌, [], ◌∷◌, Some, get_or, length, take};
+ghost use Rattle.std.specs.Prelude.{slice_get, IfOk, OnOk, OnErr, IsTrue};
 ghost use Rattle.dwp_table.specs.Table.{HasSlots, IsHashTable};
 ghost use Rattle.thorin_errors.specs.Answers.{Gives};
 ghost use Rattle.thorin_index.specs.Entries.{contribution_to};
@@ -107,6 +107,9 @@ fn same_entry(a: &IndexEntry, b: &IndexEntry) -> bool
 pub fn share(entries: &mut Vec<IndexEntry>, entry: &IndexEntry) -> Result<usize, AllocError>
     ensures there { IfOk result (λ number. slice_get entries.new.items number ≡ Some entry.now) }
     ensures kept { take (length entries.old.items) entries.new.items ≡ entries.old.items }
+    ensures last { IfOk result (λ number. number + 1 ≡ length entries.new.items) }
+    ensures few { IfOk result (λ number. number ≤ length entries.old.items) }
+    ensures err { OnErr result (entries.new.items ≡ entries.old.items) }
 {
     let count = entries.len();
     if count > 0 && same_entry(&entries[count - 1], entry) {

@@ -1,5 +1,5 @@
 use Rattle.dwp_strings.proofs.Terms.{arith, refl, sym, with_items_is}
-use Rattle.dwp_strings.proofs.places.Places.enter.Goals as goal
+use Rattle.dwp_strings.proofs.places.HashedPlaces.enter.Goals as goal
 
 pub returns-then-put_next-clause-entered : goal.returns-then-put_next-clause-entered
 returns-then-put_next-clause-entered c = λ _.

@@ -1,7 +1,7 @@
 use Rattle.dwp_elf.proofs.Terms.{arith, common_steps}
 use Rattle.dwp_elf.proofs.Limits.{Fits-from, refused_of}
 use Rattle.dwp_elf.proofs.ReadingBack.{written-back}
-use Rattle.dwp_elf.proofs.object.WritableObject.places.Goals as goal
+use Rattle.dwp_elf.proofs.object.WritableObject.layout.Goals as goal
 
 pub returns-clause-fits : goal.returns-clause-fits
 returns-clause-fits c = grind (arith, common_steps, Fits-from)

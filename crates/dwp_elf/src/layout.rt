@@ -1,9 +1,9 @@
-//! Where the parts of a file lie.
+//! The layout of a file: where its parts lie.
 
 ghost use Rattle.std.specs.Prelude.{◌≡◌, ◌+◌, ◌*◌, ◌^◌, ◌<◌, ◌≤◌, length, MatchOption};
 ghost use Rattle.dwp_elf.specs.Contents.{contents_of};
 ghost use Rattle.dwp_elf.specs.FileText.{content_bytes, name_table, zeros_after};
-ghost use Rattle.dwp_elf.specs.Places.{PassesLimit, ArePlaces};
+ghost use Rattle.dwp_elf.specs.Layout.{PassesLimit, IsLayout};
 
 use crate::headers::{entry_size, header_size};
 use crate::output::NAMES;
@@ -42,9 +42,10 @@ pub fn zeros_after(size: u64) -> u64
     (8 - size % 8) % 8
 }
 
-/// Where the section headers of a file lie, and what else its header and their sum tell.
+/// Where the section headers of a file begin, and the sizes of its name table, of the zeros before
+/// the headers, and of the whole file.
 #[derive(Clone, Copy)]
-pub struct Places {
+pub struct Layout {
     /// How many bytes the content of `.shstrtab` has.
     pub names_size: u64,
     /// How many zeros stand before the section headers.
@@ -55,11 +56,11 @@ pub struct Places {
     pub size: u64,
 }
 
-/// The places of a file, None where a number passes the limit of its class.
-pub fn places_of(class: Class, sections: &[(SectionKind, Vec<u8>)]) -> Option<Places>
+/// The layout of a file, None where a number passes the limit of its class.
+pub fn layout_of(class: Class, sections: &[(SectionKind, Vec<u8>)]) -> Option<Layout>
     requires { length sections.now ≤ 13 }
     ensures { MatchOption result (PassesLimit class (contents_of sections.now))
-        (ArePlaces class (contents_of sections.now)) }
+        (IsLayout class (contents_of sections.now)) }
 {
     let names_size = name_table_size(sections);
     let names_place = u64::from(header_size(class)).checked_add(content_size(sections)?)?;
@@ -71,7 +72,7 @@ pub fn places_of(class: Class, sections: &[(SectionKind, Vec<u8>)]) -> Option<Pl
     if class == Class::Elf32 && headers > u64::from(u32::MAX) {
         return None;
     }
-    Some(Places {
+    Some(Layout {
         names_size,
         zeros,
         headers,

@@ -1,6 +1,6 @@
 use Rattle.dwp_strings.proofs.Terms.{arith, refl, with_items_is}
 use Rattle.std.specs.Vec.{with_items}
-use Rattle.dwp_strings.proofs.places.Places.grown.Goals as goal
+use Rattle.dwp_strings.proofs.places.HashedPlaces.grown.Goals as goal
 
 pub returns-clause-entered : goal.returns-clause-entered
 returns-clause-entered c = λ n more.
