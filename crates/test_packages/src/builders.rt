@@ -1,4 +1,5 @@
-//! What a builder makes of inputs, step by step. Its calls are met here alone.
+//! What a builder makes of inputs, step by step: of bytes in a session without files, and of an
+//! executable. Its calls are met here alone.
 
 use crate::packing::{keep, tell_answer};
 use crate::reading::tell_name;

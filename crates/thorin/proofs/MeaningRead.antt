@@ -1,28 +1,28 @@
 -- What a package means as an input is what a reader of packages finds in it.
 use Rattle.thorin.proofs.Terms
-use Terms.{◌&&◌, ◌++◌, ◌>>=◌, [], ap, bind-was, Bool, both, by-choice, Compilation, cond}
-use Terms.{DwarfObject, Elf, elf_of, Encoding, encoding_of, Endianness, Err, false, find, inl}
-use Terms.{input_file_of, input_meaning, InputFile, inr, is-false, is_none, is_some, List, map}
-use Terms.{Meaning, None, Ok, opened, Option, option_and_then, own_range, ParseFileKind, refl}
-use Terms.{Result, rules, same-ok, SectionMeaning, Some, Source, source_units, sym, true, TypeUnit}
-use Terms.{UnitRead, Used, ◌||◌, ℕ, ◌∙◌, ◌∷◌, ◌≡◌, ◌⊎◌}
+use Terms.{[], ap, bind-was, Bool, both, by-choice, Compilation, cond, DwarfObject, Elf, elf_of}
+use Terms.{Encoding, encoding_of, Endianness, Err, false, find, inl, input_file_of, input_meaning}
+use Terms.{InputFile, inr, is-false, is_none, is_some, List, map, Meaning, None, Ok, opened, Option}
+use Terms.{option_and_then, own_contribution, ParseFileKind, refl, Result, rules, same-ok}
+use Terms.{SectionMeaning, Some, Source, source_units, sym, true, TypeUnit, UnitRead, Used, ℕ, ◌&&◌}
+use Terms.{◌++◌, ◌>>=◌, ◌||◌, ◌∙◌, ◌∷◌, ◌≡◌, ◌⊎◌}
 use Rattle.thorin_join.proofs.Terms as Joined
-use Joined.{all_kinds, as_error, by-bool, counts_once, first, has_info, Index, Indexes, is-same}
-use Joined.{is_outside, is_package, name_of, Package, part_of, range_in, Ranges, ReadError}
-use Joined.{row_bytes, same-each, same-self, same_kind, SectionKind, Str, strings_of, StrOffsets}
+use Joined.{all_kinds, as_error, by-bool, first, has_info, Index, Indexes, is-same, is_outside}
+use Joined.{is_package, name_of, Package, part_of, range_in, Ranges, ReadError, row_bytes}
+use Joined.{same-each, same-self, same_kind, SectionKind, Str, strings_of, StrOffsets}
 use Rattle.dwp_base.specs.Sections.{compressed_name_of, kind_named}
 use Rattle.dwp_base.specs.declared.section.SectionKind.TheVariants.{CuIndex, TuIndex}
 use Rattle.dwp_base.proofs.KindsRead.{read-kind}
 use Rattle.dwp_elf_read.specs.declared.kind.FileKind.{FileKind}
 use Rattle.dwp_index.specs.Contents.{content, content_among, contents_of, has_name, is_of_kind}
-use Rattle.dwp_index.specs.Package.{package_of, index_in_section}
-use Rattle.thorin_input.specs.Indexes.{index_for, index_in, version_test, indexes_of}
-use Rattle.thorin_input.specs.Used.{elf_in, used_from, used_kind, used_bytes, has_kind, with_used}
-use Rattle.thorin_input.specs.Used.{unusable}
-use Rattle.thorin_join.specs.Meaning.{pieces_by, shared_kinds, placed_row, meaning_with, meaning_by}
-use Rattle.thorin_join.specs.Meaning.{unit_meaning, source_meaning, object_meaning}
-use Rattle.thorin.specs.MeaningRead.{has_index, lies_in, unit_with, unit_of_row, unit_of_package}
-use Rattle.thorin.specs.MeaningRead.{MeansByReader}
+use Rattle.dwp_index.specs.Package.{index_in_section, package_of}
+use Rattle.thorin_input.specs.Indexes.{index_for, index_in, indexes_of, version_test}
+use Rattle.thorin_input.specs.Used.{counts_once, elf_in, has_kind, unusable, used_bytes, used_from}
+use Rattle.thorin_input.specs.Used.{used_kind, with_used}
+use Rattle.thorin_join.specs.Meaning.{contributions_by, meaning_by, meaning_with, object_meaning}
+use Rattle.thorin_join.specs.Meaning.{placed_row, shared_kinds, source_meaning, unit_meaning}
+use Rattle.thorin.specs.MeaningRead.{has_index, lies_in, MeansByReader, unit_of_package}
+use Rattle.thorin.specs.MeaningRead.{unit_of_row, unit_with}
 use Rattle.std.proofs.Math.Bool.{and-false}
 use Rattle.std.proofs.lemmas.Slice.Eq.{bytes_eq-Decides}
 use Rattle.std.proofs.lemmas.List.Folds.{find-append}
@@ -176,7 +176,7 @@ module _ (source : Source) (pack : Package) (alike : IsReadAs source.object sour
   unfolding row_bytes
   with-alike bytes row (Ok strings) = λ i. Some (record {
     bytes = bytes;
-    pieces = pieces_by (λ kind. part_of (alike.each kind i) (range_in row kind));
+    contributions = contributions_by (λ kind. part_of (alike.each kind i) (range_in row kind));
     strings = strings;
     encoding = source.encoding;
   })
@@ -203,7 +203,7 @@ module _ (source : Source) (pack : Package) (alike : IsReadAs source.object sour
   unfolding unit_meaning
   unit-alike read = rw packed (λ i. option_and_then (λ row.
       row-alike read.1.unit.whole.bytes row i)
-      (placed_row (index-alike read.0 i) read.1.from (own_range read.1.unit)))
+      (placed_row (index-alike read.0 i) read.1.from (own_contribution read.1.unit)))
 
 object-read : (bytes : List ℕ) (pack : Package)
     (meanings : List (DwarfObject × Option Meaning)) (file : Elf) → package_of bytes ≡ Ok pack

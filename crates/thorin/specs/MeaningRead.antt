@@ -1,22 +1,22 @@
 -- What a package means as an input, in the terms of the reader of packages (DWARF 5, 7.3.5; the GNU
 -- page DebugFissionDWP).
-use Rattle.std.specs.Prelude.{◌≡◌, ℕ, Bool, ◌||◌, List, map, find, is_none, is_some, Option, Some}
-use Rattle.std.specs.Prelude.{None, Result, Ok, Err, if◌then◌else◌}
+use Rattle.std.specs.Prelude.{Bool, Err, find, if◌then◌else◌, is_none, is_some, List, map, None, Ok}
+use Rattle.std.specs.Prelude.{Option, Result, Some, ℕ, ◌||◌, ◌≡◌}
 use Rattle.std.specs.Option.{option_and_then}
-use Rattle.dwp_base.specs.declared.section.SectionKind.TheVariants.{StrOffsets, Str}
+use Rattle.dwp_base.specs.declared.section.SectionKind.TheVariants.{Str, StrOffsets}
 use Rattle.dwp_bytes.specs.declared.encoding.Encoding.{Encoding}
 use Rattle.dwp_bytes.specs.declared.error.ReadError.{ReadError}
 use Rattle.dwp_elf_read.specs.Elf.{Elf}
 use Rattle.dwp_index.specs.Contents.{content}
-use Rattle.dwp_index.specs.Index.{Ranges, range_in}
-use Rattle.dwp_index.specs.Package.{Package, is_outside, row_bytes, index_for}
+use Rattle.dwp_index.specs.Index.{range_in, Ranges}
+use Rattle.dwp_index.specs.Package.{index_for, is_outside, Package, row_bytes}
 use Rattle.dwp_table.specs.declared.object.DwarfObject.{DwarfObject}
 use Rattle.thorin_input.specs.Encodings.{encoding_of}
 use Rattle.thorin_input.specs.Indexes.{Source}
-use Rattle.thorin_input.specs.Rows.{own_range}
-use Rattle.thorin_input.specs.Used.{opened, input_file_of}
-use Rattle.thorin_join.specs.Meaning.{Meaning, UnitRead, pieces_by, shared_kinds, placed_row}
-use Rattle.thorin_join.specs.Meaning.{source_units}
+use Rattle.thorin_input.specs.Rows.{own_contribution}
+use Rattle.thorin_input.specs.Used.{input_file_of, opened}
+use Rattle.thorin_join.specs.Meaning.{contributions_by, Meaning, placed_row, shared_kinds}
+use Rattle.thorin_join.specs.Meaning.{source_units, UnitRead}
 use Rattle.thorin_join.specs.Strings.{strings_of}
 
 -- a package has an index
@@ -34,7 +34,7 @@ abbrev pub unit_with : Package → Encoding → List ℕ → Ranges → Result (
     → Option Meaning
 unit_with pack encoding bytes row (Ok strings) = Some (record {
   bytes = bytes;
-  pieces = pieces_by (row_bytes pack.contents row);
+  contributions = contributions_by (row_bytes pack.contents row);
   strings = strings;
   encoding = encoding;
 })
@@ -54,7 +54,7 @@ unit_of_row pack encoding bytes row =
 abbrev pub unit_of_package : Package → Encoding → DwarfObject × UnitRead → Option Meaning
 unit_of_package pack encoding read =
     option_and_then (λ row. unit_of_row pack encoding read.1.unit.whole.bytes row)
-    (placed_row (index_for pack read.0) read.1.from (own_range read.1.unit))
+    (placed_row (index_for pack read.0) read.1.from (own_contribution read.1.unit))
 
 -- what bytes mean as an input is read of a package: each unit that stands in their sections, in
 -- file order, has what stands in the package's row of its place

@@ -151,9 +151,9 @@ pub fn refused_packages_mean_what_is_read()
 
 /// The law of any package that has an index, as an input, taken or refused. Where it means any
 /// unit, each unit that stands in its sections means what a reader of packages finds in the unit's
-/// row: its pieces, and its strings, read with the input's encoding. Its row is the one in the
-/// index of its kind that names the unit's place. A unit means nothing where there is no such row,
-/// where a range lies outside its section, or where a string can't be read. It does nothing.
+/// row: its contributions, and its strings, read with the input's encoding. Its row is the one in
+/// the index of its kind that names the unit's place. A unit means nothing where there is no such
+/// row, where a range lies outside its section, or where a string can't be read. It does nothing.
 pub fn packages_mean_what_is_read()
     ensures { (bytes : List ℕ) (pack : Package) (meant : List (DwarfObject × Option Meaning))
         → package_of bytes ≡ Ok pack

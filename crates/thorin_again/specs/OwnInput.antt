@@ -11,7 +11,7 @@ use Rattle.dwp_elf_read.specs.Elf.{elf_of}
 use Rattle.thorin_join.specs.Builder.{State, finish_test, IsFinishedState, with_source_or_new}
 use Rattle.thorin_join.specs.Builder.{with_input}
 use Rattle.thorin_input.specs.Encodings.{encoding_of}
-use Rattle.thorin_input.specs.Growing.{Contents}
+use Rattle.dwp_elf.specs.Growing.{Contents}
 use Rattle.thorin_input.specs.Indexes.{Indexes, Source, is_package, indexes_of}
 use Rattle.thorin_again.specs.OwnUnits.{AllOf}
 use Rattle.thorin_input.specs.Format.{is_in_format}

@@ -20,10 +20,11 @@ use Rattle.thorin_index.specs.declared.entry.IndexEntry.{IndexEntry}
 use Rattle.thorin_strings.specs.StringOffsets.{header_of}
 use Rattle.dwp_strings.specs.Strings.{IsTable, data_of}
 use Rattle.thorin_join.specs.Builder.{State}
-use Rattle.thorin_input.specs.Growing.{Contents}
+use Rattle.dwp_elf.specs.Growing.{Contents}
 use Rattle.thorin_input.specs.Format.{is_shared}
 use Rattle.thorin_join.specs.StandApart.{EachRow}
-use Rattle.thorin_join.specs.State.{InProgress, unit_bytes}
+use Rattle.thorin_input.specs.Held.{unit_bytes}
+use Rattle.thorin_join.specs.State.{InProgress}
 
 -- each shared section that has bytes has a part that some row names
 abbrev pub HasNamedParts : InProgress → Type 0

@@ -8,8 +8,8 @@ ghost use Rattle.thorin_join.specs.Represents.{IsSoundBegun, units_in};
 
 /// The law of packing again: where each unit of a finished package has the encoding of the first
 /// that is read of its file, the written bytes, wherever they are taken as an input, mean just
-/// these units: each once, with the same bytes, pieces, strings and encoding, in some order (that
-/// of the file's sections). It does nothing.
+/// these units: each once, with the same bytes, contributions, strings and encoding, in some order
+/// (that of the file's sections). It does nothing.
 pub fn written_packages_mean_their_units()
     ensures { (state : State) (file : Object)
         → IsSoundBegun state.begun

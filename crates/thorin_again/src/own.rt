@@ -1,4 +1,5 @@
-//! Packages of the builder's own as inputs, as laws.
+//! A written package as an input up to where its sections are taken, and the one encoding that a
+//! builder keeps, as laws.
 
 ghost use Rattle.std.specs.Prelude.{◌≡◌, ℕ, List, ◌++◌, Option, Ok};
 ghost use Rattle.dwp_base.specs.declared.endian.Endianness.{Endianness};
@@ -10,7 +11,7 @@ ghost use Rattle.dwp_elf.specs.FileText.{Object};
 ghost use Rattle.dwp_table.specs.declared.object.DwarfObject.{DwarfObject};
 ghost use Rattle.thorin_identity.specs.Identity.{identity};
 ghost use Rattle.thorin_join.specs.Builder.{State, order_of, taken};
-ghost use Rattle.thorin_input.specs.Growing.{Contents};
+ghost use Rattle.dwp_elf.specs.Growing.{Contents};
 ghost use Rattle.thorin_input.specs.Indexes.{Source};
 ghost use Rattle.thorin_again.specs.OwnInput.{written_used, IsOwn, TakesUpToParts, CanTake};
 ghost use Rattle.thorin_again.specs.OwnInput.{TakesParts};

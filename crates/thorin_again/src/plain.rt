@@ -1,5 +1,5 @@
-//! Packages of plain objects of one encoding, and own packages as inputs: what is kept, rewritten,
-//! taken and accepted, as laws.
+//! A finished and written package as an input, where it packs again: what of it is rewritten and
+//! taken, and that it is accepted, by a new builder too, as laws.
 
 ghost use Rattle.std.specs.Prelude.{◌≡◌, ℕ, List, Some, Ok};
 ghost use Rattle.dwp_base.specs.declared.section.SectionKind.TheVariants.{StrOffsets};
@@ -8,7 +8,7 @@ ghost use Rattle.dwp_elf.specs.Contents.{content_of};
 ghost use Rattle.dwp_elf.specs.FileText.{Object};
 ghost use Rattle.dwp_strings.specs.Strings.{IsTable};
 ghost use Rattle.thorin_join.specs.Builder.{State, IsFinishedState, finish_test, taken};
-ghost use Rattle.thorin_input.specs.Growing.{Contents};
+ghost use Rattle.dwp_elf.specs.Growing.{Contents};
 ghost use Rattle.thorin_input.specs.Indexes.{Indexes, indexes_of};
 ghost use Rattle.thorin_again.specs.OwnAccepted.{IsAcceptedByNewOnceWritten, IsAcceptedOnceWritten};
 ghost use Rattle.thorin_again.specs.OwnInput.{written_object, own_source, IsOwn};

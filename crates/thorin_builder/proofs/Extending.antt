@@ -5,7 +5,7 @@ use Terms.{map, map-append, New, new_units, Ok, parts_of, refl, Result, rules, S
 use Terms.{take-append_seam, take-length, true, with_all, with_source, ℕ, ◌∷◌, ◌≡◌}
 use Rattle.dwp_table.specs.declared.object.DebugTypeSignature.{DebugTypeSignature}
 use Rattle.std.specs.Result.{OnOk, OnErr, is_err}
-use Rattle.thorin_input.specs.Growing.{Begins}
+use Rattle.dwp_elf.specs.Growing.{Begins}
 use Rattle.thorin_join.specs.State.{abbreviations_test, adding}
 
 -- the signatures of type units, once more are added
@@ -64,11 +64,6 @@ with_source-is source p parts new hp ha hn =
 -- what holds of no error
 pub no_err : {T E : Type 0} (P : Type 0) (r : Result T E) → is_err r ≡ false → OnErr r P
 no_err P r h = grind rules
-
--- what follows of a value and of an error follows of both
-pub either_way : {T E : Type 0} (r : Result T E) (P Q R : Type 0) → OnOk r P → OnErr r Q → (P → R)
-    → (Q → R) → R
-either_way r P Q R p q f g = grind rules
 
 -- what follows of two facts of a value
 pub on_ok-both : {T E : Type 0} (r : Result T E) (P Q R : Type 0) → OnOk r P → OnOk r Q

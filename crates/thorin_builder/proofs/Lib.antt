@@ -1,5 +1,5 @@
 pub mod Terms
-pub mod NewUnitLemmas
+pub mod Names
 pub mod Extending
 pub mod Running
 pub mod AddedAgain

@@ -6,9 +6,13 @@ use Terms.{sym, take, take-append-add, take-length, units_in, ℕ, ◌∙◌, �
 use Rattle.std.proofs.lemmas.List.{length-append}
 use Rattle.std.specs.declared.io.Error.{Error as IoError}
 use Rattle.thorin_errors.specs.Errors.{Memory}
+use Rattle.thorin_errors.specs.declared.error.InputError.{InputError}
+use Rattle.thorin_errors.specs.declared.error.InputError.TheVariants as input
 use Rattle.thorin_errors.specs.declared.error.MissingReferencedObjectBehaviour.{MissingReferencedObjectBehaviour}
 use Rattle.thorin_executable.specs.Skeletons.{Listed}
-use Rattle.thorin_builder.specs.Taking.{Outcome, TakesSkeleton, TakesSkeletons, TakesNamed, came}
+use Rattle.thorin_sessions.specs.Sessions.{IsOffered}
+use Rattle.thorin_builder.specs.Taking.{came, MayRead, Outcome, TakesNamed, TakesSkeleton}
+use Rattle.thorin_builder.specs.Taking.{TakesSkeletons}
 use Rattle.thorin_join.proofs.Units.InRows.{keys-units}
 
 abbrev pub Offer : Type 1
@@ -102,3 +106,9 @@ module _ (offer : Offer) (missing : MissingReferencedObjectBehaviour) (all : Lis
 -- the names of a builder's units
 pub names-begun : (state : State) → keys (units_in state) ≡ names_in state.begun
 names-begun state = grind (rules, keys-units)
+
+-- what a read may answer where it failed
+pub may-read : (offered : Result (List ℕ) IoError → Type 0) (e : InputError)
+    → IsOffered offered (Err e) → MayRead offered (Err e)
+may-read offered (input.Io cause) is = is
+may-read offered input.Memory is = tt

@@ -1,4 +1,3 @@
-pub mod UnitView
 pub mod StateView
 pub mod Building
 pub mod BuilderView

@@ -7,7 +7,8 @@ use Rattle.indexmap.specs.IndexMap.{insert_entry}
 use Rattle.dwp_bytes.specs.declared.encoding.Encoding.{Encoding}
 use Rattle.dwp_table.specs.declared.object.DwarfObject.{DwarfObject}
 use Rattle.thorin_input.specs.Encodings.{own_encoding}
-use Rattle.thorin_input.specs.Growing.{Contents, with_parts}
+use Rattle.dwp_elf.specs.Growing.{Contents}
+use Rattle.thorin_input.specs.Parts.{with_parts}
 use Rattle.thorin_input.specs.Indexes.{Source}
 use Rattle.thorin_input.specs.NewUnits.{new_units}
 use Rattle.thorin_input.specs.Parts.{parts_of}

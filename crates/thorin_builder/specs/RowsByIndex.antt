@@ -5,9 +5,11 @@ use Rattle.thorin_builder.specs.declared.state.Index.TheVariants.{Compilations, 
 use Rattle.thorin_index.specs.declared.entry.IndexEntry.{IndexEntry}
 use Rattle.thorin_join.specs.Builder.{rows_of}
 
-abbrev pub has_compilations : Index → Bool
-has_compilations Compilations = true
-has_compilations TypeUnits = false
+-- whether an index is that of the compilation units
+abbrev pub is_of_compilations : Index → Bool
+is_of_compilations Compilations = true
+is_of_compilations TypeUnits = false
 
+-- the rows that stand in an index, in their order
 abbrev pub rows_in : Index → List IndexEntry → List IndexEntry
-rows_in index rows = rows_of (has_compilations index) rows
+rows_in index rows = rows_of (is_of_compilations index) rows

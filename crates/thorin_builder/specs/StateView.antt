@@ -12,8 +12,8 @@ in_progress_of p = record {
   differing = map (λ s. s.0) p.differing.items;
 }
 
-abbrev pub mark_in : Mark → Amount
-mark_in m = record {
+abbrev pub amount_in : Mark → Amount
+amount_in m = record {
   lengths = m.lengths.items;
   strings = m.strings.strings;
   rows = m.rows;

@@ -36,13 +36,14 @@ abbrev pub accepted_of : Outcome → List ℕ → List (List ℕ)
 accepted_of (Ok x) bytes = bytes ∷ []
 accepted_of (Err e) bytes = []
 
--- what came of a call that takes inputs: its outcome, the state behind it, and the bytes of those
--- that were accepted
+-- what came of a call that takes inputs: its outcome, the state after it, and the bytes of each
+-- input that it accepted
 pub record Came : Type 0 where
   pub outcome : Outcome
   pub new : State
   pub accepted : List (List ℕ)
 
+-- the same, put together of these three
 abbrev pub came : Outcome → State → List (List ℕ) → Came
 came outcome new accepted = record { outcome = outcome; new = new; accepted = accepted }
 
@@ -109,12 +110,12 @@ pub record CanBePassedOver (offered : Result (List ℕ) IoError → Type 0)
   pub fails : offered (Err cause)
   pub skips : missing ≡ behaviour.Skip
 
--- that is known, or nothing is
+-- an object is told as unread only where its read can be passed over
 abbrev pub IsUnread : (Result (List ℕ) IoError → Type 0) → MissingReferencedObjectBehaviour → Bool
     → Type 0
 IsUnread offered missing is_unread = IsTrue is_unread → CanBePassedOver offered missing
 
--- the same for the object at a path, of which that may be read
+-- what a read of such an object gave was taken, by its path, of which that may be read
 pub record TakesReferredFile (offered : Result (List ℕ) IoError → Type 0) (missing :
     MissingReferencedObjectBehaviour) (old : State) (outcome : Outcome) (new : State) : Type 0 where
   pub read : Result (List ℕ) InputError

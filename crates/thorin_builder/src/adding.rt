@@ -72,7 +72,7 @@ fn add_source(
 
 /// Adds an input with units, and gives the one encoding of all of them, where there is one.
 #[tactic(auto, unfolding(thorin_join::specs::Builder::with_units, thorin_input::specs::Encodings::file_encoding))]
-fn add_units(
+fn add_input_with_units(
     alloc: Global,
     in_progress: &mut Option<InProgressDwarfPackage>,
     file: &ElfFile<'_>,
@@ -120,7 +120,7 @@ pub(crate) fn add_input(
     let walked = Walked::over(alloc, &file);
     if walked.with_units {
         let object = walked.input?;
-        return add_units(alloc, in_progress, &file, object);
+        return add_input_with_units(alloc, in_progress, &file, object);
     }
     if in_progress.is_none() {
         *in_progress = Some(begun_by(alloc, &file));

@@ -150,11 +150,8 @@ impl<'output, 'session: 'output, Sess: Session<RelocationEntry>> DwarfPackage<
         ensures session { self.new.session ≡ self.old.session }
     {
         let mut executable = Vec::new(self.allocator());
-        match reader.read_into(path, &mut executable) {
-            Ok(bytes) => self.add_named(reader, room, bytes, missing, nameless),
-            Err(InputError::Io(cause)) => Err(Error::ReadInput(cause)),
-            Err(InputError::Memory) => Err(Error::Memory),
-        }
+        let bytes = reader.read_into(path, &mut executable)?;
+        self.add_named(reader, room, bytes, missing, nameless)
     }
 
     /// Adds the objects of the units that an executable's bytes refer to.

@@ -6,12 +6,10 @@ mod adding;
 mod executables;
 mod in_progress;
 mod missing;
-mod new_units;
 mod package;
 mod reader;
 mod repeated;
 mod state;
-mod units;
 
 pub use in_progress::InProgressDwarfPackage;
 pub use missing::MissingTargets;

@@ -36,7 +36,7 @@ use thorin_again::{
     one_encoding_is_kept, own_packages_are_accepted, own_packages_are_accepted_by_a_new_one,
     plain_packages_are_kept,
 };
-use thorin_errors::{Error, InputError};
+use thorin_errors::Error;
 use thorin_input::common;
 use thorin_join::{finished_packages_are_read, inputs_are_joined};
 use thorin_sessions::Session;
@@ -134,11 +134,8 @@ impl<'output, 'session: 'output, Sess: Session<RelocationEntry>> DwarfPackage<
             self.new.state }
         ensures session { self.new.session ≡ self.old.session }
     {
-        match reader.read_into(path, room) {
-            Ok(bytes) => self.add_object_bytes(bytes),
-            Err(InputError::Io(e)) => Err(Error::ReadInput(e)),
-            Err(InputError::Memory) => Err(Error::Memory),
-        }
+        let bytes = reader.read_into(path, room)?;
+        self.add_object_bytes(bytes)
     }
 
     /// Adds an object or a finished package: its units that aren't contained, with all that belongs

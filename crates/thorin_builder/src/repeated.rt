@@ -3,22 +3,23 @@
 
 ghost use Rattle.std.specs.Prelude.{◌≡◌, map, Some, OnOk, OnErr, IfOk, IfErr, IfSome};
 ghost use Rattle.dwp_elf.specs.FileText.{Object};
-ghost use Rattle.thorin_input.specs.Growing.{IsGrown, with_parts};
+ghost use Rattle.dwp_elf.specs.Growing.{IsGrown};
+ghost use Rattle.thorin_input.specs.Parts.{with_parts};
 ghost use Rattle.thorin_input.specs.View as view;
 ghost use Rattle.thorin_builder.specs.Repeated.{AddsAgain, AddsNoUnit, with_more};
 ghost use Rattle.thorin_builder.specs.StateView.{in_progress_of};
 ghost use Rattle.thorin_join.specs.State as spec;
 
 use crate::in_progress::InProgressDwarfPackage;
-use crate::new_units::NewUnits;
 use crate::reader::Repetition;
-use crate::units::Adding;
 use dwp_elf::WritableObject;
 use dwp_table::DebugTypeSignature;
 use std::alloc::Global;
 use std::path::Path;
 use thorin_errors::Error;
-use thorin_input::{Indexes, Part, PartBytes, Source, Walked, Whole, opened, parts_of, put};
+use thorin_input::{
+    Adding, Indexes, NewUnits, Part, PartBytes, Source, Walked, Whole, opened, parts_of,
+};
 
 /// What an input adds to a package each time that it is taken, where that is no unit and no string:
 /// parts of sections, and the signatures of its type units that differ from those kept.
@@ -44,7 +45,7 @@ impl Repeated {
 }
 
 /// Adds parts to the contents of a package, in order. It refuses for memory alone.
-#[tactic(auto, unfolding(thorin_input::specs::Growing::with_parts))]
+#[tactic(auto, unfolding(thorin_input::specs::Parts::with_parts))]
 fn put_each(file: &mut WritableObject, parts: &[Part<'_>]) -> Result<(), Error>
     ensures contents { OnOk result (file.new ≡ record file.old {
       contents = with_parts (map view.part parts.now) file.old.contents;
@@ -53,7 +54,7 @@ fn put_each(file: &mut WritableObject, parts: &[Part<'_>]) -> Result<(), Error>
     ensures grown { (before : Object) → IsGrown before file.old → IsGrown before file.new }
 {
     for part in parts {
-        put(file, part.kind, part.bytes())?;
+        file.append(part.kind, part.bytes())?;
     }
     Ok(())
 }
@@ -128,10 +129,11 @@ impl InProgressDwarfPackage {
             return Ok(None);
         }
         let whole = Whole::of(source.encoding, &self.object, &parts)?;
+        let held = self.held();
         let adding = Adding {
             source,
             whole,
-            package: &*self,
+            held,
         };
         let new = NewUnits::read(alloc, &adding)?;
         if !new.units.is_empty() {

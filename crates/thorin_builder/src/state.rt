@@ -1,9 +1,8 @@
 //! A package while it is made: adding a source's units, taking them back, and finishing with
 //! strings and indexes.
 
-ghost use Rattle.std.specs.Prelude.{◌≡◌, ℕ, ◌<◌, ◌^◌, List, map, length, take, option_map, Some};
-ghost use Rattle.std.specs.Prelude.{IfOk, IfErr, OnOk, OnErr, true};
-ghost use Rattle.std.specs.Map.{lookup};
+ghost use Rattle.std.specs.Prelude.{◌≡◌, ◌≢◌, ℕ, ◌<◌, ◌^◌, List, map, length, take, Some};
+ghost use Rattle.std.specs.Prelude.{IfOk, IfErr, OnOk, OnErr, true, false};
 ghost use Rattle.dwp_table.specs.Objects.{identifier_of};
 ghost use Rattle.thorin_errors.specs.Answers.{Gives};
 ghost use Rattle.thorin_index.specs.EntryTests.{index_tests};
@@ -11,27 +10,25 @@ ghost use Rattle.thorin_index.specs.IndexText.{IsIndexOf};
 ghost use Rattle.dwp_strings.specs.Marks.{mark_of};
 ghost use Rattle.thorin_join.specs.Builder.{IsFinished, indexes_test, IdentifiersFit};
 ghost use Rattle.thorin_input.specs.Encodings.{are_alike};
-ghost use Rattle.thorin_input.specs.Names.{same_name, is_compilation};
+ghost use Rattle.thorin_input.specs.Names.{is_compilation};
 ghost use Rattle.thorin_again.specs.Own.{has_sections};
 ghost use Rattle.thorin_join.specs.State as spec;
-ghost use Rattle.thorin_builder.specs.RowsByIndex.{has_compilations, rows_in};
-ghost use Rattle.thorin_builder.specs.StateView.{in_progress_of, mark_in};
-ghost use Rattle.thorin_builder.specs.UnitView.{new_of};
+ghost use Rattle.thorin_builder.specs.RowsByIndex.{is_of_compilations, rows_in};
+ghost use Rattle.thorin_builder.specs.StateView.{amount_in, in_progress_of};
+ghost use Rattle.thorin_input.specs.UnitView.{held_in, new_of};
 ghost use Rattle.thorin_input.specs.View as view;
 
 use crate::in_progress::InProgressDwarfPackage;
-use crate::new_units::NewUnits;
-use crate::units::Adding;
 use dwp_base::{Class, Endianness, SectionKind};
 use dwp_dwarf::UnitSection;
 use dwp_elf::WritableObject;
-use dwp_index::part_of;
+use dwp_index::kind_of;
 use dwp_table::{DebugTypeSignature, DwarfObject};
 use indexmap::IndexSet;
 use std::alloc::Global;
 use thorin_errors::Error;
 use thorin_index::{IndexEntry, IndexRows, write_rows};
-use thorin_input::{Source, Whole, content, lengths, parts_of, put, put_moved, put_parts, restore};
+use thorin_input::{Adding, Held, NewUnits, Source, Whole, parts_of, put_parts};
 use thorin_strings::{PackageStringTable, TableMark};
 
 /// How much of a package there was, to go back to.
@@ -42,29 +39,6 @@ pub(crate) struct Mark {
     strings: TableMark,
     rows: usize,
     differing: usize,
-}
-
-/// The section of a place.
-fn kind_at(place: UnitSection) -> SectionKind
-    ensures { result ≡ spec.kind_at place }
-{
-    match place {
-        UnitSection::Info => SectionKind::Info,
-        UnitSection::Types => SectionKind::Types,
-    }
-}
-
-/// The bytes of the unit of a row: its range of types, where it is a type unit and has one, else of
-/// info.
-fn unit_bytes<'p>(object: &'p WritableObject, row: &IndexEntry) -> &'p [u8]
-    ensures { result.now ≡ spec.unit_bytes object.now.contents row.now }
-{
-    match (row.id, row.debug_types) {
-        (DwarfObject::TypeUnit(_), Some(range)) => {
-            part_of(content(object, SectionKind::Types), Some(range))
-        }
-        _ => part_of(content(object, SectionKind::Info), row.debug_info),
-    }
 }
 
 impl InProgressDwarfPackage {
@@ -119,20 +93,20 @@ impl InProgressDwarfPackage {
     pub(crate) fn has_sections(&self) -> bool
         ensures { result ≡ has_sections (Some (in_progress_of self.now)) }
     {
-        let has_offsets = !content(&self.object, SectionKind::StrOffsets).is_empty();
-        !content(&self.object, SectionKind::Abbrev).is_empty()
+        let has_offsets = !self.object.content(SectionKind::StrOffsets).is_empty();
+        !self.object.content(SectionKind::Abbrev).is_empty()
             && (!has_offsets || self.strings.len() > 0)
     }
 
-    /// The bytes of the unit of a name.
-    pub(crate) fn bytes_of(&self, name: DwarfObject) -> Option<&[u8]>
-        ensures { option_map (λ bytes. bytes.now) result
-            ≡ lookup (same_name name) (spec.held_units (in_progress_of self.now)) }
+    /// What it has, for the units of an input to be added to.
+    pub(crate) fn held(&self) -> Held<'_>
+        ensures { held_in result ≡ spec.held_units (in_progress_of self.now) }
     {
-        let Some(place) = self.names.get_index_of(&name) else {
-            return None;
-        };
-        Some(unit_bytes(&self.object, &self.rows.entry(place)))
+        Held {
+            object: &self.object,
+            names: &self.names,
+            rows: &self.rows,
+        }
     }
 
     /// Adds the units of an input with all that belongs to them. Gives whether each of its units,
@@ -168,21 +142,22 @@ impl InProgressDwarfPackage {
             return Err(Error::MissingRequiredSection(SectionKind::Abbrev.name()));
         }
         let whole = Whole::of(source.encoding, &self.object, &parts)?;
+        let held = self.held();
         let adding = Adding {
             source,
             whole,
-            package: &*self,
+            held,
         };
         let new = NewUnits::read(alloc, &adding)?;
         put_parts(&mut self.object, parts)?;
         self.differing.extend_from_slice(&new.differing)?;
-        self.add_units(&new)?;
+        self.append_units(&new)?;
         Ok(new.alike)
     }
 
     /// Adds units. It refuses for memory alone.
     #[tactic(auto, unfolding(thorin_join::specs::State::with_new_units))]
-    fn add_units(&mut self, new: &NewUnits<'_>) -> Result<(), Error>
+    fn append_units(&mut self, new: &NewUnits<'_>) -> Result<(), Error>
         ensures meaning { OnOk result (in_progress_of self.new
             ≡ spec.with_new_units (in_progress_of self.old) (new_of new.now).units) }
         ensures refused { IfErr result (λ e. e ≡ Error.Memory) }
@@ -190,16 +165,21 @@ impl InProgressDwarfPackage {
             → spec.Extends before (in_progress_of self.new) }
     {
         for (name, unit) in new.units.iter() {
-            let mut row = new.rows[unit.row];
+            let mut row = new.rows[unit.row_number];
             row.id = *name;
-            self.add_unit(row, unit.place, unit.bytes)?;
+            self.append_unit(row, unit.place, unit.bytes)?;
         }
         Ok(())
     }
 
-    /// Adds a unit whose name isn't there. It refuses for memory alone.
+    /// Adds a unit, or nothing where its name is there already. It refuses for memory alone.
     #[tactic(auto, unfolding(thorin_join::specs::State::with_new_unit))]
-    fn add_unit(&mut self, row: IndexEntry, place: UnitSection, bytes: &[u8]) -> Result<(), Error>
+    fn append_unit(
+        &mut self,
+        row: IndexEntry,
+        place: UnitSection,
+        bytes: &[u8],
+    ) -> Result<(), Error>
         ensures meaning { OnOk result (in_progress_of self.new
             ≡ spec.with_new_unit (in_progress_of self.old)
             (row.id, record { place = place; bytes = bytes.now; row = row })) }
@@ -210,7 +190,7 @@ impl InProgressDwarfPackage {
         if self.names.contains(&row.id) {
             return Ok(());
         }
-        let range = put(&mut self.object, kind_at(place), bytes)?;
+        let range = self.object.append(kind_of(place), bytes)?;
         let mut row = row;
         match place {
             UnitSection::Info => row.debug_info = range,
@@ -229,25 +209,25 @@ impl InProgressDwarfPackage {
 
     /// How much of the package there is. It refuses for memory alone.
     pub(crate) fn mark(&self) -> Result<Mark, Error>
-        ensures mark { IfOk result (λ mark. mark_in mark ≡ spec.mark_of (in_progress_of self.now)) }
+        ensures mark { IfOk result (λ mark. amount_in mark ≡ spec.amount_of (in_progress_of self.now)) }
         ensures strings { IfOk result (λ mark. mark.strings ≡ mark_of self.now.strings) }
         ensures refused { IfErr result (λ e. e ≡ Error.Memory) }
     {
         Ok(Mark {
-            lengths: lengths(self.alloc, &self.object)?,
+            lengths: self.object.lengths()?,
             strings: self.strings.mark(),
             rows: self.rows.len(),
             differing: self.differing.len(),
         })
     }
 
-    /// Takes back what was added since.
+    /// Takes back what was added since the mark.
     pub(crate) fn restore(&mut self, mark: &Mark)
         requires { mark.now.strings ≡ mark_of (take mark.now.strings.strings self.old.strings) }
         ensures { (before : spec.InProgress) → spec.Extends before (in_progress_of self.old)
-            → mark_in mark.now ≡ spec.mark_of before → in_progress_of self.new ≡ before }
+            → amount_in mark.now ≡ spec.amount_of before → in_progress_of self.new ≡ before }
     {
-        restore(&mut self.object, &mark.lengths);
+        self.object.truncate(&mark.lengths);
         self.strings.truncate(mark.strings);
         self.rows.truncate(mark.rows);
         self.differing.truncate(mark.differing);
@@ -255,7 +235,7 @@ impl InProgressDwarfPackage {
     }
 
     /// The sections with the strings and both indexes, each where it isn't empty, and the
-    /// signatures of type units that differ. The sections refuse as `write_index` does.
+    /// signatures of type units that differ. The sections are refused where `write_rows` refuses rows.
     pub(crate) fn finish(self) -> (Result<WritableObject, Error>, Vec<DebugTypeSignature>)
         ensures refusal { Gives (λ _. tt) result.0 (indexes_test (in_progress_of self)) }
         ensures finished { IfOk result.0 (IsFinished (in_progress_of self)) }
@@ -281,7 +261,7 @@ enum Index {
     TypeUnits,
 }
 
-/// The bytes of an index. Refuses as `write_index` does.
+/// The bytes of the given index. Refused where `write_rows` refuses the rows.
 fn index_of(
     alloc: Global,
     order: Endianness,
@@ -300,8 +280,8 @@ fn index_of(
     write_rows(alloc, order, &chosen)
 }
 
-/// The sections with the strings and both indexes, each where it isn't empty. Refuses as
-/// `write_index` does.
+/// The sections with the strings and both indexes, each where it isn't empty. Refused where
+/// `write_rows` refuses rows.
 #[tactic(auto, unfolding(thorin_join::specs::Builder::indexes_test))]
 fn finished(
     alloc: Global,
@@ -323,15 +303,15 @@ fn finished(
     let order = object.endianness();
     let compilations = index_of(alloc, order, rows, Index::Compilations)?;
     let types = index_of(alloc, order, rows, Index::TypeUnits)?;
-    put_moved(&mut object, SectionKind::Str, strings.finish())?;
-    put_moved(&mut object, SectionKind::CuIndex, compilations)?;
-    put_moved(&mut object, SectionKind::TuIndex, types)?;
+    object.append_moved(SectionKind::Str, strings.finish())?;
+    object.append_moved(SectionKind::CuIndex, compilations)?;
+    object.append_moved(SectionKind::TuIndex, types)?;
     Ok(object)
 }
 
 /// The index in which a unit's row stands.
 fn index_with(name: DwarfObject) -> Index
-    ensures index { has_compilations result ≡ is_compilation name }
+    ensures index { is_of_compilations result ≡ is_compilation name }
     ensures identifier { identifier_of name < 2 ^ 64 }
 {
     match name {
@@ -340,9 +320,10 @@ fn index_with(name: DwarfObject) -> Index
     }
 }
 
-/// Whether all rows stand in an index.
+/// Whether all rows stand in the given index.
 fn are_all(rows: &IndexRows, index: Index) -> bool
     ensures all { result ≡ true → rows_in index rows.now ≡ rows.now }
+    ensures some { result ≡ false → rows_in index rows.now ≢ rows.now }
     ensures identifiers { result ≡ true → IdentifiersFit rows.now }
 {
     for place in 0..rows.len() {
@@ -353,7 +334,7 @@ fn are_all(rows: &IndexRows, index: Index) -> bool
     true
 }
 
-/// The rows that stand in an index.
+/// The rows that stand in the given index.
 fn rows_in(alloc: Global, rows: &IndexRows, index: Index) -> Result<IndexRows, Error>
     ensures rows { IfOk result (λ chosen. chosen ≡ rows_in index rows.now) }
     ensures identifiers { OnOk result (IdentifiersFit rows.now) }

@@ -1,4 +1,5 @@
-//! Taking the inputs in order, and what becomes of one that is refused.
+//! Taking the inputs of `pack` in order: one that is accepted is noted, and told where that is asked
+//! for; and what becomes of one that is refused.
 
 ghost use Rattle.std.specs.Prelude.{◌≡◌, Ok, OnOk};
 ghost use Rattle.thorin.specs.Run.{Took};

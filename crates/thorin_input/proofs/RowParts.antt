@@ -1,29 +1,30 @@
 -- The rows that units get, put together of the parts that are read for each kind of section.
-use Rattle.std.proofs.Common.{◌≡◌, ◌∙◌, cond, refl, sym, ap, Option, None, Some, Result, Ok, Err}
-use Rattle.std.proofs.Common.{slice_get, map-id}
+use Rattle.std.proofs.Common.{ap, cond, Err, map-id, None, Ok, Option, refl, Result, slice_get}
+use Rattle.std.proofs.Common.{Some, sym, ◌∙◌, ◌≡◌}
 use Rattle.std.proofs.lemmas.Option.{get_or_from_slice_get}
-use Rattle.dwp_base.specs.ByKind.{values_of, value_of, ReadsEach}
+use Rattle.dwp_base.specs.ByKind.{ReadsEach, value_of, values_of}
 use Rattle.dwp_base.specs.Reading.{Answers}
-use Rattle.dwp_base.specs.Sections.{rank_of, all_kinds}
+use Rattle.dwp_base.specs.Sections.{all_kinds, rank_of}
 use Rattle.dwp_base.specs.declared.by_kind.ByKind.{ByKind}
 use Rattle.dwp_base.specs.declared.section.Contribution.{Contribution}
 use Rattle.dwp_base.specs.declared.section.SectionKind.{SectionKind}
 use Rattle.dwp_base.proofs.Bools.{by-bool}
 use Rattle.dwp_base.proofs.EveryKind.{same-each}
 use Rattle.dwp_base.proofs.KindsRead.{answers-each}
-use Rattle.dwp_base.proofs.Steps.{bind-ok, bind-err, each-read}
+use Rattle.dwp_base.proofs.Steps.{bind-err, bind-ok, each-read}
 use Rattle.dwp_bytes.specs.declared.encoding.Encoding.{Encoding}
 use Rattle.dwp_table.specs.declared.object.DwarfObject.{DwarfObject}
 use Rattle.dwp_table.specs.declared.object.DwarfObject.TheVariants.{Compilation}
-use Rattle.thorin_errors.specs.Errors.{ErrorValue, error_of}
+use Rattle.thorin_errors.specs.Errors.{error_of, ErrorValue}
 use Rattle.thorin_errors.specs.declared.error.Error.{Error}
 use Rattle.thorin_index.specs.Entries.{contribution_to, entry_by}
 use Rattle.thorin_index.specs.declared.entry.IndexEntry.{IndexEntry}
 use Rattle.thorin_input.specs.Adjusting.{adjusted, GivesExactly}
 use Rattle.thorin_input.specs.Format.{is_shared}
-use Rattle.thorin_input.specs.Growing.{Contents, joined_parts, range_put}
+use Rattle.dwp_elf.specs.Growing.{Contents, contribution_put}
+use Rattle.thorin_input.specs.Parts.{joined_parts}
 use Rattle.thorin_input.specs.Indexes.{Indexes}
-use Rattle.thorin_input.specs.Rows.{whole_row, unit_part, unit_row}
+use Rattle.thorin_input.specs.Rows.{unit_contribution, unit_row, whole_row}
 use Rattle.thorin_input.specs.WholeFits.{EndFits, EndsFit}
 
 -- ---- where whole sections come to lie
@@ -41,7 +42,7 @@ known P values read kind default =
 
 abbrev range_of_whole : Contents → Contents → SectionKind → Option Contribution
 range_of_whole before parts kind =
-    cond (is_shared kind) (range_put kind (joined_parts kind parts) before) None
+    cond (is_shared kind) (contribution_put kind (joined_parts kind parts) before) None
 
 pub whole-is : (encoding : Encoding) (before parts : Contents)
     (ranges : ByKind (Option Contribution))
@@ -71,13 +72,13 @@ pub plain-row : (indexes : Indexes) (whole : IndexEntry) (name : DwarfObject)
 unfolding unit_row adjusted
 plain-row indexes whole name compilations types =
     bind-ok _ _ (λ parts. Ok (entry_by whole.encoding name (value_of None parts)))
-    (each-read (λ kind. unit_part indexes name kind (contribution_to kind whole))
+    (each-read (λ kind. unit_contribution indexes name kind (contribution_to kind whole))
     (λ kind. contribution_to kind whole) (λ kind. by-bool _ (is_shared kind)
     (λ e. rw (e, compilations, types) refl) (λ e. rw e refl)) all_kinds)
 
 module _ (indexes : Indexes) (whole : IndexEntry) (name : DwarfObject) where
   abbrev part : SectionKind → Result (Option Contribution) ErrorValue
-  part kind = unit_part indexes name kind (contribution_to kind whole)
+  part kind = unit_contribution indexes name kind (contribution_to kind whole)
 
   -- what a call answered for a kind is what the definition says
   abbrev pub PartRead : SectionKind → Result (Option Contribution) Error → Type 0

@@ -1,7 +1,7 @@
--- Where a unit's part of a section of an input package comes to lie in the output (DWARF 5,
+-- Where a unit's contribution to a section of an input package comes to lie in the output (DWARF 5,
 -- 7.3.5.3).
-use Rattle.std.specs.Prelude.{◌≡◌, ℕ, ◌+◌, Bool, false, ◌&&◌, Option, Some, None, is_some, is_none}
-use Rattle.std.specs.Prelude.{Result, Ok, Err, nat_le, if◌then◌else◌}
+use Rattle.std.specs.Prelude.{Bool, Err, false, if◌then◌else◌, is_none, is_some, nat_le, None, Ok}
+use Rattle.std.specs.Prelude.{Option, Result, Some, ℕ, ◌&&◌, ◌+◌, ◌≡◌}
 use Rattle.dwp_base.specs.declared.section.SectionKind.{SectionKind}
 use Rattle.dwp_base.specs.declared.section.Contribution.{Contribution}
 use Rattle.dwp_base.specs.Reading.{◌>>=◌}
@@ -10,9 +10,9 @@ use Rattle.dwp_table.specs.declared.object.DwarfObject.{DwarfObject}
 use Rattle.dwp_table.specs.declared.object.DwarfObject.TheVariants.{Compilation, TypeUnit}
 use Rattle.dwp_table.specs.Objects.{identifier_of}
 use Rattle.dwp_table.specs.Probing.{found_row}
-use Rattle.dwp_index.specs.Index.{Index, Ranges, row_in, column_place, range_in}
-use Rattle.thorin_errors.specs.Errors.{ErrorValue, error_of, UnitNotInIndex, RowNotInIndex}
-use Rattle.thorin_errors.specs.Errors.{SectionNotInRow, BadContribution}
+use Rattle.dwp_index.specs.Index.{column_place, Index, range_in, Ranges, row_in}
+use Rattle.thorin_errors.specs.Errors.{BadContribution, error_of, ErrorValue, RowNotInIndex}
+use Rattle.thorin_errors.specs.Errors.{SectionNotInRow, UnitNotInIndex}
 use Rattle.thorin_errors.specs.Answers.{as_error}
 use Rattle.thorin_errors.specs.declared.error.Error.{Error}
 
@@ -72,22 +72,22 @@ abbrev pub without_column : Option Contribution → Result (Option Contribution)
 without_column None = Ok None
 without_column (Some whole) = Err SectionNotInRow
 
--- the unit's part, by its row: its index has the section's column, or the other index has it, or
--- neither
-abbrev pub part_by_row : Adjustor → DwarfObject → Option Contribution → Ranges
+-- the unit's contribution, by its row: its index has the section's column, or the other index has
+-- it, or neither
+abbrev pub contribution_by_row : Adjustor → DwarfObject → Option Contribution → Ranges
     → Result (Option Contribution) ErrorValue
-part_by_row a unit whole row =
+contribution_by_row a unit whole row =
     if has_column_for a.section (own_index a unit)
     then moved_range a.section (identifier_of unit) (range_in row a.section) whole
     else (if has_column_for a.section (other_index a unit) then Ok None
     else without_column whole)
 
--- the unit's part of the section, which as a whole lies there in the output
+-- the unit's contribution to the section, which as a whole lies there in the output
 unfoldable pub adjusted : Adjustor → DwarfObject → Option Contribution
     → Result (Option Contribution) ErrorValue
 adjusted a unit whole =
     if is_none a.compilation && is_none a.types then Ok whole
-    else (row_of (own_index a unit) (identifier_of unit) >>= part_by_row a unit whole)
+    else (row_of (own_index a unit) (identifier_of unit) >>= contribution_by_row a unit whole)
 
 -- what a call that takes no memory answered is what the definition says
 abbrev pub GivesExactly : {X : Type 0} → Result X Error → Result X ErrorValue → Type 0

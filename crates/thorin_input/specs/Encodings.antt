@@ -44,14 +44,15 @@ all_have encoding order bytes (Some place) =
 abbrev pub section_has : Encoding → Endianness → Used → Bool
 section_has encoding order from = all_have encoding order from.bytes (unit_section from.kind)
 
--- so has each unit of an input the input's
+-- each unit of an input has the input's encoding
 abbrev pub are_alike : Source → Bool
 are_alike source = list_all (section_has source.encoding source.object.order) source.object.sections
 
--- no section is an index
+-- a section is an index
 abbrev pub is_index : Used → Bool
 is_index used = same_kind used.kind CuIndex || same_kind used.kind TuIndex
 
+-- no section is one
 abbrev pub is_plain : List Used → Bool
 is_plain sections = not (list_any is_index sections)
 

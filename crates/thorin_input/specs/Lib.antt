@@ -1,6 +1,6 @@
 pub mod Used
 pub mod View
-pub mod Growing
+pub mod Held
 pub mod Indexes
 pub mod Names
 pub mod Rows
@@ -9,6 +9,7 @@ pub mod Format
 pub mod InputStrings
 pub mod Parts
 pub mod NewUnits
+pub mod UnitView
 pub mod Encodings
 pub mod Adjusting
 pub mod AdjustorFields

@@ -26,7 +26,8 @@ use Rattle.thorin_input.specs.Names.{same_name}
 use Rattle.thorin_input.specs.Rows.{unit_row, row_test, abbreviations_for}
 use Rattle.thorin_input.specs.Used.{Used}
 
--- a unit that is added: whether it goes to info or to types, its bytes, and its row but for them
+-- a unit that is added: whether it goes to info or to types, its bytes, and its row without their
+-- range
 pub record NewUnit : Type 0 where
   pub place : UnitSection
   pub bytes : List ℕ
@@ -38,8 +39,8 @@ pub record New : Type 0 where
   pub units : List (DwarfObject × NewUnit)
   pub differing : List ℕ
 
--- what units are added to: an input, the row of a unit that has all of it, and the bytes of each
--- unit that the package has
+-- what the units that an input adds depend on: the input, the row of a unit that has all of it, and
+-- the bytes of each unit that the package has
 pub record Adding : Type 0 where
   pub source : Source
   pub whole : IndexEntry
@@ -60,7 +61,8 @@ abbrev pub place_for : DwarfObject → SectionKind → UnitSection
 place_for (TypeUnit signature) kinds.Types = places.Types
 place_for _ _ = places.Info
 
--- the units with one more, whose name none has
+-- the units with one more, whose name none has; refused as `EmptyUnit` in a section whose address
+-- isn't 0
 unfoldable pub with_first : Adding → Used → DwarfObject → Header → New → Result New ErrorValue
 with_first adding from name unit new =
     if from.address == 0
@@ -116,6 +118,7 @@ pub record Met : Type 0 where
   pub info : Bool
   pub types : Bool
 
+-- none did
 abbrev pub none_met : Met
 none_met = record { info = false; types = false }
 
@@ -127,11 +130,12 @@ abbrev pub with_met : UnitSection → Met → Met
 with_met places.Info met = record met { info = true }
 with_met places.Types met = record met { types = true }
 
--- a package has one section of units of each kind
+-- the error of a second section of info or of types
 abbrev pub second_section : UnitSection → ErrorValue
 second_section places.Info = MultipleDebugInfoSection
 second_section places.Types = MultipleDebugTypesSection
 
+-- a package has one section of units of each kind
 unfoldable pub once_test : Adding → UnitSection → Met → Result (Unit {0}) ErrorValue
 once_test adding place met = if is_package adding.source.indexes && is_met place met
     then Err (second_section place) else Ok tt

@@ -7,10 +7,10 @@ use Rattle.dwp_base.specs.declared.section.SectionKind.{SectionKind}
 use Rattle.dwp_base.specs.declared.section.SectionKind.TheVariants.{StrOffsets, Str}
 use Rattle.dwp_base.specs.Reading.{◌>>=◌}
 use Rattle.dwp_base.specs.Sections.{name_of, same_kind}
+use Rattle.dwp_elf.specs.Growing.{Contents, with_bytes}
 use Rattle.thorin_errors.specs.Errors.{ErrorValue, MissingRequiredSection, RepeatedSection}
 use Rattle.thorin_errors.specs.Errors.{SectionOutsideFormat}
 use Rattle.thorin_input.specs.Format.{is_in_format, is_copied}
-use Rattle.thorin_input.specs.Growing.{Contents}
 use Rattle.thorin_input.specs.Indexes.{Source, is_package}
 use Rattle.thorin_input.specs.InputStrings.{rewritten}
 use Rattle.thorin_input.specs.Used.{Used}
@@ -58,3 +58,14 @@ with_each_part source before (section ∷ sections) = do
 -- the parts of an input, and the distinct strings after those before
 abbrev pub parts_of : Source → List (List ℕ) → Result Parts ErrorValue
 parts_of source strings = with_each_part source ([], strings) source.object.sections
+
+-- contents once each of these parts was added to its section, in order
+unfoldable pub with_parts : Contents → Contents → Contents
+with_parts [] contents = contents
+with_parts (part ∷ parts) contents = with_parts parts (with_bytes part.0 part.1 contents)
+
+-- what parts add to the section of a kind, joined in their order
+abbrev pub joined_parts : SectionKind → Contents → List ℕ
+joined_parts kind [] = []
+joined_parts kind (part ∷ parts) =
+    if same_kind part.0 kind then part.1 ++ joined_parts kind parts else joined_parts kind parts

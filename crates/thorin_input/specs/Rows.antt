@@ -1,19 +1,19 @@
--- The rows that units get: each unit's part of each section of its input, where it comes to lie in
--- the package (DWARF 5, 7.3.5.3).
-use Rattle.std.specs.Prelude.{ℕ, Bool, true, false, ◌==◌, ◌&&◌, not, List, length, Option, Some}
-use Rattle.std.specs.Prelude.{None, Result, Ok, Err, if◌then◌else◌}
+-- The rows that units get: each unit's contribution to each section of its input, where it comes
+-- to lie in the package (DWARF 5, 7.3.5.3).
+use Rattle.std.specs.Prelude.{Bool, Err, false, if◌then◌else◌, length, List, None, not, Ok, Option}
+use Rattle.std.specs.Prelude.{Result, Some, true, ℕ, ◌&&◌, ◌==◌}
 use Rattle.dwp_base.specs.declared.section.SectionKind.{SectionKind}
 use Rattle.dwp_base.specs.declared.section.SectionKind.TheVariants.{Abbrev}
 use Rattle.dwp_base.specs.declared.section.Contribution.{Contribution}
-use Rattle.dwp_base.specs.Reading.{◌>>=◌, read_each}
+use Rattle.dwp_base.specs.Reading.{read_each, ◌>>=◌}
 use Rattle.dwp_base.specs.ByKind.{value_of}
-use Rattle.dwp_base.specs.Sections.{name_of, all_kinds}
+use Rattle.dwp_base.specs.Sections.{all_kinds, name_of}
 use Rattle.dwp_bytes.specs.declared.encoding.Encoding.{Encoding}
 use Rattle.dwp_dwarf.specs.Units.{Unit as Header}
 use Rattle.dwp_dwarf.specs.declared.unit.UnitType.{UnitType}
 use Rattle.dwp_dwarf.specs.declared.unit.UnitType.TheVariants as unit_types
-use Rattle.dwp_index.specs.Index.{Index, Ranges, row_in, range_in}
-use Rattle.dwp_index.specs.Package.{part_of, is_outside}
+use Rattle.dwp_index.specs.Index.{Index, range_in, Ranges, row_in}
+use Rattle.dwp_index.specs.Package.{is_outside, part_of}
 use Rattle.dwp_table.specs.Objects.{identifier_of}
 use Rattle.dwp_table.specs.declared.object.DwarfObject.{DwarfObject}
 use Rattle.dwp_table.specs.declared.object.DwarfObject.TheVariants.{Compilation}
@@ -22,48 +22,53 @@ use Rattle.thorin_input.specs.Format.{is_shared}
 use Rattle.thorin_index.specs.Entries.{contribution_to, entry_by}
 use Rattle.thorin_index.specs.declared.entry.IndexEntry.{IndexEntry}
 use Rattle.thorin_packaged.specs.RowPlaces.{row_by_place}
-use Rattle.thorin_errors.specs.Errors.{ErrorValue, UnitNotInIndex, RowNotInIndex, BadContribution}
+use Rattle.thorin_errors.specs.Errors.{BadContribution, ErrorValue, RowNotInIndex, UnitNotInIndex}
 use Rattle.thorin_errors.specs.Answers.{as_error}
-use Rattle.thorin_input.specs.Growing.{Contents, joined_parts, range_put}
-use Rattle.thorin_input.specs.Indexes.{Indexes, Source, is_package, index_for, looked_up}
+use Rattle.dwp_elf.specs.Growing.{Contents, contribution_put}
+use Rattle.thorin_input.specs.Parts.{joined_parts}
+use Rattle.thorin_input.specs.Indexes.{index_for, Indexes, is_package, looked_up, Source}
 use Rattle.thorin_input.specs.Used.{first}
 
 -- where the whole of each section that units share comes to lie, once parts are added to contents:
 -- as the row of a unit that has all of it
 unfoldable pub whole_row : Encoding → Contents → Contents → IndexEntry
 whole_row encoding before parts = entry_by encoding (Compilation (record { 0 = 0 })) (λ kind.
-    if is_shared kind then range_put kind (joined_parts kind parts) before else None)
+    if is_shared kind then contribution_put kind (joined_parts kind parts) before else None)
 
--- a unit's part of a section which as a whole lies there in the package
-abbrev pub adjusted_part : Indexes → DwarfObject → SectionKind → Option Contribution
+-- a unit's contribution to a section which as a whole lies there in the package
+abbrev pub adjusted_contribution : Indexes → DwarfObject → SectionKind → Option Contribution
     → Result (Option Contribution) ErrorValue
-adjusted_part indexes name kind whole = adjusted (record {
+adjusted_contribution indexes name kind whole = adjusted (record {
   compilation = indexes.compilations;
   types = indexes.types;
   section = kind;
 }) name whole
 
--- a unit's part of a section: adjusted where units share the section, else that of the whole row as
--- it is
-abbrev pub unit_part : Indexes → DwarfObject → SectionKind → Option Contribution
+-- a unit's contribution to a section: adjusted where units share the section, else that of the
+-- whole row as it is
+abbrev pub unit_contribution : Indexes → DwarfObject → SectionKind → Option Contribution
     → Result (Option Contribution) ErrorValue
-unit_part indexes name kind whole =
-    if is_shared kind then adjusted_part indexes name kind whole else Ok whole
+unit_contribution indexes name kind whole =
+    if is_shared kind then adjusted_contribution indexes name kind whole else Ok whole
 
--- the row of a unit but for its own bytes: its part of each section that units share
+-- the row of a unit but for its own bytes: its contribution to each section that units share
 unfoldable pub unit_row : Indexes → IndexEntry → DwarfObject → Result IndexEntry ErrorValue
 unit_row indexes whole name = do
-  parts ← read_each (λ kind. unit_part indexes name kind (contribution_to kind whole)) all_kinds
-  Ok (entry_by whole.encoding name (value_of None parts))
+  contributions ← read_each (λ kind. unit_contribution indexes name kind
+      (contribution_to kind whole))
+      all_kinds
+  Ok (entry_by whole.encoding name (value_of None contributions))
 
 -- a unit's range of its section
-abbrev pub own_range : Header → Contribution
-own_range unit = record { offset = record { 0 = unit.whole.place }; size = length unit.whole.bytes }
+abbrev pub own_contribution : Header → Contribution
+own_contribution unit =
+    record { offset = record { 0 = unit.whole.place }; size = length unit.whole.bytes }
 
 -- the number of the row by place: the lowest of the index of a name's kind whose range in the
 -- section is exactly the unit's
 abbrev pub number_by_place : Indexes → SectionKind → DwarfObject → Header → Option ℕ
-number_by_place indexes kind name unit = row_by_place (index_for indexes name) kind (own_range unit)
+number_by_place indexes kind name unit = row_by_place (index_for indexes name) kind
+    (own_contribution unit)
 
 -- two row numbers are there, and are the same
 abbrev pub is_same_row : Option ℕ → Option ℕ → Bool
@@ -105,5 +110,5 @@ unfoldable pub abbreviations_for : Source → SectionKind → Header → Result 
 abbreviations_for source kind unit =
     if is_package source.indexes && is_compile unit.unit_type
     then numbered_abbreviations (first Abbrev source.object.sections) source.indexes.compilations
-    (row_by_place source.indexes.compilations kind (own_range unit))
+    (row_by_place source.indexes.compilations kind (own_contribution unit))
     else Ok (first Abbrev source.object.sections)

@@ -26,11 +26,11 @@ object o = record {
   has_abbreviations = o.has_abbreviations;
 }
 
--- its indexes
+-- the indexes of an input
 abbrev pub indexes : Indexes → spec.Indexes
 indexes i = record { compilations = i.compilations; types = i.types }
 
--- and its encoding with them
+-- an input with its encoding and its indexes
 abbrev pub source : Source → spec.Source
 source s = record { object = object s.object; encoding = s.encoding; indexes = indexes s.indexes }
 

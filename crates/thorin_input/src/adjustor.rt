@@ -12,7 +12,7 @@ ghost use Rattle.thorin_input.specs.Adjusting.{
   moved,
   other_index,
   own_index,
-  part_by_row,
+  contribution_by_row,
   row_of,
 };
 
@@ -21,9 +21,9 @@ use dwp_index::{Bucketable, DwarfObject, Row, UnitIndex};
 use std::marker::Model;
 use thorin_errors::Error;
 
-/// Tells where a unit's part of one section of an input comes to lie in the output. In an input
-/// without an index that part is the whole section; else it is the range of the unit's row (DWARF
-/// 5, 7.3.5.3).
+/// Tells where a unit's contribution to one section of an input comes to lie in the output. In an
+/// input without an index it is the whole section; else it is the range of the unit's row (DWARF 5,
+/// 7.3.5.3).
 #[derive(Drop)]
 pub struct ContributionAdjustor<'i, 'a> {
     cu_index: Option<&'i UnitIndex<'a>>,
@@ -61,11 +61,11 @@ impl<'i, 'a> ContributionAdjustor<'i, 'a> {
         }
     }
 
-    /// The unit's part of the section in the output. `whole` says where the input's whole section
-    /// lies there; it is None where the input lacks the section. Without an index the answer is
-    /// `whole` itself. Else it is the range of the unit's row, moved by the place where `whole`
-    /// begins. It is None where the range has no bytes, and where the unit's index has no column
-    /// for the section, unless that is an error (`SectionNotInRow`).
+    /// The unit's contribution to the section in the output. `whole` says where the input's whole
+    /// section lies there; it is None where the input lacks the section. Without an index the
+    /// answer is `whole` itself. Else it is the range of the unit's row, moved by the place where
+    /// `whole` begins. It is None where the range has no bytes, and where the unit's index has no
+    /// column for the section, unless that is an error (`SectionNotInRow`).
     ///
     /// # Errors
     /// `UnitNotInIndex` where the unit's index is missing, or doesn't name the unit;

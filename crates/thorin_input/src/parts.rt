@@ -4,16 +4,16 @@
 ghost use Rattle.std.specs.Prelude.{◌≡◌, length, take, map, OnOk, IfErr};
 ghost use Rattle.dwp_base.specs.declared.section.SectionKind.TheVariants.{Str};
 ghost use Rattle.dwp_elf.specs.FileText.{Object};
+ghost use Rattle.dwp_elf.specs.Growing.{IsGrown, with_bytes};
 ghost use Rattle.thorin_errors.specs.Answers.{Gives};
 ghost use Rattle.thorin_strings.specs.Known.{AreKnown};
 ghost use Rattle.thorin_input.specs.Format as formats;
-ghost use Rattle.thorin_input.specs.Growing.{IsGrown, with_bytes, with_parts};
 ghost use Rattle.thorin_input.specs.InputStrings as input_strings;
 ghost use Rattle.thorin_input.specs.Parts as spec;
+ghost use Rattle.thorin_input.specs.Parts.{with_parts};
 ghost use Rattle.thorin_input.specs.Used.{first};
 ghost use Rattle.thorin_input.specs.View as view;
 
-use crate::growing::{put, put_moved};
 use crate::object::UsedSection;
 use crate::source::Source;
 use dwp_base::SectionKind;
@@ -118,7 +118,7 @@ fn stands_once(source: &Source<'_>, kind: SectionKind) -> bool
 /// String offsets that name their strings in the table: those of a package range by range. An `Err`
 /// may leave strings behind those before.
 #[tactic(auto, unfolding(crate::specs::InputStrings::rewritten))]
-fn rewritten(
+fn rewritten_section(
     alloc: Global,
     source: &Source<'_>,
     named: &[u8],
@@ -172,7 +172,7 @@ fn add_offsets<'a>(
     if !source.object.has_strings {
         return Err(Error::MissingRequiredSection(SectionKind::Str.name()));
     }
-    let written = rewritten(alloc, source, named, bytes, strings, &mut gathering.repeats)?;
+    let written = rewritten_section(alloc, source, named, bytes, strings, &mut gathering.repeats)?;
     gathering.parts.push(Part {
         kind: SectionKind::StrOffsets,
         bytes: PartBytes::Rewritten(written),
@@ -259,8 +259,8 @@ fn put_part(file: &mut WritableObject, part: Part<'_>) -> Result<(), Error>
 {
     let Part { kind, bytes } = part;
     match bytes {
-        PartBytes::Copied(bytes) => put(file, kind, bytes)?,
-        PartBytes::Rewritten(bytes) => put_moved(file, kind, bytes)?,
+        PartBytes::Copied(bytes) => file.append(kind, bytes)?,
+        PartBytes::Rewritten(bytes) => file.append_moved(kind, bytes)?,
     };
     Ok(())
 }
@@ -269,7 +269,7 @@ fn put_part(file: &mut WritableObject, part: Part<'_>) -> Result<(), Error>
 ///
 /// # Errors
 /// `Memory` alone, which may leave bytes behind those before.
-#[tactic(auto, unfolding(crate::specs::Growing::with_parts))]
+#[tactic(auto, unfolding(crate::specs::Parts::with_parts))]
 pub fn put_parts(file: &mut WritableObject, parts: Vec<Part<'_>>) -> Result<(), Error>
     ensures contents { OnOk result (file.new ≡ record file.old {
       contents = with_parts (map view.part parts.entry.items) file.old.contents;

@@ -4,27 +4,27 @@
 ghost use Rattle.std.specs.Prelude.{◌≡◌, length, map, false, None, IfOk, IfErr, if◌then◌else◌};
 ghost use Rattle.dwp_base.specs.declared.section.SectionKind.TheVariants.{Abbrev};
 ghost use Rattle.dwp_dwarf.specs.Units.{unit_of};
+ghost use Rattle.dwp_elf.specs.Growing.{contribution_put};
 ghost use Rattle.dwp_index.specs.Package.{part_of, is_outside};
 ghost use Rattle.dwp_table.specs.Objects.{identifier_of};
 ghost use Rattle.thorin_errors.specs.Answers.{Gives};
 ghost use Rattle.thorin_input.specs.Adjusting.{GivesExactly};
 ghost use Rattle.thorin_index.specs.Entries.{contribution_to};
 ghost use Rattle.thorin_input.specs.Format.{is_shared};
-ghost use Rattle.thorin_input.specs.Growing.{joined_parts, range_put};
 ghost use Rattle.thorin_input.specs.Indexes.{index_for, looked_up};
+ghost use Rattle.thorin_input.specs.Parts.{joined_parts};
 ghost use Rattle.thorin_input.specs.Rows as spec;
 ghost use Rattle.thorin_input.specs.Used.{first};
 ghost use Rattle.thorin_input.specs.View as view;
 ghost use Rattle.thorin_input.specs.WholeFits.{EndFits, EndsFit};
 
 use crate::adjustor::ContributionAdjustor;
-use crate::growing::content;
 use crate::parts::{Part, is_shared};
 use crate::source::{Indexes, Source};
 use dwp_base::{ByKind, Contribution, ContributionOffset, Endianness, SectionKind};
 use dwp_dwarf::{Encoding, Reader, SliceReader, UnitHeader, UnitType};
 use dwp_elf::WritableObject;
-use dwp_index::{Row, UnitIndex};
+use dwp_index::{Row, UnitIndex, lies_inside};
 use dwp_table::{Bucketable, DwarfObject, DwoId};
 use std::alloc::Global;
 use thorin_errors::Error;
@@ -35,9 +35,11 @@ use thorin_packaged::RowPlaces;
 /// of it.
 #[derive(Clone, Copy)]
 pub struct Whole {
-    /// The row; its identifier and the ranges of the unit's own sections say nothing.
+    /// The row; its identifier says nothing, and it has no range of info or types.
     pub row: IndexEntry,
     ghost fits: { EndsFit row },
+    ghost no_info: { row.debug_info ≡ None },
+    ghost no_types: { row.debug_types ≡ None },
 }
 
 /// How many bytes parts add to the section of a kind. `Memory` where no memory could hold them.
@@ -57,13 +59,14 @@ fn added(parts: &[Part<'_>], kind: SectionKind) -> Result<usize, Error>
 
 /// Where the whole of the section of a kind comes to lie once parts are put. `Memory` where no
 /// memory could hold it.
-fn whole_range(
+fn whole_contribution(
     file: &WritableObject,
     parts: &[Part<'_>],
     kind: SectionKind,
 ) -> Result<Option<Contribution>, Error>
     ensures range { IfOk result (λ range.
-        range ≡ range_put kind (joined_parts kind (map view.part parts.now)) file.now.contents) }
+        range ≡ contribution_put kind (joined_parts kind (map view.part parts.now))
+        file.now.contents) }
     ensures fits { IfOk result EndFits }
     ensures refused { IfErr result (λ e. e ≡ Error.Memory) }
 {
@@ -71,7 +74,7 @@ fn whole_range(
     if size == 0 {
         return Ok(None);
     }
-    let offset = content(file, kind).len();
+    let offset = file.content(kind).len();
     if size > usize::MAX - offset {
         return Err(Error::Memory);
     }
@@ -83,19 +86,19 @@ fn whole_range(
 
 /// Where the whole of a section that units share comes to lie; None for any other section. `Memory`
 /// where no memory could hold it.
-fn shared_range(
+fn shared_contribution(
     file: &WritableObject,
     parts: &[Part<'_>],
     kind: SectionKind,
 ) -> Result<Option<Contribution>, Error>
     ensures range { IfOk result (λ range. range ≡ (if is_shared kind
-        then range_put kind (joined_parts kind (map view.part parts.now)) file.now.contents
+        then contribution_put kind (joined_parts kind (map view.part parts.now)) file.now.contents
         else None)) }
     ensures fits { IfOk result EndFits }
     ensures refused { IfErr result (λ e. e ≡ Error.Memory) }
 {
     if is_shared(kind) {
-        whole_range(file, parts, kind)
+        whole_contribution(file, parts, kind)
     } else {
         Ok(None)
     }
@@ -112,7 +115,7 @@ impl Whole {
             whole.row ≡ spec.whole_row encoding file.now.contents (map view.part parts.now)) }
         ensures refused { IfErr result (λ e. e ≡ Error.Memory) }
     {
-        let ranges = ByKind::read(None, |kind| shared_range(file, parts, kind))?;
+        let ranges = ByKind::read(None, |kind| shared_contribution(file, parts, kind))?;
         let row = IndexEntry::by_kind(encoding, DwarfObject::Compilation(DwoId(0)), &ranges);
         Ok(Whole { row })
     }
@@ -125,8 +128,8 @@ struct Numbered {
     number: Option<u32>,
 }
 
-/// A unit's part of a section which as a whole lies there in the package.
-fn adjusted_part(
+/// A unit's contribution to a section which as a whole lies there in the package.
+fn adjusted_contribution(
     indexes: &Indexes<'_>,
     unit: Numbered,
     kind: SectionKind,
@@ -136,16 +139,16 @@ fn adjusted_part(
         ≡ looked_up (index_for (view.indexes indexes.now) unit.name) (identifier_of unit.name) }
     requires whole { EndFits whole }
     ensures { GivesExactly result
-        (spec.adjusted_part (view.indexes indexes.now) unit.name kind whole) }
+        (spec.adjusted_contribution (view.indexes indexes.now) unit.name kind whole) }
 {
     let compilations = indexes.compilations.as_ref();
     let types = indexes.types.as_ref();
     ContributionAdjustor::new(compilations, types, kind).adjust_row(unit.name, unit.number, whole)
 }
 
-/// A unit's part of a section: adjusted where units share the section, else that of the whole row as
-/// it is.
-fn unit_part(
+/// A unit's contribution to a section: adjusted where units share the section, else that of the
+/// whole row as it is.
+fn unit_contribution(
     indexes: &Indexes<'_>,
     whole: &Whole,
     unit: Numbered,
@@ -153,18 +156,18 @@ fn unit_part(
 ) -> Result<Option<Contribution>, Error>
     requires number { unit.number
         ≡ looked_up (index_for (view.indexes indexes.now) unit.name) (identifier_of unit.name) }
-    ensures { GivesExactly result (spec.unit_part (view.indexes indexes.now) unit.name kind
+    ensures { GivesExactly result (spec.unit_contribution (view.indexes indexes.now) unit.name kind
         (contribution_to kind whole.now.row)) }
 {
-    let part = whole.row.contribution(kind);
+    let all = whole.row.contribution(kind);
     if is_shared(kind) {
-        adjusted_part(indexes, unit, kind, part)
+        adjusted_contribution(indexes, unit, kind, all)
     } else {
-        Ok(part)
+        Ok(all)
     }
 }
 
-/// The row of a unit but for its own bytes: its part of each section that units share. `number` is
+/// The row of a unit but for its own bytes: its contribution to each section that units share. `number` is
 /// what looking the unit up gave (`test_row`).
 ///
 /// # Errors
@@ -199,13 +202,14 @@ fn packaged_row(indexes: &Indexes<'_>, whole: &Whole, unit: Numbered) -> Result<
         (spec.unit_row (view.indexes indexes.now) whole.now.row unit.name) }
     ensures name { IfOk result (λ row. row.id ≡ unit.name) }
 {
-    let parts = ByKind::read(None, |kind| unit_part(indexes, whole, unit, kind))?;
-    Ok(IndexEntry::by_kind(whole.row.encoding, unit.name, &parts))
+    let contributions = ByKind::read(None, |kind| unit_contribution(indexes, whole, unit, kind))?;
+    Ok(IndexEntry::by_kind(whole.row.encoding, unit.name, &contributions))
 }
 
-/// A unit's range of its section.
-fn own_range<'a>(header: &UnitHeader<SliceReader<'a>>) -> Contribution
-    ensures { result ≡ spec.own_range (unit_of ⟦<SliceReader<'a> as Reader>⟧.input header.now) }
+/// A unit's contribution to the section that it stands in.
+fn own_contribution<'a>(header: &UnitHeader<SliceReader<'a>>) -> Contribution
+    ensures { result
+        ≡ spec.own_contribution (unit_of ⟦<SliceReader<'a> as Reader>⟧.input header.now) }
 {
     let start = SliceReader::new(&[], Endianness::Little);
     let bytes = header.bytes();
@@ -217,14 +221,14 @@ fn own_range<'a>(header: &UnitHeader<SliceReader<'a>>) -> Contribution
 
 /// The rows by place of both indexes of an input, in one of its sections.
 #[derive(Drop)]
-pub struct Places<'i, 'a> {
+pub struct PlacedRows<'i, 'a> {
     /// Those of the compilation index.
     pub compilations: RowPlaces<'i, 'a>,
     /// Those of the type index.
     pub types: RowPlaces<'i, 'a>,
 }
 
-impl<'i, 'a> Places<'i, 'a> {
+impl<'i, 'a> PlacedRows<'i, 'a> {
     /// The rows by place in a section of a kind.
     ///
     /// # Errors
@@ -233,16 +237,16 @@ impl<'i, 'a> Places<'i, 'a> {
         alloc: Global,
         indexes: &'i Indexes<'a>,
         kind: SectionKind,
-    ) -> Result<Places<'i, 'a>, Error>
-        ensures compilations { IfOk result (λ places. places.compilations
+    ) -> Result<PlacedRows<'i, 'a>, Error>
+        ensures compilations { IfOk result (λ placed. placed.compilations
             ≡ record { index = (view.indexes indexes.now).compilations; section = kind }) }
-        ensures types { IfOk result (λ places.
-            places.types ≡ record { index = (view.indexes indexes.now).types; section = kind }) }
+        ensures types { IfOk result (λ placed.
+            placed.types ≡ record { index = (view.indexes indexes.now).types; section = kind }) }
         ensures refused { IfErr result (λ e. e ≡ Error.Memory) }
     {
         let compilations = RowPlaces::new(alloc, indexes.compilations.as_ref(), kind)?;
         let types = RowPlaces::new(alloc, indexes.types.as_ref(), kind)?;
-        Ok(Places {
+        Ok(PlacedRows {
             compilations,
             types,
         })
@@ -257,14 +261,14 @@ impl<'i, 'a> Places<'i, 'a> {
 #[tactic(auto, unfolding(crate::specs::Rows::row_test))]
 pub fn test_row<'a>(
     indexes: &Indexes<'_>,
-    places: &Places<'_, '_>,
+    placed: &PlacedRows<'_, '_>,
     kind: SectionKind,
     name: DwarfObject,
     header: &UnitHeader<SliceReader<'a>>,
 ) -> Result<Option<u32>, Error>
-    requires compilations { places.now.compilations
+    requires compilations { placed.now.compilations
         ≡ record { index = (view.indexes indexes.now).compilations; section = kind } }
-    requires types { places.now.types ≡ record {
+    requires types { placed.now.types ≡ record {
       index = (view.indexes indexes.now).types;
       section = kind;
     } }
@@ -277,10 +281,10 @@ pub fn test_row<'a>(
     if !indexes.is_package() {
         return Ok(number);
     }
-    let range = own_range(header);
+    let range = own_contribution(header);
     let here = match name {
-        DwarfObject::Compilation(_) => places.compilations.find(range),
-        DwarfObject::TypeUnit(_) => places.types.find(range),
+        DwarfObject::Compilation(_) => placed.compilations.find(range),
+        DwarfObject::TypeUnit(_) => placed.types.find(range),
     };
     match (here, number) {
         (Some(here), Some(there)) if here == there => Ok(number),
@@ -298,14 +302,13 @@ fn row_abbreviations(bytes: &[u8], row: &Row<'_>) -> Result<Option<Contribution>
     let Some(range) = row.range(SectionKind::Abbrev) else {
         return Ok(None);
     };
-    let size = bytes.len() as u64;
-    if range.offset.0 > size || size - range.offset.0 < range.size {
+    if !lies_inside(bytes, range) {
         return Err(Error::BadContribution(SectionKind::Abbrev.name(), 0));
     }
     Ok(Some(range))
 }
 
-/// Those of the row of a number of an index.
+/// The abbreviations of the row with that number.
 #[tactic(auto, unfolding(crate::specs::Rows::numbered_abbreviations))]
 fn numbered_abbreviations(
     bytes: &[u8],
@@ -325,8 +328,8 @@ fn numbered_abbreviations(
     }
 }
 
-/// The range of all bytes.
-fn whole_range_of(bytes: &[u8]) -> Option<Contribution>
+/// The contribution that is all bytes.
+fn contribution_of_all(bytes: &[u8]) -> Option<Contribution>
     ensures part { part_of bytes.now result ≡ bytes.now }
     ensures inside { is_outside bytes.now result ≡ false }
 {
@@ -336,8 +339,8 @@ fn whole_range_of(bytes: &[u8]) -> Option<Contribution>
     })
 }
 
-/// Where in the first section of abbreviations those stand that a unit's identity is read with: all
-/// of it; for a compile unit of a package those of its row by place.
+/// The part of the first section of abbreviations that a unit's identity is read with: all of it, or
+/// for a compile unit of a package the range of its row by place.
 ///
 /// # Errors
 /// `UnitNotInIndex` where there is no such row, `BadContribution` where they are outside the
@@ -346,11 +349,11 @@ fn whole_range_of(bytes: &[u8]) -> Option<Contribution>
 pub fn abbreviations_for<'a>(
     source: &Source<'a>,
     bytes: &[u8],
-    places: &Places<'_, '_>,
+    placed: &PlacedRows<'_, '_>,
     kind: SectionKind,
     header: &UnitHeader<SliceReader<'a>>,
 ) -> Result<Option<Contribution>, Error>
-    requires places { places.now.compilations
+    requires placed { placed.now.compilations
         ≡ record { index = (view.source source.now).indexes.compilations; section = kind } }
     requires bytes { bytes.now ≡ first Abbrev (view.source source.now).object.sections }
     ensures part { Gives (part_of bytes.now) result (spec.abbreviations_for (view.source source.now)
@@ -358,9 +361,9 @@ pub fn abbreviations_for<'a>(
     ensures inside { IfOk result (λ range. is_outside bytes.now range ≡ false) }
 {
     if source.indexes.is_package() && matches!(header.unit_type(), UnitType::Compilation) {
-        let number = places.compilations.find(own_range(header));
+        let number = placed.compilations.find(own_contribution(header));
         numbered_abbreviations(bytes, &source.indexes.compilations, number)
     } else {
-        Ok(whole_range_of(bytes))
+        Ok(contribution_of_all(bytes))
     }
 }

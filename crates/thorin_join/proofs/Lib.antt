@@ -1,5 +1,4 @@
 pub mod Terms
-pub mod Steps
 pub mod EachKind
 pub mod Moved
 pub mod Parts

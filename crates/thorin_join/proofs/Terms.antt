@@ -1,31 +1,31 @@
 -- The names that proofs of this crate cite most, passed on from one place. Declares nothing.
 pub use Rattle.std.proofs.ByRecursion.{All-append, All-weaker}
-pub use Rattle.std.proofs.Common.{All, AllPairs, Bool, Err, IsOk, List, MatchOption, None, Ok}
-pub use Rattle.std.proofs.Common.{Option, Result, Some, [], add-zero, add_assoc, ap, append-nil}
-pub use Rattle.std.proofs.Common.{append_assoc, ap₂, arith, codes, cond, drop, eqb, eqb-true, false}
-pub use Rattle.std.proofs.Common.{filter, get_or, if◌then◌else◌, inl, inr, is_none, is_some, le-leb}
-pub use Rattle.std.proofs.Common.{leb, leb-false, leb-true, length, length-append, length-drop}
-pub use Rattle.std.proofs.Common.{length-take, length-take-le, ltb, ltb-true, map, nat_eq, nat_le}
-pub use Rattle.std.proofs.Common.{nat_lt, ne_eqb, not, refl, slice_get, slice_index, slice_range}
-pub use Rattle.std.proofs.Common.{subst, suc, sym, take, take-append-drop, take-take, take_all}
-pub use Rattle.std.proofs.Common.{true, true≢false, zero, zero-mul, ℕ, ℤ, ⊎_elim, ◌&&◌, ◌*◌, ◌++◌}
-pub use Rattle.std.proofs.Common.{◌+◌, ◌-◌, ◌/◌, ◌<◌, ◌==◌, ◌^◌, ◌||◌, ◌∙◌, ◌∷◌, ◌≡◌, ◌≤◌, ◌⊎◌}
+pub use Rattle.std.proofs.Common.{[], add_assoc, All, AllPairs, ap, append-nil}
+pub use Rattle.std.proofs.Common.{append_assoc, arith, Bool, codes, cond, drop, eqb}
+pub use Rattle.std.proofs.Common.{Err, false, filter, if◌then◌else◌, inl, inr, is_none}
+pub use Rattle.std.proofs.Common.{is_some, IsOk, le-leb, leb, leb-false, leb-true, length}
+pub use Rattle.std.proofs.Common.{length-append, length-drop, length-take, length-take-le, List}
+pub use Rattle.std.proofs.Common.{map, MatchOption, nat_eq, nat_le, nat_lt, ne_eqb}
+pub use Rattle.std.proofs.Common.{None, not, Ok, Option, refl, Result, slice_get, slice_index}
+pub use Rattle.std.proofs.Common.{slice_range, Some, subst, suc, sym, take, take-append-drop}
+pub use Rattle.std.proofs.Common.{take-take, take_all, true, true≢false, zero, ℕ, ℤ}
+pub use Rattle.std.proofs.Common.{⊎_elim, ◌&&◌, ◌*◌, ◌++◌, ◌+◌, ◌-◌, ◌/◌, ◌<◌, ◌^◌, ◌||◌, ◌∙◌}
+pub use Rattle.std.proofs.Common.{◌∷◌, ◌≡◌, ◌≤◌, ◌⊎◌}
 pub use Rattle.std.proofs.Math.Seq.{drop-append-add, drop-append_seam, take-length}
-pub use Rattle.std.proofs.lemmas.Bool.{cases_lt, cases_order, eqb-false, false_from_ne_true}
+pub use Rattle.std.proofs.lemmas.Bool.{eqb-false, false_from_ne_true}
 pub use Rattle.std.proofs.lemmas.Bool.Decides.{nat_tests}
 pub use Rattle.std.proofs.lemmas.List.{drop-append-le, length-map, map-append, take-append-le}
 pub use Rattle.std.proofs.lemmas.List.Elements.{filter-append, filter_passes}
 pub use Rattle.std.proofs.lemmas.List.Folds.{flat_map-map, list_any-append, list_any_at}
 pub use Rattle.std.proofs.lemmas.Option.{none-some, same_Some}
-pub use Rattle.std.specs.List.{AllByRecursion as Each, find, flat_map, list_all, list_any}
+pub use Rattle.std.specs.List.{AllByRecursion as Each, find, list_all, list_any}
 pub use Rattle.std.specs.List.{position_or_len, sum_by}
 pub use Rattle.std.specs.Map.{lookup}
 pub use Rattle.std.specs.Option.{ok_or}
 pub use Rattle.std.specs.Result.{result_unwrap_or}
-pub use Rattle.dwp_base.proofs.Bools.{by-bool, or-right}
+pub use Rattle.dwp_base.proofs.Bools.{by-bool}
 pub use Rattle.dwp_base.proofs.EveryKind.{every, is-same, same-each, same-self}
 pub use Rattle.dwp_base.proofs.Steps.{bind-ok, bind-was, same-ok}
-pub use Rattle.dwp_base.specs.Numbers.{number, number_bytes}
 pub use Rattle.dwp_base.specs.Reading.{read_each, ◌>>=◌}
 pub use Rattle.dwp_base.specs.Sections.{all_kinds, name_of, same_kind}
 pub use Rattle.dwp_base.specs.declared.class.Class.{Class}
@@ -44,71 +44,71 @@ pub use Rattle.dwp_bytes.specs.declared.error.ReadError.TheVariants.{UnexpectedE
 pub use Rattle.dwp_dwarf.proofs.Readings.{Answer, bind_alike, more}
 pub use Rattle.dwp_dwarf.proofs.Units.{unit_taken, unit_takes, units_whole}
 pub use Rattle.dwp_dwarf.specs.Entries.{DebugAttribute}
-pub use Rattle.dwp_dwarf.specs.Units.{Unit as Header, listed}
+pub use Rattle.dwp_dwarf.specs.Units.{listed, Unit as Header}
 unfoldable pub use Rattle.dwp_dwarf.specs.Units.{unit_at, units}
 pub use Rattle.dwp_dwarf.specs.declared.unit.UnitSection.{UnitSection}
 pub use Rattle.dwp_dwarf.specs.declared.unit.UnitType.{UnitType}
-pub use Rattle.dwp_elf.specs.Contents.{KindsDiffer, appended, content_of, count_of}
-pub use Rattle.dwp_elf.specs.FileText.{Object as File, file_text}
+pub use Rattle.dwp_elf.specs.Contents.{appended, content_of, count_of, KindsDiffer}
+pub use Rattle.dwp_elf.specs.FileText.{file_text, Object as File}
 pub use Rattle.dwp_elf_read.specs.Elf.{Elf, elf_of}
 pub use Rattle.dwp_index.specs.Finding.{IsNotNamed, IsUnitOf, own_bytes, own_place, unit_of}
 pub use Rattle.dwp_index.specs.Holding.{sections_of}
-pub use Rattle.dwp_index.specs.Index.{Index, Ranges, column_place}
+pub use Rattle.dwp_index.specs.Index.{column_place, Index, Ranges}
 unfoldable pub use Rattle.dwp_index.specs.Index.{range_in, row_in}
-pub use Rattle.dwp_index.specs.Package.{Package, index_in_section, is_outside, kind_of, package_of}
+pub use Rattle.dwp_index.specs.Package.{index_in_section, is_outside, kind_of, Package, package_of}
 pub use Rattle.dwp_index.specs.Package.{part_of, place_of}
 unfoldable pub use Rattle.dwp_index.specs.Package.{encoding_in, row_bytes}
 unfoldable pub use Rattle.dwp_index.specs.Strings.{entry_in, string_in}
-pub use Rattle.dwp_strings.specs.Strings.{IsTable, IsZeroFree, data_of, offset_of, with_string}
+pub use Rattle.dwp_strings.specs.Strings.{data_of, IsTable, IsZeroFree, with_string}
 pub use Rattle.dwp_table.specs.Objects.{identifier_of}
 pub use Rattle.dwp_table.specs.Table.{AreDistinct}
 pub use Rattle.dwp_table.specs.declared.object.DwarfObject.{DwarfObject}
 pub use Rattle.dwp_table.specs.declared.object.DwarfObject.TheVariants.{Compilation, TypeUnit}
 pub use Rattle.thorin_errors.specs.Answers.{as_error}
-pub use Rattle.thorin_errors.specs.Errors.{ErrorValue, GimliRead, MixedInputEncodings, NoDie}
-pub use Rattle.thorin_errors.specs.Errors.{ParseUnitAbbreviations, ParseUnitHeader, StrAtOffset}
-pub use Rattle.thorin_identity.specs.Identity.{first_identifier, identity_by}
+pub use Rattle.thorin_errors.specs.Errors.{ErrorValue}
+pub use Rattle.thorin_errors.specs.Errors.{ParseUnitHeader}
+pub use Rattle.thorin_identity.specs.Identity.{first_identifier}
 unfoldable pub use Rattle.thorin_identity.specs.Identity.{entry_identity, identity, root_identity}
-pub use Rattle.thorin_index.specs.Entries.{contribution_to, entry_by, offset_or_0, size_or_0}
+pub use Rattle.thorin_index.specs.Entries.{contribution_to, entry_by}
 pub use Rattle.thorin_index.specs.EntryTests.{index_tests}
-pub use Rattle.thorin_index.specs.IndexText.{IsIndexOf, entry_ids}
+pub use Rattle.thorin_index.specs.IndexText.{entry_ids, IsIndexOf}
 pub use Rattle.thorin_index.specs.ReadRows.{HasEntries}
 pub use Rattle.thorin_index.specs.declared.entry.IndexEntry.{IndexEntry}
 pub use Rattle.thorin_input.specs.Format.{is_copied, is_shared}
-pub use Rattle.thorin_input.specs.Growing.{Contents, HasFront, joined_parts, range_put, with_bytes}
-unfoldable pub use Rattle.thorin_input.specs.Growing.{with_parts}
-pub use Rattle.thorin_input.specs.Indexes.{Indexes, Source, indexes_of, is_package, looked_up}
+pub use Rattle.dwp_elf.specs.Growing.{Contents, contribution_put, HasFront, with_bytes}
+pub use Rattle.thorin_input.specs.Parts.{joined_parts}
+unfoldable pub use Rattle.thorin_input.specs.Parts.{with_parts}
+pub use Rattle.thorin_input.specs.Indexes.{Indexes, indexes_of, is_package, Source}
 unfoldable pub use Rattle.thorin_input.specs.InputStrings.{rewritten}
 pub use Rattle.thorin_input.specs.Names.{is_compilation, same_name}
-pub use Rattle.thorin_input.specs.NewUnits.{Adding, New, NewUnit, kept_bytes, place_for}
+pub use Rattle.thorin_input.specs.NewUnits.{Adding, kept_bytes, New, NewUnit, place_for}
 pub use Rattle.thorin_input.specs.NewUnits.{unit_section}
 unfoldable pub use Rattle.thorin_input.specs.NewUnits.{name_for, new_units, with_unit}
-pub use Rattle.thorin_input.specs.Parts.{Parts, has_part, parts_of, stands_once}
+pub use Rattle.thorin_input.specs.Parts.{has_part, Parts, parts_of, stands_once}
 unfoldable pub use Rattle.thorin_input.specs.Parts.{with_each_part, with_offsets, with_part}
 unfoldable pub use Rattle.thorin_input.specs.Rows.{row_test, unit_row}
-pub use Rattle.thorin_input.specs.Used.{InputFile, Used, counts_once, first, has_info, opened}
-pub use Rattle.thorin_input.specs.Used.{used_from}
+pub use Rattle.thorin_input.specs.Used.{first, has_info, InputFile, opened, Used}
 unfoldable pub use Rattle.thorin_input.specs.Used.{input_file_of}
 pub use Rattle.thorin_packaged.proofs.OffsetsJoined.{joined_read, no_header, number_front}
 pub use Rattle.thorin_packaged.proofs.OffsetsJoined.{strings_again}
 unfoldable pub use Rattle.thorin_packaged.specs.PackagedOffsets.{packaged_offsets}
-pub use Rattle.thorin_packaged.specs.PackagedReading.{PackageReadsAlike, RowsReadAlike, range_bytes}
+pub use Rattle.thorin_packaged.specs.PackagedReading.{range_bytes}
 pub use Rattle.thorin_packaged.specs.ReadStrings.{ReadsAlike}
-pub use Rattle.thorin_strings.proofs.NamedEntries.{as_error_ok, range_named}
+pub use Rattle.thorin_strings.proofs.NamedEntries.{range_named}
 unfoldable pub use Rattle.thorin_strings.specs.StringOffsets.{remapped}
-pub use Rattle.thorin_join.specs.Builder.{IdentifiersFit, IsFinished, begun_by, is_chosen}
+pub use Rattle.thorin_join.specs.Builder.{begun_by, IdentifiersFit, is_chosen, IsFinished}
 pub use Rattle.thorin_join.specs.Builder.{package_or_new, rows_of}
 unfoldable pub use Rattle.thorin_join.specs.Builder.{order_test, with_input}
 pub use Rattle.thorin_join.specs.FirstUse.{named_in, strings_begun, with_strings}
 pub use Rattle.thorin_join.specs.Join.{GivesNone, GivesUnit, IsPackageOnceWritten, IsUnit, Joins}
 pub use Rattle.thorin_join.specs.Join.{limit_of, same_sort}
 pub use Rattle.thorin_join.specs.Laid.{IsWhole, name_signature, type_signature}
-pub use Rattle.thorin_join.specs.Meaning.{Meaning, Members, UnitRead, joining, keys, source_units}
+pub use Rattle.thorin_join.specs.Meaning.{joining, keys, Meaning, Members, source_units, UnitRead}
 pub use Rattle.thorin_join.specs.Represents.{AreApart, AreRowsOf, IsRowOf, IsSound, IsSoundBegun}
-pub use Rattle.thorin_join.specs.Represents.{LieInside, Owns, Represents, Shares, meaning_at}
+pub use Rattle.thorin_join.specs.Represents.{LieInside, meaning_at, Owns, Represents, Shares}
 pub use Rattle.thorin_join.specs.Represents.{units_begun, units_in, units_of}
 pub use Rattle.thorin_join.specs.Sizes.{bytes_of_contents, bytes_of_strings, offsets_used}
-pub use Rattle.thorin_join.specs.State.{InProgress, adding, kind_at, row_at, with_unit_added}
+pub use Rattle.thorin_join.specs.State.{adding, InProgress, row_at, with_unit_added}
 unfoldable pub use Rattle.thorin_join.specs.State.{with_new_unit, with_new_units, with_source}
 pub use Rattle.thorin_join.specs.Strings.{each_from, offset_of_entry, strings_of}
 unfoldable pub use Rattle.thorin_join.specs.Strings.{strings_at}

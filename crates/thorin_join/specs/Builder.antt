@@ -21,7 +21,7 @@ use Rattle.thorin_index.specs.IndexText.{IsIndexOf}
 use Rattle.thorin_errors.specs.Errors.{ErrorValue, MixedInputEncodings, MissingReferencedUnit}
 use Rattle.thorin_errors.specs.Errors.{NoOutputObjectCreated}
 use Rattle.thorin_input.specs.Encodings.{encoding_of, own_encoding, common}
-use Rattle.thorin_input.specs.Growing.{with_bytes}
+use Rattle.dwp_elf.specs.Growing.{with_bytes}
 use Rattle.thorin_input.specs.Indexes.{Source, indexes_of}
 use Rattle.thorin_input.specs.Names.{same_name, is_compilation}
 use Rattle.thorin_join.specs.State.{InProgress, empty, names_of, with_source}
@@ -51,11 +51,12 @@ same_order Little Little = true
 same_order Big Big = true
 same_order _ _ = false
 
--- an input has the byte order of the package
+-- the byte order of the package, where one is begun, else that of an input
 abbrev pub order_of : Option InProgress → Endianness → Endianness
 order_of None order = order
 order_of (Some made) order = made.file.order
 
+-- an input has the byte order of the package
 unfoldable pub order_test : Endianness → Option InProgress → Result (Unit {0}) ErrorValue
 order_test order begun =
     if same_order (order_of begun order) order then Ok tt else Err MixedInputEncodings
@@ -114,11 +115,12 @@ taken bytes state = do
   encoding ← own_encoding bytes
   Ok (record state { begun = begun; own = own_after state begun encoding })
 
--- the rows of compilation units, and those of type units
+-- whether a row is one of those of compilation units, or of type units
 abbrev pub is_chosen : Bool → IndexEntry → Bool
 is_chosen true row = is_compilation row.id
 is_chosen false row = not (is_compilation row.id)
 
+-- the rows of compilation units, or those of type units
 abbrev pub rows_of : Bool → List IndexEntry → List IndexEntry
 rows_of compilations rows = filter (is_chosen compilations) rows
 
@@ -133,7 +135,7 @@ abbrev pub IdentifiersFit : List IndexEntry → Type 0
 IdentifiersFit [] = Unit {0}
 IdentifiersFit (row ∷ rows) = (identifier_of row.id < 2 ^ 64) × IdentifiersFit rows
 
--- each unit that executables refer to is there; the first that isn't is named
+-- a unit that executables refer to isn't there
 abbrev pub is_missing : List DwarfObject → DwarfObject → Bool
 is_missing names target = not (list_any (same_name target) names)
 
@@ -141,6 +143,7 @@ abbrev pub none_missing : Option DwarfObject → Result (Unit {0}) ErrorValue
 none_missing None = Ok tt
 none_missing (Some target) = Err (MissingReferencedUnit (identifier_of target))
 
+-- each unit that executables refer to is there; the first that isn't is named
 unfoldable pub targets_test : List DwarfObject → List DwarfObject → Result (Unit {0}) ErrorValue
 targets_test names targets = none_missing (find (is_missing names) targets)
 

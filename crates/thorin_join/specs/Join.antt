@@ -1,25 +1,25 @@
 -- A list of inputs as the join of what they mean: the first accepted unit of a name stays. And a
 -- package that means it.
-use Rattle.std.specs.Prelude.{◌≡◌, ℕ, zero, suc, ◌+◌, ◌≤◌, Bool, true, false, List, [], ◌∷◌, ◌++◌}
-use Rattle.std.specs.Prelude.{not, map, length, filter, slice_get, Option, Some, None, Ok}
-use Rattle.std.specs.Prelude.{IsPermutation, MatchOption}
+use Rattle.std.specs.Prelude.{[], Bool, false, filter, IsPermutation, length, List, map}
+use Rattle.std.specs.Prelude.{MatchOption, None, not, Ok, Option, slice_get, Some, suc, true, zero}
+use Rattle.std.specs.Prelude.{ℕ, ◌++◌, ◌+◌, ◌∷◌, ◌≡◌, ◌≤◌}
 use Rattle.std.specs.Map.{lookup}
 use Rattle.dwp_base.specs.declared.section.SectionKind.{SectionKind}
-use Rattle.dwp_base.specs.declared.section.SectionKind.TheVariants.{StrOffsets, Str}
+use Rattle.dwp_base.specs.declared.section.SectionKind.TheVariants.{Str, StrOffsets}
 use Rattle.dwp_elf.specs.Contents.{KindsDiffer}
-use Rattle.dwp_elf.specs.FileText.{Object as File, file_text}
+use Rattle.dwp_elf.specs.FileText.{file_text, Object as File}
 use Rattle.dwp_elf.specs.Written.{written_elf}
 use Rattle.dwp_elf_read.specs.Elf.{elf_of}
 use Rattle.dwp_index.specs.Package as index
-use Rattle.dwp_index.specs.Package.{Package, package_of, found_counted, row_bytes}
+use Rattle.dwp_index.specs.Package.{found_counted, Package, package_of, row_bytes}
 use Rattle.dwp_index.specs.Strings.{string_in}
 use Rattle.dwp_index.specs.Entries.{entries_from}
 use Rattle.dwp_index.specs.Naming.{entries_of}
 use Rattle.dwp_table.specs.Objects.{identifier_of}
 use Rattle.dwp_table.specs.declared.object.DwarfObject.{DwarfObject}
 use Rattle.dwp_table.specs.declared.object.DwarfObject.TheVariants.{Compilation, TypeUnit}
-use Rattle.thorin_join.specs.Meaning.{Meaning, Members, keys, input_meaning, joining, can_join}
-use Rattle.thorin_input.specs.Names.{same_name, is_compilation}
+use Rattle.thorin_join.specs.Meaning.{can_join, input_meaning, joining, keys, Meaning, Members}
+use Rattle.thorin_input.specs.Names.{is_compilation, same_name}
 use Rattle.thorin_input.specs.Format.{is_copied}
 use Rattle.dwp_index.specs.Contents.{content as section_content}
 
@@ -45,7 +45,7 @@ JoinAll (bytes ∷ rest) before now =
 pub record IsUnit (found : index.FoundUnit) (unit : Meaning) : Type 0 where
   pub bytes : found.bytes ≡ unit.bytes
   pub content : (kind : SectionKind) (copied : is_copied kind ≡ true)
-      → row_bytes found.contents found.row kind ≡ unit.pieces kind copied
+      → row_bytes found.contents found.row kind ≡ unit.contributions kind copied
   pub string : found.encoding ≡ unit.encoding → (i : ℕ)
       → string_in found.order found.encoding (section_content found.contents Str)
       (row_bytes found.contents found.row StrOffsets) i ≡ Ok (slice_get unit.strings i)

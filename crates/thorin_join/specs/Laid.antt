@@ -10,12 +10,12 @@ use Rattle.dwp_dwarf.specs.declared.unit.UnitSection.TheVariants as places
 use Rattle.dwp_dwarf.specs.declared.unit.UnitType.{UnitType}
 use Rattle.dwp_dwarf.specs.declared.unit.UnitType.TheVariants as unit_types
 use Rattle.dwp_elf.specs.Contents.{content_of}
-use Rattle.dwp_index.specs.Package.{place_of}
+use Rattle.dwp_index.specs.Package.{kind_of, place_of}
 use Rattle.dwp_table.specs.declared.object.DwarfObject.{DwarfObject}
 use Rattle.dwp_table.specs.declared.object.DwarfObject.TheVariants.{Compilation, TypeUnit}
 use Rattle.thorin_index.specs.Entries.{contribution_to}
 use Rattle.thorin_index.specs.declared.entry.IndexEntry.{IndexEntry}
-use Rattle.thorin_join.specs.State.{InProgress, kind_at}
+use Rattle.thorin_join.specs.State.{InProgress}
 
 -- the signature in a type unit's header
 abbrev pub type_signature : UnitType → Option ℕ
@@ -56,7 +56,7 @@ pub record Heads (order : Endianness) (place : UnitSection) (offset : ℕ) (row 
   pub own : List ℕ
   pub rest : List ℕ
   pub are : bytes ≡ own ++ rest
-  pub range : contribution_to (kind_at place) row
+  pub range : contribution_to (kind_of place) row
       ≡ Some (record { offset = record { 0 = offset }; size = length own })
   pub is : IsWhole order place row.id own
 
@@ -70,13 +70,13 @@ Lie order place offset (row ∷ rows) bytes = (head : Heads order place offset r
 abbrev pub HaveOneRange : List IndexEntry → Type 0
 HaveOneRange [] = Unit {0}
 HaveOneRange (row ∷ rows) =
-    ((place : UnitSection) → is_at place row ≡ false → contribution_to (kind_at place) row ≡ None)
+    ((place : UnitSection) → is_at place row ≡ false → contribution_to (kind_of place) row ≡ None)
     × HaveOneRange rows
 
 -- the sections of units of a package are the bytes of its rows' units
 pub record IsLaid (made : InProgress) : Type 0 where
   pub info : Lie made.file.order places.Info 0 (rows_at places.Info made.rows)
-      (content_of (kind_at places.Info) made.file.contents)
+      (content_of (kind_of places.Info) made.file.contents)
   pub types : Lie made.file.order places.Types 0 (rows_at places.Types made.rows)
-      (content_of (kind_at places.Types) made.file.contents)
+      (content_of (kind_of places.Types) made.file.contents)
   pub once : HaveOneRange made.rows

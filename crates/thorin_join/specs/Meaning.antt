@@ -1,24 +1,24 @@
 -- What an input means: its units by name, in file order, with all that belongs to each; and how
 -- such lists are joined (DWARF 5, 7.3.5; the GNU page DebugFissionDWP).
-use Rattle.std.specs.Prelude.{◌≡◌, ℕ, Bool, true, not, ◌&&◌, ◌+◌, ◌*◌, List, [], ◌∷◌, ◌++◌, map}
-use Rattle.std.specs.Prelude.{take, filter, length, find, is_none, Option, Some, None, Result, Ok}
-use Rattle.std.specs.Prelude.{Err, if◌then◌else◌}
+use Rattle.std.specs.Prelude.{[], Bool, Err, filter, find, if◌then◌else◌, is_none, length, List}
+use Rattle.std.specs.Prelude.{map, None, not, Ok, Option, Result, Some, take, true, ℕ, ◌&&◌, ◌*◌}
+use Rattle.std.specs.Prelude.{◌++◌, ◌+◌, ◌∷◌, ◌≡◌}
 use Rattle.std.specs.List.{list_any}
 use Rattle.std.specs.Option.{option_and_then}
 use Rattle.dwp_base.specs.declared.section.SectionKind.{SectionKind}
-use Rattle.dwp_base.specs.declared.section.SectionKind.TheVariants.{StrOffsets, Str}
+use Rattle.dwp_base.specs.declared.section.SectionKind.TheVariants.{Str, StrOffsets}
 use Rattle.dwp_base.specs.declared.section.Contribution.{Contribution}
 use Rattle.dwp_base.specs.Reading.{◌>>=◌}
 use Rattle.dwp_base.specs.Sections.{same_kind}
 use Rattle.dwp_bytes.specs.Encoding.{offset_size}
 use Rattle.dwp_bytes.specs.Input.{section}
-use Rattle.dwp_bytes.specs.StringOffsets.{header_size, entry_count}
+use Rattle.dwp_bytes.specs.StringOffsets.{entry_count, header_size}
 use Rattle.dwp_bytes.specs.declared.encoding.Encoding.{Encoding}
 use Rattle.dwp_bytes.specs.declared.error.ReadError.{ReadError}
 use Rattle.dwp_dwarf.specs.Units.{Unit as Header, units}
 use Rattle.dwp_dwarf.specs.declared.unit.UnitSection.{UnitSection}
-use Rattle.dwp_index.specs.Index.{Index, Ranges, row_in, range_in}
-use Rattle.dwp_index.specs.Package.{part_of, is_outside}
+use Rattle.dwp_index.specs.Index.{Index, range_in, Ranges, row_in}
+use Rattle.dwp_index.specs.Package.{is_outside, part_of}
 use Rattle.dwp_table.specs.Columns.{contribution_kinds}
 use Rattle.dwp_table.specs.declared.object.DwarfObject.{DwarfObject}
 use Rattle.thorin_packaged.specs.RowPlaces.{row_by_place}
@@ -26,27 +26,27 @@ use Rattle.thorin_errors.specs.Errors.{ErrorValue, ParseUnitHeader}
 use Rattle.thorin_errors.specs.Answers.{as_error}
 use Rattle.thorin_input.specs.Encodings.{encoding_of}
 use Rattle.thorin_input.specs.Format.{is_copied, is_shared}
-use Rattle.thorin_input.specs.Indexes.{Source, is_package, index_for, indexes_of}
-use Rattle.thorin_input.specs.Names.{same_name, is_compilation}
+use Rattle.thorin_input.specs.Indexes.{index_for, indexes_of, is_package, Source}
+use Rattle.thorin_input.specs.Names.{is_compilation, same_name}
 use Rattle.thorin_input.specs.NewUnits.{name_for, unit_section}
-use Rattle.thorin_input.specs.Rows.{own_range}
+use Rattle.thorin_input.specs.Rows.{own_contribution}
 use Rattle.thorin_join.specs.Strings.{strings_of}
-use Rattle.thorin_input.specs.Used.{Used, InputFile, opened, has_info, input_file_of, first}
+use Rattle.thorin_input.specs.Used.{first, has_info, input_file_of, InputFile, opened, Used}
 
--- a unit's part of each kind of section that is kept as it is; the proof is asked for, so that
--- nothing is said of other kinds
-abbrev pub Pieces : Type 0
-Pieces = (kind : SectionKind) → is_copied kind ≡ true → List ℕ
+-- a unit's contribution, as bytes, to each kind of section that is kept as it is; the proof is
+-- asked for, so that nothing is said of other kinds
+abbrev pub Contributions : Type 0
+Contributions = (kind : SectionKind) → is_copied kind ≡ true → List ℕ
 
 -- these bytes of each kind
-abbrev pub pieces_by : (SectionKind → List ℕ) → Pieces
-pieces_by bytes kind copied = bytes kind
+abbrev pub contributions_by : (SectionKind → List ℕ) → Contributions
+contributions_by bytes kind copied = bytes kind
 
--- all that belongs to a unit: its bytes, its pieces, its strings in the order of their offsets, and
--- its input's encoding
+-- all that belongs to a unit: its bytes, its contributions, its strings in the order of their
+-- offsets, and its input's encoding
 pub record Meaning : Type 0 where
   pub bytes : List ℕ
-  pub pieces : Pieces
+  pub contributions : Contributions
   pub strings : List (List ℕ)
   pub encoding : Encoding
 
@@ -72,11 +72,12 @@ joined_offsets encoding (s ∷ ss) =
     if same_kind s.kind StrOffsets then whole_entries encoding s.bytes ++ joined_offsets encoding ss
     else joined_offsets encoding ss
 
--- a unit's part of the sections of a kind: by its row, where its input is a package, else all of
--- them
-abbrev pub part_by : Source → Option Ranges → SectionKind → List ℕ
-part_by source None kind = joined_content kind source.object.sections
-part_by source (Some row) kind = part_of (first kind source.object.sections) (range_in row kind)
+-- a unit's contribution to the sections of a kind: by its row, where its input is a package, else
+-- all of them
+abbrev pub contribution_by : Source → Option Ranges → SectionKind → List ℕ
+contribution_by source None kind = joined_content kind source.object.sections
+contribution_by source (Some row) kind = part_of (first kind source.object.sections)
+    (range_in row kind)
 
 -- its string offsets
 abbrev pub offsets_by : Source → Option Ranges → List ℕ
@@ -99,7 +100,7 @@ abbrev pub meaning_with : Source → List ℕ → Option Ranges → Result (List
     → Option Meaning
 meaning_with source bytes row (Ok strings) = Some (record {
   bytes = bytes;
-  pieces = pieces_by (part_by source row);
+  contributions = contributions_by (contribution_by source row);
   strings = strings;
   encoding = source.encoding;
 })
@@ -135,7 +136,7 @@ unfoldable pub unit_meaning : Source → DwarfObject × UnitRead → Option Mean
 unit_meaning source read =
     if is_package source.indexes
     then option_and_then (λ row. meaning_by source read.1.unit.whole.bytes (Some row))
-    (placed_row (index_for source.indexes read.0) read.1.from (own_range read.1.unit))
+    (placed_row (index_for source.indexes read.0) read.1.from (own_contribution read.1.unit))
     else meaning_by source read.1.unit.whole.bytes None
 
 -- a unit that was read, by its name

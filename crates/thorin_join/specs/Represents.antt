@@ -1,29 +1,30 @@
 -- The units of a package that is made: what a reader would find under each name, and that it can be
 -- read (DWARF 5, 7.3.5.3; the GNU page DebugFissionDWP).
-use Rattle.std.specs.Prelude.{◌≡◌, ℕ, ◌+◌, ◌<◌, ◌≤◌, true, false, List, [], ◌∷◌, map, take, length}
-use Rattle.std.specs.Prelude.{slice_get, Option, Some, None, Ok, AllPairs}
+use Rattle.std.specs.Prelude.{[], AllPairs, false, length, List, map, None, Ok, Option, slice_get}
+use Rattle.std.specs.Prelude.{Some, take, true, ℕ, ◌+◌, ◌<◌, ◌∷◌, ◌≡◌, ◌≤◌}
 use Rattle.std.specs.Result.{result_unwrap_or}
 use Rattle.dwp_base.specs.declared.section.SectionKind.{SectionKind}
-use Rattle.dwp_base.specs.declared.section.SectionKind.TheVariants.{Types, StrOffsets, Str, CuIndex}
-use Rattle.dwp_base.specs.declared.section.SectionKind.TheVariants.{TuIndex}
+use Rattle.dwp_base.specs.declared.section.SectionKind.TheVariants.{CuIndex, Str, StrOffsets}
+use Rattle.dwp_base.specs.declared.section.SectionKind.TheVariants.{TuIndex, Types}
 use Rattle.dwp_base.specs.declared.section.Contribution.{Contribution}
 use Rattle.dwp_base.specs.declared.endian.Endianness.{Endianness}
 use Rattle.dwp_elf.specs.Contents.{content_of}
 use Rattle.dwp_bytes.specs.declared.encoding.Encoding.{Encoding}
 use Rattle.dwp_dwarf.specs.declared.unit.UnitSection.{UnitSection}
-use Rattle.dwp_index.specs.Package.{part_of, encoding_in, place_of}
+use Rattle.dwp_index.specs.Package.{encoding_in, kind_of, part_of, place_of}
 use Rattle.dwp_index.specs.Strings.{string_in}
 use Rattle.dwp_table.specs.declared.object.DwarfObject.{DwarfObject}
-use Rattle.dwp_strings.specs.Strings.{IsTable, data_of}
+use Rattle.dwp_strings.specs.Strings.{data_of, IsTable}
 use Rattle.thorin_index.specs.Entries.{contribution_to}
 use Rattle.thorin_index.specs.declared.entry.IndexEntry.{IndexEntry}
 use Rattle.thorin_join.specs.Builder.{State}
-use Rattle.thorin_input.specs.Growing.{Contents}
+use Rattle.dwp_elf.specs.Growing.{Contents}
 use Rattle.thorin_join.specs.Laid.{IsLaid}
-use Rattle.thorin_join.specs.Meaning.{Meaning, Members, pieces_by}
+use Rattle.thorin_join.specs.Meaning.{contributions_by, Meaning, Members}
 use Rattle.thorin_input.specs.Names.{same_name}
 use Rattle.thorin_input.specs.Format.{is_copied}
-use Rattle.thorin_join.specs.State.{InProgress, kind_at, names_of, unit_bytes}
+use Rattle.thorin_input.specs.Held.{unit_bytes}
+use Rattle.thorin_join.specs.State.{InProgress, names_of}
 use Rattle.thorin_join.specs.Strings.{strings_of}
 
 -- all that belongs to the unit of a row: what stands in the row's ranges, and the strings that its
@@ -31,7 +32,8 @@ use Rattle.thorin_join.specs.Strings.{strings_of}
 abbrev pub meaning_at : Endianness → Contents → List (List ℕ) → IndexEntry → Meaning
 meaning_at order contents strings row = record {
   bytes = unit_bytes contents row;
-  pieces = pieces_by (λ kind. part_of (content_of kind contents) (contribution_to kind row));
+  contributions = contributions_by (λ kind. part_of (content_of kind contents)
+      (contribution_to kind row));
   strings = result_unwrap_or (strings_of order row.encoding (data_of strings)
       (part_of (content_of StrOffsets contents) (contribution_to StrOffsets row))) [];
   encoding = row.encoding;
@@ -61,7 +63,8 @@ pub record LieInside (contents : Contents) (row : IndexEntry) : Type 0 where
 pub record Shares (order : Endianness) (contents : Contents) (strings : List (List ℕ))
     (row : IndexEntry) (unit : Meaning) : Type 0 where
   pub content : (kind : SectionKind) (copied : is_copied kind ≡ true)
-      → part_of (content_of kind contents) (contribution_to kind row) ≡ unit.pieces kind copied
+      → part_of (content_of kind contents) (contribution_to kind row) ≡
+      unit.contributions kind copied
   pub string : (final : List (List ℕ)) → IsTable final
       → take (length strings) final ≡ strings → (i : ℕ)
       → string_in order unit.encoding (data_of final) (part_of (content_of StrOffsets contents)
@@ -72,7 +75,7 @@ pub record Owns (order : Endianness) (contents : Contents) (name : DwarfObject) 
     (unit : Meaning) : Type 0 where
   pub place : UnitSection
   pub place_is : place ≡ place_of name (contribution_to Types row)
-  pub bytes : part_of (content_of (kind_at place) contents) (contribution_to (kind_at place) row)
+  pub bytes : part_of (content_of (kind_of place) contents) (contribution_to (kind_of place) row)
       ≡ unit.bytes
   pub encoding : Encoding
   pub header : encoding_in order place unit.bytes ≡ Ok encoding

@@ -11,7 +11,7 @@ use Rattle.dwp_table.specs.Table.{HasSlots}
 use Rattle.thorin_index.specs.declared.entry.IndexEntry.{IndexEntry}
 use Rattle.thorin_index.specs.IndexText.{used_sections}
 use Rattle.thorin_errors.specs.Errors.{ErrorValue}
-use Rattle.thorin_input.specs.Growing.{Contents}
+use Rattle.dwp_elf.specs.Growing.{Contents}
 use Rattle.thorin_input.specs.Used.{Used, opened, has_info, counts_once, input_file_of, first}
 use Rattle.thorin_join.specs.Builder.{with_input, compilations, type_units}
 use Rattle.thorin_join.specs.StandApart.{contents_begun}

@@ -5,7 +5,7 @@ use Rattle.dwp_base.specs.declared.section.Contribution.{Contribution}
 use Rattle.dwp_elf.specs.Contents.{content_of}
 use Rattle.thorin_index.specs.Entries.{contribution_to}
 use Rattle.thorin_index.specs.declared.entry.IndexEntry.{IndexEntry}
-use Rattle.thorin_input.specs.Growing.{Contents}
+use Rattle.dwp_elf.specs.Growing.{Contents}
 use Rattle.thorin_join.specs.Represents.{LieInside}
 use Rattle.thorin_join.specs.State.{InProgress}
 

@@ -1,29 +1,26 @@
 -- A package while it is made: its fields, and the steps that add the units and rows of an input
 -- whose sections are known (DWARF 5, 7.3.5; the GNU page DebugFissionDWP).
-use Rattle.std.specs.Prelude.{◌≡◌, ℕ, List, [], ◌∷◌, ◌++◌, map, take, length, Result, Ok, Err}
-use Rattle.std.specs.Prelude.{if◌then◌else◌}
+use Rattle.std.specs.Prelude.{[], Err, if◌then◌else◌, length, List, map, Ok, Result, take, ℕ, ◌++◌}
+use Rattle.std.specs.Prelude.{◌∷◌, ◌≡◌}
 use Rattle.std.specs.List.{list_any}
 use Rattle.dwp_base.specs.Reading.{◌>>=◌}
 use Rattle.dwp_base.specs.declared.class.Class.{Class}
 use Rattle.dwp_base.specs.declared.endian.Endianness.{Endianness}
-use Rattle.dwp_base.specs.declared.section.SectionKind.{SectionKind}
 use Rattle.dwp_base.specs.declared.section.SectionKind.TheVariants as kinds
 use Rattle.dwp_base.specs.Sections.{name_of}
-use Rattle.dwp_elf.specs.Contents.{content_of}
 use Rattle.dwp_elf.specs.FileText.{Object as File}
+use Rattle.dwp_elf.specs.Growing.{Contents, contribution_put, IsGrown, lengths, with_bytes}
 use Rattle.dwp_dwarf.specs.declared.unit.UnitSection.{UnitSection}
 use Rattle.dwp_dwarf.specs.declared.unit.UnitSection.TheVariants as places
-use Rattle.dwp_index.specs.Package.{part_of, place_of}
+use Rattle.dwp_index.specs.Package.{kind_of}
 use Rattle.dwp_table.specs.declared.object.DwarfObject.{DwarfObject}
-use Rattle.thorin_index.specs.Entries.{contribution_to}
 use Rattle.thorin_index.specs.declared.entry.IndexEntry.{IndexEntry}
 use Rattle.thorin_errors.specs.Errors.{ErrorValue, MissingRequiredSection}
-use Rattle.thorin_input.specs.Growing.{Contents, IsGrown, lengths, with_bytes, range_put}
-use Rattle.thorin_input.specs.Growing.{with_parts}
+use Rattle.thorin_input.specs.Held as held
 use Rattle.thorin_input.specs.Indexes.{Source}
 use Rattle.thorin_input.specs.Names.{same_name}
-use Rattle.thorin_input.specs.NewUnits.{New, NewUnit, Adding, new_units}
-use Rattle.thorin_input.specs.Parts.{parts_of}
+use Rattle.thorin_input.specs.NewUnits.{Adding, New, new_units, NewUnit}
+use Rattle.thorin_input.specs.Parts.{parts_of, with_parts}
 use Rattle.thorin_input.specs.Rows.{whole_row}
 use Rattle.thorin_input.specs.Used.{InputFile}
 
@@ -39,34 +36,22 @@ pub record InProgress : Type 0 where
 abbrev pub names_of : InProgress → List DwarfObject
 names_of made = map (λ row. row.id) made.rows
 
--- the section of a place
-abbrev pub kind_at : UnitSection → SectionKind
-kind_at places.Info = kinds.Info
-kind_at places.Types = kinds.Types
-
--- the bytes of the unit of a row: its range of types, where it is a type unit and has one, else of
--- info
-abbrev pub unit_bytes : Contents → IndexEntry → List ℕ
-unit_bytes contents row =
-    let kind = kind_at (place_of row.id row.debug_types) in
-    part_of (content_of kind contents) (contribution_to kind row)
-
 -- the bytes of each unit, by its name
 abbrev pub held_units : InProgress → List (DwarfObject × List ℕ)
-held_units made = map (λ row. (row.id, unit_bytes made.file.contents row)) made.rows
+held_units made = held.held_units made.file.contents made.rows
 
--- the row of a unit whose own bytes are put behind those of a place
+-- the row of a unit whose bytes are appended to info or types
 abbrev pub row_at : IndexEntry → Contents → DwarfObject → List ℕ → UnitSection → IndexEntry
 row_at row contents name bytes places.Info =
-    record row { id = name; debug_info = range_put kinds.Info bytes contents }
+    record row { id = name; debug_info = contribution_put kinds.Info bytes contents }
 row_at row contents name bytes places.Types =
-    record row { id = name; debug_types = range_put kinds.Types bytes contents }
+    record row { id = name; debug_types = contribution_put kinds.Types bytes contents }
 
 -- the package with a unit more
 abbrev pub with_unit_added : InProgress → DwarfObject × NewUnit → InProgress
 with_unit_added made unit = record made {
   file = record made.file
-      { contents = with_bytes (kind_at unit.1.place) unit.1.bytes made.file.contents };
+      { contents = with_bytes (kind_of unit.1.place) unit.1.bytes made.file.contents };
   rows = made.rows ++ row_at unit.1.row made.file.contents unit.0 unit.1.bytes unit.1.place ∷ [];
 }
 
@@ -85,7 +70,7 @@ unfoldable pub abbreviations_test : InputFile → Result (Unit {0}) ErrorValue
 abbreviations_test object =
     if object.has_abbreviations then Ok tt else Err (MissingRequiredSection (name_of kinds.Abbrev))
 
--- what the units of an input are added to, whose parts will be these
+-- what the units that an input adds depend on, whose parts will be these
 abbrev pub adding : Source → InProgress → Contents → Adding
 adding source made parts = record {
   source = source;
@@ -136,8 +121,8 @@ pub record Amount : Type 0 where
   pub rows : ℕ
   pub differing : ℕ
 
-abbrev pub mark_of : InProgress → Amount
-mark_of made = record {
+abbrev pub amount_of : InProgress → Amount
+amount_of made = record {
   lengths = lengths made.file.contents;
   strings = length made.strings;
   rows = length made.rows;

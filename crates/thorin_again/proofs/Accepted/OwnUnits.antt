@@ -1,36 +1,37 @@
 -- The units of a written package of plain objects are taken as those of an input, and each gets a
 -- row: by a package without units all of them, since no name comes twice; by any other unless a
 -- compilation unit is there already.
-use Rattle.thorin_join.proofs.Rows.OfUnits.{some-index, whole-part, own-index, adjustor}
+use Rattle.thorin_join.proofs.Rows.OfUnits.{adjustor, own-index, some-index, whole-part}
 use Rattle.thorin_again.proofs.Terms
-use Terms.{get_or_from_slice_get, identity-shifted, slice_get_within, contribution_to, Contribution}
-use Terms.{finished-grows, finished-order, DuplicateUnit, identifier_of, same_name-sym, DwarfObject}
-use Terms.{joined_parts, sound-inside, unit_section, written_used, KindsDiffer, NamesItself, Adding}
-use Terms.{SectionKind, UnitSection, all_kept_by, ErrorValue, InProgress, IndexEntry, StrOffsets, ℕ}
-use Terms.{content_of, get_or-map, kind-place, length-map, own_source, part-there, range-none, Bool}
-use Terms.{same_place, with_first, LieInside, ReadError, all_kinds, and-false, both_ways, eqb-false}
-use Terms.{is_chosen, is_shared, new_units, place-put, range_put, same-self, same_name, AreApart}
-use Terms.{Contents, Encoding, count_of, name_for, parts_of, place_of, range_in, row_test, EachRow}
-use Terms.{HasRows, Indexes, IsPlain, IsTable, NewUnit, by-bool, is_some, is_used, kind_at, rows_of}
-use Terms.{section, Header, Option, Source, adding, length, lookup, row_of, Index, arith, false, Ok}
-use Terms.{is_at, subst, units, ◌>>=◌, File, List, None, Some, Used, refl, true, ◌||◌, New, eqb, []}
-use Terms.{map, sym, ◌<◌, ◌∙◌, ◌∷◌, ◌≡◌, ap}
-use Rattle.std.proofs.Common.{length-append, slice_get, Result, le-leb, ◌++◌, ◌+◌, ◌≢◌, ◌≤◌, ◌⊎◌}
+use Terms.{[], Adding, adding, all_kept_by, all_kinds, and-false, ap, AreApart, arith, Bool}
+use Terms.{both_ways, by-bool, content_of, Contents, Contribution, contribution_put}
+use Terms.{contribution_to, count_of, DuplicateUnit, DwarfObject, EachRow, Encoding, eqb, eqb-false}
+use Terms.{ErrorValue, false, File, finished-grows, finished-order, get_or-map}
+use Terms.{get_or_from_slice_get, HasRows, Header, identifier_of, identity-shifted, Index}
+use Terms.{IndexEntry, Indexes, InProgress, is_at, is_chosen, is_shared, is_some, is_used, IsPlain}
+use Terms.{IsTable, joined_parts, kind-place, kind_of, KindsDiffer, length, length-map, LieInside}
+use Terms.{List, lookup, map, name_for, NamesItself, New, new_units, NewUnit, None, Ok, Option}
+use Terms.{own_source, part-there, parts_of, place-put, place_of, range-none, range_in, ReadError}
+use Terms.{refl, row_of, row_test, rows_of, same-self, same_name, same_name-sym, same_place}
+use Terms.{section, SectionKind, slice_get_within, Some, sound-inside, Source, StrOffsets, subst}
+use Terms.{sym, true, unit_section, units, UnitSection, Used, with_first, written_used, ℕ, ◌<◌}
+use Terms.{◌>>=◌, ◌||◌, ◌∙◌, ◌∷◌, ◌≡◌}
+use Rattle.std.proofs.Common.{le-leb, length-append, Result, slice_get, ◌++◌, ◌+◌, ◌≢◌, ◌≤◌, ◌⊎◌}
 use Rattle.dwp_base.specs.Reading.{read_each}
-use Rattle.thorin_input.specs.Adjusting.{has_column_for, without_column, moved_range, other_index}
-use Rattle.thorin_input.specs.Adjusting.{own_index, Adjustor, adjusted, moved}
-use Rattle.thorin_input.specs.Rows.{adjusted_part, unit_part, unit_row}
-use Rattle.thorin_again.proofs.Offsets.RewrittenAgain.{used-chosen, by-passing, at-row}
-use Rattle.thorin_again.proofs.Opened.Sections.{rest-differ, section_of, then-fares, and-then}
-use Rattle.thorin_again.proofs.Opened.Sections.{answered, Unless, behind, Fares, front}
-use Rattle.thorin_input.specs.NewUnits.{with_each_section, with_section_at, with_section_in, is_met}
-use Rattle.thorin_input.specs.NewUnits.{with_each_read, with_section, kept_bytes, once_test, Met}
-use Rattle.thorin_input.specs.NewUnits.{with_read, with_unit, none_met, with_met}
-use Rattle.thorin_again.proofs.Meant.RowByRow.{of-section, read-alone, row-there, IsUnitOf}
-use Rattle.thorin_again.proofs.Meant.RowByRow.{place-eq, place-is}
+use Rattle.thorin_input.specs.Adjusting.{adjusted, Adjustor, has_column_for, moved, moved_range}
+use Rattle.thorin_input.specs.Adjusting.{other_index, own_index, without_column}
+use Rattle.thorin_input.specs.Rows.{adjusted_contribution, unit_contribution, unit_row}
+use Rattle.thorin_again.proofs.Offsets.RewrittenAgain.{at-row, by-passing, used-chosen}
+use Rattle.thorin_again.proofs.Opened.Sections.{and-then, answered, behind, Fares, front}
+use Rattle.thorin_again.proofs.Opened.Sections.{rest-differ, section_of, then-fares, Unless}
+use Rattle.thorin_input.specs.NewUnits.{is_met, kept_bytes, Met, none_met, once_test}
+use Rattle.thorin_input.specs.NewUnits.{with_each_read, with_each_section, with_met, with_read}
+use Rattle.thorin_input.specs.NewUnits.{with_section, with_section_at, with_section_in, with_unit}
+use Rattle.thorin_again.proofs.Meant.RowByRow.{IsUnitOf, of-section, place-eq, place-is, read-alone}
+use Rattle.thorin_again.proofs.Meant.RowByRow.{row-there}
 use Rattle.thorin_again.proofs.Opened.Indexes.{finished-shared, IsReadOf, lie-kept}
-use Rattle.thorin_again.proofs.Meant.OneRow.{found-range, named-again, row-tested, found-row, parts}
-use Rattle.thorin_again.proofs.Meant.OneRow.{row-lies}
+use Rattle.thorin_again.proofs.Meant.OneRow.{found-range, found-row, named-again, parts, row-lies}
+use Rattle.thorin_again.proofs.Meant.OneRow.{row-tested}
 use Rattle.thorin_again.proofs.Kept.Names.{keep-names}
 use Rattle.thorin_join.proofs.Parts.OfPackages.{parts-first, rows-read}
 use Rattle.thorin_join.proofs.EachKind.{copied-or-offsets}
@@ -44,12 +45,12 @@ Fine r = Unless (λ e. ⊥) r
 moved-fine : (kind : SectionKind) (id : ℕ) (range : Option Contribution) (x : List ℕ)
     (before : Contents) → ((r : Contribution) → range ≡ Some r
     → (r.offset.0 + r.size ≤ length x) × (0 < r.size))
-    → Fine (moved_range kind id range (range_put kind x before))
+    → Fine (moved_range kind id range (contribution_put kind x before))
 unfolding moved
 moved-fine kind id range x before h = grind (arith, h, place-put kind x before, le-leb)
 
 none-fine : (kind : SectionKind) (x : List ℕ) (before : Contents) → (0 < length x → ⊥)
-    → Fine (without_column (range_put kind x before))
+    → Fine (without_column (contribution_put kind x before))
 none-fine kind x before h = grind arith
 
 each-fine : {X Y : Type 0} (f : X → Result Y ErrorValue) → ((x : X) → Fine (f x)) → (xs : List X)
@@ -77,7 +78,7 @@ module _ {encoding : Encoding} {file : File} {indexes : Indexes} {made : InProgr
 
   part-fine : (kind : SectionKind) → is_shared kind ≡ true → (x : List ℕ) (before : Contents)
       → length x ≡ length (content_of kind file.contents)
-      → Fine (adjusted_part indexes row.id kind (range_put kind x before))
+      → Fine (adjusted_contribution indexes row.id kind (contribution_put kind x before))
   unfolding adjusted
   part-fine kind shared x before long =
       let a : Adjustor = adjustor indexes kind in
@@ -103,11 +104,12 @@ module _ {encoding : Encoding} {file : File} {indexes : Indexes} {made : InProgr
   pub row-given : (whole : IndexEntry) (x : SectionKind → List ℕ) (before : Contents)
       → ((kind : SectionKind) → is_shared kind ≡ true → length (x kind) ≡ length
       (content_of kind file.contents))
-      → ((kind : SectionKind) → is_shared kind ≡ true → contribution_to kind whole ≡ range_put kind
+      → ((kind : SectionKind) → is_shared kind ≡ true → contribution_to kind whole ≡
+      contribution_put kind
       (x kind) before) → (given : IndexEntry) × (unit_row indexes whole row.id ≡ Ok given)
   unfolding unit_row
   row-given whole x before long put = answered _ (and-then (λ e. ⊥) _ _ (each-fine
-      (λ kind. unit_part indexes row.id kind (contribution_to kind whole)) (λ kind.
+      (λ kind. unit_contribution indexes row.id kind (contribution_to kind whole)) (λ kind.
       let fine = λ (s : is_shared kind ≡ true). part-fine kind s (x kind) before (long kind s) in
       grind (arith, put kind, fine)) all_kinds) (λ parts are. tt))
 
@@ -144,7 +146,7 @@ rows-differ rows apart i j a b at there differ =
 
 -- the sections of units that are still to come weren't met
 abbrev Unmet : Met → Contents → Type 0
-Unmet met cs = (place : UnitSection) → 0 < count_of (kind_at place) cs → is_met place met ≡ false
+Unmet met cs = (place : UnitSection) → 0 < count_of (kind_of place) cs → is_met place met ≡ false
 
 met-with : (place other : UnitSection) (met : Met)
     → is_met other (with_met place met) ≡ (same_place place other || is_met other met)
@@ -182,9 +184,9 @@ module _ (Fresh : Type 0) (E : ErrorValue → Type 0)
       → is_met (place_of row.id row.debug_types) met ≡ false → Free row.id new
 
   -- ---- one section
-  module _ (met : Met) (place : UnitSection) (from : Used) (from_is : from.kind ≡ kind_at place)
+  module _ (met : Met) (place : UnitSection) (from : Used) (from_is : from.kind ≡ kind_of place)
       (address : eqb from.address 0 ≡ true)
-      (bytes : from.bytes ≡ content_of (kind_at place) file.contents)
+      (bytes : from.bytes ≡ content_of (kind_of place) file.contents)
       (unmet : is_met place met ≡ false) where
     unit-fares : (h : Header) (new : New) (row : IndexEntry) (kept : Option (List ℕ))
         (name : DwarfObject) → (Fresh → kept ≡ None)
@@ -276,10 +278,10 @@ module _ (Fresh : Type 0) (E : ErrorValue → Type 0)
       by None at some later = later met new (λ place some. unmet place (omega (arith, some))) so
       by (Some place) at some later =
           let kind = kind-place c.0 place at in
-          let bytes : c.1 ≡ content_of (kind_at place) file.contents =
+          let bytes : c.1 ≡ content_of (kind_of place) file.contents =
           grind (arith, front c cs, held c.0, kind, some) in
-          let counted : 0 < count_of (kind_at place) (c ∷ cs) =
-          rw (kind, same-self (kind_at place)) (omega arith) in
+          let counted : 0 < count_of (kind_of place) (c ∷ cs) =
+          rw (kind, same-self (kind_of place)) (omega arith) in
           let one = section-taken met place (section_of c) kind refl bytes (unmet place counted) new
           so in
           rw (unmet place counted, and-false) (then-fares E

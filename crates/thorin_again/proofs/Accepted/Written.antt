@@ -1,39 +1,40 @@
 -- A written package of plain objects of one encoding is accepted: by any package of its byte
 -- order, unless it is foreseen otherwise, and by a new one.
 use Rattle.thorin_again.proofs.Terms
-use Terms.{All-from_recursion, UnlessStringOffset, abbreviations_test, with_source_or_new, Encoding}
-use Terms.{IsPermutation-map, finished-strings, IsFinishedState, list_any-append, HaveEncodingOf, ℕ}
-use Terms.{finished-order, package_or_new, same_name-self, same_name-true, written_object, HoldsOwn}
-use Terms.{IsEquivalence, file_encoding, length-filter, list_any_none, IsSoundBegun, finished-own}
-use Terms.{has_sections, own_encoding, DwarfObject, KindsDiffer, SectionKind, counts_once, limit_of}
-use Terms.{finished-is, has_content, input-keeps, packs_again, units_begun, with_source, ErrorValue}
-use Terms.{written_elf, HoldsPlain, InProgress, IsForeseen, content_of, indexes_of, keys-units, inl}
-use Terms.{length-map, look_limit, own_source, all_meant, file_text, new-sound, new_units, order_of}
-use Terms.{rewritten, same_name, same_sort, parts_of, units_in, units_of, Indexes, IsPlain, Meaning}
-use Terms.{Members, data_of, is_used, joining, Option, adding, elf_of, length, AllOf, IsOwn, Joins}
-use Terms.{Parts, arith, false, start, subst, Bool, File, List, None, Some, both, cond, keys, refl}
-use Terms.{true, ◌||◌, inr, sym, ◌<◌, ◌∙◌, ◌∷◌, ◌≡◌, Ok, [], ap}
-use Rattle.thorin_again.proofs.Lists.InOrder.{there-back, meant_or}
-use Rattle.std.proofs.Common.{IsPermutation, length-append, append_assoc, ltb-true, Result, nat_lt}
-use Rattle.std.proofs.Common.{◌++◌, not}
-use Rattle.thorin_join.specs.Builder.{finish_test, begun_by, State, taken}
+use Terms.{[], abbreviations_test, adding, All-from_recursion, all_meant, AllOf, ap, arith, Bool}
+use Terms.{both, cond, content_of, counts_once, data_of, DwarfObject, elf_of, Encoding, ErrorValue}
+use Terms.{false, File, file_encoding, file_text, finished-is, finished-order, finished-own}
+use Terms.{finished-strings, has_content, has_sections, HaveEncodingOf, HoldsOwn, HoldsPlain}
+use Terms.{Indexes, indexes_of, inl, InProgress, input-keeps, inr, is_used, IsEquivalence}
+use Terms.{IsFinishedState, IsForeseen, IsOwn, IsPermutation-map, IsPlain, IsSoundBegun, joining}
+use Terms.{Joins, keys, keys-units, KindsDiffer, length, length-filter, length-map, limit_of, List}
+use Terms.{list_any-append, list_any_none, look_limit, Meaning, Members, new-sound, new_units, None}
+use Terms.{Ok, Option, order_of, own_encoding, own_source, package_or_new, packs_again, Parts}
+use Terms.{parts_of, refl, rewritten, same_name, same_name-self, same_name-true, same_sort}
+use Terms.{SectionKind, Some, start, subst, sym, true, units_begun, units_in, units_of}
+use Terms.{UnlessStringOffset, with_source, with_source_or_new, written_elf, written_object, ℕ, ◌<◌}
+use Terms.{◌||◌, ◌∙◌, ◌∷◌, ◌≡◌}
+use Rattle.thorin_again.proofs.Lists.InOrder.{meant_or, there-back}
+use Rattle.std.proofs.Common.{append_assoc, IsPermutation, length-append, ltb-true, nat_lt, not}
+use Rattle.std.proofs.Common.{Result, ◌++◌}
+use Rattle.thorin_join.specs.Builder.{begun_by, finish_test, State, taken}
 use Rattle.std.proofs.lemmas.List.Sorted.{IsPermutation-middle, sum_by-IsPermutation}
 use Rattle.thorin_join.specs.Meaning.{input_meaning}
 use Rattle.std.specs.List.{IsDistinct}
 use Rattle.std.proofs.lemmas.Simd.{map-map}
-use Rattle.std.proofs.lemmas.Map.Keys.{IsDistinct-IsPermutation, IsDistinct-from_apart}
+use Rattle.std.proofs.lemmas.Map.Keys.{IsDistinct-from_apart, IsDistinct-IsPermutation}
 use Rattle.indexmap.proofs.MapLemmas.{lookup_permutation}
 use Rattle.thorin_join.specs.Join.{IsPackageOf}
-use Rattle.thorin_again.proofs.Lists.OneEncoding.{answers-whole, input-order, own-encoded, first-of}
-use Rattle.thorin_again.proofs.Lists.OneEncoding.{AreEncoded, Finds}
-use Rattle.thorin_again.proofs.Accepted.OwnUnits.{taken-all, flips}
-use Rattle.thorin_again.specs.OwnAccepted.{IsAcceptedByNew, IsAccepted}
-use Rattle.thorin_again.proofs.Opened.Indexes.{own-offsets-alone, finished-shared, own-offsets}
-use Rattle.thorin_again.proofs.Opened.Indexes.{up-to-parts, in-format, lie-kept, lie-used, own-made}
-use Rattle.thorin_again.proofs.Opened.Indexes.{OwnMade, read-of}
-use Rattle.thorin_again.proofs.Opened.Sections.{own-parts-tried, present-written, input-encoding}
-use Rattle.thorin_again.proofs.Opened.Sections.{object-written, info-written, opened-elf, and-then}
-use Rattle.thorin_again.proofs.Opened.Sections.{answered, Unless}
+use Rattle.thorin_again.proofs.Lists.OneEncoding.{answers-whole, AreEncoded, Finds, first-of}
+use Rattle.thorin_again.proofs.Lists.OneEncoding.{input-order, own-encoded}
+use Rattle.thorin_again.proofs.Accepted.OwnUnits.{flips, taken-all}
+use Rattle.thorin_again.specs.OwnAccepted.{IsAccepted, IsAcceptedByNew}
+use Rattle.thorin_again.proofs.Opened.Indexes.{finished-shared, in-format, lie-kept, lie-used}
+use Rattle.thorin_again.proofs.Opened.Indexes.{own-made, own-offsets, own-offsets-alone, OwnMade}
+use Rattle.thorin_again.proofs.Opened.Indexes.{read-of, up-to-parts}
+use Rattle.thorin_again.proofs.Opened.Sections.{and-then, answered, info-written, input-encoding}
+use Rattle.thorin_again.proofs.Opened.Sections.{object-written, opened-elf, own-parts-tried}
+use Rattle.thorin_again.proofs.Opened.Sections.{present-written, Unless}
 use Rattle.thorin_again.proofs.Kept.OneEncoding.{begun-now}
 use Rattle.thorin_again.proofs.Meant.Package.{again-is}
 use Rattle.dwp_base.specs.declared.section.SectionKind.TheVariants as kinds

@@ -1,19 +1,20 @@
 -- What holds of each unit of an input of one encoding, and of those that are added to a package in
 -- turn. Each section that units share has a part that a row names, where plain objects add units.
 use Rattle.thorin_again.proofs.Terms
-use Terms.{AllPass-from_list_all, get_or_from_slice_get, content-with_bytes, content-with_parts, Ok}
-use Terms.{recursion_from_All, slice_get_within, contribution_to, list_any-append, with_unit_added}
-use Terms.{with_all_parts, with_new_units, HasNamedParts, same_encoding, Contribution, each-joining}
-use Terms.{has_encoding, joined_parts, sections-are, DwarfObject, SectionKind, UnitSection, IsKnown}
-use Terms.{section_has, All-weaker, ErrorValue, InProgress, IndexEntry, content_of, is_package, eqb}
-use Terms.{is_shared, range_put, same_kind, Contents, Encoding, UnitRead, each-all, eqb-true, AllSo}
-use Terms.{known-in, list_all, list_any, or-right, units-go, NewUnit, WasRead, by-bool, is_some, []}
-use Terms.{is_used, joining, kind_at, same-ok, section, Adding, Header, Option, Source, adding, sym}
-use Terms.{common, length, row_at, Reads, arith, false, subst, units, Each, Goes, List, Made, News}
-use Terms.{Some, Used, keys, refl, true, ◌<◌, ◌∙◌, ◌∷◌, ◌≡◌, ap, ℕ}
+use Terms.{[], Adding, adding, All-weaker, AllPass-from_list_all, AllSo, ap, arith, by-bool, common}
+use Terms.{content-with_bytes, content-with_parts, content_of, Contents, Contribution}
+use Terms.{contribution_put, contribution_to, DwarfObject, Each, each-all, each-joining, Encoding}
+use Terms.{eqb, eqb-true, ErrorValue, false, get_or_from_slice_get, Goes, has_encoding}
+use Terms.{HasNamedParts, Header, IndexEntry, InProgress, is_package, is_shared, is_some, is_used}
+use Terms.{IsKnown, joined_parts, joining, keys, kind_of, known-in, length, List, list_all}
+use Terms.{list_any, list_any-append, Made, News, NewUnit, Ok, Option, or-right, Reads}
+use Terms.{recursion_from_All, refl, row_at, same-ok, same_encoding, same_kind, section}
+use Terms.{section_has, SectionKind, sections-are, slice_get_within, Some, Source, subst, sym, true}
+use Terms.{UnitRead, units, units-go, UnitSection, Used, WasRead, with_all_parts, with_new_units}
+use Terms.{with_unit_added, ℕ, ◌<◌, ◌∙◌, ◌∷◌, ◌≡◌}
 use Rattle.std.proofs.Common.{length-append, ◌++◌}
 use Rattle.thorin_join.proofs.Parts.FirstUses.{each-unit as unit-by-unit}
-use Rattle.thorin_join.proofs.Units.JoinedByName.{units-joined, UnitsJoined, AreAdded, IsAdded}
+use Rattle.thorin_join.proofs.Units.JoinedByName.{AreAdded, IsAdded, units-joined, UnitsJoined}
 use Rattle.thorin_join.proofs.Rows.OfUnits.{adjusted-plain, is-unit_row, whole-part}
 use Rattle.std.proofs.lemmas.Bool.Decides.{nat_tests}
 
@@ -72,7 +73,7 @@ each-added P Q keeps = unit-by-unit (λ p us now. Each Q us → P p → P now) (
 
 -- units' own bytes go to other sections
 shared-apart : (place : UnitSection) (kind : SectionKind) → is_shared kind ≡ true
-    → same_kind (kind_at place) kind ≡ false
+    → same_kind (kind_of place) kind ≡ false
 shared-apart place kind shared = grind arith
 
 -- the row of a unit has what it shares
@@ -86,7 +87,8 @@ shared-row shared c name x place kind is = grind arith
 pub plain-part : (source : Source) (made : InProgress) (parts : Contents) (n : DwarfObject
     × NewUnit) (r : DwarfObject × UnitRead) → is_package source.indexes ≡ false
     → IsAdded (adding source made parts) n r
-    → (kind : SectionKind) → is_shared kind ≡ true → contribution_to kind n.1.row ≡ range_put kind
+    → (kind : SectionKind) → is_shared kind ≡ true → contribution_to kind n.1.row ≡
+    contribution_put kind
     (joined_parts kind parts) made.file.contents
 plain-part source made parts n r plain is kind shared =
     same-ok {E = ErrorValue} _ _
@@ -130,7 +132,7 @@ module _ {source : Source} {before now : InProgress} (a : Made source before now
   content-added kind shared = with-any
       (λ p. content_of kind p.file.contents ≡ content_of kind before.file.contents ++ joined_parts
       kind a.parts)
-      (λ p u h. content-with_bytes kind (kind_at u.1.place) u.1.bytes p.file.contents
+      (λ p u h. content-with_bytes kind (kind_of u.1.place) u.1.bytes p.file.contents
       ∙ rw (shared-apart u.1.place kind shared) h)
       (content-with_parts kind a.parts before.file.contents)
 
@@ -158,7 +160,7 @@ module _ {source : Source} {before now : InProgress} (a : Made source before now
   -- each has the part that was put of a shared section
   pub rows-share : is_package source.indexes ≡ false → (kind : SectionKind)
       → is_shared kind ≡ true → (P : Option Contribution → Type 0)
-      → P (range_put kind (joined_parts kind a.parts) before.file.contents)
+      → P (contribution_put kind (joined_parts kind a.parts) before.file.contents)
       → Each (RowHas (λ row. P (contribution_to kind row))) a.new.units
   rows-share plain kind shared P h =
       news-are (λ place unit. Unit {0}) (each-all _ (λ used place at k unit there. tt) _)

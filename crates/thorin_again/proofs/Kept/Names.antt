@@ -3,42 +3,43 @@
 -- package has bytes, where it has units: the first unit of an object stands in info, with the
 -- object's encoding, and its name's unit goes there.
 use Rattle.thorin_again.proofs.Terms
-use Terms.{content-with_bytes, content-with_parts, abbreviations_for, grows-with_parts, DwarfObject}
-use Terms.{identity-shifted, contribution_to, list_any-append, with_unit_added, drop-append-le, map}
-use Terms.{first_encoding, name_signature, same_name-self, same_name-true, type_signature, Contents}
-use Terms.{with_new_units, HasNamedUnits, identity-sort, name-identity, is_in_format, joined_parts}
-use Terms.{parts-copied, sound-inside, unit_section, units_within, whole_behind, NamesItself, AllSo}
-use Terms.{SectionKind, UnitSection, content-put, encoding_of, section_has, Endianness, ErrorValue}
-use Terms.{InProgress, IndexEntry, append-nil, content_of, each-named, front-long, goes-alone, Each}
-use Terms.{is_package, kind-place, map-append, newer-five, unit_bytes, with_bytes, with_parts, Goes}
-use Terms.{LieInside, ReadError, keys-held, own-place, place_for, same_kind, same_name, Encoding, ℕ}
-use Terms.{HasFront, UnitRead, bind-was, each-all, known-in, list_all, list_any, name_for, names_of}
-use Terms.{no-bytes, older_at, or-right, place_of, row-name, EachRow, IsSound, NewUnit, WasRead, Ok}
-use Terms.{by-bool, is-same, joining, kind_at, part_of, row-own, same-ok, section, unit_at, Header}
-use Terms.{Listed, Option, Source, adding, length, row_at, Input, Parts, Reads, arith, false, first}
-use Terms.{subst, units, List, Made, News, None, Some, Used, keys, more, refl, true, sym, ◌<◌, ◌∙◌}
-use Terms.{◌∷◌, ◌≡◌, [], ap}
+use Terms.{[], abbreviations_for, adding, AllSo, ap, append-nil, arith, bind-was, by-bool}
+use Terms.{content-put, content-with_bytes, content-with_parts, content_of, Contents}
+use Terms.{contribution_to, drop-append-le, DwarfObject, Each, each-all, each-named, EachRow}
+use Terms.{Encoding, encoding_of, Endianness, ErrorValue, false, first, first_encoding, front-long}
+use Terms.{Goes, goes-alone, grows-with_parts, HasFront, HasNamedUnits, Header, identity-shifted}
+use Terms.{identity-sort, IndexEntry, InProgress, Input, is-same, is_in_format, is_package, IsSound}
+use Terms.{joined_parts, joining, keys, keys-held, kind-place, kind_of, known-in, length, LieInside}
+use Terms.{List, list_all, list_any, list_any-append, Listed, Made, map, map-append, more}
+use Terms.{name-identity, name_for, name_signature, names_of, NamesItself, newer-five, News}
+use Terms.{NewUnit, no-bytes, None, Ok, older_at, Option, or-right, own-place, part_of, Parts}
+use Terms.{parts-copied, place_for, place_of, ReadError, Reads, refl, row-name, row-own, row_at}
+use Terms.{same-ok, same_kind, same_name, same_name-self, same_name-true, section, section_has}
+use Terms.{SectionKind, Some, sound-inside, Source, subst, sym, true, type_signature, unit_at}
+use Terms.{unit_bytes, unit_section, UnitRead, units, units_within, UnitSection, Used, WasRead}
+use Terms.{whole_behind, with_bytes, with_new_units, with_parts, with_unit_added, ℕ, ◌<◌, ◌∙◌, ◌∷◌}
+use Terms.{◌≡◌}
 use Rattle.dwp_dwarf.proofs.Readings.{takes_more}
-use Rattle.std.proofs.Common.{length-append, append_assoc, slice_get, ◌++◌, ◌⊎◌}
-use Rattle.dwp_dwarf.specs.Units.{older_type_at, header_at}
+use Rattle.std.proofs.Common.{append_assoc, length-append, slice_get, ◌++◌, ◌⊎◌}
+use Rattle.dwp_dwarf.specs.Units.{header_at, older_type_at}
 use Rattle.std.proofs.ByRecursion.{All-append}
 use Rattle.thorin_input.specs.Parts.{with_each_part, with_part}
-use Rattle.thorin_join.proofs.Rows.Stay.{grows-with_bytes, grows-trans, keep-part, Grows}
+use Rattle.thorin_join.proofs.Rows.Stay.{Grows, grows-trans, grows-with_bytes, keep-part}
 use Rattle.dwp_dwarf.proofs.Tables.{next_takes, said}
-use Rattle.dwp_dwarf.proofs.Offsets.{from_within, from_is}
+use Rattle.dwp_dwarf.proofs.Offsets.{from_is, from_within}
 use Rattle.dwp_dwarf.specs.Offsets.{from_at}
 use Rattle.dwp_dwarf.specs.Grammar.{DeclarationsLie, IsBehindOthers}
 use Rattle.dwp_dwarf.specs.Abbreviations.{Declaration, declaration}
-use Rattle.thorin_identity.specs.Identity.{root_identity, identity}
-use Rattle.thorin_join.specs.Meaning.{joined_content, named_sections, named_each, named_at}
+use Rattle.thorin_identity.specs.Identity.{identity, root_identity}
+use Rattle.thorin_join.specs.Meaning.{joined_content, named_at, named_each, named_sections}
 use Rattle.thorin_join.specs.State.{with_new_unit}
 use Rattle.thorin_join.proofs.Units.JoinedByName.{added-keys, IsAdded}
-use Rattle.thorin_again.proofs.Kept.EachUnit.{order-added, each-added, plain-part, shared-row}
-use Rattle.thorin_again.proofs.Kept.EachUnit.{with-each, news-are, with-any, joined, of-one, parted}
-use Rattle.thorin_again.proofs.Kept.EachUnit.{OfOne}
+use Rattle.thorin_again.proofs.Kept.EachUnit.{each-added, joined, news-are, of-one, OfOne}
+use Rattle.thorin_again.proofs.Kept.EachUnit.{order-added, parted, plain-part, shared-row, with-any}
+use Rattle.thorin_again.proofs.Kept.EachUnit.{with-each}
 use Rattle.thorin_again.proofs.Meant.RowByRow.{part-middle}
 use Rattle.thorin_join.proofs.Rows.LieInTurn.{can-lie}
-use Rattle.thorin_join.proofs.Rows.AllAdded.{names-added, joined-new, AllNew}
+use Rattle.thorin_join.proofs.Rows.AllAdded.{AllNew, joined-new, names-added}
 use Rattle.dwp_base.specs.declared.section.SectionKind.TheVariants as kinds
 use Rattle.dwp_dwarf.specs.declared.unit.UnitSection.TheVariants as places
 
@@ -109,7 +110,7 @@ keep-names order encoding c d grows [] lie names = tt
 keep-names order encoding c d grows (row ∷ rows) lie names = (
   λ unit rest read. let same = keep-part c d row grows lie.0 in
       rw (same kinds.Abbrev) (names.0 unit rest
-      (rw (same (kind_at (place_of row.id row.debug_types))) at read)),
+      (rw (same (kind_of (place_of row.id row.debug_types))) at read)),
   keep-names order encoding c d grows rows lie.1 names.1,
 )
 
@@ -134,20 +135,20 @@ module _ {source : Source} {before now : InProgress} (plain : is_package source.
 
   -- its row names it
   new-names : (c d : Contents) (n : DwarfObject × NewUnit) → IsNew n → Grows base c
-      → Grows (with_bytes (kind_at n.1.place) n.1.bytes c) d
+      → Grows (with_bytes (kind_of n.1.place) n.1.bytes c) d
       → NamesItself order source.encoding d (row_at n.1.row c n.0 n.1.bytes n.1.place)
   unfolding name_for abbreviations_for
   new-names c d n (r, is, goes, w) grows up unit rest read =
       let place = n.1.place in
       let x = n.1.bytes in
-      let k = kind_at place in
+      let k = kind_of place in
       let row = row_at n.1.row c n.0 x place in
       let id = row-name n.1.row c n.0 x place in
       let place_is : place_of row.id row.debug_types ≡ place =
       ap (λ n. place_of n row.debug_types) id
       ∙ sym (own-place n.1.row c n.0 x place (can-lie source before a.parts n r is goes).fits) in
-      let own : unit_bytes d row ≡ x = ap (λ p. part_of (content_of (kind_at p) d)
-      (contribution_to (kind_at p) row)) place_is ∙ ap (part_of (content_of k d))
+      let own : unit_bytes d row ≡ x = ap (λ p. part_of (content_of (kind_of p) d)
+      (contribution_to (kind_of p) row)) place_is ∙ ap (part_of (content_of k d))
       (row-own n.1.row c n.0 x place) ∙ put-stays (content_of k c) x (content-put k x c) (up k) in
       let named : identity (section order table) r.1.unit ≡ Ok (Some r.0) =
       grind (arith, plain, w.named) in
@@ -181,8 +182,8 @@ module _ {source : Source} {before now : InProgress} (plain : is_package source.
       → Name (with_unit_added p u)
   one-named p u new names =
       let c = p.file.contents in
-      let more = grows-with_bytes (kind_at u.1.place) u.1.bytes c in
-      let d : Contents = with_bytes (kind_at u.1.place) u.1.bytes c in (
+      let more = grows-with_bytes (kind_of u.1.place) u.1.bytes c in
+      let d : Contents = with_bytes (kind_of u.1.place) u.1.bytes c in (
         grows-trans base c d names.0 more,
         λ e up. All-append (NamesItself order source.encoding e) p.rows (_ ∷ [])
             (names.1 e (grows-trans c d e more up)) (new-names c e u new names.0 up, tt),
@@ -267,7 +268,7 @@ module _ (source : Source) (encoding : Encoding) where
 
 -- a section of this place is in the format
 abbrev InFormat : Source → UnitSection → Header → Type 0
-InFormat source place unit = is_in_format source.encoding (kind_at place) ≡ true
+InFormat source place unit = is_in_format source.encoding (kind_of place) ≡ true
 
 each-format : (source : Source) (sections : List Used) (before after : Parts)
     → with_each_part source before sections ≡ Ok after
@@ -288,7 +289,7 @@ HasInfo p = 0 < length (content_of kinds.Info p.file.contents)
 
 has-more : (p : InProgress) (u : DwarfObject × NewUnit) → HasInfo p → HasInfo (with_unit_added p u)
 has-more p u has =
-    let grows = grows-with_bytes (kind_at u.1.place) u.1.bytes p.file.contents kinds.Info in
+    let grows = grows-with_bytes (kind_of u.1.place) u.1.bytes p.file.contents kinds.Info in
     omega (arith, has, front-long grows)
 
 module _ (name : DwarfObject) where
@@ -311,7 +312,7 @@ module _ (name : DwarfObject) where
   units-put p [] new put there = absurd cc
   units-put p (u ∷ us) new put there =
       let c = p.file.contents in
-      let content = content-with_bytes kinds.Info (kind_at u.1.place) u.1.bytes c in
+      let content = content-with_bytes kinds.Info (kind_of u.1.place) u.1.bytes c in
       let long = length-append (content_of kinds.Info c) u.1.bytes in
       let later = units-put (with_unit_added p u) us in
       let stays = each-added HasInfo (λ u. Unit {0}) (λ p u one. has-more p u) (with_unit_added p u)

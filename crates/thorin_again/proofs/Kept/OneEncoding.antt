@@ -1,21 +1,22 @@
 -- What holds of all units of a package once an input was taken; all units of plain objects of one
 -- encoding have it; and a builder's package stays one of such objects.
 use Rattle.thorin_again.proofs.Terms
-use Terms.{HasTiledOffsets, package_or_new, file_encoding, IsSoundBegun, each-joining, own_encoding}
-use Terms.{source_units, DwarfObject, IfSome_then, each-mapped, input-keeps, section_has, InputFile}
-use Terms.{source-made, units_begun, All-append, All-weaker, ErrorValue, HoldsPlain, InProgress, Ok}
-use Terms.{IndexEntry, TakesUnits, indexes_of, is_package, length-map, made-order, all_there, Joins}
-use Terms.{new-sound, new-units, same_Some, All-cons, Encoding, HoldsOwn, UnitRead, bind-was, Reads}
-use Terms.{each-all, has_info, index_in, is_index, is_plain, list_all, list_any, units_of, All-nil}
-use Terms.{CuIndex, Indexes, IsPlain, Meaning, Members, TuIndex, data_of, same-ok, IfSome, Option}
-use Terms.{Ranges, Source, length, Takes, arith, false, first, subst, takes, Each, List, None, Some}
-use Terms.{Used, keys, refl, true, All, Elf, inl, inr, sym, ◌<◌, ◌∙◌, ◌∷◌, ◌≡◌, [], ap, ℕ}
+use Terms.{[], All, All-append, All-cons, All-nil, All-weaker, all_there, ap, arith, bind-was}
+use Terms.{CuIndex, data_of, DwarfObject, Each, each-all, each-joining, each-mapped, Elf, Encoding}
+use Terms.{ErrorValue, false, file_encoding, first, has_info, HasTiledOffsets, HoldsOwn, HoldsPlain}
+use Terms.{IfSome, IfSome_then, index_in, IndexEntry, Indexes, indexes_of, inl, InProgress}
+use Terms.{input-keeps, InputFile, inr, is_index, is_package, is_plain, IsPlain, IsSoundBegun}
+use Terms.{Joins, keys, length, length-map, List, list_all, list_any, made-order, Meaning, Members}
+use Terms.{new-sound, new-units, None, Ok, Option, own_encoding, package_or_new, Ranges, Reads}
+use Terms.{refl, same-ok, same_Some, section_has, Some, Source, source-made, source_units, subst}
+use Terms.{sym, Takes, takes, TakesUnits, true, TuIndex, UnitRead, units_begun, units_of, Used, ℕ}
+use Terms.{◌<◌, ◌∙◌, ◌∷◌, ◌≡◌}
 use Rattle.std.proofs.Common.{◌↔◌}
 use Rattle.std.proofs.lemmas.Bool.Decides.{nat_tests}
-use Rattle.thorin_join.specs.Builder.{with_input, names_in, State, taken}
-use Rattle.thorin_join.specs.Meaning.{object_meaning, source_meaning, input_meaning, unit_meaning}
-use Rattle.thorin_join.specs.Meaning.{meaning_by, meant}
-use Rattle.thorin_again.proofs.Kept.EachUnit.{common-self, common-are, named-kept}
+use Rattle.thorin_join.specs.Builder.{names_in, State, taken, with_input}
+use Rattle.thorin_join.specs.Meaning.{input_meaning, meaning_by, meant, object_meaning}
+use Rattle.thorin_join.specs.Meaning.{source_meaning, unit_meaning}
+use Rattle.thorin_again.proofs.Kept.EachUnit.{common-are, common-self, named-kept}
 use Rattle.thorin_again.proofs.Kept.Names.{info-there, names-kept}
 use Rattle.thorin_again.proofs.Offsets.RewrittenAgain.{no-turn}
 use Rattle.thorin_again.proofs.Offsets.Tiled.{tiled-kept}

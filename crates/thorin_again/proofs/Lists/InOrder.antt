@@ -1,15 +1,15 @@
 -- What a new builder holds once it took some inputs, and what stays so as they are taken in order;
 -- and its one encoding, by these inputs.
 use Rattle.thorin_again.proofs.Terms
-use Terms.{IsOfPlainObjects, file_encoding, IsSoundBegun, has_sections, own_encoding, DwarfObject}
-use Terms.{input-keeps, packs_again, units_begun, HoldsPlain, InProgress, IsPlainOf, all_there, All}
-use Terms.{All-cons, All-head, All-tail, AreTaken, EachAdds, Encoding, HoldsOwn, units_in, All-nil}
-use Terms.{Dwarf32, Meaning, Members, Option, length, Joins, arith, start, subst, takes, List, None}
-use Terms.{Some, refl, true, map, sym, ◌<◌, ◌∷◌, ◌≡◌, Ok, [], ap, ℕ}
+use Terms.{[], All, All-cons, All-head, All-nil, All-tail, all_there, ap, AreTaken, arith, Dwarf32}
+use Terms.{DwarfObject, EachAdds, Encoding, file_encoding, has_sections, HoldsOwn, HoldsPlain}
+use Terms.{InProgress, input-keeps, IsOfPlainObjects, IsPlainOf, IsSoundBegun, Joins, length, List}
+use Terms.{map, Meaning, Members, None, Ok, Option, own_encoding, packs_again, refl, Some, start}
+use Terms.{subst, sym, takes, true, units_begun, units_in, ℕ, ◌<◌, ◌∷◌, ◌≡◌}
 use Rattle.std.proofs.Common.{length-append, unwrap_or, ◌+◌, ◌↔◌}
-use Rattle.thorin_join.specs.Builder.{with_input, names_in, State, taken}
-use Rattle.thorin_again.proofs.Kept.OneEncoding.{taken-holds, taken-plain, units-names, begun-now}
-use Rattle.thorin_again.proofs.Kept.OneEncoding.{own-adds, Before}
+use Rattle.thorin_join.specs.Builder.{names_in, State, taken, with_input}
+use Rattle.thorin_again.proofs.Kept.OneEncoding.{Before, begun-now, own-adds, taken-holds}
+use Rattle.thorin_again.proofs.Kept.OneEncoding.{taken-plain, units-names}
 
 -- what stays so of a builder, whatever executables refer to, as inputs of this kind are taken
 in-order : (Q : List ℕ → Type 0) (P : State → Type 0)
@@ -66,8 +66,15 @@ plain-is bytes e = (λ found. grind arith, λ p. grind (arith, p))
 -- a unit with all that belongs to it, or with nothing
 abbrev pub meant_or : DwarfObject × Option Meaning → DwarfObject × Meaning
 meant_or u =
-    let none : Encoding = record { version = 0; format = Dwarf32; address_size = 0 } in
-    (u.0, unwrap_or u.1 (record { bytes = []; pieces = λ k c. []; strings = []; encoding = none }))
+    let none : Encoding = record { version = 0; format = Dwarf32; address_size = 0 } in (
+      u.0,
+      unwrap_or u.1 (record {
+        bytes = [];
+        contributions = λ k c. [];
+        strings = [];
+        encoding = none;
+      }),
+    )
 
 pub there-back : (us : Members) → map meant_or (all_there us) ≡ us
 there-back [] = refl

@@ -2,31 +2,31 @@
 -- encoding that is recorded of it, wherever its bytes are read again; each has its strings; and
 -- what is written has the encoding, as an input.
 use Rattle.thorin_again.proofs.Terms
-use Terms.{IsFinishedState, finished-order, first_encoding, package_or_new, written_object, All-map}
-use Terms.{IsSoundBegun, finished-own, sections-are, source_units, units_within, DwarfObject, AllOf}
-use Terms.{KindsDiffer, MatchOption, NamesItself, UnitSection, encoding_of, finished-is, All-weaker}
-use Terms.{section_has, source-made, units_begun, written_elf, Endianness, InProgress, IndexEntry}
-use Terms.{TakesUnits, content_of, length-map, look_limit, made-order, meaning_at, one_answer, File}
-use Terms.{same-begun, unit_bytes, AreRowsOf, GivesNone, GivesUnit, ReadError, file_text, same_name}
-use Terms.{All-cons, All-head, All-tail, AreTaken, Contents, Encoding, bind-was, each-all, list_all}
-use Terms.{older_at, order_of, place_of, units_in, units_of, All-nil, EachRow, IsPlain, IsSound, Ok}
-use Terms.{Meaning, Members, WasRead, kind_at, members, same-ok, section, unit_at, Header, IfSome}
-use Terms.{Option, Source, elf_of, length, lookup, opened, Input, Joins, Reads, arith, start, subst}
-use Terms.{takes, units, List, None, Some, refl, true, All, Elf, inl, inr, map, sym, ◌<◌, ◌∙◌, ◌∷◌}
-use Terms.{◌≡◌, [], ap, ℕ}
-use Rattle.dwp_index.specs.Package.{found_counted, encoding_in, unit_at_row, package_of, Package}
+use Terms.{[], All, All-cons, All-head, All-map, All-nil, All-tail, All-weaker, AllOf, ap}
+use Terms.{AreRowsOf, AreTaken, arith, bind-was, content_of, Contents, DwarfObject, each-all}
+use Terms.{EachRow, Elf, elf_of, Encoding, encoding_of, Endianness, File, file_text, finished-is}
+use Terms.{finished-order, finished-own, first_encoding, GivesNone, GivesUnit, Header, IfSome}
+use Terms.{IndexEntry, inl, InProgress, Input, inr, IsFinishedState, IsPlain, IsSound, IsSoundBegun}
+use Terms.{Joins, kind_of, KindsDiffer, length, length-map, List, list_all, look_limit, lookup}
+use Terms.{made-order, map, MatchOption, Meaning, meaning_at, Members, members, NamesItself, None}
+use Terms.{Ok, older_at, one_answer, opened, Option, order_of, package_or_new, place_of, ReadError}
+use Terms.{Reads, refl, same-begun, same-ok, same_name, section, section_has, sections-are, Some}
+use Terms.{Source, source-made, source_units, start, subst, sym, takes, TakesUnits, true, unit_at}
+use Terms.{unit_bytes, units, units_begun, units_in, units_of, units_within, UnitSection, WasRead}
+use Terms.{written_elf, written_object, ℕ, ◌<◌, ◌∙◌, ◌∷◌, ◌≡◌}
+use Rattle.dwp_index.specs.Package.{encoding_in, found_counted, Package, package_of, unit_at_row}
 use Rattle.dwp_index.specs.Package.{unit_in}
 use Rattle.dwp_dwarf.specs.Units.{header_at}
-use Rattle.thorin_join.specs.Builder.{finish_test, IsFinished, with_input, State}
+use Rattle.thorin_join.specs.Builder.{finish_test, IsFinished, State, with_input}
 use Rattle.thorin_again.specs.Again.{input_encoding}
-use Rattle.thorin_again.proofs.Kept.EachUnit.{order-added, of-one, OfOne}
-use Rattle.thorin_again.proofs.Kept.OneEncoding.{units-hold, begun-all, CanMean}
+use Rattle.thorin_again.proofs.Kept.EachUnit.{of-one, OfOne, order-added}
+use Rattle.thorin_again.proofs.Kept.OneEncoding.{begun-all, CanMean, units-hold}
 use Rattle.std.proofs.lemmas.Map.Views.{IfSome-lookup_from_All}
-use Rattle.thorin_again.specs.OneEncoding.{HaveEncodingOnceWritten, AnswersOnceWritten, GivesWhole}
-use Rattle.thorin_again.specs.OneEncoding.{IsOfOneEncoding, IsOfEncoding, AnswersAs}
+use Rattle.thorin_again.specs.OneEncoding.{AnswersAs, AnswersOnceWritten, GivesWhole}
+use Rattle.thorin_again.specs.OneEncoding.{HaveEncodingOnceWritten, IsOfEncoding, IsOfOneEncoding}
 use Rattle.thorin_again.proofs.Lists.InOrder.{packages-in-order}
-use Rattle.thorin_again.proofs.Opened.Sections.{input-encoding, first-written}
-use Rattle.thorin_again.proofs.Kept.Names.{info-there, HasInfo}
+use Rattle.thorin_again.proofs.Opened.Sections.{first-written, input-encoding}
+use Rattle.thorin_again.proofs.Kept.Names.{HasInfo, info-there}
 use Rattle.thorin_again.proofs.Meant.RowByRow.{of-section, read-alone}
 use Rattle.dwp_index.specs.Package as index
 use Rattle.dwp_dwarf.specs.declared.unit.UnitSection.TheVariants as places
@@ -217,7 +217,7 @@ units-there order bytes some none = grind arith
 pub first-of : (made : InProgress) (file : File) (encoding : Encoding)
     → IsSound made → IsFinished made file → KindsDiffer file.contents
     → All (IsAlike made.file.order encoding) (units_of made)
-    → 0 < length (content_of (kind_at places.Info) file.contents)
+    → 0 < length (content_of (kind_of places.Info) file.contents)
     → encoding_of (written_object file) ≡ Ok encoding
 unfolding encoding_of
 first-of made file encoding sound fin differ alike some =
@@ -226,7 +226,7 @@ first-of made file encoding sound fin differ alike some =
     let mean : IndexEntry → Meaning = λ row. meaning_at order contents made.strings row in
     let Is = IsAlike order encoding in
     let own = finished-own made file fin places.Info in
-    let held = first-written (kind_at places.Info) file.contents differ ∙ own in
+    let held = first-written (kind_of places.Info) file.contents differ ∙ own in
     (λ i. first_encoding (units places.Info (section (finished-order made file fin i) (held i))))
     ∙ of-section order contents places.Info made.rows
     (λ todo got. All Is (members mean todo) → (got ≡ [] → ⊥) → first_encoding got ≡ Ok encoding)

@@ -1,27 +1,28 @@
 -- What a unit of a written package means as an input: just what was joined.
 use Rattle.thorin_again.proofs.Terms
-use Terms.{get_or_append_left, abbreviations_for, row_abbreviations, slice_get-get_or, Contribution}
-use Terms.{slice_get_within, contribution_to, is_compilation, name_signature, filter-append, Header}
-use Terms.{identifier_of, identity-sort, name-identity, FindsExactly, DwarfObject, SectionKind, sym}
-use Terms.{UnitSection, not-outside, pieces-same, take-length, All-filter, Endianness, HasEntries}
-use Terms.{InProgress, IndexEntry, content_of, is_outside, lie_inside, meaning_at, own_source, Bool}
-use Terms.{part-there, strings_of, AreRowsOf, LieInside, entry_ids, index_for, is_chosen, looked_up}
-use Terms.{nat_tests, none-some, Contents, Encoding, HasParts, eqb-true, name_for, range_in, Option}
-use Terms.{row_test, HasRows, Indexes, IsRowOf, Meaning, by-bool, kind_at, members, part_of, Ranges}
-use Terms.{rows_of, section, Source, length, nat_eq, row_of, AllOf, Index, Input, arith, false, ◌<◌}
-use Terms.{first, id-at, File, List, None, Some, refl, true, zero, ◌∙◌, ◌∷◌, ◌≡◌, Ok, [], ap, ℕ}
-use Rattle.std.proofs.Common.{slice_get, is_none, get_or, find, ◌++◌, ap₂, suc, ◌+◌, ◌≢◌, ◌≤◌}
-use Rattle.thorin_join.specs.Meaning.{meaning_with, shared_kinds, unit_meaning, meaning_by}
+use Terms.{[], abbreviations_for, All-filter, AllOf, ap, AreRowsOf, arith, Bool, by-bool}
+use Terms.{content_of, Contents, Contribution, contribution_to, contributions-same, DwarfObject}
+use Terms.{Encoding, Endianness, entry_ids, eqb-true, false, File, filter-append, FindsExactly}
+use Terms.{first, get_or_append_left, HasEntries, HasParts, HasRows, Header, id-at, identifier_of}
+use Terms.{identity-sort, Index, index_for, IndexEntry, Indexes, InProgress, Input, is_chosen}
+use Terms.{is_compilation, is_outside, IsRowOf, kind_of, length, lie_inside, LieInside, List}
+use Terms.{looked_up, Meaning, meaning_at, members, name-identity, name_for, name_signature, nat_eq}
+use Terms.{nat_tests, None, none-some, not-outside, Ok, Option, own_source, part-there, part_of}
+use Terms.{range_in, Ranges, refl, row_abbreviations, row_of, row_test, rows_of, section}
+use Terms.{SectionKind, slice_get-get_or, slice_get_within, Some, Source, strings_of, sym}
+use Terms.{take-length, true, UnitSection, zero, ℕ, ◌<◌, ◌∙◌, ◌∷◌, ◌≡◌}
+use Rattle.std.proofs.Common.{ap₂, find, get_or, is_none, slice_get, suc, ◌++◌, ◌+◌, ◌≢◌, ◌≤◌}
+use Rattle.thorin_join.specs.Meaning.{meaning_by, meaning_with, shared_kinds, unit_meaning}
 use Rattle.thorin_identity.specs.Identity.{identity}
 use Rattle.dwp_index.specs.Index.{row_in}
-use Rattle.dwp_table.specs.Probing.{look_count, found_row}
+use Rattle.dwp_table.specs.Probing.{found_row, look_count}
 use Rattle.thorin_packaged.specs.RowPlaces.{row_by_place}
-use Rattle.thorin_input.specs.Rows.{numbered_abbreviations, own_range}
-use Rattle.thorin_again.proofs.Meant.RowByRow.{bytes-own, IsUnitOf, range_at, IsBelow, at-seam}
+use Rattle.thorin_input.specs.Rows.{numbered_abbreviations, own_contribution}
+use Rattle.thorin_again.proofs.Meant.RowByRow.{at-seam, bytes-own, IsBelow, IsUnitOf, range_at}
 use Rattle.thorin_packaged.proofs.FirstRow.{first_found}
 use Rattle.dwp_table.proofs.Tables.{finds_exactly}
 use Rattle.thorin_join.proofs.Parts.StringLists.{strings-are}
-use Rattle.thorin_again.proofs.Opened.Indexes.{rows-kept, IsReadOf}
+use Rattle.thorin_again.proofs.Opened.Indexes.{IsReadOf, rows-kept}
 use Rattle.dwp_base.specs.declared.section.SectionKind.TheVariants as kinds
 
 -- ---- names
@@ -75,7 +76,7 @@ module _ {encoding : Encoding} {file : File} {indexes : Indexes} {made : InProgr
   row-lies = joined.0.lie
 
   abbrev kind : SectionKind
-  kind = kind_at place
+  kind = kind_of place
 
   abbrev sort : Bool
   sort = is_compilation row.id
@@ -168,7 +169,8 @@ module _ {encoding : Encoding} {file : File} {indexes : Indexes} {made : InProgr
       rw inside (ap (meaning_with source u.own (Some parts.row)) strings_are
       ∙ (λ i. Some (record {
         bytes = own_is i;
-        pieces = pieces-same _ _ (λ k copied. bytes-are k ∙ is.shares.content k copied) i;
+        contributions = contributions-same _ _ (λ k copied.
+            bytes-are k ∙ is.shares.content k copied) i;
         strings = (mean row).strings;
         encoding = joined.1 i;
       })))
@@ -199,7 +201,7 @@ module _ {encoding : Encoding} {file : File} {indexes : Indexes} {made : InProgr
       grind (arith, nat_tests, other, (finds name).present_row r within is, row_is, is, number_is)))
       ∙ row_is)))
 
-  own-range : own_range h ≡ range
+  own-range : own_contribution h ≡ range
   own-range = ap (λ (i : Input). range_at i.place i.bytes) u.whole
 
   -- the unit has the name of its row, and means what was joined

@@ -1,28 +1,29 @@
 -- A finished package, taken as an input, means the units that were joined in it.
 use Rattle.thorin_again.proofs.Terms
-use Terms.{All-from_recursion, with_source_or_new, Any-from_list_any, IsPermutation-map, ErrorValue}
-use Terms.{drop-append_seam, take-append_seam, IsFinishedState, MeansWhereTaken, HaveEncodingOf, Ok}
-use Terms.{is_compilation, package_or_new, written_object, IsSoundBegun, eqb-suc-zero, source_units}
-use Terms.{unit_section, units_within, written_used, DwarfObject, KindsDiffer, SectionKind, Indexes}
-use Terms.{UnitSection, encoding_of, source-made, with_source, written_elf, InProgress, IndexEntry}
-use Terms.{append-nil, content_of, indexes_of, length-map, map-append, meaning_at, own_source, Each}
-use Terms.{with_units, all_meant, file_text, All-drop, All-head, All-tail, All-take, Contents, File}
-use Terms.{Encoding, UnitRead, bind-was, has_info, name_for, no-bytes, row_test, units_in, units_of}
-use Terms.{IsSound, Meaning, Members, NewUnit, by-bool, joining, kind_at, members, rows_at, same-ok}
-use Terms.{section, Adding, Option, Source, adding, elf_of, length, opened, AllOf, IsOwn, Reads, []}
-use Terms.{arith, first, is_at, subst, units, List, refl, true, All, map, sym, ◌<◌, ◌∙◌, ◌∷◌, ◌≡◌}
-use Terms.{ap, ℕ}
-use Rattle.std.proofs.Common.{IsPermutation, Result, ◌++◌, ap₂, ◌≢◌}
-use Rattle.thorin_join.specs.Builder.{finish_test, order_test, with_input, State, taken}
-use Rattle.std.proofs.lemmas.List.Sorted.{IsPermutation-append_right, IsPermutation-append_comm}
-use Rattle.std.proofs.lemmas.List.Sorted.{IsPermutation-filter_both, IsPermutation-trans}
-use Rattle.std.proofs.lemmas.List.Sorted.{IsPermutation-refl, IsPermutation-sym, All-permutation}
-use Rattle.thorin_join.specs.Meaning.{named_sections, object_meaning, source_meaning, input_meaning}
-use Rattle.thorin_join.specs.Meaning.{named_each, named_unit, can_join, named_at, meant}
+use Terms.{[], Adding, adding, All, All-drop, All-from_recursion, All-head, All-tail, All-take}
+use Terms.{all_meant, AllOf, Any-from_list_any, ap, append-nil, arith, bind-was, by-bool}
+use Terms.{content_of, Contents, drop-append_seam, DwarfObject, Each, elf_of, Encoding, encoding_of}
+use Terms.{eqb-suc-zero, ErrorValue, File, file_text, first, has_info, HaveEncodingOf, IndexEntry}
+use Terms.{Indexes, indexes_of, InProgress, is_at, is_compilation, IsFinishedState, IsOwn}
+use Terms.{IsPermutation-map, IsSound, IsSoundBegun, joining, kind_of, KindsDiffer, length}
+use Terms.{length-map, List, map, map-append, Meaning, meaning_at, MeansWhereTaken, Members}
+use Terms.{members, name_for, NewUnit, no-bytes, Ok, opened, Option, own_source, package_or_new}
+use Terms.{Reads, refl, row_test, rows_at, same-ok, section, SectionKind, Source, source-made}
+use Terms.{source_units, subst, sym, take-append_seam, true, unit_section, UnitRead, units}
+use Terms.{units_in, units_of, units_within, UnitSection, with_source, with_source_or_new}
+use Terms.{with_units, written_elf, written_object, written_used, ℕ, ◌<◌, ◌∙◌, ◌∷◌, ◌≡◌}
+use Rattle.std.proofs.Common.{ap₂, IsPermutation, Result, ◌++◌, ◌≢◌}
+use Rattle.thorin_join.specs.Builder.{finish_test, order_test, State, taken, with_input}
+use Rattle.std.proofs.lemmas.List.Sorted.{All-permutation, IsPermutation-append_comm}
+use Rattle.std.proofs.lemmas.List.Sorted.{IsPermutation-append_right, IsPermutation-filter_both}
+use Rattle.std.proofs.lemmas.List.Sorted.{IsPermutation-refl, IsPermutation-sym}
+use Rattle.std.proofs.lemmas.List.Sorted.{IsPermutation-trans}
+use Rattle.thorin_join.specs.Meaning.{can_join, input_meaning, meant, named_at, named_each}
+use Rattle.thorin_join.specs.Meaning.{named_sections, named_unit, object_meaning, source_meaning}
 use Rattle.thorin_join.proofs.Units.JoinedByName.{AreAdded}
-use Rattle.thorin_again.proofs.Opened.Sections.{input-encoding, object-written, first-written}
-use Rattle.thorin_again.proofs.Opened.Sections.{empty-first, none-behind, rest-differ, opened-elf}
-use Rattle.thorin_again.proofs.Opened.Sections.{section_of, no-info}
+use Rattle.thorin_again.proofs.Opened.Sections.{empty-first, first-written, input-encoding, no-info}
+use Rattle.thorin_again.proofs.Opened.Sections.{none-behind, object-written, opened-elf}
+use Rattle.thorin_again.proofs.Opened.Sections.{rest-differ, section_of}
 use Rattle.thorin_again.proofs.Meant.RowByRow.{of-section}
 use Rattle.thorin_again.proofs.Meant.OneRow.{row-means-again}
 use Rattle.thorin_again.proofs.Opened.Indexes.{IsReadOf, lie-kept, lie-used, read-of}
@@ -49,8 +50,8 @@ joined-tested adding names (u ∷ us) (n ∷ ns) can are =
 
 -- what is read of the content of a section of units
 abbrev read_at : Source → Contents → UnitSection → Result Reads ErrorValue
-read_at source cs place = named_each source (kind_at place)
-    (units place (section source.object.order (content_of (kind_at place) cs)))
+read_at source cs place = named_each source (kind_of place)
+    (units place (section source.object.order (content_of (kind_of place) cs)))
 
 -- those of info and those of types are all of these, in some order
 abbrev Split : Source → Contents → Reads → Type 0
@@ -124,16 +125,16 @@ module _ {encoding : Encoding} {file : File} {indexes : Indexes} {made : InProgr
   units-are place =
       let laid = is.own.sound.laid in
       of-section file.order file.contents place made.rows
-      (λ todo got. (us : Reads) → named_each source (kind_at place) got ≡ Ok us
+      (λ todo got. (us : Reads) → named_each source (kind_of place) got ≡ Ok us
       → All (IsTested source) us → units_meant us ≡ all_meant
       (members mean (rows_at place todo)))
       (λ us named rest. ap units_meant (sym (same-ok [] us named)))
       (λ r rs got elsewhere later. rw elsewhere later)
       (λ r rs h got u later us named rest.
-      let s1 = bind-was (named_unit source (kind_at place) (Ok h)) _ us named in
-      let s2 = bind-was (named_each source (kind_at place) got) _ us s1.2 in
-      let t = bind-was (name_for source (kind_at place) h) _ s1.0 s1.1 in
-      let unit : DwarfObject × UnitRead = (t.0, record { from = kind_at place; unit = h }) in
+      let s1 = bind-was (named_unit source (kind_of place) (Ok h)) _ us named in
+      let s2 = bind-was (named_each source (kind_of place) got) _ us s1.2 in
+      let t = bind-was (name_for source (kind_of place) h) _ s1.0 s1.1 in
+      let unit : DwarfObject × UnitRead = (t.0, record { from = kind_of place; unit = h }) in
       let found : us ≡ unit ∷ s2.0 = grind (arith, s2.2, t.2) in
       let each = subst (All (IsTested source)) found rest in
       let means = row-means-again is u t.0 t.1 (All-head (IsTested source) unit s2.0 each) in

@@ -1,15 +1,15 @@
 -- What the rows of a written package are for an input, and which begin before a place. A section of
 -- units of such a package is read as the units of its rows, one after another.
 use Rattle.thorin_again.proofs.Terms
-use Terms.{drop-append_seam, take-append_seam, contribution_to, name_signature, type_signature, All}
-use Terms.{Contribution, HaveOneRange, units_within, SectionKind, UnitSection, part-inside, All-nil}
-use Terms.{Endianness, IndexEntry, content_of, is_package, same_place, unit-moves, unit_bytes, List}
-use Terms.{IsShifted, ReadError, Contents, place_of, HasRows, IsTable, by-bool, data_of, kind_at, ℕ}
-use Terms.{part_of, rows_at, rows_of, section, unit_at, Header, Source, length, ne_eqb, Input, Some}
-use Terms.{after, arith, false, first, is_at, plain, units, refl, true, zero, Lie, sym, ◌-◌, ◌<◌}
-use Terms.{◌∙◌, ◌∷◌, ◌≡◌, Ok, [], ap}
-use Rattle.std.proofs.Common.{length-append, append_assoc, slice_get, Result, ◌++◌, suc, ◌+◌, ◌≤◌}
-use Rattle.std.proofs.lemmas.List.Elements.{All-weaker, All-push}
+use Terms.{[], after, All, All-nil, ap, arith, by-bool, content_of, Contents, Contribution}
+use Terms.{contribution_to, data_of, drop-append_seam, Endianness, false, first, HasRows}
+use Terms.{HaveOneRange, Header, IndexEntry, Input, is_at, is_package, IsShifted, IsTable, kind_of}
+use Terms.{length, Lie, List, name_signature, ne_eqb, Ok, part-inside, part_of, place_of, plain}
+use Terms.{ReadError, refl, rows_at, rows_of, same_place, section, SectionKind, Some, Source, sym}
+use Terms.{take-append_seam, true, type_signature, unit-moves, unit_at, unit_bytes, units}
+use Terms.{units_within, UnitSection, zero, ℕ, ◌-◌, ◌<◌, ◌∙◌, ◌∷◌, ◌≡◌}
+use Rattle.std.proofs.Common.{append_assoc, length-append, Result, slice_get, suc, ◌++◌, ◌+◌, ◌≤◌}
+use Rattle.std.proofs.lemmas.List.Elements.{All-push, All-weaker}
 use Rattle.dwp_base.specs.declared.section.SectionKind.TheVariants as kinds
 
 -- an input that was read of a written package of these rows
@@ -53,9 +53,9 @@ pub record IsUnitOf (order : Endianness) (contents : Contents) (place : UnitSect
   pub here : is_at place row ≡ true
   pub offset : ℕ
   pub own : List ℕ
-  pub below : All (IsBelow (kind_at place) offset) before
-  pub range : contribution_to (kind_at place) row ≡ Some (range_at offset own)
-  pub part : part_of (content_of (kind_at place) contents) (Some (range_at offset own)) ≡ own
+  pub below : All (IsBelow (kind_of place) offset) before
+  pub range : contribution_to (kind_of place) row ≡ Some (range_at offset own)
+  pub part : part_of (content_of (kind_of place) contents) (Some (range_at offset own)) ≡ own
   pub whole : unit.whole ≡ plain order offset own
   pub sort : type_signature unit.unit_type ≡ name_signature row.id
   pub alone : Header
@@ -94,7 +94,7 @@ module _ (order : Endianness) (contents : Contents) (place : UnitSection) (rows 
     (reads : List (Result Header ReadError)) → IsUnitOf order contents place rows r rs h
     → P rs reads → P (r ∷ rs) (Ok h ∷ reads)) where
   abbrev kind : SectionKind
-  kind = kind_at place
+  kind = kind_of place
 
   -- from rows on whose units begin at an offset of the section
   from : (before todo : List IndexEntry) (pre bytes : List ℕ) (offset n : ℕ)

@@ -3,28 +3,29 @@
 -- are rewritten unless the offset of a string doesn't fit; those that were rewritten, once more
 -- from the same strings on, give the same strings.
 use Rattle.thorin_again.proofs.Terms
-use Terms.{get_or_from_slice_get, All-from_recursion, UnlessStringOffset, recursion_from_All, Index}
-use Terms.{Any-from_list_any, slice_get_within, contribution_to, drop-append-add, list_any-append}
-use Terms.{slice_get_cases, drop-append-le, range_with_len, slice_get_read, Contribution, is_chosen}
-use Terms.{IsWholeRange, number_front, SectionKind, all_kept_by, count-again, header_size, Encoding}
-use Terms.{length-drop, offset_size, range-front, range_bytes, Endianness, IndexEntry, StrOffsets}
-use Terms.{nat_tests, no_header, string_at, string_in, HasOneOf, HasParts, IsOfSome, bind-was, Bool}
-use Terms.{entry_in, list_any, named_at, EachRow, HasRows, IsAmong, add-mul, is_some, is_used, Each}
-use Terms.{rows_of, Option, length, ⊎_elim, arith, false, subst, ◌>>=◌, List, None, Some, Tile, inl}
-use Terms.{refl, true, zero, inr, map, sym, ◌*◌, ◌<◌, ◌∙◌, ◌∷◌, ◌≡◌, Ok, [], ℕ}
-use Rattle.std.proofs.Common.{length-append, slice_range, slice_get, drop, ◌++◌, suc, ◌+◌, ◌≤◌, ◌⊎◌}
+use Terms.{[], add-mul, All-from_recursion, all_kept_by, Any-from_list_any, arith, bind-was, Bool}
+use Terms.{Contribution, contribution_to, count-again, drop-append-add, drop-append-le, Each}
+use Terms.{EachRow, Encoding, Endianness, entry_in, false, get_or_from_slice_get, HasOneOf}
+use Terms.{HasParts, HasRows, header_size, Index, IndexEntry, inl, inr, is_chosen, is_some, is_used}
+use Terms.{IsAmong, IsOfSome, IsWholeRange, length, length-drop, List, list_any, list_any-append}
+use Terms.{map, named_at, nat_tests, no_header, None, number_front, offset_size, Ok, Option}
+use Terms.{range-front, range_bytes, range_with_len, recursion_from_All, refl, rows_of, SectionKind}
+use Terms.{slice_get_cases, slice_get_read, slice_get_within, Some, string_at, string_in}
+use Terms.{StrOffsets, subst, sym, Tile, true, UnlessStringOffset, zero, ℕ, ⊎_elim, ◌*◌, ◌<◌, ◌>>=◌}
+use Terms.{◌∙◌, ◌∷◌, ◌≡◌}
+use Rattle.std.proofs.Common.{drop, length-append, slice_get, slice_range, suc, ◌++◌, ◌+◌, ◌≤◌, ◌⊎◌}
 use Rattle.std.specs.BTreeSet.{insert_key}
 use Rattle.std.proofs.lemmas.List.FromFn.{get_or-map-range_with_len, length-map-range_with_len}
 use Rattle.std.proofs.lemmas.List.Sorted.{IsPermutation-filter_both, list_any-IsPermutation}
-use Rattle.thorin_packaged.specs.PackagedOffsets.{rewritten_from, offset_ranges, ranges_test}
-use Rattle.thorin_packaged.specs.PackagedOffsets.{with_ranges, place_cmp, with_rows}
-use Rattle.thorin_packaged.specs.RowPlaces.{range_of_row, ranges_of, is_range}
-use Rattle.thorin_packaged.proofs.FirstRow.{range_of_found, range_is}
+use Rattle.thorin_packaged.specs.PackagedOffsets.{offset_ranges, place_cmp, ranges_test}
+use Rattle.thorin_packaged.specs.PackagedOffsets.{rewritten_from, with_ranges, with_rows}
+use Rattle.thorin_packaged.specs.RowPlaces.{is_range, range_of_row, ranges_of}
+use Rattle.thorin_packaged.proofs.FirstRow.{range_is, range_of_found}
 use Rattle.thorin_packaged.proofs.RowRanges.{compilation_there, type_there}
 use Rattle.std.proofs.lemmas.Nat.{row_fits}
 use Rattle.dwp_base.specs.Numbers.{number}
-use Rattle.thorin_strings.specs.StringOffsets.{remapped_entries, fitting_offset, remapped_entry}
-use Rattle.thorin_strings.specs.StringOffsets.{entry_bytes, offset_at, remapped}
+use Rattle.thorin_strings.specs.StringOffsets.{entry_bytes, fitting_offset, offset_at, remapped}
+use Rattle.thorin_strings.specs.StringOffsets.{remapped_entries, remapped_entry}
 
 -- ---- the rows of compilation units and those of type units
 

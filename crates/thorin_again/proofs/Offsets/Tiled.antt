@@ -1,26 +1,26 @@
 -- The ranges of string offsets fill their section, where plain objects of one encoding are added:
 -- what each gives to string offsets is nothing, or a whole range.
 use Rattle.thorin_again.proofs.Terms
-use Terms.{joined_parts-more, HasTiledOffsets, rewritten-plain, units-strings, Contribution, Source}
-use Terms.{IsWholeRange, joined_parts, GiveStrings, count-again, entry_count, front-front, Contents}
-use Terms.{header_size, offset_size, source-made, take-length, with_source, All-weaker, Endianness}
-use Terms.{InProgress, IndexEntry, StrOffsets, content_of, is_package, no-entries, true≢false, Bool}
-use Terms.{eqb-false, no_header, none-some, own-bytes, place-put, range_for, range_put, same_Some}
-use Terms.{Encoding, HasOneOf, IsOfSome, eqb-true, has_part, parts_of, range-of, zero-mul, EachRow}
-use Terms.{IsAmong, IsTable, add-mul, by-bool, data_of, is-same, length, ⊎_elim, Added, Parts, List}
-use Terms.{arith, false, first, subst, Some, Tile, Used, refl, true, ◌&&◌, Str, eqb, inl, inr, sym}
-use Terms.{◌*◌, ◌<◌, ◌∙◌, ◌∷◌, ◌≡◌, Ok, [], ap, ℕ}
-use Rattle.std.proofs.Common.{length-append, leb-false, lt-ltb, take, ◌++◌, leb, ◌+◌, ◌⊎◌}
+use Terms.{[], add-mul, Added, All-weaker, ap, arith, Bool, by-bool, content_of, Contents}
+use Terms.{Contribution, contribution_put, count-again, data_of, EachRow, Encoding, Endianness}
+use Terms.{entry_count, eqb, eqb-false, eqb-true, false, first, front-front, GiveStrings, has_part}
+use Terms.{HasOneOf, HasTiledOffsets, header_size, IndexEntry, inl, InProgress, inr, is-same}
+use Terms.{is_package, IsAmong, IsOfSome, IsTable, IsWholeRange, joined_parts, joined_parts-more}
+use Terms.{length, List, no-entries, no_header, none-some, offset_size, Ok, own-bytes, Parts}
+use Terms.{parts_of, place-put, range-of, range_for, refl, rewritten-plain, same_Some, Some, Source}
+use Terms.{source-made, Str, StrOffsets, subst, sym, take-length, Tile, true, true≢false}
+use Terms.{units-strings, Used, with_source, zero-mul, ℕ, ⊎_elim, ◌&&◌, ◌*◌, ◌<◌, ◌∙◌, ◌∷◌, ◌≡◌}
+use Rattle.std.proofs.Common.{leb, leb-false, length-append, lt-ltb, take, ◌++◌, ◌+◌, ◌⊎◌}
 use Rattle.std.proofs.ByRecursion.{All-append}
 use Rattle.thorin_input.specs.Parts.{stands_once}
-use Rattle.thorin_strings.specs.StringOffsets.{remapped_entries, entry_bytes, header_of, remapped}
-use Rattle.thorin_again.proofs.Offsets.RewrittenAgain.{whole-remapped, entries-alike, leads-joined}
-use Rattle.thorin_again.proofs.Offsets.RewrittenAgain.{no-turn, InTurn, grown, Lead, turn}
-use Rattle.thorin_join.proofs.Parts.Appended.{joined_parts-other, Rewritten, each-part, Adds}
+use Rattle.thorin_strings.specs.StringOffsets.{entry_bytes, header_of, remapped, remapped_entries}
+use Rattle.thorin_again.proofs.Offsets.RewrittenAgain.{entries-alike, grown, InTurn, Lead}
+use Rattle.thorin_again.proofs.Offsets.RewrittenAgain.{leads-joined, no-turn, turn, whole-remapped}
+use Rattle.thorin_join.proofs.Parts.Appended.{Adds, each-part, joined_parts-other, Rewritten}
 use Rattle.thorin_join.proofs.Parts.OffsetLaws.{names-same}
-use Rattle.thorin_join.proofs.Parts.PlainOffsets.{has-other, has-more}
-use Rattle.thorin_again.proofs.Kept.EachUnit.{content-added, order-added, rows-share, once-more}
-use Rattle.thorin_again.proofs.Kept.EachUnit.{with-each, row_with, with-any, RowHas, parted}
+use Rattle.thorin_join.proofs.Parts.PlainOffsets.{has-more, has-other}
+use Rattle.thorin_again.proofs.Kept.EachUnit.{content-added, once-more, order-added, parted}
+use Rattle.thorin_again.proofs.Kept.EachUnit.{row_with, RowHas, rows-share, with-any, with-each}
 
 -- the part of string offsets that a plain object makes is whole
 module _ (source : Source) (plain : is_package source.indexes ≡ false) (start : List (List ℕ)) where
@@ -224,7 +224,7 @@ module _ (source : Source) (before now : InProgress)
   -- what these ranges more are of the section and the strings behind the others, and of the rows
   made-so : (ranges : List Contribution)
       → Tile now_order source.encoding (length old) ranges (length old + length joined)
-      → ((r : Contribution) → range_put StrOffsets joined before.file.contents ≡ Some r
+      → ((r : Contribution) → contribution_put StrOffsets joined before.file.contents ≡ Some r
       → IsAmong r ranges) → ((r : Contribution) → IsAmong r ranges → IsOfSome r now.rows)
       → ((final : List (List ℕ)) → IsTable final → take (length a.after) final ≡ a.after
       → InTurn now_order source.encoding (data_of final) (old ++ joined) (length old) ranges

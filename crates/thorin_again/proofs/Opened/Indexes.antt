@@ -2,33 +2,35 @@
 -- sections are in the format of its units. A written package of plain objects is read again: its
 -- indexes, and its string offsets.
 use Rattle.thorin_again.proofs.Terms
-use Terms.{UnlessStringOffset, rewritten-package, finished-strings, HasTiledOffsets, TakesUpToParts}
-use Terms.{nil_from_length, finished-grows, finished-order, finished-types, written_object, HasRows}
-use Terms.{Contribution, IsWholeRange, finished-own, is_in_format, version_test, AreDistinct, AllOf}
-use Terms.{DwarfObject, KindsDiffer, SectionKind, UnitSection, counts_once, index_tests, All-filter}
-use Terms.{is_of_units, part-inside, range_bytes, take-length, written_elf, Endianness, InProgress}
-use Terms.{IndexEntry, content_of, get_or-map, indexes_of, is_package, length-map, meaning_at, Bool}
-use Terms.{own_source, slice-long, with_units, AreRowsOf, IsIndexOf, entry_ids, file_text, All-tail}
-use Terms.{is_chosen, is_shared, keep-rows, nat_tests, rewritten, same-each, same_Some, Contents, ℕ}
-use Terms.{Encoding, IsOfSome, index_in, names_of, order_of, units_of, Indexes, IsPlain, IsSound}
-use Terms.{IsTable, Meaning, Members, data_of, is_some, is_used, kind_at, rows_at, rows_of, same-ok}
-use Terms.{IsLaid, Option, Tested, length, Index, IsOwn, arith, false, first, subst, File, List, Ok}
-use Terms.{None, Some, cond, refl, true, ◌||◌, All, Lie, inl, inr, sym, ◌<◌, ◌∙◌, ◌∷◌, ◌≡◌, [], ap}
-use Rattle.std.proofs.Common.{slice_index, slice_get, not, ◌^◌}
-use Rattle.thorin_join.specs.Builder.{IsFinished, order_test, same_order, with_input, State}
+use Terms.{[], All, All-filter, All-tail, AllOf, ap, AreDistinct, AreRowsOf, arith, Bool, cond}
+use Terms.{content_of, Contents, Contribution, counts_once, data_of, DwarfObject, Encoding}
+use Terms.{Endianness, entry_ids, false, File, file_text, finished-grows, finished-order}
+use Terms.{finished-own, finished-strings, finished-types, first, get_or-map, HasRows}
+use Terms.{HasTiledOffsets, Index, index_in, index_tests, IndexEntry, Indexes, indexes_of, inl}
+use Terms.{InProgress, inr, is_chosen, is_in_format, is_of_units, is_package, is_shared, is_some}
+use Terms.{is_used, IsIndexOf, IsLaid, IsOfSome, IsOwn, IsPlain, IsSound, IsTable, IsWholeRange}
+use Terms.{keep-rows, kind_of, KindsDiffer, length, length-map, Lie, List, Meaning, meaning_at}
+use Terms.{Members, names_of, nat_tests, nil_from_length, None, Ok, Option, order_of, own_source}
+use Terms.{part-inside, range_bytes, refl, rewritten, rewritten-package, rows_at, rows_of}
+use Terms.{same-each, same-ok, same_Some, SectionKind, slice-long, Some, subst, sym, take-length}
+use Terms.{TakesUpToParts, Tested, true, units_of, UnitSection, UnlessStringOffset, version_test}
+use Terms.{with_units, written_elf, written_object, ℕ, ◌<◌, ◌||◌, ◌∙◌, ◌∷◌, ◌≡◌}
+use Rattle.std.proofs.Common.{not, slice_get, slice_index, ◌^◌}
+use Rattle.thorin_join.specs.Builder.{IsFinished, order_test, same_order, State, with_input}
 use Rattle.thorin_join.proofs.Files.Indexes.{chosen-fit, no-bytes}
 use Rattle.dwp_bytes.specs.Encoding.{index_version_of}
 use Rattle.thorin_index.proofs.Each.{have_passed, used_known}
 use Rattle.thorin_index.proofs.ReadAgain.{index_is_read}
 use Rattle.thorin_index.proofs.RowsAgain.{written_rows}
-use Rattle.thorin_again.proofs.Opened.Sections.{object-written, first-written, info-written}
+use Rattle.thorin_again.proofs.Opened.Sections.{first-written, info-written, object-written}
 use Rattle.thorin_again.proofs.Opened.Sections.{opened-elf}
 use Rattle.thorin_join.proofs.Files.Finished.{finished-compilations, finished-content, tested-state}
 use Rattle.dwp_table.specs.Columns.{column_of}
 use Rattle.thorin_join.proofs.Units.NamesApart.{distinct_chosen}
 use Rattle.thorin_again.proofs.Meant.RowByRow.{IsAgain}
-use Rattle.thorin_again.proofs.Offsets.RewrittenAgain.{all-rewritten, tile-tested, used-chosen}
-use Rattle.thorin_again.proofs.Offsets.RewrittenAgain.{CanRewrite, ranges-are, are-named, tile-lies}
+use Rattle.thorin_again.proofs.Offsets.RewrittenAgain.{all-rewritten, are-named, CanRewrite}
+use Rattle.thorin_again.proofs.Offsets.RewrittenAgain.{ranges-are, tile-lies, tile-tested}
+use Rattle.thorin_again.proofs.Offsets.RewrittenAgain.{used-chosen}
 use Rattle.thorin_packaged.specs.PackagedOffsets.{packaged_offsets, rewritten_from}
 use Rattle.dwp_base.specs.declared.section.SectionKind.TheVariants as kinds
 use Rattle.dwp_dwarf.specs.declared.unit.UnitSection.TheVariants as places
@@ -92,7 +94,7 @@ rows-kept made file sound f =
 -- and they lie in turn
 pub lie-kept : (made : InProgress) (file : File) → IsLaid made → IsFinished made file
     → (place : UnitSection) → Lie file.order place 0 (rows_at place made.rows)
-    (content_of (kind_at place) file.contents)
+    (content_of (kind_of place) file.contents)
 lie-kept made file laid f places.Info =
     rw (finished-order made file f, finished-own made file f places.Info) laid.info
 lie-kept made file laid f places.Types =
@@ -222,7 +224,7 @@ in-format encoding rows have c t kind used =
 -- a section of units that has bytes is one that a row names
 pub lie-used : (order : Endianness) (place : UnitSection) (offset : ℕ) (rows : List IndexEntry)
     (bytes : List ℕ) → Lie order place offset (rows_at place rows) bytes → 0 < length bytes
-    → is_used rows (kind_at place) ≡ true
+    → is_used rows (kind_of place) ≡ true
 lie-used order place offset [] bytes lie some = absurd (omega (arith, some, ap length lie))
 lie-used order place offset (r ∷ rs) bytes lie some =
     grind (arith, lie-used order place offset rs bytes)

@@ -2,21 +2,22 @@
 -- under its name. The sections are taken as parts, or refused with an error of some sort, where
 -- string offsets are.
 use Rattle.thorin_again.proofs.Terms
-use Terms.{written_sections, list_any-append, nil_from_length, written_object, input_file_of, Parts}
-use Terms.{plain_section, is_in_format, written_used, KindsDiffer, SectionKind, encoding_of, Source}
-use Terms.{written_elf, ErrorValue, StrOffsets, TakesParts, append-nil, content_of, name_table, Elf}
-use Terms.{file_text, found-any, nat_tests, rewritten, same-self, same_kind, used_kind, Contents, ℕ}
-use Terms.{count_of, has_info, has_part, list_any, or_right, parts_of, CanTake, is-same, name_of}
-use Terms.{elf_of, length, opened, arith, false, first, subst, ◌>>=◌, Bool, File, Info, List, Used}
-use Terms.{cond, refl, true, Err, sym, ◌<◌, ◌∙◌, ◌∷◌, ◌≡◌, Ok, [], ap}
+use Terms.{[], ap, append-nil, arith, Bool, CanTake, cond, content_of, Contents, count_of, Elf}
+use Terms.{elf_of, encoding_of, Err, ErrorValue, false, File, file_text, first, found-any, has_info}
+use Terms.{has_part, Info, input_file_of, is-same, is_in_format, KindsDiffer, length, List}
+use Terms.{list_any, list_any-append, name_of, name_table, nat_tests, nil_from_length, Ok, opened}
+use Terms.{or_right, Parts, parts_of, plain_section, refl, rewritten, same-self, same_kind}
+use Terms.{SectionKind, Source, StrOffsets, subst, sym, TakesParts, true, Used, used_kind}
+use Terms.{written_elf, written_object, written_sections, written_used, ℕ, ◌<◌, ◌>>=◌, ◌∙◌, ◌∷◌}
+use Terms.{◌≡◌}
 use Rattle.thorin_again.specs.Again.{input_encoding}
 use Rattle.thorin_input.specs.Parts.{with_each_part, with_offsets, with_part}
 use Rattle.std.proofs.Common.{append_assoc, bytes_eq, Result, ◌++◌, ◌+◌, ◌≤◌}
-use Rattle.dwp_base.proofs.EveryKind.{kind-named, not-older, every}
-use Rattle.dwp_elf_read.specs.Elf.{SectionMeaning, is_named}
+use Rattle.dwp_base.proofs.EveryKind.{every, kind-named, not-older}
+use Rattle.dwp_elf_read.specs.Elf.{is_named, SectionMeaning}
 use Rattle.dwp_elf_read.specs.Identification.{identity_of}
 use Rattle.dwp_index.specs.Contents.{is_of_kind}
-use Rattle.thorin_input.specs.Used.{is_present, used_bytes, used_from, has_kind, is_of}
+use Rattle.thorin_input.specs.Used.{has_kind, is_of, is_present, used_bytes, used_from}
 use Rattle.thorin_join.proofs.Files.Contents.{nothing}
 use Rattle.dwp_index.specs.Contents as contents
 

@@ -1,14 +1,14 @@
 -- The file of a finished package means the units that stand in the ranges of its rows.
 use Rattle.thorin_join.proofs.Terms
-use Terms.{◌++◌, [], ap, AreRowsOf, arith, Bool, cond, content_of, data_of, false, File, file_text}
+use Terms.{[], ap, AreRowsOf, arith, Bool, cond, content_of, data_of, false, File, file_text}
 use Terms.{IdentifiersFit, index_tests, InProgress, is_compilation, IsFinished}
-use Terms.{IsPackageOnceWritten, IsSound, IsSoundBegun, kind_at, List, meaning_at, not, Ok, refl}
+use Terms.{IsPackageOnceWritten, IsSound, IsSoundBegun, kind_of, List, meaning_at, not, Ok, refl}
 use Terms.{rows_of, same_kind, SectionKind, Some, take-length, true, units_in, units_of}
-use Terms.{UnitSection, with_bytes, ℕ, ◌≡◌}
+use Terms.{UnitSection, with_bytes, ℕ, ◌++◌, ◌≡◌}
 use Rattle.thorin_join.specs.State.{names_of}
 use Rattle.dwp_index.proofs.UsedOnce.{entries_once}
-use Rattle.thorin_join.specs.Builder.{State, IsFinishedState, finish_test, indexes_test}
-use Rattle.thorin_join.proofs.Files.Indexes.{index-read, chosen-fit}
+use Rattle.thorin_join.specs.Builder.{finish_test, indexes_test, IsFinishedState, State}
+use Rattle.thorin_join.proofs.Files.Indexes.{chosen-fit, index-read}
 use Rattle.thorin_join.proofs.Units.NamesApart.{distinct_chosen}
 use Rattle.thorin_join.proofs.Rows.Stay.{Grows, grows-trans, grows-with_bytes, keep-rows}
 use Rattle.thorin_join.proofs.Files.UnitsFound.{package-finds}
@@ -63,9 +63,9 @@ module _ (made : InProgress) (file : File) (f : IsFinished made file) where
   finished-types none = rw none at (finished-content kinds.TuIndex)
 
   -- the units' own bytes
-  pub finished-own : (place : UnitSection) → content_of (kind_at place) file.contents ≡ content_of
-      (kind_at place) made.file.contents
-  finished-own place = grind (arith, finished-content (kind_at place))
+  pub finished-own : (place : UnitSection) → content_of (kind_of place) file.contents ≡ content_of
+      (kind_of place) made.file.contents
+  finished-own place = grind (arith, finished-content (kind_of place))
 
   -- it is a package of the units
   package-is : IsSound made → Tested made → IdentifiersFit made.rows

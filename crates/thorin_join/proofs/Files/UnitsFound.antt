@@ -1,20 +1,20 @@
 -- A written package means the units that it represents.
 use Rattle.thorin_join.proofs.Terms
-use Terms.{◌+◌, ◌<◌, ap, AreRowsOf, arith, content_of, Contents, Contribution, contribution_to}
-use Terms.{data_of, DwarfObject, Endianness, entry_ids, false, filter, GivesNone, GivesUnit}
-use Terms.{HasEntries, identifier_of, Index, IndexEntry, is_compilation, IsTable, IsUnit, IsUnitOf}
-use Terms.{kind_at, kind_of, length, length-map, limit_of, List, lookup, MatchOption, Meaning}
-use Terms.{nat_tests, None, Option, own_bytes, own_place, Package, part_of, range_in, refl}
-use Terms.{row_bytes, rows_of, same_name, same_sort, SectionKind, sections_of, Some, sym}
-use Terms.{take-length, true, unit_of, ℕ, ◌∙◌, ◌≡◌, ◌≤◌}
+use Terms.{ap, AreRowsOf, arith, content_of, Contents, Contribution, contribution_to, data_of}
+use Terms.{DwarfObject, Endianness, entry_ids, false, filter, GivesNone, GivesUnit, HasEntries}
+use Terms.{identifier_of, Index, IndexEntry, is_compilation, IsTable, IsUnit, IsUnitOf, kind_of}
+use Terms.{length, length-map, limit_of, List, lookup, MatchOption, Meaning, nat_tests, None}
+use Terms.{Option, own_bytes, own_place, Package, part_of, range_in, refl, row_bytes, rows_of}
+use Terms.{same_name, same_sort, SectionKind, sections_of, Some, sym, take-length, true, unit_of, ℕ}
+use Terms.{◌+◌, ◌<◌, ◌∙◌, ◌≡◌, ◌≤◌}
 use Rattle.dwp_table.proofs.Tables.{finds_exactly}
 use Rattle.dwp_index.specs.Contents.{content}
 use Rattle.dwp_index.specs.Package.{index_for}
 use Rattle.dwp_index.proofs.HeldContents.{held_content}
-use Rattle.dwp_index.proofs.PackageLookUp.{present_unit, absent_unit, no_index}
+use Rattle.dwp_index.proofs.PackageLookUp.{absent_unit, no_index, present_unit}
 use Rattle.thorin_index.specs.ReadRows.{HasParts, non_empty}
 use Rattle.thorin_join.proofs.Files.Indexes.{HasRows}
-use Rattle.thorin_join.proofs.Files.RowsFound.{RowFound, Looked, looked, id-at, members}
+use Rattle.thorin_join.proofs.Files.RowsFound.{id-at, Looked, looked, members, RowFound}
 use Rattle.thorin_join.proofs.Files.RowsFound.{rows-counted}
 use Rattle.dwp_base.specs.declared.section.SectionKind.TheVariants as kinds
 
@@ -58,9 +58,7 @@ module _ (order : Endianness) (contents : Contents) (compilations types : Option
     place-is = rw (range-is kinds.Types) (sym f.is.owns.place_is)
 
     own-are : own_bytes pack.contents name parts.row ≡ unit.bytes
-    own-are =
-        let same : kind_of f.is.owns.place ≡ kind_at f.is.owns.place = grind arith in
-        rw (place-is, same, bytes-are (kind_at f.is.owns.place)) f.is.owns.bytes
+    own-are = rw (place-is, bytes-are (kind_of f.is.owns.place)) f.is.owns.bytes
 
     found-unit : IsUnitOf pack name (entry_ids own) index f.place parts.row f.is.owns.encoding
     found-unit = record {

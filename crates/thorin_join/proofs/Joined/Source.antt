@@ -1,23 +1,24 @@
 -- A package with the units of an input has them beside its own.
 use Rattle.thorin_join.proofs.Terms
-use Terms.{◌++◌, [], adding, append-nil, arith, bind-ok, content_of, Contents, DwarfObject, Each}
-use Terms.{false, InProgress, is_copied, IsSound, IsSoundBegun, IsTable, joined_parts, joining}
-use Terms.{Joins, keys, kind_at, List, map, Meaning, Members, New, new_units, Ok, Option, parts_of}
-use Terms.{refl, Represents, same_kind, SectionKind, Some, Source, source_units, subst, sym}
-use Terms.{units_begun, units_of, with_new_units, with_parts, with_source, ℕ, ◌∙◌, ◌∷◌, ◌≡◌}
-use Rattle.thorin_join.specs.State.{names_of, unit_bytes, held_units, with_all}
-use Rattle.thorin_join.specs.Meaning.{input_meaning, meant, source_meaning, can_join}
+use Terms.{[], adding, append-nil, arith, bind-ok, content_of, Contents, DwarfObject, Each, false}
+use Terms.{InProgress, is_copied, IsSound, IsSoundBegun, IsTable, joined_parts, joining, Joins}
+use Terms.{keys, kind_of, List, map, Meaning, Members, New, new_units, Ok, Option, parts_of, refl}
+use Terms.{Represents, same_kind, SectionKind, Some, Source, source_units, subst, sym, units_begun}
+use Terms.{units_of, with_new_units, with_parts, with_source, ℕ, ◌++◌, ◌∙◌, ◌∷◌, ◌≡◌}
+use Rattle.thorin_input.specs.Held.{unit_bytes}
+use Rattle.thorin_join.specs.State.{held_units, names_of, with_all}
+use Rattle.thorin_join.specs.Meaning.{can_join, input_meaning, meant, source_meaning}
 use Rattle.thorin_join.proofs.Units.NamesApart.{joined_distinct}
-use Rattle.thorin_join.proofs.Units.JoinedByName.{AreAdded, units-joined, added-keys}
+use Rattle.thorin_join.proofs.Units.JoinedByName.{added-keys, AreAdded, units-joined}
 use Rattle.thorin_join.proofs.Rows.Stay.{Grows, keep-rows}
 use Rattle.thorin_join.proofs.Rows.LieInTurn.{can-lie, laid-lies}
 use Rattle.thorin_join.proofs.Parts.Appended.{content-with_parts, parts-none}
 use Rattle.thorin_join.proofs.Parts.FirstUses.{parts-follow}
-use Rattle.thorin_join.proofs.Rows.OfUnits.{row-shares, is-unit_row}
-use Rattle.thorin_join.proofs.Rows.AllAdded.{joined-new, units-added, AllCanBeAdded}
+use Rattle.thorin_join.proofs.Rows.OfUnits.{is-unit_row, row-shares}
+use Rattle.thorin_join.proofs.Rows.AllAdded.{AllCanBeAdded, joined-new, units-added}
 use Rattle.thorin_join.proofs.Units.Whole.{Goes, units-go}
 use Rattle.thorin_join.proofs.Units.HeadersRead.{each-joining, News, Reads}
-use Rattle.thorin_join.proofs.Units.InRows.{rows-keys, keys-units, units-are}
+use Rattle.thorin_join.proofs.Units.InRows.{keys-units, rows-keys, units-are}
 use Rattle.thorin_join.proofs.Rows.OneAdded.{not-shared}
 use Rattle.dwp_base.specs.declared.section.SectionKind.TheVariants as kinds
 use Rattle.dwp_dwarf.specs.declared.unit.UnitSection.TheVariants as places
@@ -129,7 +130,7 @@ source-joins bytes source before now sound same meaning h =
     (subst (λ o. AllCanBeAdded o q.file.contents m.after us r.members) same r.can)
     (keep-rows before.file.order old q.file.contents before.strings m.after before.rows ms
     (grows-with_parts parts old) kept.kept rep.rows)
-    (laid-lies before parts (λ place. none (kind_at place) (not-shared place).0
+    (laid-lies before parts (λ place. none (kind_of place) (not-shared place).0
     (not-shared place).2) sound.laid) in
     let still : (kind : SectionKind) → same_kind kinds.Info kind ≡ false
     → same_kind kinds.Types kind ≡ false → is_copied kind ≡ false

@@ -1,13 +1,13 @@
 -- The units of an input that are added stand in their rows.
 use Rattle.thorin_join.proofs.Terms
-use Terms.{◌++◌, [], append-nil, append_assoc, AreRowsOf, arith, content_of, Contents, DwarfObject}
-use Terms.{Endianness, false, InProgress, joining, keys, kind_at, List, list_any, map-append}
+use Terms.{[], append-nil, append_assoc, AreRowsOf, arith, content_of, Contents, DwarfObject}
+use Terms.{Endianness, false, InProgress, joining, keys, kind_of, List, list_any, map-append}
 use Terms.{Members, NewUnit, refl, same_kind, same_name, SectionKind, sym, take-length, UnitSection}
-use Terms.{with_new_unit, with_new_units, with_unit_added, ℕ, ◌∷◌, ◌≡◌}
+use Terms.{with_new_unit, with_new_units, with_unit_added, ℕ, ◌++◌, ◌∷◌, ◌≡◌}
 use Rattle.thorin_join.specs.State.{names_of}
-use Rattle.thorin_join.proofs.Rows.Stay.{Grows, grows-trans, grows-with_bytes, keep-lie}
-use Rattle.thorin_join.proofs.Rows.Stay.{keep-shares, keep-rows, rows-next}
-use Rattle.thorin_join.proofs.Rows.OneAdded.{CanBeAdded, unit-added, row-name}
+use Rattle.thorin_join.proofs.Rows.Stay.{Grows, grows-trans, grows-with_bytes, keep-lie, keep-rows}
+use Rattle.thorin_join.proofs.Rows.Stay.{keep-shares, rows-next}
+use Rattle.thorin_join.proofs.Rows.OneAdded.{CanBeAdded, row-name, unit-added}
 use Rattle.thorin_join.proofs.Rows.LieInTurn.{RowsLie, unit-lies}
 use Rattle.thorin_join.proofs.Parts.Appended.{content-with_bytes}
 use Rattle.thorin_join.proofs.Units.HeadersRead.{News}
@@ -43,7 +43,7 @@ pub record Added (p now : InProgress) (us : News) (ms : Members) : Type 0 where
   pub strings : now.strings ≡ p.strings
   pub order : now.file.order ≡ p.file.order
   pub rows : AreRowsOf p.file.order now.file.contents p.strings now.rows ms
-  pub other : (kind : SectionKind) → ((place : UnitSection) → same_kind (kind_at place) kind ≡
+  pub other : (kind : SectionKind) → ((place : UnitSection) → same_kind (kind_of place) kind ≡
       false) → content_of kind now.file.contents ≡ content_of kind p.file.contents
   pub names : names_of now ≡ names_of p ++ keys us
   pub lie : RowsLie p.file.order now.rows now.file.contents
@@ -60,7 +60,7 @@ units-added base p (u ∷ us) ms (m ∷ added) grows new can rows lie =
     let order = p.file.order in
     let c = p.file.contents in
     let q = with_unit_added p u in
-    let more = grows-with_bytes (kind_at u.1.place) u.1.bytes c in
+    let more = grows-with_bytes (kind_of u.1.place) u.1.bytes c in
     let same = take-length p.strings in
     let row = unit-added u.1.row c u.0 u.1.bytes u.1.place order p.strings m (assumption (
       keep-lie base c u.1.row grows can.0.lie,

@@ -1,22 +1,22 @@
 -- The units of a package lie one after another when units are added.
 use Rattle.thorin_join.proofs.Terms
-use Terms.{◌+◌, ◌++◌, [], adding, ap, append-nil, append_assoc, arith, Compilation, content_of}
-use Terms.{Contents, contribution_to, DwarfObject, Endianness, false, filter-append, IndexEntry}
-use Terms.{InProgress, IsWhole, joined_parts, kind_at, length, length-append, List, NewUnit, None}
-use Terms.{place_for, refl, row_at, same_kind, SectionKind, Some, Source, sym, TypeUnit, UnitRead}
-use Terms.{UnitSection, with_bytes, with_parts, ℕ, ◌∙◌, ◌∷◌, ◌≡◌}
-use Rattle.thorin_join.specs.Laid.{same_place, is_at, rows_at, Heads, Lie, HaveOneRange, IsLaid}
+use Terms.{[], adding, ap, append-nil, append_assoc, arith, Compilation, content_of, Contents}
+use Terms.{contribution_to, DwarfObject, Endianness, false, filter-append, IndexEntry, InProgress}
+use Terms.{IsWhole, joined_parts, kind_of, length, length-append, List, NewUnit, None, place_for}
+use Terms.{refl, row_at, same_kind, SectionKind, Some, Source, sym, TypeUnit, UnitRead, UnitSection}
+use Terms.{with_bytes, with_parts, ℕ, ◌++◌, ◌+◌, ◌∙◌, ◌∷◌, ◌≡◌}
+use Rattle.thorin_join.specs.Laid.{HaveOneRange, Heads, is_at, IsLaid, Lie, rows_at, same_place}
 use Rattle.thorin_join.proofs.Units.JoinedByName.{IsAdded}
 use Rattle.thorin_join.proofs.Units.Whole.{Goes}
 use Rattle.thorin_join.proofs.Rows.OfUnits.{is-unit_row, whole-else}
-use Rattle.thorin_join.proofs.Rows.OneAdded.{CanLie, place-put, row-name, row-own, own-place}
-use Rattle.thorin_join.proofs.Rows.OneAdded.{row-other}
+use Rattle.thorin_join.proofs.Rows.OneAdded.{CanLie, own-place, place-put, row-name, row-other}
+use Rattle.thorin_join.proofs.Rows.OneAdded.{row-own}
 use Rattle.thorin_join.proofs.Parts.Appended.{content-with_bytes, content-with_parts}
 use Rattle.dwp_dwarf.specs.declared.unit.UnitSection.TheVariants as places
 
 -- one more unit behind the others
 module _ (order : Endianness) (place : UnitSection) (row : IndexEntry) (own : List ℕ) (at : ℕ)
-    (range : contribution_to (kind_at place) row
+    (range : contribution_to (kind_of place) row
     ≡ Some (record { offset = record { 0 = at }; size = length own }))
     (is : IsWhole order place row.id own) where
   lie-append : (offset : ℕ) (rows : List IndexEntry) (bytes : List ℕ)
@@ -40,7 +40,7 @@ module _ (order : Endianness) (place : UnitSection) (row : IndexEntry) (own : Li
       (first, lie-append (offset + length head.own) rs head.rest next h.1)
 
 once-append : (rows : List IndexEntry) (row : IndexEntry) → HaveOneRange rows
-    → ((place : UnitSection) → is_at place row ≡ false → contribution_to (kind_at place) row ≡ None)
+    → ((place : UnitSection) → is_at place row ≡ false → contribution_to (kind_of place) row ≡ None)
     → HaveOneRange (rows ++ row ∷ [])
 once-append [] row h own = (own, tt)
 once-append (r ∷ rs) row h own = (h.0, once-append rs row h.1 own)
@@ -48,10 +48,10 @@ once-append (r ∷ rs) row h own = (h.0, once-append rs row h.1 own)
 -- how the rows of a package lie
 pub record RowsLie (order : Endianness) (rows : List IndexEntry) (c : Contents) : Type 0 where
   pub lies : (place : UnitSection)
-      → Lie order place 0 (rows_at place rows) (content_of (kind_at place) c)
+      → Lie order place 0 (rows_at place rows) (content_of (kind_of place) c)
   pub once : HaveOneRange rows
 
-kinds-same : (a b : UnitSection) → same_kind (kind_at b) (kind_at a) ≡ same_place a b
+kinds-same : (a b : UnitSection) → same_kind (kind_of b) (kind_of a) ≡ same_place a b
 kinds-same a b = grind arith
 
 -- one more unit
@@ -68,17 +68,17 @@ module _ (order : Endianness) (c : Contents) (rows : List IndexEntry) (u : Dwarf
       (ap (same_place other) (sym (own-place u.1.row c u.0 u.1.bytes place can.fits)))
 
   pub unit-lies : RowsLie order rows c
-      → RowsLie order (rows ++ row ∷ []) (with_bytes (kind_at place) u.1.bytes c)
+      → RowsLie order (rows ++ row ∷ []) (with_bytes (kind_of place) u.1.bytes c)
   unit-lies lie =
       let range = row-own u.1.row c u.0 u.1.bytes place
-      ∙ place-put (kind_at place) u.1.bytes c can.fits.some in
+      ∙ place-put (kind_of place) u.1.bytes c can.fits.some in
       let behind = lie-append order place row u.1.bytes _ range
       (rw (row-name u.1.row c u.0 u.1.bytes place) can.whole) 0 _ _ (omega arith)
       (lie.lies place) in
       record {
         lies = λ other.
             let split = filter-append (is_at other) rows (row ∷ []) in
-            let put = content-with_bytes (kind_at other) (kind_at place) u.1.bytes c in
+            let put = content-with_bytes (kind_of other) (kind_of place) u.1.bytes c in
             let none = append-nil (rows_at other rows) in
             grind (arith, split, at-is other, put, kinds-same, none, lie.lies other, behind);
         once = once-append rows row lie.once (λ other apart.
@@ -104,7 +104,7 @@ can-lie source made parts n r is goes =
 
 -- those of a package that is laid so, with parts, which have no units
 pub laid-lies : (made : InProgress) (parts : Contents)
-    → ((place : UnitSection) → joined_parts (kind_at place) parts ≡ []) → IsLaid made
+    → ((place : UnitSection) → joined_parts (kind_of place) parts ≡ []) → IsLaid made
     → RowsLie made.file.order made.rows (with_parts parts made.file.contents)
 laid-lies made parts none laid =
     let empty = append-nil {A = ℕ} in

@@ -2,25 +2,27 @@
 -- each of its ranges was put behind the contents before: a unit that passed the tests stands in its
 -- row.
 use Rattle.thorin_join.proofs.Terms
-use Terms.{◌&&◌, ◌+◌, [], all_kinds, ap, arith, bind-was, Bool, by-bool, content_of, Contents}
-use Terms.{Contribution, contribution_to, data_of, DwarfObject, Encoding, entry_by, false, find}
+use Terms.{[], all_kinds, ap, arith, bind-was, Bool, by-bool, content_of, Contents, Contribution}
+use Terms.{contribution_put, contribution_to, data_of, DwarfObject, Encoding, entry_by, false, find}
 use Terms.{first, identifier_of, Index, IndexEntry, Indexes, is_copied, is_none, is_package}
 use Terms.{is_shared, is_some, IsTable, joined_parts, length, LieInside, List, list_all, Meaning}
-use Terms.{None, Ok, Option, part_of, parts_of, range_in, range_put, Ranges, read_each, ReadsAlike}
-use Terms.{refl, row_in, row_test, SectionKind, Shares, Some, Source, Str, StrOffsets, sym, take}
-use Terms.{take-length, true, unit_row, UnitRead, with_parts, ◌||◌, ℕ, ◌∙◌, ◌∷◌, ◌≡◌, ◌≤◌}
+use Terms.{None, Ok, Option, part_of, parts_of, range_in, Ranges, read_each, ReadsAlike, refl}
+use Terms.{row_in, row_test, SectionKind, Shares, Some, Source, Str, StrOffsets, sym, take}
+use Terms.{take-length, true, unit_row, UnitRead, with_parts, ℕ, ◌&&◌, ◌+◌, ◌||◌, ◌∙◌, ◌∷◌, ◌≡◌}
+use Terms.{◌≤◌}
 use Rattle.dwp_base.specs.ByKind.{value_of}
 use Rattle.dwp_base.proofs.KindsRead.{read-kind}
-use Rattle.dwp_base.specs.declared.section.SectionKind.TheVariants.{Info, Types, Abbrev}
-use Rattle.thorin_input.specs.Adjusting.{Adjustor, own_index, part_by_row, adjusted, row_of}
-use Rattle.thorin_input.specs.Adjusting.{other_index, has_column_for}
+use Rattle.dwp_base.specs.declared.section.SectionKind.TheVariants.{Abbrev, Info, Types}
+use Rattle.thorin_input.specs.Adjusting.{adjusted, Adjustor, contribution_by_row, has_column_for}
+use Rattle.thorin_input.specs.Adjusting.{other_index, own_index, row_of}
 use Rattle.thorin_input.specs.Indexes.{index_for}
-use Rattle.thorin_join.specs.Meaning.{placed_row, pieces_by, part_by, offsets_by, lie_inside}
-use Rattle.thorin_join.specs.Meaning.{meaning_by, unit_meaning, shared_kinds}
-use Rattle.thorin_input.specs.Rows.{whole_row, adjusted_part, unit_part, own_range}
-use Rattle.thorin_join.proofs.Parts.OfPackages.{RowsRead, parts-first, rows-read}
-use Rattle.thorin_join.proofs.Rows.Ranges.{placed-by, range-none, Lies, Placed, lies-whole}
-use Rattle.thorin_join.proofs.Rows.Ranges.{not-outside, range-some}
+use Rattle.thorin_join.specs.Meaning.{contribution_by, contributions_by, lie_inside, meaning_by}
+use Rattle.thorin_join.specs.Meaning.{offsets_by, placed_row, shared_kinds, unit_meaning}
+use Rattle.thorin_input.specs.Rows.{adjusted_contribution, own_contribution, unit_contribution}
+use Rattle.thorin_input.specs.Rows.{whole_row}
+use Rattle.thorin_join.proofs.Parts.OfPackages.{parts-first, rows-read, RowsRead}
+use Rattle.thorin_join.proofs.Rows.Ranges.{Lies, lies-whole, not-outside, Placed, placed-by}
+use Rattle.thorin_join.proofs.Rows.Ranges.{range-none, range-some}
 use Rattle.thorin_join.proofs.Parts.StringLists.{strings-there}
 use Rattle.thorin_join.proofs.Parts.Appended.{content-with_parts, parts-copied}
 use Rattle.thorin_join.proofs.Parts.OffsetRanges.{empty-alike}
@@ -67,21 +69,22 @@ pub record IsUnitRow (indexes : Indexes) (whole : IndexEntry) (name : DwarfObjec
   pub encoding : row.encoding ≡ whole.encoding
   pub info : row.debug_info ≡ whole.debug_info
   pub types : row.debug_types ≡ whole.debug_types
-  pub parts : (kind : SectionKind) → is_shared kind ≡ true → adjusted_part indexes name kind
+  pub parts : (kind : SectionKind) → is_shared kind ≡ true → adjusted_contribution indexes name kind
       (contribution_to kind whole) ≡ Ok (contribution_to kind row)
 
 module _ (indexes : Indexes) (name : DwarfObject) where
   -- of a plain input a unit's part is the whole
   pub adjusted-plain : (kind : SectionKind) (whole : Option Contribution)
-      → is_package indexes ≡ false → adjusted_part indexes name kind whole ≡ Ok whole
+      → is_package indexes ≡ false → adjusted_contribution indexes name kind whole ≡ Ok whole
   unfolding adjusted
   adjusted-plain kind whole plain = grind arith
 
   -- of a package it is by the unit's row
   pub adjusted-packed : is_package indexes ≡ true → (kind : SectionKind)
-      (whole result : Option Contribution) → adjusted_part indexes name kind whole ≡ Ok result
+      (whole result : Option Contribution) → adjusted_contribution indexes name kind
+      whole ≡ Ok result
       → (row : Ranges) × (row_of (index_for indexes name) (identifier_of name) ≡ Ok row)
-      × (part_by_row (adjustor indexes kind) name whole row ≡ Ok result)
+      × (contribution_by_row (adjustor indexes kind) name whole row ≡ Ok result)
   unfolding adjusted
   adjusted-packed packed kind whole result h = grind (arith, own-index indexes kind name)
 
@@ -89,7 +92,8 @@ pub is-unit_row : (indexes : Indexes) (whole : IndexEntry) (name : DwarfObject) 
     → unit_row indexes whole name ≡ Ok row → IsUnitRow indexes whole name row
 unfolding unit_row
 is-unit_row indexes whole name row h =
-    let given = λ (kind : SectionKind). unit_part indexes name kind (contribution_to kind whole) in
+    let given = λ (kind : SectionKind). unit_contribution indexes name kind
+    (contribution_to kind whole) in
     let parts = bind-was (read_each given all_kinds) _ row h in
     let part = read-kind given parts.0 None parts.1 in
     let entry = entry-part whole.encoding name (value_of None parts.0) in
@@ -97,7 +101,8 @@ is-unit_row indexes whole name row h =
 
 -- where the wholes lie
 pub whole-part : (encoding : Encoding) (before parts : Contents) (kind : SectionKind)
-    → is_shared kind ≡ true → contribution_to kind (whole_row encoding before parts) ≡ range_put
+    → is_shared kind ≡ true → contribution_to kind (whole_row encoding before parts) ≡
+    contribution_put
     kind (joined_parts kind parts) before
 unfolding whole_row
 whole-part encoding before parts kind shared = grind (arith, entry-part encoding)
@@ -159,7 +164,7 @@ module _ (source : Source) (before parts : Contents) (read : DwarfObject × Unit
       → IsTable after
       → unit_meaning source read ≡ meaning_by source read.1.unit.whole.bytes ranges
       → SharedLie before parts row part → ((kind : SectionKind)
-      → is_copied kind ≡ true → part kind ≡ part_by source ranges kind)
+      → is_copied kind ≡ true → part kind ≡ contribution_by source ranges kind)
       → lie_inside source ranges ≡ true → OffsetsRead source ranges after (part StrOffsets)
       → RowShares source before parts after read row
   unfolding meaning_by
@@ -171,7 +176,7 @@ module _ (source : Source) (before parts : Contents) (read : DwarfObject × Unit
       record {
         unit = record {
           bytes = read.1.unit.whole.bytes;
-          pieces = pieces_by (part_by source ranges);
+          contributions = contributions_by (contribution_by source ranges);
           strings = strings.0;
           encoding = source.encoding;
         };
@@ -202,7 +207,7 @@ module _ (source : Source) (before parts : Contents) (read : DwarfObject × Unit
   module _ (test : row_test source.indexes read.1.from name read.1.unit ≡ Ok tt)
       (packed : is_package source.indexes ≡ true) where
     -- it has a row of its own
-    own : OwnRow (index_for source.indexes name) read.1.from (own_range read.1.unit)
+    own : OwnRow (index_for source.indexes name) read.1.from (own_contribution read.1.unit)
         (identifier_of name)
     unfolding row_test row_of
     own =

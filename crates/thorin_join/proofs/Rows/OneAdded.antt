@@ -1,10 +1,10 @@
 -- A unit that is added stands in its row.
 use Rattle.thorin_join.proofs.Terms
-use Terms.{◌+◌, ◌++◌, ◌<◌, arith, cond, content_of, Contents, Contribution, contribution_to}
+use Terms.{arith, cond, content_of, Contents, Contribution, contribution_put, contribution_to}
 use Terms.{drop-append_seam, DwarfObject, encoding_in, Endianness, false, IndexEntry, is-same}
-use Terms.{is_copied, IsRowOf, IsWhole, kind_at, length, LieInside, List, Meaning, ne_eqb, NewUnit}
-use Terms.{None, range_put, refl, row_at, same-each, same-self, same_kind, SectionKind, Shares}
-use Terms.{slice_range, Some, take-length, TypeUnit, UnitSection, with_bytes, ℕ, ◌∙◌, ◌≡◌, ◌⊎◌}
+use Terms.{is_copied, IsRowOf, IsWhole, kind_of, length, LieInside, List, Meaning, ne_eqb, NewUnit}
+use Terms.{None, refl, row_at, same-each, same-self, same_kind, SectionKind, Shares, slice_range}
+use Terms.{Some, take-length, TypeUnit, UnitSection, with_bytes, ℕ, ◌++◌, ◌+◌, ◌<◌, ◌∙◌, ◌≡◌, ◌⊎◌}
 use Rattle.thorin_join.proofs.Rows.Stay.{grows-with_bytes, keep-lie, keep-shares}
 use Rattle.thorin_join.proofs.Rows.Ranges.{lies-whole}
 use Rattle.thorin_join.proofs.Parts.Appended.{content-with_bytes}
@@ -22,16 +22,16 @@ abbrev pub range_for : SectionKind → List ℕ → Contents → Contribution
 range_for k x c = record { offset = record { 0 = length (content_of k c) }; size = length x }
 
 pub place-put : (k : SectionKind) (x : List ℕ) (c : Contents) → 0 < length x
-    → range_put k x c ≡ Some (range_for k x c)
+    → contribution_put k x c ≡ Some (range_for k x c)
 place-put k x c h = rw (ne_eqb (length x) 0 (λ none. absurd (omega arith))) refl
 
 pub own-bytes : (a x : List ℕ) → slice_range (a ++ x) (length a) (length a + length x) ≡ x
 own-bytes a x = grind (arith, drop-append_seam a x, take-length x)
 
 -- the kind of a place is none of those that units share
-pub not-shared : (place : UnitSection) → (is_copied (kind_at place) ≡ false)
-    × (same_kind (kind_at place) kinds.StrOffsets ≡ false)
-    × (same_kind kinds.StrOffsets (kind_at place) ≡ false)
+pub not-shared : (place : UnitSection) → (is_copied (kind_of place) ≡ false)
+    × (same_kind (kind_of place) kinds.StrOffsets ≡ false)
+    × (same_kind kinds.StrOffsets (kind_of place) ≡ false)
 not-shared place = grind arith
 
 -- the place of a unit is that of its name and its range in types
@@ -61,8 +61,8 @@ pub record CanBeAdded (order : Endianness) (c : Contents) (strings : List (List 
 module _ (shared : IndexEntry) (c : Contents) (name : DwarfObject) (x : List ℕ) where
   -- a unit's row has its own part, and those that it shares
   row-parts : (place : UnitSection) (kind : SectionKind)
-      → contribution_to kind (row_at shared c name x place) ≡ cond (same_kind (kind_at place) kind)
-      (range_put (kind_at place) x c) (contribution_to kind shared)
+      → contribution_to kind (row_at shared c name x place) ≡ cond (same_kind (kind_of place) kind)
+      (contribution_put (kind_of place) x c) (contribution_to kind shared)
   row-parts places.Info = same-each _ _ refl
   row-parts places.Types = same-each _ _ refl
 
@@ -78,21 +78,22 @@ module _ (shared : IndexEntry) (c : Contents) (name : DwarfObject) (x : List ℕ
     abbrev row : IndexEntry
     row = row_at shared c name x place
 
-    pub row-other : (kind : SectionKind) → same_kind (kind_at place) kind ≡ false
+    pub row-other : (kind : SectionKind) → same_kind (kind_of place) kind ≡ false
         → contribution_to kind row ≡ contribution_to kind shared
     row-other kind other = rw (row-parts place kind, other)
 
-    pub row-own : contribution_to (kind_at place) row ≡ range_put (kind_at place) x c
-    row-own = rw (row-parts place (kind_at place), same-self (kind_at place))
+    pub row-own : contribution_to (kind_of place) row ≡ contribution_put (kind_of place) x c
+    row-own = rw (row-parts place (kind_of place), same-self (kind_of place))
 
     -- its other parts are those that it shares, and its own
     pub row-part : (kind : SectionKind) → (contribution_to kind row ≡ contribution_to kind shared)
-        ⊎ ((kind ≡ kind_at place) × (contribution_to kind row ≡ range_put (kind_at place) x c))
-    row-part kind = grind (arith, is-same (kind_at place) kind, row-own, row-other kind)
+        ⊎ ((kind ≡ kind_of place) × (contribution_to kind row ≡ contribution_put
+        (kind_of place) x c))
+    row-part kind = grind (arith, is-same (kind_of place) kind, row-own, row-other kind)
 
-    row-lies : LieInside c shared → LieInside (with_bytes (kind_at place) x c) row
+    row-lies : LieInside c shared → LieInside (with_bytes (kind_of place) x c) row
     row-lies lie =
-        let k = kind_at place in
+        let k = kind_of place in
         let there = keep-lie c (with_bytes k x c) shared (grows-with_bytes k x c) lie in
         let own = lies-whole (content_of k c) x in
         grind (arith, row-part, there.inside, there.some, own.inside, own.some, content-put k x c)
@@ -100,12 +101,12 @@ module _ (shared : IndexEntry) (c : Contents) (name : DwarfObject) (x : List ℕ
     -- a unit whose row shares what belongs to it is the one of its row, once its bytes are added
     pub unit-added : (order : Endianness) (s : List (List ℕ)) (m : DwarfObject × Meaning)
         → CanBeAdded order c s (name, record { place = place; bytes = x; row = shared }) m
-        → IsRowOf order (with_bytes (kind_at place) x c) s row m
+        → IsRowOf order (with_bytes (kind_of place) x c) s row m
     unfolding encoding_in
     unit-added order s m added =
         let can = added.can in
-        let kept = keep-shares order c (with_bytes (kind_at place) x c) s s shared m.1
-        (grows-with_bytes (kind_at place) x c) (take-length s) added.lie added.shares in
+        let kept = keep-shares order c (with_bytes (kind_of place) x c) s s shared m.1
+        (grows-with_bytes (kind_of place) x c) (take-length s) added.lie added.shares in
         record {
           name = row-name place ∙ added.name;
           encoding = grind (arith, added.encoded);
@@ -114,8 +115,8 @@ module _ (shared : IndexEntry) (c : Contents) (name : DwarfObject) (x : List ℕ
           owns = record {
             place = place;
             place_is = rw (← added.name) (own-place place can.fits);
-            bytes = rw (row-own, content-put (kind_at place) x c)
-                ((lies-whole (content_of (kind_at place) c) x).part_is ∙ added.bytes);
+            bytes = rw (row-own, content-put (kind_of place) x c)
+                ((lies-whole (content_of (kind_of place) c) x).part_is ∙ added.bytes);
             encoding = can.whole.unit.encoding;
             header = grind (arith, added.bytes, can.whole.read);
           };

@@ -1,16 +1,16 @@
 -- The ranges of an input's units lie behind those of the inputs before it.
 use Rattle.thorin_join.proofs.Terms
-use Terms.{◌++◌, [], adding, append-nil, append_assoc, AreRowsOf, arith, content_of, Contents}
-use Terms.{Endianness, IndexEntry, inl, InProgress, inr, IsSound, IsSoundBegun, kind_at, LieInside}
-use Terms.{List, map, Members, Ok, Option, package_or_new, refl, row_at, same_Some, Some, Source}
-use Terms.{subst, sym, with_input, with_new_units, with_unit_added, ℕ, ◌∙◌, ◌∷◌, ◌≡◌}
-use Rattle.thorin_join.specs.StandApart.{rows_begun, contents_begun, LieBehind, EachRow, StandApart}
+use Terms.{[], adding, append-nil, append_assoc, AreRowsOf, arith, content_of, Contents, Endianness}
+use Terms.{IndexEntry, inl, InProgress, inr, IsSound, IsSoundBegun, kind_of, LieInside, List, map}
+use Terms.{Members, Ok, Option, package_or_new, refl, row_at, same_Some, Some, Source, subst, sym}
+use Terms.{with_input, with_new_units, with_unit_added, ℕ, ◌++◌, ◌∙◌, ◌∷◌, ◌≡◌}
+use Rattle.thorin_join.specs.StandApart.{contents_begun, EachRow, LieBehind, rows_begun, StandApart}
 use Rattle.thorin_join.proofs.Units.JoinedByName.{AreAdded, units-joined}
-use Rattle.thorin_join.proofs.Rows.Stay.{Grows, front-long, grows-trans, grows-with_bytes}
+use Rattle.thorin_join.proofs.Rows.Stay.{front-long, Grows, grows-trans, grows-with_bytes}
 use Rattle.thorin_join.proofs.Rows.OfUnits.{is-unit_row, row-behind}
 use Rattle.thorin_join.proofs.Joined.Source.{grows-with_parts, source-made}
 use Rattle.thorin_join.proofs.Rows.OneAdded.{row-part}
-use Rattle.thorin_join.proofs.Joined.Taken.{takes, same-begun}
+use Rattle.thorin_join.proofs.Joined.Taken.{same-begun, takes}
 use Rattle.thorin_join.proofs.Joined.Input.{new-sound}
 use Rattle.thorin_join.proofs.Rows.Ranges.{lies-whole}
 use Rattle.thorin_join.proofs.Parts.FirstUses.{each-unit}
@@ -43,9 +43,9 @@ units-behind base = each-unit (λ p us now. Grows base p.file.contents → EachN
     (λ p u us now later grows all. later grows all.1)
     (λ p u us now later grows all. let c = p.file.contents in
     let more = later (grows-trans base c (with_unit_added p u).file.contents grows
-    (grows-with_bytes (kind_at u.1.place) u.1.bytes c)) all.1 in
+    (grows-with_bytes (kind_of u.1.place) u.1.bytes c)) all.1 in
     let row = row_at u.1.row c u.0 u.1.bytes u.1.place in
-    let own = (lies-whole (content_of (kind_at u.1.place) c) u.1.bytes).behind in
+    let own = (lies-whole (content_of (kind_of u.1.place) c) u.1.bytes).behind in
     let part = row-part u.1.row c u.0 u.1.bytes u.1.place in
     let here : LieBehind base row = λ kind range is.
     grind (arith, all.0 kind range, own range, front-long (grows kind), part kind) in

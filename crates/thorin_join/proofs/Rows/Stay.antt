@@ -1,11 +1,11 @@
 -- What stands in a package stays when more is added.
 use Rattle.thorin_join.proofs.Terms
-use Terms.{◌+◌, ◌++◌, ◌-◌, [], ap, append-nil, append_assoc, AreRowsOf, arith, by-bool, content_of}
-use Terms.{Contents, Contribution, contribution_to, data_of, drop, drop-append-le, DwarfObject}
-use Terms.{Endianness, HasFront, IndexEntry, IsRowOf, kind_at, le-leb, length, length-append}
-use Terms.{length-drop, LieInside, List, Meaning, Owns, part_of, refl, same_kind, SectionKind}
-use Terms.{Shares, slice_range, Some, string_in, StrOffsets, sym, take, take-append-le, with_bytes}
-use Terms.{ℕ, ◌∙◌, ◌∷◌, ◌≡◌, ◌≤◌}
+use Terms.{[], ap, append-nil, append_assoc, AreRowsOf, arith, by-bool, content_of, Contents}
+use Terms.{Contribution, contribution_to, data_of, drop, drop-append-le, DwarfObject, Endianness}
+use Terms.{HasFront, IndexEntry, IsRowOf, kind_of, le-leb, length, length-append, length-drop}
+use Terms.{LieInside, List, Meaning, Owns, part_of, refl, same_kind, SectionKind, Shares}
+use Terms.{slice_range, Some, string_in, StrOffsets, sym, take, take-append-le, with_bytes, ℕ, ◌++◌}
+use Terms.{◌+◌, ◌-◌, ◌∙◌, ◌∷◌, ◌≡◌, ◌≤◌}
 use Rattle.thorin_join.proofs.Parts.Appended.{content-with_bytes}
 use Rattle.thorin_join.proofs.Parts.Strings.{front-front}
 
@@ -68,7 +68,7 @@ pub keep-rows : (order : Endianness) (c d : Contents) (s t : List (List ℕ)) (r
 keep-rows order c d s t [] [] grows longer are = tt
 keep-rows order c d s t (r ∷ rs) (m ∷ ms) grows longer are =
     let is = are.0 in
-    let bytes = keep-part c d r grows is.lie (kind_at is.owns.place) ∙ is.owns.bytes in
+    let bytes = keep-part c d r grows is.lie (kind_of is.owns.place) ∙ is.owns.bytes in
     let owns : Owns order d m.0 r m.1 = grind (arith, bytes) in
     let shares = keep-shares order c d s t r m.1 grows longer is.lie is.shares in
     let lie = keep-lie c d r grows is.lie in

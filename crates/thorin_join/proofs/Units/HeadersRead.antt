@@ -1,10 +1,10 @@
 -- The names and the headers of units that are read, and what holds of each of them.
 use Rattle.thorin_join.proofs.Terms
-use Terms.{◌++◌, [], All-append, arith, DwarfObject, Each, Header, identity, Input, joining}
-use Terms.{kind_at, List, name_for, NewUnit, None, Ok, Option, ReadError, refl, Result, section}
-use Terms.{SectionKind, slice_get, Some, Source, suc, unit_section, UnitRead, units, UnitSection}
-use Terms.{Used, ℕ, ◌∷◌, ◌≡◌}
-use Rattle.thorin_join.specs.Meaning.{named_unit, named_each, named_at, named_sections}
+use Terms.{[], All-append, arith, DwarfObject, Each, Header, identity, Input, joining, kind_of}
+use Terms.{List, name_for, NewUnit, None, Ok, Option, ReadError, refl, Result, section, SectionKind}
+use Terms.{slice_get, Some, Source, suc, unit_section, UnitRead, units, UnitSection, Used, ℕ, ◌++◌}
+use Terms.{◌∷◌, ◌≡◌}
+use Rattle.thorin_join.specs.Meaning.{named_at, named_each, named_sections, named_unit}
 
 abbrev pub Listed : Type 0
 Listed = List (Result Header ReadError)
@@ -30,7 +30,7 @@ each-named source kind P none more (read ∷ rest) us h =
     grind (arith, more, each-named source kind P none more rest)
 
 pub kind-place : (kind : SectionKind) (place : UnitSection) → unit_section kind ≡ Some place
-    → kind ≡ kind_at place
+    → kind ≡ kind_of place
 kind-place kind place at = grind arith
 
 -- a name is the identity that a unit has with some abbreviations
@@ -57,7 +57,7 @@ each-joining P names (u ∷ us) h =
 pub record WasRead (source : Source) (T : UnitSection → Header → Type 0)
     (r : DwarfObject × UnitRead) : Type 0 where
   pub place : UnitSection
-  pub from : r.1.from ≡ kind_at place
+  pub from : r.1.from ≡ kind_of place
   pub so : T place r.1.unit
   pub named : name_for source r.1.from r.1.unit ≡ Ok r.0
 

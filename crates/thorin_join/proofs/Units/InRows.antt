@@ -4,14 +4,16 @@ use Terms.{[], ap, AreRowsOf, arith, content_of, Contents, contribution_to, data
 use Terms.{Endianness, IndexEntry, InProgress, is_copied, IsRowOf, IsTable, keys, List, map}
 use Terms.{Meaning, meaning_at, Members, Ok, part_of, refl, Represents, result_unwrap_or}
 use Terms.{SectionKind, strings_of, StrOffsets, sym, take-length, true, units_of, ℕ, ◌∷◌, ◌≡◌}
-use Rattle.thorin_join.specs.State.{names_of, unit_bytes}
-use Rattle.thorin_join.specs.Meaning.{pieces_by, Pieces}
+use Rattle.thorin_input.specs.Held.{unit_bytes}
+use Rattle.thorin_join.specs.State.{names_of}
+use Rattle.thorin_join.specs.Meaning.{Contributions, contributions_by}
 use Rattle.thorin_join.proofs.Parts.StringLists.{strings-are}
 
--- the pieces of a unit, where each kind's bytes are its piece
-pub pieces-same : (bytes : SectionKind → List ℕ) (pieces : Pieces) → ((kind : SectionKind)
-    (copied : is_copied kind ≡ true) → bytes kind ≡ pieces kind copied) → pieces_by bytes ≡ pieces
-pieces-same bytes pieces same = λ i kind copied. same kind copied i
+-- the contributions of a unit, where each kind's bytes are its contribution
+pub contributions-same : (bytes : SectionKind → List ℕ) (contributions : Contributions)
+    → ((kind : SectionKind) (copied : is_copied kind ≡ true)
+    → bytes kind ≡ contributions kind copied) → contributions_by bytes ≡ contributions
+contributions-same bytes contributions same = λ i kind copied. same kind copied i
 
 module _ (order : Endianness) (contents : Contents) (strings : List (List ℕ))
     (table : IsTable strings) where
@@ -29,7 +31,7 @@ module _ (order : Endianness) (contents : Contents) (strings : List (List ℕ))
     meaning-is : member.1 ≡ meaning_at order contents strings row
     meaning-is = λ i. record {
       bytes = bytes-are i;
-      pieces = sym (pieces-same _ member.1.pieces is.shares.content) i;
+      contributions = sym (contributions-same _ member.1.contributions is.shares.content) i;
       strings = sym (ap (λ found. result_unwrap_or found []) strings-found) i;
       encoding = sym is.encoding i;
     }

@@ -1,18 +1,18 @@
 -- The units of an input are whole units of their names, wherever their bytes come to stand.
 use Rattle.thorin_join.proofs.Terms
-use Terms.{◌+◌, ◌++◌, ◌-◌, [], All-weaker, ap, arith, bind-was, Bool, cond, drop, DwarfObject, Each}
-use Terms.{encoding_in, Endianness, Header, inl, Input, inr, IsWhole, kind_at, length, List, listed}
+use Terms.{[], All-weaker, ap, arith, bind-was, Bool, cond, drop, DwarfObject, Each, encoding_in}
+use Terms.{Endianness, Header, inl, Input, inr, IsWhole, kind_of, length, List, listed}
 use Terms.{name_signature, nat_eq, Ok, place_for, ReadError, Result, same-ok, section, slice_get}
 use Terms.{Some, Source, source_units, suc, sym, take-append-drop, type_signature, unit_at}
-use Terms.{unit_taken, UnitRead, units, UnitSection, zero, ℕ, ◌∙◌, ◌≡◌, ◌⊎◌}
+use Terms.{unit_taken, UnitRead, units, UnitSection, zero, ℕ, ◌++◌, ◌+◌, ◌-◌, ◌∙◌, ◌≡◌, ◌⊎◌}
 use Rattle.dwp_dwarf.specs.Units.{units_within}
 use Rattle.dwp_index.proofs.TwoPlaces.{units_alone}
-use Rattle.thorin_join.proofs.Units.HeadersRead.{name-identity, Listed, Reads, each-all, WasRead}
-use Rattle.thorin_join.proofs.Units.HeadersRead.{sections-are}
+use Rattle.thorin_join.proofs.Units.HeadersRead.{each-all, Listed, name-identity, Reads}
+use Rattle.thorin_join.proofs.Units.HeadersRead.{sections-are, WasRead}
 use Rattle.thorin_join.proofs.Units.Sorts.{identity-sort}
 use Rattle.thorin_join.proofs.Moved.RootEntries.{IsShifted}
 use Rattle.thorin_join.proofs.Moved.Readings.{plain}
-use Rattle.thorin_join.proofs.Moved.Units.{unit-moves, unit-anywhere, FiveOrType, unit-five}
+use Rattle.thorin_join.proofs.Moved.Units.{FiveOrType, unit-anywhere, unit-five, unit-moves}
 use Rattle.dwp_dwarf.specs.declared.unit.UnitSection.TheVariants as places
 
 -- a unit as it is read of its own bytes alone
@@ -88,7 +88,7 @@ module _ (order : Endianness) (place : UnitSection) where
 -- where a unit goes to it is read alone
 pub goes-alone : (order : Endianness) (place : UnitSection) (name : DwarfObject) (unit : Header)
     → IsKnown order place unit → type_signature unit.unit_type ≡ name_signature name
-    → ReadsAlone order (place_for name (kind_at place)) unit
+    → ReadsAlone order (place_for name (kind_of place)) unit
 goes-alone order place name unit known sort = grind (arith, unit-anywhere place places.Info)
 
 -- all units of an input do so

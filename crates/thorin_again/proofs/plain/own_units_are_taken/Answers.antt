@@ -1,4 +1,4 @@
-use Rattle.thorin_again.proofs.Terms.{inr, refl, IsForeseen}
+use Rattle.thorin_again.proofs.Terms.{inr, IsForeseen, refl}
 use Rattle.thorin_again.proofs.Opened.Indexes.{own-plain, read-of}
 use Rattle.thorin_again.proofs.Accepted.OwnUnits.{taken-all}
 use Rattle.thorin_again.proofs.plain.own_units_are_taken.Goals as goal

@@ -3,7 +3,7 @@ use Terms.{◌+◌, ap, arith, at_drop_more, Bool, cond, drop, false, filter, ge
 use Terms.{is_missing, List, not, refl, rules, slice_get_within, Some, sym, true, ℕ, ◌∙◌, ◌∷◌, ◌≡◌}
 use Rattle.std.specs.Prelude.{slice_get}
 use Rattle.dwp_base.proofs.Finds.{slice_get_none}
-use Rattle.thorin_builder.proofs.NewUnitLemmas.{missing-is}
+use Rattle.thorin_builder.proofs.Names.{missing-is}
 use Rattle.thorin_builder.proofs.missing.first_missing.Goals as goal
 
 -- the first of those that are left passes, or is passed over

@@ -1,5 +1,5 @@
 use Rattle.thorin_builder.proofs.Terms.{ap, not, targets_test, ◌∙◌}
-use Rattle.thorin_builder.proofs.NewUnitLemmas.{missing-is}
+use Rattle.thorin_builder.proofs.Names.{missing-is}
 use Rattle.thorin_builder.proofs.package.test_targets.Goals as goal
 
 pub loop-target-preserved : goal.loop-target-preserved

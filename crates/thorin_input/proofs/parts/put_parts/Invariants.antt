@@ -1,7 +1,8 @@
 use Rattle.std.proofs.Common.{◌≡◌, map, length}
 use Rattle.std.specs.Vec.Iter.{into_iter_items, into_iter_len}
 use Rattle.dwp_elf.specs.FileText.{Object}
-use Rattle.thorin_input.specs.Growing.{IsGrown, with_parts}
+use Rattle.dwp_elf.specs.Growing.{IsGrown}
+use Rattle.thorin_input.specs.Parts.{with_parts}
 use Rattle.thorin_input.specs.View.{part}
 use Rattle.thorin_input.proofs.parts.put_parts.Given as goal
 

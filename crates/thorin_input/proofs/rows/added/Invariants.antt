@@ -1,5 +1,5 @@
 use Rattle.std.proofs.Common.{◌≡◌, ◌+◌, map, drop, length}
-use Rattle.thorin_input.specs.Growing.{joined_parts}
+use Rattle.thorin_input.specs.Parts.{joined_parts}
 use Rattle.thorin_input.specs.View.{part}
 use Rattle.thorin_input.proofs.rows.added.Given as goal
 

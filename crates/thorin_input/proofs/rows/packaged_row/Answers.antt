@@ -4,10 +4,10 @@ use Rattle.thorin_input.specs.View as view
 use Rattle.thorin_input.proofs.RowParts.{row-read, row-refused}
 use Rattle.thorin_input.proofs.rows.packaged_row.Goals as goal
 
-pub returns-in_err-parts-clause-meaning : goal.returns-in_err-parts-clause-meaning
-returns-in_err-parts-clause-meaning c =
+pub returns-in_err-contributions-clause-meaning : goal.returns-in_err-contributions-clause-meaning
+returns-in_err-contributions-clause-meaning c =
     let p = err_from_is_err_and c.from_residual.result c.from_residual.ensures.1 in
-    let refused = c.in_err-parts.ensures in
+    let refused = c.in_err-contributions.ensures in
     rw (p.1, p.2) (λ other. row-refused (view.indexes c.args.indexes.now) c.args.whole.now.row
     c.args.unit.name _ (
       refused.0,
@@ -21,8 +21,8 @@ returns-in_err-parts-clause-meaning c =
 
 pub returns-clause-meaning : goal.returns-clause-meaning
 returns-clause-meaning c =
-    let read = c.in_ok-parts.ensures in
+    let read = c.in_ok-contributions.ensures in
     row-read (view.indexes c.args.indexes.now) c.args.whole.now.row c.args.unit.name
-    c.in_ok-parts.parts
+    c.in_ok-contributions.contributions
     (read.0, λ kind. let at = read.1 kind in let there = at.2 in (at.0, at.1, search rules))
     ∙ ap Ok (sym c.by_kind.ensures)

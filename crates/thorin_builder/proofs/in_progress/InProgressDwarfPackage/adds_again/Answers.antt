@@ -4,7 +4,7 @@ use Terms.{IfSome_then, in_progress_of, IndexEntry, InProgress, input_file_of, I
 use Terms.{New, None, Ok, one_encoding, order_test, own_encoding, parts_of, refl, Repeated, rules}
 use Terms.{Some, Source, sym, take-length, unit_bytes, with_all, with_input, with_more}
 use Terms.{with_new_units, with_parts, with_source, with_source_or_new, with_units, ℕ, ◌∙◌, ◌≡◌}
-use Rattle.thorin_join.proofs.Terms.{content_of, contribution_to, Endianness, kind_at, part_of}
+use Rattle.thorin_join.proofs.Terms.{content_of, contribution_to, Endianness, kind_of, part_of}
 use Rattle.thorin_join.proofs.Terms.{place_of}
 use Rattle.dwp_elf_read.specs.View.{elf}
 use Rattle.thorin_join.proofs.Parts.Appended.{content-with_parts, parts-none}
@@ -55,11 +55,11 @@ held-apart source strings parts h made =
     let stays : (row : IndexEntry) → unit_bytes (with_parts parts c) row ≡ unit_bytes c row =
     λ row.
     let place = place_of row.id row.debug_types in
-    let none = parts-none source strings parts strings h (kind_at place)
+    let none = parts-none source strings parts strings h (kind_of place)
     (not-shared place).0 (not-shared place).2 in
-    ap (λ l. part_of l (contribution_to (kind_at place) row))
-    (content-with_parts (kind_at place) parts c
-    ∙ rw none (append-nil (content_of (kind_at place) c))) in
+    ap (λ l. part_of l (contribution_to (kind_of place) row))
+    (content-with_parts (kind_of place) parts c
+    ∙ rw none (append-nil (content_of (kind_of place) c))) in
     λ i. map {B = DwarfObject × List ℕ} (λ row. (row.id, stays row i)) made.rows
 
 order-tested : (order : Endianness) (made : InProgress) → made.file.order ≡ order

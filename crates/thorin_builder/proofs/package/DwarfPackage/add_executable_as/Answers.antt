@@ -1,24 +1,23 @@
-use Rattle.thorin_builder.proofs.Terms.{[], Err, Io, Memory, Ok, refl, rules}
+use Rattle.thorin_builder.proofs.Terms.{[], Err, err_from_is_err_and, Ok, refl}
+use Rattle.std.specs.Path.{path_bytes}
+use Rattle.thorin_builder.proofs.Running.{may-read}
 use Rattle.thorin_builder.proofs.package.DwarfPackage.add_executable_as.Goals as goal
 
-pub returns-in-Ok-clause-taken : goal.returns-in-Ok-clause-taken
-returns-in-Ok-clause-taken g c = record {
-  read = Ok c.in-Ok.bytes.now;
-  within = c.in-Ok.ensures.offered;
+pub returns-in_err-bytes-clause-taken : goal.returns-in_err-bytes-clause-taken
+returns-in_err-bytes-clause-taken g c =
+    let p = err_from_is_err_and c.from_residual.result c.from_residual.ensures.1 in
+    rw (p.1, p.2) (record {
+      read = Err c.in_err-bytes.field-0.0;
+      within = may-read (g.R.InputReader.offer c.args.reader.now (path_bytes c.args.path))
+          c.in_err-bytes.field-0.0 c.in_err-bytes.ensures.offered;
+      accepted = [];
+      taken = (refl, (refl, refl));
+    })
+
+pub returns-clause-taken : goal.returns-clause-taken
+returns-clause-taken g c = record {
+  read = Ok c.in_ok-bytes.bytes.now;
+  within = c.in_ok-bytes.ensures.offered;
   accepted = c.add_named.ensures.taken.0;
   taken = c.add_named.ensures.taken.1;
 }
-
-pub returns-in-Err-Io-clause-taken : goal.returns-in-Err-Io-clause-taken
-returns-in-Err-Io-clause-taken g c =
-    let io = c.in-Err-Io in
-    record {
-      read = Err (Io io.cause);
-      within = search (rules, io.ensures.offered, io.cause-is, io.field-0-is);
-      accepted = [];
-      taken = (search (rules, io.cause-is), (refl, refl));
-    }
-
-pub returns-clause-taken : goal.returns-clause-taken
-returns-clause-taken g c =
-    record { read = Err Memory; within = tt; accepted = []; taken = (refl, (refl, refl)) }

@@ -1,5 +1,5 @@
 use Rattle.thorin_builder.proofs.Terms.{ap, list_any, refl, same_name, ◌∙◌}
-use Rattle.thorin_builder.proofs.NewUnitLemmas.{among-is}
+use Rattle.thorin_builder.proofs.Names.{among-is}
 use Rattle.thorin_builder.proofs.Running.{names-begun}
 use Rattle.thorin_builder.proofs.package.DwarfPackage.is_there.Goals as goal
 

@@ -1,0 +1,14 @@
+-- What `==` of names says of a name that is among others.
+use Rattle.thorin_builder.proofs.Terms.{ap, Bool, DwarfObject, is_missing, List, list_any, not}
+use Rattle.thorin_builder.proofs.Terms.{same_name, sym, ◌∙◌, ◌≡◌}
+use Rattle.thorin_input.proofs.NewUnitLemmas.{same_name-is}
+use Rattle.dwp_table.specs.contracts.object.DwarfObjectPartialEq.TheImpl as derived
+
+-- a name is among others, or is missing there
+pub among-is : (a : DwarfObject) (names : List DwarfObject) → list_any (derived.eq-value.it a) names
+    ≡ list_any (same_name a) names
+among-is a names = ap (λ f. list_any f names) (same_name-is a)
+
+pub missing-is : (a : DwarfObject) (names : List DwarfObject) (there : Bool)
+    → there ≡ list_any (derived.eq-value.it a) names → is_missing names a ≡ not there
+missing-is a names there is = ap not (sym (is ∙ among-is a names))

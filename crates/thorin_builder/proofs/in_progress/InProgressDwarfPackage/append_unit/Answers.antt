@@ -1,0 +1,24 @@
+use Rattle.thorin_builder.proofs.Terms.{at_least, take-append-le, take-append_seam, ◌∙◌}
+use Rattle.thorin_builder.proofs.in_progress.InProgressDwarfPackage.append_unit.Goals as goal
+
+pub returns-in-Ok-clause-extends : goal.returns-in-Ok-clause-extends
+returns-in-Ok-clause-extends c before h = record {
+  file = c.append.ensures.grown before.file h.file;
+  strings = h.strings;
+  rows = rw c.in_ok-push.ensures.pushed (take-append-le _ c.args.self.now.rows _
+      (at_least before.rows c.args.self.now.rows h.rows) ∙ h.rows);
+  differing = h.differing;
+}
+
+pub returns-in-Err-clause-extends : goal.returns-in-Err-clause-extends
+returns-in-Err-clause-extends c before h = record {
+  file = c.append.ensures.grown before.file h.file;
+  strings = h.strings;
+  rows = rw (
+    c.truncate.ensures,
+    c.in_ok-push.ensures.pushed,
+    c.len-count.ensures,
+    take-append_seam c.args.self.now.rows _,
+  ) h.rows;
+  differing = h.differing;
+}
