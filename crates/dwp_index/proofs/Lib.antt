@@ -2,6 +2,7 @@ pub mod Terms
 pub mod Columns
 pub mod NumberLists
 pub mod Views
+pub mod FirstOfKind
 pub mod FirstUnit
 pub mod PackageLookUp
 pub mod RowsOfUnits

@@ -6,6 +6,7 @@ pub mod RowFields
 pub mod Used
 pub mod Entries
 pub mod Contents
+pub mod Firsts
 pub mod ContentFields
 pub mod Strings
 pub mod Package

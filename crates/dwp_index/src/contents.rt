@@ -5,7 +5,9 @@ ghost use Rattle.std.specs.List.{find};
 ghost use Rattle.dwp_base.specs.Reading.{Answers};
 ghost use Rattle.dwp_elf_read.specs.View.{elf, section};
 ghost use Rattle.dwp_index.specs.Contents.{content, is_of_kind, has_older_name, used_bytes};
-ghost use Rattle.dwp_index.specs.Contents.{content_among, contents_of};
+ghost use Rattle.dwp_index.specs.Contents.{bytes_of, content_among, contents_of};
+ghost use Rattle.dwp_index.specs.Firsts.{first_in, first_with};
+ghost use Rattle.dwp_base.specs.declared.section.SectionKind.{SectionKind};
 ghost use Rattle.dwp_index.specs.ContentFields.{contents_in};
 
 use dwp_base::{ByKind, SectionKind};
@@ -79,6 +81,69 @@ pub fn content_of_kind<'a>(file: &ElfFile<'a>, kind: SectionKind) -> Result<&'a 
     }
 }
 
+/// Of a kind the section that was met before, else the next one, where it is of that kind.
+fn first_of<'a>(
+    before: Option<Section<'a>>,
+    next: &Section<'a>,
+    kind: SectionKind,
+) -> Option<Section<'a>>
+    ensures { option_map section result
+        ≡ first_with kind (option_map section before.entry) (section next.now) }
+{
+    match before {
+        Some(first) => Some(first),
+        None => {
+            if is_of_kind(next, kind) {
+                Some(*next)
+            } else {
+                None
+            }
+        }
+    }
+}
+
+/// The first section of each kind that has bytes, once one more was met.
+fn with_next<'a>(
+    firsts: &ByKind<Option<Section<'a>>>,
+    next: &Section<'a>,
+) -> ByKind<Option<Section<'a>>>
+    ensures { (kind : SectionKind) → first_in result kind
+        ≡ first_with kind (first_in firsts.now kind) (section next.now) }
+{
+    let mut met = *firsts;
+    for kind in &SectionKind::ALL {
+        met.set(*kind, first_of(firsts.get(*kind), next, *kind));
+    }
+    met
+}
+
+/// The first section of each kind that has bytes, by one walk over the sections.
+fn firsts_of<'a>(file: &ElfFile<'a>) -> ByKind<Option<Section<'a>>>
+    ensures { (kind : SectionKind) → first_in result kind
+        ≡ find (is_of_kind kind) (elf file.now).sections }
+{
+    let mut firsts = ByKind::same(None);
+    for i in 0..file.section_count() {
+        if let Some(next) = file.section(i) {
+            firsts = with_next(&firsts, &next);
+        }
+    }
+    firsts
+}
+
+/// The content of the section of a kind that was met first; none where there is no such section.
+fn content_of_first<'a>(
+    firsts: &ByKind<Option<Section<'a>>>,
+    kind: SectionKind,
+) -> Result<&'a [u8], ReadError>
+    ensures { Answers (λ bytes. bytes.now) result (bytes_of kind (first_in firsts.now kind)) }
+{
+    match firsts.get(kind) {
+        None => Ok(&[]),
+        Some(used) => used_bytes(&used, kind),
+    }
+}
+
 impl<'a> Contents<'a> {
     /// The contents of a file.
     ///
@@ -88,7 +153,8 @@ impl<'a> Contents<'a> {
     pub fn read(file: &ElfFile<'a>) -> Result<Contents<'a>, ReadError>
         ensures { Answers contents_in result (contents_of (elf file.now).sections) }
     {
-        match ByKind::read(&[][..], |kind| content_of_kind(file, kind)) {
+        let firsts = firsts_of(file);
+        match ByKind::read(&[][..], |kind| content_of_first(&firsts, kind)) {
             Ok(by_kind) => Ok(Contents { by_kind }),
             Err(e) => Err(e),
         }

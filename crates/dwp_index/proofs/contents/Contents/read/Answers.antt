@@ -1,10 +1,10 @@
-use Rattle.std.proofs.Common.{rules, Ok, Err}
+use Rattle.std.proofs.Common.{Err, Ok, rules, sym}
 use Rattle.dwp_index.proofs.Terms.{Answers, content_among, contents_of, elf}
 use Rattle.dwp_base.proofs.KindsRead.{answers-each}
 use Rattle.dwp_index.proofs.contents.Contents.read.Goals as goal
 
 pub returns-in-Ok : goal.returns-in-Ok
-unfolding contents_of
+unfolding contents_of content_among
 returns-in-Ok c =
     let content = content_among (elf c.args.file.now).sections in
     answers-each (λ bytes. bytes.now) content (λ kind r. Answers (λ bytes. bytes.now) r
@@ -13,11 +13,11 @@ returns-in-Ok c =
       λ kind.
           let read = c.in-Ok.ensures.1 kind in
           let met = read.2 in
-          (read.0, read.1, search rules),
+          (read.0, read.1, rw (sym (c.firsts_of-firsts.ensures kind)) (search rules)),
     )
 
 pub returns-in-Err : goal.returns-in-Err
-unfolding contents_of
+unfolding contents_of content_among
 returns-in-Err c =
     let content = content_among (elf c.args.file.now).sections in
     let fails = c.in-Err.ensures.3 in
@@ -26,9 +26,9 @@ returns-in-Err c =
       c.in-Err.ensures.0,
       c.in-Err.ensures.1,
       c.in-Err.ensures.2,
-      search rules,
+      rw (sym (c.firsts_of-firsts.ensures c.in-Err.ensures.1)) (search rules),
       λ before other lt at.
           let read = c.in-Err.ensures.4 before other lt at in
           let met = read.1 in
-          (read.0, search rules),
+          (read.0, rw (sym (c.firsts_of-firsts.ensures other)) (search rules)),
     )
