@@ -31,7 +31,7 @@ import edits as of_edits  # noqa: E402
 import kit  # noqa: E402
 
 wrong = kit.load("wrong_bodies", f"{ROOT}/.ci/wrong-bodies")
-CRATES = """dwp_table dwp_elf_read dwp_elf dwp_dwarf dwp_index thorin_identity thorin_packaged thorin_join thorin_index
+CRATES = """dwp_table dwp_elf_read dwp_elf dwp_dwarf dwp_index thorin_identity thorin_package_input thorin_join thorin_index
 thorin_input thorin_executable thorin_strings thorin_builder""".split()
 ERRORS = ["dwp_elf_read/src/fault.rt", "dwp_bytes/src/fault.rt", "dwp_index/src/fault.rt", "thorin_errors/src/error.rt", "thorin_executable/src/relocations.rt"]
 ALIASES = {"ElfReadError": "ReadError", "DwarfReadError": "ReadError", "ElfWriteError": "WriteError", "DwarfWriteError": "WriteError"}

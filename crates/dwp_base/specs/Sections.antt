@@ -65,6 +65,10 @@ abbrev pub all_kinds : List SectionKind
 all_kinds = Info ∷ Types ∷ Abbrev ∷ Line ∷ Loc ∷ Loclists ∷ Rnglists ∷ StrOffsets ∷ Macinfo ∷ Macro
     ∷ Str ∷ CuIndex ∷ TuIndex ∷ []
 
+-- how many there are
+abbrev pub kind_count : ℕ
+kind_count = 13
+
 -- the kind of section that a name belongs to, in either spelling
 abbrev pub kind_named : List ℕ → Option SectionKind
 kind_named name = find (is_named name) all_kinds

@@ -16,4 +16,4 @@ pub use reader::Reader;
 pub use relocate::Relocate;
 pub use relocation::{Relocation, RelocationEntry};
 pub use slice::SliceReader;
-pub use string_offsets::string_at;
+pub use string_offsets::{StringOffsets, string_at};

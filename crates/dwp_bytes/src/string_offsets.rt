@@ -1,11 +1,14 @@
 //! String offsets, and the strings that they name (DWARF 5, 7.26).
 
-ghost use Rattle.std.specs.Prelude.{◌≡◌, ◌≢◌, All, IfOk};
+ghost use Rattle.std.specs.Prelude.{◌≡◌, ◌≢◌, All, IfOk, length};
+ghost use Rattle.std.specs.Option.{option_copied};
 ghost use Rattle.dwp_base.specs.Reading.{Answers};
-ghost use Rattle.dwp_bytes.specs.StringOffsets.{header_size, entry_count, string_at};
+ghost use Rattle.dwp_bytes.specs.StringOffsets.{header_size, entry_count, entry_in};
+ghost use Rattle.dwp_bytes.specs.StringOffsets.{string_at, string_in};
 
 use crate::encoding::{Encoding, Format};
 use crate::error::ReadError;
+use dwp_base::Endianness;
 use memchr::memchr;
 
 impl Encoding {
@@ -50,5 +53,68 @@ pub fn string_at(section: &[u8], offset: u64) -> Result<&[u8], ReadError>
     match memchr(0, rest) {
         Some(end) => Ok(&rest[..end]),
         None => Err(ReadError::NoTerminator),
+    }
+}
+
+/// String offsets, and the strings that they name (DWARF 5, 7.26).
+#[derive(Clone, Copy)]
+pub struct StringOffsets<'a> {
+    /// The section of the strings, which end with a zero byte each.
+    pub strings: &'a [u8],
+    /// The offsets: a section of them, or the bytes of a range, with its header first where it has
+    /// one.
+    pub offsets: &'a [u8],
+    /// The order of the bytes of a number.
+    pub order: Endianness,
+    /// The version, which says whether a range has a header, and the format, which says how long a
+    /// length and an offset are.
+    pub encoding: Encoding,
+}
+
+impl<'a> StringOffsets<'a> {
+    /// How many whole offsets there are.
+    #[inline(always)]
+    pub fn count(&self) -> u64
+        ensures { result ≡ entry_count self.now.encoding (length self.now.offsets.now) }
+    {
+        let size = self.offsets.len() as u64;
+        self.encoding.string_offsets_count(size)
+    }
+
+    /// The i-th offset; None past the last whole one.
+    #[inline(always)]
+    #[tactic(auto, unfolding(crate::specs::StringOffsets::entry_in))]
+    pub fn entry(&self, i: u64) -> Option<u64>
+        ensures { result ≡ entry_in self.now.order self.now.encoding self.now.offsets.now i }
+    {
+        let StringOffsets {
+            offsets,
+            order,
+            encoding,
+            ..
+        } = *self;
+        if self.count() <= i {
+            return None;
+        }
+        let header = encoding.string_offsets_header_size();
+        Some(match encoding.format {
+            Format::Dwarf32 => u64::from(order.read_u32(&offsets[header + i as usize * 4..])),
+            Format::Dwarf64 => order.read_u64(&offsets[header + i as usize * 8..]),
+        })
+    }
+
+    /// The i-th string; None past the last whole offset.
+    ///
+    /// # Errors
+    /// Those of `string_at`.
+    #[tactic(auto, unfolding(crate::specs::StringOffsets::string_in))]
+    pub fn string(&self, i: u64) -> Result<Option<&'a [u8]>, ReadError>
+        ensures { Answers option_copied result (string_in self.now.order self.now.encoding
+            self.now.strings.now self.now.offsets.now i) }
+    {
+        match self.entry(i) {
+            None => Ok(None),
+            Some(offset) => Ok(Some(string_at(self.strings, offset)?)),
+        }
     }
 }

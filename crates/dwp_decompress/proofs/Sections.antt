@@ -7,8 +7,8 @@ use Rattle.std.specs.Global.{Vec}
 use Rattle.std.proofs.lemmas.List.{drop_all, drop_more, map-append}
 use Rattle.std.proofs.lemmas.Option.{slice_get-map, slice_get_read, slice_get_within}
 use Rattle.std.proofs.lemmas.Option.{get_or_from_slice_get}
-use Rattle.dwp_elf_read.specs.Elf.{Elf, SectionMeaning}
-use Rattle.dwp_decompress.specs.Agreement.{AgreesAt, with_own}
+use Rattle.dwp_elf_read.specs.Elf.{SectionMeaning}
+use Rattle.dwp_decompress.specs.Agreement.{AgreesAt}
 use Rattle.dwp_decompress.specs.Names.{plain_name, added_name, added_name_of, added_names}
 use Rattle.dwp_decompress.specs.Compressed.{is_older, is_compressed}
 use Rattle.dwp_decompress.specs.Result.{result_sections, plain_contents, contents_of}
@@ -100,14 +100,6 @@ pub adds_none : (section : SectionMeaning) → is_compressed section ≡ false
 unfolding added_name_of
 adds_none section h = rw h refl
 
--- a section whose other numbers are those of another
-pub is_own : (new old : SectionMeaning) (name : Option (List ℕ)) (flags size : ℕ)
-    (content : Option (List ℕ)) → new ≡ with_own new old → new.name ≡ name → new.flags ≡ flags
-    → new.size ≡ size → new.content ≡ content
-    → new ≡ record old { name = name; flags = flags; size = size; content = content }
-unfolding with_own
-is_own new old name flags size content e n f s c = e ∙ rw (n, f, s, c) refl
-
 -- an item of plain contents
 pub get_content : (contents : List (Option (Vec ℕ))) (i : ℕ) (x : Option (Vec ℕ))
     → i < length contents → x ≡ get_or contents i x
@@ -135,12 +127,6 @@ module _ (names : ℕ) (added : List ℕ) (old new : List SectionMeaning)
       → drop i new ≡ result_sections names added (drop i old) (drop i contents)
   unfolding result_sections
   agree_end o n = rw (drop_all i new n, drop_all i old o) refl
-
--- a file of the class, byte order and machine of another
-pub same_file : (new old : Elf) (sections : List SectionMeaning) → new.class ≡ old.class
-    → new.order ≡ old.order → new.machine ≡ old.machine → new.sections ≡ sections
-    → new ≡ record old { sections = sections }
-same_file new old sections c o m s = rw (← c, ← o, ← m, ← s) refl
 
 -- a name that becomes another
 pub renamed : (old new : List ℕ) → is_older old ≡ true → take 7 new ≡ codes ".debug_"

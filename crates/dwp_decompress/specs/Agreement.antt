@@ -4,15 +4,6 @@ use Rattle.dwp_elf_read.specs.Elf.{Elf, SectionMeaning}
 use Rattle.dwp_decompress.specs.declared.agree.Expected as declared
 use Rattle.dwp_decompress.specs.Result.{result_section, result_file, plain_contents}
 
--- a section with the name, flags, size and content of another
-unfoldable pub with_own : SectionMeaning → SectionMeaning → SectionMeaning
-with_own own section = record section {
-  name = own.name;
-  flags = own.flags;
-  size = own.size;
-  content = own.content;
-}
-
 -- the i-th section is what it is to become
 pub record AgreesAt (names : ℕ) (added : List ℕ) (old new : List SectionMeaning)
     (contents : List (Option (List ℕ))) (i : ℕ) : Type 0 where

@@ -7,10 +7,9 @@ ghost use Rattle.dwp_elf_read.specs.View.{elf};
 ghost use Rattle.dwp_decompress.specs.Names.{plain_name};
 ghost use Rattle.dwp_decompress.specs.Result.{plain_flags, with_plain, with_names, result_section};
 ghost use Rattle.dwp_decompress.specs.Result.{result_sections, plain_contents};
-ghost use Rattle.dwp_decompress.specs.Agreement.{AgreesAt, with_own, expected_file};
+ghost use Rattle.dwp_decompress.specs.Agreement.{AgreesAt, expected_file};
 
 use crate::compressed::is_older;
-use dwp_base::{Class, Endianness};
 use dwp_elf_read::{ElfFile, Section};
 
 /// What the decompressed file is to have.
@@ -24,52 +23,6 @@ pub struct Expected<'a> {
     pub contents: &'a Vec<Option<Vec<u8>>>,
 }
 
-/// Whether two files are of one class.
-fn same_class(old: &ElfFile<'_>, new: &ElfFile<'_>) -> bool
-    ensures { IsTrue result → (elf new.now).class ≡ (elf old.now).class }
-{
-    match old.class() {
-        Class::Elf32 => match new.class() {
-            Class::Elf32 => true,
-            Class::Elf64 => false,
-        },
-        Class::Elf64 => match new.class() {
-            Class::Elf32 => false,
-            Class::Elf64 => true,
-        },
-    }
-}
-
-/// Whether two files are of one byte order.
-fn same_order(old: &ElfFile<'_>, new: &ElfFile<'_>) -> bool
-    ensures { IsTrue result → (elf new.now).order ≡ (elf old.now).order }
-{
-    match old.endianness() {
-        Endianness::Little => match new.endianness() {
-            Endianness::Little => true,
-            Endianness::Big => false,
-        },
-        Endianness::Big => match new.endianness() {
-            Endianness::Little => false,
-            Endianness::Big => true,
-        },
-    }
-}
-
-/// Whether two files are for one machine.
-fn same_machine(old: &ElfFile<'_>, new: &ElfFile<'_>) -> bool
-    ensures { IsTrue result → (elf new.now).machine ≡ (elf old.now).machine }
-{
-    new.machine() == old.machine()
-}
-
-/// Whether the flags are the same.
-fn same_flags(old: &Section<'_>, new: &Section<'_>) -> bool
-    ensures { IsTrue result → (view.section new.now).flags ≡ (view.section old.now).flags }
-{
-    new.flags() == old.flags()
-}
-
 /// Whether the flags are the same but for that of compressed sections.
 #[tactic(auto, unfolding(crate::specs::Result::plain_flags))]
 fn plain_flags(old: &Section<'_>, new: &Section<'_>) -> bool
@@ -77,20 +30,6 @@ fn plain_flags(old: &Section<'_>, new: &Section<'_>) -> bool
         → (view.section new.now).flags ≡ plain_flags (view.section old.now).flags }
 {
     new.flags() == old.flags() & 0xffff_ffff_ffff_f7ff
-}
-
-/// Whether the size is this.
-fn has_size(section: &Section<'_>, size: usize) -> bool
-    ensures { IsTrue result → (view.section section.now).size ≡ size }
-{
-    section.size() == size as u64
-}
-
-/// Whether the size is the same.
-fn same_size(old: &Section<'_>, new: &Section<'_>) -> bool
-    ensures { IsTrue result → (view.section new.now).size ≡ (view.section old.now).size }
-{
-    new.size() == old.size()
 }
 
 /// Whether a number is the sum of two others.
@@ -108,29 +47,6 @@ fn grown_size(old: &Section<'_>, new: &Section<'_>, added: usize) -> bool
     ensures { IsTrue result → (view.section new.now).size ≡ (view.section old.now).size + added }
 {
     is_sum(new.size(), old.size(), added as u64)
-}
-
-/// Whether what section headers say beside name, flags and size is the same.
-#[tactic(auto, unfolding(crate::specs::Agreement::with_own))]
-fn same_numbers(old: &Section<'_>, new: &Section<'_>) -> bool
-    ensures { IsTrue result → view.section new.now
-        ≡ with_own (view.section new.now) (view.section old.now) }
-{
-    new.number() == old.number()
-        && new.kind() == old.kind()
-        && new.address() == old.address()
-        && new.link() == old.link()
-        && new.info() == old.info()
-}
-
-/// Whether the name is the same, or can be read in neither.
-fn same_name(old: &Section<'_>, new: &Section<'_>) -> bool
-    ensures { IsTrue result → (view.section new.now).name ≡ (view.section old.now).name }
-{
-    match old.name() {
-        Ok(name) => new.is_called(name),
-        Err(_) => new.name().is_err(),
-    }
 }
 
 /// Whether a name begins as plain ones do, and goes on as an older one.
@@ -172,26 +88,6 @@ fn plain_name(old: &Section<'_>, new: &Section<'_>) -> bool
     }
 }
 
-/// Whether the content lies in the file, and is this.
-fn has_content(section: &Section<'_>, content: &[u8]) -> bool
-    ensures { IsTrue result → (view.section section.now).content ≡ Some content.now }
-{
-    match section.data() {
-        Ok(own) => own == content,
-        Err(_) => false,
-    }
-}
-
-/// Whether the content is the same, or lies outside of the file in both.
-fn same_content(old: &Section<'_>, new: &Section<'_>) -> bool
-    ensures { IsTrue result → (view.section new.now).content ≡ (view.section old.now).content }
-{
-    match old.data() {
-        Ok(content) => has_content(new, content),
-        Err(_) => new.data().is_err(),
-    }
-}
-
 /// Whether bytes are others with some added.
 fn is_longer_by(old: &[u8], added: &[u8], new: &[u8]) -> bool
     ensures { IsTrue result → new.now ≡ old.now ++ added.now }
@@ -214,64 +110,29 @@ fn grown_content(old: &Section<'_>, new: &Section<'_>, added: &[u8]) -> bool
 }
 
 /// Whether a section is another with its plain content.
-#[tactic(auto, unfolding(crate::specs::Result::with_plain, crate::specs::Result::plain_flags))]
+#[tactic(auto, unfolding(crate::specs::Result::with_plain), using(dwp_elf_read::proofs::Compared::is_own))]
 fn is_plain(old: &Section<'_>, new: &Section<'_>, plain: &[u8]) -> bool
     ensures { IsTrue result
         → view.section new.now ≡ with_plain (view.section old.now) plain.now }
 {
-    if !same_numbers(old, new) {
-        return false;
-    }
-    if !plain_name(old, new) {
-        return false;
-    }
-    if !plain_flags(old, new) {
-        return false;
-    }
-    if !has_size(new, plain.len()) {
-        return false;
-    }
-    has_content(new, plain)
+    new.has_numbers_of(old)
+        && plain_name(old, new)
+        && plain_flags(old, new)
+        && new.size() == plain.len() as u64
+        && new.has_content(plain)
 }
 
 /// Whether a section is another with names added.
-#[tactic(auto, unfolding(crate::specs::Result::with_names))]
+#[tactic(auto, unfolding(crate::specs::Result::with_names), using(dwp_elf_read::proofs::Compared::is_own))]
 fn has_names(old: &Section<'_>, new: &Section<'_>, added: &[u8]) -> bool
     ensures { IsTrue result
         → view.section new.now ≡ with_names (view.section old.now) added.now }
 {
-    if !same_numbers(old, new) {
-        return false;
-    }
-    if !same_name(old, new) {
-        return false;
-    }
-    if !same_flags(old, new) {
-        return false;
-    }
-    if !grown_size(old, new, added.len()) {
-        return false;
-    }
-    grown_content(old, new, added)
-}
-
-/// Whether two sections are the same.
-fn is_same(old: &Section<'_>, new: &Section<'_>) -> bool
-    ensures { IsTrue result → view.section new.now ≡ view.section old.now }
-{
-    if !same_numbers(old, new) {
-        return false;
-    }
-    if !same_name(old, new) {
-        return false;
-    }
-    if !same_flags(old, new) {
-        return false;
-    }
-    if !same_size(old, new) {
-        return false;
-    }
-    same_content(old, new)
+    new.has_numbers_of(old)
+        && new.has_name_of(old)
+        && new.flags() == old.flags()
+        && grown_size(old, new, added.len())
+        && grown_content(old, new, added)
 }
 
 /// The plain content of the i-th section, if it is compressed.
@@ -306,7 +167,7 @@ impl<'a> Expected<'a> {
                 if old.number() == self.names {
                     has_names(old, new, self.added)
                 } else {
-                    is_same(old, new)
+                    new.is_same(old)
                 }
             }
         }
@@ -363,19 +224,10 @@ impl<'a> Expected<'a> {
     }
 
     /// Whether a file is what another is to become.
-    #[tactic(auto, unfolding(crate::specs::Result::result_file))]
+    #[tactic(auto, unfolding(crate::specs::Result::result_file), using(dwp_elf_read::proofs::Compared::same_file))]
     pub fn agrees(&self, old: &ElfFile<'_>, new: &ElfFile<'_>) -> bool
         ensures { IsTrue result → elf new.now ≡ expected_file self.now (elf old.now) }
     {
-        if !same_class(old, new) {
-            return false;
-        }
-        if !same_order(old, new) {
-            return false;
-        }
-        if !same_machine(old, new) {
-            return false;
-        }
-        self.sections_agree(old, new)
+        new.is_like(old) && self.sections_agree(old, new)
     }
 }

@@ -1,5 +1,6 @@
--- No two contents are of one kind, whatever is appended or cut, so there are at most 13.
+-- No two contents are of one kind, whatever is appended or cut, so there are no more than kinds.
 use Rattle.std.proofs.Common.{cond, eqb, ◌⊎◌, eqb-true}
+use Rattle.dwp_base.specs.Sections.{kind_count}
 use Rattle.dwp_elf.proofs.Terms
 use Terms.{◌+◌, [], all_kinds, appended, arith, contents_of, count_of, every, is-same, KindsDiffer}
 use Terms.{length, List, refl, same_kind, SectionKind, true, truncated, Vec, ℕ, ◌∷◌, ◌≡◌, ◌≤◌}
@@ -26,7 +27,7 @@ pub KindsDiffer-truncated : (cs : List (SectionKind × List ℕ)) (ns : List ℕ
     → KindsDiffer (truncated cs ns)
 KindsDiffer-truncated cs ns h k = omega (arith, count_of-truncated k cs ns, h k)
 
--- ---- at most 13 contents
+-- ---- no more contents than kinds
 
 abbrev total : (SectionKind → ℕ) → List SectionKind → ℕ
 total f [] = 0
@@ -41,10 +42,11 @@ total-count_of : (cs : List (SectionKind × List ℕ)) → total (λ k. count_of
 total-count_of [] = refl
 total-count_of (c ∷ cs) = omega (arith, total-one c.0, total-count_of cs)
 
-pub length-KindsDiffer : (cs : List (SectionKind × List ℕ)) → KindsDiffer cs → length cs ≤ 13
+pub length-KindsDiffer : (cs : List (SectionKind × List ℕ)) → KindsDiffer cs
+    → length cs ≤ kind_count
 length-KindsDiffer cs h = omega (arith, total-count_of cs, h)
 
 pub few_sections : (sections : List (SectionKind × Vec ℕ)) → KindsDiffer (contents_of sections)
-    → length sections ≤ 13
+    → length sections ≤ kind_count
 few_sections sections h =
     omega (arith, length-KindsDiffer (contents_of sections) h, length-contents_of sections)

@@ -41,8 +41,8 @@ pub fn lengths_of(
     Ok(sizes)
 }
 
-/// Adds bytes at the end of the content of a kind, or as a new last content where there is none, and
-/// tells where they begin in it.
+/// Adds bytes at the end of the content of a kind, or as a new last content where there is none,
+/// and tells where they begin in it.
 pub fn append_to(
     alloc: Global,
     sections: &mut Vec<(SectionKind, Vec<u8>)>,
@@ -98,8 +98,8 @@ pub fn move_to(
     }
 }
 
-/// Keeps the first sections, at most as many as there are sizes, and cuts each that is longer to its
-/// size; one that is cut to 0 stays, without bytes.
+/// Keeps the first sections, at most as many as there are sizes, and cuts each that is longer to
+/// its size; one that is cut to 0 stays, without bytes.
 pub fn truncate_to(sections: &mut Vec<(SectionKind, Vec<u8>)>, sizes: &[usize])
     ensures { contents_of sections.new.items
         ≡ truncated (contents_of sections.old.items) sizes.now }

@@ -1,6 +1,7 @@
 //! What a written file means and how long it is, as laws.
 
 ghost use Rattle.std.specs.Prelude.{◌≡◌, ◌^◌, ◌<◌, ◌≤◌, ℕ, List, length};
+ghost use Rattle.dwp_base.specs.Sections.{kind_count};
 ghost use Rattle.dwp_base.specs.declared.section.SectionKind.{SectionKind};
 ghost use Rattle.dwp_elf_read.specs.Layout.{word_size};
 ghost use Rattle.dwp_elf_read.specs.Elf.{elf_of};
@@ -20,10 +21,10 @@ pub fn written_contents_are_read_back()
         → length o.contents < 60000 → elf_of (file_text o) ≡ Ok (written_elf o) }
 {}
 
-/// The law of a written file's size: its text ends with the section headers, and contents of distinct
-/// kinds are 13 at most. It does nothing.
+/// The law of a written file's size: its text ends with the section headers, and contents of
+/// distinct kinds are as many as there are kinds at most. It does nothing.
 pub fn written_files_have_their_size()
     ensures size { (o : Object) → length (file_text o) ≡ file_length o.class o.contents }
     ensures sections { (contents : List (SectionKind × List ℕ)) → KindsDiffer contents
-        → length contents ≤ 13 }
+        → length contents ≤ kind_count }
 {}

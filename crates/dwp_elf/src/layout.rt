@@ -1,6 +1,7 @@
 //! The layout of a file: where its parts lie.
 
 ghost use Rattle.std.specs.Prelude.{◌≡◌, ◌+◌, ◌*◌, ◌^◌, ◌<◌, ◌≤◌, length, MatchOption};
+ghost use Rattle.dwp_base.specs.Sections.{kind_count};
 ghost use Rattle.dwp_elf.specs.Contents.{contents_of};
 ghost use Rattle.dwp_elf.specs.FileText.{content_bytes, name_table, zeros_after};
 ghost use Rattle.dwp_elf.specs.Layout.{PassesLimit, IsLayout};
@@ -23,7 +24,7 @@ pub fn content_size(sections: &[(SectionKind, Vec<u8>)]) -> Option<u64>
 
 /// How many bytes the content of `.shstrtab` has.
 pub fn name_table_size(sections: &[(SectionKind, Vec<u8>)]) -> u64
-    requires { length sections.now ≤ 13 }
+    requires { length sections.now ≤ kind_count }
     ensures size { result ≡ length (name_table (contents_of sections.now)) }
     ensures small { result ≤ 400 }
 {
@@ -58,7 +59,7 @@ pub struct Layout {
 
 /// The layout of a file, None where a number passes the limit of its class.
 pub fn layout_of(class: Class, sections: &[(SectionKind, Vec<u8>)]) -> Option<Layout>
-    requires { length sections.now ≤ 13 }
+    requires { length sections.now ≤ kind_count }
     ensures { MatchOption result (PassesLimit class (contents_of sections.now))
         (IsLayout class (contents_of sections.now)) }
 {

@@ -175,9 +175,9 @@ impl WritableObject {
         }))
     }
 
-    /// Keeps the first sections, at most as many as there are sizes, and cuts each that is longer to
-    /// its size; one that is cut to 0 stays, without bytes. An object that has only grown since it
-    /// had these lengths is again what it was then.
+    /// Keeps the first sections, at most as many as there are sizes, and cuts each that is longer
+    /// to its size; one that is cut to 0 stays, without bytes. An object that has only grown since
+    /// it had these lengths is again what it was then.
     pub fn truncate(&mut self, sizes: &[usize])
         ensures cut { self.new
             ≡ record self.old { contents = truncated self.old.contents sizes.now } }

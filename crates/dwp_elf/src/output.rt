@@ -1,6 +1,7 @@
 //! Writing the parts of a file to a writer.
 
 ghost use Rattle.std.specs.Prelude.{◌+◌, ◌*◌, ◌^◌, ◌<◌, ◌≤◌, length, replicate};
+ghost use Rattle.dwp_base.specs.Sections.{kind_count};
 ghost use Rattle.dwp_elf.specs.Contents.{contents_of};
 ghost use Rattle.dwp_elf_read.specs.Layout.{header_size, word_size};
 ghost use Rattle.dwp_elf.specs.FileText.{content_bytes, names_of, name_table, headers_from};
@@ -97,7 +98,7 @@ pub fn write_section_headers<O: Output>(
     names_size: u64,
     sections: &[(SectionKind, Vec<u8>)],
 ) -> io::Result<()>
-    requires few { length sections.now ≤ 13 }
+    requires few { length sections.now ≤ kind_count }
     requires places_fit { header_size class + length (content_bytes (contents_of sections.now))
         < 2 ^ (8 * word_size class) }
     requires names_fit { names_size < 2 ^ (8 * word_size class) }

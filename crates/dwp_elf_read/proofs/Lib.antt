@@ -1,3 +1,4 @@
+pub mod Compared
 pub mod Names
 pub mod Places
 pub mod ShortNames

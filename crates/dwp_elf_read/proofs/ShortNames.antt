@@ -1,15 +1,15 @@
 -- Whether a text of a string table is one that is given, by as much of it as that is long.
 use Rattle.std.proofs.Common.{◌≡◌, ℕ, zero, suc, ◌+◌, ◌<◌, ◌≤◌, ◌==◌, nat_lt, Bool, false, List, []}
 use Rattle.std.proofs.Common.{◌∷◌, Option, None, Some, length, take, drop, position, refl, ap, sym}
-use Rattle.std.proofs.Common.{min, ◌||◌, find, arith}
+use Rattle.std.proofs.Common.{min, find, arith}
 use Rattle.std.specs.List.{position_or_len}
 use Rattle.std.specs.Option.{option_and_then}
 use Rattle.std.specs.Str.{is_utf8, bytes_eq}
 use Rattle.std.proofs.lemmas.Bool.{lt-ltb, le-ltb, ltb-true, ltb-false, false_from_ne_true}
 use Rattle.std.proofs.lemmas.List.{drop_all, length-take-le, take-take}
 use Rattle.std.proofs.lemmas.Slice.Eq.{bytes_eq-Decides}
-use Rattle.dwp_base.specs.Sections.{all_kinds, compressed_name_of, kind_named, name_of}
-use Rattle.dwp_elf_read.specs.Elf.{text_of, text_at, name_is}
+use Rattle.dwp_base.specs.Sections.{all_kinds, kind_named}
+use Rattle.dwp_elf_read.specs.Elf.{text_of, text_at, name_is, has_name}
 use Rattle.dwp_base.proofs.Bools.{by-bool}
 
 abbrev zero_byte : ℕ → Bool
@@ -78,7 +78,7 @@ unfolding text_at
 no_text table text place past = rw (drop_all place table (omega arith)) refl
 
 -- the kind that a name belongs to is the first that has it
-pub kinds_are : (name : Option (List ℕ)) → find (λ kind. name_is (name_of kind) name || name_is
-    (compressed_name_of kind) name) all_kinds ≡ option_and_then kind_named name
+pub kinds_are : (name : Option (List ℕ))
+    → find (λ kind. has_name kind name) all_kinds ≡ option_and_then kind_named name
 kinds_are None = refl
 kinds_are (Some own) = refl

@@ -1,5 +1,6 @@
 -- What the bytes of an ELF file mean (ELF gABI, "Sections").
-use Rattle.std.specs.Prelude.{ℕ, ◌+◌, ◌*◌, List, [], Bool, false, ◌==◌, nat_lt, not, map, drop}
+use Rattle.std.specs.Prelude.{ℕ, ◌+◌, ◌*◌, List, [], Bool, false, ◌||◌, ◌&&◌, ◌==◌, nat_lt, not}
+use Rattle.std.specs.Prelude.{map, drop}
 use Rattle.std.specs.Prelude.{take, position, Option, Some, None, Result, Ok, Err, slice_range}
 use Rattle.std.specs.Prelude.{if◌then◌else◌}
 use Rattle.std.specs.Option.{option_and_then}
@@ -7,8 +8,10 @@ use Rattle.std.specs.List.{range_with_len}
 use Rattle.std.specs.Str.{is_utf8, bytes_eq}
 use Rattle.std.specs.Int.Bits.{bit_and}
 use Rattle.dwp_base.specs.Reading.{◌>>=◌}
+use Rattle.dwp_base.specs.Sections.{name_of, compressed_name_of}
 use Rattle.dwp_base.specs.declared.class.Class.{Class}
 use Rattle.dwp_base.specs.declared.endian.Endianness.{Endianness}
+use Rattle.dwp_base.specs.declared.section.SectionKind.{SectionKind}
 use Rattle.dwp_elf_read.specs.declared.error.ReadError.{ReadError}
 use Rattle.dwp_elf_read.specs.declared.error.ReadError.TheVariants.{SectionTable, SectionEntrySize}
 use Rattle.dwp_elf_read.specs.declared.error.ReadError.TheVariants.{NameTable}
@@ -157,10 +160,30 @@ name_is text (Some name) = bytes_eq name text
 abbrev pub is_named : List ℕ → SectionMeaning → Bool
 is_named text section = name_is text section.name
 
--- SHF_COMPRESSED is set
+-- a name is one of the two spellings of a kind's
+abbrev pub has_name : SectionKind → Option (List ℕ) → Bool
+has_name kind name = name_is (name_of kind) name || name_is (compressed_name_of kind) name
+
+-- it is the older one, of compressed sections
+abbrev pub has_older_name : SectionKind → Option (List ℕ) → Bool
+has_older_name kind name = name_is (compressed_name_of kind) name
+
+-- a section has one of the two names of a kind
+abbrev pub is_of : SectionKind → SectionMeaning → Bool
+is_of kind section = has_name kind section.name
+
+-- a section has no bytes
+abbrev pub is_empty : SectionMeaning → Bool
+is_empty section = section.size == 0 || section.kind == SHT_NOBITS
+
+-- a section has bytes, and one of the two names of a kind
+abbrev pub holds : SectionKind → SectionMeaning → Bool
+holds kind section = not (is_empty section) && is_of kind section
+
 -- the flag of a section whose content is compressed
 abbrev pub SHF_COMPRESSED : ℕ
 SHF_COMPRESSED = 0x800
 
+-- it is set
 abbrev pub has_compressed_flag : SectionMeaning → Bool
 has_compressed_flag section = not (bit_and section.flags SHF_COMPRESSED == 0)

@@ -4,3 +4,4 @@ pub mod Elf
 pub mod Relocation
 pub mod Symbol
 pub mod View
+pub mod Compared

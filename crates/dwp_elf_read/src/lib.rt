@@ -4,6 +4,7 @@
 //! is allocated.
 #![tactic(auto)]
 
+mod alike;
 mod error;
 mod file;
 mod header;

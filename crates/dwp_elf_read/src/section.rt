@@ -22,11 +22,12 @@ pub struct Section<'a> {
 impl<'a> Section<'a> {
     ghost use Rattle.dwp_elf_read.specs.declared.error.ReadError.TheVariants.{NameRange};
     ghost use Rattle.dwp_elf_read.specs.declared.error.ReadError.TheVariants.{SectionRange};
-    ghost use Rattle.std.specs.Prelude.{◌≡◌, ◌||◌, ◌==◌, find};
+    ghost use Rattle.std.specs.Prelude.{◌≡◌, find};
     ghost use Rattle.std.specs.Option.{ok_or, option_and_then};
-    ghost use Rattle.dwp_base.specs.Sections.{all_kinds, compressed_name_of, kind_named, name_of};
+    ghost use Rattle.dwp_base.specs.Sections.{all_kinds, kind_named};
     ghost use Rattle.dwp_base.specs.Reading.{Answers};
-    ghost use Rattle.dwp_elf_read.specs.Elf.{SHT_NOBITS, is_named, has_compressed_flag};
+    ghost use Rattle.dwp_elf_read.specs.Elf.{is_empty, has_compressed_flag};
+    ghost use Rattle.dwp_elf_read.specs.Elf.{is_named, is_of, has_older_name, holds};
     ghost use Rattle.dwp_elf_read.specs.Relocation.{relocations_of};
     ghost use Rattle.dwp_elf_read.specs.View.{section, file, relocations_left};
 
@@ -82,7 +83,7 @@ impl<'a> Section<'a> {
     /// Whether the section has no bytes: its size is 0, or its type is that of sections without
     /// bytes.
     pub fn is_empty(&self) -> bool
-        ensures { result ≡ ((section self.now).size == 0 || (section self.now).kind == SHT_NOBITS) }
+        ensures { result ≡ is_empty (section self.now) }
     {
         self.size() == 0 || self.kind() == SHT_NOBITS
     }
@@ -119,6 +120,29 @@ impl<'a> Section<'a> {
         }
     }
 
+    /// Whether the section has a name that can be read, and it is one of the two spellings of the
+    /// kind's. No more of a long name is looked at than these are long.
+    pub fn is_of(&self, kind: SectionKind) -> bool
+        ensures named { result ≡ is_of kind (section self.now) }
+    {
+        self.is_called(kind.name()) || self.has_older_name(kind)
+    }
+
+    /// Whether the section has a name that can be read, and it is the older spelling of the kind's,
+    /// of compressed sections (`.zdebug_..`).
+    pub fn has_older_name(&self, kind: SectionKind) -> bool
+        ensures older { result ≡ has_older_name kind (section self.now).name }
+    {
+        self.is_called(kind.compressed_name())
+    }
+
+    /// Whether the section has bytes, and is of the kind, in either spelling.
+    pub fn holds(&self, kind: SectionKind) -> bool
+        ensures filled { result ≡ holds kind (section self.now) }
+    {
+        !self.is_empty() && self.is_of(kind)
+    }
+
     /// The kind of section that the name belongs to, in either spelling; None where it has no name
     /// that can be read. No more of a long name is looked at than the names of kinds are long.
     #[tactic(auto, using(crate::proofs::ShortNames::kinds_are))]
@@ -129,11 +153,12 @@ impl<'a> Section<'a> {
     }
 
     fn first_kind(&self) -> Option<SectionKind>
-        ensures { result ≡ find (λ kind. is_named (name_of kind) (section self.now)
-            || is_named (compressed_name_of kind) (section self.now)) all_kinds }
+        ensures { result ≡ find (λ kind. is_of kind (section self.now)) all_kinds }
     {
-        SectionKind::ALL.iter().copied().find(|kind| self.is_called(kind.name())
-            || self.is_called(kind.compressed_name()))
+        SectionKind::ALL
+            .iter()
+            .copied()
+            .find(|kind| self.is_of(*kind))
     }
 
     /// The section's content; empty for a section without bytes in the file.

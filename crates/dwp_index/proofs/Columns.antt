@@ -6,7 +6,7 @@ use Rattle.dwp_index.proofs.Terms
 use Terms.{all_kinds, ArePlaces, by-bool, column_place, columns_at, contribution_kinds, Endianness}
 use Terms.{is-same, kind_of_column, list_any, new_column, NO_COLUMN, number, numbers, position_from}
 use Terms.{ReadError, same-each, same-self, same_kind, same_Some, SectionKind, UnexpectedEof}
-use Rattle.std.specs.Prelude.{is_none, Result, Ok, Err, Option, Some, None, is_some, unwrap_or}
+use Rattle.std.specs.Prelude.{is_none, not, Result, Ok, Err, Option, Some, None, is_some, unwrap_or}
 use Rattle.std.specs.List.{find}
 use Rattle.std.proofs.lemmas.Bool.{lt-ltb, le-ltb, ne_eqb, eqb-true, false≢true}
 use Rattle.std.proofs.lemmas.List.{drop-drop, length-drop}
@@ -66,7 +66,8 @@ named_by : (column : SectionKind → Option ℕ) → map (again column) all_kind
     → (n : ℕ) (kind : SectionKind) → column kind ≡ Some n → kind_with column n ≡ Some kind
 named_by column all n kind e = rw e at (same-each (again column) Some all kind)
 
-kind_of_number : (version n : ℕ) (kind : SectionKind) → column_of version kind ≡ Some n
+-- each column's number is that of its section alone
+pub kind_of_number : (version n : ℕ) (kind : SectionKind) → column_of version kind ≡ Some n
     → kind_of_column version n ≡ Some kind
 kind_of_number version n kind e = by-bool _ (eqb version 5)
     (λ five. rw five (named_by standard_column refl n kind (rw five at e)))
@@ -102,6 +103,13 @@ pub says_some : (count held n : ℕ) (o : Option ℕ) → IsPlace count held o �
     → (n ≡ NO_COLUMN → ⊥) → (o ≡ Some n) × (n < count)
 says_some count held n None is e other = absurd (other (e ∙ is))
 says_some count held n (Some i) is e other = (ap Some (sym (e ∙ is.0)), omega (arith, is.0, is.1))
+
+-- it tells whether there is one
+pub says_whether : (count held n : ℕ) (o : Option ℕ) → IsPlace count held o → n ≡ held
+    → not (eqb n NO_COLUMN) ≡ is_some o
+says_whether count held n None is e = rw (e, is) refl
+says_whether count held n (Some i) is e =
+    rw (ne_eqb n NO_COLUMN (λ none. omega (arith, is.0, is.2))) refl
 
 -- ---- one more column
 -- the place in a list with one number more

@@ -9,4 +9,3 @@ pub mod RowsOfUnits
 pub mod TwoPlaces
 pub mod UsedOnce
 pub mod HeldContents
-pub mod Called

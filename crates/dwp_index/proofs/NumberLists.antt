@@ -1,6 +1,6 @@
 -- Numbers one after the other.
-use Rattle.std.proofs.Common.{◌≡◌, ℕ, zero, suc, ◌+◌, ◌-◌, ◌*◌, ◌<◌, Bool, cond, eqb, List, [], ◌∷◌}
-use Rattle.std.proofs.Common.{◌++◌, length, get_or, drop, refl, ap, arith, add-one, Some, is_some}
+use Rattle.std.proofs.Common.{◌≡◌, ℕ, zero, suc, ◌+◌, ◌*◌, ◌<◌, Bool, List, [], ◌∷◌}
+use Rattle.std.proofs.Common.{◌++◌, length, get_or, drop, refl, ap, arith, add-one, is_some}
 use Rattle.std.proofs.Common.{drop-drop}
 use Rattle.dwp_index.proofs.Terms
 use Terms.{by-bool, Endianness, list_any, number, number_rows, numbers, position_from}
@@ -51,17 +51,6 @@ numbers_more order width n bytes = rw (add-one n) (last n bytes)
         let next : width * suc n ≡ width + width * n = omega arith in
         rw (next, ← drop-drop (width * n) width bytes) (ap (λ xs. number order width bytes ∷ xs)
         (last n (drop width bytes)))
-
--- ---- the first place of a number, looked for from a place on
-pub position-step : (order : Endianness) (count : ℕ) (bytes : List ℕ) (wanted i : ℕ) → i < count
-    → position_from (λ n. eqb n wanted) i (numbers order 4 (count - i) (drop (4 * i) bytes)) ≡ cond
-    (eqb (number order 4 (drop (4 * i) bytes)) wanted) (Some i)
-    (position_from (λ n. eqb n wanted) (i + 1) (numbers order 4 (count - (i + 1))
-    (drop (4 * (i + 1)) bytes)))
-position-step order count bytes wanted i h =
-    let more : count - i ≡ suc (count - (i + 1)) = omega arith in
-    let next : 4 * (i + 1) ≡ 4 * i + 4 = omega arith in
-    rw (more, next, ← drop-drop 4 (4 * i) bytes) refl
 
 -- a number has a place just where it is among them
 pub is_some-position : (test : ℕ → Bool) (i : ℕ) (xs : List ℕ) → is_some (position_from test i xs) ≡

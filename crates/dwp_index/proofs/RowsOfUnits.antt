@@ -7,7 +7,6 @@ use Rattle.dwp_dwarf.proofs.Readings.{by-result}
 use Rattle.dwp_index.specs.Package.{first_outside, all_inside, unit_in, unit_at_row, unit_found}
 use Rattle.dwp_index.specs.Package.{found_by, found_counted, row_inside, row_found, row_by}
 use Rattle.dwp_index.specs.Package.{row_counted, unit_of_row, found_by_row}
-use Rattle.dwp_index.specs.declared.error.PackageError.TheVariants as errors
 
 module _ (pack : Package) (object : DwarfObject) where
   -- a range outside is told by both

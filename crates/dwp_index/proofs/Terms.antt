@@ -14,6 +14,7 @@ pub use Rattle.dwp_bytes.specs.declared.encoding.Encoding.{Encoding}
 pub use Rattle.dwp_bytes.specs.declared.error.ReadError.{ReadError}
 pub use Rattle.dwp_bytes.specs.declared.error.ReadError.TheVariants.{UnexpectedEof}
 pub use Rattle.dwp_dwarf.specs.declared.unit.UnitSection.{UnitSection}
+pub use Rattle.dwp_elf_read.specs.Elf.{has_name}
 pub use Rattle.dwp_elf_read.specs.View.{elf}
 pub use Rattle.dwp_table.specs.Columns.{contribution_kinds, kind_of_column}
 pub use Rattle.dwp_table.specs.Objects.{identifier_of}
@@ -21,7 +22,7 @@ pub use Rattle.dwp_table.specs.Probing.{is_end, place, row_of}
 unfoldable pub use Rattle.dwp_table.specs.Probing.{first_end, found_row, look_count}
 pub use Rattle.dwp_table.specs.Table.{FindsExactly, IsIndex}
 pub use Rattle.dwp_table.specs.declared.object.DwarfObject.{DwarfObject}
-pub use Rattle.dwp_index.specs.Contents.{Sections, content, has_name, has_older_name}
+pub use Rattle.dwp_index.specs.Contents.{Sections, content}
 unfoldable pub use Rattle.dwp_index.specs.Contents.{content_among, contents_of, is_of_kind}
 unfoldable pub use Rattle.dwp_index.specs.Contents.{used_bytes}
 pub use Rattle.dwp_index.specs.Fields.{index_in}

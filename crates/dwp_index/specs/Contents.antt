@@ -1,14 +1,13 @@
 -- The contents of a package's sections (DWARF 5, 7.3.5; the GNU page DebugFissionDWP).
-use Rattle.std.specs.Prelude.{ℕ, Bool, false, ◌&&◌, ◌||◌, ◌==◌, not, List, [], Option, Some, None}
-use Rattle.std.specs.Prelude.{Result, Ok, Err, if◌then◌else◌}
+use Rattle.std.specs.Prelude.{ℕ, Bool, ◌||◌, List, [], Option, Some, None, Result, Ok, Err}
+use Rattle.std.specs.Prelude.{if◌then◌else◌}
 use Rattle.std.specs.List.{find}
 use Rattle.std.specs.Option.{ok_or}
-use Rattle.std.specs.Str.{bytes_eq}
 use Rattle.dwp_base.specs.ByKind.{value_of}
 use Rattle.dwp_base.specs.Reading.{read_each}
-use Rattle.dwp_base.specs.Sections.{is_named, compressed_name_of, all_kinds}
+use Rattle.dwp_base.specs.Sections.{all_kinds}
 use Rattle.dwp_base.specs.declared.section.SectionKind.{SectionKind}
-use Rattle.dwp_elf_read.specs.Elf.{SectionMeaning, SHT_NOBITS, has_compressed_flag}
+use Rattle.dwp_elf_read.specs.Elf.{SectionMeaning, has_compressed_flag, has_older_name, holds}
 use Rattle.dwp_elf_read.specs.declared.error.ReadError.{ReadError}
 use Rattle.dwp_elf_read.specs.declared.error.ReadError.TheVariants.{SectionRange, Compressed}
 
@@ -21,20 +20,9 @@ Sections = List (List ℕ)
 abbrev pub content : Sections → SectionKind → List ℕ
 content sections kind = value_of [] sections kind
 
--- a section's name is one of the two spellings of a kind's
-abbrev pub has_name : SectionKind → Option (List ℕ) → Bool
-has_name kind None = false
-has_name kind (Some name) = is_named name kind
-
 -- a section has bytes, and is one of that kind
 unfoldable pub is_of_kind : SectionKind → SectionMeaning → Bool
-is_of_kind kind section =
-    not (section.size == 0 || section.kind == SHT_NOBITS) && has_name kind section.name
-
--- a section's name is the older spelling of a kind's
-abbrev pub has_older_name : SectionKind → Option (List ℕ) → Bool
-has_older_name kind None = false
-has_older_name kind (Some name) = bytes_eq name (compressed_name_of kind)
+is_of_kind kind section = holds kind section
 
 -- the content of a section that is used: it isn't compressed, and lies in the file
 unfoldable pub used_bytes : SectionKind → SectionMeaning → Result (List ℕ) ReadError

@@ -8,7 +8,6 @@ pub mod Entries
 pub mod Contents
 pub mod Firsts
 pub mod ContentFields
-pub mod Strings
 pub mod Package
 pub mod PackageFields
 pub mod UnitFields

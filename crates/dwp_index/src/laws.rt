@@ -5,8 +5,7 @@ ghost use Rattle.std.specs.Prelude.{slice_get, Option, Some, None, Ok, false};
 ghost use Rattle.std.specs.List.Sorted.{IsPermutation};
 ghost use Rattle.dwp_base.specs.Sections.{name_of, same_kind, kind_named};
 ghost use Rattle.dwp_base.specs.declared.section.SectionKind.{SectionKind};
-ghost use Rattle.dwp_base.specs.declared.section.SectionKind.TheVariants as kinds;
-ghost use Rattle.dwp_elf_read.specs.Elf.{Elf, SectionMeaning, elf_of};
+ghost use Rattle.dwp_elf_read.specs.Elf.{Elf, SectionMeaning};
 ghost use Rattle.dwp_base.specs.declared.section.Contribution.{Contribution};
 ghost use Rattle.dwp_base.specs.declared.endian.Endianness.{Endianness};
 ghost use Rattle.dwp_bytes.specs.Input.{section};
@@ -23,7 +22,8 @@ ghost use Rattle.dwp_index.specs.Package.{encoding_in, index_for, found_counted,
 ghost use Rattle.dwp_index.specs.Entries.{entries_from};
 ghost use Rattle.dwp_index.specs.Used.{used_in};
 ghost use Rattle.dwp_index.specs.Finding.{unit_of, HasIndex, IsUnitOf, IsNotNamed, GivesWithin};
-ghost use Rattle.dwp_index.specs.Holding.{HasContent, HoldsInOrder, held_of, sections_of};
+ghost use Rattle.dwp_index.specs.Holding.{HasContent, HoldsInOrder, HoldsPackage, held_of};
+ghost use Rattle.dwp_index.specs.Holding.{package_with, sections_of};
 ghost use Rattle.dwp_index.specs.Naming.{numbered, entries_of, IsIndexOfIds};
 
 use dwp_dwarf::laws::units_have_all_bytes;
@@ -101,18 +101,10 @@ pub fn units_are_named_once()
 /// these contents, with the indexes that stand in them. A section of another name, of the name of
 /// another kind or of no bytes isn't of a kind. It does nothing.
 pub fn contents_are_read()
-    ensures package { (bytes : List ℕ) (file : Elf) (held : SectionKind
-        → List ℕ) (compilations types : Option Index)
-        → elf_of bytes ≡ Ok file
-        → ((kind : SectionKind) → HasContent file.sections kind (held kind))
-        → index_in_section file.order (held kinds.CuIndex) ≡ Ok compilations
-        → index_in_section file.order (held kinds.TuIndex) ≡ Ok types
-        → package_of bytes ≡ Ok (record {
-          order = file.order;
-          contents = sections_of held;
-          compilations = compilations;
-          types = types;
-        }) }
+    ensures package { (bytes : List ℕ) (file : Elf) (held : SectionKind → List ℕ)
+        (compilations types : Option Index)
+        → HoldsPackage bytes file held compilations types
+        → package_of bytes ≡ Ok (package_with file.order held compilations types) }
     ensures held { (held : SectionKind → List ℕ) (kind : SectionKind)
         → content (sections_of held) kind ≡ held kind }
     ensures index { (order : Endianness) (bytes : List ℕ) (index : Index)

@@ -7,18 +7,17 @@ mod error;
 pub mod laws;
 mod package;
 mod parsing;
-mod strings;
 mod unit;
 mod unit_index;
 mod units;
 
-pub use contents::{content_of_kind, section_of_kind};
+pub use contents::{content_of_kind, first_sections};
 pub use dwp_table::{
     Bucketable, CONTRIBUTION_KINDS, DebugTypeSignature, DwarfObject, DwoId, column_of, first_place,
     kind_of_column, place_after, place_row, slot_count,
 };
 pub use error::PackageError;
-pub use package::PackageFile;
-pub use unit::{PackagedUnit, kind_of, lies_inside, part_of};
+pub use package::{PackageFile, read_index, read_row};
+pub use unit::{PackagedUnit, encoding_in, kind_of, lies_inside, part_of, place_of};
 pub use unit_index::{Row, UnitIndex};
 pub use units::{UnitEntry, Units};

@@ -77,6 +77,37 @@ impl<'a> PackageFile<'a> {
         })
     }
 
+    /// The order of the bytes of a number, as the file's header says it.
+    pub fn order(&self) -> Endianness
+        ensures order { result ≡ self.now.order }
+    {
+        self.order
+    }
+
+    /// The content of the first section of a kind that has bytes; none where there is no such
+    /// section (DWARF 5, 7.3.5).
+    pub fn content(&self, kind: SectionKind) -> &'a [u8]
+        ensures content { result.now ≡ content self.now.contents kind }
+    {
+        self.contents.of(kind)
+    }
+
+    /// The index of compilation units, `.debug_cu_index`; None where there is none or it is empty
+    /// (DWARF 5, 7.3.5.3).
+    pub fn compilation_index(&self) -> Option<&UnitIndex<'a>>
+        ensures index { option_copied result ≡ self.now.compilations }
+    {
+        self.compilations.as_ref()
+    }
+
+    /// The index of type units, `.debug_tu_index`; None where there is none or it is empty
+    /// (DWARF 5, 7.3.5.3).
+    pub fn type_index(&self) -> Option<&UnitIndex<'a>>
+        ensures index { option_copied result ≡ self.now.types }
+    {
+        self.types.as_ref()
+    }
+
     /// The unit of an identifier, by the probing of DWARF 5, 7.3.5.3, in the index of its kind;
     /// None where the index hasn't it.
     ///
@@ -196,7 +227,7 @@ impl<'a> PackageFile<'a> {
             → IsIndexOfIds self.now.types signatures
             → IsPermutation (entries_of ids signatures) (units_left result) }
     {
-        Units::new(self.compilations.as_ref(), self.types.as_ref())
+        Units::new(self.compilation_index(), self.type_index())
     }
 
     /// The index of the units of a kind.
@@ -204,8 +235,8 @@ impl<'a> PackageFile<'a> {
         ensures { option_copied result ≡ index_for self.now object }
     {
         match object {
-            DwarfObject::Compilation(_) => self.compilations.as_ref(),
-            DwarfObject::TypeUnit(_) => self.types.as_ref(),
+            DwarfObject::Compilation(_) => self.compilation_index(),
+            DwarfObject::TypeUnit(_) => self.type_index(),
         }
     }
 
@@ -295,9 +326,16 @@ fn read_contents<'a>(file: &ElfFile<'a>) -> Result<Contents<'a>, PackageError>
     }
 }
 
-/// The index in a section's content; none in an empty one.
+/// The index in a section's content (DWARF 5, 7.3.5.3); None in an empty one.
+///
+/// # Errors
+/// `Index` where it is malformed.
 #[tactic(auto, unfolding(crate::specs::Package::index_in_section))]
-fn read_index<'a>(bytes: &'a [u8], order: Endianness) -> Result<Option<UnitIndex<'a>>, PackageError>
+#[inline(always)]
+pub fn read_index<'a>(
+    bytes: &'a [u8],
+    order: Endianness,
+) -> Result<Option<UnitIndex<'a>>, PackageError>
     ensures { Answers (λ x. x) result (index_in_section order bytes.now) }
 {
     if bytes.is_empty() {
@@ -309,7 +347,12 @@ fn read_index<'a>(bytes: &'a [u8], order: Endianness) -> Result<Option<UnitIndex
     }
 }
 
-fn read_row<'a>(index: &UnitIndex<'a>, number: u32) -> Result<Row<'a>, PackageError>
+/// The row of a number, counted from 1: `UnitIndex::row` with an error of packages.
+///
+/// # Errors
+/// `Index` past the rows.
+#[inline(always)]
+pub fn read_row<'a>(index: &UnitIndex<'a>, number: u32) -> Result<Row<'a>, PackageError>
     ensures { Answers (λ x. x) result (as_error errors.Index (row_in index.now number)) }
 {
     match index.row(number) {

@@ -1,19 +1,16 @@
 //! Reading an index from its bytes (DWARF 5, 7.3.5.3; the GNU page DebugFissionDWP).
 
-ghost use Rattle.std.specs.Prelude.{◌≡◌, ◌==◌, ◌*◌, ◌<◌, ◌≤◌, ◌+◌, [], length, drop, IfSome, IfOk};
-ghost use Rattle.std.specs.Prelude.{OnOk, IsTrue};
-ghost use Rattle.std.specs.List.{position_from};
+ghost use Rattle.std.specs.Prelude.{◌≡◌, ◌*◌, ◌≤◌, ◌+◌, [], length, drop, IfOk, OnOk, IsTrue};
 ghost use Rattle.dwp_base.specs.Numbers.{number};
 ghost use Rattle.dwp_base.specs.Reading.{Answers};
-ghost use Rattle.dwp_index.specs.Index.{column_place};
 ghost use Rattle.dwp_index.specs.IndexBytes.{numbers, after, version_of, counts_of, columns_at};
 ghost use Rattle.dwp_index.specs.IndexBytes.{is_slot_count};
 ghost use Rattle.dwp_index.specs.Places.{ArePlaces};
 
 use crate::unit_index::NO_COLUMN;
-use dwp_base::{ByKind, Endianness, SectionKind};
+use dwp_base::{ByKind, Endianness};
 use dwp_bytes::ReadError;
-use dwp_table::{column_of, kind_of_column};
+use dwp_table::kind_of_column;
 
 /// How many columns, rows and slots an index has.
 #[derive(Clone, Copy)]
@@ -150,35 +147,4 @@ pub(crate) fn read_columns(
         places.set(kind, i);
     }
     Ok((places, tail(bytes, 4 * count as usize)))
-}
-
-/// The place of a section's column among the columns, where it has one.
-#[tactic(auto, unfolding(crate::specs::Index::column_place))]
-pub(crate) fn column_place(
-    columns: &[u8],
-    order: Endianness,
-    version: u16,
-    count: u32,
-    kind: SectionKind,
-) -> Option<usize>
-    requires { 4 * count ≤ length columns.now }
-    ensures place { result ≡ column_place version (numbers order 4 count columns.now) kind }
-    ensures within { IfSome result (λ i. i < count) }
-{
-    let number = column_of(version, kind)?;
-    place_of_number(columns, order, count as usize, number)
-}
-
-/// The place of the first number of 4 bytes that is this one.
-fn place_of_number(bytes: &[u8], order: Endianness, count: usize, number: u32) -> Option<usize>
-    requires { 4 * count ≤ length bytes.now }
-    ensures place { result ≡ position_from (λ n. n == number) 0 (numbers order 4 count bytes.now) }
-    ensures within { IfSome result (λ i. i < count) }
-{
-    for i in 0..count {
-        if read_u32_at(bytes, order, 4 * i) == number {
-            return Some(i);
-        }
-    }
-    None
 }

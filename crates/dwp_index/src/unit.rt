@@ -3,18 +3,17 @@
 ghost use Rattle.std.specs.Prelude.{◌≡◌};
 ghost use Rattle.std.specs.Option.{option_copied};
 ghost use Rattle.dwp_base.specs.Reading.{Answers};
+ghost use Rattle.dwp_bytes.specs.StringOffsets.{string_in};
 ghost use Rattle.dwp_index.specs.Contents.{content};
 ghost use Rattle.dwp_index.specs.ContentFields.{contents_in};
 ghost use Rattle.dwp_index.specs.Index.{range_in};
 ghost use Rattle.dwp_index.specs.Package.{part_of, lies_inside, row_bytes, kind_of, place_of};
 ghost use Rattle.dwp_index.specs.Package.{encoding_in};
-ghost use Rattle.dwp_index.specs.Strings.{string_in};
 
 use crate::contents::Contents;
-use crate::strings::string_in;
 use crate::unit_index::Row;
 use dwp_base::{Contribution, Endianness, SectionKind};
-use dwp_bytes::{Encoding, ReadError, SliceReader};
+use dwp_bytes::{Encoding, ReadError, SliceReader, StringOffsets};
 use dwp_dwarf::{UnitHeaders, UnitSection};
 use dwp_table::DwarfObject;
 use std::marker::Model;
@@ -94,13 +93,13 @@ impl<'a> PackagedUnit<'a> {
             (string_in self.now.order self.now.encoding (content self.now.contents SectionKind.Str)
             (row_bytes self.now.contents self.now.row SectionKind.StrOffsets) i) }
     {
-        string_in(
-            self.order,
-            self.encoding,
-            self.contents.of(SectionKind::Str),
-            self.section(SectionKind::StrOffsets),
-            i,
-        )
+        StringOffsets {
+            strings: self.contents.of(SectionKind::Str),
+            offsets: self.section(SectionKind::StrOffsets),
+            order: self.order,
+            encoding: self.encoding,
+        }
+        .string(i)
     }
 }
 
@@ -139,8 +138,10 @@ pub(crate) fn row_bytes<'a>(contents: &Contents<'a>, row: &Row<'a>, kind: Sectio
     part_of(contents.of(kind), row.range(kind))
 }
 
-/// The section that a unit's own bytes stand in: a type unit's may be those of types.
-pub(crate) fn place_of(object: DwarfObject, range: Option<Contribution>) -> UnitSection
+/// The section that a unit's own bytes stand in: a type unit's may be those of types, by its range
+/// there.
+#[inline(always)]
+pub fn place_of(object: DwarfObject, range: Option<Contribution>) -> UnitSection
     ensures { result ≡ place_of object range }
 {
     match object {
@@ -153,6 +154,7 @@ pub(crate) fn place_of(object: DwarfObject, range: Option<Contribution>) -> Unit
 }
 
 /// The kind of section that units of a place stand in.
+#[inline(always)]
 pub fn kind_of(place: UnitSection) -> SectionKind
     ensures { result ≡ kind_of place }
 {
@@ -162,8 +164,11 @@ pub fn kind_of(place: UnitSection) -> SectionKind
     }
 }
 
-/// The encoding in the header of the unit that the bytes begin with.
-pub(crate) fn encoding_in(
+/// The encoding in the header of the unit that the bytes begin with (DWARF 5, 7.5.1).
+///
+/// # Errors
+/// That of the header where it can't be read, `UnexpectedEof` where there are no bytes.
+pub fn encoding_in(
     bytes: &[u8],
     order: Endianness,
     place: UnitSection,

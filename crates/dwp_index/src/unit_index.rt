@@ -8,13 +8,12 @@ ghost use Rattle.dwp_index.specs.Index.{row_in, column_place, contribution, rang
 ghost use Rattle.dwp_index.specs.IndexBytes.{index_of};
 
 use crate::parsing::{
-    after, after_rows, column_place, counts_of, read_columns, read_u32_at, read_u64_at, tail,
-    version_of,
+    after, after_rows, counts_of, read_columns, read_u32_at, read_u64_at, tail, version_of,
 };
 use dwp_base::{ByKind, Contribution, ContributionOffset, Endianness, SectionKind};
 use dwp_bytes::ReadError;
 use dwp_table::laws::look_up_finds_exactly;
-use dwp_table::{column_of, first_place, place_after};
+use dwp_table::{first_place, place_after};
 use std::marker::Model;
 
 /// Stands for no column. An index has fewer columns than this, so no place is so large.
@@ -207,14 +206,7 @@ impl<'a> UnitIndex<'a> {
     pub fn has_column(&self, kind: SectionKind) -> bool
         ensures { result ≡ is_some (column_place self.now.version self.now.columns kind) }
     {
-        column_place(
-            self.columns,
-            self.order,
-            self.version,
-            self.column_count,
-            kind,
-        )
-        .is_some()
+        self.places.get(kind) != NO_COLUMN
     }
 
     /// The signature and the row number of a slot.

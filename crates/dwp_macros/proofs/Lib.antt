@@ -1,2 +1,1 @@
-mod Alike
 mod Walks

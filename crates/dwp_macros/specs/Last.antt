@@ -1,26 +1,19 @@
 -- An object in which of the sections of macros only the last counts. A compiler that puts macros
 -- into COMDAT groups (ELF gABI, "Section Groups") leaves several of one name in an object; GNU's
 -- `dwp` and LLVM's `llvm-dwp` have a unit refer to the last of them.
-use Rattle.std.specs.Prelude.{ℕ, List, [], ◌∷◌, Bool, false, ◌&&◌, ◌||◌, ◌==◌, not, if◌then◌else◌}
+use Rattle.std.specs.Prelude.{ℕ, List, [], ◌∷◌, Bool, false, ◌&&◌, ◌||◌, not, if◌then◌else◌}
 use Rattle.std.specs.Prelude.{Option, Some, None, Result, Ok, Err}
 use Rattle.std.specs.List.{list_any}
-use Rattle.dwp_base.specs.declared.section.SectionKind.{SectionKind}
 use Rattle.dwp_base.specs.declared.section.SectionKind.TheVariants.{Macro, CuIndex, TuIndex}
-use Rattle.dwp_base.specs.Sections.{name_of, compressed_name_of}
 use Rattle.dwp_elf_read.specs.declared.error.ReadError.{ReadError}
-use Rattle.dwp_elf_read.specs.Elf.{Elf, SectionMeaning, SHT_NOBITS, is_named, elf_of}
+use Rattle.dwp_elf_read.specs.Elf.{Elf, SectionMeaning, holds, elf_of}
 
--- a section has bytes, and one of the names of a kind
-unfoldable pub holds : SectionKind → SectionMeaning → Bool
-holds kind section = not (section.size == 0 || section.kind == SHT_NOBITS)
-    && (is_named (name_of kind) section || is_named (compressed_name_of kind) section)
-
--- macros
-abbrev pub has_macros : SectionMeaning → Bool
+-- a section has macros
+unfoldable pub has_macros : SectionMeaning → Bool
 has_macros section = holds Macro section
 
--- an index: its file is a package
-abbrev pub is_index : SectionMeaning → Bool
+-- it is an index: its file is a package
+unfoldable pub is_index : SectionMeaning → Bool
 is_index section = holds CuIndex section || holds TuIndex section
 
 -- macros, and more behind them

@@ -1,2 +1,1 @@
-pub mod Agreement
 pub mod Last

@@ -50,13 +50,14 @@ pub fn has_several_macros(bytes: &[u8]) -> bool
 /// The object in which of its sections `.debug_macro.dwo` that aren't empty only the last has
 /// bytes; `None` where it has no more than one, or is a package or no ELF file.
 ///
-/// gcc's `-g3` puts macros into COMDAT groups (ELF gABI, "Section Groups"), so an object has several
-/// sections of that name. The others get the size 0; all else stays as the ELF reader tells it.
+/// gcc's `-g3` puts macros into COMDAT groups (ELF gABI, "Section Groups"), so an object has
+/// several sections of that name. The others get the size 0; all else stays as the ELF reader tells
+/// it.
 ///
 /// # Errors
-/// `Unrepresentable` where one of the others lies outside of the file, or the section headers lie in
-/// what another section holds; `Memory`. The result is read again and compared before it is given:
-/// where it were to mean anything else, the answer would be `Unrepresentable` too.
+/// `Unrepresentable` where one of the others lies outside of the file, or the section headers lie
+/// in what another section holds; `Memory`. The result is read again and compared before it is
+/// given: where it were to mean anything else, the answer would be `Unrepresentable` too.
 #[tactic(auto, unfolding(crate::specs::Last::last_macros_of))]
 pub fn with_last_macros(alloc: Global, bytes: &[u8]) -> Result<Option<Vec<u8>>, MacrosError>
     ensures value { IfOk result (λ out.

@@ -1,6 +1,6 @@
 //! The sections of an object that have macros.
 
-ghost use Rattle.std.specs.Prelude.{◌≡◌, ◌||◌, ◌&&◌};
+ghost use Rattle.std.specs.Prelude.{◌≡◌};
 ghost use Rattle.dwp_elf_read.specs.View as view;
 ghost use Rattle.dwp_elf_read.specs.View.{elf};
 ghost use Rattle.dwp_macros.specs.Last as spec;
@@ -8,27 +8,20 @@ ghost use Rattle.dwp_macros.specs.Last as spec;
 use dwp_base::SectionKind;
 use dwp_elf_read::{ElfFile, Section};
 
-/// Whether a section has bytes, and one of the names of a kind.
-#[tactic(auto, unfolding(crate::specs::Last::holds))]
-fn holds(kind: SectionKind, section: &Section<'_>) -> bool
-    ensures { result ≡ spec.holds kind (view.section section.now) }
-{
-    !section.is_empty()
-        && (section.is_called(kind.name()) || section.is_called(kind.compressed_name()))
-}
-
 /// Whether a section has macros.
+#[tactic(auto, unfolding(crate::specs::Last::has_macros))]
 pub fn has_macros(section: &Section<'_>) -> bool
     ensures { result ≡ spec.has_macros (view.section section.now) }
 {
-    holds(SectionKind::Macro, section)
+    section.holds(SectionKind::Macro)
 }
 
 /// Whether a section is an index.
+#[tactic(auto, unfolding(crate::specs::Last::is_index))]
 fn is_index(section: &Section<'_>) -> bool
     ensures { result ≡ spec.is_index (view.section section.now) }
 {
-    holds(SectionKind::CuIndex, section) || holds(SectionKind::TuIndex, section)
+    section.holds(SectionKind::CuIndex) || section.holds(SectionKind::TuIndex)
 }
 
 /// Whether several sections of an object have macros; of a package that isn't asked.

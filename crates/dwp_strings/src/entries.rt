@@ -78,8 +78,9 @@ impl Entries {
         Ok(Some(place))
     }
 
-    /// The same where the hash has a place already at which no string begins: strings that were there
-    /// were forgotten. None else, and where four bytes don't hold the new place; it has the old one then.
+    /// The same where the hash has a place already at which no string begins: strings that were
+    /// there were forgotten. None else, and where four bytes don't hold the new place; it has the
+    /// old one then.
     pub fn add_over(
         &mut self,
         string: &[u8],

@@ -19,8 +19,8 @@ const SOME: u32 = 3 << 14;
 /// And then; three times as many after that, and from there on twice as many.
 const MANY: u32 = 1 << 18;
 
-/// A free slot: `behind` alone tells that. (Not all of its bytes are zero: so many are written 16 bytes
-/// at a time.)
+/// A free slot: `behind` alone tells that. (Not all of its bytes are zero: so many are written 16
+/// bytes at a time.)
 const FREE: Slot = Slot { hash: 1, behind: 0 };
 
 /// The place of a hash that strings share, at which none of them is kept.
@@ -67,8 +67,8 @@ fn behind_last(slots: &[Slot], home: usize) -> usize
     }
 }
 
-/// The place that a hash has in these slots; the slot that is next for it where it has none, which is
-/// past all of them where none of the hash's is free.
+/// The place that a hash has in these slots; the slot that is next for it where it has none, which
+/// is past all of them where none of the hash's is free.
 #[inline(always)]
 fn seek(slots: &[Slot], size: u32, hash: u32) -> Result<usize, usize>
     ensures found { IfOk result (λ place. place_of slots.now size hash ≡ Some place) }
@@ -190,9 +190,9 @@ fn most(size: u32) -> usize {
 
 /// Places of strings by their hashes.
 ///
-/// What has a place keeps it, and one of a hash is found by at most 128 slots. Where a new one would
-/// need more, where four bytes don't hold it, or there is no memory for more slots, it isn't entered,
-/// and none is from then on.
+/// What has a place keeps it, and one of a hash is found by at most 128 slots. Where a new one
+/// would need more, where four bytes don't hold it, or there is no memory for more slots, it isn't
+/// entered, and none is from then on.
 #[derive(Drop)]
 pub(crate) struct HashedPlaces {
     pub alloc: Global,
@@ -254,8 +254,8 @@ impl HashedPlaces {
         })
     }
 
-    /// Enters a slot among more slots, where those that there are have no room for it and a quarter is
-    /// used (of fewer, such hashes were chosen); false where that can't be.
+    /// Enters a slot among more slots, where those that there are have no room for it and a quarter
+    /// is used (of fewer, such hashes were chosen); false where that can't be.
     #[inline(never)]
     fn enter_in_more(&mut self, slot: Slot) -> bool
         requires some { slot.behind ≢ 0 }

@@ -63,8 +63,8 @@ impl StringTable {
 
     /// The offset of the string that some bytes begin with, of which one is zero, which is guessed
     /// to be its end. A new string goes last. None where it is new and its end isn't the guessed
-    /// one, where its hash doesn't tell its place or four bytes don't hold it, and for want of memory;
-    /// nothing changed then.
+    /// one, where its hash doesn't tell its place or four bytes don't hold it, and for want of
+    /// memory; nothing changed then.
     #[inline(always)]
     pub fn place_guessed(&mut self, bytes: &[u8], end: usize) -> Option<usize>
         requires within { end < length bytes.now }

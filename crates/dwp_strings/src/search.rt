@@ -116,8 +116,8 @@ fn begins_same(bytes: &[u8], other: &[u8], count: usize) -> bool
 }
 
 /// Whether a string begins at a place of a section of ended strings and is the one that some bytes
-/// begin with, of which one is zero: they are the same as far as that byte, so wherever they end. No
-/// where they differ behind an earlier end, which may be the same string.
+/// begin with, of which one is zero: they are the same as far as that byte, so wherever they end.
+/// No where they differ behind an earlier end, which may be the same string.
 #[inline(always)]
 pub(crate) fn begins_alike(bytes: &[u8], at: usize, other: &[u8], end: usize) -> bool
     requires at { at < 2 ^ 32 }

@@ -29,7 +29,8 @@ pub struct TableMark {
 /// halving those in order takes.
 ///
 /// The place behind the string that was found last is looked at first: inputs that share strings
-/// often use them in the same order. In the loop over string offsets that is done while it is right.
+/// often use them in the same order. In the loop over string offsets that is done while it is
+/// right.
 #[derive(Drop)]
 pub struct StringTable {
     pub(crate) entries: Entries,
@@ -125,8 +126,8 @@ impl StringTable {
         }
     }
 
-    /// Forgets every string that came after a mark. The place of its hash stays, until a string of that
-    /// hash comes.
+    /// Forgets every string that came after a mark. The place of its hash stays, until a string of
+    /// that hash comes.
     pub fn truncate(&mut self, mark: TableMark)
         requires { mark ≡ mark_of (take mark.strings self.old) }
         ensures { self.new ≡ take mark.strings self.old }

@@ -1,5 +1,5 @@
-//! The examples of docs/LIBRARY.md, run: packs the sample, prints the first strings of its unit, and
-//! adds the package to a new builder.
+//! The examples of docs/LIBRARY.md, run: packs the sample, prints the first strings of its unit,
+//! and adds the package to a new builder.
 #![tactic(auto)]
 
 mod find_string;

@@ -85,8 +85,8 @@ fn identifier_after<R: Reader>(
     Ok(identifier)
 }
 
-/// The type of a unit, how many bytes it has, where its abbreviations stand, its version, and whether
-/// it has no entry.
+/// The type of a unit, how many bytes it has, where its abbreviations stand, its version, and
+/// whether it has no entry.
 type Header = (UnitType, usize, u64, u16, bool);
 
 fn told<R: Reader>(header: &UnitHeader<R>) -> Header {
@@ -316,8 +316,8 @@ fn put_header<R: Reader>(units: R, section: UnitSection, said: &mut Said) {
     }
 }
 
-/// `info` or `types`, units, abbreviations, strings, string offsets, where these begin and the format
-/// of their offsets: the first unit of an object that a compiler wrote, and its root.
+/// `info` or `types`, units, abbreviations, strings, string offsets, where these begin and the
+/// format of their offsets: the first unit of an object that a compiler wrote, and its root.
 fn object<R: Reader>(words: [R; 5], row: Row<'_>, said: &mut Said) {
     let mut empty = words[0];
     empty.empty();

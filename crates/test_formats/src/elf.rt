@@ -1,5 +1,5 @@
-//! Calls of `dwp_elf`: files that are written, and what a writer that is slow, fails or takes nothing
-//! gets of them.
+//! Calls of `dwp_elf`: files that are written, and what a writer that is slow, fails or takes
+//! nothing gets of them.
 
 ghost use Rattle.std.specs.Prelude.{Some};
 

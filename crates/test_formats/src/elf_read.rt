@@ -8,9 +8,8 @@ use test_rows::{Hex, Row, Said, place};
 /// Makes the call of a row.
 pub fn call(row: Row<'_>, said: &mut Said) {
     match row.word(0) {
-        "file" | "symbol" | "section_named" | "section" | "is_called" | "relocations" => {
-            of_file(row, said)
-        }
+        "file" | "symbol" | "section_named" | "section" | "is_called" | "is_of" | "relocations" =>
+            of_file(row, said),
         "file_kind" => said.put(&FileKind::parse(row.bytes(1))),
         "cuts" => cuts(row.bytes(1), said),
         "texts_of_elf" => texts(said),
@@ -85,6 +84,7 @@ fn in_section(section: Section<'_>, row: Row<'_>, said: &mut Said) {
     match row.word(0) {
         "section" => put_section(section, said),
         "is_called" => said.ok(&Some(section.is_called(row.word(3)))),
+        "is_of" => said.put(&is_of(section, row.kind(3))),
         _ => put_relocations(section, said),
     }
 }
@@ -93,6 +93,16 @@ fn put_section(section: Section<'_>, said: &mut Said) {
     said.put(&names(section));
     said.put(&numbers(section));
     said.put(&content(section));
+}
+
+/// Whether a section has one of a kind's names, whether that is the older one, and whether it also
+/// has bytes.
+fn is_of(section: Section<'_>, kind: SectionKind) -> (bool, bool, bool) {
+    (
+        section.is_of(kind),
+        section.has_older_name(kind),
+        section.holds(kind),
+    )
 }
 
 /// A section's number, name, and kind in a package.

@@ -1,7 +1,7 @@
 //! Calls of `dwp_base`, `dwp_bytes` and `dwp_table`.
 
 use dwp_base::{ByKind, Contribution, ContributionOffset, Endianness, SectionKind};
-use dwp_bytes::{Encoding, Format, ReadError, WriteError, string_at};
+use dwp_bytes::{Encoding, Format, ReadError, StringOffsets, WriteError, string_at};
 use dwp_index::{Bucketable, DebugTypeSignature, DwarfObject, DwoId};
 use dwp_table::{column_of, kind_of_column, slot_count};
 use test_rows::{Row, Said, Text};
@@ -25,6 +25,7 @@ fn call_of_bytes(row: Row<'_>, said: &mut Said) {
     match row.word(0) {
         "string_offsets" => said.put(&string_offsets(row)),
         "string_at" => said.put(&text_at(row.bytes(1), row.number(2))),
+        "offsets" => offsets(row, said),
         "texts_of_bytes" => texts_of_bytes(said),
         _ => call_of_tables(row, said),
     }
@@ -105,8 +106,8 @@ fn read_by_kind(unread: SectionKind, wanted: SectionKind) -> Result<u8, SectionK
     Ok(ByKind::read(0, read)?.get(wanted))
 }
 
-/// Of an encoding, its version and `narrow` or `wide`: whether it is GNU's, and of string offsets of
-/// so many bytes the size of the header, and how many there are.
+/// Of an encoding, its version and `narrow` or `wide`: whether it is GNU's, and of string offsets
+/// of so many bytes the size of the header, and how many there are.
 fn string_offsets(row: Row<'_>) -> (bool, usize, u64) {
     let encoding = Encoding {
         version: row.half(1),
@@ -122,6 +123,26 @@ fn string_offsets(row: Row<'_>) -> (bool, usize, u64) {
 
 fn text_at(section: &[u8], offset: u64) -> Result<Text<'_>, ReadError> {
     Ok(Text(string_at(section, offset)?))
+}
+
+/// By a byte order, a version and `narrow` or `wide`, of strings and string offsets: how many
+/// offsets there are, and the one of a number with its string.
+fn offsets(row: Row<'_>, said: &mut Said) {
+    let offsets = StringOffsets {
+        strings: row.bytes(4),
+        offsets: row.bytes(5),
+        order: row.order(1),
+        encoding: Encoding {
+            version: row.half(2),
+            format: row.format(3),
+            address_size: 8,
+        },
+    };
+    said.put(&(offsets.count(), offsets.entry(row.number(6))));
+    match offsets.string(row.number(6)) {
+        Ok(string) => said.ok(&string.map(Text)),
+        Err(error) => said.err(&error),
+    }
 }
 
 fn texts_of_bytes(said: &mut Said) {

@@ -9,7 +9,7 @@ use test_rows::{Hex, Row, Said};
 /// Makes the call of a row.
 pub fn call(row: Row<'_>, said: &mut Said) {
     match row.word(0) {
-        "package" | "packaged" | "units" | "first_byte" => of_package(row, said),
+        "package" | "packaged" | "units" | "first_byte" | "content" => of_package(row, said),
         "of_kind" => of_kind(row, said),
         "part" => part(row, said),
         "texts_of_index" => texts_of_index(said),
@@ -28,8 +28,8 @@ fn of_index(row: Row<'_>, said: &mut Said) {
     }
 }
 
-/// An index's version, and its numbers of units and of slots; whether it has a column; the row of an
-/// identifier; or what a row has of a section.
+/// An index's version, and its numbers of units and of slots; whether it has a column; the row of
+/// an identifier; or what a row has of a section.
 fn in_index(index: &UnitIndex<'_>, row: Row<'_>, said: &mut Said) {
     match row.word(0) {
         "index" => said.ok(&(index.version(), index.unit_count(), index.slot_count())),
@@ -76,7 +76,7 @@ fn of_kind(row: Row<'_>, said: &mut Said) {
     let Ok(file) = ElfFile::parse(row.bytes(1)) else {
         return said.word("no ELF file");
     };
-    let found = section_of_kind(&file, row.kind(2));
+    let found = first_sections(&file).get(row.kind(2));
     said.put(&found.map(|(number, section)| (number, section.size())));
     match content_of_kind(&file, row.kind(2)) {
         Ok(content) => said.ok(&Hex(content)),
@@ -89,7 +89,25 @@ fn in_package(package: &PackageFile<'_>, row: Row<'_>, said: &mut Said) {
         "package" => look_up_unit(package, unit(row), said),
         "packaged" => packaged(package, row, said),
         "units" => units(package, said),
+        "content" => content(package, row.kind(2), said),
         _ => said.ok(&package.first_byte(unit(row))),
+    }
+}
+
+/// The byte order, the numbers of units of the two indexes, and the content of a kind.
+fn content(package: &PackageFile<'_>, kind: SectionKind, said: &mut Said) {
+    said.ok(&(
+        package.order(),
+        count_of(package.compilation_index()),
+        count_of(package.type_index()),
+    ));
+    said.put(&Hex(package.content(kind)));
+}
+
+fn count_of(index: Option<&UnitIndex<'_>>) -> Option<u32> {
+    match index {
+        Some(index) => Some(index.unit_count()),
+        None => None,
     }
 }
 
@@ -116,8 +134,8 @@ fn put_counted((unit, slots): (Option<PackagedUnit<'_>>, u32), said: &mut Said) 
     }
 }
 
-/// A unit and a kind: its encoding, its first string, its bytes, its contribution to the section and
-/// the bytes of that.
+/// A unit and a kind: its encoding, its first string, its bytes, its contribution to the section
+/// and the bytes of that.
 fn packaged(package: &PackageFile<'_>, row: Row<'_>, said: &mut Said) {
     match package.find(unit(row)) {
         Ok(Some(unit)) => put_unit(&unit, row.kind(4), said),

@@ -183,8 +183,8 @@ fn relocated<R: Reader>(
     steps(at, calls, said);
 }
 
-/// Relocated twice: to 0x1100 itself at 0, and by 0x1000 beside what is stored at 8, and by 1 beside
-/// what was read so at 8. The reader stands there.
+/// Relocated twice: to 0x1100 itself at 0, and by 0x1000 beside what is stored at 8, and by 1
+/// beside what was read so at 8. The reader stands there.
 fn twice<R: Reader>(section: R, calls: &[&str], said: &mut Said) {
     relocated(Relocate::new(&TWO, section), &AGAIN, 8, calls, said);
 }

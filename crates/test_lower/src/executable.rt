@@ -63,8 +63,8 @@ impl Layout {
         ]
     }
 
-    /// Adds the section of a word: its name, `=` and its bytes. Before the `=` may stand `:` and `c`
-    /// of a compressed section, or the number of the section that these relocations are of.
+    /// Adds the section of a word: its name, `=` and its bytes. Before the `=` may stand `:` and
+    /// `c` of a compressed section, or the number of the section that these relocations are of.
     fn add(&mut self, row: Row<'_>, word: &str, said: &mut Said) {
         let (name, digits) = split(word, "=");
         let (name, of) = split(name, ":");
@@ -211,7 +211,8 @@ fn put_four(left: &mut SkeletonUnits<'_>, said: &mut Said) {
     }
 }
 
-/// `-` and the sections of an executable, or the bytes of a file: what it names, one after the other.
+/// `-` and the sections of an executable, or the bytes of a file: what it names, one after the
+/// other.
 fn one_by_one(row: Row<'_>, said: &mut Said) {
     match row.word(1) {
         "-" => of_sections(row, said),

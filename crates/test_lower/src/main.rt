@@ -1,5 +1,6 @@
 //! Answers the rows of its data files: each is a call of the parts of packaging, `thorin_errors` to
-//! `thorin_executable`, with its arguments, and is printed with what it answers. For the gate alone.
+//! `thorin_executable`, with its arguments, and is printed with what it answers. For the gate
+//! alone.
 #![tactic(auto)]
 
 mod errors;

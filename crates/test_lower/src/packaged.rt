@@ -1,4 +1,5 @@
-//! Calls of `thorin_packaged`: rows by place, and string offsets of packages that are rewritten.
+//! Calls of `thorin_package_input`: rows by place, and string offsets of packages that are
+//! rewritten.
 
 use crate::parts::{contribution, indexed};
 use dwp_base::{Contribution, Endianness, SectionKind};
@@ -6,10 +7,10 @@ use dwp_bytes::ReadError;
 use dwp_index::UnitIndex;
 use test_rows::{Hex, Row, Said, Text, encoding};
 use thorin_errors::Error;
-use thorin_packaged::laws::{
+use thorin_package_input::laws::{
     every_row_is_found_by_place, packaged_rows_are_read_alike, rows_are_found_by_place,
 };
-use thorin_packaged::{RowPlaces, remap_packaged_offsets};
+use thorin_package_input::{RowPlaces, remap_packaged_offsets};
 use thorin_strings::{PackageStringTable, StringOffsets};
 
 /// Makes the call of a row.
@@ -119,7 +120,8 @@ fn put_row(
     }
 }
 
-/// Ranges of abbreviations and of string offsets, a section, and a range of it: the row that has it.
+/// Ranges of abbreviations and of string offsets, a section, and a range of it: the row that has
+/// it.
 fn row_at(row: Row<'_>, said: &mut Said) {
     let index = indexed(row.alloc, encoding("gnu"), row.word(1), said);
     match parsed(&index) {

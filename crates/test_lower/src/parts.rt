@@ -59,8 +59,8 @@ pub fn contribution(word: &str) -> Contribution {
     })
 }
 
-/// The entry of a unit that has the ranges of a word: one of string offsets, or one of abbreviations
-/// and, behind `/`, one of string offsets.
+/// The entry of a unit that has the ranges of a word: one of string offsets, or one of
+/// abbreviations and, behind `/`, one of string offsets.
 fn ranged(encoding: Encoding, id: u64, word: &str) -> IndexEntry {
     let (abbrev, offsets) = match word.split_once('/') {
         Some(ranges) => ranges,
@@ -155,8 +155,8 @@ fn slots_of(row: Row<'_>, said: &mut Said) {
     }
 }
 
-/// An identifier, and the entries of an index, if there is one: the unit's abbreviations in an output
-/// that has the section's 0x18 bytes from 0x20 on.
+/// An identifier, and the entries of an index, if there is one: the unit's abbreviations in an
+/// output that has the section's 0x18 bytes from 0x20 on.
 fn moved(row: Row<'_>, said: &mut Said) {
     if row.rest(2).is_empty() {
         put_abbreviations(None, row.number(1), said);
@@ -205,8 +205,8 @@ fn put_looked_up(index: &UnitIndex<'_>, id: u64, said: &mut Said) {
     said.put(&adjustor.adjust_row(unit, index.find(id), Some(WHOLE)));
 }
 
-/// An executable: the places that are relocated in `.debug_info`, or in the section of a number, and
-/// what they read as where 0x10 is stored.
+/// An executable: the places that are relocated in `.debug_info`, or in the section of a number,
+/// and what they read as where 0x10 is stored.
 fn relocations_of(row: Row<'_>, said: &mut Said) {
     match ElfFile::parse(row.bytes(1)) {
         Ok(file) => put_section(&file, row, said),

@@ -107,7 +107,8 @@ fn put_offset(offset: Result<PackageStringOffset, Error>, said: &mut Said) {
     }
 }
 
-/// Where a string is, and whether no more strings were looked at than their number has binary digits.
+/// Where a string is, and whether no more strings were looked at than their number has binary
+/// digits.
 fn put_found(table: &PackageStringTable, string: &[u8], said: &mut Said) {
     let (found, count) = table.find_counted(string);
     let zeros = (table.len() as u64).leading_zeros();
@@ -261,9 +262,9 @@ fn put_short(table: &mut PackageStringTable, row: Row<'_>, said: &mut Said) {
     put_again(table, &mut repeats, section, row.bytes(6), said);
 }
 
-/// How many bytes `x` the section's one string has, a range that is refused, and a good one once the
-/// table has another string: both, whether the table is empty after the first, and how many strings
-/// it has.
+/// How many bytes `x` the section's one string has, a range that is refused, and a good one once
+/// the table has another string: both, whether the table is empty after the first, and how many
+/// strings it has.
 fn refused_range(row: Row<'_>, said: &mut Said) {
     let size = usize::from(row.half(1));
     let mut section = said.made(Vec::from_elem(row.alloc, b'x', size), Vec::new(row.alloc));
@@ -296,8 +297,8 @@ fn is_kept(table: &mut PackageStringTable, section: &[u8], offsets: &[u8]) -> bo
     }
 }
 
-/// A section of strings, the offsets of each, twice, one of the strings, another, and that with a zero
-/// byte: used again in another range, they are found all the same, and the other is not.
+/// A section of strings, the offsets of each, twice, one of the strings, another, and that with a
+/// zero byte: used again in another range, they are found all the same, and the other is not.
 fn crowded(table: &mut PackageStringTable, row: Row<'_>, said: &mut Said) -> bool {
     let section = row.bytes(1);
     let first = is_kept(table, section, row.bytes(2));
@@ -309,8 +310,8 @@ fn crowded(table: &mut PackageStringTable, row: Row<'_>, said: &mut Said) -> boo
     false
 }
 
-/// Strings, their offsets, and another string: whether more than one of the strings is compared with
-/// that, as where they are looked for in their order, and no more than eight.
+/// Strings, their offsets, and another string: whether more than one of the strings is compared
+/// with that, as where they are looked for in their order, and no more than eight.
 fn in_order(table: &mut PackageStringTable, row: Row<'_>, said: &mut Said) -> bool {
     said.note_that(alone(table, row.bytes(1), row.bytes(2)).is_ok());
     let (_found, count) = table.find_counted(row.bytes(3));

@@ -78,8 +78,8 @@ pub struct Built<'i> {
     pub file: Result<Vec<u8>, Error>,
 }
 
-/// Adds inputs of these names in order, and then the executable where it is asked for, and says what
-/// is answered and shown.
+/// Adds inputs of these names in order, and then the executable where it is asked for, and says
+/// what is answered and shown.
 pub fn build_by<'s, 'i, Sess: Session<RelocationEntry>>(
     alloc: Global,
     session: &'s Sess,

@@ -1,8 +1,8 @@
 //! Runs the lines of the scripts of `data/` and prints each line that asks something with what it
-//! answers: packing, packages as inputs, packages cut or damaged, packing in groups, and the same of
-//! what a seed damages. A script makes its inputs byte for byte (`objects`), packs them (`packing`,
-//! `builders`, `large`), reads what came of it (`reading`, `cutting`), and damages samples by chance
-//! (`random`). For the gate; with `random`, by hand too.
+//! answers: packing, packages as inputs, packages cut or damaged, packing in groups, and the same
+//! of what a seed damages. A script makes its inputs byte for byte (`objects`), packs them
+//! (`packing`, `builders`, `large`), reads what came of it (`reading`, `cutting`), and damages
+//! samples by chance (`random`). For the gate; with `random`, by hand too.
 #![tactic(auto)]
 
 mod builders;

@@ -1,5 +1,5 @@
-//! Packing of a script's inputs, at once and in groups. Each call of packing is met here alone. Where
-//! memory runs out an input is left out, and the answer is another.
+//! Packing of a script's inputs, at once and in groups. Each call of packing is met here alone.
+//! Where memory runs out an input is left out, and the answer is another.
 
 ghost use Rattle.std.specs.Prelude.{◌≤◌};
 

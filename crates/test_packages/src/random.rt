@@ -9,10 +9,11 @@ use crate::tally::Tally;
 use std::alloc::Global;
 use test_rows::{Generator, Said, Table, number, place};
 
-/// `random SEED ROUNDS EXECUTABLE SAMPLE..`: so many samples are damaged and read; a quarter as many
-/// packages are made of a few each, and as many of the executable. Tells of each call whether it both
-/// answered and named errors, and how often two calls contradicted each other, or memory ran out.
-/// `random_counted SEED ROUNDS EXECUTABLE SAMPLE..`: the same, and how many calls there were.
+/// `random SEED ROUNDS EXECUTABLE SAMPLE..`: so many samples are damaged and read; a quarter as
+/// many packages are made of a few each, and as many of the executable. Tells of each call whether
+/// it both answered and named errors, and how often two calls contradicted each other, or memory
+/// ran out. `random_counted SEED ROUNDS EXECUTABLE SAMPLE..`: the same, and how many calls there
+/// were.
 pub fn random(alloc: Global, table: &Table<'_>, counts: bool, words: &[&str], said: &mut Said) {
     if let [seed, rounds, executable, names @ ..] = words {
         let mut generator = Generator::new(number(seed));

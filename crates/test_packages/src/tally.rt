@@ -109,8 +109,8 @@ impl Tally {
         }
     }
 
-    /// Says which kinds of outcome each call had, the contradictions, and where it is asked how many
-    /// calls there were.
+    /// Says which kinds of outcome each call had, the contradictions, and where it is asked how
+    /// many calls there were.
     pub fn tell(&self, counts: bool, said: &mut Said) {
         let mut calls: u64 = 0;
         for call in 0..22 {

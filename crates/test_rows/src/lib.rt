@@ -22,8 +22,8 @@ pub trait Calls {
     fn call(&self, row: Row<'_>, said: &mut Said);
 }
 
-/// Prints the name of each file of rows, and its rows, each with what it answers in the next line. The
-/// file `named` has the bytes that rows name.
+/// Prints the name of each file of rows, and its rows, each with what it answers in the next line.
+/// The file `named` has the bytes that rows name.
 ///
 /// # Errors
 ///

@@ -156,8 +156,8 @@ fn set(bytes: &mut [u8], place: usize, byte: u8) {
     }
 }
 
-/// The bytes of a word of hexadecimal digits, or of a name with `@` before it, which stands with its
-/// digits in a line of `named`; changes may follow, each a comma, a place, `=` and a byte.
+/// The bytes of a word of hexadecimal digits, or of a name with `@` before it, which stands with
+/// its digits in a line of `named`; changes may follow, each a comma, a place, `=` and a byte.
 pub fn bytes_of_word(alloc: Global, named: &str, word: &str) -> Result<Vec<u8>, AllocError> {
     let (digits, changes) = split(word, ",");
     let mut bytes = bytes_of(alloc, digits_of(named, digits))?;
@@ -175,7 +175,8 @@ fn digits_of<'a>(named: &'a str, word: &'a str) -> &'a str {
     line.trim_start()
 }
 
-/// What stands before a part of a text and behind it; the text and nothing, where it hasn't the part.
+/// What stands before a part of a text and behind it; the text and nothing, where it hasn't the
+/// part.
 pub fn split<'a>(text: &'a str, part: &str) -> (&'a str, &'a str) {
     text.split_once(part).unwrap_or((text, ""))
 }

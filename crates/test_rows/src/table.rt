@@ -14,8 +14,8 @@ struct Named<'n> {
     bytes: Vec<u8>,
 }
 
-/// Bytes by their names, which are words of a script. There are few, so they are looked for one after
-/// another.
+/// Bytes by their names, which are words of a script. There are few, so they are looked for one
+/// after another.
 #[derive(Drop)]
 pub struct Table<'n> {
     alloc: Global,

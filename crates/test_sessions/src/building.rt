@@ -67,8 +67,8 @@ pub fn counts<'o, 's: 'o, S: Session<RelocationEntry>>(
     (builder.contained_units().len(), differing.len())
 }
 
-/// The file of what was finished, by a second try where the first was refused; no bytes where it was
-/// refused to finish it, which hands nothing back.
+/// The file of what was finished, by a second try where the first was refused; no bytes where it
+/// was refused to finish it, which hands nothing back.
 pub fn file_of(alloc: Global, object: &Result<WritableObject, Error>, seen: &mut Seen) -> Vec<u8> {
     match object {
         Ok(object) => match object.write() {

@@ -99,8 +99,8 @@ fn made(alloc: Global, naming: Naming, units: [&[u8]; 4]) -> Vec<u8> {
     put_name(&mut file, b".debug_abbrev.dwo", b".debug_abbrev\0");
     put_name(&mut file, b".debug_info.dwo", b".debug_info\0");
     if !relocation.is_empty() {
-        // Contents and names end at 197, so the section headers stand at 200. The third one becomes a
-        // RELA section (ELF gABI, sh_type 4) of the second one (sh_info).
+        // Contents and names end at 197, so the section headers stand at 200. The third one becomes
+        // a RELA section (ELF gABI, sh_type 4) of the second one (sh_info).
         put(&mut file, 396, &[4]);
         put(&mut file, 436, &[2]);
     }

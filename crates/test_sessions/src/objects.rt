@@ -41,8 +41,8 @@ const LONGER_TYPE_UNIT: [u8; 24] = [
     0x14, 0, 0, 0, 4, 0, 0, 0, 0, 0, 8, 0x11, 0, 0, 0, 0, 0, 0, 0, 0, 0, 0, 0, 0,
 ];
 
-/// A file of 64 bits, little endian, for x86-64, with these sections; no bytes where one is refused.
-/// A section that comes again gets more bytes.
+/// A file of 64 bits, little endian, for x86-64, with these sections; no bytes where one is
+/// refused. A section that comes again gets more bytes.
 pub fn object(alloc: Global, sections: &[(SectionKind, &[u8])]) -> Vec<u8> {
     let mut object = WritableObject::new(alloc, Class::Elf64, 62, Endianness::Little);
     let mut is_whole = true;

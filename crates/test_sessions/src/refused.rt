@@ -148,7 +148,8 @@ const CASES: [(&'static str, Case); 9] = [
 ];
 
 /// Adds an input; whether it is added. What was refused has added no unit and no type unit that
-/// differs, and is added by a second try where there may be one: want of memory is never passed over.
+/// differs, and is added by a second try where there may be one: want of memory is never passed
+/// over.
 fn is_added<'o, 's: 'o, S: Session<RelocationEntry>>(
     builder: &mut DwarfPackage<'o, 's, S>,
     step: Step<'_>,
@@ -170,8 +171,8 @@ fn is_added<'o, 's: 'o, S: Session<RelocationEntry>>(
     answer == "Ok"
 }
 
-/// The file of a package, by the calls of a builder, and how many inputs it has, up to the first that
-/// was refused: where it has all, it has the units of a case and no others.
+/// The file of a package, by the calls of a builder, and how many inputs it has, up to the first
+/// that was refused: where it has all, it has the units of a case and no others.
 fn added<'s, S: Session<RelocationEntry>>(
     alloc: Global,
     session: &'s S,

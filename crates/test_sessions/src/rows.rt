@@ -361,8 +361,8 @@ const EXECUTABLES: [Row; 15] = [
     ),
 ];
 
-/// Which placing is refused: of the relocations of the abbreviations, which are none, or of those of
-/// the units.
+/// Which placing is refused: of the relocations of the abbreviations, which are none, or of those
+/// of the units.
 const PLACINGS: [Row; 3] = [
     (
         Naming::Relocated,

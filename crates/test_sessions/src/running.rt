@@ -150,7 +150,8 @@ fn put_file_of(
     file
 }
 
-/// Whether packing the inputs at once answers the same, as the text begins, and gives the same file.
+/// Whether packing the inputs at once answers the same, as the text begins, and gives the same
+/// file.
 fn is_packed_so<'s>(
     alloc: Global,
     session: &'s CountingSession<'s>,

@@ -1,20 +1,21 @@
 -- What a package means as an input is what a reader of packages finds in it.
 use Rattle.thorin.proofs.Terms
-use Terms.{[], ap, bind-was, Bool, both, by-choice, Compilation, cond, DwarfObject, Elf, elf_of}
-use Terms.{Encoding, encoding_of, Endianness, Err, false, find, inl, input_file_of, input_meaning}
-use Terms.{InputFile, inr, is-false, is_none, is_some, List, map, Meaning, None, Ok, opened, Option}
+use Terms.{[], ap, bind-was, both, by-choice, Compilation, cond, DwarfObject, Elf, elf_of, Encoding}
+use Terms.{encoding_of, Endianness, Err, false, find, inl, input_file_of, input_meaning, InputFile}
+use Terms.{inr, is-false, is_none, is_some, List, map, Meaning, None, Ok, opened, Option}
 use Terms.{option_and_then, own_contribution, ParseFileKind, refl, Result, rules, same-ok}
 use Terms.{SectionMeaning, Some, Source, source_units, sym, true, TypeUnit, UnitRead, Used, ℕ, ◌&&◌}
 use Terms.{◌++◌, ◌>>=◌, ◌||◌, ◌∙◌, ◌∷◌, ◌≡◌, ◌⊎◌}
 use Rattle.thorin_join.proofs.Terms as Joined
 use Joined.{all_kinds, as_error, by-bool, first, has_info, Index, Indexes, is-same, is_outside}
-use Joined.{is_package, name_of, Package, part_of, range_in, Ranges, ReadError, row_bytes}
-use Joined.{same-each, same-self, same_kind, SectionKind, Str, strings_of, StrOffsets}
-use Rattle.dwp_base.specs.Sections.{compressed_name_of, kind_named}
+use Joined.{is_package, Package, part_of, range_in, Ranges, ReadError, row_bytes, same-self}
+use Joined.{same_kind, SectionKind, Str, strings_of, StrOffsets}
 use Rattle.dwp_base.specs.declared.section.SectionKind.TheVariants.{CuIndex, TuIndex}
 use Rattle.dwp_base.proofs.KindsRead.{read-kind}
+use Rattle.dwp_elf_read.specs.Elf.{has_name}
 use Rattle.dwp_elf_read.specs.declared.kind.FileKind.{FileKind}
-use Rattle.dwp_index.specs.Contents.{content, content_among, contents_of, has_name, is_of_kind}
+use Rattle.dwp_index.proofs.FirstOfKind.{found-passes, named-of}
+use Rattle.dwp_index.specs.Contents.{content, content_among, contents_of, is_of_kind}
 use Rattle.dwp_index.specs.Package.{index_in_section, package_of}
 use Rattle.thorin_input.specs.Indexes.{index_for, index_in, indexes_of, version_test}
 use Rattle.thorin_input.specs.Used.{counts_once, elf_in, has_kind, unusable, used_bytes, used_from}
@@ -24,9 +25,7 @@ use Rattle.thorin_join.specs.Meaning.{placed_row, shared_kinds, source_meaning, 
 use Rattle.thorin.specs.MeaningRead.{has_index, lies_in, MeansByReader, unit_of_package}
 use Rattle.thorin.specs.MeaningRead.{unit_of_row, unit_with}
 use Rattle.std.proofs.Math.Bool.{and-false}
-use Rattle.std.proofs.lemmas.Slice.Eq.{bytes_eq-Decides}
 use Rattle.std.proofs.lemmas.List.Folds.{find-append}
-use Rattle.dwp_base.proofs.EveryKind.{kind-named}
 use Rattle.thorin_input.proofs.Walking.{kind-full}
 use Rattle.dwp_elf_read.specs.Identification as identification
 use Rattle.dwp_index.specs.Package as reader
@@ -34,25 +33,10 @@ use Rattle.dwp_index.specs.declared.error.PackageError.TheVariants as errors
 
 -- ---- the kind of a section
 
-named-of : (k : SectionKind) (name : Option (List ℕ)) → has_name k name ≡ true
-    → option_and_then kind_named name ≡ Some k
-named-of k None h = absurd cc
-named-of k (Some name) h = grind (
-  rules,
-  bytes_eq-Decides name (name_of k),
-  bytes_eq-Decides name (compressed_name_of k),
-  kind-named k,
-  same-each (λ j. kind_named (compressed_name_of j)) Some refl k,
-)
-
 used-of : (s : SectionMeaning) (k : SectionKind) → is_of_kind k s ≡ true → used_kind s ≡ Some k
 unfolding is_of_kind
 used-of s k h = let is = both _ (has_name k s.name) h in
     kind-full s (is-false _ is.0) ∙ named-of k s.name is.1
-
-found-passes : {X : Type 0} (p : X → Bool) (xs : List X) (x : X) → find p xs ≡ Some x → p x ≡ true
-found-passes p [] x h = absurd cc
-found-passes p (y ∷ ys) x h = grind (rules, found-passes p ys x)
 
 -- a section of another kind
 apart : (s : SectionMeaning) (j k : SectionKind) → used_kind s ≡ Some j → is_of_kind k s ≡ false

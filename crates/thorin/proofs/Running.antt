@@ -1,11 +1,11 @@
 -- A run, one input after the other, what it accepted, and groups that are packed one by one.
 use Rattle.thorin.proofs.Terms
-use Terms.{◌+◌, ◌++◌, ◌<◌, [], ap, append-nil, append_assoc, ArePackedAlone, AreTaken}
-use Terms.{bind-was, Compilation, drop, drop_more, DwarfObject, elf_of, Err, ErrorValue, file_text}
-use Terms.{get_or, IfOk, inl, Input, inr, IsPackedAlone, IsWritten, JoinAll, length, List, map}
-use Terms.{map-append, Members, Ok, Option, Ran, refl, Result, rules, same-ok, State, subst, sym}
-use Terms.{take, take-append-drop, taken, taken_each, TakesInput, TypeUnit, units_in, with_input}
-use Terms.{written_elf, ℕ, ◌∙◌, ◌∷◌, ◌≡◌}
+use Terms.{[], ap, append-nil, append_assoc, ArePackedAlone, AreTaken, bind-was, Compilation, drop}
+use Terms.{drop_more, DwarfObject, elf_of, Err, ErrorValue, file_text, get_or, IfOk, inl, Input}
+use Terms.{inr, IsPackedAlone, IsWritten, JoinAll, length, List, map, map-append, Members, Ok}
+use Terms.{Option, Ran, refl, Result, rules, same-ok, State, subst, sym, take, take-append-drop}
+use Terms.{taken, taken_each, TakesInput, TypeUnit, units_in, with_input, written_elf, ℕ, ◌++◌, ◌+◌}
+use Terms.{◌<◌, ◌∙◌, ◌∷◌, ◌≡◌}
 use Rattle.dwp_elf.specs.Contents.{KindsDiffer}
 use Rattle.thorin_errors.specs.declared.error.InputError.{InputError}
 use Rattle.thorin_errors.specs.declared.error.InputError.TheVariants.{Io, Memory as no_memory}

@@ -4,6 +4,7 @@ pub use Rattle.dwp_base.specs.Sections.{all_kinds, name_of}
 pub use Rattle.dwp_base.specs.declared.section.SectionKind.TheVariants.{CuIndex, Info, TuIndex}
 pub use Rattle.dwp_bytes.specs.Input.{after}
 pub use Rattle.dwp_bytes.specs.StringOffsets.{header_size, string_at}
+unfoldable pub use Rattle.dwp_bytes.specs.StringOffsets.{entry_in, string_in}
 pub use Rattle.dwp_bytes.specs.declared.encoding.Format.TheVariants.{Dwarf32}
 pub use Rattle.dwp_dwarf.proofs.Readings.{more, one_answer}
 pub use Rattle.dwp_dwarf.specs.Units.{Unit as Header}
@@ -14,7 +15,6 @@ pub use Rattle.dwp_elf.specs.Written.{plain_section, written_elf, written_sectio
 unfoldable pub use Rattle.dwp_elf_read.specs.Elf.{elf_of}
 pub use Rattle.dwp_index.specs.Index.{range_in}
 pub use Rattle.dwp_index.specs.Package.{is_outside, place_of}
-unfoldable pub use Rattle.dwp_index.specs.Strings.{entry_in, string_in}
 pub use Rattle.dwp_table.specs.Table.{AreDistinct, FindsExactly}
 pub use Rattle.std.proofs.ByRecursion.{All-map as each-mapped, All-weaker, all_kept_by}
 pub use Rattle.std.proofs.Common.{[], add-mul, All, ap, append-nil, arith, Bool, cond, eqb}
@@ -54,7 +54,7 @@ pub use Rattle.thorin_again.specs.PlainInputs.{AreTaken, EachAdds, IsOfPlainObje
 pub use Rattle.thorin_errors.specs.Errors.{DuplicateUnit}
 pub use Rattle.thorin_index.specs.EntryTests.{index_tests, same_encoding}
 pub use Rattle.thorin_index.specs.IndexText.{is_used}
-pub use Rattle.thorin_index.specs.ReadRows.{HasEntries, HasParts}
+pub use Rattle.thorin_index.specs.ReadRows.{HasEntries, HasContributions}
 pub use Rattle.thorin_input.proofs.Walking.{found-any}
 unfoldable pub use Rattle.thorin_input.specs.Adjusting.{row_of}
 pub use Rattle.thorin_input.specs.Encodings.{common, first_encoding, has_encoding, is_index}
@@ -87,7 +87,8 @@ pub use Rattle.thorin_join.proofs.Parts.Appended.{content-with_bytes, content-wi
 pub use Rattle.thorin_join.proofs.Parts.Appended.{joined_parts-more, no-bytes, parts-copied}
 pub use Rattle.thorin_join.proofs.Parts.FirstUses.{no-entries, slice-long, units-strings}
 pub use Rattle.thorin_join.proofs.Parts.OffsetRanges.{count-again, range-of}
-pub use Rattle.thorin_join.proofs.Parts.Strings.{front-front, rewritten-package, rewritten-plain}
+pub use Rattle.thorin_join.proofs.Parts.Strings.{rewritten-package, rewritten-plain}
+pub use Rattle.thorin_strings.proofs.RemapLemmas.{kept_more}
 pub use Rattle.thorin_join.proofs.Rows.OneAdded.{content-put, own-bytes, own-place, place-put}
 pub use Rattle.thorin_join.proofs.Rows.OneAdded.{range_for, row-name, row-own}
 pub use Rattle.thorin_join.proofs.Rows.Ranges.{not-outside, range-none, whole_behind}
@@ -128,6 +129,6 @@ pub use Rattle.thorin_join.specs.StandApart.{EachRow}
 pub use Rattle.thorin_input.specs.Held.{unit_bytes}
 pub use Rattle.thorin_join.specs.State.{names_of}
 unfoldable pub use Rattle.thorin_join.specs.State.{abbreviations_test, with_new_units, with_source}
-pub use Rattle.thorin_packaged.proofs.OffsetsJoined.{no_header, number_front}
-pub use Rattle.thorin_packaged.specs.PackagedReading.{range_bytes}
+pub use Rattle.thorin_package_input.proofs.OffsetsJoined.{no_header, number_front}
+pub use Rattle.thorin_package_input.specs.PackagedReading.{range_bytes}
 unfoldable pub use Rattle.thorin_strings.specs.StringOffsets.{named_at}

@@ -5,5 +5,6 @@ pub mod OwnUnits
 pub mod OwnInput
 pub mod Plain
 pub mod OwnRefusals
+pub mod OwnTaken
 pub mod OwnAccepted
 pub mod PlainInputs

@@ -4,13 +4,13 @@ use Rattle.std.specs.Prelude.{◌≡◌, ℕ, true, List, slice_get, Ok, MatchOp
 use Rattle.std.specs.List.{list_all}
 use Rattle.std.specs.Map.{lookup}
 use Rattle.dwp_base.specs.declared.section.SectionKind.TheVariants.{StrOffsets, Str}
+use Rattle.dwp_bytes.specs.StringOffsets.{string_in}
 use Rattle.dwp_bytes.specs.declared.encoding.Encoding.{Encoding}
 use Rattle.dwp_elf.specs.Contents.{KindsDiffer}
 use Rattle.dwp_elf.specs.FileText.{Object as File, file_text}
 use Rattle.dwp_elf.specs.Written.{written_elf}
 use Rattle.dwp_elf_read.specs.Elf.{Elf, elf_of}
 use Rattle.dwp_index.specs.Package.{Package, package_of, row_bytes}
-use Rattle.dwp_index.specs.Strings.{string_in}
 use Rattle.dwp_table.specs.declared.object.DwarfObject.{DwarfObject}
 use Rattle.thorin_input.specs.Encodings.{encoding_of, section_has}
 use Rattle.thorin_input.specs.Names.{same_name}

@@ -14,7 +14,7 @@ use Rattle.dwp_dwarf.specs.Units.{Unit as Header, unit_at}
 use Rattle.dwp_elf.specs.Contents.{content_of}
 use Rattle.dwp_index.specs.Package.{part_of, place_of}
 use Rattle.thorin_identity.specs.Identity.{identity}
-use Rattle.thorin_packaged.specs.PackagedOffsets.{rewritten_from}
+use Rattle.thorin_package_input.specs.PackagedOffsets.{rewritten_from}
 use Rattle.thorin_index.specs.IndexText.{is_used}
 use Rattle.thorin_index.specs.declared.entry.IndexEntry.{IndexEntry}
 use Rattle.thorin_strings.specs.StringOffsets.{header_of}

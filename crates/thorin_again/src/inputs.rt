@@ -1,4 +1,5 @@
-//! What lists of inputs make of a new builder, and of which inputs its package packs again, as laws.
+//! What lists of inputs make of a new builder, and of which inputs its package packs again, as
+//! laws.
 
 ghost use Rattle.std.specs.Prelude.{◌≡◌, ◌↔◌, ℕ, true, List, Ok, All};
 ghost use Rattle.dwp_bytes.specs.declared.encoding.Encoding.{Encoding};

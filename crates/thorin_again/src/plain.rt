@@ -6,20 +6,15 @@ ghost use Rattle.dwp_base.specs.declared.section.SectionKind.TheVariants.{StrOff
 ghost use Rattle.dwp_bytes.specs.declared.encoding.Encoding.{Encoding};
 ghost use Rattle.dwp_elf.specs.Contents.{content_of};
 ghost use Rattle.dwp_elf.specs.FileText.{Object};
-ghost use Rattle.dwp_strings.specs.Strings.{IsTable};
 ghost use Rattle.thorin_join.specs.Builder.{State, IsFinishedState, finish_test, taken};
-ghost use Rattle.dwp_elf.specs.Growing.{Contents};
 ghost use Rattle.thorin_input.specs.Indexes.{Indexes, indexes_of};
 ghost use Rattle.thorin_again.specs.OwnAccepted.{IsAcceptedByNewOnceWritten, IsAcceptedOnceWritten};
 ghost use Rattle.thorin_again.specs.OwnInput.{written_object, own_source, IsOwn};
-ghost use Rattle.thorin_input.specs.NewUnits.{new_units};
-ghost use Rattle.thorin_again.specs.OwnRefusals.{UnlessForeseen, UnlessStringOffset};
+ghost use Rattle.thorin_again.specs.OwnTaken.{AreRewritten, AreUnitsTaken};
 ghost use Rattle.thorin_again.specs.OwnUnits.{HoldsOwn};
-ghost use Rattle.thorin_input.specs.InputStrings.{rewritten};
-ghost use Rattle.thorin_input.specs.Parts.{parts_of};
 ghost use Rattle.thorin_again.specs.Plain.{HoldsPlain, IsPlain};
 ghost use Rattle.thorin_join.specs.Represents.{IsSoundBegun};
-ghost use Rattle.thorin_join.specs.State.{InProgress, adding};
+ghost use Rattle.thorin_join.specs.State.{InProgress};
 
 /// The law of plain packages: where the inputs of a builder have one encoding, each section that
 /// units share and that has bytes has a part that a row names; the ranges of string offsets that
@@ -39,9 +34,7 @@ pub fn own_string_offsets_are_rewritten()
     ensures { (state : State) (encoding : Encoding) (file : Object) → IsOwn state encoding file
         → (made : InProgress) → state.begun ≡ Some made → IsPlain encoding made
         → (indexes : Indexes) → indexes_of (written_object file) encoding ≡ Ok indexes
-        → (strings : List (List ℕ))
-        → UnlessStringOffset (rewritten (own_source file encoding indexes)
-        (content_of StrOffsets file.contents) strings) }
+        → AreRewritten (own_source file encoding indexes) (content_of StrOffsets file.contents) }
 {}
 
 /// The law of own units: those of a written package of plain objects of one encoding are taken by
@@ -51,9 +44,7 @@ pub fn own_units_are_taken()
     ensures { (state : State) (encoding : Encoding) (file : Object) → IsOwn state encoding file
         → (made : InProgress) → state.begun ≡ Some made → IsPlain encoding made
         → (indexes : Indexes) → indexes_of (written_object file) encoding ≡ Ok indexes
-        → (before : InProgress) (parts : Contents) (after : List (List ℕ)) → IsTable before.strings
-        → parts_of (own_source file encoding indexes) before.strings ≡ Ok (parts, after)
-        → UnlessForeseen (new_units (adding (own_source file encoding indexes) before parts)) }
+        → AreUnitsTaken (own_source file encoding indexes) }
 {}
 
 /// The law of own packages: where `packs_again` is true of a builder, and its package is finished

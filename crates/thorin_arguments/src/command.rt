@@ -63,8 +63,8 @@ enum Word {
     FlagAlone(&'static str, &'static str, &'static [&'static str]),
     /// An option with any value: its name, how help shows the value, its help.
     Value(&'static str, &'static str, &'static str),
-    /// The same, beside which another can't stand: its name, how help shows the value, its help, the
-    /// others.
+    /// The same, beside which another can't stand: its name, how help shows the value, its help,
+    /// the others.
     Alone(&'static str, &'static str, &'static str, &'static [&'static str]),
     /// An option with a value, as often as one likes: its name, how help shows the value, its help.
     Values(&'static str, &'static str, &'static str),
@@ -240,7 +240,8 @@ const LLVM: [Word; 1] = [Word::MayChoose(
     &["continue", "soft-stop"],
 )];
 
-/// What `--version` prints behind the program's name: the version, and the commit where one is named.
+/// What `--version` prints behind the program's name: the version, and the commit where one is
+/// named.
 pub(crate) fn version_of(alloc: Global, commit: &str) -> Result<String, AllocError> {
     if commit.is_empty() {
         format!(in alloc; "{VERSION}")
@@ -271,16 +272,12 @@ pub(crate) fn peer<'a>(
     name: &'a str,
     version: &'a str,
 ) -> Result<Command<'a>, AllocError> {
-    match output(alloc).required_unless_present("exec") {
-        Ok(output) => {
-            let command = with_words(alloc, peer_with(alloc, name, version, output), &PEER);
-            if name.starts_with("llvm-") {
-                with_words(alloc, command, &LLVM)
-            } else {
-                command
-            }
-        }
-        Err(e) => Err(e),
+    let output = output(alloc).required_unless_present("exec")?;
+    let command = with_words(alloc, peer_with(alloc, name, version, output), &PEER);
+    if name.starts_with("llvm-") {
+        with_words(alloc, command, &LLVM)
+    } else {
+        command
     }
 }
 
@@ -318,10 +315,7 @@ fn with_subcommand<'a>(
     command: Command<'a>,
     subcommand: Result<Command<'a>, AllocError>,
 ) -> Result<Command<'a>, AllocError> {
-    match subcommand {
-        Ok(subcommand) => command.subcommand(subcommand),
-        Err(e) => Err(e),
-    }
+    command.subcommand(subcommand?)
 }
 
 /// Adds words in order to a command that could be made.

@@ -39,7 +39,6 @@ fn is_version(part: &[u8]) -> bool
 }
 
 /// What stands behind the last of a mark, all where there is none.
-
 fn last_part(text: &[u8], mark: u8) -> &[u8]
     ensures { result.now ≡ spec.last_part mark text.now }
 {
@@ -55,7 +54,6 @@ fn last_part(text: &[u8], mark: u8) -> &[u8]
 }
 
 /// What stands before that mark.
-
 fn before_last(text: &[u8], mark: u8) -> &[u8]
     ensures { result.now ≡ spec.before_last mark text.now }
 {

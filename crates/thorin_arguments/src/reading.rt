@@ -124,8 +124,8 @@ pub trait Commands {
 }
 
 /// Does what a command line asks for, and answers the status. Under the names `dwp` and `llvm-dwp`,
-/// with a target or a version in them too, it takes the command lines of those programs. `commit` is
-/// the one that the program was built from, where that is known, for `--version`.
+/// with a target or a version in them too, it takes the command lines of those programs. `commit`
+/// is the one that the program was built from, where that is known, for `--version`.
 pub fn run<C: Commands>(alloc: Global, words: &[String], commit: &str, commands: &mut C) -> u8 {
     match command::version_of(alloc, commit) {
         Ok(version) => run_as(alloc, words, version.as_str(), commands),
@@ -184,8 +184,8 @@ fn read<'a>(
 ) -> Result<ArgMatches<'a>, Error> {
     let mut command = command_line(alloc, peer, version)?;
     let matches = command.try_get_matches_from_mut(words)?;
-    if let Some(fault) = fault_of_pack(&matches) {
-        return Err(command.error(ErrorKind::ValueValidation, fault)?);
+    if let Some(text) = error_of_pack(&matches) {
+        return Err(command.error(ErrorKind::ValueValidation, text)?);
     }
     if peer.is_some() && lacks_output(&matches) {
         return Err(command.error(ErrorKind::MissingRequiredArgument, NO_OUTPUT)?);
@@ -194,7 +194,7 @@ fn read<'a>(
 }
 
 /// What is wrong with the words of the command `pack` beside what clap tests, if anything is.
-fn fault_of_pack(matches: &ArgMatches<'_>) -> Option<&'static str> {
+fn error_of_pack(matches: &ArgMatches<'_>) -> Option<&'static str> {
     let Some(("pack", matches)) = matches.subcommand() else {
         return None;
     };

@@ -1,12 +1,12 @@
 -- What an input adds that adds no unit, however often it is taken.
 use Rattle.thorin_builder.proofs.Terms
-use Terms.{◌++◌, [], ap, append-nil, append_assoc, AreTaken, arith, begun_of, by-bool, bytes_eq}
-use Terms.{DwarfObject, Encoding, false, front-front, Global, held_units, in_progress_of}
-use Terms.{IndexEntry, inl, InProgress, InProgressDwarfPackage, inr, IsLater, IsTaken, le-ltb}
-use Terms.{length, List, lookup, map, map-append, Meaning, meaning_at, names_in, None, none-some}
-use Terms.{Ok, Option, own_after, own_encoding, part, refl, Remembers, Repeated, rules, same_Some}
-use Terms.{Some, State, String, string_bytes, string_eq, sym, take-length, taken, true≢false}
-use Terms.{units_begun, units_of, with_input, with_more, ℕ, ◌∙◌, ◌∷◌, ◌≡◌, ◌⊎◌}
+use Terms.{[], ap, append-nil, append_assoc, AreTaken, arith, begun_of, by-bool, bytes_eq}
+use Terms.{DwarfObject, Encoding, false, Global, held_units, in_progress_of, IndexEntry, inl}
+use Terms.{InProgress, InProgressDwarfPackage, inr, IsLater, IsTaken, kept_more, le-ltb, length}
+use Terms.{List, lookup, map, map-append, Meaning, meaning_at, names_in, None, none-some, Ok}
+use Terms.{Option, own_after, own_encoding, part, refl, Remembers, Repeated, rules, same_Some, Some}
+use Terms.{State, String, string_bytes, string_eq, sym, take-length, taken, true≢false, units_begun}
+use Terms.{units_of, with_input, with_more, ℕ, ◌++◌, ◌∙◌, ◌∷◌, ◌≡◌, ◌⊎◌}
 use Rattle.thorin_join.proofs.Terms.{is_some, Joins}
 use Rattle.std.proofs.lemmas.Simd.{map-map}
 use Rattle.std.proofs.lemmas.Slice.Eq.{bytes_eq-Decides}
@@ -29,7 +29,7 @@ later-refl made = record {
 later-trans : (a b c : InProgress) → IsLater a b → IsLater b c → IsLater a c
 later-trans a b c h k = record {
   order = k.order ∙ h.order;
-  strings = front-front a.strings b.strings c.strings h.strings k.strings;
+  strings = kept_more a.strings b.strings c.strings h.strings k.strings;
   more = h.more ++ k.more;
   held = k.held ∙ ap (λ l. l ++ k.more) h.held ∙ append_assoc (held_units a) h.more k.more;
 }

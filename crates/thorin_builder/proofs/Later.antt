@@ -1,10 +1,10 @@
 -- What an input adds that adds no unit is the same over more strings, and beside more units.
 use Rattle.thorin_builder.proofs.Terms
-use Terms.{◌+◌, ◌++◌, [], Bool, Contents, DwarfObject, Err, ErrorValue, first, front-front}
-use Terms.{IndexEntry, kept_bytes, length, List, lookup, Met, New, new_units, NewUnit, none_met, Ok}
-use Terms.{Option, or_held, parts_of, Result, rules, same_name, Some, Source, suc, take}
-use Terms.{take-append_seam, take-length, Used, with_each_read, with_each_section, with_first}
-use Terms.{with_section, zero, ℕ, ◌∙◌, ◌∷◌, ◌≡◌}
+use Terms.{[], Bool, Contents, DwarfObject, Err, ErrorValue, first, IndexEntry, kept_bytes}
+use Terms.{kept_more, length, List, lookup, Met, New, new_units, NewUnit, none_met, Ok, Option}
+use Terms.{or_held, parts_of, Result, rules, same_name, Some, Source, suc, take, take-append_seam}
+use Terms.{take-length, Used, with_each_read, with_each_section, with_first, with_section, zero, ℕ}
+use Terms.{◌++◌, ◌+◌, ◌∙◌, ◌∷◌, ◌≡◌}
 use Rattle.thorin_join.proofs.Terms as Joined
 use Joined.{◌>>=◌, Adding, Contribution, entry_count, name_for, packaged_offsets, ReadError}
 use Joined.{remapped, rewritten, slice_range, Str, unit_section, UnitSection}
@@ -12,7 +12,7 @@ use Joined.{with_each_part, with_offsets, with_part, with_string, with_unit}
 use Rattle.std.proofs.lemmas.Bool.{cond-true}
 use Rattle.std.proofs.lemmas.Grind.{length_at_push}
 use Rattle.thorin_strings.specs.StringOffsets.{remapped_entry, remapped_entries}
-use Rattle.thorin_packaged.specs.PackagedOffsets.{offset_ranges, rewritten_from}
+use Rattle.thorin_package_input.specs.PackagedOffsets.{offset_ranges, rewritten_from}
 use Rattle.dwp_strings.specs.Strings.{offset_of}
 use Rattle.dwp_strings.proofs.Named.{there_later, there_once_used}
 use Rattle.dwp_dwarf.specs.Units.{Unit as Header}
@@ -45,7 +45,7 @@ module _ (later : Strings) (source : Source) where
       let there = there_later (with_string before string) later string front used.0 in
       let on : take (length before) (with_string before string) ≡ before =
       grind (rules, take-length before, take-append_seam before (string ∷ [])) in (
-        front-front before (with_string before string) later on front,
+        kept_more before (with_string before string) later on front,
         cond-true _ _ _ there.0,
         there.1 ∙ used.1,
       )

@@ -28,7 +28,7 @@ pub use Rattle.thorin_input.specs.Encodings.{common}
 pub use Rattle.thorin_input.specs.Encodings.{one_encoding}
 unfoldable pub use Rattle.thorin_input.specs.Encodings.{file_encoding, own_encoding}
 pub use Rattle.dwp_elf.specs.Growing.{IsGrown}
-unfoldable pub use Rattle.thorin_join.proofs.Terms.{new_units, order_test, with_input}
+unfoldable pub use Rattle.thorin_join.proofs.Terms.{new_units, with_input}
 unfoldable pub use Rattle.thorin_join.proofs.Terms.{with_new_units, with_parts, with_source}
 pub use Rattle.thorin_input.specs.Names.{with_name}
 pub use Rattle.thorin_input.specs.NewUnits.{Met, none_met, or_held}
@@ -36,7 +36,7 @@ unfoldable pub use Rattle.thorin_input.specs.NewUnits.{with_each_read, with_each
 unfoldable pub use Rattle.thorin_input.specs.NewUnits.{with_first, with_section}
 pub use Rattle.thorin_input.specs.UnitView.{new_of}
 pub use Rattle.thorin_input.specs.View.{part}
-pub use Rattle.thorin_join.proofs.Parts.Strings.{front-front}
+pub use Rattle.thorin_strings.proofs.RemapLemmas.{kept_more}
 pub use Rattle.thorin_join.specs.Builder.{IsFinishedState, State, is_missing, names_in, own_after}
 pub use Rattle.thorin_join.specs.Builder.{with_own}
 unfoldable pub use Rattle.thorin_join.specs.Builder.{finish_test, taken, targets_test}

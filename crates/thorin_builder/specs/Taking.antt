@@ -67,7 +67,7 @@ abbrev pub TakesRead : Result (List ℕ) InputError → State → Came → Type 
 TakesRead (Ok bytes) old c = TakesBytes bytes old c
 TakesRead (Err e) old c = (c.outcome ≡ Err (input_error e)) × TakesNothing old c
 
--- the same for the object at a path, of which that may be read
+-- the file of an object was read: what that gave is among what the read may give, and was taken
 pub record TakesFile (offered : Result (List ℕ) IoError
     → Type 0) (old : State) (outcome : Outcome) (new : State) : Type 0 where
   pub read : Result (List ℕ) InputError
@@ -115,7 +115,8 @@ abbrev pub IsUnread : (Result (List ℕ) IoError → Type 0) → MissingReferenc
     → Type 0
 IsUnread offered missing is_unread = IsTrue is_unread → CanBePassedOver offered missing
 
--- what a read of such an object gave was taken, by its path, of which that may be read
+-- the file of an object that an executable refers to was read: what that gave is among what the
+-- read may give, and was taken
 pub record TakesReferredFile (offered : Result (List ℕ) IoError → Type 0) (missing :
     MissingReferencedObjectBehaviour) (old : State) (outcome : Outcome) (new : State) : Type 0 where
   pub read : Result (List ℕ) InputError
@@ -188,22 +189,30 @@ TakesExecutableRead names offer missing (Ok bytes) old c =
 TakesExecutableRead names offer missing (Err e) old c =
     (c.outcome ≡ Err (input_error e)) × TakesNothing old c
 
--- the same for the executable at a path, of which that may be read
-pub record TakesExecutableBy (names : List ℕ → Listed) (offer : List ℕ → Result (List ℕ) IoError
-    → Type 0) (path : List ℕ) (missing : MissingReferencedObjectBehaviour) (old : State)
-    (outcome : Outcome) (new : State) : Type 0 where
+-- how an executable is taken: which units its bytes name, and what is done where one of their
+-- objects can't be read
+pub record Manner : Type 0 where
+  pub names : List ℕ → Listed
+  pub missing : MissingReferencedObjectBehaviour
+
+-- the file of an executable was read: what that gave is among what the read may give, and was taken
+pub record TakesExecutableBy (manner : Manner) (offer : List ℕ → Result (List ℕ) IoError → Type 0)
+    (path : List ℕ) (old : State) (outcome : Outcome) (new : State) : Type 0 where
   pub read : Result (List ℕ) InputError
   pub within : MayRead (offer path) read
   pub accepted : List (List ℕ)
-  pub taken : TakesExecutableRead names offer missing read old (came outcome new accepted)
+  pub taken : TakesExecutableRead manner.names offer manner.missing read old
+      (came outcome new accepted)
 
 -- where a unit that names no object is an error
 abbrev pub TakesExecutable : (offer : List ℕ → Result (List ℕ) IoError → Type 0) → List ℕ
     → MissingReferencedObjectBehaviour → State → Outcome → State → Type 0
-TakesExecutable = TakesExecutableBy skeletons_of
+TakesExecutable offer path missing =
+    TakesExecutableBy (record { names = skeletons_of; missing = missing }) offer path
 
 -- where such a unit is passed over
 abbrev pub TakesExecutableSkippingNameless : (offer : List ℕ → Result (List ℕ) IoError
     → Type 0) → List ℕ
     → MissingReferencedObjectBehaviour → State → Outcome → State → Type 0
-TakesExecutableSkippingNameless = TakesExecutableBy named_skeletons_of
+TakesExecutableSkippingNameless offer path missing =
+    TakesExecutableBy (record { names = named_skeletons_of; missing = missing }) offer path

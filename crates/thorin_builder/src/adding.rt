@@ -5,7 +5,8 @@ ghost use Rattle.std.specs.Prelude.{◌≡◌, Ok, OnErr, OnOk, IfOk};
 ghost use Rattle.dwp_elf_read.specs.View.{elf};
 ghost use Rattle.thorin_errors.specs.Answers.{Gives};
 ghost use Rattle.thorin_join.specs.Builder as spec;
-ghost use Rattle.thorin_input.specs.Encodings.{file_encoding, own_encoding, are_alike};
+ghost use Rattle.thorin_input.specs.Encodings.{encoding_of, file_encoding, own_encoding};
+ghost use Rattle.thorin_input.specs.Encodings.{are_alike};
 ghost use Rattle.thorin_builder.specs.Repeated.{ExtendsBegun};
 ghost use Rattle.thorin_builder.specs.StateView.{in_progress_of, begun_of};
 ghost use Rattle.thorin_input.specs.Used.{input_file_of};
@@ -26,21 +27,46 @@ fn begun_by(alloc: Global, file: &ElfFile<'_>) -> InProgressDwarfPackage
     InProgressDwarfPackage::new(alloc, file.class(), file.machine(), file.endianness())
 }
 
-/// `MixedInputEncodings` where the package has another byte order.
-#[tactic(auto, unfolding(thorin_join::specs::Builder::order_test))]
-fn test_order(in_progress: &Option<InProgressDwarfPackage>, order: Endianness) -> Result<(), Error>
-    ensures { Gives (λ _. tt) result (spec.order_test order (begun_of in_progress.now)) }
+/// The byte order of the package, where one is begun, else that of an input.
+fn order_of(in_progress: &Option<InProgressDwarfPackage>, order: Endianness) -> Endianness
+    ensures { result ≡ spec.order_of (begun_of in_progress.now) order }
 {
     match in_progress {
-        None => Ok(()),
-        Some(package) => {
-            if package.endianness() == order {
-                Ok(())
-            } else {
-                Err(Error::MixedInputEncodings)
-            }
-        }
+        Some(package) => package.endianness(),
+        None => order,
     }
+}
+
+/// `MixedInputEncodings` where an input has another byte order than the package.
+#[tactic(auto, unfolding(thorin_join::specs::Builder::order_test))]
+fn test_order(held: Endianness, order: Endianness) -> Result<(), Error>
+    ensures { Gives (λ _. tt) result (spec.order_test held order) }
+{
+    if held == order {
+        Ok(())
+    } else {
+        Err(Error::MixedInputEncodings)
+    }
+}
+
+/// An input with its encoding and its indexes, for a package of this byte order.
+#[tactic(auto, unfolding(thorin_join::specs::Builder::source_for))]
+pub(crate) fn source_for<'a>(held: Endianness, object: InputObject<'a>) -> Result<Source<'a>, Error>
+    ensures meaning { Gives view.source result
+        (spec.source_for held (view.object object.entry)) }
+    ensures object { IfOk result (λ source.
+        (view.source source).object ≡ view.object object.entry) }
+    ensures encoding { IfOk result (λ source.
+        encoding_of (view.source source).object ≡ Ok source.encoding) }
+{
+    let encoding = object.encoding()?;
+    test_order(held, object.order)?;
+    let indexes = Indexes::read(&object, encoding)?;
+    Ok(Source {
+        object,
+        encoding,
+        indexes,
+    })
 }
 
 /// Adds the units of an input to the package, which it may begin. Gives whether each has its
@@ -86,16 +112,9 @@ fn add_input_with_units(
     ensures extends { OnOk result
         (ExtendsBegun (begun_of in_progress.old) (begun_of in_progress.new)) }
 {
-    let encoding = object.encoding()?;
-    test_order(in_progress, object.order)?;
-    let indexes = Indexes::read(&object, encoding)?;
-    let source = Source {
-        object,
-        encoding,
-        indexes,
-    };
+    let source = source_for(order_of(in_progress, object.order), object)?;
     let alike = add_source(alloc, in_progress, file, &source)?;
-    Ok(source.object.one_encoding(encoding, alike))
+    Ok(source.object.one_encoding(source.encoding, alike))
 }
 
 /// Adds an input: its units that aren't there, with all that belongs to them; without an info

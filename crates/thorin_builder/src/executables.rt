@@ -41,7 +41,8 @@ struct Named<'u> {
 struct Known {
     /// Whether that of the unit before can't be read, and is passed over.
     is_unread: bool,
-    /// What each of those adds, by its path, that adds no unit and no string when it is taken again.
+    /// What each of those adds, by its path, that adds no unit and no string when it is taken
+    /// again.
     taken: IndexMap<String, Repeated>,
 }
 
@@ -145,8 +146,9 @@ impl<'output, 'session: 'output, Sess: Session<RelocationEntry>> DwarfPackage<
         missing: MissingReferencedObjectBehaviour,
         nameless: NamelessUnits,
     ) -> Result<(), Error>
-        ensures taken { TakesExecutableBy (skeletons_by nameless) (R.offer reader.now)
-            (path_bytes path.entry) missing self.old.state result self.new.state }
+        ensures taken { TakesExecutableBy
+            (record { names = skeletons_by nameless; missing = missing }) (R.offer reader.now)
+            (path_bytes path.entry) self.old.state result self.new.state }
         ensures session { self.new.session ≡ self.old.session }
     {
         let mut executable = Vec::new(self.allocator());
@@ -219,7 +221,8 @@ impl<'output, 'session: 'output, Sess: Session<RelocationEntry>> DwarfPackage<
         ensures taken { (accepted : List (List ℕ)) × TakesSkeleton (R.offer reader.now) missing
             (named.entry.target, named.entry.path.now) self.old.state
             (came result self.new.state accepted) }
-        ensures unread { IsUnread (R.offer reader.now named.entry.path.now) missing known.new.is_unread }
+        ensures unread { IsUnread (R.offer reader.now named.entry.path.now) missing
+            known.new.is_unread }
         ensures known { OnOk result (AreTaken (R.offer reader.now) known.new.taken.entries
             self.new.state.begun) }
         ensures session { self.new.session ≡ self.old.session }
@@ -268,13 +271,14 @@ impl<'output, 'session: 'output, Sess: Session<RelocationEntry>> DwarfPackage<
             self.old.state.begun }
         ensures taken { TakesReferredFile (R.offer reader.now named.entry.path.now) missing
             self.old.state result self.new.state }
-        ensures unread { IsUnread (R.offer reader.now named.entry.path.now) missing known.new.is_unread }
+        ensures unread { IsUnread (R.offer reader.now named.entry.path.now) missing
+            known.new.is_unread }
         ensures known { OnOk result (AreTaken (R.offer reader.now) known.new.taken.entries
             self.new.state.begun) }
         ensures session { self.new.session ≡ self.old.session }
     {
         match reader.read_into(Path::new(named.path), room) {
-            Ok(bytes) => self.add_read(bytes, named, &mut known.taken),
+            Ok(bytes) => self.add_and_remember(bytes, named, &mut known.taken),
             Err(InputError::Io(e)) => match missing {
                 MissingReferencedObjectBehaviour::Skip => {
                     known.is_unread = true;
@@ -288,7 +292,7 @@ impl<'output, 'session: 'output, Sess: Session<RelocationEntry>> DwarfPackage<
 
     /// Adds an object that was read. Where it lacks the unit for which it was read, other units may
     /// name it too, so it is remembered what it adds, if that is no unit and no string.
-    fn add_read(
+    fn add_and_remember(
         &mut self,
         bytes: &[u8],
         named: Named<'_>,
@@ -297,8 +301,8 @@ impl<'output, 'session: 'output, Sess: Session<RelocationEntry>> DwarfPackage<
         ensures takes { Takes bytes.now self.old.state result self.new.state }
         ensures later { OnOk result
             (IsLaterBegun self.old.state.begun self.new.state.begun) }
-        ensures remembers { OnOk result (Remembers bytes.now self.new.state.begun named.entry.path.now
-            taken.old.entries taken.new.entries) }
+        ensures remembers { OnOk result (Remembers bytes.now self.new.state.begun
+            named.entry.path.now taken.old.entries taken.new.entries) }
         ensures session { self.new.session ≡ self.old.session }
     {
         self.add_bytes(bytes)?;

@@ -45,13 +45,9 @@ impl Iterator for MissingTargets<'_> {
     ghost remaining = { item_count missing_left };
 
     fn next(&mut self) -> Option<DwarfObject> {
-        match first_missing(self.contained, self.targets, self.next) {
-            Some((target, next)) => {
-                self.next = next;
-                Some(target)
-            }
-            None => None,
-        }
+        let (target, next) = first_missing(self.contained, self.targets, self.next)?;
+        self.next = next;
+        Some(target)
     }
 }
 

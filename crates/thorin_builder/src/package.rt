@@ -206,7 +206,7 @@ impl<'output, 'session: 'output, Sess: Session<RelocationEntry>> DwarfPackage<
         one_encoding_is_kept();
         plain_packages_are_kept();
         if let Some(package) = &mut self.in_progress {
-            package.add_again(again)?;
+            package.add_repeated(again)?;
             self.own = None;
         }
         Ok(())
@@ -305,7 +305,7 @@ impl<'output, 'session: 'output, Sess: Session<RelocationEntry>> DwarfPackage<
         own_packages_are_accepted_by_a_new_one();
         let tested = test_targets(contained, &targets);
         match (tested, in_progress) {
-            (Ok(()), Some(package)) => package.finish(),
+            (Ok(()), Some(package)) => package.into_finished(),
             (Ok(()), None) => (Err(Error::NoOutputObjectCreated), Vec::new(alloc)),
             (Err(e), Some(package)) => (Err(e), package.into_differing()),
             (Err(e), None) => (Err(e), Vec::new(alloc)),
@@ -331,7 +331,7 @@ impl<'output, 'session: 'output, Sess: Session<RelocationEntry>> DwarfPackage<
         ensures { map (λ s. s.0) result.now ≡ spec.differing_in self.now.state }
     {
         match &self.in_progress {
-            Some(package) => package.differing_types(),
+            Some(package) => package.differing(),
             None => &[],
         }
     }

@@ -1,5 +1,5 @@
-//! What an object adds each time that it is taken, where that is no unit and no string: an executable
-//! may name it for many units.
+//! What an object adds each time that it is taken, where that is no unit and no string: an
+//! executable may name it for many units.
 
 ghost use Rattle.std.specs.Prelude.{◌≡◌, map, Some, OnOk, OnErr, IfOk, IfErr, IfSome};
 ghost use Rattle.dwp_elf.specs.FileText.{Object};
@@ -10,6 +10,7 @@ ghost use Rattle.thorin_builder.specs.Repeated.{AddsAgain, AddsNoUnit, with_more
 ghost use Rattle.thorin_builder.specs.StateView.{in_progress_of};
 ghost use Rattle.thorin_join.specs.State as spec;
 
+use crate::adding::source_for;
 use crate::in_progress::InProgressDwarfPackage;
 use crate::reader::Repetition;
 use dwp_elf::WritableObject;
@@ -17,9 +18,7 @@ use dwp_table::DebugTypeSignature;
 use std::alloc::Global;
 use std::path::Path;
 use thorin_errors::Error;
-use thorin_input::{
-    Adding, Indexes, NewUnits, Part, PartBytes, Source, Walked, Whole, opened, parts_of,
-};
+use thorin_input::{Part, PartBytes, Source, Walked, opened, parts_of};
 
 /// What an input adds to a package each time that it is taken, where that is no unit and no string:
 /// parts of sections, and the signatures of its type units that differ from those kept.
@@ -92,16 +91,8 @@ impl InProgressDwarfPackage {
             }));
         }
         let object = walked.input?;
-        let encoding = object.encoding()?;
-        if object.order != self.endianness() {
-            return Ok(None);
-        }
-        let indexes = Indexes::read(&object, encoding)?;
-        self.source_adds_again(&Source {
-            object,
-            encoding,
-            indexes,
-        })
+        let source = source_for(self.endianness(), object)?;
+        self.source_adds_again(&source)
     }
 
     /// The same of an input whose sections, encoding and indexes are known.
@@ -128,14 +119,7 @@ impl InProgressDwarfPackage {
         if self.strings.len() != strings || !source.object.has_abbreviations {
             return Ok(None);
         }
-        let whole = Whole::of(source.encoding, &self.object, &parts)?;
-        let held = self.held();
-        let adding = Adding {
-            source,
-            whole,
-            held,
-        };
-        let new = NewUnits::read(alloc, &adding)?;
+        let new = self.new_units(source, &parts)?;
         if !new.units.is_empty() {
             return Ok(None);
         }
@@ -147,7 +131,7 @@ impl InProgressDwarfPackage {
 
     /// Adds what an input adds that adds no unit and no string. An `Err` leaves the package as it
     /// was; it is for memory alone.
-    pub(crate) fn add_again(&mut self, again: &Repeated) -> Result<(), Error>
+    pub(crate) fn add_repeated(&mut self, again: &Repeated) -> Result<(), Error>
         ensures added { OnOk result (in_progress_of self.new
             ≡ with_more (map view.part again.now.parts.items)
             (map (λ s. s.0) again.now.differing.items) (in_progress_of self.old)) }
@@ -157,7 +141,7 @@ impl InProgressDwarfPackage {
         ensures err { OnErr result (in_progress_of self.new ≡ in_progress_of self.old) }
     {
         let mark = self.mark()?;
-        let added = self.try_add_again(again);
+        let added = self.try_add_repeated(again);
         if added.is_err() {
             self.restore(&mark);
         }
@@ -165,7 +149,7 @@ impl InProgressDwarfPackage {
     }
 
     /// The same, but an `Err` may leave more than there was.
-    fn try_add_again(&mut self, again: &Repeated) -> Result<(), Error>
+    fn try_add_repeated(&mut self, again: &Repeated) -> Result<(), Error>
         ensures added { OnOk result (in_progress_of self.new
             ≡ with_more (map view.part again.now.parts.items)
             (map (λ s. s.0) again.now.differing.items) (in_progress_of self.old)) }

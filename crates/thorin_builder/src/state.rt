@@ -1,7 +1,7 @@
 //! A package while it is made: adding a source's units, taking them back, and finishing with
 //! strings and indexes.
 
-ghost use Rattle.std.specs.Prelude.{◌≡◌, ◌≢◌, ℕ, ◌<◌, ◌^◌, List, map, length, take, Some};
+ghost use Rattle.std.specs.Prelude.{◌≡◌, ◌≢◌, ℕ, ◌<◌, ◌^◌, List, map, take, Some};
 ghost use Rattle.std.specs.Prelude.{IfOk, IfErr, OnOk, OnErr, true, false};
 ghost use Rattle.dwp_table.specs.Objects.{identifier_of};
 ghost use Rattle.thorin_errors.specs.Answers.{Gives};
@@ -11,6 +11,7 @@ ghost use Rattle.dwp_strings.specs.Marks.{mark_of};
 ghost use Rattle.thorin_join.specs.Builder.{IsFinished, indexes_test, IdentifiersFit};
 ghost use Rattle.thorin_input.specs.Encodings.{are_alike};
 ghost use Rattle.thorin_input.specs.Names.{is_compilation};
+ghost use Rattle.thorin_input.specs.NewUnits.{new_units};
 ghost use Rattle.thorin_again.specs.Own.{has_sections};
 ghost use Rattle.thorin_join.specs.State as spec;
 ghost use Rattle.thorin_builder.specs.RowsByIndex.{is_of_compilations, rows_in};
@@ -28,7 +29,7 @@ use indexmap::IndexSet;
 use std::alloc::Global;
 use thorin_errors::Error;
 use thorin_index::{IndexEntry, IndexRows, write_rows};
-use thorin_input::{Adding, Held, NewUnits, Source, Whole, parts_of, put_parts};
+use thorin_input::{Adding, Held, NewUnits, Part, Source, Whole, parts_of, put_parts};
 use thorin_strings::{PackageStringTable, TableMark};
 
 /// How much of a package there was, to go back to.
@@ -76,7 +77,7 @@ impl InProgressDwarfPackage {
     }
 
     /// The signatures of type units that were passed over and differ from those that are kept.
-    pub(crate) fn differing_types(&self) -> &[DebugTypeSignature]
+    pub(crate) fn differing(&self) -> &[DebugTypeSignature]
         ensures { map (λ s. s.0) result.now ≡ (in_progress_of self.now).differing }
     {
         &self.differing
@@ -99,7 +100,7 @@ impl InProgressDwarfPackage {
     }
 
     /// What it has, for the units of an input to be added to.
-    pub(crate) fn held(&self) -> Held<'_>
+    fn held(&self) -> Held<'_>
         ensures { held_in result ≡ spec.held_units (in_progress_of self.now) }
     {
         Held {
@@ -107,6 +108,27 @@ impl InProgressDwarfPackage {
             names: &self.names,
             rows: &self.rows,
         }
+    }
+
+    /// The units that an input of these parts adds, or the first error of the parts' places and of
+    /// the units. The package stays as it is.
+    pub(crate) fn new_units<'a>(
+        &self,
+        source: &Source<'a>,
+        parts: &[Part<'_>],
+    ) -> Result<NewUnits<'a>, Error>
+        ensures meaning { Gives new_of result (new_units (spec.adding (view.source source.now)
+            (in_progress_of self.now) (map view.part parts.now))) }
+        ensures alike { IfOk result (λ new. new.alike ≡ are_alike (view.source source.now)) }
+    {
+        let whole = Whole::of(source.encoding, &self.object, parts)?;
+        let held = self.held();
+        let adding = Adding {
+            source,
+            whole,
+            held,
+        };
+        NewUnits::read(self.alloc, &adding)
     }
 
     /// Adds the units of an input with all that belongs to them. Gives whether each of its units,
@@ -141,14 +163,7 @@ impl InProgressDwarfPackage {
         if !source.object.has_abbreviations {
             return Err(Error::MissingRequiredSection(SectionKind::Abbrev.name()));
         }
-        let whole = Whole::of(source.encoding, &self.object, &parts)?;
-        let held = self.held();
-        let adding = Adding {
-            source,
-            whole,
-            held,
-        };
-        let new = NewUnits::read(alloc, &adding)?;
+        let new = self.new_units(source, &parts)?;
         put_parts(&mut self.object, parts)?;
         self.differing.extend_from_slice(&new.differing)?;
         self.append_units(&new)?;
@@ -209,7 +224,8 @@ impl InProgressDwarfPackage {
 
     /// How much of the package there is. It refuses for memory alone.
     pub(crate) fn mark(&self) -> Result<Mark, Error>
-        ensures mark { IfOk result (λ mark. amount_in mark ≡ spec.amount_of (in_progress_of self.now)) }
+        ensures mark { IfOk result (λ mark.
+            amount_in mark ≡ spec.amount_of (in_progress_of self.now)) }
         ensures strings { IfOk result (λ mark. mark.strings ≡ mark_of self.now.strings) }
         ensures refused { IfErr result (λ e. e ≡ Error.Memory) }
     {
@@ -235,8 +251,9 @@ impl InProgressDwarfPackage {
     }
 
     /// The sections with the strings and both indexes, each where it isn't empty, and the
-    /// signatures of type units that differ. The sections are refused where `write_rows` refuses rows.
-    pub(crate) fn finish(self) -> (Result<WritableObject, Error>, Vec<DebugTypeSignature>)
+    /// signatures of type units that differ. The sections are refused where `write_rows` refuses
+    /// rows.
+    pub(crate) fn into_finished(self) -> (Result<WritableObject, Error>, Vec<DebugTypeSignature>)
         ensures refusal { Gives (λ _. tt) result.0 (indexes_test (in_progress_of self)) }
         ensures finished { IfOk result.0 (IsFinished (in_progress_of self)) }
         ensures identifiers { OnOk result.0 (IdentifiersFit self.rows) }
@@ -326,8 +343,8 @@ fn are_all(rows: &IndexRows, index: Index) -> bool
     ensures some { result ≡ false → rows_in index rows.now ≢ rows.now }
     ensures identifiers { result ≡ true → IdentifiersFit rows.now }
 {
-    for place in 0..rows.len() {
-        if index_with(rows.unit(place)) != index {
+    for position in 0..rows.len() {
+        if index_with(rows.unit(position)) != index {
             return false;
         }
     }
@@ -341,9 +358,9 @@ fn rows_in(alloc: Global, rows: &IndexRows, index: Index) -> Result<IndexRows, E
     ensures refused { IfErr result (λ e. e ≡ Error.Memory) }
 {
     let mut chosen = IndexRows::new(alloc);
-    for place in 0..rows.len() {
-        if index_with(rows.unit(place)) == index {
-            chosen.push(&rows.entry(place))?;
+    for position in 0..rows.len() {
+        if index_with(rows.unit(position)) == index {
+            chosen.push(&rows.entry(position))?;
         }
     }
     Ok(chosen)

@@ -16,11 +16,12 @@ use Rattle.dwp_base.specs.declared.section.SectionKind.{SectionKind}
 use Rattle.dwp_elf_read.specs.Elf.{Elf, SectionMeaning, elf_of, sections_from, section_of}
 use Rattle.dwp_elf_read.specs.Elf.{section_count, named_count, name_table, section_content}
 use Rattle.dwp_elf_read.specs.Elf.{SHT_NOBITS, section_header_at, has_compressed_flag}
+use Rattle.dwp_elf_read.specs.Elf.{has_older_name}
 use Rattle.dwp_elf_read.specs.Identification.{identity_of}
 use Rattle.dwp_elf_read.specs.Layout.{word_size, entry_size, file_header_of, is_inside, number_at}
 use Rattle.dwp_elf_read.specs.Layout.{section_header_of}
 use Rattle.dwp_elf_read.specs.declared.error.ReadError.TheVariants.{SectionRange}
-use Rattle.dwp_index.specs.Contents.{is_of_kind, has_older_name, used_bytes}
+use Rattle.dwp_index.specs.Contents.{is_of_kind, used_bytes}
 use Rattle.thorin_c.specs.Headers.{table_in, offset_in}
 use Rattle.thorin_c.specs.Opening.{bytes_at}
 use Rattle.dwp_base.proofs.Steps.{bind-was, same-ok}

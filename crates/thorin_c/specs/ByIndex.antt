@@ -1,5 +1,7 @@
--- Looking up in an index alone: the row of an identifier, before its ranges are looked at.
-use Rattle.std.specs.Prelude.{ℕ, ℤ, Option, Some, None, Result, Ok}
+-- Looking up step by step: the row of an identifier in an index, then its ranges, then the encoding
+-- in its unit's header.
+use Rattle.std.specs.Prelude.{ℕ, ℤ, pos, Option, Some, None, is_some, Result, Ok, Err}
+use Rattle.std.specs.Prelude.{if◌then◌else◌}
 use Rattle.dwp_base.specs.Reading.{◌>>=◌}
 use Rattle.dwp_table.specs.Objects.{identifier_of}
 use Rattle.dwp_table.specs.Probing.{found_row, look_count}
@@ -10,10 +12,10 @@ use Rattle.dwp_bytes.specs.declared.error.ReadError.{ReadError}
 use Rattle.dwp_base.specs.declared.section.SectionKind.TheVariants as kinds
 use Rattle.dwp_index.specs.Index.{Index, Ranges, row_in, range_in}
 use Rattle.dwp_index.specs.Package.{Package, as_error, index_for, row_inside, row_bytes, place_of}
-use Rattle.dwp_index.specs.Package.{kind_of, encoding_in}
+use Rattle.dwp_index.specs.Package.{first_outside, kind_of, encoding_in}
 use Rattle.dwp_index.specs.declared.error.PackageError.{PackageError}
 use Rattle.dwp_index.specs.declared.error.PackageError.TheVariants as errors
-use Rattle.thorin_c.specs.Finding.{as_status, present, row_of}
+use Rattle.thorin_c.specs.Finding.{object_of, as_status, present, row_of}
 use Rattle.thorin_c.specs.declared.types.ThorinUnit.{ThorinUnit}
 
 -- the row of a number, with its number and how many slots were looked at
@@ -29,9 +31,14 @@ row_named object (Some index) =
     row_numbered index (found_row index.signatures index.rows (identifier_of object))
     (look_count index.signatures index.rows (identifier_of object))
 
--- the same as the exports tell it; status 1 where the index has no such unit
-abbrev pub row_present : Package → DwarfObject → Result ((ℕ × Ranges) × ℕ) ℤ
-row_present pack object = as_status (row_named object (index_for pack object)) >>= present
+-- the row of a name as the exports tell it, behind the identifier that is asked for: status 1 where
+-- the index has no such unit, 5 where a range of the row isn't inside its section
+unfoldable pub row_asked : Package → ℕ → ℕ → Result (DwarfObject × ((ℕ × Ranges) × ℕ)) ℤ
+row_asked pack kind id = do
+  object ← object_of kind id
+  named ← as_status (row_named object (index_for pack object))
+  row ← present named
+  if is_some (first_outside pack.contents row.0.1) then Err (pos 5) else Ok (object, row)
 
 -- a row that was found, whose ranges lie inside their sections
 abbrev pub inside : Package → Option (ℕ × Ranges) × ℕ

@@ -6,6 +6,7 @@ use Rattle.dwp_base.specs.declared.section.SectionKind.{SectionKind}
 use Rattle.dwp_base.specs.declared.section.SectionKind.TheVariants as kinds
 use Rattle.dwp_base.specs.declared.section.Contribution.{Contribution}
 use Rattle.dwp_bytes.specs.Encoding.{offset_size}
+use Rattle.dwp_bytes.specs.StringOffsets.{string_in}
 use Rattle.dwp_bytes.specs.declared.error.ReadError.{ReadError}
 use Rattle.dwp_table.specs.Columns.{contribution_kinds}
 use Rattle.dwp_table.specs.declared.object.DwarfObject.{DwarfObject}
@@ -13,7 +14,6 @@ use Rattle.dwp_table.specs.declared.object.DwarfObject.TheVariants.{Compilation,
 use Rattle.dwp_index.specs.Contents.{content}
 use Rattle.dwp_index.specs.Index.{Ranges, range_in}
 use Rattle.dwp_index.specs.Package.{Package, FoundUnit, found_counted, row_counted, row_bytes}
-use Rattle.dwp_index.specs.Strings.{string_in}
 use Rattle.dwp_index.specs.declared.error.PackageError.{PackageError}
 use Rattle.dwp_index.specs.declared.error.PackageError.TheVariants as errors
 use Rattle.thorin_c.specs.declared.types.ThorinLookup.{ThorinLookup}

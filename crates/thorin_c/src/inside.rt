@@ -15,7 +15,7 @@ ghost use Rattle.thorin_c.specs.Opening.{package_in, order_of};
 use crate::finding::{object_of, section_of, write_row};
 use crate::listing::list;
 use crate::opened::{Opened, order_of};
-use crate::status::{ABSENT, DONE, MALFORMED_STRING, NO_SUCH_STRING, RANGE_OUTSIDE, status_of};
+use crate::status::{ABSENT, DONE, MALFORMED_STRING, NO_SUCH_STRING, status_of};
 use crate::types::{ThorinBytes, ThorinName, ThorinPackage, ThorinUnit};
 use crate::unit::Found;
 use dwp_base::Endianness;
@@ -134,6 +134,7 @@ pub extern "C" fn thorin_list_in(
 
 /// `thorin_find_in` where numbers have their lowest byte first: all that it calls is compiled into
 /// it.
+#[tactic(auto, using(crate::proofs::RowsTold::unit_is_told))]
 fn find_unit(places: &ThorinPackage, bytes: &[u8], kind: u8, id: u64, found: &mut ThorinUnit) -> i32
     requires { order_of places.now.big_endian ≡ orders.Little }
     ensures { Fills (λ unit. unit) (unit_found (as_status (package_in places.now bytes.now)) kind
@@ -143,17 +144,10 @@ fn find_unit(places: &ThorinPackage, bytes: &[u8], kind: u8, id: u64, found: &mu
         Ok(pack) => pack,
         Err(error) => return status_of(error),
     };
-    let object = match object_of(kind, id) {
-        Ok(object) => object,
+    let (object, ((number, row), slots)) = match pack.row_asked(kind, id) {
+        Ok(asked) => asked,
         Err(status) => return status,
     };
-    let ((number, row), slots) = match pack.row_present(object) {
-        Ok(present) => present,
-        Err(status) => return status,
-    };
-    if pack.is_outside(&row) {
-        return RANGE_OUTSIDE;
-    }
     match pack.row_encoding(object, &row) {
         Ok(encoding) => {
             write_row(&row, number, slots, found);
@@ -164,8 +158,8 @@ fn find_unit(places: &ThorinPackage, bytes: &[u8], kind: u8, id: u64, found: &mu
     }
 }
 
-/// `thorin_find_row_in` where numbers have their lowest byte first: all that it calls is compiled into
-/// it.
+/// `thorin_find_row_in` where numbers have their lowest byte first, in the same way.
+#[tactic(auto, using(crate::proofs::RowsTold::row_is_told))]
 fn find_row(places: &ThorinPackage, bytes: &[u8], kind: u8, id: u64, found: &mut ThorinUnit) -> i32
     requires { order_of places.now.big_endian ≡ orders.Little }
     ensures { Fills (λ unit. unit) (row_found_in (as_status (package_in places.now bytes.now)) kind
@@ -175,17 +169,10 @@ fn find_row(places: &ThorinPackage, bytes: &[u8], kind: u8, id: u64, found: &mut
         Ok(pack) => pack,
         Err(error) => return status_of(error),
     };
-    let object = match object_of(kind, id) {
-        Ok(object) => object,
+    let (_, ((number, row), slots)) = match pack.row_asked(kind, id) {
+        Ok(asked) => asked,
         Err(status) => return status,
     };
-    let ((number, row), slots) = match pack.row_present(object) {
-        Ok(present) => present,
-        Err(status) => return status,
-    };
-    if pack.is_outside(&row) {
-        return RANGE_OUTSIDE;
-    }
     write_row(&row, number, slots, found);
     DONE
 }

@@ -1,25 +1,24 @@
 //! A package that is open: looking its units and rows up by identifier or slot.
 
-ghost use Rattle.std.specs.Prelude.{◌≡◌, is_some};
+ghost use Rattle.std.specs.Prelude.{◌≡◌};
 ghost use Rattle.std.specs.Option.{option_copied};
 ghost use Rattle.dwp_base.specs.Reading.{Answers};
 ghost use Rattle.dwp_index.specs.Entries.{units_left, entries_from};
-ghost use Rattle.dwp_index.specs.Index.{row_in};
-ghost use Rattle.dwp_index.specs.Package.{as_error, index_in_section, index_for, unit_in};
-ghost use Rattle.dwp_index.specs.Package.{encoding_in, found_counted, row_inside, row_counted};
-ghost use Rattle.dwp_index.specs.Package.{first_outside};
+ghost use Rattle.dwp_index.specs.Package.{as_error, index_for, unit_in, encoding_in};
+ghost use Rattle.dwp_index.specs.Package.{found_counted, row_inside, row_counted};
 ghost use Rattle.dwp_index.specs.declared.error.PackageError.TheVariants as errors;
-ghost use Rattle.thorin_c.specs.ByIndex.{row_named, row_present, row_encoding};
+ghost use Rattle.thorin_c.specs.ByIndex.{row_named, row_asked, row_encoding};
 ghost use Rattle.thorin_c.specs.Opening.{package_in, order_of};
 
+use crate::finding::object_of;
 use crate::sections::PlacedSections;
-use crate::status::{ABSENT, status_of};
+use crate::status::{ABSENT, RANGE_OUTSIDE, status_of};
 use crate::types::ThorinPackage;
-use crate::unit::{Found, encoding_in, kind_of, place_of};
+use crate::unit::{Found, encoding_of};
 use dwp_base::{Endianness, SectionKind};
 use dwp_bytes::Encoding;
 use dwp_dwarf::UnitSection;
-use dwp_index::{PackageError, Row, UnitIndex, Units};
+use dwp_index::{PackageError, Row, UnitIndex, Units, kind_of, place_of, read_index, read_row};
 use dwp_table::{Bucketable, DwarfObject};
 use std::marker::Model;
 
@@ -106,27 +105,31 @@ impl<'p, 'a> Opened<'p, 'a> {
         Units::new(self.compilations.as_ref(), self.types.as_ref())
     }
 
-    /// The row of an identifier in the index of its kind, with its number, and how many slots were
-    /// looked at; or the status. Its ranges aren't looked at.
+    /// The row of a name in the index of its kind, with its number and how many slots were looked
+    /// at, behind the identifier that is asked for; or the status. Its ranges lie inside their
+    /// sections.
+    #[tactic(auto, unfolding(crate::specs::ByIndex::row_asked))]
     #[inline(always)]
-    pub(crate) fn row_present(&self, object: DwarfObject) -> Result<((u32, Row<'a>), u32), i32>
-        ensures { Answers (λ x. x) result (row_present self.now object) }
+    pub(crate) fn row_asked(
+        &self,
+        kind: u8,
+        id: u64,
+    ) -> Result<(DwarfObject, ((u32, Row<'a>), u32)), i32>
+        ensures { Answers (λ x. x) result (row_asked self.now kind id) }
     {
+        let object = object_of(kind, id)?;
         match self.row_named(object) {
             Ok((found, count)) => match found {
                 None => Err(ABSENT),
-                Some((number, row)) => Ok(((number, row), count)),
+                Some((number, row)) => {
+                    if self.sections.first_outside(&row).is_some() {
+                        return Err(RANGE_OUTSIDE);
+                    }
+                    Ok((object, ((number, row), count)))
+                }
             },
             Err(error) => Err(status_of(error)),
         }
-    }
-
-    /// Whether a range of a row isn't inside its section.
-    #[inline(always)]
-    pub(crate) fn is_outside(&self, row: &Row<'a>) -> bool
-        ensures { result ≡ is_some (first_outside self.now.contents row.now) }
-    {
-        self.sections.first_outside(row).is_some()
     }
 
     /// The encoding of the unit of a row.
@@ -228,31 +231,6 @@ pub(crate) fn order_of(big_endian: u64) -> Endianness
     }
 }
 
-/// The index in a section's content; none in an empty one.
-#[tactic(auto, unfolding(dwp_index::specs::Package::index_in_section))]
-#[inline(always)]
-fn read_index<'a>(bytes: &'a [u8], order: Endianness) -> Result<Option<UnitIndex<'a>>, PackageError>
-    ensures { Answers (λ x. x) result (index_in_section order bytes.now) }
-{
-    if bytes.is_empty() {
-        return Ok(None);
-    }
-    match UnitIndex::parse(bytes, order) {
-        Ok(index) => Ok(Some(index)),
-        Err(e) => Err(PackageError::Index(e)),
-    }
-}
-
-#[inline(always)]
-fn read_row<'a>(index: &UnitIndex<'a>, number: u32) -> Result<Row<'a>, PackageError>
-    ensures { Answers (λ x. x) result (as_error errors.Index (row_in index.now number)) }
-{
-    match index.row(number) {
-        Ok(row) => Ok(row),
-        Err(e) => Err(PackageError::Index(e)),
-    }
-}
-
 #[inline(always)]
 fn read_encoding(
     bytes: &[u8],
@@ -261,7 +239,7 @@ fn read_encoding(
 ) -> Result<Encoding, PackageError>
     ensures { Answers (λ x. x) result (as_error errors.Unit (encoding_in order place bytes.now)) }
 {
-    match encoding_in(bytes, order, place) {
+    match encoding_of(bytes, order, place) {
         Ok(encoding) => Ok(encoding),
         Err(e) => Err(PackageError::Unit(e)),
     }

@@ -1,11 +1,11 @@
 //! Where the sections of a package lie among its bytes.
 
-ghost use Rattle.std.specs.Prelude.{◌≡◌, pos, Ok, Some, IsTrue, IfOk, slice_get};
+ghost use Rattle.std.specs.Prelude.{◌≡◌, pos, Ok, Some, IsTrue, IfOk, IfSome, find, slice_get};
 ghost use Rattle.dwp_base.specs.Reading.{Answers};
 ghost use Rattle.dwp_elf_read.specs.Elf.{elf_of};
 ghost use Rattle.dwp_elf_read.specs.View.{elf, section};
-ghost use Rattle.dwp_index.specs.Contents.{is_of_kind, has_older_name, used_bytes, content_among};
-ghost use Rattle.dwp_index.specs.Contents.{contents_of};
+ghost use Rattle.dwp_index.specs.Contents.{is_of_kind, used_bytes, content_among, contents_of};
+ghost use Rattle.dwp_index.specs.Firsts.{first_in, found_in};
 ghost use Rattle.dwp_index.specs.Package.{as_error, package_of};
 ghost use Rattle.dwp_index.specs.declared.error.PackageError.TheVariants as errors;
 ghost use Rattle.thorin_c.specs.Opening.{bytes_at, order_of, sections_at, package_in, opened};
@@ -17,9 +17,9 @@ use crate::opened::{Opened, order_of};
 use crate::sections::is_inside;
 use crate::status::{DONE, status_of};
 use crate::types::{ThorinPackage, ThorinRange};
-use dwp_base::{Endianness, SectionKind};
+use dwp_base::{ByKind, Endianness, SectionKind};
 use dwp_elf_read::{ElfFile, ReadError, Section};
-use dwp_index::{PackageError, section_of_kind};
+use dwp_index::{PackageError, first_sections};
 
 /// The place of a section that isn't there.
 const NOWHERE: ThorinRange = ThorinRange { offset: 0, size: 0 };
@@ -89,9 +89,10 @@ fn section_places(file: &ElfFile<'_>, bytes: &[u8]) -> Result<ThorinPackage, Rea
     ensures order { IfOk result (λ places. order_of places.big_endian ≡ (elf file.now).order) }
     ensures inside { IfOk result (LieIn bytes.now) }
 {
+    let firsts = first_sections(file);
     let mut sections = [NOWHERE; 13];
     for kind in &SectionKind::ALL {
-        match place(file, bytes, *kind) {
+        match place(file, bytes, &firsts, *kind) {
             Ok(found) => sections[kind.rank() as usize] = found,
             Err(e) => return Err(e),
         }
@@ -112,15 +113,25 @@ fn number_of(order: Endianness) -> u64
     }
 }
 
-/// The place of the first section of a kind that has bytes; of no bytes where there is none.
+/// The place of the section of a kind that was met first; of no bytes where there is none.
 #[tactic(auto, unfolding(dwp_index::specs::Contents::content_among))]
-fn place(file: &ElfFile<'_>, bytes: &[u8], kind: SectionKind) -> Result<ThorinRange, ReadError>
-    requires { elf_of bytes.now ≡ Ok (elf file.now) }
+fn place(
+    file: &ElfFile<'_>,
+    bytes: &[u8],
+    firsts: &ByKind<Option<(usize, Section<'_>)>>,
+    kind: SectionKind,
+) -> Result<ThorinRange, ReadError>
+    requires whole { elf_of bytes.now ≡ Ok (elf file.now) }
+    requires first { first_in firsts.now kind ≡ find (is_of_kind kind) (elf file.now).sections }
+    requires there { IfSome (found_in firsts.now kind) (λ found.
+        slice_get (elf file.now).sections found.0 ≡ Some (section found.1)) }
+    requires filled { IfSome (found_in firsts.now kind) (λ found.
+        IsTrue (is_of_kind kind (section found.1))) }
     ensures content { Answers (λ place. bytes_at bytes.now place) result
         (content_among (elf file.now).sections kind) }
     ensures inside { IfOk result (IsPlaceIn bytes.now) }
 {
-    match section_of_kind(file, kind) {
+    match firsts.get(kind) {
         None => Ok(NOWHERE),
         Some((number, used)) => used_place(file, bytes, kind, number, &used),
     }
@@ -142,7 +153,7 @@ fn used_place(
         (used_bytes kind (section used.now)) }
     ensures inside { IfOk result (IsPlaceIn bytes.now) }
 {
-    if used.is_compressed() || has_older_name(used, kind) {
+    if used.is_compressed() || used.has_older_name(kind) {
         return Err(ReadError::Compressed);
     }
     let offset = offset_of(file, bytes, number);
@@ -151,12 +162,4 @@ fn used_place(
         return Err(ReadError::SectionRange);
     }
     Ok(ThorinRange { offset, size })
-}
-
-/// Whether a section's name is the older spelling, of compressed sections.
-#[tactic(auto, using(dwp_index::proofs::Called::called_is_older))]
-fn has_older_name(candidate: &Section<'_>, kind: SectionKind) -> bool
-    ensures { result ≡ has_older_name kind (section candidate.now).name }
-{
-    candidate.is_called(kind.compressed_name())
 }

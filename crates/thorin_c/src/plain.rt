@@ -18,9 +18,9 @@ use std::alloc::Global;
 /// Writes a file with plain sections in place of compressed ones to the beginning of `out`, and
 /// answers 0; its length is in `size`. 14 where no section is compressed: the file is to be used as
 /// it is. 10 where `out` is too small, and `size` is the length that is needed. 3 where the file
-/// can't be read, 15 where a compressed section is damaged, 16 where it is compressed in another way
-/// than zlib's, 17 where the plain file can't be written, 13 where memory ran out. `out` is left as
-/// it is but at 0, and `size` but at 0 and 10.
+/// can't be read, 15 where a compressed section is damaged, 16 where it is compressed in another
+/// way than zlib's, 17 where the plain file can't be written, 13 where memory ran out. `out` is
+/// left as it is but at 0, and `size` but at 0 and 10.
 #[tactic(auto, using(crate::proofs::PlainFiles::plain_put, crate::proofs::PlainFiles::room_needed, crate::proofs::PlainFiles::told, crate::proofs::PlainFiles::tells_none))]
 #[unsafe(no_mangle)]
 pub extern "C" fn thorin_decompress(

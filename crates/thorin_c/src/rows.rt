@@ -9,9 +9,10 @@ use crate::status::{ABSENT, DONE, status_of};
 use crate::types::{ThorinLookup, ThorinUnit};
 use dwp_index::PackageFile;
 
-/// Looks the rows of many units up, the package being read once: fills each status, and of each unit
-/// whose status is 0 its ranges, row and slots; its version and sizes are 0, since nothing of the
-/// unit is read. Answers 0; or 3 or 4 where the package can't be read, and then leaves all as it is.
+/// Looks the rows of many units up, the package being read once: fills each status, and of each
+/// unit whose status is 0 its ranges, row and slots; its version and sizes are 0, since nothing of
+/// the unit is read. Answers 0; or 3 or 4 where the package can't be read, and then leaves all as
+/// it is.
 #[unsafe(no_mangle)]
 pub extern "C" fn thorin_find_rows(bytes: &[u8], lookups: &mut [ThorinLookup]) -> i32
     ensures { FillsEach row_looked (as_status (package_of bytes.now)) lookups.old lookups.new

@@ -4,17 +4,16 @@ ghost use Rattle.std.specs.Prelude.{◌≡◌, ◌≤◌, Ok, IfSome, length, ta
 ghost use Rattle.std.specs.Option.{option_copied};
 ghost use Rattle.dwp_base.specs.Reading.{Answers};
 ghost use Rattle.dwp_base.specs.declared.section.SectionKind.TheVariants as kinds;
+ghost use Rattle.dwp_bytes.specs.StringOffsets.{string_in};
 ghost use Rattle.dwp_dwarf.specs.declared.unit.UnitSection.{UnitSection};
 ghost use Rattle.dwp_index.specs.Contents.{content};
-ghost use Rattle.dwp_index.specs.Package.{row_bytes, kind_of, place_of, encoding_in};
-ghost use Rattle.dwp_index.specs.Strings.{entry_in, string_in};
+ghost use Rattle.dwp_index.specs.Package.{row_bytes, encoding_in};
 
 use crate::sections::PlacedSections;
-use dwp_base::{Contribution, Endianness, SectionKind};
-use dwp_bytes::{Encoding, Format, ReadError, SliceReader, string_at};
-use dwp_dwarf::{UnitHeaders, UnitSection};
-use dwp_index::Row;
-use dwp_table::DwarfObject;
+use dwp_base::{Endianness, SectionKind};
+use dwp_bytes::{Encoding, Format, ReadError, StringOffsets};
+use dwp_dwarf::UnitSection;
+use dwp_index::{Row, encoding_in};
 use std::marker::Model;
 
 /// A unit of an open package, with its ranges.
@@ -48,60 +47,24 @@ impl<'p, 'a> Found<'p, 'a> {
 
     /// The string of a number, by the unit's own encoding; None past the last whole entry of its
     /// string offsets.
-    #[tactic(auto, unfolding(dwp_index::specs::Strings::string_in))]
     pub(crate) fn string(&self, i: u64) -> Result<Option<&'a [u8]>, ReadError>
         ensures { Answers option_copied result
             (string_in self.now.order self.now.encoding (content self.now.contents kinds.Str)
             (row_bytes self.now.contents self.now.row kinds.StrOffsets) i) }
     {
-        let range = self.section(SectionKind::StrOffsets);
-        match entry_in(self.order, self.encoding, range, i) {
-            None => Ok(None),
-            Some(offset) => Ok(Some(string_at(self.sections.of(SectionKind::Str), offset)?)),
-        }
-    }
-}
-
-/// The i-th offset of a range; None past the last whole one.
-#[tactic(auto, unfolding(dwp_index::specs::Strings::entry_in))]
-fn entry_in(order: Endianness, encoding: Encoding, bytes: &[u8], i: u64) -> Option<u64>
-    ensures { result ≡ entry_in order encoding bytes.now i }
-{
-    if encoding.string_offsets_count(bytes.len() as u64) <= i {
-        return None;
-    }
-    let header = encoding.string_offsets_header_size();
-    Some(match encoding.format {
-        Format::Dwarf32 => order.read_u32(&bytes[header + i as usize * 4..]) as u64,
-        Format::Dwarf64 => order.read_u64(&bytes[header + i as usize * 8..]),
-    })
-}
-
-/// The section that a unit's own bytes stand in: a type unit's may be those of types.
-#[inline(always)]
-pub(crate) fn place_of(object: DwarfObject, range: Option<Contribution>) -> UnitSection
-    ensures { result ≡ place_of object range }
-{
-    match (object, range) {
-        (DwarfObject::TypeUnit(_), Some(_)) => UnitSection::Types,
-        _ => UnitSection::Info,
-    }
-}
-
-/// The kind of that section.
-#[inline(always)]
-pub(crate) fn kind_of(place: UnitSection) -> SectionKind
-    ensures { result ≡ kind_of place }
-{
-    match place {
-        UnitSection::Info => SectionKind::Info,
-        UnitSection::Types => SectionKind::Types,
+        let offsets = StringOffsets {
+            strings: self.sections.of(SectionKind::Str),
+            offsets: self.section(SectionKind::StrOffsets),
+            order: self.order,
+            encoding: self.encoding,
+        };
+        offsets.string(i)
     }
 }
 
 /// The encoding in the header of the unit that the bytes begin with.
 #[inline(always)]
-pub(crate) fn encoding_in(
+pub(crate) fn encoding_of(
     bytes: &[u8],
     order: Endianness,
     place: UnitSection,
@@ -163,9 +126,5 @@ fn front(bytes: &[u8], count: usize) -> &[u8]
 fn any_encoding(bytes: &[u8], order: Endianness, place: UnitSection) -> Result<Encoding, ReadError>
     ensures { Answers (λ x. x) result (encoding_in order place bytes.now) }
 {
-    match UnitHeaders::new(SliceReader::new(bytes, order), place).next() {
-        None => Err(ReadError::UnexpectedEof),
-        Some(Err(e)) => Err(e),
-        Some(Ok(header)) => Ok(header.encoding()),
-    }
+    encoding_in(bytes, order, place)
 }

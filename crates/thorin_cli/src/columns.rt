@@ -4,6 +4,7 @@ ghost use Rattle.std.specs.Prelude.{◌≡◌, ◌++◌, OnOk, replicate, string
 ghost use Rattle.thorin_cli.specs.Columns as spec;
 ghost use Rattle.thorin_cli.specs.Columns.{AnswersAsListed};
 
+use dwp_table::CONTRIBUTION_KINDS;
 use std::alloc::{AllocError, Global};
 use std::io::Write;
 use thorin_commands::{Failure, ListForm, list, show};
@@ -14,20 +15,6 @@ const SIZED: ListForm = ListForm {
     names: false,
     json: false,
 };
-
-/// The short names of the sections that units have ranges of, in the order of the lines.
-const SECTIONS: [&'static str; 10] = [
-    "info",
-    "types",
-    "abbrev",
-    "line",
-    "loc",
-    "loclists",
-    "rnglists",
-    "str_offsets",
-    "macinfo",
-    "macro",
-];
 
 /// Prints what `list` prints with sizes, in columns: a row for each unit under the names of the
 /// sections, then one for each total, with its share of the file. Answers what `list` answers.
@@ -134,10 +121,11 @@ fn push_behind(
     }
 }
 
-/// The names of the sections that a line has a size in.
+/// The short names of the sections that a line has a size in, in the order of the lines.
 fn names_in(alloc: Global, lines: &[&str]) -> Result<Vec<&'static str>, AllocError> {
     let mut names = Vec::new(alloc);
-    for name in SECTIONS {
+    for kind in &CONTRIBUTION_KINDS {
+        let name = kind.short_name();
         for line in lines {
             if word_behind(line, name).is_some() {
                 names.push(name)?;
@@ -274,7 +262,8 @@ fn widths_of(alloc: Global, cells: &[String], columns: usize) -> Result<Vec<usiz
 
 /// Adds a cell at the left end of its column.
 fn put_left(cell: &str, width: usize, text: &mut String) -> Result<(), AllocError>
-    ensures { OnOk result (string_bytes text.new ≡ string_bytes text.old ++ spec.at_left width cell.now) }
+    ensures { OnOk result (string_bytes text.new
+        ≡ string_bytes text.old ++ spec.at_left width cell.now) }
 {
     text.push_str(cell)?;
     put_blanks(width.saturating_sub(cell.len()), text)
@@ -282,7 +271,8 @@ fn put_left(cell: &str, width: usize, text: &mut String) -> Result<(), AllocErro
 
 /// Adds a cell at the right end of its column.
 fn put_right(cell: &str, width: usize, text: &mut String) -> Result<(), AllocError>
-    ensures { OnOk result (string_bytes text.new ≡ string_bytes text.old ++ spec.at_right width cell.now) }
+    ensures { OnOk result (string_bytes text.new
+        ≡ string_bytes text.old ++ spec.at_right width cell.now) }
 {
     put_blanks(width.saturating_sub(cell.len()), text)?;
     text.push_str(cell)

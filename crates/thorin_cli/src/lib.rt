@@ -32,8 +32,8 @@ use thorin_words::{ResponseError, expanded, printed};
 
 /// Does what a command line asks for: `words` are the program's name and its arguments, where
 /// `@FILE` stands for the words of a file. What is printed goes to `out`, and an error as one line
-/// `error: ` and its text to `err`; a line `note: ` behind it says what it is about where `err` is a
-/// terminal, with `--verbose`, and under the names `dwp` and `llvm-dwp`. Answers the status: 0; 1
+/// `error: ` and its text to `err`; a line `note: ` behind it says what it is about where `err` is
+/// a terminal, with `--verbose`, and under the names `dwp` and `llvm-dwp`. Answers the status: 0; 1
 /// where the command was refused, a package has faults or a line can't be written; 2 for a bad
 /// command line. Under those names it takes the command lines of those programs. `facts` is what is
 /// known of where the program runs.

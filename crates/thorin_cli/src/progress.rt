@@ -164,8 +164,8 @@ impl<E: Write> FileSystem for CountedFiles<'_, '_, '_, E> {
         self.files.identity(name)
     }
 
-    fn unit_count(&self, name: &str, decompresses: bool) -> Result<Option<usize>, Failure> {
-        self.files.unit_count(name, decompresses)
+    fn is_regular(&self, name: &str) -> bool {
+        self.files.is_regular(name)
     }
 
     fn write_object(&mut self, object: &WritableObject, name: &str) -> Result<(), Failure> {

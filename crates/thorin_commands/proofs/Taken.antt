@@ -7,9 +7,11 @@ use Rattle.dwp_elf_read.specs.Elf.{elf_of}
 use Rattle.dwp_macros.specs.Last.{last_macros_of}
 use Rattle.thorin_errors.specs.declared.error.InputError.{InputError}
 use Rattle.thorin_errors.specs.declared.error.InputError.TheVariants as input
+use Rattle.thorin_sessions.specs.Sessions.{IsOffered}
+use Rattle.thorin_queries.specs.Plain.{IsPlainOf}
 use Rattle.thorin_commands.specs.Prefixes.{mapped}
 use Rattle.thorin_commands.specs.Packing.{IsAmong, through}
-use Rattle.thorin_commands.specs.Plain.{Offer, IsPlainOf, IsReadOver, taken_from, last_from, IsLast}
+use Rattle.thorin_commands.specs.Plain.{Offer, IsReadOver, taken_from, last_from, IsLast}
 use Rattle.thorin_commands.specs.Plain.{IsLastOf}
 
 module _ (offer : Offer) (path : List ℕ) where
@@ -27,11 +29,14 @@ module _ (offer : Offer) (path : List ℕ) where
   taken_as_it_is b file lent l e offered = rw (l, e) offered
 
   -- a read that failed
-  pub taken_failed : (b : Bool) (cause : IoError) → offer path (Err cause)
-      → taken_from b offer path (Err cause)
+  pub taken_failed : (b : Bool) (room : List ℕ) (e : InputError)
+      (result : Result (Unit {0}) InputError) → result ≡ Err e
+      → IsReadOver (offer path) room (Err e) → IsReadOver (taken_from b offer path) room result
   unfolding taken_from
-  taken_failed true cause offered = record { read = Err cause; offered = offered; plain = refl }
-  taken_failed false cause offered = offered
+  taken_failed true room (input.Io cause) result q h =
+      rw q (record { read = Err cause; offered = h; plain = refl })
+  taken_failed true room input.Memory result q h = rw q tt
+  taken_failed false room e result q h = rw q h
 
   -- one whose last macros alone are kept
   pub with_last : (b : Bool) (file taken lent : List ℕ) → lent ≡ taken → b ≡ true
@@ -47,11 +52,15 @@ module _ (offer : Offer) (path : List ℕ) where
   with_all b file lent l e offered = rw (l, e) offered
 
   -- a read that failed
-  pub with_none : (b : Bool) (cause : IoError) → offer path (Err cause)
-      → last_from b offer path (Err cause)
+  pub with_none : (b : Bool) (room : List ℕ) (e : InputError)
+      (result : Result (Bor (List ℕ)) InputError) → result ≡ Err e
+      → IsReadOver (offer path) room (Err e) → IsOffered (last_from b offer path) result
   unfolding last_from
-  with_none true cause offered = record { read = Err cause; offered = offered; last = refl }
-  with_none false cause offered = offered
+  with_none true room (input.Io cause) result q h =
+      rw q (record { read = Err cause; offered = h; last = refl })
+  with_none true room input.Memory result q h = rw q tt
+  with_none false room (input.Io cause) result q h = rw q h
+  with_none false room input.Memory result q h = rw q tt
 
 -- a file with the last macros, and one that stays
 pub is_last : (file taken : List ℕ) → Some (elf_of taken) ≡ last_macros_of file

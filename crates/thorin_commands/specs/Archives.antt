@@ -1,7 +1,6 @@
 -- What inputs stand for where archives are opened.
 use Rattle.std.specs.Prelude.{◌≡◌, ℕ, List, [], ◌∷◌, ◌++◌, Bool, true, false, ◌||◌, map, filter}
-use Rattle.std.specs.Prelude.{codes, find, is_some, Option, Some, None, Result, Ok, Err, ◌⊎◌}
-use Rattle.std.specs.Global.{Vec}
+use Rattle.std.specs.Prelude.{codes, find, is_some, Result, Ok, Err, ◌⊎◌}
 use Rattle.std.specs.Path.{path_bytes}
 use Rattle.dwp_elf_read.specs.Elf.{Elf, elf_of, is_named}
 use Rattle.dwp_elf_read.specs.declared.error.ReadError.{ReadError}
@@ -9,7 +8,8 @@ use Rattle.dwp_archive.specs.Entries.{Member}
 use Rattle.dwp_archive.specs.Members.{members_of}
 use Rattle.thorin.specs.declared.packing.Input.{Input}
 use Rattle.thorin.specs.declared.packing.Input.TheVariants as inputs
-use Rattle.thorin_commands.specs.Plain.{Offer, IsPlainOf}
+use Rattle.thorin_queries.specs.Plain.{IsPlainOf}
+use Rattle.thorin_commands.specs.Plain.{Offer}
 
 -- an ELF file has a section of split units, under either of its names
 abbrev pub has_split_units : Result Elf ReadError → Bool
@@ -29,11 +29,6 @@ split_contents members = filter is_split (map (λ (member : Member). member.cont
 unfoldable pub IsTakenFor : Bool → (content taken : List ℕ) → Type 0
 IsTakenFor false content taken = taken ≡ content
 IsTakenFor true content taken = IsPlainOf content taken
-
--- the plain bytes where there are any, else the content
-abbrev pub or_content : List ℕ → Option (Vec ℕ) → List ℕ
-or_content content None = content
-or_content content (Some plain) = plain.items
 
 -- inputs are what is taken for these contents, in order
 abbrev pub AreTakenFor : Bool → List (List ℕ) → List Input → Type 0

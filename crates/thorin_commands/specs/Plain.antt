@@ -4,26 +4,14 @@ use Rattle.std.specs.Prelude.{◌⊎◌}
 use Rattle.std.specs.declared.io.Error.{Error as IoError}
 use Rattle.dwp_elf_read.specs.Elf.{Elf, elf_of}
 use Rattle.dwp_elf_read.specs.declared.error.ReadError.{ReadError}
-use Rattle.dwp_decompress.specs.declared.error.DecompressError.{DecompressError}
-use Rattle.dwp_decompress.specs.Result.{decompressed_of}
 use Rattle.dwp_macros.specs.Last.{last_macros_of}
 use Rattle.thorin_errors.specs.declared.error.InputError.{InputError}
 use Rattle.thorin_errors.specs.declared.error.InputError.TheVariants as input
+use Rattle.thorin_queries.specs.Plain.{IsPlainOf}
 
 -- what a read of the file at a path may answer
 abbrev pub Offer : Type 1
 Offer = List ℕ → Result (List ℕ) IoError → Type 0
-
--- what is taken for a file, by what its plain sections are: a file with these, unless none can be
--- written; else the file as it is, also where a compressed section can't be read
-abbrev pub IsPlain : (file taken : List ℕ)
-    → Result (Option (Result Elf ReadError)) DecompressError → Type 0
-IsPlain file taken (Ok (Some plain)) = (elf_of taken ≡ plain) ⊎ (taken ≡ file)
-IsPlain file taken (Ok None) = taken ≡ file
-IsPlain file taken (Err e) = taken ≡ file
-
-unfoldable pub IsPlainOf : (file taken : List ℕ) → Type 0
-IsPlainOf file taken = IsPlain file taken (decompressed_of file)
 
 -- a file that was read is decompressed; a read that failed stays failed
 abbrev pub IsPlainRead : (read taken : Result (List ℕ) IoError) → Type 0
@@ -42,8 +30,8 @@ unfoldable pub taken_from : Bool → Offer → Offer
 taken_from false offer = offer
 taken_from true offer = OffersPlain offer
 
--- the same by what it is where of its sections of macros only the last counts: a file with these,
--- unless none can be written; else the file as it is
+-- what is taken for a file of whose sections of macros only the last counts, by what it is then: a
+-- file that is so, unless none can be written; else the file as it is
 abbrev pub IsLast : (file taken : List ℕ) → Option (Result Elf ReadError) → Type 0
 IsLast file taken (Some last) = (elf_of taken ≡ last) ⊎ (taken ≡ file)
 IsLast file taken None = taken ≡ file

@@ -8,7 +8,7 @@ ghost use Rattle.thorin_commands.specs.Archives.{is_split, split_contents};
 ghost use Rattle.thorin_commands.specs.Opened.{TookAll, TookEach, TookMembers, TookBytes};
 
 use crate::notes::{note_alone, note_reason, place_of_member};
-use crate::origins::{Source, place_of_unit};
+use crate::origins::{OriginRef, place_of_unit};
 use crate::output::Refusal;
 use crate::reading::Inputs;
 use crate::taking::{Tried, settle};
@@ -46,22 +46,22 @@ fn is_split(bytes: &[u8]) -> bool
 /// Takes the file at a path: an object, or where it is an archive its members that have split
 /// units. Tells what came of it where that is asked for.
 pub(crate) fn take_opened<'o, 's: 'o, Sess: Session<RelocationEntry>, I: Inputs, E: Write>(
-    files: &I,
+    inputs: &I,
     builder: &mut DwarfPackage<'o, 's, Sess>,
     room: &mut Vec<u8>,
     path: Path<'_>,
     telling: Telling,
     err: &mut E,
 ) -> Result<(), Refusal>
-    requires { I.opens files.now ≡ true }
-    ensures { OnOk result (TookAll (I.opens files.now) (I.plain files.now) (I.offer files.now)
+    requires { I.opens inputs.now ≡ true }
+    ensures { OnOk result (TookAll (I.opens inputs.now) (I.plain inputs.now) (I.offer inputs.now)
         (Object path.entry) builder.old.state builder.new.state) }
 {
-    files.begin(Input::Object(path));
-    match files.read_into(path, room) {
+    inputs.begin(Input::Object(path));
+    match inputs.read_into(path, room) {
         Ok(bytes) => {
             let place = Place { path, telling };
-            take_read(files, builder, bytes, place, err)
+            take_read(inputs, builder, bytes, place, err)
         }
         Err(e) => {
             let error = Error::from(e);
@@ -71,7 +71,7 @@ pub(crate) fn take_opened<'o, 's: 'o, Sess: Session<RelocationEntry>, I: Inputs,
                 before: None,
                 error: &error,
             };
-            tell_refused(files, refused, telling, err);
+            tell_refused(inputs, refused, telling, err);
             Err(Refusal::Told)
         }
     }
@@ -79,72 +79,72 @@ pub(crate) fn take_opened<'o, 's: 'o, Sess: Session<RelocationEntry>, I: Inputs,
 
 /// Takes what was read at a path.
 fn take_read<'o, 's: 'o, Sess: Session<RelocationEntry>, I: Inputs, E: Write>(
-    files: &I,
+    inputs: &I,
     builder: &mut DwarfPackage<'o, 's, Sess>,
     bytes: &[u8],
     place: Place<'_>,
     err: &mut E,
 ) -> Result<(), Refusal>
-    requires opens { I.opens files.now ≡ true }
-    requires offered { I.offer files.now (path_bytes place.path) (Ok bytes.now) }
-    ensures { OnOk result (TookAll (I.opens files.now) (I.plain files.now) (I.offer files.now)
+    requires opens { I.opens inputs.now ≡ true }
+    requires offered { I.offer inputs.now (path_bytes place.path) (Ok bytes.now) }
+    ensures { OnOk result (TookAll (I.opens inputs.now) (I.plain inputs.now) (I.offer inputs.now)
         (Object place.entry.path) builder.old.state builder.new.state) }
 {
     if is_archive(bytes) {
-        take_members(files, builder, bytes, place, err)
+        take_members(inputs, builder, bytes, place, err)
     } else {
-        take_object(files, builder, bytes, place, err)
+        take_object(inputs, builder, bytes, place, err)
     }
 }
 
 /// Takes an object that was read at a path.
 fn take_object<'o, 's: 'o, Sess: Session<RelocationEntry>, I: Inputs, E: Write>(
-    files: &I,
+    inputs: &I,
     builder: &mut DwarfPackage<'o, 's, Sess>,
     bytes: &[u8],
     place: Place<'_>,
     err: &mut E,
 ) -> Result<(), Refusal>
     ensures { OnOk result
-        (TookBytes (I.offer files.now) bytes.now builder.old.state builder.new.state) }
+        (TookBytes (I.offer inputs.now) bytes.now builder.old.state builder.new.state) }
 {
     let before = builder.contained_units().len();
-    let outcome = take_bytes(place.telling.alloc, files, builder, bytes);
+    let outcome = take_bytes(place.telling.alloc, inputs, builder, bytes);
     let tried = Tried {
         input: Input::Object(place.path),
         room: bytes,
         before,
     };
-    settle(files, builder, tried, outcome, place.telling, err)
+    settle(inputs, builder, tried, outcome, place.telling, err)
 }
 
 /// Takes an object's bytes.
 fn take_bytes<'o, 's: 'o, Sess: Session<RelocationEntry>, I: Inputs>(
     alloc: Global,
-    files: &I,
+    inputs: &I,
     builder: &mut DwarfPackage<'o, 's, Sess>,
     bytes: &[u8],
 ) -> Result<(), Error>
     ensures { OnOk result
-        (TookBytes (I.offer files.now) bytes.now builder.old.state builder.new.state) }
+        (TookBytes (I.offer inputs.now) bytes.now builder.old.state builder.new.state) }
 {
     let mut room = Vec::new(alloc);
-    take_input(builder, files, &mut room, Input::Bytes(bytes))
+    take_input(builder, inputs, &mut room, Input::Bytes(bytes))
 }
 
 /// Takes the members of an archive that have split units, in order.
 fn take_members<'o, 's: 'o, Sess: Session<RelocationEntry>, I: Inputs, E: Write>(
-    files: &I,
+    inputs: &I,
     builder: &mut DwarfPackage<'o, 's, Sess>,
     bytes: &[u8],
     place: Place<'_>,
     err: &mut E,
 ) -> Result<(), Refusal>
-    ensures { OnOk result (TookMembers (I.plain files.now) (I.offer files.now) bytes.now
+    ensures { OnOk result (TookMembers (I.plain inputs.now) (I.offer inputs.now) bytes.now
         builder.old.state builder.new.state) }
 {
     match members(place.telling.alloc, bytes) {
-        Ok(members) => take_listed(files, builder, members.as_slice(), place, err),
+        Ok(members) => take_listed(inputs, builder, members.as_slice(), place, err),
         Err(error) => Err(malformed(place, error, err)),
     }
 }
@@ -152,22 +152,20 @@ fn take_members<'o, 's: 'o, Sess: Session<RelocationEntry>, I: Inputs, E: Write>
 /// Takes those of an archive's members that have split units, and tells what came of it where that
 /// is asked for.
 fn take_listed<'o, 's: 'o, Sess: Session<RelocationEntry>, I: Inputs, E: Write>(
-    files: &I,
+    inputs: &I,
     builder: &mut DwarfPackage<'o, 's, Sess>,
     members: &[Member<'_>],
     place: Place<'_>,
     err: &mut E,
 ) -> Result<(), Refusal>
-    ensures { OnOk result (TookEach (I.plain files.now) (I.offer files.now)
+    ensures { OnOk result (TookEach (I.plain inputs.now) (I.offer inputs.now)
         (split_contents (map view.member members.now)) builder.old.state builder.new.state) }
 {
     let before = builder.contained_units().len();
-    let count = take_each(files, builder, members, place, err)?;
+    let count = take_each(inputs, builder, members, place, err)?;
     let added = builder.contained_units().len().saturating_sub(before);
-    match tell_members(place, count, added, err) {
-        Ok(()) => Ok(()),
-        Err(failure) => Err(Refusal::Command(failure)),
-    }
+    tell_members(place, count, added, err)?;
+    Ok(())
 }
 
 /// Tells of an archive how many units were added, or warns that no member has any.
@@ -195,18 +193,18 @@ struct Place<'p> {
 
 /// Takes those of an archive's members that have split units, and answers how many they are.
 fn take_each<'o, 's: 'o, Sess: Session<RelocationEntry>, I: Inputs, E: Write>(
-    files: &I,
+    inputs: &I,
     builder: &mut DwarfPackage<'o, 's, Sess>,
     members: &[Member<'_>],
     place: Place<'_>,
     err: &mut E,
 ) -> Result<usize, Refusal>
-    ensures { OnOk result (TookEach (I.plain files.now) (I.offer files.now)
+    ensures { OnOk result (TookEach (I.plain inputs.now) (I.offer inputs.now)
         (split_contents (map view.member members.now)) builder.old.state builder.new.state) }
 {
     let mut count = 0usize;
     for member in members {
-        if take_split(files, builder, *member, place, err)? {
+        if take_split(inputs, builder, *member, place, err)? {
             count = count.saturating_add(1);
         }
     }
@@ -215,50 +213,50 @@ fn take_each<'o, 's: 'o, Sess: Session<RelocationEntry>, I: Inputs, E: Write>(
 
 /// Takes a member of an archive, where it has split units, and answers whether it has.
 fn take_split<'o, 's: 'o, Sess: Session<RelocationEntry>, I: Inputs, E: Write>(
-    files: &I,
+    inputs: &I,
     builder: &mut DwarfPackage<'o, 's, Sess>,
     member: Member<'_>,
     place: Place<'_>,
     err: &mut E,
 ) -> Result<bool, Refusal>
-    ensures { OnOk result (TookEach (I.plain files.now) (I.offer files.now)
+    ensures { OnOk result (TookEach (I.plain inputs.now) (I.offer inputs.now)
         (split_contents (view.member member.entry ∷ [])) builder.old.state builder.new.state) }
 {
     let content = member.content();
     if !is_split(content) {
         return Ok(false);
     }
-    match take_content(place.telling.alloc, files, builder, content) {
+    match take_content(place.telling.alloc, inputs, builder, content) {
         Ok(()) => {
-            keep_member(files, builder.contained_units().len(), member, place);
+            keep_member(inputs, builder.contained_units().len(), member, place);
             Ok(true)
         }
         Err(error) => {
-            refuse_member(files, builder, &error, member, place, err);
+            refuse_member(inputs, builder, &error, member, place, err);
             Err(Refusal::Told)
         }
     }
 }
 
 /// Keeps for notes a member that was taken.
-fn keep_member<I: Inputs>(files: &I, count: usize, member: Member<'_>, place: Place<'_>) {
-    let source = Source::Member(place.path.path_text(), member.name());
-    files.keep_taken(source, count);
+fn keep_member<I: Inputs>(inputs: &I, count: usize, member: Member<'_>, place: Place<'_>) {
+    let taken = OriginRef::Member(place.path.path_text(), member.name());
+    inputs.keep_taken(taken, count);
 }
 
 /// Takes what is taken for the content of a member.
 fn take_content<'o, 's: 'o, Sess: Session<RelocationEntry>, I: Inputs>(
     alloc: Global,
-    files: &I,
+    inputs: &I,
     builder: &mut DwarfPackage<'o, 's, Sess>,
     content: &[u8],
 ) -> Result<(), Error>
-    ensures { OnOk result (TookEach (I.plain files.now) (I.offer files.now) (content.now ∷ [])
+    ensures { OnOk result (TookEach (I.plain inputs.now) (I.offer inputs.now) (content.now ∷ [])
         builder.old.state builder.new.state) }
 {
-    match files.plain_member(content) {
-        Ok(Some(plain)) => take_bytes(alloc, files, builder, plain.as_slice()),
-        Ok(None) => take_bytes(alloc, files, builder, content),
+    match inputs.plain_member(content) {
+        Ok(Some(plain)) => take_bytes(alloc, inputs, builder, plain.as_slice()),
+        Ok(None) => take_bytes(alloc, inputs, builder, content),
         Err(AllocError) => Err(Error::Memory),
     }
 }
@@ -279,26 +277,26 @@ fn malformed<E: Write>(place: Place<'_>, error: ArchiveError, err: &mut E) -> Re
 
 /// Tells why a member was refused, and where that is asked for which.
 fn refuse_member<'o, 's: 'o, Sess: Session<RelocationEntry>, I: Inputs, E: Write>(
-    files: &I,
+    inputs: &I,
     builder: &DwarfPackage<'o, 's, Sess>,
     error: &Error,
     member: Member<'_>,
     place: Place<'_>,
     err: &mut E,
 ) {
-    tell_error(place.telling.alloc, error, files.found_growth(), err);
+    tell_error(place.telling.alloc, error, inputs.found_growth(), err);
     if place.telling.notes {
         let before = Before {
             place: place_of_unit(builder, error),
             executable: None,
         };
-        note_member(files, error, member, before, place, err);
+        note_member(inputs, error, member, before, place, err);
     }
 }
 
 /// Prints the note on a member that was refused.
 fn note_member<I: Inputs, E: Write>(
-    files: &I,
+    inputs: &I,
     error: &Error,
     member: Member<'_>,
     before: Before<'_>,
@@ -307,9 +305,9 @@ fn note_member<I: Inputs, E: Write>(
 ) {
     let alloc = place.telling.alloc;
     if let Ok(text) = place_of_member(alloc, place.path.path_text(), member.name()) {
-        match files.found_growth() {
+        match inputs.found_growth() {
             Some(growth) => note_reason(text.as_str(), growth.note(), err),
-            None => note_place(alloc, files, error, text.as_str(), before, err),
+            None => note_place(alloc, inputs, error, text.as_str(), before, err),
         }
     }
 }

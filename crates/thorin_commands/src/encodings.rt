@@ -33,9 +33,9 @@ impl Encodings {
         }
     }
 
-    /// Looks at a file of an input, which may be named by another. Where there is no memory to keep
-    /// what is found, nothing is kept any more.
-    pub(crate) fn look_at(&self, file: &[u8], own: &str, named: Option<&str>) {
+    /// Keeps the encoding of a file of an input, which may be named by another, where it is new.
+    /// Where there is no memory for it, nothing is kept any more.
+    pub(crate) fn keep_new(&self, file: &[u8], own: &str, named: Option<&str>) {
         if let Some(mut found) = self.found.replace(None) {
             let of_file = encoding_of(file);
             if add_new(self.alloc, &mut found, of_file, own, named).is_ok() {

@@ -15,7 +15,7 @@ use std::io::Write;
 use std::path::Path;
 use thorin_errors::InputError;
 use thorin_files::{Contents, WriteError};
-use thorin_queries::{Failure, unit_count};
+use thorin_queries::Failure;
 
 /// The files that `pack` reads and writes. It has no other way to a file.
 pub trait FileSystem {
@@ -48,12 +48,8 @@ pub trait FileSystem {
     /// None where there is no file.
     fn identity(&self, name: &str) -> Option<(u64, u64)>;
 
-    /// How many units an object has that was accepted, decompressed where that was asked for. It
-    /// is read a second time: none where that can't be done.
-    ///
-    /// # Errors
-    /// `Input` where the read fails, `Memory`.
-    fn unit_count(&self, name: &str, decompresses: bool) -> Result<Option<usize>, Failure>;
+    /// Whether there is a regular file at a path.
+    fn is_regular(&self, name: &str) -> bool;
 
     /// Writes an object's file under a name.
     ///
@@ -96,8 +92,8 @@ impl FileSystem for HostFiles<'_> {
         thorin_files::identity(self.rt, name)
     }
 
-    fn unit_count(&self, name: &str, decompresses: bool) -> Result<Option<usize>, Failure> {
-        unit_count(self.rt, name, decompresses)
+    fn is_regular(&self, name: &str) -> bool {
+        thorin_files::is_file(self.rt, name)
     }
 
     fn write_object(&mut self, object: &WritableObject, name: &str) -> Result<(), Failure> {

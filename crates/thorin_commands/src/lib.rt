@@ -4,6 +4,7 @@
 
 mod archives;
 mod asked;
+mod counting;
 mod decompressing;
 mod encodings;
 mod files;

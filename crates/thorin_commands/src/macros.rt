@@ -53,11 +53,12 @@ impl MacroWarnings {
         self.found.set(false);
     }
 
-    /// Looks at a file of the input, which may be named by another.
+    /// Looks for several sections of macros in a file of the input, which may be named by another:
+    /// a warning tells of the first such file.
     ///
     /// # Errors
     /// Want of memory.
-    pub(crate) fn look_at(
+    pub(crate) fn look_for_several(
         &self,
         file: &[u8],
         own: &str,

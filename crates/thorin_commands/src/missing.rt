@@ -28,16 +28,16 @@ use thorin_sessions::Session;
 /// Where that is asked for, leaves out units that executables refer to and that aren't there: each
 /// is told.
 pub(crate) fn leave_out<'o, 's: 'o, Sess: Session<RelocationEntry>, I: Inputs, E: Write>(
-    files: &I,
+    inputs: &I,
     builder: &mut DwarfPackage<'o, 's, Sess>,
-    inputs: &[Input<'_>],
+    list: &[Input<'_>],
     telling: Telling,
     err: &mut E,
 ) -> Result<(), Refusal>
     ensures { OnOk result (builder.new.state ≡ left telling.partial builder.old.state) }
 {
     if telling.partial {
-        tell_missing(telling.alloc, files, builder, inputs, err)?;
+        tell_missing(telling.alloc, inputs, builder, list, err)?;
         builder.forget_targets();
     }
     Ok(())
@@ -46,14 +46,14 @@ pub(crate) fn leave_out<'o, 's: 'o, Sess: Session<RelocationEntry>, I: Inputs, E
 /// Warns of each unit that an executable names and the package lacks.
 fn tell_missing<'o, 's: 'o, Sess: Session<RelocationEntry>, I: Inputs, E: Write>(
     alloc: Global,
-    files: &I,
+    inputs: &I,
     builder: &DwarfPackage<'o, 's, Sess>,
-    inputs: &[Input<'_>],
+    list: &[Input<'_>],
     err: &mut E,
 ) -> Result<(), Failure> {
     let mut left = Left::new(alloc, builder.missing_targets());
-    for input in inputs {
-        tell_those_of(files, *input, &mut left, err)?;
+    for input in list {
+        tell_those_of(inputs, *input, &mut left, err)?;
     }
     left.tell(err)
 }
@@ -71,8 +71,8 @@ fn warn<E: Write>(target: DwarfObject, why: &str, err: &mut E) -> Result<(), Fai
 const MOST_LOOKED_FOR: usize = 1 << 20;
 
 /// The units that are left to be told, in the order in which executables name them; the path that
-/// was looked for last, if one of the same executable was, and what is the matter with it. Others of
-/// that executable are remembered, until they are many.
+/// was looked for last, if one of the same executable was, and what is the matter with it. Others
+/// of that executable are remembered, until they are many.
 #[derive(Drop)]
 struct Left<'b> {
     alloc: Global,
@@ -124,7 +124,7 @@ impl<'b> Left<'b> {
     /// Looks for the object at a path, unless it was looked for before: keeps why it isn't there.
     fn look_for<I: Inputs>(
         &mut self,
-        files: &I,
+        inputs: &I,
         executable: &str,
         named: &str,
     ) -> Result<(), AllocError> {
@@ -135,7 +135,7 @@ impl<'b> Left<'b> {
         self.why = match self.looked_for.get(&path) {
             Some(why) => String::from_str(self.alloc, why.as_str())?,
             None => {
-                let why = reason_of(self.alloc, files, executable, named)?;
+                let why = reason_of(self.alloc, inputs, executable, named)?;
                 self.remember(named, why.as_str())?;
                 why
             }
@@ -162,23 +162,21 @@ impl<'b> Left<'b> {
         }
         let path = String::from_str(self.alloc, named)?;
         let why = String::from_str(self.alloc, why)?;
-        match self.looked_for.insert(path, why) {
-            Ok(_before) => Ok(()),
-            Err(e) => Err(AllocError::from(e)),
-        }
+        self.looked_for.insert(path, why)?;
+        Ok(())
     }
 }
 
 /// Which object was looked for, and why it isn't there.
 fn reason_of<I: Inputs>(
     alloc: Global,
-    files: &I,
+    inputs: &I,
     executable: &str,
     named: &str,
 ) -> Result<String, AllocError> {
-    let path = files.mapped(named)?;
+    let path = inputs.mapped(named)?;
     let place = place_of(alloc, executable, Some(path.as_str()))?;
-    match files.unreadable(path.as_str())? {
+    match inputs.unreadable(path.as_str())? {
         Some(reason) => format!(in alloc; "{place}: {reason}"),
         None => format!(in alloc; "{place}: lacks the unit"),
     }
@@ -186,7 +184,7 @@ fn reason_of<I: Inputs>(
 
 /// Warns of those of an input that is an executable, which is read a second time.
 fn tell_those_of<I: Inputs, E: Write>(
-    files: &I,
+    inputs: &I,
     input: Input<'_>,
     left: &mut Left<'_>,
     err: &mut E,
@@ -194,11 +192,11 @@ fn tell_those_of<I: Inputs, E: Write>(
     match executable_of(input) {
         Some(path) if left.first.is_some() => {
             let mut room = Vec::new(left.alloc);
-            files.begin_again(input);
-            match files.read_into(path, &mut room) {
+            inputs.begin_again(input);
+            match inputs.read_into(path, &mut room) {
                 Ok(bytes) => {
                     tell_read(
-                        files,
+                        inputs,
                         path.path_text(),
                         bytes,
                         nameless_in(input),
@@ -215,7 +213,7 @@ fn tell_those_of<I: Inputs, E: Write>(
 
 /// Warns of those that the bytes of an executable name.
 fn tell_read<I: Inputs, E: Write>(
-    files: &I,
+    inputs: &I,
     executable: &str,
     bytes: &[u8],
     nameless: NamelessUnits,
@@ -225,7 +223,7 @@ fn tell_read<I: Inputs, E: Write>(
     let bump = Bump::new(left.alloc);
     let session = BytesSession::new(&bump);
     match named_units(left.alloc, &session, bytes, nameless) {
-        Ok(mut units) => tell_each(files, executable, &mut units, left, err),
+        Ok(mut units) => tell_each(inputs, executable, &mut units, left, err),
         Err(_) => Ok(()),
     }
 }
@@ -242,7 +240,7 @@ pub(crate) fn named_units<'b>(
 
 /// Warns of those of the units that are left of those that an executable names.
 fn tell_each<I: Inputs, E: Write>(
-    files: &I,
+    inputs: &I,
     executable: &str,
     units: &mut NamedUnits<'_>,
     left: &mut Left<'_>,
@@ -255,7 +253,7 @@ fn tell_each<I: Inputs, E: Write>(
         is_known = is_known && unit.is_repeated;
         if left.first == Some(unit.target) {
             if !is_known {
-                left.look_for(files, executable, units.path())?;
+                left.look_for(inputs, executable, units.path())?;
                 is_known = true;
             }
             warn(unit.target, left.why.as_str(), err)?;
@@ -266,8 +264,8 @@ fn tell_each<I: Inputs, E: Write>(
 }
 
 /// Prints the path of each object that executables name and that can't be read, one a line, each
-/// once, cut where it is longer than the system takes. Packs nothing. Answers the status: 1 where there is one, and where an executable is
-/// refused, which is printed.
+/// once, cut where it is longer than the system takes. Packs nothing. Answers the status: 1 where
+/// there is one, and where an executable is refused, which is printed.
 ///
 /// # Errors
 /// `BadCommand` where no executable is named; `Line` or `Memory`.
@@ -284,9 +282,9 @@ pub fn list_missing<F: FileSystem, O: Write, E: Write>(
     if executables.is_empty() {
         return Err(Failure::BadCommand);
     }
-    let files = InputFiles::new(alloc, files, packing);
+    let inputs = InputFiles::new(alloc, files, packing);
     let mut lines = buffer(alloc, out)?;
-    let listed = list_all(alloc, &files, executables, packing.nameless, &mut lines);
+    let listed = list_all(alloc, &inputs, executables, packing.nameless, &mut lines);
     flush(&mut lines)?;
     match listed {
         Ok(false) => Ok(0),
@@ -323,7 +321,7 @@ impl From<Failure> for Unlisted {
 /// Prints those of all executables, and answers whether there is one.
 fn list_all<I: Inputs, W: Write>(
     alloc: Global,
-    files: &I,
+    inputs: &I,
     executables: &[&str],
     nameless: NamelessUnits,
     lines: &mut W,
@@ -331,7 +329,7 @@ fn list_all<I: Inputs, W: Write>(
     let mut seen = HashSet::new(alloc);
     let mut is_one_missing = false;
     for executable in executables {
-        if list_of(alloc, files, *executable, nameless, &mut seen, lines)? {
+        if list_of(alloc, inputs, *executable, nameless, &mut seen, lines)? {
             is_one_missing = true;
         }
     }
@@ -341,7 +339,7 @@ fn list_all<I: Inputs, W: Write>(
 /// Prints those of an executable that weren't seen before, and answers whether there is one.
 fn list_of<I: Inputs, W: Write>(
     alloc: Global,
-    files: &I,
+    inputs: &I,
     executable: &str,
     nameless: NamelessUnits,
     seen: &mut HashSet<String>,
@@ -349,9 +347,9 @@ fn list_of<I: Inputs, W: Write>(
 ) -> Result<bool, Unlisted> {
     let path = Path::new(executable);
     let mut room = Vec::new(alloc);
-    files.begin(Input::Executable(path, MissingReferencedObjectBehaviour::Skip));
-    match files.read_into(path, &mut room) {
-        Ok(bytes) => list_read(alloc, files, bytes, nameless, seen, lines),
+    inputs.begin(Input::Executable(path, MissingReferencedObjectBehaviour::Skip));
+    match inputs.read_into(path, &mut room) {
+        Ok(bytes) => list_read(alloc, inputs, bytes, nameless, seen, lines),
         Err(e) => Err(Unlisted::Refused(Error::from(e))),
     }
 }
@@ -359,7 +357,7 @@ fn list_of<I: Inputs, W: Write>(
 /// The same of the bytes of an executable.
 fn list_read<I: Inputs, W: Write>(
     alloc: Global,
-    files: &I,
+    inputs: &I,
     bytes: &[u8],
     nameless: NamelessUnits,
     seen: &mut HashSet<String>,
@@ -367,23 +365,21 @@ fn list_read<I: Inputs, W: Write>(
 ) -> Result<bool, Unlisted> {
     let bump = Bump::new(alloc);
     let session = BytesSession::new(&bump);
-    match named_units(alloc, &session, bytes, nameless) {
-        Ok(mut units) => list_each(alloc, files, &mut units, seen, lines),
-        Err(error) => Err(Unlisted::Refused(error)),
-    }
+    let mut units = named_units(alloc, &session, bytes, nameless)?;
+    list_each(alloc, inputs, &mut units, seen, lines)
 }
 
 /// Prints those of the units that are left of those that an executable names.
 fn list_each<I: Inputs, W: Write>(
     alloc: Global,
-    files: &I,
+    inputs: &I,
     units: &mut NamedUnits<'_>,
     seen: &mut HashSet<String>,
     lines: &mut W,
 ) -> Result<bool, Unlisted> {
     let mut is_one_missing = false;
     while let Some(unit) = units.next()? {
-        if !unit.is_repeated && list_path(alloc, files, units.path(), seen, lines)? {
+        if !unit.is_repeated && list_path(alloc, inputs, units.path(), seen, lines)? {
             is_one_missing = true;
         }
     }
@@ -394,29 +390,29 @@ fn list_each<I: Inputs, W: Write>(
 /// was seen before. Answers whether it is printed.
 fn list_path<I: Inputs, W: Write>(
     alloc: Global,
-    files: &I,
+    inputs: &I,
     named: &str,
     seen: &mut HashSet<String>,
     lines: &mut W,
 ) -> Result<bool, Failure> {
-    let path = files.mapped(named)?;
+    let path = inputs.mapped(named)?;
     let told = shown(alloc, path.as_str())?;
     if seen.contains(&told) {
         return Ok(false);
     }
-    let is_missing = put_missing(files, path.as_str(), told.as_str(), lines)?;
+    let is_missing = put_missing(inputs, path.as_str(), told.as_str(), lines)?;
     keep(seen, told)?;
     Ok(is_missing)
 }
 
 /// Prints a path as it is told, where the object there can't be read.
 fn put_missing<I: Inputs, W: Write>(
-    files: &I,
+    inputs: &I,
     path: &str,
     told: &str,
     lines: &mut W,
 ) -> Result<bool, Failure> {
-    if files.unreadable(path)?.is_none() {
+    if inputs.unreadable(path)?.is_none() {
         return Ok(false);
     }
     match writeln!(lines, "{told}") {
@@ -427,8 +423,6 @@ fn put_missing<I: Inputs, W: Write>(
 
 /// Keeps a path that was looked for, as it is told.
 fn keep(seen: &mut HashSet<String>, path: String) -> Result<(), AllocError> {
-    match seen.insert(path) {
-        Ok(_) => Ok(()),
-        Err(e) => Err(AllocError::from(e)),
-    }
+    seen.insert(path)?;
+    Ok(())
 }

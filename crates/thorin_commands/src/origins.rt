@@ -9,9 +9,9 @@ use thorin::DwarfPackage;
 use thorin_errors::Error;
 use thorin_sessions::Session;
 
-/// What was taken.
+/// What was taken, by its path.
 #[derive(Clone, Copy)]
-pub(crate) enum Source<'a> {
+pub(crate) enum OriginRef<'a> {
     /// The object at a path.
     Object(&'a str),
     /// The objects that the executable at a path names.
@@ -20,7 +20,7 @@ pub(crate) enum Source<'a> {
     Member(&'a str, &'a [u8]),
 }
 
-/// An input, or a member of one, that brought units.
+/// An input, or a member of one, that brought units, as it is kept.
 #[derive(Drop)]
 pub(crate) enum Origin {
     /// An object or a member, as it is printed.
@@ -50,9 +50,9 @@ impl Origins {
 
     /// Keeps what was taken, and how many units the package has now. Where there is no memory for
     /// it, nothing is kept any more.
-    pub(crate) fn keep(&self, source: Source<'_>, count: usize) {
+    pub(crate) fn keep(&self, now: OriginRef<'_>, count: usize) {
         if let Some(mut taken) = self.taken.replace(None) {
-            if add_source(self.alloc, &mut taken, source, count).is_ok() {
+            if add_origin(self.alloc, &mut taken, now, count).is_ok() {
                 self.taken.set(Some(taken));
             }
         }
@@ -72,23 +72,23 @@ impl Origins {
 }
 
 /// Adds what is taken now to what was taken.
-fn add_source(
+fn add_origin(
     alloc: Global,
     taken: &mut Vec<(usize, Origin)>,
-    source: Source<'_>,
+    now: OriginRef<'_>,
     count: usize,
 ) -> Result<(), AllocError> {
-    let origin = origin_of(alloc, source)?;
+    let origin = as_kept(alloc, now)?;
     taken.push((count, origin))?;
     Ok(())
 }
 
 /// What was taken, as it is kept.
-fn origin_of(alloc: Global, source: Source<'_>) -> Result<Origin, AllocError> {
-    match source {
-        Source::Object(path) => Ok(Origin::Place(place_of(alloc, path, None)?)),
-        Source::Executable(path) => Ok(Origin::Executable(String::from_str(alloc, path)?)),
-        Source::Member(archive, name) => {
+fn as_kept(alloc: Global, taken: OriginRef<'_>) -> Result<Origin, AllocError> {
+    match taken {
+        OriginRef::Object(path) => Ok(Origin::Place(place_of(alloc, path, None)?)),
+        OriginRef::Executable(path) => Ok(Origin::Executable(String::from_str(alloc, path)?)),
+        OriginRef::Member(archive, name) => {
             Ok(Origin::Place(place_of_member(alloc, archive, name)?))
         }
     }

@@ -59,15 +59,11 @@ pub(crate) fn write_package<F: FileSystem, O: Write>(
     ensures cause { IfErr result IsOfWriting }
 {
     if output == "-" {
-        return match write_stream(object, out) {
-            Ok(()) => Ok(()),
-            Err(failure) => Err(failure),
-        };
+        write_stream(object, out)?;
+        return Ok(());
     }
-    match files.write_object(object, output) {
-        Ok(()) => Ok(()),
-        Err(failure) => Err(failure),
-    }
+    files.write_object(object, output)?;
+    Ok(())
 }
 
 /// Writes a package to a stream.
@@ -79,13 +75,9 @@ fn write_stream<O: Write>(object: &WritableObject, out: &mut O) -> Result<(), Fa
         (file_text object.now)) }
     ensures cause { IfErr result IsOfWriting }
 {
-    match hand_over(object, out) {
-        Ok(()) => match flush(out) {
-            Ok(()) => Ok(()),
-            Err(failure) => Err(failure),
-        },
-        Err(failure) => Err(failure),
-    }
+    hand_over(object, out)?;
+    flush(out)?;
+    Ok(())
 }
 
 /// Hands an object's file to a writer.

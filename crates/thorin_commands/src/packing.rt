@@ -67,7 +67,8 @@ pub struct Packing<'m, 'a> {
     pub allows_overlap: bool,
     /// Whether of an object's sections of macros only the last counts.
     pub keeps_last_macros: bool,
-    /// Whether the package is empty where nothing of the executables is split, and that is no error.
+    /// Whether the package is empty where nothing of the executables is split, and that is no
+    /// error.
     pub lets_empty: bool,
 }
 
@@ -133,8 +134,8 @@ pub fn verify<O: Write>(
 ///
 /// # Errors
 /// `Output` where the package's file can't be written, `Overwrites` where it is an input;
-/// `BadCommand` where there is no name for it; `Line` or `Memory`; `Input` where an input can't be
-/// read a second time for a line that tells of it.
+/// `BadCommand` where there is no name for it; `Line` or `Memory`; `Input` where nothing is split,
+/// and the executable can't be read a second time.
 #[tactic(auto, using(crate::proofs::Puts::when_done, crate::proofs::Puts::when_empty, crate::proofs::Puts::when_told, crate::proofs::Puts::when_failed))]
 pub fn pack<F: FileSystem, O: Write, E: Write>(
     alloc: Global,
@@ -148,7 +149,8 @@ pub fn pack<F: FileSystem, O: Write, E: Write>(
     ensures status { IfOk result (λ status. status ≤ 1) }
     ensures refused { result ≡ Ok 1 → (files.new ≡ files.old) × (out.new ≡ out.old) }
     ensures failed { IfErr result (λ failure. Fails failure
-        ((files.new ≡ files.old) × (out.new ≡ out.old)) (Packs (reads packing.now (F.offer files.old)) packing.now
+        ((files.new ≡ files.old) × (out.new ≡ out.old))
+        (Packs (reads packing.now (F.offer files.old)) packing.now
         (Begins F.begun O.contents files.old files.new out.old out.new))) }
 {
     match pack_all(alloc, files, packing, out, err) {
@@ -177,15 +179,13 @@ fn pack_all<F: FileSystem, O: Write, E: Write>(
         (Packs (reads packing.now (F.offer files.old)) packing.now
         (Put F.begun O.contents files.old files.new out.old out.new)) }
 {
-    match packing.output_name(alloc) {
-        Ok(output) => pack_as(alloc, files, packing, output.as_str(), out, err),
-        Err(failure) => Err(Refusal::Command(failure)),
-    }
+    let output = packing.output_name(alloc)?;
+    pack_under(alloc, files, packing, output.as_str(), out, err)
 }
 
 /// Packs what is asked for under a name.
 #[tactic(auto, using(crate::proofs::Puts::stopped, crate::proofs::Puts::failed_packing, crate::proofs::Puts::done_packing))]
-fn pack_as<F: FileSystem, O: Write, E: Write>(
+fn pack_under<F: FileSystem, O: Write, E: Write>(
     alloc: Global,
     files: &mut F,
     packing: &Packing<'_, '_>,
@@ -263,13 +263,9 @@ fn write_then_warn<F: FileSystem, O: Write, W: Write>(
         output.now (file_text object.now)) }
     ensures cause { IfErr result IsOfWriting }
 {
-    match write_package(files, object, output, out) {
-        Ok(()) => match warn(warned, lines) {
-            Ok(()) => Ok(()),
-            Err(failure) => Err(failure),
-        },
-        Err(failure) => Err(failure),
-    }
+    write_package(files, object, output, out)?;
+    warn(warned, lines)?;
+    Ok(())
 }
 
 /// The object to be written for what is asked for, the signatures of type units that were passed
@@ -286,24 +282,24 @@ fn packed<F: FileSystem, E: Write>(
 {
     let objects = paths_in(packing.inputs);
     let executables = paths_in(packing.executables);
-    let inputs = inputs_of(
+    let list = inputs_of(
         alloc,
         objects,
         executables,
         packing.missing,
         packing.nameless,
     )?;
-    let files = InputFiles::new(alloc, files, packing);
+    let inputs = InputFiles::new(alloc, files, packing);
     let telling = Telling {
         alloc,
         verbose: packing.verbose,
         notes: packing.notes,
         partial: packing.partial,
     };
-    match packed_inputs(&files, inputs.as_slice(), telling, err) {
-        Ok((object, differing)) => Ok((object, differing, files.warnings())),
+    match packed_inputs(&inputs, list.as_slice(), telling, err) {
+        Ok((object, differing)) => Ok((object, differing, inputs.warnings())),
         Err(Refusal::Empty) if packing.lets_empty => {
-            let (object, differing) = packed_unsplit(alloc, &files, packing, err)?;
+            let (object, differing) = packed_unsplit(alloc, &inputs, packing, err)?;
             Ok((object, differing, String::new(alloc)))
         }
         Err(refusal) => Err(refusal),
@@ -315,24 +311,24 @@ fn packed<F: FileSystem, E: Write>(
 #[tactic(auto, using(crate::proofs::Puts::for_unsplit))]
 fn packed_unsplit<I: Inputs, E: Write>(
     alloc: Global,
-    files: &I,
+    inputs: &I,
     packing: &Packing<'_, '_>,
     err: &mut E,
 ) -> Result<(WritableObject, Vec<DebugTypeSignature>), Refusal>
     requires allowed { packing.now.lets_empty ≡ true }
-    requires opens { I.opens files.now ≡ packing.now.opens_archives }
-    requires plain { I.plain files.now ≡ packing.now.decompresses }
-    ensures { IfOk result (λ made. IsPackageFor (I.offer files.now) packing.now made.0) }
+    requires opens { I.opens inputs.now ≡ packing.now.opens_archives }
+    requires plain { I.plain inputs.now ≡ packing.now.decompresses }
+    ensures { IfOk result (λ made. IsPackageFor (I.offer inputs.now) packing.now made.0) }
 {
     let objects = paths_in(packing.inputs);
     let executables = paths_in(packing.executables);
     let Some(executable) = executables.first() else {
         return Err(Refusal::Empty);
     };
-    if files.unit_count(executable)? != Some(0) {
+    if inputs.unit_count(executable)? != Some(0) {
         return Err(Refusal::Empty);
     }
-    let inputs = inputs_with(
+    let list = inputs_with(
         alloc,
         objects,
         executables,
@@ -346,7 +342,7 @@ fn packed_unsplit<I: Inputs, E: Write>(
         notes: false,
         partial: packing.partial,
     };
-    packed_inputs(files, inputs.as_slice(), telling, err)
+    packed_inputs(inputs, list.as_slice(), telling, err)
 }
 
 /// The paths of a list, none where there is no list.
@@ -361,35 +357,35 @@ pub(crate) fn paths_in<'m, 'a>(list: Option<&'m [&'a str]>) -> &'m [&'a str]
 
 /// The object to be written for these inputs, and those signatures.
 fn packed_inputs<I: Inputs, E: Write>(
-    files: &I,
-    inputs: &[Input<'_>],
+    inputs: &I,
+    list: &[Input<'_>],
     telling: Telling,
     err: &mut E,
 ) -> Result<(WritableObject, Vec<DebugTypeSignature>), Refusal>
-    ensures { IfOk result (λ made. IsPackedFrom telling.partial (I.opens files.now)
-        (I.plain files.now) (I.offer files.now) inputs.now made.0) }
+    ensures { IfOk result (λ made. IsPackedFrom telling.partial (I.opens inputs.now)
+        (I.plain inputs.now) (I.offer inputs.now) list.now made.0) }
 {
     let bump = Bump::new(telling.alloc);
     let session = BytesSession::new(&bump);
-    packed_over(&session, files, inputs, telling, err)
+    packed_over(&session, inputs, list, telling, err)
 }
 
 /// The same, over a session that holds what is read.
 fn packed_over<'s, Sess: Session<RelocationEntry>, I: Inputs, E: Write>(
     session: &'s Sess,
-    files: &I,
-    inputs: &[Input<'_>],
+    inputs: &I,
+    list: &[Input<'_>],
     telling: Telling,
     err: &mut E,
 ) -> Result<(WritableObject, Vec<DebugTypeSignature>), Refusal>
-    ensures { IfOk result (λ made. IsPackedFrom telling.partial (I.opens files.now)
-        (I.plain files.now) (I.offer files.now) inputs.now made.0) }
+    ensures { IfOk result (λ made. IsPackedFrom telling.partial (I.opens inputs.now)
+        (I.plain inputs.now) (I.offer inputs.now) list.now made.0) }
 {
-    runs_go_on(files);
+    runs_go_on(inputs);
     let mut builder = DwarfPackage::new(telling.alloc, session);
-    match take_all(files, &mut builder, inputs, telling, err) {
-        Ok(()) => match leave_out(files, &mut builder, inputs, telling, err) {
-            Ok(()) => finished(files, builder, telling, err),
+    match take_all(inputs, &mut builder, list, telling, err) {
+        Ok(()) => match leave_out(inputs, &mut builder, list, telling, err) {
+            Ok(()) => finished(inputs, builder, telling, err),
             Err(refusal) => Err(refusal),
         },
         Err(refusal) => Err(refusal),
@@ -399,7 +395,7 @@ fn packed_over<'s, Sess: Session<RelocationEntry>, I: Inputs, E: Write>(
 /// The object of the package, which can be written, and those signatures. Where it can't be
 /// finished, that is printed.
 fn finished<'o, 's: 'o, Sess: Session<RelocationEntry>, I: Inputs, E: Write>(
-    files: &I,
+    inputs: &I,
     builder: DwarfPackage<'o, 's, Sess>,
     telling: Telling,
     err: &mut E,
@@ -412,15 +408,15 @@ fn finished<'o, 's: 'o, Sess: Session<RelocationEntry>, I: Inputs, E: Write>(
     match finished {
         Ok(object) => match can_be_written(&object) {
             Ok(()) => Ok((object, differing)),
-            Err(error) => Err(unfinished(files, &error, telling, err)),
+            Err(error) => Err(unfinished(inputs, &error, telling, err)),
         },
-        Err(error) => Err(unfinished(files, &error, telling, err)),
+        Err(error) => Err(unfinished(inputs, &error, telling, err)),
     }
 }
 
 /// What becomes of a package that can't be finished: it is told here, unless no input began it.
 fn unfinished<I: Inputs, E: Write>(
-    files: &I,
+    inputs: &I,
     error: &Error,
     telling: Telling,
     err: &mut E,
@@ -428,7 +424,7 @@ fn unfinished<I: Inputs, E: Write>(
     match error {
         Error::NoOutputObjectCreated => Refusal::Empty,
         _ => {
-            tell_unfinished(files, error, telling, err);
+            tell_unfinished(inputs, error, telling, err);
             Refusal::Told
         }
     }
@@ -444,10 +440,9 @@ fn can_be_written(object: &WritableObject) -> Result<(), Error>
         → IsPackageOf units (file_text object.now)) }
 {
     written_contents_are_read_back();
-    let _sections = object.sections();
-    let _machine = object.machine();
-    match object.file_size() {
-        Ok(_) => Ok(()),
-        Err(e) => Err(Error::from(e)),
-    }
+    // By the contracts of these two no two sections are of one kind, and the machine has 16 bits.
+    object.sections();
+    object.machine();
+    object.file_size()?;
+    Ok(())
 }

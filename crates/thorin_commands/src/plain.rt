@@ -10,7 +10,8 @@ ghost use Rattle.thorin_commands.specs.Plain.{IsReadOver, taken_from};
 ghost use Rattle.thorin_commands.specs.Prefixes.{mapped as mapped_path};
 
 use crate::asked::executable_of;
-use crate::decompressing::{decompress, plain_of};
+use crate::counting::count_units;
+use crate::decompressing::decompress;
 use crate::encodings::Encodings;
 use crate::files::FileSystem;
 use crate::given::place_among;
@@ -18,7 +19,7 @@ use crate::growth::{Growth, Repetitions, has_overlap};
 use crate::inner::has_inner_strings;
 use crate::macros::{MacroWarnings, keep_last_macros};
 use crate::notes::{Unread, place_of, reason};
-use crate::origins::{Origin, Origins, Source};
+use crate::origins::{Origin, OriginRef, Origins};
 use crate::packing::{Packing, paths_in};
 use crate::prefixes::mapped;
 use crate::reading::Inputs;
@@ -29,7 +30,7 @@ use std::io;
 use std::path::{AsPath, Path};
 use thorin::{Input, InputReader, Repetition};
 use thorin_errors::InputError;
-use thorin_queries::Failure;
+use thorin_queries::{Failure, plain_of};
 
 /// Files as inputs.
 #[derive(Drop)]
@@ -122,10 +123,8 @@ impl<'f, F: FileSystem> InputFiles<'f, F> {
         if is_own && self.is_given(path.path_text()) {
             return self.read_at(true, path, room);
         }
-        match self.mapped(path.path_text()) {
-            Ok(mapped) => self.read_at(false, Path::new(mapped.as_str()), room),
-            Err(AllocError) => Err(InputError::Memory),
-        }
+        let mapped = self.with_prefix_replaced(path.path_text())?;
+        self.read_at(false, Path::new(mapped.as_str()), room)
     }
 
     /// Reads the file at a path, and keeps for notes what becomes of that.
@@ -162,7 +161,7 @@ impl<'f, F: FileSystem> InputFiles<'f, F> {
     }
 
     /// A path that an executable names, with its prefix replaced.
-    fn mapped(&self, path: &str) -> Result<String, AllocError>
+    fn with_prefix_replaced(&self, path: &str) -> Result<String, AllocError>
         ensures { IfOk result (λ mapped.
             string_bytes mapped
             ≡ mapped_path (paths_in self.now.packing.now.prefix_maps) path.now) }
@@ -252,11 +251,7 @@ impl<F: FileSystem> InputFiles<'_, F> {
         ensures memory { IfErr result IsNoWantOfMemory }
     {
         let is_own = self.begins.replace(false);
-        match self.read(is_own, path, room) {
-            Ok(()) => {}
-            Err(InputError::Io(cause)) => return Err(InputError::Io(cause)),
-            Err(InputError::Memory) => return Err(InputError::Memory),
-        }
+        self.read(is_own, path, room)?;
         // No behaviour passes over want of memory: for such a file none is spent.
         if self.overlaps(is_own, room) {
             return Err(InputError::Memory);
@@ -264,35 +259,33 @@ impl<F: FileSystem> InputFiles<'_, F> {
         if !self.packing.decompresses {
             return Ok(());
         }
-        match decompress(self.alloc, room) {
-            Ok(()) => Ok(()),
-            Err(AllocError) => Err(InputError::Memory),
-        }
+        decompress(self.alloc, room)?;
+        Ok(())
     }
 
     /// Looks at the file at a path: at its encoding, for notes, and for several sections of macros,
     /// where that is to be warned of.
-    fn look_at(&self, path: &str, file: &[u8]) -> Result<(), AllocError> {
+    fn inspect(&self, path: &str, file: &[u8]) -> Result<(), AllocError> {
         let own = self.own.replace(None);
-        let looked = match &own {
-            Some(own) if own.as_str() != path => self.look_by(own.as_str(), Some(path), file),
-            _ => self.look_by(path, None, file),
+        let inspected = match &own {
+            Some(own) if own.as_str() != path => self.inspect_for(own.as_str(), Some(path), file),
+            _ => self.inspect_for(path, None, file),
         };
         self.own.set(own);
-        looked
+        inspected
     }
 
     /// The same of a file of an input, which may be named by another.
-    fn look_by(&self, own: &str, named: Option<&str>, file: &[u8]) -> Result<(), AllocError> {
-        self.encodings.look_at(file, own, named);
-        self.macros.look_at(file, own, named)
+    fn inspect_for(&self, own: &str, named: Option<&str>, file: &[u8]) -> Result<(), AllocError> {
+        self.encodings.keep_new(file, own, named);
+        self.macros.look_for_several(file, own, named)
     }
 
     /// Looks at the encoding of a member of the input, which is told of by the input's path.
-    fn look_at_member(&self, content: &[u8]) {
+    fn inspect_member(&self, content: &[u8]) {
         let own = self.own.replace(None);
         if let Some(own) = &own {
-            self.encodings.look_at(content, own.as_str(), None);
+            self.encodings.keep_new(content, own.as_str(), None);
         }
         self.own.set(own);
     }
@@ -313,26 +306,14 @@ impl<F: FileSystem> InputReader for InputFiles<'_, F> {
         room: &'b mut Vec<u8>,
     ) -> Result<&'b [u8], InputError> {
         let is_own = self.begins.get();
-        match self.read_plain(path, room) {
-            Ok(()) => {}
-            Err(InputError::Io(cause)) => return Err(InputError::Io(cause)),
-            Err(InputError::Memory) => return Err(InputError::Memory),
-        }
-        match self.test_strings(is_own, room) {
-            Ok(()) => {}
-            Err(AllocError) => return Err(InputError::Memory),
-        }
-        match self.look_at(path.path_text(), room) {
-            Ok(()) => {}
-            Err(AllocError) => return Err(InputError::Memory),
-        }
+        self.read_plain(path, room)?;
+        self.test_strings(is_own, room)?;
+        self.inspect(path.path_text(), room)?;
         if !self.packing.keeps_last_macros {
             return Ok(room.as_slice());
         }
-        match keep_last_macros(self.alloc, room) {
-            Ok(()) => Ok(room.as_slice()),
-            Err(AllocError) => Err(InputError::Memory),
-        }
+        keep_last_macros(self.alloc, room)?;
+        Ok(room.as_slice())
     }
 
     fn pass_over(&self) {
@@ -344,8 +325,7 @@ impl<F: FileSystem> InputReader for InputFiles<'_, F> {
             return true;
         }
         self.growth.set(Some(Growth::Repetition));
-        self.named
-            .set(self.mapped(repetition.path.path_text()).ok());
+        self.named.set(self.with_prefix_replaced(repetition.path.path_text()).ok());
         false
     }
 }
@@ -359,12 +339,12 @@ impl<F: FileSystem> Inputs for InputFiles<'_, F> {
         self.packing.opens_archives
     }
 
-    #[tactic(auto, unfolding(crate::specs::Archives::IsTakenFor, crate::specs::Plain::IsPlainOf))]
+    #[tactic(auto, unfolding(crate::specs::Archives::IsTakenFor, thorin_queries::specs::Plain::IsPlainOf))]
     fn plain_member(&self, content: &[u8]) -> Result<Option<Vec<u8>>, AllocError> {
         if self.overlaps(false, content) {
             return Err(AllocError);
         }
-        self.look_at_member(content);
+        self.inspect_member(content);
         let plain = if self.packing.decompresses {
             plain_of(self.alloc, content)?
         } else {
@@ -396,8 +376,24 @@ impl<F: FileSystem> Inputs for InputFiles<'_, F> {
         self.packing.decompresses
     }
 
-    fn unit_count(&self, name: &str) -> Result<Option<usize>, Failure> {
-        self.files.unit_count(name, self.packing.decompresses)
+    fn is_regular(&self, path: &str) -> bool {
+        self.files.is_regular(path)
+    }
+
+    fn unit_count(&self, path: &str) -> Result<Option<usize>, Failure> {
+        if !self.files.is_regular(path) {
+            return Ok(None);
+        }
+        let mut room = Vec::new(self.alloc);
+        match self.files.read_over(Path::new(path), &mut room) {
+            Ok(()) => {}
+            Err(InputError::Io(_)) => return Err(Failure::Input),
+            Err(InputError::Memory) => return Err(Failure::Memory),
+        }
+        if self.packing.decompresses {
+            decompress(self.alloc, &mut room)?;
+        }
+        Ok(count_units(room.as_slice()))
     }
 
     fn last_named(&self) -> Option<String> {
@@ -405,7 +401,7 @@ impl<F: FileSystem> Inputs for InputFiles<'_, F> {
     }
 
     fn mapped(&self, named: &str) -> Result<String, AllocError> {
-        InputFiles::mapped(self, named)
+        self.with_prefix_replaced(named)
     }
 
     fn unreadable(&self, path: &str) -> Result<Option<String>, AllocError> {
@@ -425,8 +421,8 @@ impl<F: FileSystem> Inputs for InputFiles<'_, F> {
         self.growth.get()
     }
 
-    fn keep_taken(&self, source: Source<'_>, count: usize) {
-        self.origins.keep(source, count);
+    fn keep_taken(&self, taken: OriginRef<'_>, count: usize) {
+        self.origins.keep(taken, count);
     }
 
     fn origin_of(&self, place: usize) -> Option<Origin> {

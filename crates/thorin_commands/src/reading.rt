@@ -1,11 +1,12 @@
 //! What `pack` asks of the reader of its inputs, as a trait: `plain` has the reader.
 
 ghost use Rattle.std.specs.Prelude.{◌≡◌, Bool, IfOk};
-ghost use Rattle.thorin_commands.specs.Archives.{IsTakenFor, or_content};
+ghost use Rattle.thorin_queries.specs.Plain.{or_content};
+ghost use Rattle.thorin_commands.specs.Archives.{IsTakenFor};
 
 use crate::growth::Growth;
 use crate::notes::Unread;
-use crate::origins::{Origin, Source};
+use crate::origins::{Origin, OriginRef};
 use std::alloc::AllocError;
 use thorin::{Input, InputReader};
 use thorin_queries::Failure;
@@ -40,11 +41,15 @@ pub(crate) trait Inputs: InputReader {
     /// Whether compressed sections are decompressed.
     fn decompresses(&self) -> bool;
 
-    /// How many units an object has that was accepted.
+    /// Whether there is a regular file at a path.
+    fn is_regular(&self, path: &str) -> bool;
+
+    /// How many units the file at a path has, which is read for that; none where it is no regular
+    /// file.
     ///
     /// # Errors
-    /// As those of `FileSystem::unit_count`.
-    fn unit_count(&self, name: &str) -> Result<Option<usize>, Failure>;
+    /// `Input` where the read fails, `Memory`.
+    fn unit_count(&self, path: &str) -> Result<Option<usize>, Failure>;
 
     /// The path that the input names and that was read last; none where none was.
     fn last_named(&self) -> Option<String>;
@@ -62,7 +67,7 @@ pub(crate) trait Inputs: InputReader {
     fn found_growth(&self) -> Option<Growth>;
 
     /// Keeps for notes what was taken, and how many units the package has now.
-    fn keep_taken(&self, source: Source<'_>, count: usize);
+    fn keep_taken(&self, taken: OriginRef<'_>, count: usize);
 
     /// What brought the unit at a place among the package's; none where that isn't known. Asked for
     /// once.

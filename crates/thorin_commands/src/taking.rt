@@ -1,12 +1,12 @@
-//! Taking the inputs of `pack` in order: one that is accepted is noted, and told where that is asked
-//! for; and what becomes of one that is refused.
+//! Taking the inputs of `pack` in order: one that is accepted is noted, and told where that is
+//! asked for; and what becomes of one that is refused.
 
 ghost use Rattle.std.specs.Prelude.{◌≡◌, Ok, OnOk};
 ghost use Rattle.thorin.specs.Run.{Took};
 ghost use Rattle.thorin_commands.specs.Opened.{TookAll, TookInputs};
 
 use crate::archives::take_opened;
-use crate::origins::{Source, place_of_unit};
+use crate::origins::{OriginRef, place_of_unit};
 use crate::output::Refusal;
 use crate::reading::Inputs;
 use crate::telling::{Refused, Telling, tell_refused, told};
@@ -20,45 +20,45 @@ use thorin_sessions::Session;
 
 /// Takes the inputs in order, up to the first that is refused.
 pub(crate) fn take_all<'o, 's: 'o, Sess: Session<RelocationEntry>, I: Inputs, E: Write>(
-    files: &I,
+    inputs: &I,
     builder: &mut DwarfPackage<'o, 's, Sess>,
-    inputs: &[Input<'_>],
+    list: &[Input<'_>],
     telling: Telling,
     err: &mut E,
 ) -> Result<(), Refusal>
-    ensures { OnOk result (TookInputs (I.opens files.now) (I.plain files.now)
-        (I.offer files.now) inputs.now builder.old.state builder.new.state) }
+    ensures { OnOk result (TookInputs (I.opens inputs.now) (I.plain inputs.now)
+        (I.offer inputs.now) list.now builder.old.state builder.new.state) }
 {
     let mut room = Vec::new(telling.alloc);
-    for input in inputs {
-        take(files, builder, &mut room, *input, telling, err)?;
+    for input in list {
+        take(inputs, builder, &mut room, *input, telling, err)?;
     }
     Ok(())
 }
 
 /// Takes an input, or where it is an archive that is to be opened the members of it.
 fn take<'o, 's: 'o, Sess: Session<RelocationEntry>, I: Inputs, E: Write>(
-    files: &I,
+    inputs: &I,
     builder: &mut DwarfPackage<'o, 's, Sess>,
     room: &mut Vec<u8>,
     input: Input<'_>,
     telling: Telling,
     err: &mut E,
 ) -> Result<(), Refusal>
-    ensures { OnOk result (TookAll (I.opens files.now) (I.plain files.now)
-        (I.offer files.now) input.entry builder.old.state builder.new.state) }
+    ensures { OnOk result (TookAll (I.opens inputs.now) (I.plain inputs.now)
+        (I.offer inputs.now) input.entry builder.old.state builder.new.state) }
 {
     match input {
-        Input::Object(path) if files.opens_archives() => {
-            take_opened(files, builder, room, path, telling, err)
+        Input::Object(path) if inputs.opens_archives() => {
+            take_opened(inputs, builder, room, path, telling, err)
         }
-        _ => take_alone(files, builder, room, input, telling, err),
+        _ => take_alone(inputs, builder, room, input, telling, err),
     }
 }
 
 /// Takes an input that is no archive, and tells what came of it.
 fn take_alone<'o, 's: 'o, Sess: Session<RelocationEntry>, I: Inputs, E: Write>(
-    files: &I,
+    inputs: &I,
     builder: &mut DwarfPackage<'o, 's, Sess>,
     room: &mut Vec<u8>,
     input: Input<'_>,
@@ -66,17 +66,17 @@ fn take_alone<'o, 's: 'o, Sess: Session<RelocationEntry>, I: Inputs, E: Write>(
     err: &mut E,
 ) -> Result<(), Refusal>
     ensures { OnOk result
-        (Took (I.offer files.now) input.entry builder.old.state (Ok tt) builder.new.state) }
+        (Took (I.offer inputs.now) input.entry builder.old.state (Ok tt) builder.new.state) }
 {
     let before = builder.contained_units().len();
-    files.begin(input);
-    let outcome = take_input(builder, files, room, input);
+    inputs.begin(input);
+    let outcome = take_input(builder, inputs, room, input);
     let tried = Tried {
         input,
         room: room.as_slice(),
         before,
     };
-    settle(files, builder, tried, outcome, telling, err)
+    settle(inputs, builder, tried, outcome, telling, err)
 }
 
 /// An input that was taken or refused.
@@ -92,7 +92,7 @@ pub(crate) struct Tried<'a> {
 /// Tells of an input by its outcome: how many units were added, where that is asked for, or why it
 /// was refused.
 pub(crate) fn settle<'o, 's: 'o, Sess: Session<RelocationEntry>, I: Inputs, E: Write>(
-    files: &I,
+    inputs: &I,
     builder: &DwarfPackage<'o, 's, Sess>,
     tried: Tried<'_>,
     outcome: Result<(), Error>,
@@ -102,10 +102,10 @@ pub(crate) fn settle<'o, 's: 'o, Sess: Session<RelocationEntry>, I: Inputs, E: W
     ensures { OnOk result (outcome ≡ Ok tt) }
 {
     match outcome {
-        Ok(()) => match accept(files, builder.contained_units().len(), tried, telling, err) {
-            Ok(()) => Ok(()),
-            Err(failure) => Err(Refusal::Command(failure)),
-        },
+        Ok(()) => {
+            accept(inputs, builder.contained_units().len(), tried, telling, err)?;
+            Ok(())
+        }
         Err(error) => {
             let refused = Refused {
                 input: tried.input,
@@ -113,32 +113,32 @@ pub(crate) fn settle<'o, 's: 'o, Sess: Session<RelocationEntry>, I: Inputs, E: W
                 before: place_of_unit(builder, &error),
                 error: &error,
             };
-            tell_refused(files, refused, telling, err);
+            tell_refused(inputs, refused, telling, err);
             Err(Refusal::Told)
         }
     }
 }
 
-/// Keeps and tells, where that is asked for, that an input was taken, and how many units the package
-/// has now.
+/// Keeps and tells, where that is asked for, that an input was taken, and how many units the
+/// package has now.
 fn accept<I: Inputs, E: Write>(
-    files: &I,
+    inputs: &I,
     count: usize,
     tried: Tried<'_>,
     telling: Telling,
     err: &mut E,
 ) -> Result<(), Failure> {
-    keep_taken(files, tried.input, count);
+    keep_input(inputs, tried.input, count);
     let added = count.saturating_sub(tried.before);
-    told(files, tried.input, added, telling, err)
+    told(inputs, tried, added, telling, err)
 }
 
 /// Keeps for notes an input that was taken.
-fn keep_taken<I: Inputs>(files: &I, input: Input<'_>, count: usize) {
+fn keep_input<I: Inputs>(inputs: &I, input: Input<'_>, count: usize) {
     match input {
-        Input::Object(path) => files.keep_taken(Source::Object(path.path_text()), count),
+        Input::Object(path) => inputs.keep_taken(OriginRef::Object(path.path_text()), count),
         Input::Executable(path, _) | Input::ExecutableSkippingNameless(path, _) => {
-            files.keep_taken(Source::Executable(path.path_text()), count);
+            inputs.keep_taken(OriginRef::Executable(path.path_text()), count);
         }
         Input::Bytes(_) => {}
     }

@@ -1,6 +1,7 @@
 //! What `pack` tells of its inputs: with `--verbose`, and where one is refused.
 
 use crate::asked::{executable_of, nameless_in};
+use crate::counting::count_units;
 use crate::growth::Growth;
 use crate::missing::named_units;
 use crate::notes::{
@@ -8,6 +9,7 @@ use crate::notes::{
 };
 use crate::origins::Origin;
 use crate::reading::Inputs;
+use crate::taking::Tried;
 use bumpalo::Bump;
 use dwp_table::{DwarfObject, DwoId};
 use std::alloc::{AllocError, Global};
@@ -34,35 +36,47 @@ pub(crate) struct Telling {
 /// Tells what came of an input that was taken, where that is asked for.
 pub(crate) fn told<I: Inputs, E: Write>(
     inputs: &I,
-    input: Input<'_>,
+    taken: Tried<'_>,
     added: usize,
     telling: Telling,
     err: &mut E,
 ) -> Result<(), Failure> {
-    if telling.verbose {
-        tell(inputs, input, added, err)?;
+    let warns = telling.notes && added == 0;
+    if !telling.verbose && !warns {
+        return Ok(());
     }
-    if telling.notes && added == 0 {
-        return warn_unsplit(telling.alloc, inputs, input, err);
+    let all = units_of(inputs, taken);
+    if telling.verbose {
+        tell(taken.input, added, all, err)?;
+    }
+    if warns {
+        return warn_unsplit(telling.alloc, inputs, taken.input, all, err);
     }
     Ok(())
 }
 
-/// Tells of an input that was taken how many units of it were added.
-fn tell<I: Inputs, E: Write>(
-    inputs: &I,
+/// How many units an object has that was taken, by the bytes that were read; none where that isn't
+/// told: of an executable, and of what is no regular file.
+fn units_of<I: Inputs>(inputs: &I, taken: Tried<'_>) -> Option<usize> {
+    match taken.input {
+        Input::Object(path) if inputs.is_regular(path.path_text()) => count_units(taken.room),
+        _ => None,
+    }
+}
+
+/// Tells of an input that was taken how many of its units were added.
+fn tell<E: Write>(
     input: Input<'_>,
     added: usize,
+    all: Option<usize>,
     err: &mut E,
 ) -> Result<(), Failure> {
     match input {
         Input::Bytes(_) => Ok(()),
-        Input::Object(path) => match inputs.unit_count(path.path_text()) {
-            Ok(all) => tell_taken(err, path.path_text(), added, all),
-            Err(failure) => Err(failure),
-        },
-        Input::Executable(path, _) | Input::ExecutableSkippingNameless(path, _) => {
-            tell_taken(err, path.path_text(), added, None)
+        Input::Object(path)
+        | Input::Executable(path, _)
+        | Input::ExecutableSkippingNameless(path, _) => {
+            tell_taken(err, path.path_text(), added, all)
         }
     }
 }
@@ -72,14 +86,14 @@ fn warn_unsplit<I: Inputs, E: Write>(
     alloc: Global,
     inputs: &I,
     input: Input<'_>,
+    all: Option<usize>,
     err: &mut E,
 ) -> Result<(), Failure> {
     match input {
         Input::Bytes(_) => Ok(()),
-        Input::Object(path) => match inputs.unit_count(path.path_text()) {
-            Ok(Some(0)) => warn_of(alloc, path, err),
-            Ok(_) => Ok(()),
-            Err(failure) => Err(failure),
+        Input::Object(path) => match all {
+            Some(0) => warn_of(alloc, path, err),
+            _ => Ok(()),
         },
         Input::Executable(path, _) | Input::ExecutableSkippingNameless(path, _) => {
             if names_units(alloc, inputs, input, path) {
@@ -92,12 +106,10 @@ fn warn_unsplit<I: Inputs, E: Write>(
 
 /// Warns of a file that has nothing that is split.
 pub(crate) fn warn_of<E: Write>(alloc: Global, path: Path<'_>, err: &mut E) -> Result<(), Failure> {
-    match shown(alloc, path.path_text()) {
-        Ok(name) => match writeln!(err, "warning: {name}: no split units") {
-            Ok(()) => Ok(()),
-            Err(_) => Err(Failure::Line),
-        },
-        Err(AllocError) => Err(Failure::Memory),
+    let name = shown(alloc, path.path_text())?;
+    match writeln!(err, "warning: {name}: no split units") {
+        Ok(()) => Ok(()),
+        Err(_) => Err(Failure::Line),
     }
 }
 
@@ -205,7 +217,8 @@ pub(crate) struct Before<'a> {
     pub(crate) executable: Option<Path<'a>>,
 }
 
-/// Prints the note on a unit that an input has, and that the package has already or the input twice.
+/// Prints the note on a unit that an input has, and that the package has already or the input
+/// twice.
 fn note_twice<I: Inputs, E: Write>(
     alloc: Global,
     inputs: &I,
@@ -271,10 +284,8 @@ fn first_path(
 ) -> Result<Option<String>, Error> {
     let bump = Bump::new(alloc);
     let session = BytesSession::new(&bump);
-    match named_units(alloc, &session, executable, nameless) {
-        Ok(mut units) => first_of(alloc, &mut units, unit),
-        Err(error) => Err(error),
-    }
+    let mut units = named_units(alloc, &session, executable, nameless)?;
+    first_of(alloc, &mut units, unit)
 }
 
 /// The same of the units that are left.
@@ -335,8 +346,8 @@ fn place_in(
     Ok(Some(place?))
 }
 
-/// Whether an error is that of an object, and not of the executable that names it: no executable has
-/// it, or a new package refuses the object too.
+/// Whether an error is that of an object, and not of the executable that names it: no executable
+/// has it, or a new package refuses the object too.
 fn is_of_object(alloc: Global, error: &Error, object: &[u8]) -> bool {
     match error {
         Error::DuplicateUnit(_) | Error::MixedInputEncodings | Error::NumberTooLarge(_, _) => true,

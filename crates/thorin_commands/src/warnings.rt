@@ -55,10 +55,8 @@ pub(crate) struct Warned<'d> {
 pub(crate) fn warn<W: Write>(warned: Warned<'_>, lines: &mut W) -> Result<(), Failure>
     ensures { IfErr result IsOfWriting }
 {
-    match print_all(warned, lines) {
-        Ok(()) => flush(lines),
-        Err(failure) => Err(failure),
-    }
+    print_all(warned, lines)?;
+    flush(lines)
 }
 
 /// Prints the lines, and then those of type units.

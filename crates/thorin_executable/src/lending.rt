@@ -73,8 +73,8 @@ impl<'a> NamedUnits<'a> {
         self.left.next()
     }
 
-    /// The path of the object of the unit that came last; empty before the first. It stays at the end
-    /// of the units, and where one can't be read.
+    /// The path of the object of the unit that came last; empty before the first. It stays at the
+    /// end of the units, and where one can't be read.
     pub fn path(&self) -> &str
         ensures { result.now ≡ self.now.path }
     {

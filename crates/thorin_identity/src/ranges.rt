@@ -15,10 +15,10 @@ use std::marker::Model;
 use thorin_errors::Error;
 
 /// A section of abbreviations whose units have ranges of it (DWARF 5, 7.3.5), and what was read of
-/// tables in it. Compile units of one range, one after the other, share what was read of that range.
-/// Where ranges overlap or are used by turns, those that were begun with come to have more bytes
-/// than the section: once they have more than twice as many, all units share what is read of the
-/// whole section.
+/// tables in it. Compile units of one range, one after the other, share what was read of that
+/// range. Where ranges overlap or are used by turns, those that were begun with come to have more
+/// bytes than the section: once they have more than twice as many, all units share what is read of
+/// the whole section.
 #[derive(Drop)]
 pub struct RangeTables<'a> {
     alloc: Global,
@@ -141,9 +141,9 @@ impl<'a> RangeTables<'a> {
     }
 
     /// What `dwo_identifier_of_unit` says of a unit whose abbreviations stand in the section from
-    /// the byte `start` up to the byte `end`. Nothing stands past the section's end, nor where `end`
-    /// is before `start`. What was read before is remembered as `RangeTables` says; a unit that is
-    /// named by its header changes nothing of that.
+    /// the byte `start` up to the byte `end`. Nothing stands past the section's end, nor where
+    /// `end` is before `start`. What was read before is remembered as `RangeTables` says; a unit
+    /// that is named by its header changes nothing of that.
     ///
     /// # Errors
     /// Those of `dwo_identifier_of_unit`, of the range.

@@ -3,17 +3,18 @@
 use Rattle.std.proofs.Common.{le-ltb, append-nil}
 use Rattle.thorin_index.proofs.Terms
 use Terms.{◌*◌, ◌+◌, ◌++◌, ◌<◌, [], ◌^◌, All, ap, append_assoc, arith, Big, Bool, by-bool}
-use Terms.{column_of, cond, cond-true, drop, drop_at, Endianness, eqb, eqb-true, every, false}
+use Terms.{column_of, cond, drop, drop_at, Endianness, eqb, eqb-true, every, false}
 use Terms.{false_from_ne_true, filter, flat_map, get_or, is_some, length, length-append, List}
-use Terms.{Little, ltb, ltb-true, map, mul-suc, number, number_bytes, numbers, Ok, Option, refl}
-use Terms.{same-each, SectionKind, Some, suc, sym, true, unwrap_or, ℕ, ◌∙◌, ◌∷◌, ◌≡◌, ◌≤◌}
+use Terms.{Little, ltb, ltb-true, map, mul-suc, None, number, number_bytes, numbers, Ok, Option}
+use Terms.{refl, SectionKind, Some, suc, sym, true, unwrap_or, ℕ, ◌∙◌, ◌∷◌, ◌≡◌, ◌≤◌}
 use Rattle.std.specs.List.{list_any, range_with_len}
 use Rattle.std.proofs.lemmas.List.Folds.{flat_map-map, list_any-append}
 use Rattle.std.proofs.lemmas.Nat.{from_le_bytes-to_le_bytes_4, from_le_bytes-to_le_bytes_8}
 use Rattle.std.proofs.lemmas.Nat.{from_be_bytes-to_be_bytes_4, from_be_bytes-to_be_bytes_8}
-use Rattle.dwp_index.specs.IndexBytes.{after, new_column, columns_at}
 use Rattle.dwp_base.specs.Sections.{rank_of}
-use Rattle.dwp_table.specs.Columns.{standard_column, gnu_column, kind_with, kind_of_column}
+use Rattle.dwp_table.specs.Columns.{standard_column, gnu_column, kind_of_column}
+use Rattle.dwp_index.specs.IndexBytes.{after, new_column, columns_at}
+use Rattle.dwp_index.proofs.Columns.{kind_of_number}
 
 -- items are put in so many bytes each, in which those that fit are read again as what they are
 pub record IsPut {X Y : Type 0} (put : X → List ℕ) (read : List ℕ → Y) (is : X → Y)
@@ -112,18 +113,15 @@ number_small version kind = by-bool _ (eqb version 5)
     (λ two. rw two
     (ltb-true _ _ (every (λ k. ltb (unwrap_or (gnu_column k) 0) (2 ^ 32)) refl kind)))
 
-abbrev again : (SectionKind → Option ℕ) → SectionKind → Option SectionKind
-again column kind =
-    cond (is_some (column kind)) (kind_with column (unwrap_or (column kind) 0)) (Some kind)
-
 -- a section that has a column is the one that its number names
 kind_again : (version : ℕ) (kind : SectionKind) → has_number version kind ≡ true
     → kind_of_column version (number_of version kind) ≡ Some kind
-kind_again version kind has = by-bool _ (eqb version 5)
-    (λ five. rw five (sym (cond-true _ _ (Some kind) (rw five at has))
-    ∙ same-each (again standard_column) Some refl kind))
-    (λ two. rw two (sym (cond-true _ _ (Some kind) (rw two at has))
-    ∙ same-each (again gnu_column) Some refl kind))
+kind_again version kind = go (column_of version kind) refl
+  where
+    go : (column : Option ℕ) → column_of version kind ≡ column → is_some column ≡ true
+        → kind_of_column version (unwrap_or column 0) ≡ Some kind
+    go None is has = absurd cc
+    go (Some n) is has = kind_of_number version n kind is
 
 pub one_kind : (version : ℕ) (kind other : SectionKind) → has_number version kind ≡ true
     → has_number version other ≡ true → number_of version other ≡ number_of version kind

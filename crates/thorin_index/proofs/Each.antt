@@ -1,10 +1,10 @@
 -- What tests that all passed say.
 use Rattle.thorin_index.proofs.Terms
 use Terms.{◌*◌, ◌+◌, ◌++◌, ◌<◌, [], ◌^◌, All, ap, arith, at_drop_more, Bool, codes, cond}
-use Terms.{Contribution, contribution_kinds, contribution_to, drop, each, Encoding, encoding_test}
-use Terms.{Err, false, get_or, HoldsAll, index_version_of, IndexEntry, is_some, is_used, length}
-use Terms.{List, ltb-true, None, offset_or_0, Ok, Option, parts_test, refl, Result, SectionKind}
-use Terms.{size_or_0, Some, suc, sym, tests_under, true, zero, ℕ, ◌∙◌, ◌∷◌, ◌≡◌}
+use Terms.{Contribution, contribution_kinds, contribution_to, contributions_test, drop, each}
+use Terms.{Encoding, encoding_test, Err, false, get_or, HoldsAll, index_version_of, IndexEntry}
+use Terms.{is_some, is_used, length, List, ltb-true, None, offset_or_0, Ok, Option, refl, Result}
+use Terms.{SectionKind, size_or_0, Some, suc, sym, tests_under, true, zero, ℕ, ◌∙◌, ◌∷◌, ◌≡◌}
 use Rattle.std.proofs.lemmas.List.Folds.{Any-from_list_any}
 use Rattle.dwp_base.proofs.Steps.{bind-was}
 use Rattle.dwp_base.specs.declared.section.SectionKind.TheVariants.{Str, CuIndex, TuIndex}
@@ -15,11 +15,13 @@ use Rattle.thorin_index.specs.IndexText.{FitsRow}
 use Rattle.thorin_index.proofs.Again.{has_number}
 use Rattle.dwp_base.proofs.EveryKind as kinds
 
--- what holds of each section that a unit may have a part of, and of the others, holds of every one
-pub by_part : (P : SectionKind → Type 0) → All P contribution_kinds → P Str → P CuIndex → P TuIndex
+-- what holds of each section that a unit may have a contribution to, and of the others, holds of
+-- every one
+pub by_contribution : (P : SectionKind → Type 0) → All P contribution_kinds → P Str
+    → P CuIndex → P TuIndex
     → (kind : SectionKind) → P kind
-by_part P parts str cu_index tu_index =
-    kinds.each P (held contribution_kinds parts)
+by_contribution P ranges str cu_index tu_index =
+    kinds.each P (held contribution_kinds ranges)
   where
     held : (ks : List SectionKind) → All P ks
         → HoldsAll P (ks ++ Str ∷ CuIndex ∷ TuIndex ∷ [])
@@ -52,22 +54,23 @@ passed : (b : Bool) (error : ErrorValue) → ◌≡◌ {A = Result (Unit {0}) Er
 passed true error e = refl
 passed false error e = absurd cc
 
--- a test that passed all parts of an entry passed the part of each section
+-- a test that passed all contributions of an entry passed the one to each section
 kind_test : (test : SectionKind → Option Contribution → Result (Unit {0}) ErrorValue)
-    (entry : IndexEntry) → parts_test test entry ≡ Ok tt
+    (entry : IndexEntry) → contributions_test test entry ≡ Ok tt
     → ((kind : SectionKind) → test kind None ≡ Ok tt) → (kind : SectionKind)
     → test kind (contribution_to kind entry) ≡ Ok tt
 kind_test test entry e none =
-    by_part (λ kind. test kind (contribution_to kind entry) ≡ Ok tt)
+    by_contribution (λ kind. test kind (contribution_to kind entry) ≡ Ok tt)
     (each_passed (λ kind. test kind (contribution_to kind entry)) contribution_kinds e) (none Str)
     (none CuIndex) (none TuIndex)
 
--- a test that passed all parts of entries gives a bound on each of their numbers
+-- a test that passed all contributions of entries gives a bound on each of their numbers
 pub rows_fit : (measure : Option Contribution → ℕ) (what : List ℕ) (entries : List IndexEntry)
-    → measure None ≡ 0 → All (λ entry. parts_test (λ _ part. number_test what (measure part)) entry
+    → measure None ≡ 0 → All (λ entry. contributions_test (λ _ range.
+    number_test what (measure range)) entry
     ≡ Ok tt) entries → All (FitsRow measure) entries
 rows_fit measure what entries none tests k d within kind =
-    ltb-true _ (2 ^ 32) (passed _ _ (kind_test (λ _ part. number_test what (measure part))
+    ltb-true _ (2 ^ 32) (passed _ _ (kind_test (λ _ range. number_test what (measure range))
     (get_or entries k d) (tests k d within) (λ _. ap (number_test what) none) kind))
 
 -- what tests say of entries that passed them, with an index of this version
@@ -78,10 +81,10 @@ pub record HavePassed (version : ℕ) (entries : List IndexEntry) : Type 0 where
   pub offsets : All (FitsRow offset_or_0) entries
   pub sizes : All (FitsRow size_or_0) entries
 
-part_known : (version : ℕ) (kind : SectionKind) (part : Option Contribution)
-    → format_test version kind part ≡ Ok tt → is_some part ≡ true → has_number version kind ≡ true
-part_known version kind None e some = absurd cc
-part_known version kind (Some c) e some = passed (has_number version kind) _ e
+range_known : (version : ℕ) (kind : SectionKind) (range : Option Contribution)
+    → format_test version kind range ≡ Ok tt → is_some range ≡ true → has_number version kind ≡ true
+range_known version kind None e some = absurd cc
+range_known version kind (Some c) e some = passed (has_number version kind) _ e
 
 pub used_known : (version : ℕ) (entries : List IndexEntry) → All (λ entry. (kind : SectionKind)
     → is_some (contribution_to kind entry) ≡ true → has_number version kind ≡ true) entries
@@ -96,17 +99,17 @@ pub have_passed : (encoding : Encoding) (entries : List IndexEntry)
 unfolding tests_under
 have_passed encoding entries tests =
     let version = index_version_of encoding.version in
-    let formatted = parts_test (format_test version) in
+    let formatted = contributions_test (format_test version) in
     let count = bind-was (count_test (length entries)) _ tt tests in
     let encodings = bind-was (each (encoding_test encoding) entries) _ tt count.2 in
     let formats = bind-was (each formatted entries) _ tt encodings.2 in
-    let offsets = bind-was (each (parts_test offset_test) entries) _ tt formats.2 in
+    let offsets = bind-was (each (contributions_test offset_test) entries) _ tt formats.2 in
     record {
       few = ltb-true _ (2 ^ 32) (passed _ _ count.1);
-      known = λ k d less kind. part_known version kind _ (kind_test (format_test version)
+      known = λ k d less kind. range_known version kind _ (kind_test (format_test version)
           (get_or entries k d) (each_passed formatted entries formats.1 k d less) (λ _. refl) kind);
       offsets = rows_fit offset_or_0 (codes "contribution offset") entries refl
-          (each_passed (parts_test offset_test) entries offsets.1);
+          (each_passed (contributions_test offset_test) entries offsets.1);
       sizes = rows_fit size_or_0 (codes "contribution size") entries refl
-          (each_passed (parts_test size_test) entries offsets.2);
+          (each_passed (contributions_test size_test) entries offsets.2);
     }

@@ -10,7 +10,7 @@ use Rattle.dwp_table.specs.declared.object.DwarfObject.{DwarfObject}
 use Rattle.thorin_index.specs.declared.rows.Own.{Own}
 use Rattle.thorin_index.specs.declared.rows.Own.TheVariants.{Nothing, Info, Types}
 use Rattle.thorin_index.specs.declared.rows.Row.{Row}
-use Rattle.thorin_index.proofs.Each.{by_part}
+use Rattle.thorin_index.proofs.Each.{by_contribution}
 
 -- a list that begins with another isn't shorter
 pub at_least : {A : Type 0} (front all : List A) → take (length front) all ≡ front
@@ -84,7 +84,7 @@ SameUpTo n a b = (k : ℕ) → k < n → SameAt a b k
 
 pub same_entries : (a b : IndexEntry) → a.encoding ≡ b.encoding → a.id ≡ b.id
     → SameUpTo (length contribution_kinds) a b → a ≡ b
-same_entries a b encoding id same = λ i. entry_by (encoding i) (id i) (λ kind. by_part
+same_entries a b encoding id same = λ i. entry_by (encoding i) (id i) (λ kind. by_contribution
     (λ kind. contribution_to kind a ≡ contribution_to kind b) (λ k d less. same k less d)
     refl refl refl kind i)
 

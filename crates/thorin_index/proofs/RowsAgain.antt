@@ -1,4 +1,4 @@
--- The rows of an index of entries have the entries' parts.
+-- The rows of an index of entries have the entries' contributions.
 use Rattle.std.proofs.Common.{lt-ltb}
 use Rattle.thorin_index.proofs.Terms
 use Terms.{◌&&◌, ◌+◌, ◌-◌, ◌<◌, [], ◌^◌, ap, AreDistinct, arith, Bool, by-bool, column_numbers}
@@ -18,20 +18,20 @@ use Rattle.dwp_index.specs.Index.{Index, Ranges, row_in, column_place, contribut
 use Rattle.dwp_index.proofs.NumberLists.{is_some-position}
 use Rattle.thorin_index.specs.ReadRows.{non_empty, HasEntries}
 use Rattle.thorin_index.proofs.Again.{number_of, has_number, one_kind}
-use Rattle.thorin_index.proofs.Each.{HavePassed, by_part, have_passed, used_known}
+use Rattle.thorin_index.proofs.Each.{HavePassed, by_contribution, have_passed, used_known}
 use Rattle.thorin_index.proofs.ReadAgain.{index_is_read}
 
--- ---- a part
-part_again : (part : Option Contribution) → contribution (offset_or_0 part) (size_or_0 part)
-    ≡ non_empty part
-part_again None = refl
-part_again (Some part) = refl
+-- ---- a contribution
+range_of_numbers : (range : Option Contribution)
+    → contribution (offset_or_0 range) (size_or_0 range) ≡ non_empty range
+range_of_numbers None = refl
+range_of_numbers (Some range) = refl
 
-no_part : (part : Option Contribution) → is_some part ≡ false → non_empty part ≡ None
-no_part None is = refl
-no_part (Some part) is = absurd cc
+no_range : (range : Option Contribution) → is_some range ≡ false → non_empty range ≡ None
+no_range None is = refl
+no_range (Some range) is = absurd cc
 
--- what stands at the place that was found passes
+-- what stands at the position that was found passes
 found_at : (p : ℕ → Bool) (xs : List ℕ) (i : ℕ) → position_from p 0 xs ≡ Some i
     → (i < length xs) × (p (get_or xs i 0) ≡ true)
 found_at p xs i at =
@@ -66,10 +66,10 @@ module _ (version : ℕ) (entries : List IndexEntry) (passed : HavePassed versio
     abbrev Has : SectionKind → Type 0
     Has kind = is_some (contribution_to kind entry) ≡ true
 
-    -- the column of a section that the entry has a part of is among those that are used
+    -- the column of a section that the entry has a contribution to is among those that are used
     used_there : (kind : SectionKind) → Has kind
         → list_any (λ n. eqb n (number_of version kind)) (column_numbers version kinds) ≡ true
-    used_there = by_part (λ kind. Has kind → list_any (λ n. eqb n (number_of version kind))
+    used_there = by_contribution (λ kind. Has kind → list_any (λ n. eqb n (number_of version kind))
         (column_numbers version kinds) ≡ true) (λ i d less some.
         let kind = get_or contribution_kinds i d in
         let used : is_used entries kind ≡ true = list_any_at (λ e. is_some
@@ -86,7 +86,7 @@ module _ (version : ℕ) (entries : List IndexEntry) (passed : HavePassed versio
         → option_and_then (λ i. contribution (get_or (row_of entry).offsets i 0)
         (get_or (row_of entry).sizes i 0)) (option_and_then (λ c. position_from (λ n. eqb n c) 0
         (column_numbers version kinds)) column) ≡ non_empty (contribution_to kind entry)
-    range_by None kind is_column = sym (no_part _ (false_from_ne_true _ (λ some.
+    range_by None kind is_column = sym (no_range _ (false_from_ne_true _ (λ some.
         let known = passed.known r entry within kind (rw here some) in
         let none : has_number version kind ≡ false = ap is_some is_column in cc)))
     range_by (Some c) kind is_column =
@@ -95,11 +95,11 @@ module _ (version : ℕ) (entries : List IndexEntry) (passed : HavePassed versio
         number : number_of version kind ≡ c
         number = ap (λ o. unwrap_or o 0) is_column
 
-        by : (place : Option ℕ)
-            → position_from (λ n. eqb n c) 0 (column_numbers version kinds) ≡ place
+        by : (position : Option ℕ)
+            → position_from (λ n. eqb n c) 0 (column_numbers version kinds) ≡ position
             → option_and_then (λ i. contribution (get_or (row_of entry).offsets i 0)
-            (get_or (row_of entry).sizes i 0)) place ≡ non_empty (contribution_to kind entry)
-        by None at = sym (no_part _ (false_from_ne_true _ (λ some.
+            (get_or (row_of entry).sizes i 0)) position ≡ non_empty (contribution_to kind entry)
+        by None at = sym (no_range _ (false_from_ne_true _ (λ some.
             let there = rw number at (used_there kind some) in
             let absent = sym (is_some-position (λ n. eqb n c) 0 (column_numbers version kinds))
             ∙ ap is_some at in cc)))
@@ -118,7 +118,7 @@ module _ (version : ℕ) (entries : List IndexEntry) (passed : HavePassed versio
               get_or-map (λ k. offset_or_0 (contribution_to k entry)) kinds i Info 0 less,
               get_or-map (λ k. size_or_0 (contribution_to k entry)) kinds i Info 0 less,
               same,
-            ) (part_again (contribution_to kind entry))
+            ) (range_of_numbers (contribution_to kind entry))
 
     range_again : (kind : SectionKind)
         → range_in (row_of entry) kind ≡ non_empty (contribution_to kind entry)
@@ -155,7 +155,7 @@ module _ (version : ℕ) (entries : List IndexEntry) (passed : HavePassed versio
     each = λ r entry at. record {
       row = row_of entry;
       there = row_there r entry at rows;
-      parts = range_again r entry at;
+      contributions = range_again r entry at;
     };
   }
 

@@ -7,13 +7,13 @@ pub use Rattle.std.proofs.Common.{length-take, ltb, ltb-true, map, mul-suc, opti
 pub use Rattle.std.proofs.Common.{replicate, slice_get, subst, suc, sym, take, true, unwrap_or}
 pub use Rattle.std.proofs.Common.{vec_len, zero, ℕ, ◌&&◌, ◌*◌, ◌++◌, ◌+◌, ◌-◌, ◌<◌, ◌^◌, ◌∙◌, ◌∷◌}
 pub use Rattle.std.proofs.Common.{◌≡◌, ◌≤◌}
-pub use Rattle.std.proofs.lemmas.Bool.{cases_lt, cond-true, false_from_ne_true}
+pub use Rattle.std.proofs.lemmas.Bool.{cases_lt, false_from_ne_true}
 pub use Rattle.std.proofs.lemmas.List.{at_drop_more, drop_all, get_or-map, get_or_append_left}
 pub use Rattle.std.proofs.lemmas.List.{get_or_default, get_or_push, length-map, length-take-le}
 pub use Rattle.std.proofs.lemmas.List.{length_push, map-id, map_more, map_push, take-map}
 pub use Rattle.std.proofs.lemmas.List.Elements.{All-push, filter_passes}
 pub use Rattle.dwp_base.proofs.Bools.{by-bool}
-pub use Rattle.dwp_base.proofs.EveryKind.{HoldsAll, every, same-each}
+pub use Rattle.dwp_base.proofs.EveryKind.{HoldsAll, every}
 pub use Rattle.dwp_base.specs.Numbers.{number, number_bytes}
 pub use Rattle.dwp_base.specs.declared.endian.Endianness.{Endianness}
 pub use Rattle.dwp_base.specs.declared.endian.Endianness.TheVariants.{Big, Little}
@@ -27,14 +27,14 @@ pub use Rattle.dwp_table.specs.Columns.{column_of, contribution_kinds}
 pub use Rattle.dwp_table.specs.Objects.{identifier_of}
 pub use Rattle.dwp_table.specs.Table.{AreDistinct, IsHashTable, IsPlacedAfter, signature_of}
 pub use Rattle.thorin_index.specs.Buckets.{IsLooked}
+pub use Rattle.thorin_index.specs.ContributionTests.{test_of}
 pub use Rattle.thorin_index.specs.Entries.{contribution_to, entry_by, offset_or_0, size_or_0}
-pub use Rattle.thorin_index.specs.EntryTests.{each, encoding_test, parts_test}
+pub use Rattle.thorin_index.specs.EntryTests.{contributions_test, each, encoding_test}
 unfoldable pub use Rattle.thorin_index.specs.EntryTests.{tests_under}
 pub use Rattle.thorin_index.specs.IndexText.{IsIndexText, column_numbers, entry_ids, is_used}
 pub use Rattle.thorin_index.specs.IndexText.{numbers_bytes, row_numbers, rows_bytes}
 pub use Rattle.thorin_index.specs.IndexText.{signatures_bytes, used_sections}
 pub use Rattle.thorin_index.specs.Measures.{measure_of}
-pub use Rattle.thorin_index.specs.PartTests.{test_of}
 pub use Rattle.thorin_index.specs.ReadBack.{index_with}
 pub use Rattle.thorin_index.specs.Rows.{blank, row_of, with_own}
 pub use Rattle.thorin_index.specs.declared.entry.IndexEntry.{IndexEntry}

@@ -10,7 +10,7 @@ use Rattle.dwp_bytes.specs.declared.encoding.Encoding.{Encoding}
 use Rattle.dwp_table.specs.declared.object.DwarfObject.{DwarfObject}
 use Rattle.thorin_index.specs.declared.entry.IndexEntry.{IndexEntry}
 
--- the entry's part of a section
+-- the entry's contribution to a section
 abbrev pub contribution_to : SectionKind → IndexEntry → Option Contribution
 contribution_to Info entry = entry.debug_info
 contribution_to Types entry = entry.debug_types
@@ -26,24 +26,24 @@ contribution_to Str entry = None
 contribution_to CuIndex entry = None
 contribution_to TuIndex entry = None
 
--- the entry of a unit whose part of each section that has a column is as given
+-- the entry of a unit whose contribution to each section that has a column is as given
 abbrev pub entry_by : Encoding → DwarfObject → (SectionKind → Option Contribution) → IndexEntry
-entry_by encoding id part = record {
+entry_by encoding id range = record {
   encoding = encoding;
   id = id;
-  debug_info = part Info;
-  debug_types = part Types;
-  debug_abbrev = part Abbrev;
-  debug_line = part Line;
-  debug_loc = part Loc;
-  debug_loclists = part Loclists;
-  debug_rnglists = part Rnglists;
-  debug_str_offsets = part StrOffsets;
-  debug_macinfo = part Macinfo;
-  debug_macro = part Macro;
+  debug_info = range Info;
+  debug_types = range Types;
+  debug_abbrev = range Abbrev;
+  debug_line = range Line;
+  debug_loc = range Loc;
+  debug_loclists = range Loclists;
+  debug_rnglists = range Rnglists;
+  debug_str_offsets = range StrOffsets;
+  debug_macinfo = range Macinfo;
+  debug_macro = range Macro;
 }
 
--- where a part begins and how much it has; an absent one has 0 for both
+-- where a contribution begins and how much it has; an absent one has 0 for both
 abbrev pub offset_or_0 : Option Contribution → ℕ
 offset_or_0 None = 0
 offset_or_0 (Some c) = c.offset.0

@@ -46,37 +46,37 @@ abbrev pub encoding_test : Encoding → IndexEntry → Result (Unit {0}) ErrorVa
 encoding_test encoding entry =
     if same_encoding entry.encoding encoding then Ok tt else Err MixedInputEncodings
 
--- the index of the version has a column for a part that is there
+-- the index of the version has a column for a contribution that is there
 abbrev pub format_test : ℕ → SectionKind → Option Contribution → Result (Unit {0}) ErrorValue
 format_test version kind None = Ok tt
-format_test version kind (Some part) =
+format_test version kind (Some range) =
     if is_some (column_of version kind) then Ok tt else Err (SectionOutsideFormat (name_of kind))
 
 abbrev pub offset_test : SectionKind → Option Contribution → Result (Unit {0}) ErrorValue
-offset_test kind part = number_test (codes "contribution offset") (offset_or_0 part)
+offset_test kind range = number_test (codes "contribution offset") (offset_or_0 range)
 
 abbrev pub size_test : SectionKind → Option Contribution → Result (Unit {0}) ErrorValue
-size_test kind part = number_test (codes "contribution size") (size_or_0 part)
+size_test kind range = number_test (codes "contribution size") (size_or_0 range)
 
--- a test of an entry's parts of some sections
-abbrev pub each_part : (SectionKind → Option Contribution → Result (Unit {0}) ErrorValue)
+-- a test of an entry's contributions to some sections
+abbrev pub each_contribution : (SectionKind → Option Contribution → Result (Unit {0}) ErrorValue)
     → List SectionKind → IndexEntry → Result (Unit {0}) ErrorValue
-each_part test kinds entry = each (λ kind. test kind (contribution_to kind entry)) kinds
+each_contribution test kinds entry = each (λ kind. test kind (contribution_to kind entry)) kinds
 
--- a test of all parts of an entry, in the order of the columns
-abbrev pub parts_test : (SectionKind → Option Contribution → Result (Unit {0}) ErrorValue)
+-- a test of all contributions of an entry, in the order of the columns
+abbrev pub contributions_test : (SectionKind → Option Contribution → Result (Unit {0}) ErrorValue)
     → IndexEntry
     → Result (Unit {0}) ErrorValue
-parts_test test entry = each_part test contribution_kinds entry
+contributions_test test entry = each_contribution test contribution_kinds entry
 
 -- all tests, in the order in which their errors are answered
 unfoldable pub tests_under : Encoding → List IndexEntry → Result (Unit {0}) ErrorValue
 tests_under encoding entries = do
   _ ← count_test (length entries)
   _ ← each (encoding_test encoding) entries
-  _ ← each (parts_test (format_test (index_version_of encoding.version))) entries
-  _ ← each (parts_test offset_test) entries
-  each (parts_test size_test) entries
+  _ ← each (contributions_test (format_test (index_version_of encoding.version))) entries
+  _ ← each (contributions_test offset_test) entries
+  each (contributions_test size_test) entries
 
 -- the encoding of an index is its first entry's
 abbrev pub index_tests : List IndexEntry → Result (Unit {0}) ErrorValue

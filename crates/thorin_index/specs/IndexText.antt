@@ -23,11 +23,11 @@ abbrev pub version_bytes : Endianness → ℕ → List ℕ
 version_bytes order version =
     if version == 5 then number_bytes order 2 5 ++ (0 ∷ 0 ∷ []) else number_bytes order 4 2
 
--- some entry has a part of the section
+-- some entry has a contribution to the section
 abbrev pub is_used : List IndexEntry → SectionKind → Bool
 is_used entries kind = list_any (λ entry. is_some (contribution_to kind entry)) entries
 
--- the sections that some entry has a part of, in the order of the columns
+-- the sections that some entry has a contribution to, in the order of the columns
 abbrev pub used_sections : List IndexEntry → List SectionKind
 used_sections entries = filter (is_used entries) contribution_kinds
 
@@ -52,8 +52,8 @@ signatures_bytes order ids rows = flat_map (λ row. number_bytes order 8 (signat
 abbrev pub entry_ids : List IndexEntry → List ℕ
 entry_ids entries = map (λ entry. identifier_of entry.id) entries
 
--- header, slots, columns, offsets, sizes: of an index version, of entries with parts of these
--- sections, and with the row numbers of the slots
+-- header, slots, columns, offsets, sizes: of an index version, of entries with contributions to
+-- these sections, and with the row numbers of the slots
 unfoldable pub index_bytes : Endianness → ℕ → List SectionKind → List IndexEntry → List ℕ → List ℕ
 index_bytes order version kinds entries rows =
     version_bytes order version

@@ -1,9 +1,9 @@
 pub mod Buckets
+pub mod ContributionTests
 pub mod Entries
 pub mod EntryTests
 pub mod IndexText
 pub mod Measures
-pub mod PartTests
 pub mod ReadBack
 pub mod ReadRows
 pub mod Rows

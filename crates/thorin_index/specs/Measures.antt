@@ -1,4 +1,4 @@
--- Offset and size of a part, by their names in the code.
+-- Offset and size of a contribution, by their names in the code.
 use Rattle.std.specs.Prelude.{ℕ, Option}
 use Rattle.dwp_base.specs.declared.section.Contribution.{Contribution}
 use Rattle.thorin_index.specs.declared.index_writer.Measure.{Measure}

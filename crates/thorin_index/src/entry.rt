@@ -12,25 +12,25 @@ pub struct IndexEntry {
     pub encoding: Encoding,
     /// The unit.
     pub id: DwarfObject,
-    /// Its part of `.debug_info.dwo`.
+    /// Its contribution to `.debug_info.dwo`.
     pub debug_info: Option<Contribution>,
-    /// Its part of `.debug_types.dwo`.
+    /// Its contribution to `.debug_types.dwo`.
     pub debug_types: Option<Contribution>,
-    /// Its part of `.debug_abbrev.dwo`.
+    /// Its contribution to `.debug_abbrev.dwo`.
     pub debug_abbrev: Option<Contribution>,
-    /// Its part of `.debug_line.dwo`.
+    /// Its contribution to `.debug_line.dwo`.
     pub debug_line: Option<Contribution>,
-    /// Its part of `.debug_loc.dwo`.
+    /// Its contribution to `.debug_loc.dwo`.
     pub debug_loc: Option<Contribution>,
-    /// Its part of `.debug_loclists.dwo`.
+    /// Its contribution to `.debug_loclists.dwo`.
     pub debug_loclists: Option<Contribution>,
-    /// Its part of `.debug_rnglists.dwo`.
+    /// Its contribution to `.debug_rnglists.dwo`.
     pub debug_rnglists: Option<Contribution>,
-    /// Its part of `.debug_str_offsets.dwo`.
+    /// Its contribution to `.debug_str_offsets.dwo`.
     pub debug_str_offsets: Option<Contribution>,
-    /// Its part of `.debug_macinfo.dwo`.
+    /// Its contribution to `.debug_macinfo.dwo`.
     pub debug_macinfo: Option<Contribution>,
-    /// Its part of `.debug_macro.dwo`.
+    /// Its contribution to `.debug_macro.dwo`.
     pub debug_macro: Option<Contribution>,
 }
 
@@ -49,32 +49,32 @@ impl IndexEntry {
     ghost use Rattle.dwp_base.specs.ByKind.{value_of, values_of};
     ghost use Rattle.thorin_index.specs.Entries.{contribution_to, entry_by};
 
-    /// The entry of a unit that has these parts. Those of sections that an index has no column for
-    /// are left out.
+    /// The entry of a unit that has these contributions. Those to sections that an index has no
+    /// column for are left out.
     pub fn by_kind(
         encoding: Encoding,
         id: DwarfObject,
-        parts: &ByKind<Option<Contribution>>,
+        contributions: &ByKind<Option<Contribution>>,
     ) -> IndexEntry
-        ensures { result ≡ entry_by encoding id (value_of None (values_of parts.now)) }
+        ensures { result ≡ entry_by encoding id (value_of None (values_of contributions.now)) }
     {
         IndexEntry {
             encoding,
             id,
-            debug_info: parts.get(SectionKind::Info),
-            debug_types: parts.get(SectionKind::Types),
-            debug_abbrev: parts.get(SectionKind::Abbrev),
-            debug_line: parts.get(SectionKind::Line),
-            debug_loc: parts.get(SectionKind::Loc),
-            debug_loclists: parts.get(SectionKind::Loclists),
-            debug_rnglists: parts.get(SectionKind::Rnglists),
-            debug_str_offsets: parts.get(SectionKind::StrOffsets),
-            debug_macinfo: parts.get(SectionKind::Macinfo),
-            debug_macro: parts.get(SectionKind::Macro),
+            debug_info: contributions.get(SectionKind::Info),
+            debug_types: contributions.get(SectionKind::Types),
+            debug_abbrev: contributions.get(SectionKind::Abbrev),
+            debug_line: contributions.get(SectionKind::Line),
+            debug_loc: contributions.get(SectionKind::Loc),
+            debug_loclists: contributions.get(SectionKind::Loclists),
+            debug_rnglists: contributions.get(SectionKind::Rnglists),
+            debug_str_offsets: contributions.get(SectionKind::StrOffsets),
+            debug_macinfo: contributions.get(SectionKind::Macinfo),
+            debug_macro: contributions.get(SectionKind::Macro),
         }
     }
 
-    /// The unit's part of a section; none for one that an index has no column for.
+    /// The unit's contribution to a section; none to one that an index has no column for.
     pub fn contribution(&self, kind: SectionKind) -> Option<Contribution>
         ensures { result ≡ contribution_to kind self.now }
     {

@@ -1,12 +1,13 @@
 //! What is tested of entries before an index is written of them.
 
 ghost use Rattle.std.specs.Prelude.{◌≡◌, ◌<◌, ◌≤◌, get_or, length, All, Ok, OnOk};
-ghost use Rattle.thorin_index.specs.Entries.{offset_or_0, size_or_0};
-ghost use Rattle.thorin_index.specs.IndexText.{FitsRow};
 ghost use Rattle.thorin_errors.specs.Answers.{Gives};
-ghost use Rattle.thorin_index.specs.EntryTests.{count_test, each, each_part, encoding_test};
-ghost use Rattle.thorin_index.specs.EntryTests.{number_test, parts_test, tests_under};
-ghost use Rattle.thorin_index.specs.PartTests.{test_of};
+ghost use Rattle.thorin_index.specs.ContributionTests.{test_of};
+ghost use Rattle.thorin_index.specs.Entries.{offset_or_0, size_or_0};
+ghost use Rattle.thorin_index.specs.EntryTests.{contributions_test, count_test, each};
+ghost use Rattle.thorin_index.specs.EntryTests.{each_contribution, encoding_test, number_test};
+ghost use Rattle.thorin_index.specs.EntryTests.{tests_under};
+ghost use Rattle.thorin_index.specs.IndexText.{FitsRow};
 ghost use Rattle.thorin_index.specs.Rows.{blank};
 
 use crate::rows::IndexRows;
@@ -19,9 +20,9 @@ use thorin_errors::Error;
 /// 32 bits, and so does the number of slots.
 const UNIT_LIMIT: usize = 1_431_655_765;
 
-/// What is tested of an entry's part of a section.
+/// What is tested of an entry's contribution to a section.
 #[derive(Clone, Copy)]
-pub enum PartTest {
+pub enum ContributionTest {
     /// The index of this version has a column for the section.
     Format(u16),
     /// The offset fits 32 bits.
@@ -53,11 +54,11 @@ fn test_number(what: &'static str, number: u64) -> Result<(), Error>
     Ok(())
 }
 
-fn test_encoding(encoding: Encoding, rows: &IndexRows, place: usize) -> Result<(), Error>
-    requires { place < length rows.now }
-    ensures { Gives (λ x. x) result (encoding_test encoding (get_or rows.now place blank)) }
+fn test_encoding(encoding: Encoding, rows: &IndexRows, position: usize) -> Result<(), Error>
+    requires { position < length rows.now }
+    ensures { Gives (λ x. x) result (encoding_test encoding (get_or rows.now position blank)) }
 {
-    if rows.encoding(place) == encoding {
+    if rows.encoding(position) == encoding {
         Ok(())
     } else {
         Err(Error::MixedInputEncodings)
@@ -67,47 +68,52 @@ fn test_encoding(encoding: Encoding, rows: &IndexRows, place: usize) -> Result<(
 fn test_encodings(encoding: Encoding, rows: &IndexRows) -> Result<(), Error>
     ensures { Gives (λ x. x) result (each (encoding_test encoding) rows.now) }
 {
-    for place in 0..rows.len() {
-        test_encoding(encoding, rows, place)?;
+    for position in 0..rows.len() {
+        test_encoding(encoding, rows, position)?;
     }
     Ok(())
 }
 
-impl PartTest {
-    fn test(self, kind: SectionKind, part: Option<Contribution>) -> Result<(), Error>
-        ensures { Gives (λ x. x) result (test_of self kind part) }
+impl ContributionTest {
+    fn test(self, kind: SectionKind, range: Option<Contribution>) -> Result<(), Error>
+        ensures { Gives (λ x. x) result (test_of self kind range) }
     {
-        let Some(part) = part else {
+        let Some(range) = range else {
             return Ok(());
         };
         match self {
-            PartTest::Format(version) => match column_of(version, kind) {
+            ContributionTest::Format(version) => match column_of(version, kind) {
                 Some(_) => Ok(()),
                 None => Err(Error::SectionOutsideFormat(kind.name())),
             },
-            PartTest::Offset => test_number("contribution offset", part.offset.0),
-            PartTest::Size => test_number("contribution size", part.size),
+            ContributionTest::Offset => test_number("contribution offset", range.offset.0),
+            ContributionTest::Size => test_number("contribution size", range.size),
         }
     }
 
-    fn test_parts(self, kinds: &[SectionKind], rows: &IndexRows, place: usize) -> Result<(), Error>
-        requires { place < length rows.now }
+    fn test_contributions(
+        self,
+        kinds: &[SectionKind],
+        rows: &IndexRows,
+        position: usize,
+    ) -> Result<(), Error>
+        requires { position < length rows.now }
         ensures { Gives (λ x. x) result
-            (each_part (test_of self) kinds.now (get_or rows.now place blank)) }
+            (each_contribution (test_of self) kinds.now (get_or rows.now position blank)) }
     {
         for kind in kinds {
-            self.test(*kind, rows.contribution(place, *kind))?;
+            self.test(*kind, rows.contribution(position, *kind))?;
         }
         Ok(())
     }
 
-    fn test_entries(self, rows: &IndexRows) -> Result<(), Error>
-        ensures exact { Gives (λ x. x) result (each (parts_test (test_of self)) rows.now) }
+    fn test_each(self, rows: &IndexRows) -> Result<(), Error>
+        ensures exact { Gives (λ x. x) result (each (contributions_test (test_of self)) rows.now) }
         ensures passed { OnOk result
-            (All (λ entry. parts_test (test_of self) entry ≡ Ok tt) rows.now) }
+            (All (λ entry. contributions_test (test_of self) entry ≡ Ok tt) rows.now) }
     {
-        for place in 0..rows.len() {
-            self.test_parts(&CONTRIBUTION_KINDS, rows, place)?;
+        for position in 0..rows.len() {
+            self.test_contributions(&CONTRIBUTION_KINDS, rows, position)?;
         }
         Ok(())
     }
@@ -127,7 +133,7 @@ pub fn test_entries(encoding: Encoding, rows: &IndexRows) -> Result<(), Error>
 {
     test_count(rows.len())?;
     test_encodings(encoding, rows)?;
-    PartTest::Format(encoding.dwarf_package_index_version()).test_entries(rows)?;
-    PartTest::Offset.test_entries(rows)?;
-    PartTest::Size.test_entries(rows)
+    ContributionTest::Format(encoding.dwarf_package_index_version()).test_each(rows)?;
+    ContributionTest::Offset.test_each(rows)?;
+    ContributionTest::Size.test_each(rows)
 }

@@ -37,9 +37,9 @@ use thorin_errors::Error;
 ///
 /// # Errors
 /// In this order: `NumberTooLarge` for more units than an index can name; `MixedInputEncodings`
-/// where encodings differ; `SectionOutsideFormat` for a part of a section that packages of the
-/// version don't have; `NumberTooLarge` for an offset past 32 bits, then for a size. Beside these
-/// `Memory` alone.
+/// where encodings differ; `SectionOutsideFormat` for a contribution to a section that packages of
+/// the version don't have; `NumberTooLarge` for an offset past 32 bits, then for a size. Beside
+/// these `Memory` alone.
 pub fn write_index(
     alloc: Global,
     endianness: Endianness,
@@ -122,7 +122,7 @@ fn put_counts(
     put_numbers(out, order, &[columns, units, slots])
 }
 
-/// Those of the sections that some row has a part of.
+/// Those of the sections that some row has a contribution to.
 fn used_among(
     alloc: Global,
     kinds: &[SectionKind],
@@ -140,12 +140,12 @@ fn used_among(
     Ok(columns)
 }
 
-/// Whether some row has a part of the section.
+/// Whether some row has a contribution to the section.
 fn is_used(rows: &IndexRows, kind: SectionKind) -> bool
     ensures { result ≡ is_used rows.now kind }
 {
-    for place in 0..rows.len() {
-        if rows.contribution(place, kind).is_some() {
+    for position in 0..rows.len() {
+        if rows.contribution(position, kind).is_some() {
             return true;
         }
     }
@@ -217,7 +217,7 @@ fn put_columns(
     Ok(())
 }
 
-/// Which number of a unit's part of a section.
+/// Which number of a unit's contribution to a section.
 #[derive(Clone, Copy)]
 enum Measure {
     Offset,
@@ -225,13 +225,13 @@ enum Measure {
 }
 
 impl Measure {
-    fn of(self, part: Option<Contribution>) -> u64
-        ensures { result ≡ measure_of self part }
+    fn of(self, range: Option<Contribution>) -> u64
+        ensures { result ≡ measure_of self range }
     {
-        match (self, part) {
+        match (self, range) {
             (_, None) => 0,
-            (Measure::Offset, Some(part)) => part.offset.0,
-            (Measure::Size, Some(part)) => part.size,
+            (Measure::Offset, Some(range)) => range.offset.0,
+            (Measure::Size, Some(range)) => range.size,
         }
     }
 }
@@ -247,8 +247,8 @@ fn put_rows(
     ensures { OnOk result (out.new.items
         ≡ out.old.items ++ rows_bytes order (measure_of measure) columns.now rows.now) }
 {
-    for place in 0..rows.len() {
-        put_row(out, order, measure, columns, rows, place)?;
+    for position in 0..rows.len() {
+        put_row(out, order, measure, columns, rows, position)?;
     }
     Ok(())
 }
@@ -259,15 +259,15 @@ fn put_row(
     measure: Measure,
     columns: &[SectionKind],
     rows: &IndexRows,
-    place: usize,
+    position: usize,
 ) -> Result<(), AllocError>
-    requires within { place < length rows.now }
-    requires fits { FitsRow (measure_of measure) (get_or rows.now place blank) }
+    requires within { position < length rows.now }
+    requires fits { FitsRow (measure_of measure) (get_or rows.now position blank) }
     ensures { OnOk result (out.new.items ≡ out.old.items ++ numbers_bytes order
-        (row_numbers (measure_of measure) columns.now (get_or rows.now place blank))) }
+        (row_numbers (measure_of measure) columns.now (get_or rows.now position blank))) }
 {
     for kind in columns {
-        let number = measure.of(rows.contribution(place, *kind)) as u32;
+        let number = measure.of(rows.contribution(position, *kind)) as u32;
         out.extend_from_slice(&order.bytes_of_u32(number))?;
     }
     Ok(())

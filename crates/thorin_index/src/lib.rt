@@ -1,5 +1,5 @@
-//! Writing an index (DWARF 5, 7.3.5.3; the GNU page DebugFissionDWP): its entries and rows, its hash
-//! table, its bytes.
+//! Writing an index (DWARF 5, 7.3.5.3; the GNU page DebugFissionDWP): its entries and rows, its
+//! hash table, its bytes.
 #![tactic(auto)]
 
 mod buckets;

@@ -53,7 +53,9 @@ fn split(entry: &IndexEntry) -> (Own, IndexEntry)
 {
     let mut shared = *entry;
     shared.id = DwarfObject::TypeUnit(DebugTypeSignature(0));
-    match (entry.debug_info, entry.debug_types) {
+    let info = entry.contribution(SectionKind::Info);
+    let types = entry.contribution(SectionKind::Types);
+    match (info, types) {
         (Some(range), _) => {
             shared.debug_info = None;
             (Own::Info(range), shared)
@@ -122,8 +124,8 @@ pub fn share(entries: &mut Vec<IndexEntry>, entry: &IndexEntry) -> Result<usize,
 /// The rows of an index. In clauses they are the list of their entries.
 ///
 /// The units of an object share their contributions to all sections but the one that they stand in.
-/// Of rows that follow each other and share these, each but the first takes 48 bytes, where an entry
-/// takes 264.
+/// Of rows that follow each other and share these, each but the first takes 48 bytes, where an
+/// entry takes 264.
 #[derive(Drop)]
 pub struct IndexRows {
     rows: Vec<Row>,
@@ -162,27 +164,27 @@ impl IndexRows {
     }
 
     /// The unit of a row.
-    pub fn unit(&self, place: usize) -> DwarfObject
-        requires { place < length self.now }
-        ensures { result ≡ (get_or self.now place blank).id }
+    pub fn unit(&self, position: usize) -> DwarfObject
+        requires { position < length self.now }
+        ensures { result ≡ (get_or self.now position blank).id }
     {
-        self.rows[place].id
+        self.rows[position].id
     }
 
     /// The encoding of a row's unit.
-    pub fn encoding(&self, place: usize) -> Encoding
-        requires { place < length self.now }
-        ensures { result ≡ (get_or self.now place blank).encoding }
+    pub fn encoding(&self, position: usize) -> Encoding
+        requires { position < length self.now }
+        ensures { result ≡ (get_or self.now position blank).encoding }
     {
-        self.shared[self.rows[place].shared].encoding
+        self.shared[self.rows[position].shared].encoding
     }
 
     /// The contribution of a row's unit to a section; none to one that an index has no column for.
-    pub fn contribution(&self, place: usize, kind: SectionKind) -> Option<Contribution>
-        requires { place < length self.now }
-        ensures { result ≡ contribution_to kind (get_or self.now place blank) }
+    pub fn contribution(&self, position: usize, kind: SectionKind) -> Option<Contribution>
+        requires { position < length self.now }
+        ensures { result ≡ contribution_to kind (get_or self.now position blank) }
     {
-        let Row { own, shared, .. } = self.rows[place];
+        let Row { own, shared, .. } = self.rows[position];
         match (kind, own) {
             (SectionKind::Info, Own::Info(range)) => Some(range),
             (SectionKind::Types, Own::Types(range)) => Some(range),
@@ -191,11 +193,11 @@ impl IndexRows {
     }
 
     /// The entry of a row.
-    pub fn entry(&self, place: usize) -> IndexEntry
-        requires { place < length self.now }
-        ensures { result ≡ get_or self.now place result }
+    pub fn entry(&self, position: usize) -> IndexEntry
+        requires { position < length self.now }
+        ensures { result ≡ get_or self.now position result }
     {
-        let row = self.rows[place];
+        let row = self.rows[position];
         let mut entry = self.shared[row.shared];
         entry.id = row.id;
         match row.own {

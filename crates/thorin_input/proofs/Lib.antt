@@ -1,4 +1,4 @@
 pub mod Walking
 pub mod NewUnitLemmas
 pub mod Ends
-pub mod RowParts
+pub mod RowContributions

@@ -7,13 +7,13 @@ use Rattle.std.proofs.Math.Bool.{or_assoc, or-false}
 use Rattle.dwp_base.specs.declared.endian.Endianness.{Endianness}
 use Rattle.dwp_base.specs.declared.section.SectionKind.{SectionKind}
 use Rattle.dwp_base.specs.declared.section.SectionKind.TheVariants as kinds
-use Rattle.dwp_base.specs.Sections.{name_of, compressed_name_of, kind_named, all_kinds}
+use Rattle.dwp_base.specs.Sections.{name_of, kind_named, all_kinds}
 use Rattle.dwp_elf_read.specs.declared.error.ReadError.TheVariants.{Compressed, SectionRange}
-use Rattle.dwp_elf_read.specs.Elf.{Elf, SectionMeaning, SHT_NOBITS, name_is, is_named}
-use Rattle.dwp_elf_read.specs.Elf.{has_compressed_flag}
+use Rattle.dwp_elf_read.specs.Elf.{Elf, SectionMeaning, SHT_NOBITS, has_compressed_flag}
+use Rattle.dwp_elf_read.specs.Elf.{has_name, has_older_name, is_named}
 use Rattle.dwp_elf_read.specs.View.{Placed, placed_sections}
 use Rattle.dwp_index.specs.Contents as contents
-use Rattle.dwp_index.specs.Contents.{has_name, is_of_kind}
+use Rattle.dwp_index.specs.Contents.{is_of_kind}
 use Rattle.thorin_errors.specs.Errors.{ErrorValue, error_of, DecompressData, ObjectRead}
 use Rattle.thorin_errors.specs.Answers.{Gives, MemoryAside, as_error}
 use Rattle.thorin_errors.specs.declared.error.Error.{Error}
@@ -24,7 +24,6 @@ use Rattle.thorin_input.specs.View as view
 use Rattle.thorin_input.specs.declared.object.InputObject.{InputObject}
 use Rattle.thorin_input.specs.declared.object.UsedSection.{UsedSection}
 use Rattle.thorin_input.specs.declared.walk.Taken.{Taken}
-use Rattle.dwp_index.proofs.Called.{called_is_older}
 
 -- ---- one section
 
@@ -45,16 +44,16 @@ kind-full s h = rw h (full s.name)
     full (Some own) = refl
 
 pub bytes-compressed : (kind : SectionKind) (s : SectionMeaning)
-    → (has_compressed_flag s || name_is (compressed_name_of kind) s.name) ≡ true
+    → (has_compressed_flag s || has_older_name kind s.name) ≡ true
     → used_bytes kind s ≡ Err (DecompressData Compressed)
 unfolding used_bytes contents.used_bytes
-bytes-compressed kind s h = rw (← called_is_older kind s.name, h) refl
+bytes-compressed kind s h = rw h refl
 
 pub bytes-plain : (kind : SectionKind) (s : SectionMeaning)
-    → (has_compressed_flag s || name_is (compressed_name_of kind) s.name) ≡ false
+    → (has_compressed_flag s || has_older_name kind s.name) ≡ false
     → used_bytes kind s ≡ as_error ObjectRead (ok_or s.content SectionRange)
 unfolding used_bytes contents.used_bytes
-bytes-plain kind s h = grind (arith, called_is_older kind s.name, h)
+bytes-plain kind s h = grind (arith, h)
 
 -- ---- kinds among those that are used
 

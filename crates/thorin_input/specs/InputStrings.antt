@@ -4,7 +4,7 @@ use Rattle.std.specs.Prelude.{ℕ, List, length, Result, if◌then◌else◌}
 use Rattle.dwp_base.specs.declared.section.SectionKind.TheVariants.{Str}
 use Rattle.thorin_errors.specs.Errors.{ErrorValue}
 use Rattle.thorin_strings.specs.StringOffsets.{remapped}
-use Rattle.thorin_packaged.specs.PackagedOffsets.{packaged_offsets}
+use Rattle.thorin_package_input.specs.PackagedOffsets.{packaged_offsets}
 use Rattle.thorin_input.specs.Indexes.{Source, is_package}
 use Rattle.thorin_input.specs.Used.{first}
 

@@ -21,7 +21,7 @@ use Rattle.thorin_input.specs.Adjusting.{adjusted}
 use Rattle.thorin_input.specs.Format.{is_shared}
 use Rattle.thorin_index.specs.Entries.{contribution_to, entry_by}
 use Rattle.thorin_index.specs.declared.entry.IndexEntry.{IndexEntry}
-use Rattle.thorin_packaged.specs.RowPlaces.{row_by_place}
+use Rattle.thorin_package_input.specs.RowPlaces.{row_by_place}
 use Rattle.thorin_errors.specs.Errors.{BadContribution, ErrorValue, RowNotInIndex, UnitNotInIndex}
 use Rattle.thorin_errors.specs.Answers.{as_error}
 use Rattle.dwp_elf.specs.Growing.{Contents, contribution_put}

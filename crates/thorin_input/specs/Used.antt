@@ -14,10 +14,10 @@ use Rattle.dwp_elf_read.specs.declared.error.ReadError.TheVariants.{Compressed}
 use Rattle.dwp_elf_read.specs.declared.kind.FileKind.{FileKind}
 use Rattle.dwp_elf_read.specs.declared.kind.FileKind.TheVariants.{Archive, Elf32, Elf64}
 use Rattle.dwp_elf_read.specs.Elf as elf
-use Rattle.dwp_elf_read.specs.Elf.{Elf, SectionMeaning, elf_of}
+use Rattle.dwp_elf_read.specs.Elf.{Elf, SectionMeaning, elf_of, is_of}
 use Rattle.dwp_elf_read.specs.Identification as identification
 use Rattle.dwp_index.specs.Contents as contents
-use Rattle.dwp_index.specs.Contents.{has_name, is_of_kind}
+use Rattle.dwp_index.specs.Contents.{is_of_kind}
 use Rattle.thorin_errors.specs.Errors.{ErrorValue, ParseFileKind, InvalidInputKind, ParseObjectFile}
 use Rattle.thorin_errors.specs.Errors.{DecompressData, ObjectRead}
 use Rattle.thorin_errors.specs.Answers.{as_error}
@@ -39,10 +39,6 @@ unfoldable pub opened : List ℕ → Result Elf ErrorValue
 opened bytes = do
   kind ← as_error ParseFileKind (identification.kind_of bytes)
   elf_in bytes kind
-
--- a section has one of the names of a kind
-abbrev pub is_of : SectionKind → SectionMeaning → Bool
-is_of kind section = has_name kind section.name
 
 -- a section of units of split objects is there, an empty one too
 abbrev pub has_info : Elf → Bool

@@ -8,7 +8,7 @@ use Rattle.thorin_index.specs.declared.entry.IndexEntry.{IndexEntry}
 use Rattle.thorin_input.specs.Format.{is_shared}
 
 abbrev pub EndFits : Option Contribution → Type 0
-EndFits part = ForSome part (λ c. c.offset.0 + c.size < 2 ^ 64)
+EndFits range = ForSome range (λ c. c.offset.0 + c.size < 2 ^ 64)
 
 -- those of a row, but for the unit's own bytes
 abbrev pub EndsFit : IndexEntry → Type 0

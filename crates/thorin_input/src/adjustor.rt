@@ -85,9 +85,9 @@ impl<'i, 'a> ContributionAdjustor<'i, 'a> {
         self.adjust_row(unit, number, whole)
     }
 
-    /// What `adjust` answers, of a unit that was looked up before: `number` is that of its row in the
-    /// index of its kind, and None where that index is missing, or doesn't name the unit. So a unit
-    /// is looked up once for all sections of an input.
+    /// What `adjust` answers, of a unit that was looked up before: `number` is that of its row in
+    /// the index of its kind, and None where that index is missing, or doesn't name the unit. So a
+    /// unit is looked up once for all sections of an input.
     ///
     /// # Errors
     /// Those of `adjust`.
@@ -134,8 +134,8 @@ impl<'i, 'a> ContributionAdjustor<'i, 'a> {
     }
 }
 
-/// The row number that looking an identifier up gives.
-fn looked_up(index: Option<&UnitIndex<'_>>, identifier: u64) -> Option<u32>
+/// The row number that looking an identifier up gives; none where the index is missing.
+pub(crate) fn looked_up(index: Option<&UnitIndex<'_>>, identifier: u64) -> Option<u32>
     ensures { result ≡ looked_up (option_copied index.entry) identifier }
 {
     match index {

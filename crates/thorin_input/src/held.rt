@@ -30,11 +30,14 @@ pub struct Held<'p> {
 fn unit_bytes<'p>(object: &'p WritableObject, row: &IndexEntry) -> &'p [u8]
     ensures { result.now ≡ spec.unit_bytes object.now.contents row.now }
 {
-    match (row.id, row.debug_types) {
+    match (row.id, row.contribution(SectionKind::Types)) {
         (DwarfObject::TypeUnit(_), Some(range)) => {
             part_of(object.content(SectionKind::Types), Some(range))
         }
-        _ => part_of(object.content(SectionKind::Info), row.debug_info),
+        _ => part_of(
+            object.content(SectionKind::Info),
+            row.contribution(SectionKind::Info),
+        ),
     }
 }
 
@@ -45,9 +48,9 @@ impl<'p> Held<'p> {
             ≡ lookup (same_name name)
             (spec.held_units self.now.object.now.contents self.now.rows.now) }
     {
-        let Some(place) = self.names.get_index_of(&name) else {
+        let Some(position) = self.names.get_index_of(&name) else {
             return None;
         };
-        Some(unit_bytes(self.object, &self.rows.entry(place)))
+        Some(unit_bytes(self.object, &self.rows.entry(position)))
     }
 }

@@ -22,7 +22,7 @@ use dwp_elf::WritableObject;
 use dwp_table::{CONTRIBUTION_KINDS, column_of};
 use std::alloc::Global;
 use thorin_errors::Error;
-use thorin_packaged::remap_packaged_offsets;
+use thorin_package_input::remap_packaged_offsets;
 use thorin_strings::{PackageStringTable, Repeats, StringOffsets};
 
 /// The bytes of a part: those of the input, or string offsets that were rewritten.
@@ -224,8 +224,8 @@ fn add_part<'a>(
 ///
 /// # Errors
 /// The first error of its sections in file order: `RepeatedSection`, `SectionOutsideFormat`,
-/// `MissingRequiredSection`, and what rewriting string offsets answers; `Memory`. An `Err` may leave
-/// strings behind those before.
+/// `MissingRequiredSection`, and what rewriting string offsets answers; `Memory`. An `Err` may
+/// leave strings behind those before.
 #[tactic(auto, unfolding(crate::specs::Parts::with_each_part))]
 pub fn parts_of<'a>(
     alloc: Global,

@@ -29,7 +29,7 @@ use dwp_table::{Bucketable, DwarfObject, DwoId};
 use std::alloc::Global;
 use thorin_errors::Error;
 use thorin_index::IndexEntry;
-use thorin_packaged::RowPlaces;
+use thorin_package_input::RowPlaces;
 
 /// Where the whole of each section that units share comes to lie, as the row of a unit that has all
 /// of it.
@@ -167,8 +167,8 @@ fn unit_contribution(
     }
 }
 
-/// The row of a unit but for its own bytes: its contribution to each section that units share. `number` is
-/// what looking the unit up gave (`test_row`).
+/// The row of a unit but for its own bytes: its contribution to each section that units share.
+/// `number` is what looking the unit up gave (`test_row`).
 ///
 /// # Errors
 /// Those of `ContributionAdjustor::adjust`, of the sections in the order of a row.
@@ -339,8 +339,8 @@ fn contribution_of_all(bytes: &[u8]) -> Option<Contribution>
     })
 }
 
-/// The part of the first section of abbreviations that a unit's identity is read with: all of it, or
-/// for a compile unit of a package the range of its row by place.
+/// The range of the first section of abbreviations that a unit's identity is read with: all of it,
+/// or for a compile unit of a package the range of its row by place.
 ///
 /// # Errors
 /// `UnitNotInIndex` where there is no such row, `BadContribution` where they are outside the

@@ -7,6 +7,7 @@ ghost use Rattle.thorin_input.specs.Indexes as spec;
 ghost use Rattle.thorin_input.specs.Used.{first};
 ghost use Rattle.thorin_input.specs.View as view;
 
+use crate::adjustor::looked_up;
 use crate::object::InputObject;
 use dwp_base::SectionKind;
 use dwp_dwarf::Encoding;
@@ -105,9 +106,6 @@ impl<'a> Indexes<'a> {
             DwarfObject::Compilation(_) => &self.compilations,
             DwarfObject::TypeUnit(_) => &self.types,
         };
-        match index {
-            Some(index) => index.find(name.index()),
-            None => None,
-        }
+        looked_up(index.as_ref(), name.index())
     }
 }

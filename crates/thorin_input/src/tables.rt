@@ -34,7 +34,7 @@ impl<'a> Model for Tables<'a> {
     ghost view = { λ t. t.ranges };
 }
 
-/// Where a part of a section starts and ends; an absent one is empty.
+/// Where a range of a section starts and ends; an absent one is empty.
 #[tactic(auto, using(crate::proofs::Ends::part_of_range))]
 fn bounds(range: Option<Contribution>, bytes: &[u8]) -> (usize, usize)
     requires { is_outside bytes.now range ≡ false }
@@ -67,7 +67,7 @@ impl<'a> Tables<'a> {
         self.ranges.bytes()
     }
 
-    /// What `dwo_identifier_of_unit` says of a unit whose abbreviations stand in a part of the
+    /// What `dwo_identifier_of_unit` says of a unit whose abbreviations stand in a range of the
     /// section. What was read before is remembered as `RangeTables` says.
     ///
     /// # Errors

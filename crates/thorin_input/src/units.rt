@@ -64,8 +64,8 @@ fn unit_section(kind: SectionKind) -> Option<UnitSection>
     }
 }
 
-/// `MultipleDebugInfoSection` or `MultipleDebugTypesSection` where a package has a second section of
-/// info or of types.
+/// `MultipleDebugInfoSection` or `MultipleDebugTypesSection` where a package has a second section
+/// of info or of types.
 #[tactic(auto, unfolding(crate::specs::NewUnits::once_test))]
 fn test_once(adding: &Adding<'_, '_, '_>, place: UnitSection, met: &Met<'_>) -> Result<(), Error>
     ensures { Gives (λ _. tt) result

@@ -2,9 +2,9 @@
 
 ghost use Rattle.std.specs.Prelude.{◌≡◌, ◌&&◌, ◌||◌, [], map, find, is_some, Ok, MatchResult};
 ghost use Rattle.std.specs.List.{list_any};
-ghost use Rattle.dwp_base.specs.Sections.{name_of, compressed_name_of};
+ghost use Rattle.dwp_base.specs.Sections.{name_of};
 ghost use Rattle.dwp_base.specs.declared.section.SectionKind.TheVariants as kinds;
-ghost use Rattle.dwp_elf_read.specs.Elf.{is_named, has_compressed_flag};
+ghost use Rattle.dwp_elf_read.specs.Elf.{has_compressed_flag, has_older_name, is_named, is_of};
 ghost use Rattle.dwp_elf_read.specs.View.{elf, section as meaning};
 ghost use Rattle.thorin_errors.specs.Answers.{Gives};
 ghost use Rattle.thorin_input.specs.Used as spec;
@@ -51,14 +51,6 @@ struct Taken<'a> {
         ≡ list_any (spec.has_kind kinds.TuIndex) (map view.used sections.items) },
 }
 
-/// Whether a section has one of the names of a kind.
-#[tactic(auto, using(dwp_index::proofs::Called::called_is_named))]
-fn is_of(section: &Section<'_>, kind: SectionKind) -> bool
-    ensures { result ≡ spec.is_of kind (meaning section.now) }
-{
-    section.is_called(kind.name()) || section.is_called(kind.compressed_name())
-}
-
 /// The kind of a section that isn't empty.
 fn used_kind(section: &Section<'_>) -> Option<SectionKind>
     ensures { result ≡ spec.used_kind (meaning section.now) }
@@ -72,9 +64,9 @@ fn used_kind(section: &Section<'_>) -> Option<SectionKind>
 /// Whether a section's content is compressed, by its flag or by its name.
 fn is_compressed(section: &Section<'_>, kind: SectionKind) -> bool
     ensures { result ≡ (has_compressed_flag (meaning section.now)
-        || is_named (compressed_name_of kind) (meaning section.now)) }
+        || has_older_name kind (meaning section.now).name) }
 {
-    section.is_compressed() || section.is_called(kind.compressed_name())
+    section.is_compressed() || section.has_older_name(kind)
 }
 
 /// The content of a section that is used: `DecompressData` where it is compressed, `ObjectRead`
@@ -92,13 +84,13 @@ impl Present {
     /// With one more section.
     fn with(self, section: &Section<'_>) -> Present
         ensures info { result.info
-            ≡ (self.info || spec.is_of SectionKind.Info (meaning section.now)) }
+            ≡ (self.info || is_of SectionKind.Info (meaning section.now)) }
         ensures strings { result.strings
             ≡ (self.strings || is_named (name_of SectionKind.Str) (meaning section.now)) }
         ensures abbreviations { result.abbreviations
             ≡ (self.abbreviations || is_named (name_of SectionKind.Abbrev) (meaning section.now)) }
     {
-        let info = is_of(section, SectionKind::Info);
+        let info = section.is_of(SectionKind::Info);
         let strings = section.is_called(SectionKind::Str.name());
         let abbreviations = section.is_called(SectionKind::Abbrev.name());
         Present {

@@ -1,3 +1,4 @@
+pub mod Chosen
 pub mod Terms
 pub mod EachKind
 pub mod Moved

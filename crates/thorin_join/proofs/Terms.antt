@@ -36,7 +36,7 @@ pub use Rattle.dwp_base.specs.declared.section.SectionKind.TheVariants.{Str, Str
 pub use Rattle.dwp_bytes.specs.Encoding.{index_version_of, offset_size}
 pub use Rattle.dwp_bytes.specs.Input.{Input, section}
 pub use Rattle.dwp_bytes.specs.StringOffsets.{entry_count, header_size}
-unfoldable pub use Rattle.dwp_bytes.specs.StringOffsets.{string_at}
+unfoldable pub use Rattle.dwp_bytes.specs.StringOffsets.{entry_in, string_at, string_in}
 pub use Rattle.dwp_bytes.specs.declared.encoding.Encoding.{Encoding}
 pub use Rattle.dwp_bytes.specs.declared.encoding.Format.{Format}
 pub use Rattle.dwp_bytes.specs.declared.error.ReadError.{ReadError}
@@ -58,7 +58,6 @@ unfoldable pub use Rattle.dwp_index.specs.Index.{range_in, row_in}
 pub use Rattle.dwp_index.specs.Package.{index_in_section, is_outside, kind_of, Package, package_of}
 pub use Rattle.dwp_index.specs.Package.{part_of, place_of}
 unfoldable pub use Rattle.dwp_index.specs.Package.{encoding_in, row_bytes}
-unfoldable pub use Rattle.dwp_index.specs.Strings.{entry_in, string_in}
 pub use Rattle.dwp_strings.specs.Strings.{data_of, IsTable, IsZeroFree, with_string}
 pub use Rattle.dwp_table.specs.Objects.{identifier_of}
 pub use Rattle.dwp_table.specs.Table.{AreDistinct}
@@ -89,15 +88,15 @@ unfoldable pub use Rattle.thorin_input.specs.Parts.{with_each_part, with_offsets
 unfoldable pub use Rattle.thorin_input.specs.Rows.{row_test, unit_row}
 pub use Rattle.thorin_input.specs.Used.{first, has_info, InputFile, opened, Used}
 unfoldable pub use Rattle.thorin_input.specs.Used.{input_file_of}
-pub use Rattle.thorin_packaged.proofs.OffsetsJoined.{joined_read, no_header, number_front}
-pub use Rattle.thorin_packaged.proofs.OffsetsJoined.{strings_again}
-unfoldable pub use Rattle.thorin_packaged.specs.PackagedOffsets.{packaged_offsets}
-pub use Rattle.thorin_packaged.specs.PackagedReading.{range_bytes}
-pub use Rattle.thorin_packaged.specs.ReadStrings.{ReadsAlike}
+pub use Rattle.thorin_package_input.proofs.OffsetsJoined.{joined_read, no_header, number_front}
+pub use Rattle.thorin_package_input.proofs.OffsetsJoined.{strings_again}
+unfoldable pub use Rattle.thorin_package_input.specs.PackagedOffsets.{packaged_offsets}
+pub use Rattle.thorin_package_input.specs.PackagedReading.{range_bytes}
+pub use Rattle.thorin_package_input.specs.ReadStrings.{ReadsAlike}
 pub use Rattle.thorin_strings.proofs.NamedEntries.{range_named}
 unfoldable pub use Rattle.thorin_strings.specs.StringOffsets.{remapped}
-pub use Rattle.thorin_join.specs.Builder.{begun_by, IdentifiersFit, is_chosen, IsFinished}
-pub use Rattle.thorin_join.specs.Builder.{package_or_new, rows_of}
+pub use Rattle.thorin_join.proofs.Chosen.{is_chosen, rows_of}
+pub use Rattle.thorin_join.specs.Builder.{begun_by, IdentifiersFit, IsFinished, package_or_new}
 unfoldable pub use Rattle.thorin_join.specs.Builder.{order_test, with_input}
 pub use Rattle.thorin_join.specs.FirstUse.{named_in, strings_begun, with_strings}
 pub use Rattle.thorin_join.specs.Join.{GivesNone, GivesUnit, IsPackageOnceWritten, IsUnit, Joins}

@@ -25,7 +25,7 @@ use Rattle.dwp_elf.specs.Growing.{with_bytes}
 use Rattle.thorin_input.specs.Indexes.{Source, indexes_of}
 use Rattle.thorin_input.specs.Names.{same_name, is_compilation}
 use Rattle.thorin_join.specs.State.{InProgress, empty, names_of, with_source}
-use Rattle.thorin_input.specs.Used.{opened, has_info, input_file_of}
+use Rattle.thorin_input.specs.Used.{InputFile, opened, has_info, input_file_of}
 
 -- a builder: the package, where an input has begun one, the units that executables refer to, and
 -- the one encoding of all units of the accepted inputs, those passed over too, where there is one
@@ -57,9 +57,16 @@ order_of None order = order
 order_of (Some made) order = made.file.order
 
 -- an input has the byte order of the package
-unfoldable pub order_test : Endianness → Option InProgress → Result (Unit {0}) ErrorValue
-order_test order begun =
-    if same_order (order_of begun order) order then Ok tt else Err MixedInputEncodings
+unfoldable pub order_test : (held order : Endianness) → Result (Unit {0}) ErrorValue
+order_test held order = if same_order held order then Ok tt else Err MixedInputEncodings
+
+-- an input's sections with its encoding and its indexes, for a package of this byte order
+unfoldable pub source_for : Endianness → InputFile → Result Source ErrorValue
+source_for held object = do
+  encoding ← encoding_of object
+  _ ← order_test held object.order
+  indexes ← indexes_of object encoding
+  Ok (record { object = object; encoding = encoding; indexes = indexes })
 
 -- the package with the units of an input, which it may begin
 unfoldable pub with_source_or_new : Elf → Source → Option InProgress
@@ -72,10 +79,8 @@ with_source_or_new file source begun = do
 unfoldable pub with_units : Elf → Option InProgress → Result (Option InProgress) ErrorValue
 with_units file begun = do
   object ← input_file_of file
-  encoding ← encoding_of object
-  _ ← order_test object.order begun
-  indexes ← indexes_of object encoding
-  with_source_or_new file (record { object = object; encoding = encoding; indexes = indexes }) begun
+  source ← source_for (order_of begun object.order) object
+  with_source_or_new file source begun
 
 -- what an object's bytes make of a package, or the first error; without an info section they only
 -- begin it
@@ -115,20 +120,12 @@ taken bytes state = do
   encoding ← own_encoding bytes
   Ok (record state { begun = begun; own = own_after state begun encoding })
 
--- whether a row is one of those of compilation units, or of type units
-abbrev pub is_chosen : Bool → IndexEntry → Bool
-is_chosen true row = is_compilation row.id
-is_chosen false row = not (is_compilation row.id)
-
--- the rows of compilation units, or those of type units
-abbrev pub rows_of : Bool → List IndexEntry → List IndexEntry
-rows_of compilations rows = filter (is_chosen compilations) rows
-
+-- the rows of compilation units, and those of type units
 abbrev pub compilations : List IndexEntry → List IndexEntry
-compilations rows = rows_of true rows
+compilations rows = filter (λ row. is_compilation row.id) rows
 
 abbrev pub type_units : List IndexEntry → List IndexEntry
-type_units rows = rows_of false rows
+type_units rows = filter (λ row. not (is_compilation row.id)) rows
 
 -- the identifiers of rows have 64 bits (DWARF 5, 7.3.5.3)
 abbrev pub IdentifiersFit : List IndexEntry → Type 0

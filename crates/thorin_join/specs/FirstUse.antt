@@ -9,8 +9,8 @@ use Rattle.dwp_base.specs.declared.section.SectionKind.TheVariants.{Str, StrOffs
 use Rattle.dwp_base.specs.Sections.{same_kind}
 use Rattle.dwp_elf_read.specs.Elf.{Elf}
 use Rattle.thorin_errors.specs.Errors.{ErrorValue}
-use Rattle.thorin_packaged.specs.PackagedOffsets.{offset_ranges}
-use Rattle.thorin_packaged.specs.PackagedReading.{range_bytes}
+use Rattle.thorin_package_input.specs.PackagedOffsets.{offset_ranges}
+use Rattle.thorin_package_input.specs.PackagedReading.{range_bytes}
 use Rattle.dwp_strings.specs.Strings.{with_string}
 use Rattle.thorin_input.specs.Encodings.{encoding_of}
 use Rattle.thorin_input.specs.Indexes.{Source, is_package, indexes_of}

@@ -6,13 +6,13 @@ use Rattle.std.specs.Prelude.{ℕ, ◌++◌, ◌+◌, ◌∷◌, ◌≡◌, ◌�
 use Rattle.std.specs.Map.{lookup}
 use Rattle.dwp_base.specs.declared.section.SectionKind.{SectionKind}
 use Rattle.dwp_base.specs.declared.section.SectionKind.TheVariants.{Str, StrOffsets}
+use Rattle.dwp_bytes.specs.StringOffsets.{string_in}
 use Rattle.dwp_elf.specs.Contents.{KindsDiffer}
 use Rattle.dwp_elf.specs.FileText.{file_text, Object as File}
 use Rattle.dwp_elf.specs.Written.{written_elf}
 use Rattle.dwp_elf_read.specs.Elf.{elf_of}
 use Rattle.dwp_index.specs.Package as index
 use Rattle.dwp_index.specs.Package.{found_counted, Package, package_of, row_bytes}
-use Rattle.dwp_index.specs.Strings.{string_in}
 use Rattle.dwp_index.specs.Entries.{entries_from}
 use Rattle.dwp_index.specs.Naming.{entries_of}
 use Rattle.dwp_table.specs.Objects.{identifier_of}

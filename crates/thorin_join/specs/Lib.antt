@@ -8,3 +8,4 @@ pub mod Join
 pub mod StandApart
 pub mod FirstUse
 pub mod Sizes
+pub mod WrittenPackage

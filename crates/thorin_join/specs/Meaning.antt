@@ -21,7 +21,7 @@ use Rattle.dwp_index.specs.Index.{Index, range_in, Ranges, row_in}
 use Rattle.dwp_index.specs.Package.{is_outside, part_of}
 use Rattle.dwp_table.specs.Columns.{contribution_kinds}
 use Rattle.dwp_table.specs.declared.object.DwarfObject.{DwarfObject}
-use Rattle.thorin_packaged.specs.RowPlaces.{row_by_place}
+use Rattle.thorin_package_input.specs.RowPlaces.{row_by_place}
 use Rattle.thorin_errors.specs.Errors.{ErrorValue, ParseUnitHeader}
 use Rattle.thorin_errors.specs.Answers.{as_error}
 use Rattle.thorin_input.specs.Encodings.{encoding_of}

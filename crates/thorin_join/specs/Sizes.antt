@@ -5,7 +5,7 @@ use Rattle.std.specs.Prelude.{Ok, Err, MatchOption, if◌then◌else◌}
 use Rattle.std.specs.List.{sum_by}
 use Rattle.dwp_base.specs.declared.section.SectionKind.TheVariants.{Str, StrOffsets}
 use Rattle.dwp_base.specs.Reading.{◌>>=◌}
-use Rattle.dwp_base.specs.Sections.{same_kind}
+use Rattle.dwp_base.specs.Sections.{kind_count, same_kind}
 use Rattle.dwp_elf_read.specs.Elf.{Elf}
 use Rattle.dwp_table.specs.Table.{HasSlots}
 use Rattle.thorin_index.specs.declared.entry.IndexEntry.{IndexEntry}
@@ -93,8 +93,8 @@ pub record IsSizeFinished (made : InProgress) (size : ℕ) : Type 0 where
   pub is : size ≡ bytes_of_contents made.file.contents + bytes_of_strings made.strings
       + compilation_index + type_index
 
--- what the ELF file of a package has beside its contents at most: a header of 64 bytes, 15 section
--- headers of 64, the names of 13 sections of 23, 11 more bytes of names, and 7 zeros (ELF gABI, ELF
--- Header, Section Header, String Table)
+-- what the ELF file of a package has beside its contents at most: a header of 64 bytes, a section
+-- header of 64 for each kind and for two more sections, a name of 23 for each kind, 11 more bytes
+-- of names, and 7 zeros (ELF gABI, ELF Header, Section Header, String Table)
 abbrev pub container_most : ℕ
-container_most = 64 + 15 * 64 + 13 * 23 + 11 + 7
+container_most = 64 + (kind_count + 2) * 64 + kind_count * 23 + 11 + 7

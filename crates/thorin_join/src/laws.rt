@@ -4,11 +4,10 @@ ghost use Rattle.std.specs.Prelude.{◌≡◌, ℕ, ◌+◌, ◌*◌, ◌^◌, �
 ghost use Rattle.std.specs.List.{sum_by};
 ghost use Rattle.dwp_base.specs.declared.section.SectionKind.TheVariants.{CuIndex, TuIndex};
 ghost use Rattle.dwp_elf.specs.FileText.{Object, file_text};
-ghost use Rattle.dwp_elf.specs.Contents.{KindsDiffer, content_of};
+ghost use Rattle.dwp_elf.specs.Contents.{KindsDiffer};
 ghost use Rattle.dwp_elf.specs.Numbers.{Fits};
 ghost use Rattle.dwp_index.specs.Index.{Index};
-ghost use Rattle.dwp_index.specs.Holding.{sections_of};
-ghost use Rattle.dwp_index.specs.Package.{package_of, index_in_section};
+ghost use Rattle.dwp_index.specs.Package.{package_of};
 ghost use Rattle.thorin_join.specs.Builder.{State, finish_test, IsFinished, IsFinishedState};
 ghost use Rattle.thorin_join.specs.Builder.{with_input};
 ghost use Rattle.thorin_join.specs.FirstUse.{strings_begun};
@@ -18,22 +17,17 @@ ghost use Rattle.thorin_join.specs.Sizes.{bytes_of_contents, bytes_begun, carrie
 ghost use Rattle.thorin_join.specs.Sizes.{bytes_of_strings, offsets_size, strings_size};
 ghost use Rattle.thorin_join.specs.Sizes.{with_inputs, IsSizeFinished, container_most};
 ghost use Rattle.thorin_join.specs.State.{InProgress};
+ghost use Rattle.thorin_join.specs.WrittenPackage.{IsIndexIn, package_with};
 
 /// The law of written packages: a file that is written of contents of distinct kinds, and whose
 /// numbers fit its class, is read as the package of these contents, with the indexes that stand in
 /// them. It does nothing.
 pub fn written_packages_are_read()
-    ensures { (o : Object) → KindsDiffer o.contents → o.machine < 256 ^ 2 → Fits o
+    ensures { (file : Object) → KindsDiffer file.contents → file.machine < 256 ^ 2 → Fits file
         → (compilations types : Option Index)
-        → index_in_section o.order (content_of CuIndex o.contents) ≡ Ok compilations
-        → index_in_section o.order (content_of TuIndex o.contents) ≡ Ok types
-        → package_of (file_text o) ≡ Ok (record {
-          order = o.order;
-          contents = sections_of (λ kind.
-              content_of kind o.contents);
-          compilations = compilations;
-          types = types;
-        }) }
+        → IsIndexIn file CuIndex compilations
+        → IsIndexIn file TuIndex types
+        → package_of (file_text file) ≡ Ok (package_with file compilations types) }
 {}
 
 /// The law of finished packages: where a state's package has its units, none twice, and the tests

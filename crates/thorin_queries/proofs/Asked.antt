@@ -1,12 +1,12 @@
 -- What words ask for.
-use Rattle.std.proofs.Common.{◌≡◌, ◌≢◌, ℕ, Bool, true, List, [], ◌∷◌, codes, Some, None, find}
-use Rattle.std.proofs.Common.{bytes_eq, inl, inr, refl, arith}
+use Rattle.std.proofs.Common.{◌≡◌, ◌≢◌, ℕ, List, codes, Some, None, bytes_eq, inl, inr, refl}
 use Rattle.std.specs.Str.Pattern.{FindsTextPrefix, StripsPrefix}
 use Rattle.std.proofs.lemmas.Slice.Eq.{bytes_eq-Decides}
 use Rattle.dwp_base.specs.Sections.{short_name, kind_of_short_name, all_kinds}
 use Rattle.dwp_base.specs.declared.section.SectionKind.{SectionKind}
 use Rattle.dwp_base.proofs.EveryKind.{at-rank}
 use Rattle.thorin_queries.specs.Finding.{HasDigits}
+use Rattle.dwp_index.proofs.FirstOfKind.{found-passes}
 use Rattle.dwp_index.proofs.HeldContents.{found-none}
 
 -- the digits behind `0x`
@@ -17,11 +17,6 @@ digits_behind text digits h = inl (rw h.2 h.1.1)
 -- the text is digits alone
 pub digits_alone : (text : List ℕ) → FindsTextPrefix (codes "0x") text None → HasDigits text text
 digits_alone text h = inr (h, refl)
-
--- what is found passes
-found-passes : {X : Type 0} (p : X → Bool) (xs : List X) (x : X) → find p xs ≡ Some x → p x ≡ true
-found-passes p [] x e = absurd cc
-found-passes p (y ∷ ys) x e = grind (arith, found-passes p ys x)
 
 -- the kind that was found by its short name
 pub its_short_name : (text : List ℕ) (kind : SectionKind) → kind_of_short_name text ≡ Some kind

@@ -4,17 +4,18 @@ use Rattle.std.proofs.Common.{Option, Result, Ok, Err, Bor, refl, length, inl, i
 use Rattle.std.proofs.Common.{append_assoc}
 use Rattle.std.specs.declared.io.Error.{Error as IoError}
 use Rattle.std.proofs.KnownBytes.{Appends-trans, Keeps-refl}
-use Rattle.dwp_elf_read.specs.Elf.{elf_of}
-use Rattle.dwp_elf_read.specs.declared.error.ReadError.{ReadError as ElfError}
-use Rattle.dwp_index.specs.Package.{Package, package_of}
+use Rattle.dwp_index.specs.Package.{Package}
+use Rattle.dwp_index.specs.declared.error.PackageError.{PackageError}
 use Rattle.dwp_index.specs.declared.units.UnitEntry.{UnitEntry}
 use Rattle.thorin_executable.specs.Skeletons.{skeletons_by}
-use Rattle.thorin_queries.specs.Answers.{FailsToRead}
-use Rattle.thorin_queries.specs.Checking.{has_no_index, TellsTaken, TellsExecutable, TellsPackage}
-use Rattle.thorin_queries.specs.Checking.{FailsOne, IsOfReading, IsOfChecking, Finishes}
+use Rattle.thorin_queries.specs.Answers.{Offer, FailsToRead}
+use Rattle.thorin_queries.specs.Checking.{has_no_index, Executables, TellsTaken, TellsExecutable}
+use Rattle.thorin_queries.specs.Checking.{TellsPackage, FailsOne, IsOfReading, IsOfChecking}
+use Rattle.thorin_queries.specs.Checking.{Finishes}
 use Rattle.thorin_queries.specs.Checking.{ChecksIndexed, ChecksPackage, ChecksBytes, Checks}
 use Rattle.thorin_queries.specs.Faults.{TellsListed}
 use Rattle.thorin_queries.specs.Listing.{AreByRow}
+use Rattle.thorin_queries.specs.Plain.{IsPlainOf}
 use Rattle.thorin_queries.specs.Telling.{IsOfPrinting, Grows, fault_count, Progress, Outcome, Told}
 use Rattle.thorin_queries.specs.Telling.{TellsOr, Tells}
 use Rattle.thorin_queries.specs.declared.executables.Reading.{Reading}
@@ -22,7 +23,7 @@ use Rattle.thorin_queries.specs.declared.output.Failure.{Failure}
 use Rattle.thorin_queries.specs.declared.output.Failure.TheVariants as failures
 use Rattle.thorin_queries.proofs.Told.{told_as, tells_as, stopped_behind, none_grown, counted_from}
 
-module _ (offer : List ℕ → Result (List ℕ) IoError → Type 0) where
+module _ (offer : Offer) where
   -- ---- failures
 
   pub of_printing : (executables : List (Bor (List ℕ))) (failure : Failure) → IsOfPrinting failure
@@ -59,28 +60,28 @@ module _ (offer : List ℕ → Result (List ℕ) IoError → Type 0) where
 -- ---- what is taken for an executable
 
 module _ (reading : Reading) (pack : Package) (executable bytes : List ℕ) (a b : Progress) where
-  pub taken_as_it_is : (result : Outcome)
+  pub taken_as_it_is : (result : Outcome) → reading.decompresses ≡ false
       → Tells (TellsListed pack executable (skeletons_by reading.nameless bytes)) a b result
       → Tells (TellsTaken reading pack executable bytes) a b result
-  taken_as_it_is result = tells_as a b result
-      (λ lines k. record { taken = bytes; is_taken = grind (arith); listed = k })
+  taken_as_it_is result e =
+      tells_as a b result (λ lines k. record { taken = bytes; is_taken = rw e refl; listed = k })
 
-  pub taken_plain : (result : Outcome) (plain : List ℕ) → reading.decompresses ≡ true
-      → Tells (TellsListed pack executable (skeletons_by reading.nameless plain)) a b result
+  pub taken_plain : (result : Outcome) (plain lent : List ℕ) → reading.decompresses ≡ true
+      → IsPlainOf bytes plain → lent ≡ plain
+      → Tells (TellsListed pack executable (skeletons_by reading.nameless lent)) a b result
       → Tells (TellsTaken reading pack executable bytes) a b result
-  taken_plain result plain e =
-      tells_as a b result (λ lines k. record { taken = plain; is_taken = rw e tt; listed = k })
+  taken_plain result plain lent e is same t = tells_as a b result
+      (λ lines k. record { taken = plain; is_taken = rw e is; listed = rw same at k }) t
 
 -- ---- a package
 
-module _ (offer : List ℕ → Result (List ℕ) IoError → Type 0) (reading : Reading)
-    (executables : List (Bor (List ℕ))) where
+module _ (offer : Offer) (executables : Executables) where
   pub checked : (pack : Package) (entries : List UnitEntry) (a b : Progress)
       (c : Option (List ℕ)) (result : Result ℕ Failure)
       → AreByRow pack entries → a.waiting ≡ [] → a.count ≡ 0
-      → Told (TellsPackage offer reading pack entries executables) a b
+      → Told (TellsPackage offer executables pack entries) a b
       → Finishes (length entries) b.count b.written b.waiting c result
-      → ChecksIndexed offer reading executables pack a.written c result
+      → ChecksIndexed offer executables pack a.written c result
   checked pack entries a b c (Ok status) by_row none begun t f =
       let all : b.count ≡ fault_count t.lines =
       omega (arith, rw begun at t.counted, counted_from 0 t.lines (omega arith)) in
@@ -94,32 +95,30 @@ module _ (offer : List ℕ → Result (List ℕ) IoError → Type 0) (reading : 
         status_is = rw all at f.1;
       }
   checked pack entries a b c (Err failure) by_row none begun t f =
-      stopped_behind c t (of_printing offer executables failure f.0, f.1)
+      stopped_behind c t (of_printing offer executables.paths failure f.0, f.1)
 
   pub no_memory_left : (pack : Package) (a : Option (List ℕ))
-      → ChecksIndexed offer reading executables pack a a (Err failures.Memory)
+      → ChecksIndexed offer executables pack a a (Err failures.Memory)
   no_memory_left pack a = (tt, none_grown a)
 
   pub no_index : (pack : Package) (a : Option (List ℕ)) (b : Bool) → b ≡ has_no_index pack
       → b ≡ true
-      → ChecksPackage offer reading executables pack a a (Err failures.NoIndex)
-      (has_no_index pack)
+      → ChecksPackage offer executables pack a a (Err failures.NoIndex) (has_no_index pack)
   no_index pack a b e f = rw (← e, f) (refl, Keeps-refl a)
 
   pub has_index : (pack : Package) (a c : Option (List ℕ)) (result : Result ℕ Failure) (b : Bool)
       → b ≡ has_no_index pack → b ≡ false
-      → ChecksIndexed offer reading executables pack a c result
-      → ChecksPackage offer reading executables pack a c result (has_no_index pack)
+      → ChecksIndexed offer executables pack a c result
+      → ChecksPackage offer executables pack a c result (has_no_index pack)
   has_index pack a c result b e f h = rw (← e, f) h
 
-  pub no_elf : (cause : ElfError) (bytes : List ℕ) (a : Option (List ℕ))
-      → elf_of bytes ≡ Err cause
-      → ChecksBytes offer reading executables (package_of bytes) a a (Err failures.Malformed)
-  unfolding package_of
-  no_elf cause bytes a e = rw e (refl, Keeps-refl a)
+  pub malformed : (cause : PackageError) (p : Result Package PackageError)
+      (a : Option (List ℕ)) → p ≡ Err cause
+      → ChecksBytes offer executables p a a (Err failures.Malformed)
+  malformed cause p a e = rw e (refl, Keeps-refl a)
 
   pub not_checked : (path : List ℕ) (a : Option (List ℕ)) (failure : Failure)
       → FailsToRead offer path failure
-      → Checks offer path reading executables a a (Err failure)
+      → Checks offer path executables a a (Err failure)
   unfolding Checks
   not_checked path a failure h = inr (h, Keeps-refl a)

@@ -2,6 +2,7 @@
 use Rattle.std.proofs.Common.{◌≡◌, ◌≢◌, ℕ, Bool, true, false, ◌&&◌, List, [], ◌∷◌, ◌++◌, codes, map}
 use Rattle.std.proofs.Common.{Option, Some, None, is_none, Result, Ok, Err, IfOk, OnOk, String}
 use Rattle.std.proofs.Common.{string_bytes, Global, decimal, refl, sym, inl, inr, arith}
+use Rattle.std.specs.Result.{result_err}
 use Rattle.std.proofs.KnownBytes.{Appends-trans}
 use Rattle.std.proofs.lemmas.List.{map-append}
 use Rattle.dwp_base.specs.declared.section.SectionKind.{SectionKind}
@@ -13,7 +14,6 @@ use Rattle.dwp_index.specs.declared.error.PackageError.{PackageError}
 use Rattle.dwp_index.specs.declared.units.UnitEntry.{UnitEntry}
 use Rattle.dwp_table.specs.declared.object.DwarfObject.{DwarfObject}
 use Rattle.thorin_queries.specs.Checking.{TellsSomeStrings}
-use Rattle.thorin_queries.specs.Ends.{fault_of}
 use Rattle.thorin_queries.specs.Faults.{fault_line, TellsText, IsTextOf, IsSomeText, IsUnreadText}
 use Rattle.thorin_queries.specs.Faults.{IsOwnText, TellsOwn, TellsItself, TellsFound, TellsUnit}
 use Rattle.thorin_queries.specs.Faults.{has_abbreviations, string_text, TellsString, TellsStrings}
@@ -137,11 +137,11 @@ broken executable a b result text = tells_as a b result (λ lines e. (text, e))
 -- ---- strings
 
 pub string_fine : (object : DwarfObject) (i : ℕ) (read : Result (Option (List ℕ)) ReadError)
-    → None ≡ fault_of read → TellsString object i read []
+    → None ≡ result_err read → TellsString object i read []
 string_fine object i read e = grind (arith)
 
 pub string_faulty : (object : DwarfObject) (i : ℕ) (read : Result (Option (List ℕ)) ReadError)
-    (error : ReadError) → Some error ≡ fault_of read → (text : List ℕ)
+    (error : ReadError) → Some error ≡ result_err read → (text : List ℕ)
     → ((cause : List ℕ) × (text ≡ string_text i cause))
     → TellsString object i read (fault_line object text ∷ [])
 string_faulty object i read error e text is = grind (arith)

@@ -4,7 +4,6 @@ pub mod Cuts
 pub mod Decimals
 pub mod Faulted
 pub mod Hex
-pub mod Indexed
 pub mod Lines
 pub mod Listed
 pub mod Printed

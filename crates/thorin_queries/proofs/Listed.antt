@@ -1,12 +1,11 @@
 -- What was listed.
 use Rattle.std.proofs.Common.{◌≡◌, ℕ, Bool, true, false, List, [], ◌++◌, Option, Result, Ok}
 use Rattle.std.proofs.Common.{Err, arith, refl, inl, inr, append-nil}
-use Rattle.std.specs.declared.io.Error.{Error as IoError}
 use Rattle.std.proofs.KnownBytes.{Appends-nil, Keeps-refl}
 use Rattle.dwp_index.specs.Package.{Package}
 use Rattle.dwp_index.specs.declared.error.PackageError.{PackageError}
 use Rattle.dwp_index.specs.declared.units.UnitEntry.{UnitEntry}
-use Rattle.thorin_queries.specs.Answers.{FailsToRead, OrNoMemory}
+use Rattle.thorin_queries.specs.Answers.{Offer, FailsToRead, OrNoMemory}
 use Rattle.thorin_queries.specs.Listing.{AreByRow, Lines, IsListed, ListsPackage, ListsBytes, Lists}
 use Rattle.thorin_queries.specs.declared.listing.ListForm.{ListForm}
 use Rattle.thorin_queries.specs.declared.output.Failure.{Failure}
@@ -55,8 +54,7 @@ pub bytes_malformed : (form : ListForm) (cause : PackageError) (p : Result Packa
 unfolding OrNoMemory
 bytes_malformed form cause p a e = inl (rw e (refl, Appends-nil a))
 
-pub not_listed : (offer : List ℕ → Result (List ℕ) IoError → Type 0) (path : List ℕ)
-    (form : ListForm) (a : Option (List ℕ)) (failure : Failure) → FailsToRead offer path failure
-    → Lists offer path form a a (Err failure)
+pub not_listed : (offer : Offer) (path : List ℕ) (form : ListForm) (a : Option (List ℕ))
+    (failure : Failure) → FailsToRead offer path failure → Lists offer path form a a (Err failure)
 unfolding Lists
 not_listed offer path form a failure h = inr (h, Keeps-refl a)

@@ -1,12 +1,11 @@
 -- What was printed, or begun.
 use Rattle.std.proofs.Common.{ℕ, Bool, List, [], length, take, Option, Result, Err, refl}
 use Rattle.std.proofs.Common.{inr, arith, take_all}
-use Rattle.std.specs.declared.io.Error.{Error as IoError}
 use Rattle.std.specs.Io.KnownBytes.{Appends, Keeps}
 use Rattle.std.proofs.KnownBytes.{Appends-kept, Appends-nil, Keeps-refl}
 use Rattle.std.proofs.Math.Seq.{take-append_seam}
 use Rattle.dwp_elf.proofs.SoFar.{SoFar, Keeps-from_none}
-use Rattle.thorin_queries.specs.Answers.{Answer, HasBeginning, Comes, Reads, FailsToRead}
+use Rattle.thorin_queries.specs.Answers.{Answer, HasBeginning, Comes, Offer, Reads, FailsToRead}
 use Rattle.thorin_queries.specs.Finding.{Seeks, FindsAsked}
 use Rattle.thorin_queries.specs.declared.output.Failure.{Failure}
 use Rattle.thorin_queries.specs.declared.output.Failure.TheVariants as failures
@@ -54,16 +53,14 @@ pub none_added : (old new : Option (List ℕ)) (bytes : List ℕ) → Keeps old 
 none_added old new bytes h = Appends-kept old old new [] (Appends-nil old) h
 
 -- it can't be read
-pub unread : (offer : List ℕ → Result (List ℕ) IoError → Type 0) (path : List ℕ)
-    (meant : List ℕ → Answer) (a : Option (List ℕ)) (failure : Failure)
-    → FailsToRead offer path failure → Reads offer path meant a a (Err failure)
+pub unread : (offer : Offer) (path : List ℕ) (meant : List ℕ → Answer) (a : Option (List ℕ))
+    (failure : Failure) → FailsToRead offer path failure → Reads offer path meant a a (Err failure)
 unfolding Reads
 unread offer path meant a failure h = inr (h, Keeps-refl a)
 
 -- the words ask for no unit, or for nothing of it: nothing was handed over
-pub not_sought : (offer : List ℕ → Result (List ℕ) IoError → Type 0) (path : List ℕ)
-    (as_json : Bool) (a : Option (List ℕ)) (object : Result DwarfObject Failure)
-    (wanted : Result Wanted Failure) (failure : Failure)
+pub not_sought : (offer : Offer) (path : List ℕ) (as_json : Bool) (a : Option (List ℕ))
+    (object : Result DwarfObject Failure) (wanted : Result Wanted Failure) (failure : Failure)
     → Seeks as_json object wanted (Err failure)
     → FindsAsked offer path as_json a a object wanted (Err failure)
 not_sought offer path as_json a object wanted failure h = grind (arith, Keeps-refl a)

@@ -2,20 +2,20 @@
 use Rattle.std.proofs.Common.{◌≡◌, ℕ, ◌+◌, ◌-◌, ◌<◌, ◌≤◌, eqb, true, false, List, length, drop}
 use Rattle.std.proofs.Common.{Some, None, Ok, refl, arith, rules, get_or-drop, length-drop}
 use Rattle.std.specs.List.{list_any}
+use Rattle.std.specs.Result.{result_err}
 use Rattle.std.proofs.lemmas.List.{get_or_default}
 use Rattle.std.proofs.lemmas.Bool.Decides.{nat_tests}
 use Rattle.std.proofs.lemmas.List.Folds.{list_any_at, list_any_none}
 use Rattle.memchr.specs.Find.{IsLastByte, Passes, Nowhere, is_byte}
 use Rattle.dwp_base.specs.declared.endian.Endianness.{Endianness}
 use Rattle.dwp_base.specs.declared.section.SectionKind.TheVariants.{Str}
-use Rattle.dwp_bytes.specs.StringOffsets.{string_at, entry_count}
+use Rattle.dwp_bytes.specs.StringOffsets.{string_at, entry_count, entry_in, string_in}
 use Rattle.dwp_bytes.specs.declared.encoding.Encoding.{Encoding}
 use Rattle.dwp_index.specs.Contents.{content}
 use Rattle.dwp_index.specs.Package.{Package, FoundUnit, unit_in, found}
-use Rattle.dwp_index.specs.Strings.{entry_in, string_in}
 use Rattle.dwp_index.proofs.RowsOfUnits.{by_row}
 use Rattle.dwp_table.specs.declared.object.DwarfObject.{DwarfObject}
-use Rattle.thorin_queries.specs.Ends.{IsReach, HasEnds, is_inside, fault_of}
+use Rattle.thorin_queries.specs.Ends.{IsReach, HasEnds, is_inside}
 use Rattle.thorin_queries.specs.declared.ends.Ends.{Ends}
 
 module _ (strings : List ℕ) where
@@ -58,13 +58,13 @@ of_found pack object unit ends h e = grind (arith, by_row pack object)
 module _ (order other : Endianness) (encoding code : Encoding) (strings range bytes : List ℕ)
     (i : ℕ) (same : other ≡ order) (written : code ≡ encoding) (whole : bytes ≡ range) where
   pub none_there : None ≡ entry_in other code bytes i
-      → None ≡ fault_of (string_in order encoding strings range i)
+      → None ≡ result_err (string_in order encoding strings range i)
   unfolding string_in
   none_there e = let there : entry_in order encoding range i ≡ None = cc in rw there refl
 
   pub one_there : (offset : ℕ) → Some offset ≡ entry_in other code bytes i
-      → fault_of (string_at strings offset)
-      ≡ fault_of (string_in order encoding strings range i)
+      → result_err (string_at strings offset)
+      ≡ result_err (string_in order encoding strings range i)
   unfolding string_in
   one_there offset e = grind (arith)
 
@@ -73,7 +73,7 @@ module _ (order other : Endianness) (encoding code : Encoding) (strings range by
 pub all_read : (ends : Ends) (order : Endianness) (strings : List ℕ) → HasEnds ends order strings
     → (encoding : Encoding) (range : List ℕ) (end : ℕ) → entry_count encoding (length range) ≤ end
     → ((k : ℕ) → k < end → is_inside ends (entry_in ends.order encoding range k) ≡ true)
-    → (i : ℕ) → fault_of (string_in order encoding strings range i) ≡ None
+    → (i : ℕ) → result_err (string_in order encoding strings range i) ≡ None
 unfolding string_in entry_in string_at
 all_read ends order strings h encoding range end le below i =
     grind (arith, nat_tests, h.order_is, below i, h.inside, h.reach)

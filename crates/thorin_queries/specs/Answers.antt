@@ -5,7 +5,7 @@ use Rattle.std.specs.Io.KnownBytes.{Appends, Keeps}
 use Rattle.thorin_queries.specs.declared.output.Failure.{Failure}
 use Rattle.thorin_queries.specs.declared.output.Failure.TheVariants as failures
 
--- the status that the program ends with: 2 where the words are at fault, else 1
+-- the status that the program ends with: 2 where the words are wrong, else 1
 abbrev pub exit_status : Failure → ℕ
 exit_status failures.BadKind = 2
 exit_status failures.BadIdentifier = 2
@@ -34,25 +34,28 @@ Comes (Err failures.Line) meant old new = HasBeginning old new meant.printed
 Comes (Err failures.Memory) meant old new = HasBeginning old new meant.printed
 Comes answer meant old new = (meant.answer ≡ answer) × Appends old new meant.printed
 
+-- what a read of the file at a path may answer
+abbrev pub Offer : Type 1
+Offer = List ℕ → Result (List ℕ) IoError → Type 0
+
 -- a file of the system may hold anything, and any read of it may fail
-abbrev pub anything : List ℕ → Result (List ℕ) IoError → Type 0
+abbrev pub anything : Offer
 anything path answer = Unit {0}
 
 -- why a file that is offered isn't read
-abbrev pub FailsToRead : (List ℕ → Result (List ℕ) IoError → Type 0) → List ℕ → Failure → Type 0
+abbrev pub FailsToRead : Offer → List ℕ → Failure → Type 0
 FailsToRead offer path failures.Input = (cause : IoError) × offer path (Err cause)
 FailsToRead offer path failures.Memory = Unit {0}
 FailsToRead offer path _ = ⊥
 
-abbrev pub RefusesFile : (List ℕ → Result (List ℕ) IoError → Type 0) → List ℕ
-    → Result ℕ Failure → Type 0
+abbrev pub RefusesFile : Offer → List ℕ → Result ℕ Failure → Type 0
 RefusesFile offer path (Ok status) = ⊥
 RefusesFile offer path (Err failure) = FailsToRead offer path failure
 
 -- the file at a path was read, and the command came to what is meant for its bytes; or it can't be
 -- read, and nothing was printed
-unfoldable pub Reads : (List ℕ → Result (List ℕ) IoError → Type 0) → (path : List ℕ)
-    → (List ℕ → Answer) → (old new : Option (List ℕ)) → Result ℕ Failure → Type 0
+unfoldable pub Reads : Offer → (path : List ℕ) → (List ℕ → Answer)
+    → (old new : Option (List ℕ)) → Result ℕ Failure → Type 0
 Reads offer path meant old new result =
     ((bytes : List ℕ) × offer path (Ok bytes) × Comes result (meant bytes) old new)
     ⊎ (RefusesFile offer path result × Keeps old new)

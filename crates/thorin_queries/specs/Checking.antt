@@ -14,11 +14,13 @@ use Rattle.dwp_index.specs.declared.error.PackageError.{PackageError}
 use Rattle.dwp_index.specs.declared.units.UnitEntry.{UnitEntry}
 use Rattle.dwp_table.specs.declared.object.DwarfObject.{DwarfObject}
 use Rattle.thorin_executable.specs.Skeletons.{skeletons_by}
-use Rattle.thorin_queries.specs.Answers.{RefusesFile}
+use Rattle.thorin_queries.specs.Answers.{Offer, RefusesFile}
 use Rattle.thorin_queries.specs.Faults.{TellsUnit, TellsStringsOf, AreRows, TellsListed}
 use Rattle.thorin_queries.specs.Lines.{line_end}
 use Rattle.thorin_queries.specs.Listing.{AreByRow}
+use Rattle.thorin_queries.specs.Plain.{IsPlainOf}
 use Rattle.thorin_queries.specs.Telling.{Grows, InTurn, ForEach, Is, IsOfPrinting, fault_count}
+use Rattle.thorin_queries.specs.declared.executables.Named.{Named}
 use Rattle.thorin_queries.specs.declared.executables.Reading.{Reading}
 use Rattle.thorin_queries.specs.declared.output.Failure.{Failure}
 use Rattle.thorin_queries.specs.declared.output.Failure.TheVariants as failures
@@ -90,10 +92,10 @@ abbrev pub TellsTables : (no_abbreviations no_strings : Bool) → List (List ℕ
 TellsTables no_abbreviations no_strings =
     InTurn (TellsSections no_abbreviations no_strings) TellsRows
 
--- what is taken for the bytes of an executable: these, where they aren't decompressed first
+-- what is taken for the bytes of an executable: these, or decompressed ones where that is asked for
 abbrev pub IsTaken : (decompresses : Bool) → (bytes taken : List ℕ) → Type 0
 IsTaken false bytes taken = taken ≡ bytes
-IsTaken true bytes taken = Unit {0}
+IsTaken true bytes taken = IsPlainOf bytes taken
 
 -- what is told of an executable with these bytes
 pub record TellsTaken (reading : Reading) (pack : Package) (executable bytes : List ℕ)
@@ -103,46 +105,51 @@ pub record TellsTaken (reading : Reading) (pack : Package) (executable bytes : L
   pub listed : TellsListed pack executable (skeletons_by reading.nameless taken) lines
 
 -- what is told of the executable at a path
-pub record TellsExecutable (offer : List ℕ → Result (List ℕ) IoError
-    → Type 0) (reading : Reading) (pack : Package) (executable : List ℕ)
-    (lines : List (List ℕ)) : Type 0 where
+pub record TellsExecutable (offer : Offer) (reading : Reading) (pack : Package)
+    (executable : List ℕ) (lines : List (List ℕ)) : Type 0 where
   pub bytes : List ℕ
   pub read : offer executable (Ok bytes)
   pub tells : TellsTaken reading pack executable bytes lines
 
-abbrev pub TellsExecutables : (List ℕ → Result (List ℕ) IoError → Type 0) → (reading : Reading)
-    → Package → List (Bor (List ℕ)) → List (List ℕ) → Type 0
+abbrev pub TellsExecutables : Offer → (reading : Reading) → Package → List (Bor (List ℕ))
+    → List (List ℕ) → Type 0
 TellsExecutables offer reading pack executables =
     ForEach (λ executable. TellsExecutable offer reading pack executable.now) executables
 
+-- the executables whose units a package is to have: their paths, and how they are read
+pub record Executables : Type 0 where
+  pub paths : List (Bor (List ℕ))
+  pub reading : Reading
+
+-- those at hand
+abbrev pub executables_of : Named → Executables
+executables_of named = record { paths = named.executables.now; reading = named.reading }
+
 -- all that is told of a package: of its units, its abbreviations, its strings, its rows, and the
 -- units that executables name
-abbrev pub TellsPackage : (List ℕ → Result (List ℕ) IoError → Type 0) → (reading : Reading)
-    → Package → List UnitEntry → List (Bor (List ℕ)) → List (List ℕ) → Type 0
-TellsPackage offer reading pack entries executables =
+abbrev pub TellsPackage : Offer → Executables → Package → List UnitEntry → List (List ℕ) → Type 0
+TellsPackage offer executables pack entries =
     InTurn (TellsUnits pack entries)
     (InTurn (TellsTables (lacks_abbreviations pack entries) (lacks_strings pack))
-    (TellsExecutables offer reading pack executables))
+    (TellsExecutables offer executables.reading pack executables.paths))
 
 -- ---- what comes of it
 
 -- one of the executables can't be read
-abbrev pub FailsOne : (List ℕ → Result (List ℕ) IoError → Type 0) → List (Bor (List ℕ)) → Type 0
+abbrev pub FailsOne : Offer → List (Bor (List ℕ)) → Type 0
 FailsOne offer [] = ⊥
 FailsOne offer (executable ∷ executables) =
     ((cause : IoError) × offer executable.now (Err cause)) ⊎ FailsOne offer executables
 
 -- a line can't be written, memory ran out, or the file at a path can't be read
-abbrev pub IsOfReading : (List ℕ → Result (List ℕ) IoError → Type 0) → (path : List ℕ) → Failure
-    → Type 0
+abbrev pub IsOfReading : Offer → (path : List ℕ) → Failure → Type 0
 IsOfReading offer path failures.Input = (cause : IoError) × offer path (Err cause)
 IsOfReading offer path failures.Line = Unit {0}
 IsOfReading offer path failures.Memory = Unit {0}
 IsOfReading offer path _ = ⊥
 
 -- the same, of any of the executables
-abbrev pub IsOfChecking : (List ℕ → Result (List ℕ) IoError → Type 0) → List (Bor (List ℕ))
-    → Failure → Type 0
+abbrev pub IsOfChecking : Offer → List (Bor (List ℕ)) → Failure → Type 0
 IsOfChecking offer executables failures.Input = FailsOne offer executables
 IsOfChecking offer executables failures.Line = Unit {0}
 IsOfChecking offer executables failures.Memory = Unit {0}
@@ -162,48 +169,44 @@ Finishes units faults old held new result =
     PrintsLast faults (held ++ counts_line units faults) old new result
 
 -- a package was checked: all lines were printed, and behind them that of the counts
-pub record Checked (offer : List ℕ → Result (List ℕ) IoError
-    → Type 0) (reading : Reading) (executables : List (Bor (List ℕ))) (pack : Package)
+pub record Checked (offer : Offer) (executables : Executables) (pack : Package)
     (old new : Option (List ℕ)) (status : ℕ) : Type 0 where
   pub entries : List UnitEntry
   pub by_row : AreByRow pack entries
   pub lines : List (List ℕ)
-  pub told : TellsPackage offer reading pack entries executables lines
+  pub told : TellsPackage offer executables pack entries lines
   pub printed : Appends old new
       (concat lines ++ counts_line (length entries) (fault_count lines))
   pub status_is : status ≡ status_of (fault_count lines)
 
 -- the same, or it stopped, and something was printed or nothing
-abbrev pub ChecksIndexed : (List ℕ → Result (List ℕ) IoError → Type 0) → (reading : Reading)
-    → List (Bor (List ℕ)) → Package → (old new : Option (List ℕ)) → Result ℕ Failure → Type 0
-ChecksIndexed offer reading executables pack old new (Ok status) =
-    Checked offer reading executables pack old new status
-ChecksIndexed offer reading executables pack old new (Err failure) =
-    IsOfChecking offer executables failure × Grows old new
+abbrev pub ChecksIndexed : Offer → Executables → Package → (old new : Option (List ℕ))
+    → Result ℕ Failure → Type 0
+ChecksIndexed offer executables pack old new (Ok status) =
+    Checked offer executables pack old new status
+ChecksIndexed offer executables pack old new (Err failure) =
+    IsOfChecking offer executables.paths failure × Grows old new
 
 -- a package without index is refused
-abbrev pub ChecksPackage : (List ℕ → Result (List ℕ) IoError → Type 0) → (reading : Reading)
-    → List (Bor (List ℕ)) → Package → (old new : Option (List ℕ)) → Result ℕ Failure
-    → (is_refused : Bool) → Type 0
-ChecksPackage offer reading executables pack old new result true =
+abbrev pub ChecksPackage : Offer → Executables → Package → (old new : Option (List ℕ))
+    → Result ℕ Failure → (is_refused : Bool) → Type 0
+ChecksPackage offer executables pack old new result true =
     (result ≡ Err failures.NoIndex) × Keeps old new
-ChecksPackage offer reading executables pack old new result false =
-    ChecksIndexed offer reading executables pack old new result
+ChecksPackage offer executables pack old new result false =
+    ChecksIndexed offer executables pack old new result
 
 -- the same for what bytes are: where they are no package, they are refused
-abbrev pub ChecksBytes : (List ℕ → Result (List ℕ) IoError → Type 0) → (reading : Reading)
-    → List (Bor (List ℕ)) → Result Package PackageError → (old new : Option (List ℕ))
-    → Result ℕ Failure → Type 0
-ChecksBytes offer reading executables (Err cause) old new result =
+abbrev pub ChecksBytes : Offer → Executables → Result Package PackageError
+    → (old new : Option (List ℕ)) → Result ℕ Failure → Type 0
+ChecksBytes offer executables (Err cause) old new result =
     (result ≡ Err failures.Malformed) × Keeps old new
-ChecksBytes offer reading executables (Ok pack) old new result =
-    ChecksPackage offer reading executables pack old new result (has_no_index pack)
+ChecksBytes offer executables (Ok pack) old new result =
+    ChecksPackage offer executables pack old new result (has_no_index pack)
 
 -- `check`: the file at the path was read and checked; or it can't be read, and nothing was printed
-unfoldable pub Checks : (List ℕ → Result (List ℕ) IoError → Type 0) → (path : List ℕ)
-    → (reading : Reading) → List (Bor (List ℕ)) → (old new : Option (List ℕ))
+unfoldable pub Checks : Offer → (path : List ℕ) → Executables → (old new : Option (List ℕ))
     → Result ℕ Failure → Type 0
-Checks offer path reading executables old new result =
+Checks offer path executables old new result =
     ((bytes : List ℕ) × offer path (Ok bytes)
-    × ChecksBytes offer reading executables (package_of bytes) old new result)
+    × ChecksBytes offer executables (package_of bytes) old new result)
     ⊎ (RefusesFile offer path result × Keeps old new)

@@ -1,11 +1,12 @@
 -- Which strings of a section end: those that begin before its last zero byte, or at it (DWARF 5,
 -- 7.26).
 use Rattle.std.specs.Prelude.{◌≡◌, ℕ, ◌≤◌, nat_lt, ◌==◌, List, length, drop, Option, Some, None}
-use Rattle.std.specs.Prelude.{Result, Ok, Err, Bool, true}
+use Rattle.std.specs.Prelude.{Bool, true}
 use Rattle.std.specs.List.{list_any}
+use Rattle.std.specs.Result.{result_err}
 use Rattle.dwp_base.specs.declared.endian.Endianness.{Endianness}
 use Rattle.dwp_index.specs.Package.{FoundUnit}
-use Rattle.thorin_queries.specs.Faults.{string_of}
+use Rattle.thorin_queries.specs.Finding.{string_of}
 use Rattle.thorin_queries.specs.declared.ends.Ends.{Ends}
 
 -- a zero byte stands at an offset or behind it where that offset is before this place
@@ -20,16 +21,11 @@ pub record HasEnds (ends : Ends) (order : Endianness) (strings : List ℕ) : Typ
   pub inside : ends.reach ≤ length strings
   pub reach : IsReach strings ends.reach
 
--- the fault of what was read, if there is one
-abbrev pub fault_of : {A E : Type 0} → Result A E → Option E
-fault_of (Ok x) = None
-fault_of (Err e) = Some e
-
 -- an offset is before the place behind the last zero byte, where there is an offset
 abbrev pub is_inside : Ends → Option ℕ → Bool
 is_inside ends None = true
 is_inside ends (Some offset) = nat_lt offset ends.reach
 
--- no string of a unit has a fault
+-- each string of a unit can be read
 abbrev pub AllEnd : FoundUnit → Type 0
-AllEnd unit = (i : ℕ) → fault_of (string_of unit i) ≡ None
+AllEnd unit = (i : ℕ) → result_err (string_of unit i) ≡ None

@@ -7,11 +7,10 @@ use Rattle.std.specs.Global.{Global}
 use Rattle.std.specs.List.{flat_map, range_with_len}
 use Rattle.dwp_base.specs.Sections.{name_of}
 use Rattle.dwp_base.specs.declared.section.SectionKind.{SectionKind}
-use Rattle.dwp_base.specs.declared.section.SectionKind.TheVariants.{Abbrev, StrOffsets, Str}
+use Rattle.dwp_base.specs.declared.section.SectionKind.TheVariants.{Abbrev}
 use Rattle.dwp_bytes.specs.declared.error.ReadError.{ReadError}
 use Rattle.dwp_index.specs.Index.{range_in}
-use Rattle.dwp_index.specs.Package.{Package, FoundUnit, found, row_bytes}
-use Rattle.dwp_index.specs.Strings.{string_in}
+use Rattle.dwp_index.specs.Package.{Package, FoundUnit, found}
 use Rattle.dwp_index.specs.declared.error.PackageError.{PackageError}
 use Rattle.dwp_index.specs.declared.error.PackageError.TheVariants.{Range}
 use Rattle.dwp_index.specs.declared.units.UnitEntry.{UnitEntry}
@@ -19,7 +18,7 @@ use Rattle.dwp_table.specs.Objects.{identifier_of}
 use Rattle.dwp_table.specs.declared.object.DwarfObject.{DwarfObject}
 use Rattle.thorin_executable.specs.Skeletons.{Named, Listed}
 use Rattle.thorin_errors.specs.Errors.{ErrorValue}
-use Rattle.thorin_queries.specs.Finding.{string_count}
+use Rattle.thorin_queries.specs.Finding.{string_count, string_of}
 use Rattle.thorin_queries.specs.Lines.{hex16, line_end, short_kind}
 use Rattle.thorin_queries.specs.Overlaps.{IsClash, overlap_text}
 use Rattle.thorin_queries.specs.Shown.{shown}
@@ -151,10 +150,6 @@ TellsString object i (Ok string) lines = IsNone lines
 TellsString object i (Err cause) lines =
     (text : List ℕ) × IsLine (fault_line object (string_text i text)) lines
 
-abbrev pub string_of : FoundUnit → ℕ → Result (Option (List ℕ)) ReadError
-string_of unit i = string_in unit.order unit.encoding (content unit.contents Str)
-    (row_bytes unit.contents unit.row StrOffsets) i
-
 -- the strings of a unit, each with its number
 abbrev pub strings_of : FoundUnit → List (ℕ × Result (Option (List ℕ)) ReadError)
 strings_of unit = map (λ i. (i, string_of unit i)) (range_with_len 0 (string_count unit))
@@ -204,7 +199,7 @@ IsBroken executable lines = (text : List ℕ) × IsLine (broken_line executable 
 
 abbrev pub TellsEnd : (executable : List ℕ) → Option ErrorValue → List (List ℕ) → Type 0
 TellsEnd executable None lines = IsNone lines
-TellsEnd executable (Some fault) lines = IsBroken executable lines
+TellsEnd executable (Some error) lines = IsBroken executable lines
 
 -- what is told of the units that an executable names, up to its first error
 pub record TellsListed (pack : Package) (executable : List ℕ) (listed : Listed)

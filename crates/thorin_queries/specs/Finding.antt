@@ -3,30 +3,30 @@ use Rattle.std.specs.Prelude.{◌≡◌, ◌≢◌, ◌⊎◌, ◌<◌, ◌^◌,
 use Rattle.std.specs.Prelude.{codes, length, Option, Some, None, Result, Ok, Err, if◌then◌else◌}
 use Rattle.std.specs.Fmt.{decimal}
 use Rattle.std.specs.List.{flat_map}
+use Rattle.std.specs.Option.{option_copied}
 use Rattle.std.specs.Str.Parse.{digits_value, IsNumeral}
-use Rattle.std.specs.declared.io.Error.{Error as IoError}
 use Rattle.std.specs.Io.KnownBytes.{Keeps}
 use Rattle.dwp_base.specs.declared.section.SectionKind.{SectionKind}
 use Rattle.dwp_base.specs.Sections.{short_name}
 use Rattle.dwp_base.specs.declared.section.SectionKind.TheVariants.{StrOffsets, Str}
 use Rattle.dwp_base.specs.declared.section.Contribution.{Contribution}
-use Rattle.dwp_bytes.specs.StringOffsets.{entry_count}
+use Rattle.dwp_bytes.specs.StringOffsets.{entry_count, string_in}
 use Rattle.dwp_bytes.specs.declared.encoding.Encoding.{Encoding}
 use Rattle.dwp_bytes.specs.declared.encoding.Format.{Format}
 use Rattle.dwp_bytes.specs.declared.encoding.Format.TheVariants.{Dwarf32, Dwarf64}
 use Rattle.dwp_bytes.specs.declared.error.ReadError.{ReadError}
 use Rattle.dwp_index.specs.Index.{range_in}
 use Rattle.dwp_index.specs.Package.{Package, FoundUnit, package_of, found_counted, row_bytes}
-use Rattle.dwp_index.specs.Strings.{string_in}
 use Rattle.dwp_index.specs.declared.error.PackageError.{PackageError}
 use Rattle.dwp_table.specs.Columns.{contribution_kinds}
 use Rattle.dwp_table.specs.Objects.{identifier_of}
 use Rattle.dwp_table.specs.declared.object.DwarfObject.{DwarfObject}
 use Rattle.dwp_table.specs.declared.object.DwarfObject.TheVariants.{Compilation, TypeUnit}
 use Rattle.thorin_words.specs.Identifiers.{IsIdentifier}
-use Rattle.thorin_queries.specs.Answers.{Answer, refused, Reads}
+use Rattle.thorin_queries.specs.Answers.{Answer, refused, Offer, Reads}
 use Rattle.thorin_queries.specs.Lines.{hex, hex16, line_end, short_kind}
 use Rattle.thorin_queries.specs.Spelled.{spelled, spelled_or}
+use Rattle.thorin_queries.specs.declared.wanted.FindWords.{FindWords}
 use Rattle.thorin_queries.specs.declared.wanted.Sought.{Sought}
 use Rattle.thorin_queries.specs.declared.wanted.Wanted.{Wanted}
 use Rattle.thorin_queries.specs.declared.wanted.Wanted.TheVariants.{Printed, Bytes}
@@ -122,6 +122,11 @@ unfoldable pub string_count : FoundUnit → ℕ
 string_count unit =
     entry_count unit.encoding (length (row_bytes unit.contents unit.row StrOffsets))
 
+-- a unit's string of a number
+abbrev pub string_of : FoundUnit → ℕ → Result (Option (List ℕ)) ReadError
+string_of unit i = string_in unit.order unit.encoding (content unit.contents Str)
+    (row_bytes unit.contents unit.row StrOffsets) i
+
 -- the numbers of a unit's strings and of slots: on lines, or as the end of an object
 abbrev pub counts_text : (as_json : Bool) → (strings slots : ℕ) → List ℕ
 counts_text false strings slots = codes "strings " ++ (decimal strings
@@ -173,8 +178,7 @@ abbrev pub wanted_answer : (as_json : Bool) → Wanted → DwarfObject → Found
 wanted_answer as_json (Printed AllOf) object unit slots =
     record { printed = all_text as_json object unit slots; answer = Ok 0 }
 wanted_answer as_json (Printed (StringOf i)) object unit slots =
-    string_answer as_json i (string_in unit.order unit.encoding (content unit.contents Str)
-    (row_bytes unit.contents unit.row StrOffsets) i)
+    string_answer as_json i (string_of unit i)
 wanted_answer as_json (Bytes kind) object unit slots =
     bytes_answer kind (row_bytes unit.contents unit.row kind)
 
@@ -196,17 +200,16 @@ answer_in as_json wanted object (Ok pack) =
 unfoldable pub find_answer : (as_json : Bool) → Wanted → DwarfObject → List ℕ → Answer
 find_answer as_json wanted object bytes = answer_in as_json wanted object (package_of bytes)
 
-abbrev pub FindsWanted : (List ℕ → Result (List ℕ) IoError → Type 0) → (path : List ℕ)
-    → (as_json : Bool) → (old new : Option (List ℕ)) → DwarfObject → Result Wanted Failure
-    → Result ℕ Failure → Type 0
+abbrev pub FindsWanted : Offer → (path : List ℕ) → (as_json : Bool)
+    → (old new : Option (List ℕ)) → DwarfObject → Result Wanted Failure → Result ℕ Failure → Type 0
 FindsWanted offer path as_json old new object (Ok wanted) result =
     Reads offer path (find_answer as_json wanted object) old new result
 FindsWanted offer path as_json old new object (Err failure) result =
     (result ≡ Err failure) × Keeps old new
 
-abbrev pub FindsAsked : (List ℕ → Result (List ℕ) IoError → Type 0) → (path : List ℕ)
-    → (as_json : Bool) → (old new : Option (List ℕ)) → Result DwarfObject Failure
-    → Result Wanted Failure → Result ℕ Failure → Type 0
+abbrev pub FindsAsked : Offer → (path : List ℕ) → (as_json : Bool)
+    → (old new : Option (List ℕ)) → Result DwarfObject Failure → Result Wanted Failure
+    → Result ℕ Failure → Type 0
 FindsAsked offer path as_json old new (Ok object) wanted result =
     FindsWanted offer path as_json old new object wanted result
 FindsAsked offer path as_json old new (Err failure) wanted result =
@@ -220,13 +223,30 @@ Seeks as_json (Ok object) (Ok wanted) result =
 Seeks as_json (Ok object) (Err failure) result = result ≡ Err failure
 Seeks as_json (Err failure) wanted result = result ≡ Err failure
 
+-- the words that ask for a unit, and for something of it
+pub record Words : Type 0 where
+  pub kind : List ℕ
+  pub id : List ℕ
+  pub string : Option (List ℕ)
+  pub section : Option (List ℕ)
+  pub as_json : Bool
+
+-- those at hand
+abbrev pub words_of : FindWords → Words
+words_of asked = record {
+  kind = asked.kind.now;
+  id = asked.id.now;
+  string = option_copied asked.form.string;
+  section = option_copied asked.form.section;
+  as_json = asked.form.json;
+}
+
 -- `find`: the words ask for a unit, and for something of it, and the file at the path is read for
 -- it; or they ask for none, the unit's words tested first, and nothing is printed
-pub record Finds (offer : List ℕ → Result (List ℕ) IoError
-    → Type 0) (path kind id : List ℕ) (string section : Option (List ℕ)) (as_json : Bool)
-    (old new : Option (List ℕ)) (result : Result ℕ Failure) : Type 0 where
+pub record Finds (offer : Offer) (path : List ℕ) (words : Words) (old new : Option (List ℕ))
+    (result : Result ℕ Failure) : Type 0 where
   pub asked : Result DwarfObject Failure
-  pub asks : Asks kind id asked
+  pub asks : Asks words.kind words.id asked
   pub wanted : Result Wanted Failure
-  pub wants : AsksFor string section wanted
-  pub finds : FindsAsked offer path as_json old new asked wanted result
+  pub wants : AsksFor words.string words.section wanted
+  pub finds : FindsAsked offer path words.as_json old new asked wanted result

@@ -3,12 +3,12 @@ pub mod Checking
 pub mod Ends
 pub mod Faults
 pub mod Finding
-pub mod Indexes
 pub mod Json
 pub mod Lines
 pub mod Listing
 pub mod Names
 pub mod Overlaps
+pub mod Plain
 pub mod Shown
 pub mod Spelled
 pub mod Telling

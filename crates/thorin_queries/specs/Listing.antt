@@ -5,7 +5,6 @@ use Rattle.std.specs.Fmt.{decimal}
 use Rattle.std.specs.List.{flat_map}
 use Rattle.std.specs.List.Sorted.{IsPermutation, IsSortedByKey, IsStableByKey}
 use Rattle.std.specs.Ordering.{nat_cmp}
-use Rattle.std.specs.declared.io.Error.{Error as IoError}
 use Rattle.std.specs.Io.KnownBytes.{Keeps}
 use Rattle.dwp_base.specs.declared.endian.Endianness.{Endianness}
 use Rattle.dwp_base.specs.Sections.{short_name}
@@ -20,11 +19,10 @@ use Rattle.dwp_table.specs.Columns.{contribution_kinds}
 use Rattle.dwp_table.specs.Objects.{identifier_of}
 use Rattle.dwp_table.specs.declared.object.DwarfObject.{DwarfObject}
 use Rattle.dwp_table.specs.declared.object.DwarfObject.TheVariants.{Compilation, TypeUnit}
-use Rattle.thorin_queries.specs.Answers.{Answer, refused, Comes, RefusesFile}
+use Rattle.thorin_queries.specs.Answers.{Answer, refused, Comes, Offer, RefusesFile}
 use Rattle.thorin_queries.specs.Names.{source_name, object_name}
 use Rattle.thorin_queries.specs.Spelled.{spelled_or}
 use Rattle.thorin_queries.specs.declared.listing.ListForm.{ListForm}
-use Rattle.thorin_queries.specs.declared.names.Strings.{Strings}
 use Rattle.thorin_queries.specs.Lines.{hex16, line_end, short_kind}
 use Rattle.thorin_queries.specs.declared.output.Failure.{Failure}
 use Rattle.thorin_queries.specs.declared.output.Failure.TheVariants as failures
@@ -60,15 +58,6 @@ pub record ListView : Type 0 where
 abbrev pub view_of : ListForm → Package → ListView
 view_of form pack =
     record { form = form; order = pack.order; strings = content pack.contents Str }
-
--- those at hand
-abbrev pub view_by : ListForm → Strings → ListView
-view_by form strings =
-    record { form = form; order = strings.order; strings = strings.bytes.now }
-
-abbrev pub HasStrings : Strings → Package → Type 0
-HasStrings strings pack =
-    (strings.order ≡ pack.order) × (strings.bytes.now ≡ content pack.contents Str)
 
 -- the size of a range, behind the short name of its section
 abbrev pub range_size : (as_json : Bool) → SectionKind → Option Contribution → List ℕ
@@ -187,8 +176,8 @@ ListsBytes form (Ok pack) old new result = ListsPackage form pack old new result
 
 -- `list`: the file at the path was read and listed; or it can't be read, or there is no memory to
 -- do so, and nothing was printed
-unfoldable pub Lists : (List ℕ → Result (List ℕ) IoError → Type 0) → (path : List ℕ)
-    → (form : ListForm) → (old new : Option (List ℕ)) → Result ℕ Failure → Type 0
+unfoldable pub Lists : Offer → (path : List ℕ) → (form : ListForm)
+    → (old new : Option (List ℕ)) → Result ℕ Failure → Type 0
 Lists offer path form old new result =
     ((bytes : List ℕ) × offer path (Ok bytes)
     × ListsBytes form (package_of bytes) old new result)

@@ -11,7 +11,7 @@ use Rattle.dwp_base.specs.declared.endian.Endianness.{Endianness}
 use Rattle.dwp_base.specs.declared.section.SectionKind.TheVariants.{Abbrev, StrOffsets, Types}
 use Rattle.dwp_bytes.specs.Input.{Input, section, front, skip_at, byte_at, number_at}
 use Rattle.dwp_bytes.specs.Leb.{uleb_at}
-use Rattle.dwp_bytes.specs.StringOffsets.{string_at}
+use Rattle.dwp_bytes.specs.StringOffsets.{entry_in, string_at}
 use Rattle.dwp_bytes.specs.declared.error.ReadError.{ReadError}
 use Rattle.dwp_dwarf.specs.Abbreviations.{declaration}
 use Rattle.dwp_dwarf.specs.Entries.{DebugAttribute, DebugEntry, entry, number_read, root_code_at}
@@ -19,7 +19,6 @@ use Rattle.dwp_dwarf.specs.Offsets.{from_at}
 use Rattle.dwp_dwarf.specs.Units.{Unit, units}
 use Rattle.dwp_index.specs.Index.{range_in}
 use Rattle.dwp_index.specs.Package.{FoundUnit, place_of, row_bytes}
-use Rattle.dwp_index.specs.Strings.{entry_in}
 use Rattle.dwp_table.specs.declared.object.DwarfObject.{DwarfObject}
 
 -- ---- the unit DIE
@@ -64,7 +63,7 @@ die_of order object unit = option_and_then
     (unit_die (section order (row_bytes unit.contents unit.row Abbrev)) u)))
     (header_in order object unit)
 
--- the first attribute of a name, before the first fault
+-- the first attribute of a name, before the first error
 abbrev pub named : ℕ → List (Result DebugAttribute ReadError) → Option DebugAttribute
 named name [] = None
 named name (Ok a ∷ rest) = if a.name == name then Some a else named name rest

@@ -4,15 +4,13 @@
 ghost use Rattle.std.specs.Prelude.{◌≡◌, option_map};
 ghost use Rattle.std.specs.Result.{result_ok};
 ghost use Rattle.dwp_dwarf.specs.Units.{unit_of};
-ghost use Rattle.dwp_index.specs.Index.{range_in};
-ghost use Rattle.dwp_index.specs.Package.{place_of};
 ghost use Rattle.thorin_queries.specs.Names.{header_in};
 
 use dwp_base::SectionKind;
 use dwp_bytes::Reader;
 use dwp_dwarf::{ReadError, SliceReader, UnitHeader, UnitHeaders, UnitSection};
 use dwp_elf::{Contribution, Endianness};
-use dwp_index::PackagedUnit;
+use dwp_index::{PackagedUnit, place_of};
 use dwp_table::DwarfObject;
 use std::alloc::{AllocError, Global};
 use std::collections::BTreeMap;
@@ -130,29 +128,17 @@ pub(crate) fn header_of<'a>(
         ≡ header_in order object unit.now }
 {
     let reader = SliceReader::new(unit.bytes(), order);
-    match UnitHeaders::new(reader, place_of(unit, object)).next() {
+    let place = place_of(object, unit.range(SectionKind::Types));
+    match UnitHeaders::new(reader, place).next() {
         Some(Ok(header)) => Ok(header),
         Some(Err(error)) => Err(error),
         None => Err(ReadError::UnexpectedEof),
     }
 }
 
-/// Where a unit's own bytes stand: a type unit's in types where it has a range there.
-pub(crate) fn place_of(unit: &PackagedUnit<'_>, object: DwarfObject) -> UnitSection
-    ensures { result ≡ place_of object (range_in unit.now.row SectionKind.Types) }
-{
-    match object {
-        DwarfObject::Compilation(_) => UnitSection::Info,
-        DwarfObject::TypeUnit(_) => match unit.range(SectionKind::Types) {
-            None => UnitSection::Info,
-            Some(_) => UnitSection::Types,
-        },
-    }
-}
-
 /// Where a unit's own bytes and its abbreviations stand.
 fn place_in(unit: &PackagedUnit<'_>, object: DwarfObject) -> Place {
-    let (in_types, kind) = match place_of(unit, object) {
+    let (in_types, kind) = match place_of(object, unit.range(SectionKind::Types)) {
         UnitSection::Info => (0, SectionKind::Info),
         UnitSection::Types => (1, SectionKind::Types),
     };

@@ -1,26 +1,24 @@
 //! `thorin check`.
 
 ghost use Rattle.std.specs.Prelude.{◌≡◌, ◌++◌, Err, OnOk, string_bytes};
-ghost use Rattle.dwp_elf_read.specs.View.{elf};
 ghost use Rattle.dwp_index.specs.Package.{package_of};
 ghost use Rattle.thorin_queries.specs.Answers.{anything};
 ghost use Rattle.thorin_queries.specs.Checking.{count_text, counts_line, status_of, has_no_index};
 ghost use Rattle.thorin_queries.specs.Checking.{TellsPackage, IsOfChecking, Finishes, PrintsLast};
 ghost use Rattle.thorin_queries.specs.Checking.{ChecksIndexed, ChecksPackage, ChecksBytes, Checks};
-ghost use Rattle.thorin_queries.specs.Indexes.{HasIndexes};
+ghost use Rattle.thorin_queries.specs.Checking.{executables_of};
 ghost use Rattle.thorin_queries.specs.Listing.{AreByRow};
 ghost use Rattle.thorin_queries.specs.Telling.{progress, Grows, TellsOr};
 
 use crate::executables::{Named, Reading, check_executables};
 use crate::faults::Faults;
 use crate::files::{FileReader, HostReader, read_named};
-use crate::input::has_no_index;
+use crate::indexes::has_no_index;
 use crate::json_lines::JsonLines;
 use crate::listing::entries_by_row;
 use crate::output::{Failure, flush, print};
 use crate::tables::check_tables;
 use crate::units::check_units;
-use dwp_elf::ElfFile;
 use dwp_index::{PackageFile, UnitEntry};
 use std::alloc::AllocError;
 use std::io::Write;
@@ -42,8 +40,8 @@ pub fn check<O: Write>(
     reading: Reading,
     out: &mut O,
 ) -> Result<u8, Failure>
-    ensures { Checks anything file.now reading executables.now (O.contents out.old)
-        (O.contents out.new) result }
+    ensures { Checks anything file.now (record { paths = executables.now; reading = reading })
+        (O.contents out.old) (O.contents out.new) result }
 {
     check_by(rt, &HostReader::new(rt), file, executables, reading, out)
 }
@@ -76,8 +74,9 @@ pub fn check_by<F: FileReader, O: Write>(
     reading: Reading,
     out: &mut O,
 ) -> Result<u8, Failure>
-    ensures { Checks (F.offer files.now) file.now reading executables.now
-        (O.contents out.old) (O.contents out.new) result }
+    ensures { Checks (F.offer files.now) file.now
+        (record { paths = executables.now; reading = reading }) (O.contents out.old)
+        (O.contents out.new) result }
 {
     match read_named(files, file) {
         Ok(bytes) => check_bytes(
@@ -95,7 +94,7 @@ pub fn check_by<F: FileReader, O: Write>(
 }
 
 /// Checks a package's bytes.
-#[tactic(auto, using(crate::proofs::Checked::no_elf))]
+#[tactic(auto, using(crate::proofs::Checked::malformed))]
 fn check_bytes<F: FileReader, O: Write>(
     rt: &HostRuntime,
     files: &F,
@@ -103,14 +102,11 @@ fn check_bytes<F: FileReader, O: Write>(
     named: Named<'_, '_>,
     out: &mut O,
 ) -> Result<u8, Failure>
-    ensures { ChecksBytes (F.offer files.now) named.entry.reading named.entry.executables.now
-        (package_of bytes.now) (O.contents out.old) (O.contents out.new) result }
+    ensures { ChecksBytes (F.offer files.now) (executables_of named.entry) (package_of bytes.now)
+        (O.contents out.old) (O.contents out.new) result }
 {
-    match ElfFile::parse(bytes) {
-        Ok(file) => match PackageFile::parse(bytes) {
-            Ok(pack) => check_package(rt, files, &pack, &file, named, out),
-            Err(_) => Err(Failure::Malformed),
-        },
+    match PackageFile::parse(bytes) {
+        Ok(pack) => check_package(rt, files, &pack, named, out),
         Err(_) => Err(Failure::Malformed),
     }
 }
@@ -120,8 +116,6 @@ fn check_bytes<F: FileReader, O: Write>(
 pub(crate) struct Opened<'m, 'a> {
     /// The package.
     pub pack: &'m PackageFile<'a>,
-    /// The file that it stands in.
-    pub file: &'m ElfFile<'a>,
     /// The units that its slots name, by row.
     pub entries: &'m [UnitEntry],
 }
@@ -132,22 +126,19 @@ fn check_package<F: FileReader, O: Write>(
     rt: &HostRuntime,
     files: &F,
     pack: &PackageFile<'_>,
-    file: &ElfFile<'_>,
     named: Named<'_, '_>,
     out: &mut O,
 ) -> Result<u8, Failure>
-    requires { HasIndexes (elf file.now) pack.now }
-    ensures { ChecksPackage (F.offer files.now) named.entry.reading named.entry.executables.now pack.now
+    ensures { ChecksPackage (F.offer files.now) (executables_of named.entry) pack.now
         (O.contents out.old) (O.contents out.new) result (has_no_index pack.now) }
 {
-    if has_no_index(file) {
+    if has_no_index(pack) {
         return Err(Failure::NoIndex);
     }
     match entries_by_row(rt.alloc(), pack) {
         Ok(entries) => {
             let opened = Opened {
                 pack,
-                file,
                 entries: entries.as_slice(),
             };
             check_entries(rt, files, opened, named, out)
@@ -164,9 +155,8 @@ fn check_entries<F: FileReader, O: Write>(
     named: Named<'_, '_>,
     out: &mut O,
 ) -> Result<u8, Failure>
-    requires by_row { AreByRow opened.pack.now opened.entries.now }
-    requires indexes { HasIndexes (elf opened.file.now) opened.pack.now }
-    ensures { ChecksIndexed (F.offer files.now) named.entry.reading named.entry.executables.now
+    requires { AreByRow opened.pack.now opened.entries.now }
+    ensures { ChecksIndexed (F.offer files.now) (executables_of named.entry)
         opened.entry.pack.now (O.contents out.old) (O.contents out.new) result }
 {
     let mut faults = Faults::none(rt.alloc());
@@ -186,10 +176,9 @@ fn check_all<F: FileReader, O: Write>(
     faults: &mut Faults,
     out: &mut O,
 ) -> Result<(), Failure>
-    requires { HasIndexes (elf opened.file.now) opened.pack.now }
     ensures { TellsOr (IsOfChecking (F.offer files.now) named.entry.executables.now)
-        (TellsPackage (F.offer files.now) named.entry.reading opened.entry.pack.now
-        opened.entry.entries.now named.entry.executables.now)
+        (TellsPackage (F.offer files.now) (executables_of named.entry) opened.entry.pack.now
+        opened.entry.entries.now)
         (progress (O.contents out.old) faults.old) (progress (O.contents out.new) faults.new)
         result }
 {

@@ -1,18 +1,17 @@
 //! Which strings of a package end, in `thorin check`.
 
 ghost use Rattle.std.specs.Prelude.{◌≡◌, ◌≤◌, ℕ, List, length, true};
+ghost use Rattle.std.specs.Result.{result_err};
 ghost use Rattle.dwp_bytes.specs.StringOffsets.{string_at};
-ghost use Rattle.dwp_index.specs.Package.{Package};
-ghost use Rattle.thorin_queries.specs.Ends.{IsReach, HasEnds, AllEnd, is_inside, fault_of};
-ghost use Rattle.thorin_queries.specs.Faults.{string_of};
-ghost use Rattle.thorin_queries.specs.Listing.{HasStrings};
 ghost use Rattle.dwp_index.specs.Contents.{content};
+ghost use Rattle.dwp_index.specs.Package.{row_bytes};
+ghost use Rattle.thorin_queries.specs.Ends.{IsReach, HasEnds, AllEnd, is_inside};
+ghost use Rattle.thorin_queries.specs.Finding.{string_of};
 
-use crate::names::{Strings, entry_in};
 use dwp_base::SectionKind;
-use dwp_bytes::ReadError;
+use dwp_bytes::{ReadError, StringOffsets};
 use dwp_elf::Endianness;
-use dwp_index::PackagedUnit;
+use dwp_index::{PackageFile, PackagedUnit};
 use memchr::memrchr;
 
 /// The strings of a package, of which no more is known than where the last of them ends: so none is
@@ -27,30 +26,29 @@ pub(crate) struct Ends {
 }
 
 impl Ends {
-    /// Of these strings.
+    /// Those of a package.
     #[tactic(auto, using(crate::proofs::Reached::of_package))]
-    pub(crate) fn of(strings: Strings<'_>) -> Ends
-        ensures { (pack : Package) → HasStrings strings.entry pack
-            → HasEnds result pack.order (content pack.contents SectionKind.Str) }
+    pub(crate) fn of(pack: &PackageFile<'_>) -> Ends
+        ensures { HasEnds result pack.now.order (content pack.now.contents SectionKind.Str) }
     {
+        let strings = pack.content(SectionKind::Str);
         Ends {
-            order: strings.order,
-            size: strings.bytes.len() as u64,
-            reach: reach_of(strings.bytes),
+            order: pack.order(),
+            size: strings.len() as u64,
+            reach: reach_of(strings),
         }
     }
 
     /// Why the string of a number of a unit can't be read, where that is so: what
     /// `PackagedUnit::string` answers, but no string is read.
     #[tactic(auto, using(crate::proofs::Reached::none_there, crate::proofs::Reached::one_there, crate::proofs::Reached::own_order))]
-    pub(crate) fn fault_of(self, unit: &PackagedUnit<'_>, i: u64) -> Option<ReadError>
+    pub(crate) fn error_of(self, unit: &PackagedUnit<'_>, i: u64) -> Option<ReadError>
         requires { HasEnds self unit.now.order (content unit.now.contents SectionKind.Str) }
-        ensures { result ≡ fault_of (string_of unit.now i) }
+        ensures { result ≡ result_err (string_of unit.now i) }
     {
-        let offsets = unit.section(SectionKind::StrOffsets);
-        match entry_in(self.order, unit.encoding(), offsets, i) {
+        match self.offsets_of(unit).entry(i) {
             None => None,
-            Some(offset) => self.fault_at(offset),
+            Some(offset) => self.error_at(offset),
         }
     }
 
@@ -61,14 +59,29 @@ impl Ends {
             → HasEnds self unit.now.order (content unit.now.contents SectionKind.Str)
             → AllEnd unit.now }
     {
-        let offsets = unit.section(SectionKind::StrOffsets);
-        let encoding = unit.encoding();
-        for i in 0..encoding.string_offsets_count(offsets.len() as u64) {
-            if !self.is_inside(entry_in(self.order, encoding, offsets, i)) {
+        let offsets = self.offsets_of(unit);
+        for i in 0..offsets.count() {
+            if !self.is_inside(offsets.entry(i)) {
                 return false;
             }
         }
         true
+    }
+
+    /// The string offsets of a unit; no string is read by them.
+    #[inline(always)]
+    fn offsets_of<'a>(self, unit: &PackagedUnit<'a>) -> StringOffsets<'a>
+        ensures order { result.order ≡ self.order }
+        ensures encoding { result.encoding ≡ unit.now.encoding }
+        ensures bytes { result.offsets.now
+            ≡ row_bytes unit.now.contents unit.now.row SectionKind.StrOffsets }
+    {
+        StringOffsets {
+            strings: &[],
+            offsets: unit.section(SectionKind::StrOffsets),
+            order: self.order,
+            encoding: unit.encoding(),
+        }
     }
 
     /// Whether an offset is before the place behind the last zero byte, where there is an offset.
@@ -83,9 +96,9 @@ impl Ends {
     }
 
     /// Why the string at an offset can't be read, where that is so.
-    fn fault_at(self, offset: u64) -> Option<ReadError>
+    fn error_at(self, offset: u64) -> Option<ReadError>
         ensures { (strings : List ℕ) → HasEnds self self.order strings
-            → result ≡ fault_of (string_at strings offset) }
+            → result ≡ result_err (string_at strings offset) }
     {
         if offset < self.reach {
             None

@@ -12,8 +12,8 @@ ghost use Rattle.thorin_queries.specs.Telling.{progress, Tells, TellsOr, Is};
 
 use crate::faults::{Faults, pass_on, some, tell};
 use crate::files::{FileReader, read_named};
-use crate::input::plain_of;
 use crate::output::Failure;
+use crate::plain::plain_of;
 use crate::showing::shown;
 use bumpalo::Bump;
 use dwp_bytes::RelocationEntry;
@@ -116,11 +116,14 @@ fn check_read<O: Write>(
         (progress (O.contents out.old) faults.old) (progress (O.contents out.new) faults.new)
         result }
 {
-    match plain_of(rt.alloc(), bytes, reading.decompresses) {
-        Ok(None) => check_taken(rt, naming, bytes, reading.nameless, faults, out),
+    if !reading.decompresses {
+        return check_taken(rt, naming, bytes, reading.nameless, faults, out);
+    }
+    match plain_of(rt.alloc(), bytes) {
         Ok(Some(plain)) => {
             check_taken(rt, naming, plain.as_slice(), reading.nameless, faults, out)
         }
+        Ok(None) => check_taken(rt, naming, bytes, reading.nameless, faults, out),
         Err(_) => Err(Failure::Memory),
     }
 }
@@ -160,7 +163,7 @@ fn check_named<'s, Sess: Session<RelocationEntry>, O: Write>(
     let alloc = *faults.waiting.allocator();
     match NamedUnits::read_by(alloc, session, bytes, nameless) {
         Ok(mut units) => check_skeletons(naming, &mut units, faults, out),
-        Err(error) => tell_fault(naming.executable, &error, faults, out),
+        Err(error) => tell_error(naming.executable, &error, faults, out),
     }
 }
 
@@ -185,7 +188,7 @@ fn check_skeletons<O: Write>(
                 }
             }
             Ok(None) => return Ok(()),
-            Err(error) => return tell_fault(naming.executable, &error, faults, out),
+            Err(error) => return tell_error(naming.executable, &error, faults, out),
         }
     }
 }
@@ -223,20 +226,20 @@ fn missing_text(alloc: Global, executable: &str, path: &str) -> Result<String, A
 
 /// Tells why an executable can't be read to its end.
 #[tactic(auto, using(crate::proofs::Faulted::broken, crate::proofs::Told::passed))]
-fn tell_fault<O: Write>(
+fn tell_error<O: Write>(
     executable: &str,
-    fault: &Error,
+    error: &Error,
     faults: &mut Faults,
     out: &mut O,
 ) -> Result<(), Failure>
     ensures told { Tells (IsBroken executable.now) (progress (O.contents out.old) faults.old)
         (progress (O.contents out.new) faults.new) result }
-    ensures known { OnOk result (fault.now ≢ Memory) }
+    ensures known { OnOk result (error.now ≢ Memory) }
 {
-    if matches!(fault, Error::Memory) {
+    if matches!(error, Error::Memory) {
         return Err(Failure::Memory);
     }
-    match fault_text(*faults.waiting.allocator(), fault) {
+    match error_text(*faults.waiting.allocator(), error) {
         Ok(text) => {
             let put = put_broken(executable, text.as_str(), &mut faults.waiting);
             pass_on(put, faults, out)
@@ -245,7 +248,7 @@ fn tell_fault<O: Write>(
     }
 }
 
-fn fault_text(alloc: Global, error: &Error) -> Result<String, AllocError> {
+fn error_text(alloc: Global, error: &Error) -> Result<String, AllocError> {
     format!(in alloc; "{error}")
 }
 

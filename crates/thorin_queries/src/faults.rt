@@ -102,10 +102,7 @@ pub(crate) fn tell<O: Write>(
 pub(crate) fn some(text: Result<String, AllocError>) -> Result<Option<String>, AllocError>
     ensures { IsSomeText text result }
 {
-    match text {
-        Ok(text) => Ok(Some(text)),
-        Err(cause) => Err(cause),
-    }
+    Ok(Some(text?))
 }
 
 /// Adds the line of a fault of a unit.

@@ -3,10 +3,9 @@
 ghost use Rattle.std.specs.Prelude.{◌≡◌, ◌++◌, [], IfOk, OnOk, MatchResult, string_bytes};
 ghost use Rattle.std.specs.Option.{option_copied};
 ghost use Rattle.thorin_queries.specs.Answers.{anything, Reads, Comes, refused};
-ghost use Rattle.thorin_queries.specs.Faults.{string_of};
 ghost use Rattle.thorin_queries.specs.Finding.{Finds, Seeks, string_count, string_line};
 ghost use Rattle.thorin_queries.specs.Finding.{string_answer, find_answer, found_answer};
-ghost use Rattle.thorin_queries.specs.Finding.{wanted_answer};
+ghost use Rattle.thorin_queries.specs.Finding.{wanted_answer, string_of, words_of};
 ghost use Rattle.dwp_index.specs.Package.{found_counted};
 ghost use Rattle.thorin_queries.specs.Lines.{short_kind};
 ghost use Rattle.thorin_queries.specs.declared.wanted.Wanted.TheVariants.{Printed, Bytes};
@@ -39,9 +38,13 @@ pub fn find<O: Write>(
     form: FindForm<'_>,
     out: &mut O,
 ) -> Result<u8, Failure>
-    ensures { Finds anything file.now kind.now id.now (option_copied form.entry.string)
-        (option_copied form.entry.section) form.entry.json (O.contents out.old)
-        (O.contents out.new) result }
+    ensures { Finds anything file.now (record {
+      kind = kind.now;
+      id = id.now;
+      string = option_copied form.entry.string;
+      section = option_copied form.entry.section;
+      as_json = form.entry.json;
+    }) (O.contents out.old) (O.contents out.new) result }
 {
     find_by(
         rt.alloc(),
@@ -64,9 +67,8 @@ pub fn find_by<F: FileReader, O: Write>(
     asked: FindWords<'_>,
     out: &mut O,
 ) -> Result<u8, Failure>
-    ensures { Finds (F.offer files.now) file.now asked.entry.kind.now asked.entry.id.now
-        (option_copied asked.entry.form.string) (option_copied asked.entry.form.section)
-        asked.entry.form.json (O.contents out.old) (O.contents out.new) result }
+    ensures { Finds (F.offer files.now) file.now (words_of asked.entry) (O.contents out.old)
+        (O.contents out.new) result }
 {
     let object = object(asked.kind, asked.id);
     let wanted = wanted_of(asked.form.string, asked.form.section);
@@ -84,17 +86,11 @@ fn sought(
 ) -> Result<Sought, Failure>
     ensures { Seeks as_json object wanted result }
 {
-    match object {
-        Ok(object) => match wanted {
-            Ok(wanted) => Ok(Sought {
-                object,
-                wanted,
-                as_json,
-            }),
-            Err(failure) => Err(failure),
-        },
-        Err(failure) => Err(failure),
-    }
+    Ok(Sought {
+        object: object?,
+        wanted: wanted?,
+        as_json,
+    })
 }
 
 /// Looks a unit up in a package's file and prints what is wanted of it.

@@ -7,12 +7,11 @@ ghost use Rattle.dwp_index.specs.Package.{package_of, found};
 ghost use Rattle.thorin_queries.specs.Answers.{anything, OrNoMemory};
 ghost use Rattle.thorin_queries.specs.Listing.{place_by, AreByRow, range_size, range_sizes};
 ghost use Rattle.thorin_queries.specs.Listing.{front_of, named_by, unit_names, end_of, view_of};
-ghost use Rattle.thorin_queries.specs.Listing.{view_by, unit_line, AddsLine, lines_of, IsListed};
+ghost use Rattle.thorin_queries.specs.Listing.{unit_line, AddsLine, lines_of, IsListed};
 ghost use Rattle.thorin_queries.specs.Listing.{ListsPackage, ListsBytes, Lists};
 
 use crate::files::{FileReader, HostReader, read_named};
 use crate::finding::short_kind;
-use crate::input::strings_in;
 use crate::names::Strings;
 use crate::output::{Failure, answer};
 use crate::sizes::Sizes;
@@ -80,10 +79,8 @@ pub fn list_by<F: FileReader, O: Write>(
 struct Listed<'m, 'a> {
     /// The package.
     pack: &'m PackageFile<'a>,
-    /// The bytes of its file.
-    bytes: &'m [u8],
-    /// Its strings.
-    strings: Strings<'a>,
+    /// How many bytes its file has.
+    file_size: usize,
     /// What its lines are to have.
     form: ListForm,
 }
@@ -103,8 +100,7 @@ fn list_bytes<O: Write>(
         Ok(package) => {
             let listed = Listed {
                 pack: &package,
-                bytes,
-                strings: strings_in(bytes),
+                file_size: bytes.len(),
                 form,
             };
             list_package(alloc, listed, out)
@@ -116,7 +112,6 @@ fn list_bytes<O: Write>(
 /// Lists a package.
 #[tactic(auto, using(crate::proofs::Listed::same_entries, crate::proofs::Listed::no_memory))]
 fn list_package<O: Write>(alloc: Global, listed: Listed<'_, '_>, out: &mut O) -> Result<u8, Failure>
-    requires { view_by listed.form listed.strings ≡ view_of listed.form listed.pack.now }
     ensures { OrNoMemory (ListsPackage listed.entry.form listed.entry.pack.now (O.contents out.old)
         (O.contents out.new) result) (O.contents out.old) (O.contents out.new) result }
 {
@@ -134,8 +129,7 @@ fn list_entries<O: Write>(
     entries: &[UnitEntry],
     out: &mut O,
 ) -> Result<u8, Failure>
-    requires view { view_by listed.form listed.strings ≡ view_of listed.form listed.pack.now }
-    requires by_row { AreByRow listed.pack.now entries.now }
+    requires { AreByRow listed.pack.now entries.now }
     ensures { OrNoMemory (ListsPackage listed.entry.form listed.entry.pack.now (O.contents out.old)
         (O.contents out.new) result) (O.contents out.old) (O.contents out.new) result }
 {
@@ -156,7 +150,7 @@ fn put_listing(
 ) -> Result<Result<u8, Failure>, AllocError>
     requires { string_bytes text.old ≡ [] }
     ensures { IfOk result (λ given. IsListed listed.entry.form
-        (lines_of (view_by listed.entry.form listed.entry.strings) listed.entry.pack.now entries.now)
+        (lines_of (view_of listed.entry.form listed.entry.pack.now) listed.entry.pack.now entries.now)
         (record { printed = string_bytes text.new; answer = given })) }
 {
     let mut sizes = Sizes::new(*text.allocator());
@@ -167,7 +161,7 @@ fn put_listing(
     if !listed.form.sizes {
         return Ok(Ok(0));
     }
-    sizes.put(listed.bytes, listed.form.json, text)?;
+    sizes.put(listed.pack, listed.file_size, listed.form.json, text)?;
     Ok(Ok(0))
 }
 
@@ -180,10 +174,10 @@ fn put_lines(
     text: &mut String,
 ) -> Result<bool, AllocError>
     ensures lines { OnOk result (string_bytes text.new ≡ string_bytes text.old
-        ++ (lines_of (view_by listed.entry.form listed.entry.strings) listed.entry.pack.now
+        ++ (lines_of (view_of listed.entry.form listed.entry.pack.now) listed.entry.pack.now
         entries.now).printed) }
     ensures all { IfOk result (λ is_all. is_all
-        ≡ (lines_of (view_by listed.entry.form listed.entry.strings) listed.entry.pack.now
+        ≡ (lines_of (view_of listed.entry.form listed.entry.pack.now) listed.entry.pack.now
         entries.now).is_all) }
 {
     for entry in entries {
@@ -203,7 +197,7 @@ fn put_slot(
     sizes: &mut Sizes,
     text: &mut String,
 ) -> Result<bool, AllocError>
-    ensures { IfOk result (AddsLine (view_by listed.entry.form listed.entry.strings) entry
+    ensures { IfOk result (AddsLine (view_of listed.entry.form listed.entry.pack.now) entry
         (found listed.entry.pack.now entry.object) (string_bytes text.old)
         (string_bytes text.new)) }
 {
@@ -264,7 +258,7 @@ fn put_unit<'a>(
     text: &mut String,
 ) -> Result<(), AllocError>
     ensures { OnOk result (string_bytes text.new ≡ string_bytes text.old
-        ++ unit_line (view_by listed.entry.form listed.entry.strings) object unit.now) }
+        ++ unit_line (view_of listed.entry.form listed.entry.pack.now) object unit.now) }
 {
     let form = listed.form;
     put_front(object, unit, form.json, text)?;
@@ -272,7 +266,7 @@ fn put_unit<'a>(
         put_sizes(unit, form.json, sizes, text)?;
     }
     if form.names {
-        put_names(object, unit, listed.strings, form, text)?;
+        put_names(listed, object, unit, text)?;
     }
     put_end(form.json, text)
 }
@@ -304,17 +298,16 @@ fn put_front(
 /// Adds the names of a unit's source and of its object.
 #[tactic(auto, unfolding(crate::specs::Listing::unit_names))]
 fn put_names<'a>(
+    listed: Listed<'_, 'a>,
     object: DwarfObject,
     unit: &PackagedUnit<'a>,
-    strings: Strings<'a>,
-    form: ListForm,
     text: &mut String,
 ) -> Result<(), AllocError>
-    ensures { OnOk result (string_bytes text.new
-        ≡ string_bytes text.old ++ unit_names (view_by form strings.entry) object unit.now) }
+    ensures { OnOk result (string_bytes text.new ≡ string_bytes text.old
+        ++ unit_names (view_of listed.entry.form listed.entry.pack.now) object unit.now) }
 {
-    let (source, name) = strings.names_of(object, unit);
-    put_named(source, name, form.json, text)
+    let (source, name) = Strings::of(listed.pack).names_of(object, unit);
+    put_named(source, name, listed.form.json, text)
 }
 
 /// Adds these names.

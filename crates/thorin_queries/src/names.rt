@@ -7,7 +7,7 @@ ghost use Rattle.dwp_bytes.specs.Input.{front};
 ghost use Rattle.dwp_dwarf.specs.Attributes.{attribute_of, attributes_left, entry_of, root_of};
 ghost use Rattle.dwp_dwarf.specs.Declarations.{table_of};
 ghost use Rattle.dwp_dwarf.specs.Units.{unit_of};
-ghost use Rattle.dwp_index.specs.Strings.{entry_in};
+ghost use Rattle.dwp_index.specs.Contents.{content};
 ghost use Rattle.thorin_queries.specs.Names as spec;
 ghost use Rattle.thorin_queries.specs.Names.{table_at, entry_by, unit_die, die_of, named};
 ghost use Rattle.thorin_queries.specs.Names.{short_string_at, string_number, numbered_string};
@@ -16,10 +16,10 @@ ghost use Rattle.thorin_queries.specs.Names.{object_name};
 
 use crate::abbreviations::header_of;
 use dwp_base::SectionKind;
-use dwp_bytes::{Encoding, Format, ReadError, Reader, SliceReader, string_at};
+use dwp_bytes::{ReadError, Reader, SliceReader, StringOffsets, string_at};
 use dwp_dwarf::{Abbreviations, Attribute, Attributes, RootEntry, UnitHeader};
 use dwp_elf::Endianness;
-use dwp_index::PackagedUnit;
+use dwp_index::{PackageFile, PackagedUnit};
 use dwp_table::DwarfObject;
 
 const DW_AT_NAME: u64 = 0x03;
@@ -58,6 +58,17 @@ pub(crate) struct Strings<'a> {
 }
 
 impl<'a> Strings<'a> {
+    /// Those of a package.
+    pub fn of(pack: &PackageFile<'a>) -> Strings<'a>
+        ensures order { result.order ≡ pack.now.order }
+        ensures bytes { result.bytes.now ≡ content pack.now.contents SectionKind.Str }
+    {
+        Strings {
+            order: pack.order(),
+            bytes: pack.content(SectionKind::Str),
+        }
+    }
+
     /// The names of a unit's source, `DW_AT_name` of its unit DIE, and of its object, `DW_AT_dwo_name`
     /// or `DW_AT_GNU_dwo_name` there.
     #[tactic(auto, unfolding(crate::specs::Names::source_name, crate::specs::Names::object_name))]
@@ -105,8 +116,13 @@ impl<'a> Strings<'a> {
         ensures { option_copied result ≡ numbered_string self.entry.order self.entry.bytes.now
             unit.now i }
     {
-        let offsets = unit.section(SectionKind::StrOffsets);
-        let offset = entry_in(self.order, unit.encoding(), offsets, i)?;
+        let offsets = StringOffsets {
+            strings: self.bytes,
+            offsets: unit.section(SectionKind::StrOffsets),
+            order: self.order,
+            encoding: unit.encoding(),
+        };
+        let offset = offsets.entry(i)?;
         short_string_at(self.bytes, offset)
     }
 }
@@ -128,7 +144,7 @@ fn object_in<R: Reader>(die: &RootEntry<R>) -> Option<Attribute<R>>
     }
 }
 
-/// The first attribute of a name, before the first fault.
+/// The first attribute of a name, before the first error.
 fn attribute_named<R: Reader>(attributes: Attributes<R>, name: u64) -> Option<Attribute<R>>
     ensures { option_map (attribute_of R.input) result
         ≡ named name (attributes_left R.input attributes) }
@@ -226,22 +242,6 @@ fn string_number<R: Reader>(attribute: &Attribute<R>) -> Option<u64>
         _ => return None,
     };
     Some(number)
-}
-
-/// The i-th offset of a unit's string offsets.
-#[tactic(auto, unfolding(dwp_index::specs::Strings::entry_in))]
-#[inline(always)]
-pub(crate) fn entry_in(order: Endianness, encoding: Encoding, bytes: &[u8], i: u64) -> Option<u64>
-    ensures { result ≡ entry_in order encoding bytes.now i }
-{
-    if encoding.string_offsets_count(bytes.len() as u64) <= i {
-        return None;
-    }
-    let header = encoding.string_offsets_header_size();
-    Some(match encoding.format {
-        Format::Dwarf32 => u64::from(order.read_u32(&bytes[header + i as usize * 4..])),
-        Format::Dwarf64 => order.read_u64(&bytes[header + i as usize * 8..]),
-    })
 }
 
 /// The string at an offset, where it is short enough for a name.

@@ -3,9 +3,8 @@
 ghost use Rattle.std.specs.Prelude.{◌≡◌};
 ghost use Rattle.thorin_queries.specs.Overlaps.{begins_inside, overlap};
 
-use crate::input::index_in;
 use dwp_base::SectionKind;
-use dwp_elf::{Contribution, ElfFile};
+use dwp_elf::Contribution;
 use dwp_index::{PackageFile, Row, UnitEntry, UnitIndex};
 use dwp_table::{CONTRIBUTION_KINDS, DwarfObject};
 use std::alloc::{AllocError, Global};
@@ -54,15 +53,14 @@ impl Overlaps {
     pub(crate) fn find(
         alloc: Global,
         pack: &PackageFile<'_>,
-        file: &ElfFile<'_>,
         entries: &[UnitEntry],
     ) -> Result<Overlaps, AllocError> {
         let mut overlaps = Overlaps {
             twins: Vec::from_elem(alloc, false, entries.len())?,
             clashes: Vec::new(alloc),
         };
-        if overlaps.find_twins(alloc, file, entries)? {
-            overlaps.find_clashes(alloc, pack, file, entries)?;
+        if overlaps.find_twins(alloc, pack, entries)? {
+            overlaps.find_clashes(alloc, pack, entries)?;
         }
         Ok(overlaps)
     }
@@ -86,11 +84,11 @@ impl Overlaps {
     fn find_twins(
         &mut self,
         alloc: Global,
-        file: &ElfFile<'_>,
+        pack: &PackageFile<'_>,
         entries: &[UnitEntry],
     ) -> Result<bool, AllocError> {
-        let mut columns = columns_of(alloc, file)?;
-        gather_rows(file, entries, &mut columns)?;
+        let mut columns = columns_of(alloc, pack)?;
+        gather_rows(pack, entries, &mut columns)?;
         let mut overlap = false;
         for i in 0..columns.len() {
             if let Some(column) = columns.get_mut(i) {
@@ -139,11 +137,10 @@ impl Overlaps {
         &mut self,
         alloc: Global,
         pack: &PackageFile<'_>,
-        file: &ElfFile<'_>,
         entries: &[UnitEntry],
     ) -> Result<(), AllocError> {
         self.clashes.resize(entries.len(), None)?;
-        let mut columns = columns_of(alloc, file)?;
+        let mut columns = columns_of(alloc, pack)?;
         for entry in 0..entries.len() {
             gather_found(pack, entries[entry], entry, &mut columns)?;
         }
@@ -218,13 +215,13 @@ impl Overlaps {
     }
 }
 
-/// The sections that an index of a file has a column for. No range is gathered yet.
-fn columns_of(alloc: Global, file: &ElfFile<'_>) -> Result<Vec<Column>, AllocError> {
-    let compilations = index_in(file, SectionKind::CuIndex);
-    let types = index_in(file, SectionKind::TuIndex);
+/// The sections that an index of a package has a column for. No range is gathered yet.
+fn columns_of(alloc: Global, pack: &PackageFile<'_>) -> Result<Vec<Column>, AllocError> {
+    let compilations = pack.compilation_index();
+    let types = pack.type_index();
     let mut columns = Vec::new(alloc);
     for kind in &CONTRIBUTION_KINDS {
-        if has_column(&compilations, *kind) || has_column(&types, *kind) {
+        if has_column(compilations, *kind) || has_column(types, *kind) {
             columns.push(Column {
                 kind: *kind,
                 ranges: Vec::new(alloc),
@@ -235,7 +232,7 @@ fn columns_of(alloc: Global, file: &ElfFile<'_>) -> Result<Vec<Column>, AllocErr
 }
 
 /// Whether an index has a column for a section.
-fn has_column(index: &Option<UnitIndex<'_>>, kind: SectionKind) -> bool {
+fn has_column(index: Option<&UnitIndex<'_>>, kind: SectionKind) -> bool {
     match index {
         Some(index) => index.has_column(kind),
         None => false,
@@ -244,17 +241,17 @@ fn has_column(index: &Option<UnitIndex<'_>>, kind: SectionKind) -> bool {
 
 /// Gathers the ranges of the rows that these entries name, of the sections of these columns.
 fn gather_rows(
-    file: &ElfFile<'_>,
+    pack: &PackageFile<'_>,
     entries: &[UnitEntry],
     columns: &mut Vec<Column>,
 ) -> Result<(), AllocError> {
-    let compilations = index_in(file, SectionKind::CuIndex);
-    let types = index_in(file, SectionKind::TuIndex);
+    let compilations = pack.compilation_index();
+    let types = pack.type_index();
     for entry in 0..entries.len() {
         let slot = entries[entry];
         let index = match slot.object {
-            DwarfObject::Compilation(_) => &compilations,
-            DwarfObject::TypeUnit(_) => &types,
+            DwarfObject::Compilation(_) => compilations,
+            DwarfObject::TypeUnit(_) => types,
         };
         gather_row(index, slot, entry, columns)?;
     }
@@ -263,7 +260,7 @@ fn gather_rows(
 
 /// Gathers the ranges of the row that a slot of an index names.
 fn gather_row(
-    index: &Option<UnitIndex<'_>>,
+    index: Option<&UnitIndex<'_>>,
     slot: UnitEntry,
     entry: usize,
     columns: &mut Vec<Column>,

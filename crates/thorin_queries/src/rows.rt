@@ -1,47 +1,64 @@
 //! The rows of a package that no slot names, in `thorin check`.
 
-ghost use Rattle.std.specs.Prelude.{◌≡◌, ◌++◌, OnOk, string_bytes};
+ghost use Rattle.std.specs.Prelude.{◌≡◌, ◌++◌, codes, OnOk, string_bytes};
 ghost use Rattle.thorin_queries.specs.Checking.{TellsRows};
 ghost use Rattle.thorin_queries.specs.Faults.{row_line, AreRows};
 ghost use Rattle.thorin_queries.specs.Telling.{progress, Tells};
 
 use crate::faults::{Faults, pass_on};
-use crate::input::row_count;
 use crate::listing::is_type;
 use crate::output::Failure;
-use dwp_base::SectionKind;
-use dwp_elf::ElfFile;
-use dwp_index::UnitEntry;
+use dwp_index::{PackageFile, UnitEntry, UnitIndex};
 use std::alloc::AllocError;
 use std::io::Write;
 
 /// An index, as far as it is known which of its rows slots name.
 #[derive(Clone, Copy)]
-struct Rows<'k> {
+struct Rows {
     /// `cu` or `tu`.
-    kind: &'k str,
+    kind: &'static str,
     /// Whether it is that of type units.
     is_types: bool,
     /// The number behind that of its last row.
     end: u64,
 }
 
-/// The rows of the index of a kind.
-fn rows_of<'k>(kind: &'k str, is_types: bool, rows: u32) -> Rows<'k>
-    ensures { result.kind.now ≡ kind.now }
-{
-    let end = u64::from(rows) + 1;
-    Rows {
-        kind,
-        is_types,
-        end,
+impl Rows {
+    /// Those of the index of compilation units.
+    fn of_compilations(pack: &PackageFile<'_>) -> Rows
+        ensures { result.kind.now ≡ codes "cu" }
+    {
+        Rows {
+            kind: "cu",
+            is_types: false,
+            end: end_of(pack.compilation_index()),
+        }
+    }
+
+    /// Those of the index of type units.
+    fn of_types(pack: &PackageFile<'_>) -> Rows
+        ensures { result.kind.now ≡ codes "tu" }
+    {
+        Rows {
+            kind: "tu",
+            is_types: true,
+            end: end_of(pack.type_index()),
+        }
+    }
+}
+
+/// The number behind that of the last row of an index; 1 where there is no index.
+fn end_of(index: Option<&UnitIndex<'_>>) -> u64 {
+    match index {
+        Some(index) => u64::from(index.unit_count()) + 1,
+        None => 1,
     }
 }
 
 /// A slot names each row of both indexes; `entries` are in the order of rows.
 #[tactic(auto, using(crate::proofs::Told::in_turn_or))]
 pub(crate) fn check_indexes<O: Write>(
-    file: &ElfFile<'_>,
+    pack: &PackageFile<'_>,
     entries: &[UnitEntry],
     faults: &mut Faults,
     out: &mut O,
@@ -49,10 +66,8 @@ pub(crate) fn check_indexes<O: Write>(
     ensures { Tells TellsRows (progress (O.contents out.old) faults.old)
         (progress (O.contents out.new) faults.new) result }
 {
-    let compilations = rows_of("cu", false, row_count(file, SectionKind::CuIndex));
-    let types = rows_of("tu", true, row_count(file, SectionKind::TuIndex));
-    match check_rows(compilations, entries, faults, out) {
-        Ok(()) => check_rows(types, entries, faults, out),
+    match check_rows(Rows::of_compilations(pack), entries, faults, out) {
+        Ok(()) => check_rows(Rows::of_types(pack), entries, faults, out),
         Err(failure) => Err(failure),
     }
 }
@@ -62,12 +77,12 @@ pub(crate) fn check_indexes<O: Write>(
 /// over, as one whose row is past the rows.
 #[tactic(auto, using(crate::proofs::Faulted::no_rows))]
 fn check_rows<O: Write>(
-    rows: Rows<'_>,
+    rows: Rows,
     entries: &[UnitEntry],
     faults: &mut Faults,
     out: &mut O,
 ) -> Result<(), Failure>
-    ensures { Tells (AreRows rows.entry.kind.now) (progress (O.contents out.old) faults.old)
+    ensures { Tells (AreRows rows.kind.now) (progress (O.contents out.old) faults.old)
         (progress (O.contents out.new) faults.new) result }
 {
     let mut next = 1u64;

@@ -2,9 +2,9 @@
 
 ghost use Rattle.std.specs.Prelude.{◌≡◌, ◌-◌, ◌^◌, ◌++◌, min, sum_by, OnOk, List, ℕ, string_bytes};
 
-use crate::input::contents_of;
 use dwp_base::SectionKind;
-use dwp_elf::{Contribution, ElfFile};
+use dwp_elf::Contribution;
+use dwp_index::PackageFile;
 use dwp_table::CONTRIBUTION_KINDS;
 use std::alloc::{AllocError, Global};
 
@@ -46,10 +46,11 @@ impl Sizes {
 
     /// Adds a line `total` for each section of a package: its bytes in the file; for a section
     /// that units have ranges of, also the bytes of its distinct ranges, and how many more all
-    /// ranges have together. Then the file's bytes.
+    /// ranges have together. Then how many bytes the file has.
     pub(crate) fn put(
         &mut self,
-        bytes: &[u8],
+        pack: &PackageFile<'_>,
+        file_size: usize,
         as_json: bool,
         text: &mut String,
     ) -> Result<(), AllocError>
@@ -57,34 +58,33 @@ impl Sizes {
             × (string_bytes text.new ≡ string_bytes text.old ++ totals)) }
     {
         let mut totals = String::new(*self.ranges.allocator());
-        self.put_totals(bytes, as_json, &mut totals)?;
+        self.put_totals(pack, file_size, as_json, &mut totals)?;
         text.push_str(totals.as_str())
     }
 
-    /// Adds these lines; none where the bytes are no ELF file.
+    /// Adds these lines.
     fn put_totals(
         &mut self,
-        bytes: &[u8],
+        pack: &PackageFile<'_>,
+        file_size: usize,
         as_json: bool,
         text: &mut String,
     ) -> Result<(), AllocError> {
-        if let Ok(file) = ElfFile::parse(bytes) {
-            self.ranges.sort_unstable();
-            self.put_columns(&file, as_json, text)?;
-            put_wholes(&file, as_json, text)?;
-        }
-        put_total("file", bytes.len(), as_json, text)
+        self.ranges.sort_unstable();
+        self.put_columns(pack, as_json, text)?;
+        put_wholes(pack, as_json, text)?;
+        put_total("file", file_size, as_json, text)
     }
 
     /// The totals of the sections that units have ranges of.
     fn put_columns(
         &self,
-        file: &ElfFile<'_>,
+        pack: &PackageFile<'_>,
         as_json: bool,
         text: &mut String,
     ) -> Result<(), AllocError> {
         for kind in &CONTRIBUTION_KINDS {
-            self.put_column(*kind, contents_of(file, *kind).len(), as_json, text)?;
+            self.put_column(*kind, pack.content(*kind).len(), as_json, text)?;
         }
         Ok(())
     }
@@ -129,14 +129,9 @@ impl Sizes {
 }
 
 /// The totals of the sections that no unit has a range of.
-fn put_wholes(file: &ElfFile<'_>, as_json: bool, text: &mut String) -> Result<(), AllocError> {
+fn put_wholes(pack: &PackageFile<'_>, as_json: bool, text: &mut String) -> Result<(), AllocError> {
     for kind in &[SectionKind::Str, SectionKind::CuIndex, SectionKind::TuIndex] {
-        put_whole(
-            kind.short_name(),
-            contents_of(file, *kind).len(),
-            as_json,
-            text,
-        )?;
+        put_whole(kind.short_name(), pack.content(*kind).len(), as_json, text)?;
     }
     Ok(())
 }

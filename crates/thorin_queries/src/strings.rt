@@ -4,8 +4,9 @@ ghost use Rattle.std.specs.Prelude.{◌≡◌, ℕ, List, IfOk, string_bytes, tr
 ghost use Rattle.dwp_index.specs.Package.{found};
 ghost use Rattle.thorin_queries.specs.Checking.{TellsSomeStrings};
 ghost use Rattle.thorin_queries.specs.Ends.{HasEnds, AllEnd};
-ghost use Rattle.thorin_queries.specs.Faults.{TellsStringsOf, TellsStrings, TellsString, string_of};
-ghost use Rattle.thorin_queries.specs.Faults.{string_text, IsTextOf};
+ghost use Rattle.thorin_queries.specs.Faults.{TellsStringsOf, TellsStrings, TellsString, string_text};
+ghost use Rattle.thorin_queries.specs.Faults.{IsTextOf};
+ghost use Rattle.thorin_queries.specs.Finding.{string_of};
 ghost use Rattle.thorin_queries.specs.Telling.{progress, Tells, ForEach};
 ghost use Rattle.dwp_table.specs.declared.object.DwarfObject.{DwarfObject};
 ghost use Rattle.dwp_index.specs.Contents.{content};
@@ -194,7 +195,7 @@ fn string_text(
     ensures { (object : DwarfObject) → IsTextOf (TellsString object i (string_of unit.now i)) object
         result }
 {
-    match ends.fault_of(unit, i) {
+    match ends.error_of(unit, i) {
         None => Ok(None),
         Some(error) => some(unread_text(i, error, near)),
     }

@@ -1,49 +1,42 @@
 //! The sections of abbreviations and of strings, and the rows of a package, in `thorin check`.
 
 ghost use Rattle.std.specs.Prelude.{◌≡◌, ◌++◌, OnOk, string_bytes};
-ghost use Rattle.dwp_elf_read.specs.View.{elf};
-ghost use Rattle.dwp_index.specs.Package.{Package};
 ghost use Rattle.thorin_queries.specs.Checking.{lacks_abbreviations, lacks_strings, lacking_line};
 ghost use Rattle.thorin_queries.specs.Checking.{lacking_lines, TellsTables};
 ghost use Rattle.thorin_queries.specs.Faults.{has_abbreviations};
-ghost use Rattle.thorin_queries.specs.Indexes.{HasIndexes};
 ghost use Rattle.thorin_queries.specs.Telling.{progress, Tells, Is};
 
 use crate::checking::Opened;
 use crate::faults::{Faults, pass_on};
-use crate::input::contents_of;
 use crate::output::Failure;
 use crate::rows::check_indexes;
 use dwp_base::SectionKind;
-use dwp_elf::ElfFile;
-use dwp_index::UnitEntry;
+use dwp_index::{PackageFile, UnitEntry};
 use std::alloc::AllocError;
 use std::io::Write;
 
 /// Whether a package has abbreviations.
-pub(crate) fn has_abbreviations(file: &ElfFile<'_>) -> bool
-    ensures { (pack : Package) → HasIndexes (elf file.now) pack
-        → result ≡ has_abbreviations pack }
+pub(crate) fn has_abbreviations(pack: &PackageFile<'_>) -> bool
+    ensures { result ≡ has_abbreviations pack.now }
 {
-    !contents_of(file, SectionKind::Abbrev).is_empty()
+    !pack.content(SectionKind::Abbrev).is_empty()
 }
 
 /// Whether a package that has units has no section of abbreviations, or an empty one.
-pub(crate) fn lacks_abbreviations(file: &ElfFile<'_>, entries: &[UnitEntry]) -> bool
-    ensures { (pack : Package) → HasIndexes (elf file.now) pack
-        → result ≡ lacks_abbreviations pack entries.now }
+fn lacks_abbreviations(pack: &PackageFile<'_>, entries: &[UnitEntry]) -> bool
+    ensures { result ≡ lacks_abbreviations pack.now entries.now }
 {
-    !entries.is_empty() && contents_of(file, SectionKind::Abbrev).is_empty()
+    !entries.is_empty() && pack.content(SectionKind::Abbrev).is_empty()
 }
 
 /// Whether a package that has string offsets has no section of strings, or an empty one.
-pub(crate) fn lacks_strings(file: &ElfFile<'_>) -> bool
-    ensures { (pack : Package) → HasIndexes (elf file.now) pack → result ≡ lacks_strings pack }
+fn lacks_strings(pack: &PackageFile<'_>) -> bool
+    ensures { result ≡ lacks_strings pack.now }
 {
-    if contents_of(file, SectionKind::StrOffsets).is_empty() {
+    if pack.content(SectionKind::StrOffsets).is_empty() {
         return false;
     }
-    contents_of(file, SectionKind::Str).is_empty()
+    pack.content(SectionKind::Str).is_empty()
 }
 
 /// The sections of abbreviations and of strings aren't lacking, and a slot names each row of both
@@ -53,16 +46,15 @@ pub(crate) fn check_tables<O: Write>(
     faults: &mut Faults,
     out: &mut O,
 ) -> Result<(), Failure>
-    requires { HasIndexes (elf opened.file.now) opened.pack.now }
     ensures { Tells (TellsTables (lacks_abbreviations opened.entry.pack.now opened.entry.entries.now)
         (lacks_strings opened.entry.pack.now)) (progress (O.contents out.old) faults.old)
         (progress (O.contents out.new) faults.new) result }
 {
-    let no_abbreviations = lacks_abbreviations(opened.file, opened.entries);
-    let no_strings = lacks_strings(opened.file);
+    let no_abbreviations = lacks_abbreviations(opened.pack, opened.entries);
+    let no_strings = lacks_strings(opened.pack);
     match check_section(SectionKind::Abbrev, no_abbreviations, faults, out) {
         Ok(()) => match check_section(SectionKind::Str, no_strings, faults, out) {
-            Ok(()) => check_indexes(opened.file, opened.entries, faults, out),
+            Ok(()) => check_indexes(opened.pack, opened.entries, faults, out),
             Err(failure) => Err(failure),
         },
         Err(failure) => Err(failure),

@@ -2,12 +2,10 @@
 
 ghost use Rattle.std.specs.Prelude.{◌≡◌, ◌++◌, ◌&&◌, codes, IfOk, IfSome, is_none, string_bytes};
 ghost use Rattle.std.specs.Fmt.{decimal};
-ghost use Rattle.dwp_elf_read.specs.View.{elf};
 ghost use Rattle.dwp_index.specs.Index.{range_in};
 ghost use Rattle.thorin_queries.specs.Checking.{TellsUnits};
 ghost use Rattle.thorin_queries.specs.Faults.{TellsUnit, TellsFound, TellsOwn, TellsItself};
 ghost use Rattle.thorin_queries.specs.Faults.{IsOwnText, IsUnreadText, IsTextOf, has_abbreviations};
-ghost use Rattle.thorin_queries.specs.Indexes.{HasIndexes};
 ghost use Rattle.thorin_queries.specs.Overlaps.{IsClash, overlap_text};
 ghost use Rattle.thorin_queries.specs.Telling.{progress, Tells, ForEach};
 
@@ -16,13 +14,11 @@ use crate::checking::Opened;
 use crate::ends::Ends;
 use crate::faults::{Faults, some, tell};
 use crate::finding::short_kind;
-use crate::input::{contents_of, strings_of};
 use crate::output::Failure;
 use crate::overlaps::{Clash, Overlaps, Shares, overlap};
 use crate::strings::{Strings, check_strings};
 use crate::tables::has_abbreviations;
 use dwp_base::SectionKind;
-use dwp_elf::ElfFile;
 use dwp_index::{PackageError, PackageFile, PackagedUnit, UnitEntry};
 use dwp_table::{Bucketable, DwarfObject};
 use std::alloc::{AllocError, Global};
@@ -47,13 +43,13 @@ struct Seen<'a> {
 }
 
 impl<'a> Seen<'a> {
-    /// Nothing, of a package's file whose strings end so.
-    fn nothing(alloc: Global, file: &ElfFile<'a>, ends: Ends) -> Seen<'a> {
-        let section = contents_of(file, SectionKind::Abbrev);
-        let size = contents_of(file, SectionKind::StrOffsets).len();
+    /// Nothing, of a package whose strings end so.
+    fn nothing(alloc: Global, pack: &PackageFile<'a>, ends: Ends) -> Seen<'a> {
+        let section = pack.content(SectionKind::Abbrev);
+        let size = pack.content(SectionKind::StrOffsets).len();
         Seen {
             alloc,
-            abbreviations: Remembered::new(alloc, file.endianness(), section),
+            abbreviations: Remembered::new(alloc, pack.order(), section),
             strings: Strings::new(alloc, ends, size),
         }
     }
@@ -65,13 +61,12 @@ pub(crate) fn check_units<O: Write>(
     faults: &mut Faults,
     out: &mut O,
 ) -> Result<(), Failure>
-    requires { HasIndexes (elf opened.file.now) opened.pack.now }
     ensures { Tells (TellsUnits opened.entry.pack.now opened.entry.entries.now)
         (progress (O.contents out.old) faults.old) (progress (O.contents out.new) faults.new)
         result }
 {
     let alloc = *faults.waiting.allocator();
-    match Overlaps::find(alloc, opened.pack, opened.file, opened.entries) {
+    match Overlaps::find(alloc, opened.pack, opened.entries) {
         Ok(overlaps) => check_all(opened, &overlaps, faults, out),
         Err(_) => Err(Failure::Memory),
     }
@@ -84,16 +79,15 @@ fn check_all<O: Write>(
     faults: &mut Faults,
     out: &mut O,
 ) -> Result<(), Failure>
-    requires { HasIndexes (elf opened.file.now) opened.pack.now }
     ensures { Tells (TellsUnits opened.entry.pack.now opened.entry.entries.now)
         (progress (O.contents out.old) faults.old) (progress (O.contents out.new) faults.new)
         result }
 {
-    let ends = Ends::of(strings_of(opened.file));
-    let mut seen = Seen::nothing(*faults.waiting.allocator(), opened.file, ends);
+    let ends = Ends::of(opened.pack);
+    let mut seen = Seen::nothing(*faults.waiting.allocator(), opened.pack, ends);
     let units = Units {
         pack: opened.pack,
-        has_abbreviations: has_abbreviations(opened.file),
+        has_abbreviations: has_abbreviations(opened.pack),
     };
     match check_each(units, opened.entries, overlaps, &mut seen, faults, out) {
         Ok(()) => check_strings(opened.pack, ends, &mut seen.strings.unread, faults, out),
@@ -221,18 +215,12 @@ fn text_of_own<'a>(
 ) -> Result<Option<String>, AllocError>
     ensures { IsTextOf (TellsOwn object) object result }
 {
-    match seen.abbreviations.own(unit, object, has_twin) {
-        Ok(own) => {
-            if !is_own(own, object) {
-                return some(own_text(seen.alloc, own));
-            }
-            match seen.strings.add(unit, object) {
-                Ok(()) => Ok(None),
-                Err(cause) => Err(cause),
-            }
-        }
-        Err(cause) => Err(cause),
+    let own = seen.abbreviations.own(unit, object, has_twin)?;
+    if !is_own(own, object) {
+        return some(own_text(seen.alloc, own));
     }
+    seen.strings.add(unit, object)?;
+    Ok(None)
 }
 
 /// Whether a unit's own identifier is this one.
@@ -277,14 +265,14 @@ fn own_text(alloc: Global, own: &Own) -> Result<String, AllocError>
 }
 
 /// What is told where what the index says of a unit can't be read.
-fn unread_text(alloc: Global, fault: PackageError) -> Result<String, AllocError>
-    ensures { IfOk result (λ text. IsUnreadText fault (string_bytes text)) }
+fn unread_text(alloc: Global, error: PackageError) -> Result<String, AllocError>
+    ensures { IfOk result (λ text. IsUnreadText error (string_bytes text)) }
 {
-    match fault {
+    match error {
         PackageError::Range(kind) => {
             let name = kind.name();
             format!(in alloc; "its range of {name} is outside the section")
         }
-        _ => format!(in alloc; "{fault}"),
+        _ => format!(in alloc; "{error}"),
     }
 }

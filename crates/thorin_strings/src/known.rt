@@ -66,8 +66,8 @@ fn short_string(debug_str: &[u8], offset: u64) -> Option<&[u8]>
 }
 
 impl PackageStringTable {
-    /// The offset of the string at an offset of its section, whose end is near, where no table's offset
-    /// is past the limit. None else, and for want of memory; the table is then as it was.
+    /// The offset of the string at an offset of its section, whose end is near, where no table's
+    /// offset is past the limit. None else, and for want of memory; the table is then as it was.
     #[inline(always)]
     fn short_offset(&mut self, debug_str: &[u8], named: u64, limit: u64) -> Option<u64>
         ensures meaning { IfSome result (λ offset.
@@ -86,7 +86,9 @@ impl PackageStringTable {
         Some(offset as u64)
     }
 
-    /// As `offset_told`, where short strings aren't remembered.
+    /// As `offset_told`, where short strings aren't remembered. (There are two for speed alone:
+    /// this one stays a call, which takes a short string with nothing to remember, and only what is
+    /// left goes through the other, which stands in the loop over all other ranges.)
     #[inline(never)]
     pub(crate) fn other_offset(
         &mut self,
@@ -112,9 +114,9 @@ impl PackageStringTable {
         }
     }
 
-    /// The offset of the string at an offset of its section, which may be remembered, where no table's
-    /// offset is past the limit. None else, where it can't be read and for want of memory; the table is
-    /// then as it was.
+    /// The offset of the string at an offset of its section, which may be remembered, where no
+    /// table's offset is past the limit. None else, where it can't be read and for want of memory;
+    /// the table is then as it was.
     #[inline(always)]
     fn offset_told(
         &mut self,

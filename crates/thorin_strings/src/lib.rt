@@ -9,7 +9,7 @@ mod table;
 mod told;
 mod words;
 
+pub use dwp_bytes::StringOffsets;
 pub use dwp_strings::TableMark;
-pub use offsets::StringOffsets;
 pub use repeats::Repeats;
 pub use table::{PackageStringOffset, PackageStringTable};

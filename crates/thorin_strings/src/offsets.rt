@@ -18,24 +18,9 @@ use crate::known::known_entry;
 use crate::repeats::Repeats;
 use crate::table::PackageStringTable;
 use dwp_base::Endianness;
-use dwp_bytes::{Encoding, Format, ReadError, string_at};
+use dwp_bytes::{Encoding, Format, ReadError, StringOffsets, string_at};
 use std::alloc::{AllocError, Global};
 use thorin_errors::Error;
-
-/// String offsets, and the strings that they name (DWARF 5, 7.26).
-#[derive(Clone, Copy)]
-pub struct StringOffsets<'a> {
-    /// The section of the strings, which end with a zero byte each.
-    pub strings: &'a [u8],
-    /// The offsets: a section of them, or the bytes of a range, with its header first where it has
-    /// one.
-    pub offsets: &'a [u8],
-    /// The order of the bytes of a number.
-    pub order: Endianness,
-    /// The version, which says whether a range has a header, and the format, which says how long a
-    /// length and an offset are.
-    pub encoding: Encoding,
-}
 
 /// The largest length that an initial length of the format holds (DWARF 5, 7.4).
 fn length_limit(format: Format) -> u64
@@ -162,7 +147,7 @@ pub(crate) fn string_read(debug_str: &[u8], offset: u64) -> Result<&[u8], Error>
 
 /// The same encoding, of which the compiler knows the format.
 #[inline(always)]
-fn dwarf32(encoding: Encoding) -> Encoding
+pub(crate) fn dwarf32(encoding: Encoding) -> Encoding
     requires { encoding.format ≡ Dwarf32 }
     ensures { result ≡ encoding }
 {
@@ -237,8 +222,8 @@ impl PackageStringTable {
         result
     }
 
-    /// The same, but that a refusal leaves what was added before it. (What nearly all ranges have is
-    /// known to the compiler in a loop of its own.)
+    /// The same, but that a refusal leaves what was added before it. (What nearly all ranges have
+    /// is known to the compiler in a loop of its own.)
     #[inline(never)]
     fn remapped_by_form(
         &mut self,
@@ -253,17 +238,13 @@ impl PackageStringTable {
         ensures kept { take (length self.old) self.new ≡ self.old }
         ensures known { AreKnown range.now.strings.now self.new repeats.new }
     {
-        let StringOffsets {
-            strings,
-            offsets,
-            order,
-            encoding,
-        } = *range;
-        let is_whole = section_size <= offsets.len() as u64;
+        let order = range.order;
+        let encoding = range.encoding;
+        let is_whole = section_size <= range.offsets.len() as u64;
         let is_plain = is_whole && !repeats.has_cells();
         match (order, encoding.format) {
             (Endianness::Little, Format::Dwarf32) if is_plain => {
-                self.remapped_words(repeats, strings, offsets, section_size, dwarf32(encoding))
+                self.remapped_words(repeats, range, section_size)
             }
             (Endianness::Little, Format::Dwarf32) => {
                 let encoding = dwarf32(encoding);

@@ -91,7 +91,8 @@ impl PackageStringTable {
         self.strings.place(string)
     }
 
-    /// The offset of the string that some bytes begin with, as `StringTable::place_guessed` tells it.
+    /// The offset of the string that some bytes begin with, as `StringTable::place_guessed` tells
+    /// it.
     #[inline(always)]
     pub(crate) fn place_guessed(&mut self, bytes: &[u8], end: usize) -> Option<usize>
         requires within { end < length bytes.now }

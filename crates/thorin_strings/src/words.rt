@@ -10,22 +10,13 @@ ghost use Rattle.dwp_bytes.specs.StringOffsets.{header_size};
 ghost use Rattle.thorin_strings.specs.StringOffsets.{entry_at, remapped_entry, remapped};
 ghost use Rattle.thorin_strings.specs.Known.{AreKnown};
 
-use crate::offsets::{StringOffsets, header};
+use crate::offsets::{dwarf32, header};
 use crate::repeats::Repeats;
 use crate::table::PackageStringTable;
 use dwp_base::Endianness;
-use dwp_bytes::Encoding;
+use dwp_bytes::{Encoding, StringOffsets};
 use std::alloc::AllocError;
 use thorin_errors::Error;
-
-/// A range of string offsets of four bytes: the section of the strings that its entries name, the
-/// bytes that have its header and entries, and its form.
-#[derive(Clone, Copy)]
-pub(crate) struct WordRange<'a> {
-    pub debug_str: &'a [u8],
-    pub debug_str_offsets: &'a [u8],
-    pub encoding: Encoding,
-}
 
 /// The offset that the entry of a number has.
 #[inline(always)]
@@ -78,8 +69,8 @@ fn append_by_pieces(out: &mut Vec<u8>, bytes: &[u8]) -> Result<(), AllocError>
 /// How many entries are rewritten one by one where the first of them isn't told by a hash.
 const APART: usize = 16;
 
-/// The number of the entry from which on it is tried again to tell entries by hashes, once that came
-/// from one to another.
+/// The number of the entry from which on it is tried again to tell entries by hashes, once that
+/// came from one to another.
 fn next_try(again: usize, from: usize, to: usize) -> usize {
     if from >= again && to == from {
         to.saturating_add(APART)
@@ -89,37 +80,32 @@ fn next_try(again: usize, from: usize, to: usize) -> usize {
 }
 
 impl PackageStringTable {
-    /// The offset of the string that an entry names, which is added where it is new.
+    /// The offset of the string that an entry names by this offset of its section, which is added
+    /// where it is new.
     #[inline(always)]
     fn other_word(
         &mut self,
         repeats: &mut Repeats,
-        debug_str: &[u8],
-        debug_str_offsets: &[u8],
-        encoding: Encoding,
+        range: &StringOffsets<'_>,
         index: usize,
+        named: u64,
     ) -> Result<u64, Error>
-        requires form { encoding.format ≡ Dwarf32 }
-        requires within { header_size encoding + index * 4 + 4 ≤ length debug_str_offsets.now }
-        requires known { AreKnown debug_str.now self.old repeats.old }
+        requires little { range.now.order ≡ Little }
+        requires form { range.now.encoding.format ≡ Dwarf32 }
+        requires within { header_size range.now.encoding + index * 4 + 4
+            ≤ length range.now.offsets.now }
+        requires named { entry_at Little range.now.encoding range.now.offsets.now index ≡ Ok named }
+        requires known { AreKnown range.now.strings.now self.old repeats.old }
         ensures meaning { Gives (λ offset. (offset, self.new)) result
-            (remapped_entry Little encoding debug_str.now debug_str_offsets.now index self.old) }
+            (remapped_entry Little range.now.encoding range.now.strings.now range.now.offsets.now
+            index self.old) }
         ensures fits { IfOk result (λ offset. offset < 2 ^ 32) }
         ensures kept { take (length self.old) self.new ≡ self.old }
-        ensures known { AreKnown debug_str.now self.new repeats.new }
+        ensures known { AreKnown range.now.strings.now self.new repeats.new }
     {
-        let named = word_at(debug_str_offsets, encoding, index);
-        match self.other_offset(repeats, debug_str, named, u32::MAX as u64) {
+        match self.other_offset(repeats, range.strings, named, u32::MAX as u64) {
             Some(offset) => Ok(offset),
-            None => {
-                let range = StringOffsets {
-                    strings: debug_str,
-                    offsets: debug_str_offsets,
-                    order: Endianness::Little,
-                    encoding,
-                };
-                self.remapped_entry(repeats, &range, index as u64)
-            }
+            None => self.remapped_entry(repeats, range, index as u64),
         }
     }
 
@@ -129,19 +115,22 @@ impl PackageStringTable {
     pub(crate) fn remapped_words(
         &mut self,
         repeats: &mut Repeats,
-        debug_str: &[u8],
-        debug_str_offsets: &[u8],
+        range: &StringOffsets<'_>,
         section_size: u64,
-        encoding: Encoding,
     ) -> Result<Vec<u8>, Error>
-        requires form { encoding.format ≡ Dwarf32 }
-        requires whole { section_size ≤ length debug_str_offsets.now }
-        requires known { AreKnown debug_str.now self.old repeats.old }
+        requires little { range.now.order ≡ Little }
+        requires form { range.now.encoding.format ≡ Dwarf32 }
+        requires whole { section_size ≤ length range.now.offsets.now }
+        requires known { AreKnown range.now.strings.now self.old repeats.old }
         ensures meaning { Gives (λ bytes. (bytes.items, self.new)) result
-            (remapped Little encoding debug_str.now debug_str_offsets.now section_size self.old) }
+            (remapped Little range.now.encoding range.now.strings.now range.now.offsets.now
+            section_size self.old) }
         ensures kept { take (length self.old) self.new ≡ self.old }
-        ensures known { AreKnown debug_str.now self.new repeats.new }
+        ensures known { AreKnown range.now.strings.now self.new repeats.new }
     {
+        // (copies, of which the compiler knows that no call changes them)
+        let offsets = range.offsets;
+        let encoding = dwarf32(range.encoding);
         let alloc = self.alloc;
         if section_size == 0 {
             return Ok(Vec::new(alloc));
@@ -153,20 +142,16 @@ impl PackageStringTable {
         let mut out = header(alloc, Endianness::Little, encoding, count as u64 * 4)?;
         let first = out.len();
         // (room for each entry: the old ones)
-        append_by_pieces(&mut out, &debug_str_offsets[first..first + count * 4])?;
-        let range = WordRange {
-            debug_str,
-            debug_str_offsets,
-            encoding,
-        };
+        append_by_pieces(&mut out, &offsets[first..first + count * 4])?;
         let mut again = 0;
         let mut index = 0;
         while index < count {
             // (nearly every entry is told here, without room for an error)
             let from = index;
-            index = self.write_told(&range, &mut out, from, again);
+            index = self.write_told(range, &mut out, from, again);
             again = next_try(again, from, index);
-            let offset = self.other_word(repeats, debug_str, debug_str_offsets, encoding, index)?;
+            let named = word_at(offsets, encoding, index);
+            let offset = self.other_word(repeats, range, index, named)?;
             write_word(&mut out, first + index * 4, offset);
             index += 1;
         }

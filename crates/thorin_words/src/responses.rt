@@ -220,7 +220,8 @@ fn add_text<F: ResponseFiles>(
 /// Adds the name of a file.
 #[tactic(auto, using(crate::proofs::Standing::named))]
 fn push_name(names: &mut Vec<String>, name: String) -> Result<(), ResponseError>
-    ensures names { OnOk result (words_in names.new ≡ words_in names.old ++ string_bytes name ∷ []) }
+    ensures names { OnOk result (words_in names.new
+        ≡ words_in names.old ++ string_bytes name ∷ []) }
     ensures outside { IfErr result (λ e. is_inside_of e ≡ None) }
 {
     names.push(name)?;

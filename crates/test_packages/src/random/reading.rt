@@ -1,16 +1,15 @@
 //! Reading bytes by each reader.
 
 use crate::tally::{self, Tally};
-use dwp_base::{Endianness, SectionKind};
 use dwp_dwarf::{
     Abbreviation, AbbreviationCache, Abbreviations, Attribute, Format, ReadError, Reader, Relocate,
     Relocation, RelocationEntry, SliceReader, StringSections, UnitHeader, UnitHeaders, UnitSection,
     attr_string, root,
 };
 use dwp_elf_read::{ElfFile, FileKind, Section};
-use dwp_index::{CONTRIBUTION_KINDS, PackageFile, UnitIndex};
-use dwp_table::DwarfObject;
+use dwp_index::CONTRIBUTION_KINDS;
 use std::alloc::Global;
+use thorin::{DwarfObject, Endianness, PackageFile, SectionKind, UnitIndex};
 
 /// Relocations of a section of units: at its first unit's offset of abbreviations, and behind its
 /// header.

@@ -6,7 +6,7 @@ use dwp_bytes::{Encoding, Format};
 use dwp_index::{DwarfObject, DwoId, UnitIndex};
 use std::alloc::Global;
 use thorin_errors::Error;
-use thorin_packaged::{RowPlaces, remap_packaged_offsets};
+use thorin_package_input::{RowPlaces, remap_packaged_offsets};
 use thorin_parts::{IndexEntry, write_index};
 use thorin_strings::{PackageStringTable, StringOffsets};
 

@@ -57,8 +57,8 @@ fn entry() -> IndexEntry {
     }
 }
 
-/// An executable for x86-64 with relocations of `.debug_info`, whose symbol 1 has the value 0x1000: its
-/// header (ELF gABI), the names of its sections, and its symbols, in words of 8 bytes.
+/// An executable for x86-64 with relocations of `.debug_info`, whose symbol 1 has the value 0x1000:
+/// its header (ELF gABI), the names of its sections, and its symbols, in words of 8 bytes.
 const FRONT: [u64; 16] = [
     0x0001_0102_464c_457f,
     0,

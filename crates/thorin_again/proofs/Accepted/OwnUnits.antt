@@ -74,7 +74,7 @@ module _ {encoding : Encoding} {file : File} {indexes : Indexes} {made : InProgr
       (all_kept_by (is_chosen b) _ made.rows (sound-inside made is.own.sound)) at in
       let same = part-there (contribution_to kind row) (inside.some kind) in
       let none = range-none index (n + 1) parts.row kind parts.there in
-      rw there (grind (arith, passes, same, parts.parts kind, none)))
+      rw there (grind (arith, passes, same, parts.contributions kind, none)))
 
   part-fine : (kind : SectionKind) → is_shared kind ≡ true → (x : List ℕ) (before : Contents)
       → length x ≡ length (content_of kind file.contents)

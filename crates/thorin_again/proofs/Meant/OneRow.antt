@@ -3,12 +3,12 @@ use Rattle.thorin_again.proofs.Terms
 use Terms.{[], abbreviations_for, All-filter, AllOf, ap, AreRowsOf, arith, Bool, by-bool}
 use Terms.{content_of, Contents, Contribution, contribution_to, contributions-same, DwarfObject}
 use Terms.{Encoding, Endianness, entry_ids, eqb-true, false, File, filter-append, FindsExactly}
-use Terms.{first, get_or_append_left, HasEntries, HasParts, HasRows, Header, id-at, identifier_of}
-use Terms.{identity-sort, Index, index_for, IndexEntry, Indexes, InProgress, Input, is_chosen}
-use Terms.{is_compilation, is_outside, IsRowOf, kind_of, length, lie_inside, LieInside, List}
-use Terms.{looked_up, Meaning, meaning_at, members, name-identity, name_for, name_signature, nat_eq}
-use Terms.{nat_tests, None, none-some, not-outside, Ok, Option, own_source, part-there, part_of}
-use Terms.{range_in, Ranges, refl, row_abbreviations, row_of, row_test, rows_of, section}
+use Terms.{first, get_or_append_left, HasContributions, HasEntries, HasRows, Header, id-at}
+use Terms.{identifier_of, identity-sort, Index, index_for, IndexEntry, Indexes, InProgress, Input}
+use Terms.{is_chosen, is_compilation, is_outside, IsRowOf, kind_of, length, lie_inside, LieInside}
+use Terms.{List, looked_up, Meaning, meaning_at, members, name-identity, name_for, name_signature}
+use Terms.{nat_eq, nat_tests, None, none-some, not-outside, Ok, Option, own_source, part-there}
+use Terms.{part_of, range_in, Ranges, refl, row_abbreviations, row_of, row_test, rows_of, section}
 use Terms.{SectionKind, slice_get-get_or, slice_get_within, Some, Source, strings_of, sym}
 use Terms.{take-length, true, UnitSection, zero, ℕ, ◌<◌, ◌∙◌, ◌∷◌, ◌≡◌}
 use Rattle.std.proofs.Common.{ap₂, find, get_or, is_none, slice_get, suc, ◌++◌, ◌+◌, ◌≢◌, ◌≤◌}
@@ -16,10 +16,10 @@ use Rattle.thorin_join.specs.Meaning.{meaning_by, meaning_with, shared_kinds, un
 use Rattle.thorin_identity.specs.Identity.{identity}
 use Rattle.dwp_index.specs.Index.{row_in}
 use Rattle.dwp_table.specs.Probing.{found_row, look_count}
-use Rattle.thorin_packaged.specs.RowPlaces.{row_by_place}
+use Rattle.thorin_package_input.specs.RowPlaces.{row_by_place}
 use Rattle.thorin_input.specs.Rows.{numbered_abbreviations, own_contribution}
 use Rattle.thorin_again.proofs.Meant.RowByRow.{at-seam, bytes-own, IsBelow, IsUnitOf, range_at}
-use Rattle.thorin_packaged.proofs.FirstRow.{first_found}
+use Rattle.thorin_package_input.proofs.FirstRow.{first_found}
 use Rattle.dwp_table.proofs.Tables.{finds_exactly}
 use Rattle.thorin_join.proofs.Parts.StringLists.{strings-are}
 use Rattle.thorin_again.proofs.Opened.Indexes.{IsReadOf, rows-kept}
@@ -107,12 +107,12 @@ module _ {encoding : Encoding} {file : File} {indexes : Indexes} {made : InProgr
   abbrev index : Index
   index = there.0
 
-  pub parts : HasParts index (number + 1) row
+  pub parts : HasContributions index (number + 1) row
   parts = there.2.1.each number row at
 
   -- the row's part of a section
   pub found-range : (k : SectionKind) → range_in parts.row k ≡ contribution_to k row
-  found-range k = parts.parts k ∙ part-there (contribution_to k row) (row-lies.some k)
+  found-range k = parts.contributions k ∙ part-there (contribution_to k row) (row-lies.some k)
 
   -- ---- its row by place
 
@@ -127,7 +127,7 @@ module _ {encoding : Encoding} {file : File} {indexes : Indexes} {made : InProgr
       let ps = there.2.1.each l r (slice_get-get_or chosen l row (omega arith)) in
       let next : suc l ≡ l + 1 = omega arith in
       let has_range : contribution_to kind r ≡ Some range =
-      grind (arith, h, next, ps.there, ps.parts kind, e) in
+      grind (arith, h, next, ps.there, ps.contributions kind, e) in
       let early = get_or_append_left (rows_of sort u.before) (row ∷ rows_of sort later) row l within
       in
       let low = All-filter (is_chosen sort) (IsBelow kind u.offset) u.before u.below l row within

@@ -7,13 +7,14 @@ use Terms.{eqb-suc-zero, ErrorValue, File, file_text, first, has_info, HaveEncod
 use Terms.{Indexes, indexes_of, InProgress, is_at, is_compilation, IsFinishedState, IsOwn}
 use Terms.{IsPermutation-map, IsSound, IsSoundBegun, joining, kind_of, KindsDiffer, length}
 use Terms.{length-map, List, map, map-append, Meaning, meaning_at, MeansWhereTaken, Members}
-use Terms.{members, name_for, NewUnit, no-bytes, Ok, opened, Option, own_source, package_or_new}
-use Terms.{Reads, refl, row_test, rows_at, same-ok, section, SectionKind, Source, source-made}
-use Terms.{source_units, subst, sym, take-append_seam, true, unit_section, UnitRead, units}
-use Terms.{units_in, units_of, units_within, UnitSection, with_source, with_source_or_new}
+use Terms.{members, name_for, NewUnit, no-bytes, Ok, opened, Option, order_of, own_source}
+use Terms.{package_or_new, Reads, refl, row_test, rows_at, same-ok, section, SectionKind, Source}
+use Terms.{source-made, source_units, subst, sym, take-append_seam, true, unit_section, UnitRead}
+use Terms.{units, units_in, units_of, units_within, UnitSection, with_source, with_source_or_new}
 use Terms.{with_units, written_elf, written_object, written_used, ℕ, ◌<◌, ◌∙◌, ◌∷◌, ◌≡◌}
 use Rattle.std.proofs.Common.{ap₂, IsPermutation, Result, ◌++◌, ◌≢◌}
-use Rattle.thorin_join.specs.Builder.{finish_test, order_test, State, taken, with_input}
+use Rattle.thorin_join.specs.Builder.{finish_test, order_test, source_for, State, taken}
+use Rattle.thorin_join.specs.Builder.{with_input}
 use Rattle.std.proofs.lemmas.List.Sorted.{All-permutation, IsPermutation-append_comm}
 use Rattle.std.proofs.lemmas.List.Sorted.{IsPermutation-append_right, IsPermutation-filter_both}
 use Rattle.std.proofs.lemmas.List.Sorted.{IsPermutation-refl, IsPermutation-sym}
@@ -201,16 +202,21 @@ module _ (state : State) (file : File) (begun : IsSoundBegun state.begun)
       → with_input (file_text file) had ≡ Ok now → (meaning : List (DwarfObject × Option Meaning))
       → input_meaning (file_text file) ≡ Ok meaning → IsPermutation
       (all_meant (units_of fin.made)) meaning
-  unfolding input_meaning object_meaning source_meaning with_input with_units with_source_or_new
-      with_source
+  unfolding input_meaning object_meaning source_meaning with_input with_units source_for
+      with_source_or_new with_source
   units-again had now info h meaning means =
       let object = written_object file in
-      let s1 = bind-was _ _ now (rw (opens, info, object-written file differ) at h) in
-      let s2 = bind-was (order_test object.order had) _ now s1.2 in
-      let s3 = bind-was (indexes_of object s1.0) _ now s2.2 in
+      let given = rw (opens, info, object-written file differ) at h in
+      let read = bind-was (source_for (order_of had object.order) object) _ now given in
+      let s1 = bind-was (encoding_of object) _ read.0 read.1 in
+      let s2 = bind-was (order_test (order_of had object.order) object.order) _ read.0 s1.2 in
+      let s3 = bind-was (indexes_of object s1.0) _ read.0 s2.2 in
       let source = own_source file s1.0 s3.0 in
+      let made : with_source_or_new (written_elf file) source had ≡ Ok now =
+      subst (λ (s : Source). with_source_or_new (written_elf file) s had ≡ Ok now)
+      (sym (same-ok source read.0 s3.2)) read.2 in
       let before = package_or_new (written_elf file) had in
-      let s4 = bind-was (with_source source before) _ now s3.2 in
+      let s4 = bind-was (with_source source before) _ now made in
       let a = source-made source before s4.0 s4.1 in
       let j = joined a in
       subst (IsPermutation (all_meant (units_of fin.made))) (same-ok _ meaning

@@ -5,8 +5,8 @@
 use Rattle.thorin_again.proofs.Terms
 use Terms.{[], add-mul, All-from_recursion, all_kept_by, Any-from_list_any, arith, bind-was, Bool}
 use Terms.{Contribution, contribution_to, count-again, drop-append-add, drop-append-le, Each}
-use Terms.{EachRow, Encoding, Endianness, entry_in, false, get_or_from_slice_get, HasOneOf}
-use Terms.{HasParts, HasRows, header_size, Index, IndexEntry, inl, inr, is_chosen, is_some, is_used}
+use Terms.{EachRow, Encoding, Endianness, entry_in, false, get_or_from_slice_get, HasContributions}
+use Terms.{HasOneOf, HasRows, header_size, Index, IndexEntry, inl, inr, is_chosen, is_some, is_used}
 use Terms.{IsAmong, IsOfSome, IsWholeRange, length, length-drop, List, list_any, list_any-append}
 use Terms.{map, named_at, nat_tests, no_header, None, number_front, offset_size, Ok, Option}
 use Terms.{range-front, range_bytes, range_with_len, recursion_from_All, refl, rows_of, SectionKind}
@@ -17,11 +17,11 @@ use Rattle.std.proofs.Common.{drop, length-append, slice_get, slice_range, suc, 
 use Rattle.std.specs.BTreeSet.{insert_key}
 use Rattle.std.proofs.lemmas.List.FromFn.{get_or-map-range_with_len, length-map-range_with_len}
 use Rattle.std.proofs.lemmas.List.Sorted.{IsPermutation-filter_both, list_any-IsPermutation}
-use Rattle.thorin_packaged.specs.PackagedOffsets.{offset_ranges, place_cmp, ranges_test}
-use Rattle.thorin_packaged.specs.PackagedOffsets.{rewritten_from, with_ranges, with_rows}
-use Rattle.thorin_packaged.specs.RowPlaces.{is_range, range_of_row, ranges_of}
-use Rattle.thorin_packaged.proofs.FirstRow.{range_is, range_of_found}
-use Rattle.thorin_packaged.proofs.RowRanges.{compilation_there, type_there}
+use Rattle.thorin_package_input.specs.PackagedOffsets.{offset_ranges, place_cmp, ranges_test}
+use Rattle.thorin_package_input.specs.PackagedOffsets.{rewritten_from, with_ranges, with_rows}
+use Rattle.thorin_package_input.specs.RowPlaces.{is_range, range_of_row, ranges_of}
+use Rattle.thorin_package_input.proofs.FirstRow.{range_is, range_of_found}
+use Rattle.thorin_package_input.proofs.RowRanges.{compilation_there, type_there}
 use Rattle.std.proofs.lemmas.Nat.{row_fits}
 use Rattle.dwp_base.specs.Numbers.{number}
 use Rattle.thorin_strings.specs.StringOffsets.{entry_bytes, fitting_offset, offset_at, remapped}
@@ -51,7 +51,7 @@ used-chosen kind = any-chosen (λ row. is_some (contribution_to kind row))
 pub by-passing : (P : Type 0) (test : IndexEntry → Bool) (read : Option Index)
     (rows : List IndexEntry) → HasRows read rows → list_any test rows ≡ true
     → ((index : Index) (n : ℕ) (row : IndexEntry) → read ≡ Some index → slice_get rows n ≡ Some row
-    → test row ≡ true → HasParts index (n + 1) row → P) → P
+    → test row ≡ true → HasContributions index (n + 1) row → P) → P
 by-passing P test None rows has h f = let none = rw has at h in absurd cc
 by-passing P test (Some index) rows has h f =
     let any = Any-from_list_any test rows h in
@@ -75,11 +75,11 @@ ranges-there compilations types rows r c t some h =
     ⊎_elim
     (λ u. by-passing _ (has-range r) compilations _ c u (λ index n row is at has parts.
     rw is (compilation_there index (n + 1) parts.row r parts.there
-    (grind (arith, nat_tests, parts.parts StrOffsets, range_is r row.debug_str_offsets has))
+    (grind (arith, nat_tests, parts.contributions StrOffsets, range_is r row.debug_str_offsets has))
     types)))
     (λ u. by-passing _ (has-range r) types _ t u (λ index n row is at has parts.
     rw is (type_there index (n + 1) parts.row r parts.there
-    (grind (arith, nat_tests, parts.parts StrOffsets, range_is r row.debug_str_offsets has))
+    (grind (arith, nat_tests, parts.contributions StrOffsets, range_is r row.debug_str_offsets has))
     compilations)))
     (any-chosen (has-range r) rows (some-has r rows h))
 
@@ -161,7 +161,7 @@ module _ (order : Endianness) (encoding : Encoding) where
               let found = range_of_found index StrOffsets (n + 1) parts.row parts.there in
               let at = get_or-map-range_with_len range 1 count n (n + 1) d within (omega arith) in
               at-row (HasOneOf ys) rows n there.0 each there.2 r
-              (grind (arith, parts.parts StrOffsets, found, at, e))
+              (grind (arith, parts.contributions StrOffsets, found, at, e))
           | inr past ↦ absurd (omega (arith, within, past.0, has.1.count))
         ])) part
 

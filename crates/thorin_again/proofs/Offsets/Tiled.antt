@@ -3,9 +3,9 @@
 use Rattle.thorin_again.proofs.Terms
 use Terms.{[], add-mul, Added, All-weaker, ap, arith, Bool, by-bool, content_of, Contents}
 use Terms.{Contribution, contribution_put, count-again, data_of, EachRow, Encoding, Endianness}
-use Terms.{entry_count, eqb, eqb-false, eqb-true, false, first, front-front, GiveStrings, has_part}
-use Terms.{HasOneOf, HasTiledOffsets, header_size, IndexEntry, inl, InProgress, inr, is-same}
-use Terms.{is_package, IsAmong, IsOfSome, IsTable, IsWholeRange, joined_parts, joined_parts-more}
+use Terms.{entry_count, eqb, eqb-false, eqb-true, false, first, GiveStrings, has_part, HasOneOf}
+use Terms.{HasTiledOffsets, header_size, IndexEntry, inl, InProgress, inr, is-same, is_package}
+use Terms.{IsAmong, IsOfSome, IsTable, IsWholeRange, joined_parts, joined_parts-more, kept_more}
 use Terms.{length, List, no-entries, no_header, none-some, offset_size, Ok, own-bytes, Parts}
 use Terms.{parts_of, place-put, range-of, range_for, refl, rewritten-plain, same_Some, Some, Source}
 use Terms.{source-made, Str, StrOffsets, subst, sym, take-length, Tile, true, true≢false}
@@ -109,7 +109,7 @@ module _ (source : Source) (plain : is_package source.indexes ≡ false) (start 
         so_far.count + m,
         inr (size, [], rw (lt-ltb encoding.version 5 old) refl),
         λ final table kept. leads-joined order encoding old _ new own _ long m start _ _
-            (so_far.again final table (front-front _ _ final law.kept kept))
+            (so_far.again final table (kept_more _ _ final law.kept kept))
             (alone final table kept),
       )) in
       let more = joined_parts-more StrOffsets before.0 StrOffsets own in
@@ -118,7 +118,7 @@ module _ (source : Source) (plain : is_package source.indexes ≡ false) (start 
         fresh = λ none. absurd (true≢false none);
         count = all.0;
         fills = all.1;
-        kept = front-front start before.1 strings so_far.kept law.kept;
+        kept = kept_more start before.1 strings so_far.kept law.kept;
         again = all.2;
       })
 
@@ -256,7 +256,7 @@ module _ (source : Source) (before now : InProgress)
         strings = rw (order_is, content) (subst (GiveStrings now_order source.encoding (old ++
             joined) all) (sym strings_are) (λ final table front. grown now_order source.encoding
             _ old joined 0 0 _ tiled.ranges ranges [] _ a.after refl tiled.tile (omega arith)
-            (tiled.strings final table (front-front _ _ final part.kept front))
+            (tiled.strings final table (kept_more _ _ final part.kept front))
             (gives final table front)));
       }
 

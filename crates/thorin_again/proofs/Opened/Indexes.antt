@@ -16,7 +16,8 @@ use Terms.{same-each, same-ok, same_Some, SectionKind, slice-long, Some, subst, 
 use Terms.{TakesUpToParts, Tested, true, units_of, UnitSection, UnlessStringOffset, version_test}
 use Terms.{with_units, written_elf, written_object, ℕ, ◌<◌, ◌||◌, ◌∙◌, ◌∷◌, ◌≡◌}
 use Rattle.std.proofs.Common.{not, slice_get, slice_index, ◌^◌}
-use Rattle.thorin_join.specs.Builder.{IsFinished, order_test, same_order, State, with_input}
+use Rattle.thorin_join.specs.Builder.{IsFinished, order_test, same_order, source_for, State}
+use Rattle.thorin_join.specs.Builder.{with_input}
 use Rattle.thorin_join.proofs.Files.Indexes.{chosen-fit, no-bytes}
 use Rattle.dwp_bytes.specs.Encoding.{index_version_of}
 use Rattle.thorin_index.proofs.Each.{have_passed, used_known}
@@ -31,7 +32,7 @@ use Rattle.thorin_again.proofs.Meant.RowByRow.{IsAgain}
 use Rattle.thorin_again.proofs.Offsets.RewrittenAgain.{all-rewritten, are-named, CanRewrite}
 use Rattle.thorin_again.proofs.Offsets.RewrittenAgain.{ranges-are, tile-lies, tile-tested}
 use Rattle.thorin_again.proofs.Offsets.RewrittenAgain.{used-chosen}
-use Rattle.thorin_packaged.specs.PackagedOffsets.{packaged_offsets, rewritten_from}
+use Rattle.thorin_package_input.specs.PackagedOffsets.{packaged_offsets, rewritten_from}
 use Rattle.dwp_base.specs.declared.section.SectionKind.TheVariants as kinds
 use Rattle.dwp_dwarf.specs.declared.unit.UnitSection.TheVariants as places
 
@@ -187,7 +188,7 @@ module _ {state : State} {encoding : Encoding} {file : File} (own : IsOwn state 
 pub up-to-parts : (state : State) (encoding : Encoding) (file : File)
     → IsOwn state encoding file → (before : Option InProgress) → order_of before file.order ≡
     file.order → TakesUpToParts file encoding before
-unfolding with_input with_units order_test
+unfolding with_input with_units source_for order_test
 up-to-parts state encoding file own before same =
     let opens = opened-elf (file_text file) (written_elf file) own.read_back in
     let object = object-written file own.kinds in

@@ -14,10 +14,10 @@ use Rattle.thorin_again.specs.Again.{input_encoding}
 use Rattle.thorin_input.specs.Parts.{with_each_part, with_offsets, with_part}
 use Rattle.std.proofs.Common.{append_assoc, bytes_eq, Result, ◌++◌, ◌+◌, ◌≤◌}
 use Rattle.dwp_base.proofs.EveryKind.{every, kind-named, not-older}
-use Rattle.dwp_elf_read.specs.Elf.{is_named, SectionMeaning}
+use Rattle.dwp_elf_read.specs.Elf.{is_named, is_of, SectionMeaning}
 use Rattle.dwp_elf_read.specs.Identification.{identity_of}
 use Rattle.dwp_index.specs.Contents.{is_of_kind}
-use Rattle.thorin_input.specs.Used.{has_kind, is_of, is_present, used_bytes, used_from}
+use Rattle.thorin_input.specs.Used.{has_kind, is_present, used_bytes, used_from}
 use Rattle.thorin_join.proofs.Files.Contents.{nothing}
 use Rattle.dwp_index.specs.Contents as contents
 

@@ -1,8 +1,8 @@
 -- A written file is read as the package of its contents.
 use Rattle.thorin_join.proofs.Terms
-use Terms.{◌+◌, ◌<◌, [], ◌^◌, arith, by-bool, Class, codes, content_of, count_of, elf_of}
-use Terms.{Endianness, file_text, Index, index_in_section, inl, inr, is-same, KindsDiffer, List, Ok}
-use Terms.{Option, package_of, refl, same_kind, SectionKind, sections_of, ℕ, ◌∷◌, ◌≡◌, ◌≤◌}
+use Terms.{[], arith, by-bool, Class, codes, content_of, count_of, elf_of, Endianness, file_text}
+use Terms.{Index, inl, inr, is-same, KindsDiffer, List, Ok, Option, package_of, refl, same_kind}
+use Terms.{SectionKind, ℕ, ◌+◌, ◌<◌, ◌^◌, ◌∷◌, ◌≡◌, ◌≤◌}
 use Rattle.dwp_base.specs.declared.class.Class.TheVariants.{Elf32, Elf64}
 use Rattle.dwp_base.specs.declared.section.SectionKind.TheVariants.{CuIndex, TuIndex}
 use Rattle.dwp_elf_read.specs.Layout.{word_size}
@@ -13,6 +13,7 @@ use Rattle.dwp_index.specs.Holding.{HasContent}
 use Rattle.dwp_index.proofs.HeldContents.{package_is, another_kind, foreign, empty}
 use Rattle.dwp_elf.proofs.KindCounts.{length-KindsDiffer}
 use Rattle.dwp_elf.proofs.ReadingBack.{elf_of-file_text}
+use Rattle.thorin_join.specs.WrittenPackage.{IsIndexIn, package_with}
 
 -- ---- the headers' place
 
@@ -56,14 +57,9 @@ held_from kind number names ((k, b ∷ bs) ∷ cs) h =
 -- these bytes are read as the package of a file's contents
 abbrev pub IsReadAs : List ℕ → Object → Type 0
 IsReadAs bytes o = (compilations types : Option Index)
-    → index_in_section o.order (content_of CuIndex o.contents) ≡ Ok compilations
-    → index_in_section o.order (content_of TuIndex o.contents) ≡ Ok types
-    → package_of bytes ≡ Ok (record {
-      order = o.order;
-      contents = sections_of (λ kind. content_of kind o.contents);
-      compilations = compilations;
-      types = types;
-    })
+    → IsIndexIn o CuIndex compilations
+    → IsIndexIn o TuIndex types
+    → package_of bytes ≡ Ok (package_with o compilations types)
 
 -- so are any bytes that mean the written file
 pub package_held : (bytes : List ℕ) (o : Object) → KindsDiffer o.contents

@@ -12,7 +12,7 @@ use Rattle.dwp_index.specs.Contents.{content}
 use Rattle.dwp_index.specs.Package.{index_for}
 use Rattle.dwp_index.proofs.HeldContents.{held_content}
 use Rattle.dwp_index.proofs.PackageLookUp.{absent_unit, no_index, present_unit}
-use Rattle.thorin_index.specs.ReadRows.{HasParts, non_empty}
+use Rattle.thorin_index.specs.ReadRows.{HasContributions, non_empty}
 use Rattle.thorin_join.proofs.Files.Indexes.{HasRows}
 use Rattle.thorin_join.proofs.Files.RowsFound.{id-at, Looked, looked, members, RowFound}
 use Rattle.thorin_join.proofs.Files.RowsFound.{rows-counted}
@@ -42,12 +42,13 @@ module _ (order : Endianness) (contents : Contents) (compilations types : Option
 
   module _ (unit : Meaning) (f : RowFound order contents strings name own unit) (index : Index)
       (version : ℕ) (has : HasEntries version own index) where
-    parts : HasParts index (f.place + 1) f.row
+    parts : HasContributions index (f.place + 1) f.row
     parts = has.each f.place f.row f.at
 
     -- the range of the row in a section is the entry's part
     range-is : (kind : SectionKind) → range_in parts.row kind ≡ contribution_to kind f.row
-    range-is kind = parts.parts kind ∙ part-there (contribution_to kind f.row) (f.is.lie.some kind)
+    range-is kind =
+        parts.contributions kind ∙ part-there (contribution_to kind f.row) (f.is.lie.some kind)
 
     bytes-are : (kind : SectionKind) → row_bytes pack.contents parts.row kind ≡ part_of
         (content_of kind contents) (contribution_to kind f.row)

@@ -4,13 +4,15 @@ use Rattle.thorin_join.proofs.Terms
 use Terms.{[], append-nil, arith, Elf, inl, InProgress, input_file_of, InputFile, inr, IsSound}
 use Terms.{IsSoundBegun, IsTable, List, None, Ok, Option, order_test, package_or_new, refl, Some}
 use Terms.{sym, units_begun, units_of, with_input, ℕ, ◌∙◌, ◌≡◌}
+use Rattle.thorin_join.specs.Builder.{order_of}
 use Rattle.thorin_join.specs.Meaning.{object_meaning, input_meaning}
 use Rattle.thorin_join.proofs.Units.NamesApart.{apart-none}
 use Rattle.thorin_join.proofs.Joined.Source.{InputKeeps, source-joins}
 use Rattle.thorin_join.proofs.Joined.Taken.{takes, same-begun}
 
-pub made-order : (file : Elf) (object : InputFile) (begun : Option InProgress) → input_file_of file
-    ≡ Ok object → order_test object.order begun ≡ Ok tt
+pub made-order : (file : Elf) (object : InputFile) (begun : Option InProgress)
+    → input_file_of file ≡ Ok object
+    → order_test (order_of begun object.order) object.order ≡ Ok tt
     → object.order ≡ (package_or_new file begun).file.order
 unfolding input_file_of order_test
 made-order file object begun h t = grind arith

@@ -6,7 +6,7 @@ use Terms.{input_file_of, inr, IsSound, List, named_in, None, offsets_used, Ok, 
 use Terms.{order_test, package_or_new, refl, Some, Source, Str, strings_begun, sum_by, sym, true}
 use Terms.{with_input, with_source, ℕ, ◌∙◌, ◌≡◌, ◌⊎◌}
 use Rattle.thorin_input.specs.Encodings.{encoding_of}
-use Rattle.thorin_join.specs.Builder.{with_source_or_new, with_units}
+use Rattle.thorin_join.specs.Builder.{order_of, source_for, with_source_or_new, with_units}
 use Rattle.thorin_join.specs.FirstUse.{named_in_file, used_by, UsesStrings}
 use Rattle.thorin_join.proofs.Joined.Source.{Made, source-made}
 use Rattle.thorin_join.proofs.Parts.FirstUses.{Brings, each-brings, units-strings}
@@ -17,7 +17,7 @@ pub record TakesUnits (file : Elf) (begun now : Option InProgress) : Type 0 wher
   pub made : InProgress
   pub object_is : input_file_of file ≡ Ok source.object
   pub encoding_is : encoding_of source.object ≡ Ok source.encoding
-  pub order_is : order_test source.object.order begun ≡ Ok tt
+  pub order_is : order_test (order_of begun source.object.order) source.object.order ≡ Ok tt
   pub indexes_are : indexes_of source.object source.encoding ≡ Ok source.indexes
   pub with : with_source source (package_or_new file begun) ≡ Ok made
   pub is : Some made ≡ now
@@ -30,7 +30,7 @@ pub record Takes (bytes : List ℕ) (begun now : Option InProgress) : Type 0 whe
 
 pub takes : (bytes : List ℕ) (begun now : Option InProgress) → with_input bytes begun ≡ Ok now
     → Takes bytes begun now
-unfolding with_input with_units with_source_or_new
+unfolding with_input with_units source_for with_source_or_new
 takes bytes begun now h = grind arith
 
 -- ---- strings

@@ -18,8 +18,8 @@ use Rattle.thorin_strings.specs.StringOffsets.{remapped_entries}
 use Rattle.dwp_strings.proofs.Named.{read_free, string_was, used}
 use Rattle.thorin_strings.proofs.RemapLemmas.{kept_more}
 use Rattle.thorin_strings.proofs.NamedBytes.{entries_long, header_long}
-use Rattle.thorin_packaged.specs.PackagedOffsets.{ranges_test, rewritten_from}
-use Rattle.thorin_packaged.proofs.RewriteSteps.{next_passed}
+use Rattle.thorin_package_input.specs.PackagedOffsets.{ranges_test, rewritten_from}
+use Rattle.thorin_package_input.proofs.RewriteSteps.{next_passed}
 use Rattle.thorin_join.specs.FirstUse.{named_by_ranges, named_by_section}
 use Rattle.thorin_join.proofs.Parts.Appended.{Adds, each-part}
 use Rattle.thorin_join.proofs.Parts.OffsetRanges.{range-of, count-fits, count-none}

@@ -6,12 +6,13 @@ use Terms.{Indexes, is-same, is_copied, is_package, IsTable, joined_parts, lengt
 use Terms.{parts_of, range_bytes, range_in, Ranges, ReadsAlike, refl, row_in, same-self, same_kind}
 use Terms.{SectionKind, Some, Source, Str, StrOffsets, sym, take, true, Used, with_each_part, ℕ}
 use Terms.{◌∙◌, ◌≡◌, ◌≤◌, ◌⊎◌, ⊎_elim}
-use Rattle.thorin_packaged.proofs.ReadAlike.{package_reads_alike}
+use Rattle.thorin_package_input.proofs.ReadAlike.{package_reads_alike}
 use Rattle.thorin_join.proofs.Parts.Appended.{each-part, has_part-more, joined_parts-more}
 use Rattle.thorin_join.proofs.Parts.Appended.{joined_parts-other, Rewritten}
 use Rattle.thorin_join.proofs.Parts.OffsetLaws.{names-same, reads-alike}
 use Rattle.thorin_join.proofs.Parts.FirstUses.{step-brings, each-brings}
-use Rattle.thorin_join.proofs.Parts.Strings.{front-front, rewritten-package}
+use Rattle.thorin_strings.proofs.RemapLemmas.{kept_more}
+use Rattle.thorin_join.proofs.Parts.Strings.{rewritten-package}
 
 -- one of the indexes
 abbrev pub IsOneOf : Index → Indexes → Type 0
@@ -72,7 +73,7 @@ module _ (source : Source) (packed : is_package source.indexes ≡ true) where
         size = reads.size;
         rows = λ index one number row range there is inside some final final_table begins.
             (⊎_elim (reads.compilation_rows index) (reads.type_rows index) one number row range
-            there is).alike final final_table (front-front _ _ _ later.kept begins);
+            there is).alike final final_table (kept_more _ _ _ later.kept begins);
       }))
       (λ other. rw other (rows ((step-brings source before s next made.adds).0.follows table).table
       (grind (arith, joined_parts-other StrOffsets before.0)))))

@@ -2,7 +2,7 @@
 -- so is the range of each row of a package.
 use Rattle.thorin_join.proofs.Terms
 use Terms.{length, range_named, strings_again}
-use Rattle.thorin_packaged.proofs.ReadAlike.{NamesLaw, AlikeLaw}
+use Rattle.thorin_package_input.proofs.ReadAlike.{NamesLaw, AlikeLaw}
 
 pub names-same : NamesLaw
 names-same order encoding section bytes size before written after =

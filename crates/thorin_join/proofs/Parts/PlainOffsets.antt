@@ -10,7 +10,8 @@ use Rattle.thorin_join.specs.Meaning.{whole_entries, joined_offsets}
 use Rattle.thorin_join.proofs.Parts.OffsetRanges.{count-none, whole-long, whole-read, empty-alike}
 use Rattle.thorin_join.proofs.Parts.Appended.{each-part, joined_parts-more, Rewritten}
 use Rattle.thorin_join.proofs.Parts.Appended.{has_part-more, joined_parts-other}
-use Rattle.thorin_join.proofs.Parts.Strings.{front-front, rewritten-plain}
+use Rattle.thorin_strings.proofs.RemapLemmas.{kept_more}
+use Rattle.thorin_join.proofs.Parts.Strings.{rewritten-plain}
 
 pub has-more : (a : Contents) (bytes : List ℕ) → has_part StrOffsets
     (a ++ (StrOffsets, bytes) ∷ []) ≡ true
@@ -69,7 +70,7 @@ module _ (source : Source) (plain : is_package source.indexes ≡ false) where
             rw (none.0, none.1) last)
             (λ gnu i. let early = leb-false 5 encoding.version gnu in
             let whole = so_far.whole early in
-            let one = so_far.read final table (front-front _ _ _ law.kept begins) i in
+            let one = so_far.read final table (kept_more _ _ _ law.kept begins) i in
             let olds = joined_read object.order encoding old own whole.0 early whole.1 section i in
             let news = joined_read object.order encoding new w.written.0 whole.0 early whole.2
             (data_of final) i in

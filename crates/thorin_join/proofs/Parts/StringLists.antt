@@ -3,7 +3,7 @@ use Rattle.thorin_join.proofs.Terms
 use Terms.{ap, ◌∙◌, ◌-◌, ◌+◌, [], arith, cond, each_from, Encoding, Endianness, entry_in, IsOk}
 use Terms.{List, nat_lt, nat_tests, None, offset_of_entry, Ok, refl, slice_get, Some, string_at}
 use Terms.{string_in, strings_at, strings_of, suc, zero, ℕ, ◌∷◌, ◌≡◌}
-use Rattle.dwp_index.specs.Strings.{string_for}
+use Rattle.dwp_bytes.specs.StringOffsets.{string_for}
 use Rattle.thorin_join.specs.Strings.{offsets_in}
 
 -- ---- the offsets

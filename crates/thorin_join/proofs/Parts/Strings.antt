@@ -1,13 +1,7 @@
--- How the string offsets of an input are rewritten, and what stands in front.
+-- How the string offsets of an input are rewritten.
 use Rattle.thorin_join.proofs.Terms
-use Terms.{arith, false, first, is_package, length, length-take, List, packaged_offsets, refl}
-use Terms.{remapped, rewritten, Source, Str, take, take-take, true, ℕ, ◌≡◌}
-
--- what stands in front of what stands in front
-pub front-front : {A : Type 0} (a b c : List A) → take (length a) b ≡ a → take (length b) c ≡ b
-    → take (length a) c ≡ a
-front-front a b c first second =
-    grind (arith, length-take (length a) b, take-take (length a) (length b) c)
+use Terms.{false, first, is_package, length, List, packaged_offsets, refl, remapped, rewritten}
+use Terms.{Source, Str, true, ℕ, ◌≡◌}
 
 -- string offsets of a package are rewritten range by range, others as one range
 module _ (source : Source) (bytes : List ℕ) (strings : List (List ℕ)) where

@@ -7,7 +7,7 @@ use Terms.{LieInside, List, Meaning, Owns, part_of, refl, same_kind, SectionKind
 use Terms.{slice_range, Some, string_in, StrOffsets, sym, take, take-append-le, with_bytes, ℕ, ◌++◌}
 use Terms.{◌+◌, ◌-◌, ◌∙◌, ◌∷◌, ◌≡◌, ◌≤◌}
 use Rattle.thorin_join.proofs.Parts.Appended.{content-with_bytes}
-use Rattle.thorin_join.proofs.Parts.Strings.{front-front}
+use Rattle.thorin_strings.proofs.RemapLemmas.{kept_more}
 
 -- each content has at its front what it was
 abbrev pub Grows : Contents → Contents → Type 0
@@ -59,7 +59,7 @@ keep-shares order c d s t row unit grows longer lie shares = record {
   content = λ kind copied. keep-part c d row grows lie kind ∙ shares.content kind copied;
   string = λ final table begins i. ap (λ part. string_in order unit.encoding (data_of final) part i)
       (keep-part c d row grows lie StrOffsets)
-      ∙ shares.string final table (front-front s t final longer begins) i;
+      ∙ shares.string final table (kept_more s t final longer begins) i;
 }
 
 pub keep-rows : (order : Endianness) (c d : Contents) (s t : List (List ℕ)) (rows : List IndexEntry)

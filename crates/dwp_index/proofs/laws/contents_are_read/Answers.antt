@@ -4,7 +4,8 @@ use Rattle.dwp_index.proofs.laws.contents_are_read.Goals as goal
 
 pub returns : goal.returns
 returns c = record {
-  «package» = package_is;
+  «package» = λ bytes file held compilations types is. package_is bytes file held compilations types
+      is.file_is is.contents is.compilations_are is.types_are;
   held = held_content;
   index = index_there;
   no_index = index_missing;

@@ -2,8 +2,7 @@ use Rattle.thorin_builder.proofs.Terms
 use Terms.{[], ap, arith, blank, Bool, false, filter, get_or, IndexEntry, length, List, rules, suc}
 use Terms.{zero, ℕ, ◌∷◌, ◌≡◌}
 use Rattle.std.specs.Prelude.{◌<◌, ◌≤◌}
-use Rattle.thorin_join.specs.Builder.{is_chosen}
-use Rattle.thorin_builder.specs.RowsByIndex.{is_of_compilations}
+use Rattle.thorin_builder.specs.RowsByIndex.{stands_in}
 use Rattle.thorin_builder.proofs.state.are_all.Goals as goal
 
 -- the chosen are fewer than all, where one isn't chosen
@@ -21,6 +20,6 @@ not-all p (row ∷ rows) (suc i) d inside is_no =
 pub returns-then-ne-clause-some : goal.returns-then-ne-clause-some
 returns-then-ne-clause-some c is all =
     let rows = c.args.rows.now in
-    let p = is_chosen (is_of_compilations c.args.index) in
-    let passed : p (get_or rows c.loop-place.place blank) ≡ false = grind rules in
-    omega (arith, not-all p rows c.loop-place.place blank (omega arith) passed, ap length all)
+    let p = stands_in c.args.index in
+    let passed : p (get_or rows c.loop-position.position blank) ≡ false = grind rules in
+    omega (arith, not-all p rows c.loop-position.position blank (omega arith) passed, ap length all)

@@ -31,9 +31,9 @@ returns-in-Ok-leave_out g c =
     let now : done ≡ left partial state = c.in-Ok-leave_out.ensures in
     let units : units_in done ≡ units_in state = ap units_in now ∙ units_left partial state in
     made_by (IsFinishedState done) (λ o. IsPackageOf (units_in done) (file_text o))
-    (IsPackedFrom partial (g.I.Inputs.opens c.args.files.now)
-    (g.I.Inputs.plain c.args.files.now) (g.I.InputReader.offer c.args.files.now)
-    c.args.inputs.now) c.finished.result
+    (IsPackedFrom partial (g.I.Inputs.opens c.args.inputs.now)
+    (g.I.Inputs.plain c.args.inputs.now) (g.I.InputReader.offer c.args.inputs.now)
+    c.args.list.now) c.finished.result
     (λ object finished packaged. record {
       taken = took.list;
       stand = took.stand;

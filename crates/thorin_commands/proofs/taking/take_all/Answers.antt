@@ -11,10 +11,10 @@ loop-input-init g c = record { list = []; stand = refl; accepted = []; ran = (re
 pub loop-input-preserved : goal.loop-input-preserved
 loop-input-preserved g c =
     let none : Input = Object (record { text = record { ref_ptr = (0, 0); now = [] } }) in
-    rw (take_more c.args.inputs.now c.loop-input.input-index none c.loop-input-test.true)
+    rw (take_more c.args.list.now c.loop-input.input-index none c.loop-input-test.true)
     (took_more c.loop-input.invariant c.in_ok-take.ensures)
 
 pub returns : goal.returns
 returns g c =
-    rw (take_all c.loop-input.input-index c.args.inputs.now c.loop-input-test.false) at
+    rw (take_all c.loop-input.input-index c.args.list.now c.loop-input-test.false) at
     c.loop-input.invariant

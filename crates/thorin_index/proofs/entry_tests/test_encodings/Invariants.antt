@@ -2,6 +2,6 @@ use Rattle.thorin_index.proofs.Terms.{drop, each, encoding_test, ◌≡◌}
 use Rattle.thorin_index.proofs.entry_tests.test_encodings.Given as goal
 
 -- what is left has the first error of all
-abbrev pub invariant-loop-place : goal.invariant-loop-place
-invariant-loop-place l = each (encoding_test l.encoding) (drop l.place l.rows) ≡ each
+abbrev pub invariant-loop-position : goal.invariant-loop-position
+invariant-loop-position l = each (encoding_test l.encoding) (drop l.position l.rows) ≡ each
     (encoding_test l.encoding) l.rows

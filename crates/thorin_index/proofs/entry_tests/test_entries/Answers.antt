@@ -4,11 +4,11 @@ use Rattle.thorin_index.proofs.Each.{rows_fit}
 use Rattle.thorin_index.proofs.entry_tests.test_entries.Goals as goal
 
 pub returns-clause-offsets : goal.returns-clause-offsets
-returns-clause-offsets c = on_ok_weaker c.test_entries-3.result
+returns-clause-offsets c = on_ok_weaker c.test_each-3.result
     (λ _. rows_fit offset_or_0 (codes "contribution offset") c.args.rows.now refl
-    c.in_ok-test_entries-2.ensures.passed) c.test_entries-3.ensures.passed
+    c.in_ok-test_each-2.ensures.passed) c.test_each-3.ensures.passed
 
 pub returns-clause-sizes : goal.returns-clause-sizes
-returns-clause-sizes c = on_ok_weaker c.test_entries-3.result
+returns-clause-sizes c = on_ok_weaker c.test_each-3.result
     (rows_fit size_or_0 (codes "contribution size") c.args.rows.now refl)
-    c.test_entries-3.ensures.passed
+    c.test_each-3.ensures.passed

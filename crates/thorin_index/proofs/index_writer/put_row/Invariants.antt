@@ -5,4 +5,4 @@ use Rattle.thorin_index.proofs.index_writer.put_row.Given as goal
 abbrev pub invariant-loop-kind : goal.invariant-loop-kind
 invariant-loop-kind l = l.out.items ≡ l.initial.out.items ++ numbers_bytes l.order
     (row_numbers (measure_of l.measure) (take l.kind-index l.columns)
-    (get_or l.rows l.place blank))
+    (get_or l.rows l.position blank))

@@ -1,7 +1,7 @@
 use Rattle.std.proofs.Common.{rules, ◌∙◌, Ok, ap, sym}
 use Rattle.std.proofs.lemmas.Result.{err_from_is_err_and}
 use Rattle.thorin_input.specs.View as view
-use Rattle.thorin_input.proofs.RowParts.{row-read, row-refused}
+use Rattle.thorin_input.proofs.RowContributions.{row-read, row-refused}
 use Rattle.thorin_input.proofs.rows.packaged_row.Goals as goal
 
 pub returns-in_err-contributions-clause-meaning : goal.returns-in_err-contributions-clause-meaning

@@ -1,5 +1,5 @@
 use Rattle.thorin_input.specs.View as view
-use Rattle.thorin_input.proofs.RowParts.{plain-row}
+use Rattle.thorin_input.proofs.RowContributions.{plain-row}
 use Rattle.thorin_input.proofs.rows.unit_row.Goals as goal
 
 pub returns-in-None-None-clause-meaning : goal.returns-in-None-None-clause-meaning

@@ -1,12 +1,13 @@
+use Rattle.thorin_queries.specs.Checking.{executables_of}
 use Rattle.thorin_queries.proofs.Checked.{checked}
 use Rattle.thorin_queries.proofs.Told.{grown}
 use Rattle.thorin_queries.proofs.checking.check_entries.Goals as goal
 
 pub returns-in-Ok : goal.returns-in-Ok
 returns-in-Ok g c =
-    checked (g.F.FileReader.offer c.args.files.now) c.args.named.reading
-    c.args.named.executables.now _ c.args.opened.entries.now _ _ _ c.finish.result
-    c.requires.by_row c.none-faults.ensures.waiting c.none-faults.ensures.count c.in-Ok.ensures
+    checked (g.F.FileReader.offer c.args.files.now) (executables_of c.args.named) _
+    c.args.opened.entries.now _ _ _ c.finish.result
+    c.requires c.none-faults.ensures.waiting c.none-faults.ensures.count c.in-Ok.ensures
     c.finish.ensures
 
 pub returns : goal.returns

@@ -24,5 +24,5 @@ returns-in-Ok-None g c =
 
 pub returns-in-Err : goal.returns-in-Err
 returns-in-Err g c =
-    end_broken _ _ _ _ _ _ c.tell_fault.result c.in-Err.ensures.next c.tell_fault.ensures.known
-    c.loop-unit.invariant c.tell_fault.ensures.told
+    end_broken _ _ _ _ _ _ c.tell_error.result c.in-Err.ensures.next c.tell_error.ensures.known
+    c.loop-unit.invariant c.tell_error.ensures.told

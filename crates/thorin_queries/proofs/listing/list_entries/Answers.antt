@@ -6,8 +6,8 @@ pub returns-in-Ok : goal.returns-in-Ok
 unfolding OrNoMemory
 returns-in-Ok g c = inl (record {
   entries = c.args.entries.now;
-  by_row = c.requires.by_row;
+  by_row = c.requires;
   meant = record { printed = string_bytes c.put_listing.new.text; answer = c.in-Ok.given };
-  listed = rw c.requires.view at c.in-Ok.ensures;
+  listed = c.in-Ok.ensures;
   comes = rw c.as_str.ensures.value at c.answer.ensures;
 })

@@ -1,6 +1,7 @@
 use Rattle.std.proofs.Common.{Ok, arith}
 use Rattle.std.proofs.lemmas.List.FromFn.{map-range_with_len_more}
-use Rattle.thorin_queries.specs.Faults.{TellsNumbered, string_of}
+use Rattle.thorin_queries.specs.Faults.{TellsNumbered}
+use Rattle.thorin_queries.specs.Finding.{string_of}
 use Rattle.thorin_queries.proofs.Faulted.{text_told, text_stopped}
 use Rattle.thorin_queries.proofs.Told.{told_more}
 use Rattle.thorin_queries.proofs.strings.check_each_string.Goals as goal

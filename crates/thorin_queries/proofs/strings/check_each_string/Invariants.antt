@@ -1,6 +1,7 @@
 use Rattle.std.proofs.Common.{map}
 use Rattle.std.specs.List.{range_with_len}
-use Rattle.thorin_queries.specs.Faults.{TellsNumbered, string_of}
+use Rattle.thorin_queries.specs.Faults.{TellsNumbered}
+use Rattle.thorin_queries.specs.Finding.{string_of}
 use Rattle.thorin_queries.specs.Telling.{progress, Told, ForEach}
 use Rattle.thorin_queries.proofs.strings.check_each_string.Given as goal
 

@@ -13,7 +13,7 @@ returns-in-Ok c =
       λ kind.
           let read = c.in-Ok.ensures.1 kind in
           let met = read.2 in
-          (read.0, read.1, rw (sym (c.firsts_of-firsts.ensures kind)) (search rules)),
+          (read.0, read.1, rw (sym (c.first_sections-firsts.ensures.first kind)) (search rules)),
     )
 
 pub returns-in-Err : goal.returns-in-Err
@@ -26,9 +26,9 @@ returns-in-Err c =
       c.in-Err.ensures.0,
       c.in-Err.ensures.1,
       c.in-Err.ensures.2,
-      rw (sym (c.firsts_of-firsts.ensures c.in-Err.ensures.1)) (search rules),
+      rw (sym (c.first_sections-firsts.ensures.first c.in-Err.ensures.1)) (search rules),
       λ before other lt at.
           let read = c.in-Err.ensures.4 before other lt at in
           let met = read.1 in
-          (read.0, rw (sym (c.firsts_of-firsts.ensures other)) (search rules)),
+          (read.0, rw (sym (c.first_sections-firsts.ensures.first other)) (search rules)),
     )

@@ -1,11 +1,12 @@
 use Rattle.thorin_builder.proofs.Terms
 use Terms.{[], ap, append-nil, Contents, DwarfObject, file_encoding, held_units, IfOk-weaker}
 use Terms.{IfSome_then, in_progress_of, IndexEntry, InProgress, input_file_of, IsLater, List, map}
-use Terms.{New, None, Ok, one_encoding, order_test, own_encoding, parts_of, refl, Repeated, rules}
-use Terms.{Some, Source, sym, take-length, unit_bytes, with_all, with_input, with_more}
-use Terms.{with_new_units, with_parts, with_source, with_source_or_new, with_units, ℕ, ◌∙◌, ◌≡◌}
-use Rattle.thorin_join.proofs.Terms.{content_of, contribution_to, Endianness, kind_of, part_of}
-use Rattle.thorin_join.proofs.Terms.{place_of}
+use Terms.{New, None, Ok, one_encoding, own_encoding, parts_of, refl, Repeated, rules, Source, sym}
+use Terms.{take-length, unit_bytes, with_all, with_input, with_more, with_new_units, with_parts}
+use Terms.{with_source, with_source_or_new, with_units, ℕ, ◌∙◌, ◌≡◌}
+use Rattle.thorin_join.proofs.Terms.{content_of, contribution_to, kind_of, part_of, place_of}
+use Rattle.thorin_input.specs.Encodings.{encoding_of}
+use Rattle.thorin_join.specs.Builder.{source_for}
 use Rattle.dwp_elf_read.specs.View.{elf}
 use Rattle.thorin_join.proofs.Parts.Appended.{content-with_parts, parts-none}
 use Rattle.thorin_join.proofs.Rows.OneAdded.{not-shared}
@@ -62,42 +63,34 @@ held-apart source strings parts h made =
     ∙ rw none (append-nil (content_of (kind_of place) c))) in
     λ i. map {B = DwarfObject × List ℕ} (λ row. (row.id, stays row i)) made.rows
 
-order-tested : (order : Endianness) (made : InProgress) → made.file.order ≡ order
-    → order_test order (Some made) ≡ Ok tt
-unfolding order_test
-order-tested order made h = grind rules
-
 pub returns-clause-found : goal.returns-clause-found
 unfolding own_encoding file_encoding with_input with_units with_source_or_new
 returns-clause-found c =
     let made = in_progress_of c.args.self.now in
-    let source : Source = record {
-      object = view.object c.in_ok-object.object;
-      encoding = c.in_ok-encoding.encoding;
-      indexes = view.indexes c.in_ok-indexes.indexes;
-    } in
+    let source = view.source c.in_ok-source.source in
     let given = c.in_ok-file.ensures in
     let units = sym c.over-walked.ensures.units ∙ c.if-not-walked.false in
     let object : input_file_of (elf c.in_ok-file.file) ≡ Ok source.object =
-    search (rules, c.over-walked.ensures.input, c.in_ok-object.was) in
-    let encoding = c.in_ok-encoding.ensures in
-    let order : source.object.order ≡ made.file.order =
-    search (rules, c.endianness.ensures, c.ne.ensures, c.if-ne) in
-    let indexes = c.in_ok-indexes.ensures in
+    search (rules, c.over-walked.ensures.input, c.in_ok-object.was, c.in_ok-source.ensures.object)
+    in
+    let encoding : encoding_of source.object ≡ Ok source.encoding =
+    c.in_ok-source.ensures.encoding in
+    let read : source_for made.file.order source.object ≡ Ok source =
+    search (
+      rules,
+      c.endianness.ensures,
+      c.in_ok-source.ensures.object,
+      c.in_ok-source.ensures.meaning,
+    ) in
     IfOk-weaker c.source_adds_again.result _ _
     (λ found known. IfSome_then found known (λ again adds. record {
       own = one_encoding source.object source.encoding;
       own_is = rw (given, units, object, encoding) refl;
       adds = λ later after.
-          rw (
-            given,
-            units,
-            object,
-            encoding,
-            order-tested source.object.order later (after.order ∙ sym order),
-            indexes,
-            source-again source again made later adds after,
-          ) refl;
+          let again-read : source_for later.file.order source.object ≡ Ok source =
+          rw after.order read in
+          rw (given, units, object, again-read, source-again source again made later adds after)
+          refl;
       stays = λ later. record {
         order = refl;
         strings = take-length later.strings;

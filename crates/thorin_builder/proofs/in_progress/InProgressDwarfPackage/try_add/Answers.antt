@@ -13,9 +13,6 @@ returns-in_err-parts-clause-extends c = strings-extend c.parts_of.ensures.kept
 pub returns-then-not-source-clause-extends : goal.returns-then-not-source-clause-extends
 returns-then-not-source-clause-extends c = strings-extend c.parts_of.ensures.kept
 
-pub returns-in_err-whole-clause-extends : goal.returns-in_err-whole-clause-extends
-returns-in_err-whole-clause-extends c = strings-extend c.parts_of.ensures.kept
-
 pub returns-in_err-new-clause-extends : goal.returns-in_err-new-clause-extends
 returns-in_err-new-clause-extends c = strings-extend c.parts_of.ensures.kept
 
@@ -61,4 +58,4 @@ returns-clause-meaning c =
     sym (c.in_ok-append_units.ensures.meaning ∙ (λ i. with_new_units
     (record p { file = file i; strings = parts.1; differing = more i }) new.units)) in
     with_source-is source p parts new c.in_ok-parts.ensures.meaning (search (rules))
-    (search (rules, c.in_ok-new.ensures, c.in_ok-whole.ensures.row)) ∙ ap Ok all
+    (search (rules, c.in_ok-new.ensures)) ∙ ap Ok all

@@ -7,9 +7,6 @@ returns-in_err-parts-clause-extends c = strings-extend c.parts_of.ensures.kept
 pub returns-then-len-strings-clause-extends : goal.returns-then-len-strings-clause-extends
 returns-then-len-strings-clause-extends c = strings-extend c.parts_of.ensures.kept
 
-pub returns-in_err-whole-clause-extends : goal.returns-in_err-whole-clause-extends
-returns-in_err-whole-clause-extends c = strings-extend c.parts_of.ensures.kept
-
 pub returns-in_err-new-clause-extends : goal.returns-in_err-new-clause-extends
 returns-in_err-new-clause-extends c = strings-extend c.parts_of.ensures.kept
 

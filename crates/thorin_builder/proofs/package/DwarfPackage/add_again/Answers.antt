@@ -9,10 +9,10 @@ invariant_of-self-in-Some g c =
     let again = c.args.again.now in
     let old : State = (building c.self.inside).state in
     let made = in_progress_of c.in-Some.package in
-    let now = in_progress_of c.add_again.new.self in
+    let now = in_progress_of c.add_repeated.new.self in
     let begun : old.begun ≡ Some made = ap begun_of c.in-Some.is in
     let known = rw (← c.self.view_is) at c.requires.known.1 in
-    let added : now ≡ with_again again made = c.in_ok-add_again.ensures.added in
+    let added : now ≡ with_again again made = c.in_ok-add_repeated.ensures.added in
     let new : State = record old { begun = Some now; own = None } in
     let step = taken-known bytes again old made now begun known added in (
       c.self.invariant.0,
@@ -28,11 +28,11 @@ returns-clause-later g c =
     let again = c.args.again.now in
     let old = c.args.self.now.state in
     elim c.match-self.branch [
-      | goal.in-Some+in_ok-add_again w ↦
+      | goal.in-Some+in_ok-add_repeated w ↦
           let made = in_progress_of w.in-Some.package in
-          let now = in_progress_of w.add_again.new.self in
+          let now = in_progress_of w.add_repeated.new.self in
           let begun : old.begun ≡ Some made = search (rules, c.self.view_is, w.in-Some.is) in
-          let added : now ≡ with_again again made = w.in_ok-add_again.ensures.added in
+          let added : now ≡ with_again again made = w.in_ok-add_repeated.ensures.added in
           rw w.self-is (later-known bytes again old made now begun c.requires.known.1 added)
       | goal.in_default w ↦
           let none : old.begun ≡ None = search (rules, c.self.view_is, w.in_default) in

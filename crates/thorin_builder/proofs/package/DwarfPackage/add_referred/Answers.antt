@@ -12,19 +12,20 @@ pub returns-in-Ok-clause-taken : goal.returns-in-Ok-clause-taken
 returns-in-Ok-clause-taken g c = record {
   read = Ok c.in-Ok.bytes.now;
   within = rw c.new.ensures at c.in-Ok.ensures.offered;
-  accepted = accepted_of c.add_read.result c.in-Ok.bytes.now;
-  taken = (c.add_read.ensures.takes, refl);
+  accepted = accepted_of c.add_and_remember.result c.in-Ok.bytes.now;
+  taken = (c.add_and_remember.ensures.takes, refl);
 }
 
 pub returns-in-Ok-clause-known : goal.returns-in-Ok-clause-known
 returns-in-Ok-clause-known g c =
     let offer = g.R.InputReader.offer c.args.reader.now in
-    on_ok-both c.add_read.result _ _ _ c.add_read.ensures.later c.add_read.ensures.remembers
+    let added = c.add_and_remember in
+    on_ok-both added.result _ _ _ added.ensures.later added.ensures.remembers
     (λ later remembered. taken-remembered offer c.args.known.now.taken.entries
-    c.add_read.new.taken.entries c.add_read.new.self.state.begun c.args.named.path.now
-    c.in-Ok.bytes.now (rw c.new.ensures at c.in-Ok.ensures.offered) (are-taken-later offer
-    c.args.known.now.taken.entries c.args.self.now.state.begun c.add_read.new.self.state.begun
-    later c.requires.known) remembered)
+    added.new.taken.entries added.new.self.state.begun c.args.named.path.now c.in-Ok.bytes.now
+    (rw c.new.ensures at c.in-Ok.ensures.offered) (are-taken-later offer
+    c.args.known.now.taken.entries c.args.self.now.state.begun added.new.self.state.begun later
+    c.requires.known) remembered)
 
 -- what comes of an object that can't be read
 failed : (g : Over) (c : goal.In-Err-Io g) (outcome : Outcome)

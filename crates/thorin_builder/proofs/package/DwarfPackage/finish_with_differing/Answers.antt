@@ -12,15 +12,15 @@ by-law P r state law tested finished = grind rules
 pub returns-in-Ok-Some-clause-accepted : goal.returns-in-Ok-Some-clause-accepted
 unfolding finish_test
 returns-in-Ok-Some-clause-accepted g c =
-    rw (← c.self.view_is) (by-law IsAcceptedOnceWritten c.finish.result.0 _
+    rw (← c.self.view_is) (by-law IsAcceptedOnceWritten c.into_finished.result.0 _
     (λ file. c.own_packages_are_accepted.ensures _ file c.self.invariant.1 c.self.invariant.2
-    c.self.invariant.3) (search (rules, c.finish.ensures.refusal))
-    (search (rules, c.finish.ensures.finished, c.finish.ensures.identifiers)))
+    c.self.invariant.3) (search (rules, c.into_finished.ensures.refusal))
+    (search (rules, c.into_finished.ensures.finished, c.into_finished.ensures.identifiers)))
 
 pub returns-in-Ok-Some-clause-accepted_by_new : goal.returns-in-Ok-Some-clause-accepted_by_new
 unfolding finish_test
 returns-in-Ok-Some-clause-accepted_by_new g c =
-    rw (← c.self.view_is) (by-law IsAcceptedByNewOnceWritten c.finish.result.0 _
+    rw (← c.self.view_is) (by-law IsAcceptedByNewOnceWritten c.into_finished.result.0 _
     (λ file. c.own_packages_are_accepted_by_a_new_one.ensures _ file c.self.invariant.1
-    c.self.invariant.2 c.self.invariant.3) (search (rules, c.finish.ensures.refusal))
-    (search (rules, c.finish.ensures.finished, c.finish.ensures.identifiers)))
+    c.self.invariant.2 c.self.invariant.3) (search (rules, c.into_finished.ensures.refusal))
+    (search (rules, c.into_finished.ensures.finished, c.into_finished.ensures.identifiers)))

@@ -21,12 +21,12 @@ found test id f (row ∷ rows) d = grind (rules, found test id f rows d)
 
 -- where a name stands among those of a package, its row's bytes are found
 held-at : (contents : Contents) (rows : List IndexEntry) (keys : List DwarfObject)
-    (name : DwarfObject) → keys ≡ map (λ row. row.id) rows → (d : IndexEntry) (place : Option ℕ)
-    → place ≡ position (derived.eq-value.it name) keys
-    → option_map (λ n. unit_bytes contents (get_or rows n d)) place
+    (name : DwarfObject) → keys ≡ map (λ row. row.id) rows → (d : IndexEntry) (at : Option ℕ)
+    → at ≡ position (derived.eq-value.it name) keys
+    → option_map (λ n. unit_bytes contents (get_or rows n d)) at
     ≡ lookup (same_name name) (held_units contents rows)
-held-at contents rows keys name named d place at =
-    rw (at ∙ ap (λ test. position test keys) (same_name-is name), named)
+held-at contents rows keys name named d at is =
+    rw (is ∙ ap (λ test. position test keys) (same_name-is name), named)
     (found (same_name name) (λ row. row.id) (unit_bytes contents) rows d)
 
 pub returns-in_default : goal.returns-in_default
@@ -41,4 +41,4 @@ returns c =
     let held = c.args.self.now in
     ap Some (c.unit_bytes.ensures ∙ ap (unit_bytes held.object.now.contents) c.entry.ensures)
     ∙ held-at held.object.now.contents held.rows.now _ c.args.name held.named c.entry.result
-    (Some c.in-Some.place) c.in-Some.ensures.index
+    (Some c.in-Some.position) c.in-Some.ensures.index

@@ -2,7 +2,7 @@ use Rattle.std.proofs.Common.{ap, map, rules}
 use Rattle.thorin_index.specs.declared.entry.IndexEntry.{IndexEntry}
 use Rattle.thorin_input.specs.Rows.{whole_row}
 use Rattle.thorin_input.specs.View as view
-use Rattle.thorin_input.proofs.RowParts.{whole-fits, whole-is}
+use Rattle.thorin_input.proofs.RowContributions.{whole-fits, whole-is}
 use Rattle.thorin_input.proofs.rows.Whole.of.Goals as goal
 
 pub invariant_of-result : goal.invariant_of-result

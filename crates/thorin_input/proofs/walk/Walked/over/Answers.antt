@@ -2,9 +2,8 @@ use Rattle.std.proofs.Common.{refl, ◌≡◌, ◌∙◌, ap, rules, [], ◌∷�
 use Rattle.std.specs.List.{list_any}
 use Rattle.dwp_base.specs.declared.section.SectionKind.TheVariants.{Info, Abbrev, Str}
 use Rattle.dwp_base.specs.Sections.{name_of}
-use Rattle.dwp_elf_read.specs.Elf.{is_named}
+use Rattle.dwp_elf_read.specs.Elf.{is_named, is_of}
 use Rattle.dwp_elf_read.specs.View.{placed, sections_left, elf}
-use Rattle.thorin_input.specs.Used.{is_of}
 use Rattle.thorin_input.proofs.Walking.{those, any-step, any-end, taken-step, taken-end, walk-gives}
 use Rattle.thorin_input.proofs.Walking.{map-placed}
 use Rattle.thorin_input.proofs.walk.Walked.over.Goals as goal

@@ -2,9 +2,9 @@ use Rattle.std.proofs.Common.{◌≡◌, ◌||◌, []}
 use Rattle.std.specs.List.{list_any}
 use Rattle.dwp_base.specs.declared.section.SectionKind.TheVariants.{Info, Abbrev, Str}
 use Rattle.dwp_base.specs.Sections.{name_of}
-use Rattle.dwp_elf_read.specs.Elf.{is_named}
+use Rattle.dwp_elf_read.specs.Elf.{is_named, is_of}
 use Rattle.dwp_elf_read.specs.View.{elf, sections_left}
-use Rattle.thorin_input.specs.Used.{is_of, used_from}
+use Rattle.thorin_input.specs.Used.{used_from}
 use Rattle.thorin_input.proofs.Walking.{GoesOn, those}
 use Rattle.thorin_input.proofs.walk.Walked.over.Given as goal
 

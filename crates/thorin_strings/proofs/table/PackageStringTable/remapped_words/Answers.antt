@@ -16,11 +16,11 @@ use Rattle.thorin_strings.proofs.table.PackageStringTable.remapped_words.Goals a
 use Rattle.thorin_strings.proofs.table.PackageStringTable.remapped_words.Goals.{After-len-first}
 use Rattle.thorin_strings.proofs.table.PackageStringTable.remapped_words.Goals.{After-write_told-index}
 
-is_first : (c : goal.After-len-first) → c.len-first.result ≡ header_size c.args.encoding
-is_first c = grind (arith, c.len-first.ensures, header_long Little c.args.encoding)
+is_first : (c : goal.After-len-first) → c.len-first.result ≡ header_size c.args.range.now.encoding
+is_first c = grind (arith, c.len-first.ensures, header_long Little c.args.range.now.encoding)
 
 fits : (c : goal.After-len-first) → c.len-first.result + c.string_offsets_count-count.result * 4
-    ≤ length c.args.debug_str_offsets.now
+    ≤ length c.args.range.now.offsets.now
 fits c = grind (arith, is_first c, c.string_offsets_count-count.ensures)
 
 pub slice_bounds-append_by_pieces-end : goal.slice_bounds-append_by_pieces-end
@@ -45,10 +45,10 @@ pub other_word-requires-clause-known : goal.other_word-requires-clause-known
 other_word-requires-clause-known c = search (rules, are_known_later)
 
 -- so many entries are written before the next, and that is in the range
-written : (c : goal.After-write_told-index) → AreWritten c.args.encoding c.args.debug_str.now
-    c.args.debug_str_offsets.now c.write_told-index.result (take c.len-first.result
-    c.append_by_pieces.new.out.items) c.args.self.now c.write_told-index.new.self
-    c.write_told-index.new.out
+written : (c : goal.After-write_told-index) → AreWritten c.args.range.now.encoding
+    c.args.range.now.strings.now c.args.range.now.offsets.now c.write_told-index.result
+    (take c.len-first.result c.append_by_pieces.new.out.items) c.args.self.now
+    c.write_told-index.new.self c.write_told-index.new.out
     × (c.write_told-index.result < c.string_offsets_count-count.result)
 written c =
     let long = ap length c.deref_mut.ensures.value ∙ c.loop-index.invariant.long in (
@@ -62,9 +62,11 @@ returns-in_err-offset-clause-meaning c =
     let residual = c.from_residual-in_err-offset in
     let was = err_from_is_err_and residual.result residual.ensures.1 in
     let so = written (goal.at.returns-in_err-offset-clause-meaning c).After-write_told-index in
+    let same = c.dwarf32-encoding.ensures in
     rw (was.1, was.2) (λ other. remapped_refuses _ _ _ _ _ _ _ _ _ so.0.entries
-    (c.in_err-offset.ensures.meaning other) _ _ 4 _ c.string_offsets_count-count.ensures
-    (sym (ap offset_size c.requires.form)) (omega arith) (omega arith) c.in_ok-out.ensures so.1)
+    (c.in_err-offset.ensures.meaning other) _ _ 4 _
+    (rw same at c.string_offsets_count-count.ensures) (sym (ap offset_size c.requires.form))
+    (omega arith) (omega (arith, ap header_size same)) (rw same at c.in_ok-out.ensures) so.1)
 
 pub loop-index-preserved : goal.loop-index-preserved
 loop-index-preserved c =

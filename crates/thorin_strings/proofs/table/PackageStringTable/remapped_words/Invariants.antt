@@ -7,12 +7,12 @@ use Rattle.thorin_strings.proofs.table.PackageStringTable.remapped_words.Given a
 abbrev pub invariant-loop-index : goal.invariant-loop-index
 invariant-loop-index l = record {
   within : l.index ≤ l.count;
-  first : l.first ≡ header_size l.encoding;
+  first : l.first ≡ header_size l.range.encoding;
   kept : take (length l.initial.self) l.self ≡ l.initial.self;
-  so_far : AreWritten l.encoding l.debug_str l.debug_str_offsets l.index
+  so_far : AreWritten l.range.encoding l.range.strings.now l.offsets l.index
       (take l.first l.initial.out.items) l.initial.self l.self l.out.items;
   long : length l.out.items ≡ l.first + l.count * 4;
-  known : AreKnown l.debug_str l.self l.repeats;
+  known : AreKnown l.range.strings.now l.self l.repeats;
 }
 
 abbrev pub decreases-loop-index : goal.decreases-loop-index

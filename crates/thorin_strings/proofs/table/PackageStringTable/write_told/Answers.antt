@@ -11,7 +11,7 @@ loop-index-preserved c = record {
   long = c.write_word.ensures.long ∙ c.loop-index.invariant.long;
   read = c.word_at-after.ensures;
   told = λ old front so_far. one_written c.args.range.now.encoding c.requires.form
-      c.args.range.now.debug_str.now c.args.range.now.debug_str_offsets.now _ c.loop-index.index _
+      c.args.range.now.strings.now c.args.range.now.offsets.now _ c.loop-index.index _
       front old c.loop-index.self c.guessed_offset.new.self c.loop-index.out _
       (omega (arith, c.string_offsets_header_size-first.ensures))
       (entry_read Little _ _ _ _ _ _ _ _ c.loop-index.invariant.read c.in-Some.ensures.meaning

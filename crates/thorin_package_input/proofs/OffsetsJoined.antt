@@ -1,0 +1,142 @@
+-- String offsets without a header, joined, are read in turn.
+use Rattle.thorin_package_input.proofs.Terms.{data_of, Encoding, Endianness, header_size, IsTable}
+use Rattle.thorin_package_input.proofs.Terms.{NamesTheSame, nat_tests, offset_size, ReadsAlike}
+use Rattle.std.proofs.Common.{◌≡◌, ℕ, ◌+◌, ◌-◌, ◌*◌, ◌/◌, ◌<◌, ◌≤◌, cond, ltb, List, ◌++◌, length}
+use Rattle.std.proofs.Common.{drop, ap, refl, ⊎_elim, arith, length-append, take, Some, None, Ok}
+use Rattle.std.proofs.Common.{sym, ◌∙◌, drop_at, drop-drop, length-drop, lt-ltb, add-mul}
+use Rattle.std.proofs.lemmas.List.{get_or_append_left, drop-append-le}
+use Rattle.std.proofs.lemmas.Bool.{cases_lt, lt-leb}
+use Rattle.std.proofs.lemmas.Nat.{row_fits}
+use Rattle.dwp_base.specs.declared.endian.Endianness.TheVariants.{Little, Big}
+use Rattle.dwp_base.specs.Numbers.{number}
+use Rattle.dwp_bytes.specs.declared.encoding.Format.{Format}
+use Rattle.dwp_bytes.specs.declared.encoding.Format.TheVariants.{Dwarf32, Dwarf64}
+use Rattle.dwp_bytes.specs.StringOffsets.{entry_count, entry_in, string_at, string_in}
+use Rattle.thorin_strings.specs.StringOffsets.{offset_at, named_at}
+use Rattle.dwp_base.proofs.Steps.{bind-was, guard-ok}
+use Rattle.thorin_strings.proofs.NamedEntries.{as_error_ok}
+
+-- a number in front doesn't depend on what follows it
+pub number_front : (order : Endianness) (format : Format) (xs ys : List ℕ)
+    → offset_size format ≤ length
+    xs → number order (offset_size format) (xs ++ ys) ≡ number order (offset_size format) xs
+number_front Little Dwarf32 xs ys within = grind (arith, get_or_append_left)
+number_front Big Dwarf32 xs ys within = grind (arith, get_or_append_left)
+number_front Little Dwarf64 xs ys within = grind (arith, get_or_append_left)
+number_front Big Dwarf64 xs ys within = grind (arith, get_or_append_left)
+
+pub no_header : (encoding : Encoding) → encoding.version < 5 → header_size encoding ≡ 0
+no_header encoding old = rw (lt-leb 5 encoding.version old) refl
+
+count_joined : (format : Format) (n m l : ℕ) → l ≡ n * offset_size format + m
+    → (l - 0) / offset_size format ≡ n + (m - 0) / offset_size format
+count_joined Dwarf32 n m l e = omega arith
+count_joined Dwarf64 n m l e = omega arith
+
+count_alone : (format : Format) (n l : ℕ) → l ≡ n * offset_size format
+    → (l - 0) / offset_size format ≡ n
+count_alone Dwarf32 n l e = omega arith
+count_alone Dwarf64 n l e = omega arith
+
+module _ (order : Endianness) (encoding : Encoding) (first second : List ℕ) (n : ℕ)
+    (old : encoding.version < 5) (long : length first ≡ n * offset_size encoding.format) where
+  abbrev width : ℕ
+  width = offset_size encoding.format
+
+  header : header_size encoding ≡ 0
+  header = no_header encoding old
+
+  count_all : entry_count encoding (length (first ++ second)) ≡ n + entry_count
+      encoding (length second)
+  count_all = rw header (count_joined encoding.format n (length second) (length (first ++ second))
+      (omega (arith, length-append first second, long)))
+
+  count_first : entry_count encoding (length first) ≡ n
+  count_first = rw header (count_alone encoding.format n (length first) long)
+
+  -- an entry of the first
+  entry_before : (i : ℕ) → i < n → entry_in order encoding (first ++ second) i ≡ entry_in order
+      encoding first i
+  unfolding entry_in
+  entry_before i less =
+      let room : i * width + width ≤ n * width = row_fits i width n width less (omega arith) in
+      let at : header_size encoding + i * width + width ≤ length first =
+      omega (arith, header, long) in
+      rw (
+        lt-ltb i (entry_count encoding (length (first ++ second))) (omega (arith, count_all)),
+        lt-ltb i (entry_count encoding (length first)) (omega (arith, count_first)),
+        drop-append-le (header_size encoding + i * width) first second (omega arith),
+        number_front order encoding.format (drop (header_size encoding + i * width) first) second
+            (omega (arith, length-drop (header_size encoding + i * width) first)),
+      ) refl
+
+  -- one behind it
+  entry_behind : (i : ℕ) → n ≤ i → entry_in order encoding (first ++ second) i ≡ entry_in order
+      encoding second (i - n)
+  unfolding entry_in
+  entry_behind i above =
+      let later = i - n in
+      let is : i ≡ n + later = omega arith in
+      let at : header_size encoding + i * width ≡ n * width + (header_size encoding + later *
+      width) = omega (arith, header, ap (λ m. m * width) is, add-mul n later width) in
+      let same : ltb i (entry_count encoding (length (first ++ second))) ≡ ltb later
+      (entry_count encoding (length second)) = grind (arith, nat_tests, count_all) in
+      rw (
+        same,
+        at,
+        ← drop-drop (header_size encoding + later * width) (n * width)
+            (first ++ second),
+        drop_at first second (n * width) long,
+      ) refl
+
+  pub joined_read : (strings : List ℕ) (i : ℕ) → string_in order encoding strings (first ++ second)
+      i ≡ cond (ltb i n) (string_in order encoding strings first i) (string_in order encoding
+      strings second (i - n))
+  unfolding string_in
+  joined_read strings i = grind (arith, nat_tests, entry_before i, entry_behind i)
+
+-- ---- a rewritten range of string offsets reads as it read before
+offset_is : (order : Endianness) (format : Format) (bytes : List ℕ) (at offset : ℕ)
+    → offset_at order format bytes at ≡ Ok offset → number order (offset_size format)
+    (drop at bytes) ≡ offset
+unfolding offset_at
+offset_is order format bytes at offset h = (guard-ok _ _ _ _ h).1
+
+-- an entry that names a string is read as that string
+named_read : (order : Endianness) (encoding : Encoding) (section bytes : List ℕ) (i : ℕ)
+    (string : List ℕ) → i < entry_count encoding (length bytes) → named_at order encoding section
+    bytes i ≡ Ok string → string_in order encoding section bytes i ≡ Ok (Some string)
+unfolding string_in entry_in named_at
+named_read order encoding section bytes i string less h =
+    let offset = bind-was _ _ string h in
+    grind (
+      arith,
+      nat_tests,
+      offset_is order encoding.format bytes _ offset.0 (as_error_ok _ _ offset.0 offset.1),
+      as_error_ok _ (string_at section offset.0) string offset.2,
+    )
+
+-- past the last there is none
+past_read : (order : Endianness) (encoding : Encoding) (section bytes : List ℕ) (i : ℕ)
+    → entry_count encoding (length bytes) ≤ i → string_in order encoding section bytes i ≡ Ok None
+unfolding string_in entry_in
+past_read order encoding section bytes i past = grind (arith, nat_tests)
+
+pub strings_again : (order : Endianness) (encoding : Encoding) (section bytes : List ℕ)
+    (before : List (List ℕ)) (rewritten : List ℕ) (after final : List (List ℕ)) → NamesTheSame order
+    encoding section bytes (length bytes) before rewritten after → IsTable final
+    → take (length after) final ≡ after → (i : ℕ) → ReadsAlike order encoding section bytes
+    (data_of final) rewritten i
+strings_again order encoding section bytes before rewritten after final names final_table kept i =
+    ⊎_elim
+    (λ less.
+    let one = names.named i less in
+    let old = named_read order encoding section bytes i one.string less one.old in
+    let new = named_read order encoding (data_of final) rewritten i one.string
+    (omega (arith, names.count)) (one.new final final_table kept) in
+    record { readable = rw old refl; same = new ∙ sym old })
+    (λ past.
+    let old = past_read order encoding section bytes i past in
+    let new = past_read order encoding (data_of final) rewritten i (omega (arith, names.count)) in
+    record { readable = rw old refl; same = new ∙ sym old })
+    (cases_lt i (entry_count encoding (length bytes)))

@@ -1,5 +1,0 @@
-use Rattle.thorin_packaged.proofs.FirstRow.{first_found, no_row}
-use Rattle.thorin_packaged.proofs.laws.every_row_is_found_by_place.Goals as goal
-
-pub returns : goal.returns
-returns c = record { first = first_found; none = no_row }

@@ -1,9 +1,0 @@
-use Rattle.thorin_packaged.proofs.Terms.{range_at, ranges_of, StrOffsets, with_ranges}
-use Rattle.std.proofs.Common.{◌≡◌, drop, map}
-use Rattle.thorin_packaged.proofs.offset_ranges.add_rows.Given as goal
-
--- those so far with those of the rows that are left are all
-abbrev pub invariant-loop-number : goal.invariant-loop-number
-invariant-loop-number l =
-    with_ranges (drop l.number (ranges_of l.index StrOffsets)) (map range_at l.keys.keys) ≡
-    with_ranges (ranges_of l.index StrOffsets) (map range_at l.initial.keys.keys)

@@ -1,5 +1,0 @@
-use Rattle.thorin_packaged.proofs.RowSteps.{HasFrom}
-use Rattle.thorin_packaged.proofs.row_places.RowPlaces.new.Given as goal
-
-abbrev pub invariant-loop-number : goal.invariant-loop-number
-invariant-loop-number l = HasFrom l.rows l.index l.section l.number
