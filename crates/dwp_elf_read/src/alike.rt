@@ -25,8 +25,7 @@ impl<'a> Section<'a> {
     ghost use Rattle.dwp_elf_read.specs.View.{section};
     ghost use Rattle.dwp_elf_read.specs.Compared.{with_own};
 
-    /// Whether the section has the number of another, and its header says the same beside name,
-    /// flags and size.
+    /// Whether the section has the number of another, and its type, address, link and info.
     #[tactic(auto, unfolding(crate::specs::Compared::with_own))]
     pub fn has_numbers_of(&self, other: &Section<'_>) -> bool
         ensures alike { IsTrue result
@@ -69,7 +68,8 @@ impl<'a> Section<'a> {
         }
     }
 
-    /// Whether the section is the same as another, which may stand in another file.
+    /// Whether all that is told of the section is told of another too, which may stand in another
+    /// file: number, name, type, flags, address, size, link, info and content.
     #[tactic(auto, using(crate::proofs::Compared::is_other, crate::proofs::Compared::own_of))]
     pub fn is_same(&self, other: &Section<'_>) -> bool
         ensures alike { IsTrue result ↔ (section self.now ≡ section other.now) }

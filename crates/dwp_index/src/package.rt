@@ -350,7 +350,7 @@ pub fn read_index<'a>(
 /// The row of a number, counted from 1: `UnitIndex::row` with an error of packages.
 ///
 /// # Errors
-/// `Index` past the rows.
+/// `Index` for row 0 and past the rows.
 #[inline(always)]
 pub fn read_row<'a>(index: &UnitIndex<'a>, number: u32) -> Result<Row<'a>, PackageError>
     ensures { Answers (λ x. x) result (as_error errors.Index (row_in index.now number)) }
