@@ -9,43 +9,80 @@ import threading
 import time
 
 TOP = os.path.dirname(os.path.dirname(os.path.realpath(__file__)))
-# What `./build` and the gate took of one core on a machine where the fixed work takes so many seconds, by crate.
+# What `./build` and the gate took of one core of the reference machine, by crate.
 COSTS = os.path.join(os.path.dirname(os.path.realpath(__file__)), "costs")
-FIXED_WORK, REFERENCE_SECONDS = "s = 0\nfor i in range(10**7): s += i", 1.9
-# Additions gain more from a quick core than a check does: where they took 0.64 times as long as on the reference machine, all
-# checks took some 0.68 times as long. So no machine counts as quicker than this.
-QUICKEST = 0.7
-
-
-CODE = f"import time\nt = time.process_time()\n{FIXED_WORK}\nprint(time.process_time() - t)"
-
-
-def fixed_work(number):
-    """The processor seconds that so many runs of the fixed work side by side take, each."""
-    every = [subprocess.Popen([sys.executable, "-c", CODE], stdout=subprocess.PIPE, text=True) for _ in range(number)]
-    return [float(it.communicate()[0]) for it in every]
+# A quick piece of work by which `./build` estimates, and what it takes on the reference machine.
+ADDITIONS, REFERENCE_ADDITIONS = "s = 0\nfor i in range(10**7): s += i", 1.9
+CODE = f"import time\nt = time.process_time()\n{ADDITIONS}\nprint(time.process_time() - t)"
+# A crate whose check is the fixed work that the gate's budgets are measured against: a change of it needs another figure. It takes
+# 11.7 s of this toolchain where all checks take some 0.85 times as long as on the reference machine, by the sums of whole runs.
+FIXED_CRATE, REFERENCE_CHECK, REFERENCE_KIT = os.path.join(os.path.dirname(os.path.realpath(__file__)), "fixed"), 13.8, "rattle-kit-13f"
 
 
 def speed():
-    """How many times as long as on the reference machine the cores take for the fixed work, when all are at it."""
-    seconds = sorted(fixed_work(len(os.sched_getaffinity(0))))
-    return seconds[len(seconds) // 2] / REFERENCE_SECONDS
+    """About how many times as long as on the reference machine the cores take for a check, when all are at it."""
+    many = [subprocess.Popen([sys.executable, "-c", CODE], stdout=subprocess.PIPE, text=True) for _ in range(len(os.sched_getaffinity(0)))]
+    seconds = sorted(float(it.communicate()[0]) for it in many)
+    # (a quicker core gains less for a check, which waits for memory more: where additions took 0.64, 0.75, 0.85 and 1.5 times as long,
+    # checks took some 0.7, 0.85, 1 and 1.3 times as long)
+    return 0.5 + 0.5 * seconds[len(seconds) // 2] / REFERENCE_ADDITIONS
+
+
+def fixed_checks(number):
+    """The processor seconds that so many checks of the fixed crate side by side take, each."""
+    import kit
+
+    with tempfile.TemporaryDirectory(prefix="fixed-check-") as room:
+        os.makedirs(f"{room}/src")
+        shutil.copy2(FIXED_CRATE, f"{room}/src/lib.rt")
+        words = [kit.library.RATTLE, "check", "--crate-name", "fixed", "src/lib.rt", "--extern", f"std={kit.HOME}/rlibs/std.rlib"]
+        words += ["-L", f"dependency={kit.HOME}/rlibs", "--antt-project", f"{kit.HOME}/rattle/logic/antt-project.json"]
+        words += ["--logic-built", f"{kit.HOME}/logic_built", "--jobs", "1"]
+        quiet = dict.fromkeys(("stdin", "stdout", "stderr"), subprocess.DEVNULL)
+        every, found = [subprocess.Popen(words, cwd=room, **quiet) for _ in range(number)], []
+        for it in every:
+            _pid, status, used = os.wait4(it.pid, 0)
+            it.returncode = os.waitstatus_to_exitcode(status)
+            found.append(used.ru_utime + used.ru_stime)
+    wrong = [it.returncode for it in every if it.returncode]
+    if wrong:
+        raise RuntimeError(f"the check of {FIXED_CRATE} ended with status {wrong[0]}")
+    return found
 
 
 class Gauge(threading.Thread):
-    """How fast the cores are while a run goes on: the fixed work once a minute, since they may be shared and differ by the hour."""
+    """How fast the cores are while a run goes on: the fixed check every five minutes, since they may be shared and differ by the hour."""
 
     def __init__(self):
         super().__init__(daemon=True)
-        self.seconds, self.ended = fixed_work(len(os.sched_getaffinity(0))), threading.Event()
+        # The measures, of which the first is the mean of as many checks as a run begins with, and all their seconds.
+        self.measures, self.seconds, self.ended = [], 0.0, threading.Event()
+        self.measure(lanes())
+
+    def measure(self, number):
+        found = fixed_checks(number)
+        self.measures.append(sum(found) / number)
+        self.seconds += sum(found)
 
     def run(self):
-        while not self.ended.wait(60):
-            self.seconds += fixed_work(1)
+        while not self.ended.wait(300):
+            self.measure(1)
+
+    def end(self):
+        self.ended.set()
+        self.join()
 
     def speed(self):
         """How many times as long as on the reference machine the work took, in the mean."""
-        return max(QUICKEST, sum(self.seconds) / len(self.seconds) / REFERENCE_SECONDS)
+        return sum(self.measures) / len(self.measures) / REFERENCE_CHECK
+
+
+def is_of_another_kit():
+    """Whether the fixed check's figure is of another toolchain than this."""
+    import kit
+
+    with open(f"{kit.HOME}/KIT-ID", encoding="utf-8") as it:
+        return REFERENCE_KIT not in it.read()
 
 
 def costs():
@@ -115,56 +152,67 @@ class Copy:
         shutil.rmtree(self.at, ignore_errors=True)
 
 
+def processes():
+    """The parent of each process, when it began, and its processor seconds, with those of the copies that it has waited for."""
+    found, tick = {}, os.sysconf("SC_CLK_TCK")
+    for name in os.listdir("/proc"):
+        if name.isdigit():
+            try:
+                with open(f"/proc/{name}/stat", encoding="utf-8", errors="replace") as it:
+                    fields = it.read().rpartition(")")[2].split()
+                found[int(name)] = int(fields[1]), fields[19], sum(int(it) for it in fields[11:15]) / tick
+            except (OSError, IndexError, ValueError):
+                continue
+    return found
+
+
+def is_below(process, root, every):
+    """Whether one process is another or was begun below it."""
+    while process and process != root:
+        process = every[process][0] if process in every else 0
+    return process == root
+
+
+def crate_of(process):
+    """The crate that a check or a build is of, and whether it is its tests or a program's build."""
+    try:
+        with open(f"/proc/{process}/cmdline", encoding="utf-8", errors="replace") as it:
+            words = it.read().split("\0")
+    except OSError:
+        return None
+    if not words[0].endswith("/rattle") or "--crate-name" not in words:
+        return None
+    part = "tests" if "--test" in words else "build" if "--crate-checked" in words else "proof"
+    return words[words.index("--crate-name") + 1], part
+
+
+def checks_below(root):
+    """How many checks and builds go on below a process, where those that a check's own copies do count as one."""
+    every = processes()
+    own = {it: crate_of(it) for it in every if is_below(it, root, every)}
+    return sum(crate is not None and own.get(every[it][0]) != crate for it, crate in own.items())
+
+
 class Meter(threading.Thread):
     """The processor time of the checks and builds of each crate below a process, looked at twice a second."""
 
     def __init__(self, root):
         super().__init__(daemon=True)
         self.root, self.seen, self.ended = root, {}, threading.Event()
-        self.tick = os.sysconf("SC_CLK_TCK")
 
     def run(self):
         while not self.ended.wait(0.5):
             self.look()
 
     def look(self):
-        parents, found = {}, {}
-        for name in os.listdir("/proc"):
-            if name.isdigit():
-                try:
-                    with open(f"/proc/{name}/stat", encoding="utf-8", errors="replace") as it:
-                        fields = it.read().rpartition(")")[2].split()
-                    parents[int(name)] = int(fields[1])
-                    # (that of its copies, which it has waited for, is counted in)
-                    found[int(name)] = (fields[19], sum(int(it) for it in fields[11:15]) / self.tick)
-                except (OSError, IndexError, ValueError):
-                    continue
-        for process, (start, seconds) in found.items():
+        every = processes()
+        for process, (parent, start, seconds) in every.items():
             known = self.seen.get((process, start))
-            if not known and self.is_ours(process, parents):
-                crate = self.crate_of(process)
-                is_copy = crate and self.crate_of(parents[process]) == crate
-                known = (crate, 0) if crate and not is_copy else None
+            if not known and is_below(process, self.root, every):
+                crate = crate_of(process)
+                known = (crate, 0) if crate and crate_of(parent) != crate else None
             if known:
                 self.seen[process, start] = known[0], seconds
-
-    def is_ours(self, process, parents):
-        while process and process != self.root:
-            process = parents.get(process, 0)
-        return process == self.root
-
-    @staticmethod
-    def crate_of(process):
-        """The crate that a check or a build is of, and whether it is its tests or a program's build."""
-        try:
-            with open(f"/proc/{process}/cmdline", encoding="utf-8", errors="replace") as it:
-                words = it.read().split("\0")
-        except OSError:
-            return None
-        if not words[0].endswith("/rattle") or "--crate-name" not in words:
-            return None
-        part = "tests" if "--test" in words else "build" if "--crate-checked" in words else "proof"
-        return words[words.index("--crate-name") + 1], part
 
     def table(self):
         """The seconds of each crate and part."""
