@@ -3,6 +3,7 @@
 ghost use Rattle.std.specs.Prelude.{◌≡◌};
 ghost use Rattle.dwp_decompress.specs.Answers as spec;
 ghost use Rattle.dwp_decompress.specs.declared.error.DecompressError.TheVariants.{Memory, Read};
+ghost use Rattle.dwp_decompress.specs.declared.error.Refusal.TheVariants as refusing;
 
 use dwp_elf_read::ReadError;
 use dwp_inflate::InflateError;
@@ -46,6 +47,8 @@ pub enum Refusal {
 }
 
 impl From<AllocError> for Refusal {
+    ghost from_gives = { λ _ refusal. refusal ≡ refusing.Memory };
+
     fn from(_e: AllocError) -> Refusal {
         Refusal::Memory
     }

@@ -1,7 +1,5 @@
 pub mod Terms
 pub mod Keys
-pub mod Units
-pub mod Readings
 pub mod Tables
 pub mod Offsets
 pub mod Values

@@ -10,7 +10,7 @@ use Terms.{split_in, SplitAttributes, sym, value_at, ℕ, ◌∙◌, ◌∷◌, 
 use Rattle.std.proofs.Math.Nat.{sub_self}
 use Rattle.dwp_dwarf.specs.Entries.{number_of, place_of}
 use Rattle.dwp_dwarf.specs.declared.needed.UnmetNames.{UnmetNames}
-use Rattle.dwp_dwarf.proofs.Readings.{after-zero, bind-bind, bind_alike, by-result}
+use Rattle.dwp_units.proofs.Readings.{after-zero, bind-bind, bind_alike, by-result}
 use Rattle.dwp_dwarf.proofs.Values.{named_form-cases, attribute_lies}
 use Rattle.std.proofs.lemmas.List.Folds.{find-append}
 use Rattle.std.specs.Option.{option_or}

@@ -3,7 +3,7 @@ use Rattle.dwp_dwarf.proofs.Terms
 use Terms.{◌<◌, arith, Err, from_at, Input, le-ltb, length, lt-ltb, ltb, ltb-false}
 use Terms.{OffsetOutOfRange, Ok, refl, skip_at, ℕ, ◌≡◌, ◌≤◌}
 use Rattle.dwp_bytes.specs.Input.{after}
-use Rattle.dwp_dwarf.proofs.Readings.{value_gives, error_gives, test_gives, after-zero}
+use Rattle.dwp_units.proofs.Readings.{value_gives, error_gives, test_gives, after-zero}
 
 -- past the end nothing stands
 pub past_end : (place : ℕ) (section : Input) → length section.bytes < place → from_at place section

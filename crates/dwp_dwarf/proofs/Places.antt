@@ -14,7 +14,7 @@ use Rattle.dwp_dwarf.specs.declared.chains.Chains.{Chains}
 use Rattle.dwp_dwarf.specs.declared.chains.Place.{Place}
 use Rattle.dwp_dwarf.specs.declared.codes.Codes.{Codes}
 use Rattle.dwp_dwarf.proofs.Keys.{by_key, one_more, if_map, none_there}
-use Rattle.dwp_dwarf.proofs.Readings.{one_answer, goes_then, takes_front, size}
+use Rattle.dwp_units.proofs.Readings.{one_answer, goes_then, takes_front, size}
 use Rattle.dwp_dwarf.proofs.Tables.{Next, Found, look_up-here, look_up-other, next_shorter}
 use Rattle.dwp_dwarf.proofs.Tables.{next_takes}
 use Rattle.dwp_dwarf.proofs.NewVersions.{value_stays, grows_length, none_below}

@@ -7,15 +7,16 @@ use Terms.{leb_at, length, List, ne_eqb, next_at, None, Ok, Option, pairs_in, pa
 use Terms.{ReadError, refl, Result, Some, Specification, subst, suc, sym, take, uleb_at}
 use Terms.{UnexpectedEof, zero, ℕ, ◌↔◌, ◌∙◌, ◌∷◌, ◌≡◌, ◌≢◌}
 use Rattle.dwp_dwarf.specs.Abbreviations.{constant_at, specification_at, specifications_within}
-use Rattle.dwp_dwarf.specs.Abbreviations.{specifications_at, is_last, tag_at, children_at, code_at}
+use Rattle.dwp_dwarf.specs.Abbreviations.{specifications_at, is_last, tag_at, children_at}
+use Rattle.dwp_units.specs.AbbreviationCodes.{code_at}
 use Rattle.dwp_dwarf.specs.Abbreviations.{pairs_from, pairs_within, declaration_within}
 use Rattle.dwp_dwarf.specs.Grammar.{DeclarationsLie, IsBehindOthers}
-use Rattle.dwp_dwarf.proofs.Readings.{Steps, by_step, Answer, Gives, then_gives, value_gives}
-use Rattle.dwp_dwarf.proofs.Readings.{error_gives, test_gives, more_gives, was, bind_alike}
-use Rattle.dwp_dwarf.proofs.Readings.{bind-bind, bind-cond, size, goes_none, goes_some, goes_length}
-use Rattle.dwp_dwarf.proofs.Readings.{Reads, then_reads, value_reads, error_reads, test_reads}
-use Rattle.dwp_dwarf.proofs.Readings.{some_reads, reads_byte, reads_uleb, reads_sleb, shorter}
-use Rattle.dwp_dwarf.proofs.Readings.{takes_then, Takes, goes, by-result, told_there}
+use Rattle.dwp_units.proofs.Readings.{Steps, by_step, Answer, Gives, then_gives, value_gives}
+use Rattle.dwp_units.proofs.Readings.{error_gives, test_gives, more_gives, was, bind_alike}
+use Rattle.dwp_units.proofs.Readings.{bind-bind, bind-cond, size, goes_none, goes_some, goes_length}
+use Rattle.dwp_units.proofs.Readings.{Reads, then_reads, value_reads, error_reads, test_reads}
+use Rattle.dwp_units.proofs.Readings.{some_reads, reads_byte, reads_uleb, reads_sleb, shorter}
+use Rattle.dwp_units.proofs.Readings.{takes_then, Takes, goes, by-result, told_there}
 use Rattle.dwp_base.proofs.Steps.{bind-was}
 use Rattle.std.specs.List.{AllByRecursion}
 

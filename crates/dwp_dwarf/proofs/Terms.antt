@@ -1,16 +1,15 @@
 -- The names that proofs of this crate cite most, passed on from one place. Declares nothing.
 pub use Rattle.std.proofs.Common.{BTreeMap, Bool, Err, IfSome, List, None, Ok, OnOk, Option, Result}
 pub use Rattle.std.proofs.Common.{Some, [], add-zero, ap, append-nil, append_assoc, arith, cond}
-pub use Rattle.std.proofs.Common.{drop, eq-eqb, eqb, eqb-true, false, find, flat_map, if◌then◌else◌}
-pub use Rattle.std.proofs.Common.{is_err, is_none, is_ok, is_some, le-ltb, leb, leb-true, length}
-pub use Rattle.std.proofs.Common.{length-append, length-drop, length-take, length-take-le, lt-ltb}
-pub use Rattle.std.proofs.Common.{ltb, ltb-false, ltb-true, map, nat_cmp, ne_eqb, ok_or, refl}
-pub use Rattle.std.proofs.Common.{rules, slice_get, subst, suc, sym, take, take-add}
-pub use Rattle.std.proofs.Common.{take-append-drop, true, vec_len, zero, ℕ, ◌%◌, ◌&&◌, ◌++◌, ◌+◌}
-pub use Rattle.std.proofs.Common.{◌-◌, ◌<◌, ◌↔◌, ◌∙◌, ◌∷◌, ◌≡◌, ◌≢◌, ◌≤◌}
+pub use Rattle.std.proofs.Common.{drop, eq-eqb, eqb, eqb-true, false, find, if◌then◌else◌, is_none}
+pub use Rattle.std.proofs.Common.{is_ok, is_some, le-ltb, leb-true, length, length-append}
+pub use Rattle.std.proofs.Common.{length-drop, length-take, lt-ltb, ltb, ltb-false, ltb-true, map}
+pub use Rattle.std.proofs.Common.{nat_cmp, ne_eqb, ok_or, refl, rules, slice_get, subst, suc, sym}
+pub use Rattle.std.proofs.Common.{take, true, vec_len, zero, ℕ, ◌%◌, ◌&&◌, ◌++◌, ◌+◌, ◌-◌, ◌<◌, ◌↔◌}
+pub use Rattle.std.proofs.Common.{◌∙◌, ◌∷◌, ◌≡◌, ◌≢◌, ◌≤◌}
 pub use Rattle.std.proofs.lemmas.Bool.{eqb-false}
 pub use Rattle.std.proofs.lemmas.Grind.{common_steps}
-pub use Rattle.std.proofs.lemmas.List.{drop-take, drop_more, nil_from_length}
+pub use Rattle.std.proofs.lemmas.List.{drop-take, drop_more}
 pub use Rattle.std.proofs.lemmas.Result.{err_from_is_err_and}
 pub use Rattle.std.specs.BTreeMap.{get}
 pub use Rattle.dwp_base.proofs.Bools.{by-bool, neither}
@@ -40,7 +39,7 @@ unfoldable pub use Rattle.dwp_dwarf.specs.Offsets.{from_at}
 pub use Rattle.dwp_dwarf.specs.Remembered.{ListsNeeded, known_or, remembered}
 pub use Rattle.dwp_dwarf.specs.Split.{SplitAttributes, attributes_of}
 unfoldable pub use Rattle.dwp_dwarf.specs.Split.{split_in}
-pub use Rattle.dwp_dwarf.specs.Units.{Unit}
+pub use Rattle.dwp_units.specs.Units.{Unit}
 pub use Rattle.dwp_dwarf.specs.declared.abbrev.Abbreviation.{Abbreviation}
 pub use Rattle.dwp_dwarf.specs.declared.form.Layout.TheVariants.{Fixed}
 pub use Rattle.dwp_dwarf.specs.declared.versions.Node.{Node}

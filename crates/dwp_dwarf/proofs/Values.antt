@@ -7,15 +7,16 @@ use Terms.{Goes, IfSome, Input, layout_of, leb_at, List, map, named_form_at, Non
 use Terms.{Option, past_value, ReadError, refl, Result, Some, Specification, suc, sym, uleb_at}
 use Terms.{UnexpectedEof, Unit, UnknownCode, UnknownForm, value_at, zero, ℕ, ◌∙◌, ◌∷◌, ◌≡◌, ◌≢◌}
 use Rattle.dwp_bytes.specs.Input.{found_at, after}
-use Rattle.dwp_dwarf.specs.Entries.{root_code_at, entry_at, root_of_code, root_at}
+use Rattle.dwp_dwarf.specs.Entries.{entry_at, root_of_code, root_at}
+use Rattle.dwp_units.specs.AbbreviationCodes.{root_code_at}
 use Rattle.dwp_dwarf.specs.Values.{LiesFirst, ValuesLie, RootValuesLie}
-use Rattle.dwp_dwarf.proofs.Readings.{Gives, then_gives, value_gives, error_gives, test_gives, was}
-use Rattle.dwp_dwarf.proofs.Readings.{goes_then, Answer, more_gives, then_split, bind_alike, size}
-use Rattle.dwp_dwarf.proofs.Readings.{shorter, goes_some, goes_after, reads_byte, skip_goes}
-use Rattle.dwp_dwarf.proofs.Readings.{number_goes, reads_uleb, reads_sleb, goes, goes_none, Steps}
-use Rattle.dwp_dwarf.proofs.Readings.{by_step}
+use Rattle.dwp_units.proofs.Readings.{Gives, then_gives, value_gives, error_gives, test_gives, was}
+use Rattle.dwp_units.proofs.Readings.{goes_then, Answer, more_gives, then_split, bind_alike, size}
+use Rattle.dwp_units.proofs.Readings.{shorter, goes_some, goes_after, reads_byte, skip_goes}
+use Rattle.dwp_units.proofs.Readings.{number_goes, reads_uleb, reads_sleb, goes, goes_none, Steps}
+use Rattle.dwp_units.proofs.Readings.{by_step}
 use Rattle.dwp_dwarf.proofs.Tables.{code_goes}
-use Rattle.dwp_dwarf.proofs.Units.{unit_takes, listed_ok, Onward}
+use Rattle.dwp_units.proofs.Units.{unit_takes, listed_ok, Onward}
 use Rattle.dwp_dwarf.specs.declared.form.Layout.{Layout}
 use Rattle.dwp_dwarf.specs.declared.form.Layout.TheVariants.{Block, Text, Unsigned, Signed}
 use Rattle.dwp_dwarf.specs.declared.form.BlockLength.{BlockLength}

@@ -8,6 +8,7 @@ use Rattle.dwp_bytes.specs.Leb.{uleb_at, sleb_at}
 use Rattle.dwp_bytes.specs.declared.error.ReadError.{ReadError}
 use Rattle.dwp_bytes.specs.declared.error.ReadError.TheVariants.{UnexpectedEof, ZeroTag}
 use Rattle.dwp_bytes.specs.declared.error.ReadError.TheVariants.{BadChildren}
+use Rattle.dwp_units.specs.AbbreviationCodes.{code_at}
 
 -- an attribute and its form
 pub record Specification : Type 0 where
@@ -86,10 +87,6 @@ declaration_at i = do
   children ← children_at tag.1
   list ← specifications_at children.1
   Ok (record { tag = tag.0; children = children.0; specifications = list.0 }, list.1)
-
--- a code; at the end of the bytes it is 0, which stands for none
-unfoldable pub code_at : Input → Result (ℕ × Input) ReadError
-code_at i = if length i.bytes == 0 then Ok (0, i) else uleb_at i
 
 -- the first declaration of a code among the first n
 unfoldable pub declaration_within : ℕ → ℕ → Input → Result (Option Declaration) ReadError

@@ -32,8 +32,3 @@ entry_of input e = record { tag = e.tag; attributes = attributes_left input e.at
 abbrev pub root_of : {R : Type 0} → (R → Input) → Option (RootEntry R) → Option DebugEntry
 root_of input (Some e) = Some (entry_of input e)
 root_of input None = None
-
--- a root code, where a unit has one
-abbrev pub root_code_of : {R : Type 0} → (R → Input) → Option (ℕ × R) → Option (ℕ × Input)
-root_code_of input (Some x) = Some (x.0, input x.1)
-root_code_of input None = None

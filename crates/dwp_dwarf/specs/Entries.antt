@@ -10,9 +10,10 @@ use Rattle.dwp_bytes.specs.declared.encoding.Format.{Format}
 use Rattle.dwp_bytes.specs.declared.encoding.Encoding.{Encoding}
 use Rattle.dwp_bytes.specs.declared.error.ReadError.{ReadError}
 use Rattle.dwp_bytes.specs.declared.error.ReadError.TheVariants.{UnknownCode}
-use Rattle.dwp_dwarf.specs.Abbreviations.{Specification, Declaration, code_at, declaration}
+use Rattle.dwp_dwarf.specs.Abbreviations.{Specification, Declaration, declaration}
+use Rattle.dwp_units.specs.AbbreviationCodes.{root_code_at}
 use Rattle.dwp_dwarf.specs.Forms.{value_at, named_form_at}
-use Rattle.dwp_dwarf.specs.Units.{Unit, listed}
+use Rattle.dwp_units.specs.Units.{Unit, listed}
 
 -- an attribute: its name, its form, and the bytes of its value
 pub record DebugAttribute : Type 0 where
@@ -42,13 +43,6 @@ attributes encoding (s ∷ ss) i = listed (attribute_at encoding s i) (attribute
 -- an entry whose values stand there
 abbrev pub entry : Encoding → Declaration → Input → DebugEntry
 entry encoding d i = record { tag = d.tag; attributes = attributes encoding d.specifications i }
-
--- a unit's root code and what comes behind it; None where no byte is left behind the header, or the
--- code is 0
-unfoldable pub root_code_at : Input → Result (Option (ℕ × Input)) ReadError
-root_code_at i = do
-  code ← code_at i
-  if code.0 == 0 then Ok None else Ok (Some code)
 
 -- an entry of a code in a table
 unfoldable pub entry_at : Encoding → Input → ℕ × Input → Result DebugEntry ReadError

@@ -6,7 +6,8 @@ use Rattle.std.specs.List.{AllByRecursion}
 use Rattle.dwp_base.specs.Reading.{◌>>=◌}
 use Rattle.dwp_bytes.specs.Input.{Input}
 use Rattle.dwp_bytes.specs.declared.error.ReadError.{ReadError}
-use Rattle.dwp_dwarf.specs.Abbreviations.{Declaration, code_at, declaration_at, declaration}
+use Rattle.dwp_dwarf.specs.Abbreviations.{Declaration, declaration_at, declaration}
+use Rattle.dwp_units.specs.AbbreviationCodes.{code_at}
 
 -- the next declaration with its code, and what comes behind it; None at the end of the table
 unfoldable pub next_at : Input → Result (Option ((ℕ × Declaration) × Input)) ReadError

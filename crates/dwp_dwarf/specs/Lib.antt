@@ -13,6 +13,5 @@ pub mod Remembered
 pub mod Sections
 pub mod Split
 pub mod Strings
-pub mod Units
 pub mod Values
 pub mod Versions

@@ -4,10 +4,10 @@ use Rattle.std.specs.Prelude.{◌≡◌, ◌≢◌, ◌≤◌, ℕ, ◌+◌, Lis
 use Rattle.std.specs.Prelude.{Ok, ⊤}
 use Rattle.dwp_bytes.specs.Input.{Input, front, after}
 use Rattle.dwp_bytes.specs.declared.error.ReadError.{ReadError}
-use Rattle.dwp_dwarf.specs.declared.unit.UnitSection.{UnitSection}
+use Rattle.dwp_units.specs.declared.unit.UnitSection.{UnitSection}
 use Rattle.dwp_dwarf.specs.Abbreviations.{Specification, Declaration, declaration}
 use Rattle.dwp_dwarf.specs.Entries.{DebugAttribute, DebugEntry, root_at}
-use Rattle.dwp_dwarf.specs.Units.{Unit, unit_at}
+use Rattle.dwp_units.specs.Units.{Unit, unit_at}
 
 -- an attribute's value lies first, behind the names of its form, and the rest behind it; no name
 -- stands there but for the form indirect, 0x16

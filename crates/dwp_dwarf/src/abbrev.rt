@@ -4,7 +4,7 @@ ghost use Rattle.std.specs.Prelude.{◌≡◌, ℕ, Ok, Some, IfOk};
 ghost use Rattle.dwp_base.specs.Reading.{Answers, Reads};
 ghost use Rattle.dwp_bytes.specs.Input.{Input};
 ghost use Rattle.dwp_dwarf.specs.Abbreviations.{constant_at, specification_at, past_specifications};
-ghost use Rattle.dwp_dwarf.specs.Abbreviations.{tag_at, children_at, declaration_at, code_at};
+ghost use Rattle.dwp_dwarf.specs.Abbreviations.{tag_at, children_at, declaration_at};
 ghost use Rattle.dwp_dwarf.specs.Abbreviations.{declaration, is_last, Declaration};
 ghost use Rattle.dwp_dwarf.specs.Grammar.{next_at};
 ghost use Rattle.dwp_dwarf.specs.Offsets.{from_at};
@@ -14,6 +14,7 @@ ghost use Rattle.dwp_dwarf.specs.Declarations.{found_of};
 use crate::form::IMPLICIT_CONST;
 use crate::offset::from_offset;
 use dwp_bytes::{ReadError, Reader};
+use dwp_units::read_code;
 
 /// An attribute and its form, as an abbreviation lists them.
 #[derive(Clone, Copy, Debug)]
@@ -133,18 +134,6 @@ pub(crate) fn known_declaration<R: Reader>(mut at: R) -> Result<Abbreviation<R>,
         has_children,
         specifications: at,
     })
-}
-
-/// A code; 0 at the end of the bytes.
-#[tactic(auto, unfolding(crate::specs::Abbreviations::code_at))]
-pub(crate) fn read_code<R: Reader>(reader: &mut R) -> Result<u64, ReadError>
-    ensures { Reads (λ x. x) result (R.input reader.old) (R.input reader.new) code_at }
-{
-    if reader.is_empty() {
-        Ok(0)
-    } else {
-        reader.read_uleb128()
-    }
 }
 
 impl AttributeSpecification {

@@ -3,21 +3,19 @@
 ghost use Rattle.std.specs.Prelude.{◌≡◌, [], ◌∷◌, MatchOption};
 ghost use Rattle.std.specs.Iterator.{YieldsFirstBy, item_count};
 ghost use Rattle.dwp_base.specs.Reading.{Answers, Reads};
-ghost use Rattle.dwp_dwarf.specs.Units.{unit_of};
+ghost use Rattle.dwp_units.specs.Units.{unit_of};
 ghost use Rattle.dwp_dwarf.specs.Abbreviations.{pairs_in};
 ghost use Rattle.dwp_dwarf.specs.Declarations.{specification_of, declaration_of, table_of};
-ghost use Rattle.dwp_dwarf.specs.Entries.{attribute_at, entry, entry_at, root_code_at, root_at};
+ghost use Rattle.dwp_dwarf.specs.Entries.{attribute_at, entry, entry_at, root_at};
 ghost use Rattle.dwp_dwarf.specs.Entries.{number_of, place_of};
 ghost use Rattle.dwp_dwarf.specs.Attributes.{attribute_of, attribute_seen, attributes_left};
-ghost use Rattle.dwp_dwarf.specs.Attributes.{entry_of, root_of, root_code_of};
+ghost use Rattle.dwp_dwarf.specs.Attributes.{entry_of, root_of};
 
-use crate::abbrev::{
-    Abbreviation, Abbreviations, AttributeSpecification, read_code, read_specification,
-};
+use crate::abbrev::{Abbreviation, Abbreviations, AttributeSpecification, read_specification};
 use crate::form::{DATA1, DATA2, DATA4, DATA8, SEC_OFFSET, UDATA};
-use crate::unit::UnitHeader;
 use crate::value::{named_form, read_value};
 use dwp_bytes::{Encoding, Format, ReadError, Reader};
+use dwp_units::UnitHeader;
 
 /// An attribute of an entry (DWARF 5, 7.5.4 and 7.5.5).
 #[derive(Clone, Copy, Debug)]
@@ -135,26 +133,6 @@ impl<R: Reader> Attribute<R> {
             _ => return None,
         };
         Some(offset)
-    }
-}
-
-impl<R: Reader> UnitHeader<R> {
-    /// The code of the root entry, and a reader at the values of its attributes. None where no byte
-    /// is left behind the header, or the code is 0.
-    ///
-    /// # Errors
-    /// `UnexpectedEof` or `BigLeb` for a code that can't be read.
-    #[tactic(auto, unfolding(crate::specs::Entries::root_code_at))]
-    pub fn root_code(&self) -> Result<Option<(u64, R)>, ReadError>
-        ensures { Answers (root_code_of R.input) result
-            (root_code_at (unit_of R.input self.now).entries) }
-    {
-        let mut at = self.entries;
-        let code = read_code(&mut at)?;
-        if code == 0 {
-            return Ok(None);
-        }
-        Ok(Some((code, at)))
     }
 }
 

@@ -1,7 +1,6 @@
-//! What declarations, values of attributes and units are, as laws.
+//! What declarations and values of attributes are, as laws.
 
 ghost use Rattle.dwp_dwarf.specs.Grammar.{FoundIsFirst, AbsentIsNowhere, ErrorIsBefore};
-ghost use Rattle.dwp_dwarf.specs.Units.{UnitsAreTaken, UnitsAreSection, ErrorIsNext, UnitsAreOne};
 ghost use Rattle.dwp_dwarf.specs.Values.{RootValuesLie};
 
 use dwp_bytes::laws::lebs_take_bytes;
@@ -24,13 +23,3 @@ pub fn root_values_lie_in_the_unit()
 {
     lebs_take_bytes();
 }
-
-/// The units of a section have all its bytes, each byte once and in order; where one can't be read,
-/// all bytes before it. There is no other list of units that goes from the section's start to its
-/// end. A unit has the bytes that reading it takes, at least one. It does nothing.
-pub fn units_have_all_bytes()
-    ensures taken { UnitsAreTaken }
-    ensures whole { UnitsAreSection }
-    ensures error { ErrorIsNext }
-    ensures one { UnitsAreOne }
-{}

@@ -1,4 +1,4 @@
-//! Reading the units of DWARF data: headers, abbreviations, root entries, attributes and their
+//! Reading the entries of units of DWARF data: abbreviations, root entries, attributes and their
 //! strings.
 #![tactic(auto)]
 
@@ -17,7 +17,6 @@ mod read_table;
 mod seen;
 mod split;
 mod strings;
-mod unit;
 mod value;
 mod versions;
 
@@ -28,7 +27,7 @@ pub use dwp_bytes::{
     Encoding, Format, ReadError, Reader, Relocate, Relocation, RelocationEntry, SliceReader,
     WriteError, string_at,
 };
+pub use dwp_units::{UnitHeader, UnitHeaders, UnitSection, UnitType};
 pub use entry::{Attribute, Attributes, RootEntry, root};
 pub use split::SplitAttributes;
 pub use strings::{StringSections, attr_string};
-pub use unit::{UnitHeader, UnitHeaders, UnitSection, UnitType};

@@ -15,13 +15,13 @@ ghost use Rattle.dwp_dwarf.specs.Remembered.{next_of, remembered, HasLists, Reme
 ghost use Rattle.dwp_dwarf.specs.Split.{attributes_of, split_in};
 
 use crate::abbrev::{
-    Abbreviation, Abbreviations, AttributeSpecification, SPECIFICATION_SIZE, read_code,
-    read_declaration,
+    Abbreviation, Abbreviations, AttributeSpecification, SPECIFICATION_SIZE, read_declaration,
 };
 use crate::needed::list_needed;
 use crate::number::{number_listed, number_read};
 use crate::split::{SplitAttributes, split_listed, split_read};
 use dwp_bytes::{Encoding, ReadError, Reader};
+use dwp_units::read_code;
 use std::alloc::Global;
 use std::collections::BTreeMap;
 

@@ -4,8 +4,8 @@ use Rattle.std.proofs.Common.{◌∙◌, eqb-true}
 use Rattle.dwp_index.proofs.Terms
 use Terms.{◌>>=◌, by-bool, Encoding, encoding_in, Endianness, ReadError, UnexpectedEof, UnitSection}
 use Rattle.dwp_bytes.specs.Input.{Input, section, number_at}
-use Rattle.dwp_dwarf.specs.Units.{Unit, unit_at, initial_length_at, listed, units}
-use Rattle.dwp_dwarf.proofs.Units.{units-cases}
+use Rattle.dwp_units.specs.Units.{Unit, unit_at, initial_length_at, listed, units}
+use Rattle.dwp_units.proofs.Units.{units-cases}
 
 -- the encoding of the first of these units
 abbrev first_encoding : List (Result Unit ReadError) → Result Encoding ReadError

@@ -3,7 +3,7 @@ use Rattle.std.proofs.Common.{◌≡◌, ℕ, refl, sym, ap, Option, Some, None,
 use Rattle.dwp_index.proofs.Terms
 use Terms.{◌>>=◌, DwarfObject, found_row, identifier_of, Index, index_for, look_count, Package}
 use Terms.{Ranges, row_in, SectionKind}
-use Rattle.dwp_dwarf.proofs.Readings.{by-result}
+use Rattle.dwp_units.proofs.Readings.{by-result}
 use Rattle.dwp_index.specs.Package.{first_outside, all_inside, unit_in, unit_at_row, unit_found}
 use Rattle.dwp_index.specs.Package.{found_by, found_counted, row_inside, row_found, row_by}
 use Rattle.dwp_index.specs.Package.{row_counted, unit_of_row, found_by_row}

@@ -13,7 +13,7 @@ pub use Rattle.dwp_base.specs.declared.section.SectionKind.{SectionKind}
 pub use Rattle.dwp_bytes.specs.declared.encoding.Encoding.{Encoding}
 pub use Rattle.dwp_bytes.specs.declared.error.ReadError.{ReadError}
 pub use Rattle.dwp_bytes.specs.declared.error.ReadError.TheVariants.{UnexpectedEof}
-pub use Rattle.dwp_dwarf.specs.declared.unit.UnitSection.{UnitSection}
+pub use Rattle.dwp_units.specs.declared.unit.UnitSection.{UnitSection}
 pub use Rattle.dwp_elf_read.specs.Elf.{has_name}
 pub use Rattle.dwp_elf_read.specs.View.{elf}
 pub use Rattle.dwp_table.specs.Columns.{contribution_kinds, kind_of_column}

@@ -11,16 +11,16 @@ use Rattle.std.proofs.lemmas.List.{get_or-take, drop-take, drop-drop, length-tak
 use Rattle.std.proofs.lemmas.List.{length-take-le, take-take}
 use Rattle.dwp_base.specs.declared.endian.Endianness.TheVariants.{Little, Big}
 use Rattle.dwp_bytes.specs.declared.encoding.Format.TheVariants.{Dwarf32, Dwarf64}
-use Rattle.dwp_dwarf.proofs.Readings.{Gives, then_gives, then_split, test_gives, value_gives}
-use Rattle.dwp_dwarf.proofs.Readings.{error_gives, more_gives, was}
+use Rattle.dwp_units.proofs.Readings.{Gives, then_gives, then_split, test_gives, value_gives}
+use Rattle.dwp_units.proofs.Readings.{error_gives, more_gives, was}
 use Rattle.dwp_bytes.specs.Input.{Input, after, byte_at, number_at, relocated_at, offset_at}
 use Rattle.dwp_bytes.specs.Input.{is_address_size, section, split_at}
 use Rattle.dwp_bytes.specs.Encoding.{offset_size}
 use Rattle.dwp_bytes.specs.declared.encoding.Format.{Format}
-use Rattle.dwp_dwarf.specs.Units.{Unit, initial_length_at, address_size_at, type_at, older_type_at}
-use Rattle.dwp_dwarf.specs.Units.{unit_code_at, unit_type_at, older_at, newer_at, header_at}
-use Rattle.dwp_dwarf.specs.Units.{unit_at, listed, units_within, units, UnitsAreTaken}
-use Rattle.dwp_dwarf.specs.declared.unit.UnitSection.TheVariants.{Info, Types}
+use Rattle.dwp_units.specs.Units.{Unit, initial_length_at, address_size_at, type_at, older_type_at}
+use Rattle.dwp_units.specs.Units.{unit_code_at, unit_type_at, older_at, newer_at, header_at}
+use Rattle.dwp_units.specs.Units.{unit_at, listed, units_within, units, UnitsAreTaken}
+use Rattle.dwp_units.specs.declared.unit.UnitSection.TheVariants.{Info, Types}
 use Rattle.std.specs.Prelude.{[], Some, slice_get}
 
 -- bytes that nothing relocates, from a place on

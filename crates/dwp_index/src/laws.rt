@@ -10,8 +10,8 @@ ghost use Rattle.dwp_base.specs.declared.section.Contribution.{Contribution};
 ghost use Rattle.dwp_base.specs.declared.endian.Endianness.{Endianness};
 ghost use Rattle.dwp_bytes.specs.Input.{section};
 ghost use Rattle.dwp_bytes.specs.declared.encoding.Encoding.{Encoding};
-ghost use Rattle.dwp_dwarf.specs.Units.{Unit, units, unit_bytes};
-ghost use Rattle.dwp_dwarf.specs.declared.unit.UnitSection.{UnitSection};
+ghost use Rattle.dwp_units.specs.Units.{Unit, units, unit_bytes};
+ghost use Rattle.dwp_units.specs.declared.unit.UnitSection.{UnitSection};
 ghost use Rattle.dwp_table.specs.Table.{IsIndex};
 ghost use Rattle.dwp_table.specs.declared.object.DwarfObject.{DwarfObject};
 ghost use Rattle.dwp_index.specs.Contents.{Sections, content, is_of_kind};
@@ -26,8 +26,8 @@ ghost use Rattle.dwp_index.specs.Holding.{HasContent, HoldsInOrder, HoldsPackage
 ghost use Rattle.dwp_index.specs.Holding.{package_with, sections_of};
 ghost use Rattle.dwp_index.specs.Naming.{numbered, entries_of, IsIndexOfIds};
 
-use dwp_dwarf::laws::units_have_all_bytes;
 use dwp_table::laws::look_up_finds_exactly;
+use dwp_units::laws::units_have_all_bytes;
 
 /// The law of packages: where the index of a kind is one of distinct identifiers, the unit of each
 /// is found, after at most as many slots as its row's number, if its ranges lie inside their

@@ -25,9 +25,9 @@ use crate::unit_index::{Row, UnitIndex};
 use crate::units::Units;
 use dwp_base::{Endianness, SectionKind};
 use dwp_bytes::Encoding;
-use dwp_dwarf::UnitSection;
 use dwp_elf_read::ElfFile;
 use dwp_table::{Bucketable, CONTRIBUTION_KINDS, DebugTypeSignature, DwarfObject, DwoId};
+use dwp_units::UnitSection;
 use std::marker::Model;
 
 /// A package file: its sections, and the indexes that say which parts of them belong to which unit

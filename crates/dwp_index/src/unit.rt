@@ -14,8 +14,8 @@ use crate::contents::Contents;
 use crate::unit_index::Row;
 use dwp_base::{Contribution, Endianness, SectionKind};
 use dwp_bytes::{Encoding, ReadError, SliceReader, StringOffsets};
-use dwp_dwarf::{UnitHeaders, UnitSection};
 use dwp_table::DwarfObject;
+use dwp_units::{UnitHeaders, UnitSection};
 use std::marker::Model;
 
 /// A unit of a package, with its ranges.

@@ -9,7 +9,7 @@ use Rattle.thorin_join.proofs.Terms.{NewUnit, package_or_new, parts_of, units_be
 use Rattle.thorin_join.proofs.Terms.{with_new_units, with_source, with_unit, with_unit_added}
 use Rattle.thorin_builder.proofs.Terms.{held_units, or_held, with_all, with_first}
 use Rattle.std.proofs.lemmas.Simd.{map-map}
-use Rattle.dwp_dwarf.specs.Units.{Unit as Header}
+use Rattle.dwp_units.specs.Units.{Unit as Header}
 use Rattle.thorin.specs.Differing.{Bytes, read_bytes, or_there, differing_by, differing, own_bytes}
 use Rattle.thorin.specs.Differing.{object_units, input_units}
 use Rattle.thorin_join.specs.Builder.{differing_begun, differing_in}

@@ -6,9 +6,9 @@ pub use Rattle.dwp_bytes.specs.Input.{after}
 pub use Rattle.dwp_bytes.specs.StringOffsets.{header_size, string_at}
 unfoldable pub use Rattle.dwp_bytes.specs.StringOffsets.{entry_in, string_in}
 pub use Rattle.dwp_bytes.specs.declared.encoding.Format.TheVariants.{Dwarf32}
-pub use Rattle.dwp_dwarf.proofs.Readings.{more, one_answer}
-pub use Rattle.dwp_dwarf.specs.Units.{Unit as Header}
-unfoldable pub use Rattle.dwp_dwarf.specs.Units.{older_at, unit_at, units, units_within}
+pub use Rattle.dwp_units.proofs.Readings.{more, one_answer}
+pub use Rattle.dwp_units.specs.Units.{Unit as Header}
+unfoldable pub use Rattle.dwp_units.specs.Units.{older_at, unit_at, units, units_within}
 pub use Rattle.dwp_elf.specs.Contents.{count_of, KindsDiffer}
 pub use Rattle.dwp_elf.specs.FileText.{name_table, Object as File}
 pub use Rattle.dwp_elf.specs.Written.{plain_section, written_elf, written_sections}

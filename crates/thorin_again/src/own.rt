@@ -5,7 +5,7 @@ ghost use Rattle.std.specs.Prelude.{◌≡◌, ℕ, List, ◌++◌, Option, Ok};
 ghost use Rattle.dwp_base.specs.declared.endian.Endianness.{Endianness};
 ghost use Rattle.dwp_bytes.specs.Input.{section};
 ghost use Rattle.dwp_bytes.specs.declared.encoding.Encoding.{Encoding};
-ghost use Rattle.dwp_dwarf.specs.Units.{Unit};
+ghost use Rattle.dwp_units.specs.Units.{Unit};
 ghost use Rattle.dwp_elf.specs.Contents.{KindsDiffer};
 ghost use Rattle.dwp_elf.specs.FileText.{Object};
 ghost use Rattle.dwp_table.specs.declared.object.DwarfObject.{DwarfObject};

@@ -15,7 +15,7 @@ use Rattle.thorin_strings.specs.StringOffsets.{remapped_entry, remapped_entries}
 use Rattle.thorin_package_input.specs.PackagedOffsets.{offset_ranges, rewritten_from}
 use Rattle.dwp_strings.specs.Strings.{offset_of}
 use Rattle.dwp_strings.proofs.Named.{there_later, there_once_used}
-use Rattle.dwp_dwarf.specs.Units.{Unit as Header}
+use Rattle.dwp_units.specs.Units.{Unit as Header}
 use Rattle.thorin_input.specs.NewUnits.{with_read, once_test, with_section_at, with_section_in}
 
 abbrev Strings : Type 0

@@ -10,9 +10,9 @@ use Rattle.dwp_base.specs.declared.endian.Endianness.{Endianness}
 use Rattle.dwp_bytes.specs.Input.{Input, section, split_at, byte_at, number_at, relocated_at}
 use Rattle.dwp_bytes.specs.Input.{offset_at}
 use Rattle.dwp_bytes.specs.declared.encoding.Format.TheVariants.{Dwarf32}
-use Rattle.dwp_dwarf.specs.Units.{Unit, initial_length_at, address_size_at, unit_code_at}
-use Rattle.dwp_dwarf.specs.Units.{unit_type_at, newer_at, header_at, unit_at}
-use Rattle.dwp_dwarf.specs.declared.unit.UnitSection.{UnitSection}
+use Rattle.dwp_units.specs.Units.{Unit, initial_length_at, address_size_at, unit_code_at}
+use Rattle.dwp_units.specs.Units.{unit_type_at, newer_at, header_at, unit_at}
+use Rattle.dwp_units.specs.declared.unit.UnitSection.{UnitSection}
 use Rattle.dwp_index.specs.Package.{encoding_in}
 
 -- the encoding of such a header, whatever follows it

@@ -5,7 +5,7 @@ ghost use Rattle.std.specs.Option.{option_copied};
 ghost use Rattle.dwp_base.specs.Reading.{Answers};
 ghost use Rattle.dwp_base.specs.declared.section.SectionKind.TheVariants as kinds;
 ghost use Rattle.dwp_bytes.specs.StringOffsets.{string_in};
-ghost use Rattle.dwp_dwarf.specs.declared.unit.UnitSection.{UnitSection};
+ghost use Rattle.dwp_units.specs.declared.unit.UnitSection.{UnitSection};
 ghost use Rattle.dwp_index.specs.Contents.{content};
 ghost use Rattle.dwp_index.specs.Package.{row_bytes, encoding_in};
 

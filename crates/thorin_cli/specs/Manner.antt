@@ -1,7 +1,7 @@
 -- What a program tells that wasn't asked for.
 use Rattle.std.specs.Prelude.{Bool, ◌||◌, if◌then◌else◌}
-use Rattle.thorin_commands.specs.declared.warnings.Warnings.{Warnings}
-use Rattle.thorin_commands.specs.declared.warnings.Warnings.TheVariants.{Each, Once, Never}
+use Rattle.thorin_output.specs.declared.warnings.Warnings.{Warnings}
+use Rattle.thorin_output.specs.declared.warnings.Warnings.TheVariants.{Each, Once, Never}
 use Rattle.thorin_cli.specs.declared.manner.Manner.{Manner}
 
 -- whoever reads a terminal wants to know where, and how far, and not each of a thousand lines

@@ -1,21 +1,13 @@
 //! The program `thorin`, as a function over its words and two writers.
 #![tactic(auto)]
 
-mod columns;
 mod manner;
 mod notes;
-mod pipes;
-mod progress;
-mod responses;
 mod settings;
 
-use crate::columns::list_in_columns;
 pub use crate::manner::Facts;
 use crate::manner::Manner;
 use crate::notes::{Given, note_no_index, note_packing, note_reading, note_unreadable};
-use crate::pipes::Watched;
-use crate::progress::{Console, CountedFiles, Lines};
-use crate::responses::HostResponses;
 use crate::settings::{file_count, nameless_units, packing_of};
 use std::convert::AsStr;
 use std::fmt;
@@ -28,6 +20,7 @@ use thorin_commands::{
     FindForm, HostFiles, ListForm, Packing, Reading, check, check_as_json, find, lacks_index, list,
     list_missing, pack, report, show, verify,
 };
+use thorin_terminal::{Console, CountedFiles, HostResponses, Lines, Watched, list_in_columns};
 use thorin_words::{ResponseError, expanded, printed};
 
 /// Does what a command line asks for: `words` are the program's name and its arguments, where

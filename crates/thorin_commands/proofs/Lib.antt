@@ -1,6 +1,4 @@
 mod Opened
-mod Prefixing
 mod Puts
 mod Readable
-mod Standing
 mod Taken

@@ -1,82 +1,17 @@
--- What was put under a name, or begun, and what came of packing.
-use Rattle.std.proofs.Common.{◌≡◌, ℕ, Bool, true, false, List, [], ◌∷◌, ◌++◌, length, take, inl}
-use Rattle.std.proofs.Common.{inr, arith}
-use Rattle.std.specs.Prelude.{Option, Some, None, Result, Ok, Err, map, codes}
+-- What came of packing.
+use Rattle.std.proofs.Common.{◌≡◌, ℕ, Bool, true, List, [], ◌∷◌, ◌++◌, take, inl, inr}
+use Rattle.std.specs.Prelude.{Some, None, Result, Ok, Err, map}
 use Rattle.std.specs.Borrow.{Bor}
-use Rattle.std.specs.Str.{bytes_eq}
 use Rattle.std.specs.declared.io.Error.{Error as IoError}
-use Rattle.std.specs.Io.KnownBytes.{Appends, Keeps}
-use Rattle.std.proofs.KnownBytes.{Appends-nil, Appends-kept}
-use Rattle.std.proofs.lemmas.List.{take_all}
-use Rattle.dwp_base.proofs.Bools.{by-bool}
-use Rattle.dwp_elf_read.specs.declared.error.WriteError.{WriteError}
-use Rattle.dwp_elf_read.specs.declared.error.WriteError.TheVariants.{NumberTooLarge, Memory, Io}
-use Rattle.dwp_elf.specs.FileText.{Object, Object as File, file_text}
-use Rattle.dwp_elf.specs.Refusals.{RefusesWriter}
+use Rattle.dwp_elf.specs.FileText.{Object as File, file_text}
 use Rattle.thorin.specs.declared.packing.Input.{Input}
 use Rattle.thorin_queries.specs.declared.output.Failure.{Failure}
-use Rattle.thorin_commands.specs.Files.{HasBeginning, Begun, Adds, IsOfWriting, Put, Begins}
+use Rattle.thorin_output.specs.Files.{IsOfWriting}
 use Rattle.thorin_commands.specs.Packing.{asked, asks, out_of, IsPackedFrom, IsPackageFor, Packs}
 use Rattle.thorin_commands.specs.Packing.{paths_in, reads, Comes, Fails}
-use Rattle.thorin_commands.specs.declared.output.Refusal.{Refusal}
-use Rattle.thorin_commands.specs.declared.output.Refusal.TheVariants as refusals
+use Rattle.thorin_commands.specs.declared.refusal.Refusal.{Refusal}
+use Rattle.thorin_commands.specs.declared.refusal.Refusal.TheVariants as refusals
 use Rattle.thorin_commands.specs.declared.packing.Packing.{Packing}
-
--- a package whose writing was refused was begun
-pub begun : (o : Object) (old new : Option (List ℕ)) (e : WriteError) → RefusesWriter o old new e
-    → HasBeginning old new (file_text o)
-unfolding HasBeginning
-begun o old new NumberTooLarge h = (0, Appends-kept old old new [] (Appends-nil old) h.1)
-begun o old new Memory h = absurd h
-begun o old new (Io e) h = (h.1.count, h.1.appended)
-
--- all of it is a beginning
-pub whole : (old new : Option (List ℕ)) (bytes : List ℕ) → Appends old new bytes
-    → HasBeginning old new bytes
-unfolding HasBeginning
-whole old new bytes h = (length bytes, rw (take_all (length bytes) bytes (omega arith)) h)
-
--- the same after bytes that were flushed
-pub stay : (old middle new : Option (List ℕ)) (bytes : List ℕ) → Appends old middle bytes
-    → Keeps middle new → Appends old new bytes
-stay = Appends-kept
-
-module _ {F O : Type 0} (begins : F → Option (List Begun)) (contents : O → Option (List ℕ))
-    (files files' : F) (out out' : O) (name text : List ℕ) where
-  -- in the stream, and in a file
-  pub put_stream : bytes_eq name (codes "-") ≡ true → files' ≡ files
-      → Appends (contents out) (contents out') text
-      → Put begins contents files files' out out' name text
-  unfolding Put
-  put_stream e same added = rw e (same, added)
-
-  pub put_file : bytes_eq name (codes "-") ≡ false
-      → Adds (begins files) (begins files') (name, Some text) → out' ≡ out
-      → Put begins contents files files' out out' name text
-  unfolding Put
-  put_file e added same = rw e (added, same)
-
-  pub begins_stream : bytes_eq name (codes "-") ≡ true → files' ≡ files
-      → HasBeginning (contents out) (contents out') text
-      → Begins begins contents files files' out out' name text
-  unfolding Begins
-  begins_stream e same added = rw e (same, added)
-
-  pub begins_file : bytes_eq name (codes "-") ≡ false
-      → Adds (begins files) (begins files') (name, None) → out' ≡ out
-      → Begins begins contents files files' out out' name text
-  unfolding Begins
-  begins_file e added same = rw e (inr added, same)
-
-  -- what was put was begun
-  pub put_begins : Put begins contents files files' out out' name text
-      → Begins begins contents files files' out out' name text
-  unfolding Put Begins
-  put_begins h = by-bool _ (bytes_eq name (codes "-"))
-      (λ e. let was = rw e at h in rw e (was.0, whole (contents out) (contents out') text was.1))
-      (λ e. let was = rw e at h in rw e (inl was.0, was.1))
-
--- ---- what came of packing
 
 module _ {X : Type 0} (offers : X → List ℕ → Result (List ℕ) IoError → Type 0) (x y : X)
     (reading packing : Packing) where

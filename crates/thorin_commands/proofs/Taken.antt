@@ -1,18 +1,17 @@
 -- What is taken for a file that was read.
 use Rattle.std.proofs.Common.{◌≡◌, ℕ, List, [], ◌∷◌, Bool, true, false, refl, ◌⊎◌, inl, inr}
-use Rattle.std.specs.Prelude.{Result, Ok, Err, Some, None}
+use Rattle.std.specs.Prelude.{Result, Ok, Err}
 use Rattle.std.specs.declared.io.Error.{Error as IoError}
 use Rattle.std.specs.Borrow.{Bor}
-use Rattle.dwp_elf_read.specs.Elf.{elf_of}
-use Rattle.dwp_macros.specs.Last.{last_macros_of}
 use Rattle.thorin_errors.specs.declared.error.InputError.{InputError}
 use Rattle.thorin_errors.specs.declared.error.InputError.TheVariants as input
 use Rattle.thorin_sessions.specs.Sessions.{IsOffered}
 use Rattle.thorin_queries.specs.Plain.{IsPlainOf}
-use Rattle.thorin_commands.specs.Prefixes.{mapped}
+use Rattle.thorin_inputs.specs.Macros.{IsLastOf}
+use Rattle.thorin_inputs.specs.Prefixes.{mapped}
+use Rattle.thorin_output.specs.Reads.{IsReadOver}
 use Rattle.thorin_commands.specs.Packing.{IsAmong, through}
-use Rattle.thorin_commands.specs.Plain.{Offer, IsReadOver, taken_from, last_from, IsLast}
-use Rattle.thorin_commands.specs.Plain.{IsLastOf}
+use Rattle.thorin_commands.specs.Plain.{Offer, taken_from, last_from}
 
 module _ (offer : Offer) (path : List ℕ) where
   -- a file that is decompressed
@@ -61,19 +60,6 @@ module _ (offer : Offer) (path : List ℕ) where
   with_none true room input.Memory result q h = rw q tt
   with_none false room (input.Io cause) result q h = rw q h
   with_none false room input.Memory result q h = rw q tt
-
--- a file with the last macros, and one that stays
-pub is_last : (file taken : List ℕ) → Some (elf_of taken) ≡ last_macros_of file
-    → IsLastOf file taken
-unfolding IsLastOf
-is_last file taken e = rw (← e) (inl refl)
-
-pub stays : (file : List ℕ) → IsLastOf file file
-unfolding IsLastOf
-stays file = elim (last_macros_of file) as (λ last. IsLast file file last) [
-  | None ↦ refl
-  | Some last ↦ inr refl
-]
 
 -- where a path is read
 module _ (objects executables : List (Bor (List ℕ))) (offer : Offer) (path : List ℕ)

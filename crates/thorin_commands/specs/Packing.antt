@@ -1,6 +1,6 @@
 -- What the program packs, and what comes of it.
 use Rattle.std.specs.Prelude.{◌≡◌, ℕ, List, [], ◌∷◌, ◌++◌, map, codes, Option, Some, None, Result}
-use Rattle.std.specs.Prelude.{Ok, Err, ◌⊎◌, Bool, true, false, take, length, ◌<◌, HoldsAt}
+use Rattle.std.specs.Prelude.{Ok, Err, ◌⊎◌, Bool, true, false, take}
 use Rattle.std.specs.Borrow.{Bor}
 use Rattle.std.specs.Path.{path_bytes}
 use Rattle.std.specs.declared.io.Error.{Error as IoError}
@@ -17,17 +17,14 @@ use Rattle.thorin.specs.declared.packing.Input.{Input}
 use Rattle.thorin.specs.declared.packing.Input.TheVariants as inputs
 use Rattle.thorin.specs.Run.{Ran}
 use Rattle.thorin_queries.specs.declared.output.Failure.{Failure}
+use Rattle.thorin_inputs.specs.Given.{StandsAt}
+use Rattle.thorin_inputs.specs.Prefixes.{mapped}
+use Rattle.thorin_output.specs.Files.{IsOfWriting}
 use Rattle.thorin_commands.specs.Archives.{StandFor}
-use Rattle.thorin_commands.specs.Prefixes.{mapped}
-use Rattle.thorin_commands.specs.Files.{IsOfWriting}
 use Rattle.thorin_commands.specs.Plain.{Offer, taken_from, last_from}
 use Rattle.thorin_commands.specs.declared.packing.Packing.{Packing}
-use Rattle.thorin_commands.specs.declared.output.Refusal.{Refusal}
-use Rattle.thorin_commands.specs.declared.output.Refusal.TheVariants as refusals
-
--- a file of the system may hold anything, and any read of it may fail
-abbrev pub anything : List ℕ → Result (List ℕ) IoError → Type 0
-anything path answer = Unit {0}
+use Rattle.thorin_commands.specs.declared.refusal.Refusal.{Refusal}
+use Rattle.thorin_commands.specs.declared.refusal.Refusal.TheVariants as refusals
 
 -- ---- what a command asks for
 
@@ -76,12 +73,7 @@ out_of packing = given_or_beside packing.output (paths_in packing.executables)
 
 -- ---- where it is read
 
--- a path stands at a place among others
-abbrev pub StandsAt : List (Bor (List ℕ)) → List ℕ → ℕ → Type 0
-StandsAt paths path place =
-    (place < length paths) × HoldsAt (λ given. given.now ≡ path) paths place
-
--- one of these paths
+-- one of some paths
 abbrev pub IsAmong : List (Bor (List ℕ)) → List ℕ → Type 0
 IsAmong paths path = (place : ℕ) × StandsAt paths path place
 

@@ -7,10 +7,9 @@ ghost use Rattle.dwp_archive.specs.View as view;
 ghost use Rattle.thorin_commands.specs.Archives.{is_split, split_contents};
 ghost use Rattle.thorin_commands.specs.Opened.{TookAll, TookEach, TookMembers, TookBytes};
 
-use crate::notes::{note_alone, note_reason, place_of_member};
 use crate::origins::{OriginRef, place_of_unit};
-use crate::output::Refusal;
 use crate::reading::Inputs;
+use crate::refusal::Refusal;
 use crate::taking::{Tried, settle};
 use crate::telling::{Before, Refused, Telling, note_place, tell_error, tell_refused, warn_of};
 use dwp_archive::{ArchiveError, Member, members};
@@ -21,6 +20,7 @@ use std::io::Write;
 use std::path::{AsPath, Path};
 use thorin::{DwarfPackage, Input, take_input};
 use thorin_errors::Error;
+use thorin_inputs::{note_alone, note_reason, place_of_member};
 use thorin_queries::{Failure, shown, tell_taken};
 use thorin_sessions::Session;
 

@@ -5,12 +5,10 @@ ghost use Rattle.std.specs.Prelude.{◌≡◌, ◌≤◌, OnOk, IfOk};
 ghost use Rattle.thorin_commands.specs.Packing.{left};
 
 use crate::asked::{executable_of, nameless_in};
-use crate::files::FileSystem;
-use crate::notes::place_of;
-use crate::output::{Refusal, flush};
 use crate::packing::{Packing, paths_in};
 use crate::plain::InputFiles;
 use crate::reading::Inputs;
+use crate::refusal::Refusal;
 use crate::telling::{Telling, print_error};
 use bumpalo::Bump;
 use dwp_bytes::RelocationEntry;
@@ -22,6 +20,8 @@ use std::path::{AsPath, Path};
 use thorin::{BytesSession, DwarfPackage, Input, MissingTargets, NamelessUnits};
 use thorin_errors::{Error, MissingReferencedObjectBehaviour};
 use thorin_executable::NamedUnits;
+use thorin_inputs::place_of;
+use thorin_output::{FileSystem, flush};
 use thorin_queries::{Failure, buffer, shown};
 use thorin_sessions::Session;
 

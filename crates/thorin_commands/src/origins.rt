@@ -1,12 +1,12 @@
 //! Which input brought a unit of the package.
 
-use crate::notes::{place_of, place_of_member};
 use dwp_bytes::RelocationEntry;
 use dwp_table::{DwarfObject, DwoId};
 use std::alloc::{AllocError, Global};
 use std::cell::Cell;
 use thorin::DwarfPackage;
 use thorin_errors::Error;
+use thorin_inputs::{place_of, place_of_member};
 use thorin_sessions::Session;
 
 /// What was taken, by its path.

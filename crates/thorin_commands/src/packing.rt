@@ -1,25 +1,22 @@
 //! `thorin pack`.
 
-ghost use Rattle.std.specs.Prelude.{◌≡◌, ◌≤◌, Ok, Some, OnOk, OnErr, IfOk, IfErr, string_bytes};
-ghost use Rattle.std.specs.Prelude.{true};
+ghost use Rattle.std.specs.Prelude.{◌≡◌, ◌≤◌, Ok, Some, OnOk, IfOk, IfErr, string_bytes, true};
 ghost use Rattle.dwp_elf.specs.FileText.{file_text};
 ghost use Rattle.thorin_join.specs.Builder.{IsFinishedState};
 ghost use Rattle.thorin_join.specs.Join.{IsPackageOf, IsPackageOnceWritten};
 ghost use Rattle.thorin_join.specs.Meaning.{Members};
 ghost use Rattle.thorin_join.specs.Represents.{units_in};
-ghost use Rattle.thorin_commands.specs.Files.{IsOfWriting, Put, Begins};
+ghost use Rattle.thorin_output.specs.Files.{Put, Begins};
 ghost use Rattle.thorin_commands.specs.Packing.{out_of, Packs, Comes, IsPackageFor, IsPackedFrom};
 ghost use Rattle.thorin_commands.specs.Packing.{Fails, paths_in, reads};
 
 use crate::asked::{inputs_of, inputs_with};
-use crate::files::FileSystem;
 use crate::missing::leave_out;
-use crate::output::{Refusal, write_package};
 use crate::plain::InputFiles;
 use crate::reading::Inputs;
+use crate::refusal::Refusal;
 use crate::taking::take_all;
 use crate::telling::{Telling, print_error, tell_unfinished};
-use crate::warnings::{Warned, Warnings, warn};
 use bumpalo::Bump;
 use dwp_bytes::RelocationEntry;
 use dwp_elf::WritableObject;
@@ -30,6 +27,7 @@ use std::io::Write;
 use thorin::laws::runs_go_on;
 use thorin::{BytesSession, DwarfPackage, Input, NamelessUnits};
 use thorin_errors::{Error, MissingReferencedObjectBehaviour};
+use thorin_output::{FileSystem, Warned, Warnings, write_then_warn};
 use thorin_queries::{Failure, Reading, buffer, check};
 use thorin_sessions::Session;
 
@@ -245,27 +243,6 @@ fn write_and_warn<F: FileSystem, O: Write, E: Write>(
         }
         Err(failure) => Err(failure),
     }
-}
-
-/// The same, where the warnings go to a buffer.
-#[tactic(auto, using(crate::proofs::Puts::put_begins))]
-fn write_then_warn<F: FileSystem, O: Write, W: Write>(
-    files: &mut F,
-    object: &WritableObject,
-    warned: Warned<'_>,
-    output: &str,
-    out: &mut O,
-    lines: &mut W,
-) -> Result<(), Failure>
-    ensures done { OnOk result (Put F.begun O.contents files.old files.new out.old out.new
-        output.now (file_text object.now)) }
-    ensures begun { OnErr result (Begins F.begun O.contents files.old files.new out.old out.new
-        output.now (file_text object.now)) }
-    ensures cause { IfErr result IsOfWriting }
-{
-    write_package(files, object, output, out)?;
-    warn(warned, lines)?;
-    Ok(())
 }
 
 /// The object to be written for what is asked for, the signatures of type units that were passed

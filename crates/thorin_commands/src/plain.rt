@@ -5,31 +5,26 @@
 ghost use Rattle.std.specs.Prelude.{◌≡◌, ◌⊎◌, IsTrue, IfOk, IfErr, string_bytes};
 ghost use Rattle.std.specs.Path.{path_bytes};
 ghost use Rattle.thorin_sessions.specs.Sessions.{IsNoWantOfMemory};
+ghost use Rattle.thorin_inputs.specs.Prefixes.{mapped as mapped_path};
+ghost use Rattle.thorin_output.specs.Reads.{IsReadOver};
 ghost use Rattle.thorin_commands.specs.Packing.{IsAmong, paths_in, through, reads};
-ghost use Rattle.thorin_commands.specs.Plain.{IsReadOver, taken_from};
-ghost use Rattle.thorin_commands.specs.Prefixes.{mapped as mapped_path};
+ghost use Rattle.thorin_commands.specs.Plain.{taken_from};
 
 use crate::asked::executable_of;
-use crate::counting::count_units;
-use crate::decompressing::decompress;
-use crate::encodings::Encodings;
-use crate::files::FileSystem;
-use crate::given::place_among;
-use crate::growth::{Growth, Repetitions, has_overlap};
-use crate::inner::has_inner_strings;
-use crate::macros::{MacroWarnings, keep_last_macros};
-use crate::notes::{Unread, place_of, reason};
 use crate::origins::{Origin, OriginRef, Origins};
 use crate::packing::{Packing, paths_in};
-use crate::prefixes::mapped;
 use crate::reading::Inputs;
-use crate::warnings::Warnings;
 use std::alloc::{AllocError, Global};
 use std::cell::Cell;
 use std::io;
 use std::path::{AsPath, Path};
 use thorin::{Input, InputReader, Repetition};
 use thorin_errors::InputError;
+use thorin_inputs::{
+    Encodings, Growth, MacroWarnings, Repetitions, Unread, count_units, decompress,
+    has_inner_strings, has_overlap, keep_last_macros, mapped, place_among, place_of, reason,
+};
+use thorin_output::{FileSystem, Warnings};
 use thorin_queries::{Failure, plain_of};
 
 /// Files as inputs.
@@ -321,7 +316,8 @@ impl<F: FileSystem> InputReader for InputFiles<'_, F> {
     }
 
     fn admits(&self, repetition: Repetition<'_>) -> bool {
-        if self.packing.allows_overlap || self.repetitions.admits(repetition) {
+        let (bytes, differing) = (repetition.bytes, repetition.differing);
+        if self.packing.allows_overlap || self.repetitions.admits(bytes, differing) {
             return true;
         }
         self.growth.set(Some(Growth::Repetition));

@@ -4,11 +4,10 @@ ghost use Rattle.std.specs.Prelude.{◌≡◌, Bool, IfOk};
 ghost use Rattle.thorin_queries.specs.Plain.{or_content};
 ghost use Rattle.thorin_commands.specs.Archives.{IsTakenFor};
 
-use crate::growth::Growth;
-use crate::notes::Unread;
 use crate::origins::{Origin, OriginRef};
 use std::alloc::AllocError;
 use thorin::{Input, InputReader};
+use thorin_inputs::{Growth, Unread};
 use thorin_queries::Failure;
 
 /// What reads inputs, and tells of them.

@@ -7,8 +7,8 @@ ghost use Rattle.thorin_commands.specs.Opened.{TookAll, TookInputs};
 
 use crate::archives::take_opened;
 use crate::origins::{OriginRef, place_of_unit};
-use crate::output::Refusal;
 use crate::reading::Inputs;
+use crate::refusal::Refusal;
 use crate::telling::{Refused, Telling, tell_refused, told};
 use dwp_bytes::RelocationEntry;
 use std::io::Write;

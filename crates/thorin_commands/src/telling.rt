@@ -1,12 +1,7 @@
 //! What `pack` tells of its inputs: with `--verbose`, and where one is refused.
 
 use crate::asked::{executable_of, nameless_in};
-use crate::counting::count_units;
-use crate::growth::Growth;
 use crate::missing::named_units;
-use crate::notes::{
-    note_alone, note_before, note_reason, note_refused, note_twice_in, note_unread, place_of,
-};
 use crate::origins::Origin;
 use crate::reading::Inputs;
 use crate::taking::Tried;
@@ -18,6 +13,10 @@ use std::path::{AsPath, Path};
 use thorin::{BytesSession, DwarfPackage, Input, NamelessUnits};
 use thorin_errors::{Error, MissingReferencedObjectBehaviour};
 use thorin_executable::NamedUnits;
+use thorin_inputs::{
+    Growth, count_units, note_alone, note_before, note_reason, note_refused, note_twice_in,
+    note_unread, place_of,
+};
 use thorin_queries::{Failure, shown, tell_taken};
 use thorin_words::printed;
 

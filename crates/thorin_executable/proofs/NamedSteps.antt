@@ -3,7 +3,7 @@ use Rattle.std.proofs.Common.{◌≡◌, List, ◌∷◌, ◌++◌, Option, Resu
 use Rattle.std.proofs.Common.{take, take_all, arith}
 use Rattle.std.proofs.lemmas.List.{length-map}
 use Rattle.dwp_bytes.specs.declared.error.ReadError.{ReadError}
-use Rattle.dwp_dwarf.specs.Units.{Unit as UnitMeaning}
+use Rattle.dwp_units.specs.Units.{Unit as UnitMeaning}
 use Rattle.thorin_errors.specs.Errors.{ErrorValue}
 use Rattle.thorin_errors.specs.declared.error.Error.{Error}
 use Rattle.thorin_executable.specs.Sections.{DebugData}

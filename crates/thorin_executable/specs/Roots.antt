@@ -5,10 +5,10 @@ use Rattle.std.specs.Option.{ok_or}
 use Rattle.dwp_base.specs.Reading.{◌>>=◌}
 use Rattle.dwp_bytes.specs.Input.{Input}
 use Rattle.dwp_bytes.specs.declared.error.ReadError.TheVariants.{UnknownCode}
-use Rattle.dwp_dwarf.specs.Entries.{root_code_at}
+use Rattle.dwp_units.specs.AbbreviationCodes.{root_code_at}
 use Rattle.dwp_dwarf.specs.Offsets.{from_at}
 use Rattle.dwp_dwarf.specs.Split.{SplitAttributes, split_at}
-use Rattle.dwp_dwarf.specs.Units.{Unit}
+use Rattle.dwp_units.specs.Units.{Unit}
 use Rattle.thorin_errors.specs.Errors.{ErrorValue, NoDie, ParseUnit}
 use Rattle.thorin_errors.specs.Answers.{as_error}
 

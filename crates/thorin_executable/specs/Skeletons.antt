@@ -5,8 +5,8 @@ use Rattle.dwp_base.specs.Reading.{◌>>=◌}
 use Rattle.dwp_bytes.specs.declared.error.ReadError.{ReadError}
 use Rattle.dwp_dwarf.specs.Entries.{DebugAttribute}
 use Rattle.dwp_dwarf.specs.Split.{SplitAttributes, object_name}
-use Rattle.dwp_dwarf.specs.Units.{Unit, units}
-use Rattle.dwp_dwarf.specs.declared.unit.UnitSection.TheVariants.{Info}
+use Rattle.dwp_units.specs.Units.{Unit, units}
+use Rattle.dwp_units.specs.declared.unit.UnitSection.TheVariants.{Info}
 use Rattle.dwp_table.specs.declared.object.DwarfObject.{DwarfObject}
 use Rattle.dwp_table.specs.declared.object.DwarfObject.TheVariants.{Compilation, TypeUnit}
 use Rattle.thorin_errors.specs.Errors.{ErrorValue, MissingDwoName, ParseUnitHeader}

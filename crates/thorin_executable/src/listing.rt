@@ -2,7 +2,7 @@
 
 ghost use Rattle.std.specs.Prelude.{◌≡◌, [], None, Ok, option_map, OnErr, string_bytes};
 ghost use Rattle.dwp_dwarf.specs.Sections.{strings_of};
-ghost use Rattle.dwp_dwarf.specs.Units.{unit_of, unit_seen, units_left};
+ghost use Rattle.dwp_units.specs.Units.{unit_of, unit_seen, units_left};
 ghost use Rattle.thorin_errors.specs.Answers.{Gives};
 ghost use Rattle.thorin_executable.specs.Skeletons as spec;
 ghost use Rattle.thorin_executable.specs.Places.{IsKept};
@@ -186,7 +186,7 @@ pub(crate) struct UnitsLeft<R: Reader> {
 impl<R: Reader> Model for UnitsLeft<R> {
     ghost use Rattle.std.specs.Prelude.{◌≡◌, [], None, if◌then◌else◌, string_bytes};
     ghost use Rattle.dwp_dwarf.specs.Sections.{strings_of};
-    ghost use Rattle.dwp_dwarf.specs.Units.{units_left};
+    ghost use Rattle.dwp_units.specs.Units.{units_left};
     ghost use Rattle.thorin_executable.specs.Places.{IsKept};
     ghost use Rattle.thorin_executable.specs.Skeletons.{NamedLeft, skeletons_from};
     ghost use Rattle.thorin_executable.specs.View.{data_of};

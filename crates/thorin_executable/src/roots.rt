@@ -3,7 +3,7 @@
 ghost use Rattle.std.specs.Prelude.{◌≡◌};
 ghost use Rattle.thorin_errors.specs.Answers.{Gives};
 ghost use Rattle.dwp_dwarf.specs.Split.{attributes_of};
-ghost use Rattle.dwp_dwarf.specs.Units.{unit_of};
+ghost use Rattle.dwp_units.specs.Units.{unit_of};
 ghost use Rattle.thorin_executable.specs.Roots as spec;
 
 use dwp_dwarf::{AbbreviationCache, ReadError, Reader, SplitAttributes, UnitHeader};

@@ -10,12 +10,13 @@ use Rattle.dwp_base.specs.Reading.{◌>>=◌}
 use Rattle.dwp_bytes.specs.declared.error.ReadError.TheVariants.{UnknownCode}
 use Rattle.dwp_bytes.specs.Input.{Input, after, front, section}
 use Rattle.dwp_dwarf.proofs.Offsets.{from_within, past_end}
-use Rattle.dwp_dwarf.proofs.Readings.{bind_alike}
+use Rattle.dwp_units.proofs.Readings.{bind_alike}
 use Rattle.dwp_dwarf.proofs.Tables.{declared_anywhere}
 use Rattle.dwp_dwarf.specs.Abbreviations.{declaration, Declaration}
-use Rattle.dwp_dwarf.specs.Entries.{entry, root_code_at, DebugAttribute, DebugEntry}
+use Rattle.dwp_dwarf.specs.Entries.{entry, DebugAttribute, DebugEntry}
+use Rattle.dwp_units.specs.AbbreviationCodes.{root_code_at}
 use Rattle.dwp_dwarf.specs.Offsets.{from_at}
-use Rattle.dwp_dwarf.specs.Units.{Unit}
+use Rattle.dwp_units.specs.Units.{Unit}
 use Rattle.dwp_table.specs.declared.object.DwarfObject.{DwarfObject}
 use Rattle.thorin_errors.specs.Errors.{ErrorValue, NoDie, GimliRead, ParseUnitAbbreviations}
 use Rattle.thorin_errors.specs.Answers.{as_error}

@@ -7,11 +7,12 @@ use Rattle.dwp_base.specs.Reading.{◌>>=◌}
 use Rattle.dwp_bytes.specs.Input.{Input, section}
 use Rattle.dwp_bytes.specs.declared.error.ReadError.{ReadError}
 use Rattle.dwp_bytes.specs.declared.error.ReadError.TheVariants.{UnknownCode}
-use Rattle.dwp_dwarf.specs.declared.unit.UnitType.{UnitType}
-use Rattle.dwp_dwarf.specs.declared.unit.UnitType.TheVariants as unit_types
-use Rattle.dwp_dwarf.specs.Units.{Unit}
+use Rattle.dwp_units.specs.declared.unit.UnitType.{UnitType}
+use Rattle.dwp_units.specs.declared.unit.UnitType.TheVariants as unit_types
+use Rattle.dwp_units.specs.Units.{Unit}
 use Rattle.dwp_dwarf.specs.Abbreviations.{declaration}
-use Rattle.dwp_dwarf.specs.Entries.{DebugAttribute, DebugEntry, entry, root_code_at, number_of}
+use Rattle.dwp_dwarf.specs.Entries.{DebugAttribute, DebugEntry, entry, number_of}
+use Rattle.dwp_units.specs.AbbreviationCodes.{root_code_at}
 use Rattle.dwp_dwarf.specs.Offsets.{from_at}
 use Rattle.dwp_table.specs.declared.object.DwarfObject.{DwarfObject}
 use Rattle.dwp_table.specs.declared.object.DwarfObject.TheVariants.{Compilation, TypeUnit}

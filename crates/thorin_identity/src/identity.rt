@@ -3,7 +3,7 @@
 ghost use Rattle.std.specs.Prelude.{◌≡◌, ◌≢◌, Ok, IfErr, IfSome, drop, take};
 ghost use Rattle.dwp_bytes.specs.Input.{Input};
 ghost use Rattle.thorin_errors.specs.Answers.{Gives};
-ghost use Rattle.dwp_dwarf.specs.Units.{Unit, unit_of};
+ghost use Rattle.dwp_units.specs.Units.{Unit, unit_of};
 ghost use Rattle.dwp_dwarf.specs.Attributes.{entry_of};
 ghost use Rattle.dwp_dwarf.specs.Numbers.{numbered_of};
 ghost use Rattle.thorin_identity.specs.Identity.{identity, identity_by, root_identity};

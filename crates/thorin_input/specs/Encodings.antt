@@ -11,9 +11,9 @@ use Rattle.dwp_elf_read.specs.Elf.{Elf}
 use Rattle.dwp_bytes.specs.Input.{section}
 use Rattle.dwp_bytes.specs.declared.encoding.Encoding.{Encoding}
 use Rattle.dwp_bytes.specs.declared.error.ReadError.{ReadError}
-use Rattle.dwp_dwarf.specs.Units.{Unit, units}
-use Rattle.dwp_dwarf.specs.declared.unit.UnitSection.{UnitSection}
-use Rattle.dwp_dwarf.specs.declared.unit.UnitSection.TheVariants as places
+use Rattle.dwp_units.specs.Units.{Unit, units}
+use Rattle.dwp_units.specs.declared.unit.UnitSection.{UnitSection}
+use Rattle.dwp_units.specs.declared.unit.UnitSection.TheVariants as places
 use Rattle.thorin_index.specs.EntryTests.{same_encoding}
 use Rattle.thorin_errors.specs.Errors.{ErrorValue, ParseUnitHeader, NoCompilationUnits}
 use Rattle.thorin_input.specs.Indexes.{Source}

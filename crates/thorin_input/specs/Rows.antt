@@ -9,9 +9,9 @@ use Rattle.dwp_base.specs.Reading.{read_each, ◌>>=◌}
 use Rattle.dwp_base.specs.ByKind.{value_of}
 use Rattle.dwp_base.specs.Sections.{all_kinds, name_of}
 use Rattle.dwp_bytes.specs.declared.encoding.Encoding.{Encoding}
-use Rattle.dwp_dwarf.specs.Units.{Unit as Header}
-use Rattle.dwp_dwarf.specs.declared.unit.UnitType.{UnitType}
-use Rattle.dwp_dwarf.specs.declared.unit.UnitType.TheVariants as unit_types
+use Rattle.dwp_units.specs.Units.{Unit as Header}
+use Rattle.dwp_units.specs.declared.unit.UnitType.{UnitType}
+use Rattle.dwp_units.specs.declared.unit.UnitType.TheVariants as unit_types
 use Rattle.dwp_index.specs.Index.{Index, range_in, Ranges, row_in}
 use Rattle.dwp_index.specs.Package.{is_outside, part_of}
 use Rattle.dwp_table.specs.Objects.{identifier_of}

@@ -3,7 +3,7 @@
 
 ghost use Rattle.std.specs.Prelude.{◌≡◌, length, map, false, None, IfOk, IfErr, if◌then◌else◌};
 ghost use Rattle.dwp_base.specs.declared.section.SectionKind.TheVariants.{Abbrev};
-ghost use Rattle.dwp_dwarf.specs.Units.{unit_of};
+ghost use Rattle.dwp_units.specs.Units.{unit_of};
 ghost use Rattle.dwp_elf.specs.Growing.{contribution_put};
 ghost use Rattle.dwp_index.specs.Package.{part_of, is_outside};
 ghost use Rattle.dwp_table.specs.Objects.{identifier_of};

@@ -2,7 +2,7 @@
 
 ghost use Rattle.std.specs.Prelude.{◌≡◌, take, drop, false};
 ghost use Rattle.dwp_bytes.specs.Input.{section};
-ghost use Rattle.dwp_dwarf.specs.Units.{unit_of};
+ghost use Rattle.dwp_units.specs.Units.{unit_of};
 ghost use Rattle.dwp_index.specs.Package.{part_of, is_outside};
 ghost use Rattle.thorin_errors.specs.Answers.{Gives};
 ghost use Rattle.thorin_identity.specs.Identity.{identity};

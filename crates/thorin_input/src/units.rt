@@ -1,7 +1,7 @@
 //! The units that an input adds to a package, each with its row.
 
 ghost use Rattle.std.specs.Prelude.{◌≡◌, ◌&&◌, option_map, Ok, Some, None, IfOk, OnOk};
-ghost use Rattle.dwp_dwarf.specs.Units.{unit_of, unit_seen};
+ghost use Rattle.dwp_units.specs.Units.{unit_of, unit_seen};
 ghost use Rattle.thorin_errors.specs.Answers.{Gives};
 ghost use Rattle.thorin_input.specs.Encodings.{has_encoding, all_have, section_has, are_alike};
 ghost use Rattle.thorin_input.specs.NewUnits as spec;

@@ -11,7 +11,7 @@ use Terms.{units_whole, UnitSection, Used, with_bytes, with_input, with_new_unit
 use Terms.{with_source, ℕ, ◌*◌, ◌++◌, ◌+◌, ◌∙◌, ◌∷◌, ◌≡◌, ◌≤◌}
 use Rattle.std.proofs.lemmas.List.Concat.{length-flat_map}
 use Rattle.std.proofs.lemmas.List.Sums.{sum_by-append, sum_by-cons, sum_by-le-sum_by}
-use Rattle.dwp_dwarf.specs.Units.{unit_bytes as bytes_of_unit}
+use Rattle.dwp_units.specs.Units.{unit_bytes as bytes_of_unit}
 use Rattle.thorin_join.specs.Meaning.{named_at, named_sections}
 use Rattle.thorin_join.specs.Sizes.{bytes_begun, bytes_of_index, carried, carried_size}
 use Rattle.thorin_join.specs.Sizes.{container_most, IsSizeFinished, IsSizeOfIndex, sections_in}

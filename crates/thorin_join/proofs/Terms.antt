@@ -41,13 +41,13 @@ pub use Rattle.dwp_bytes.specs.declared.encoding.Encoding.{Encoding}
 pub use Rattle.dwp_bytes.specs.declared.encoding.Format.{Format}
 pub use Rattle.dwp_bytes.specs.declared.error.ReadError.{ReadError}
 pub use Rattle.dwp_bytes.specs.declared.error.ReadError.TheVariants.{UnexpectedEof}
-pub use Rattle.dwp_dwarf.proofs.Readings.{Answer, bind_alike, more}
-pub use Rattle.dwp_dwarf.proofs.Units.{unit_taken, unit_takes, units_whole}
+pub use Rattle.dwp_units.proofs.Readings.{Answer, bind_alike, more}
+pub use Rattle.dwp_units.proofs.Units.{unit_taken, unit_takes, units_whole}
 pub use Rattle.dwp_dwarf.specs.Entries.{DebugAttribute}
-pub use Rattle.dwp_dwarf.specs.Units.{listed, Unit as Header}
-unfoldable pub use Rattle.dwp_dwarf.specs.Units.{unit_at, units}
-pub use Rattle.dwp_dwarf.specs.declared.unit.UnitSection.{UnitSection}
-pub use Rattle.dwp_dwarf.specs.declared.unit.UnitType.{UnitType}
+pub use Rattle.dwp_units.specs.Units.{listed, Unit as Header}
+unfoldable pub use Rattle.dwp_units.specs.Units.{unit_at, units}
+pub use Rattle.dwp_units.specs.declared.unit.UnitSection.{UnitSection}
+pub use Rattle.dwp_units.specs.declared.unit.UnitType.{UnitType}
 pub use Rattle.dwp_elf.specs.Contents.{appended, content_of, count_of, KindsDiffer}
 pub use Rattle.dwp_elf.specs.FileText.{file_text, Object as File}
 pub use Rattle.dwp_elf_read.specs.Elf.{Elf, elf_of}

@@ -4,11 +4,11 @@ use Rattle.std.specs.Prelude.{◌≡◌, ℕ, ◌+◌, ◌<◌, Bool, true, fals
 use Rattle.std.specs.Prelude.{filter, Option, Some, None, Ok}
 use Rattle.dwp_base.specs.declared.endian.Endianness.{Endianness}
 use Rattle.dwp_bytes.specs.Input.{Input, section}
-use Rattle.dwp_dwarf.specs.Units.{Unit as Header, unit_at}
-use Rattle.dwp_dwarf.specs.declared.unit.UnitSection.{UnitSection}
-use Rattle.dwp_dwarf.specs.declared.unit.UnitSection.TheVariants as places
-use Rattle.dwp_dwarf.specs.declared.unit.UnitType.{UnitType}
-use Rattle.dwp_dwarf.specs.declared.unit.UnitType.TheVariants as unit_types
+use Rattle.dwp_units.specs.Units.{Unit as Header, unit_at}
+use Rattle.dwp_units.specs.declared.unit.UnitSection.{UnitSection}
+use Rattle.dwp_units.specs.declared.unit.UnitSection.TheVariants as places
+use Rattle.dwp_units.specs.declared.unit.UnitType.{UnitType}
+use Rattle.dwp_units.specs.declared.unit.UnitType.TheVariants as unit_types
 use Rattle.dwp_elf.specs.Contents.{content_of}
 use Rattle.dwp_index.specs.Package.{kind_of, place_of}
 use Rattle.dwp_table.specs.declared.object.DwarfObject.{DwarfObject}

@@ -15,8 +15,8 @@ use Rattle.dwp_bytes.specs.Input.{section}
 use Rattle.dwp_bytes.specs.StringOffsets.{entry_count, header_size}
 use Rattle.dwp_bytes.specs.declared.encoding.Encoding.{Encoding}
 use Rattle.dwp_bytes.specs.declared.error.ReadError.{ReadError}
-use Rattle.dwp_dwarf.specs.Units.{Unit as Header, units}
-use Rattle.dwp_dwarf.specs.declared.unit.UnitSection.{UnitSection}
+use Rattle.dwp_units.specs.Units.{Unit as Header, units}
+use Rattle.dwp_units.specs.declared.unit.UnitSection.{UnitSection}
 use Rattle.dwp_index.specs.Index.{Index, range_in, Ranges, row_in}
 use Rattle.dwp_index.specs.Package.{is_outside, part_of}
 use Rattle.dwp_table.specs.Columns.{contribution_kinds}

@@ -10,8 +10,8 @@ use Rattle.dwp_base.specs.declared.section.SectionKind.TheVariants as kinds
 use Rattle.dwp_base.specs.Sections.{name_of}
 use Rattle.dwp_elf.specs.FileText.{Object as File}
 use Rattle.dwp_elf.specs.Growing.{Contents, contribution_put, IsGrown, lengths, with_bytes}
-use Rattle.dwp_dwarf.specs.declared.unit.UnitSection.{UnitSection}
-use Rattle.dwp_dwarf.specs.declared.unit.UnitSection.TheVariants as places
+use Rattle.dwp_units.specs.declared.unit.UnitSection.{UnitSection}
+use Rattle.dwp_units.specs.declared.unit.UnitSection.TheVariants as places
 use Rattle.dwp_index.specs.Package.{kind_of}
 use Rattle.dwp_table.specs.declared.object.DwarfObject.{DwarfObject}
 use Rattle.thorin_index.specs.declared.entry.IndexEntry.{IndexEntry}

@@ -14,9 +14,10 @@ use Rattle.dwp_bytes.specs.Leb.{uleb_at}
 use Rattle.dwp_bytes.specs.StringOffsets.{entry_in, string_at}
 use Rattle.dwp_bytes.specs.declared.error.ReadError.{ReadError}
 use Rattle.dwp_dwarf.specs.Abbreviations.{declaration}
-use Rattle.dwp_dwarf.specs.Entries.{DebugAttribute, DebugEntry, entry, number_read, root_code_at}
+use Rattle.dwp_dwarf.specs.Entries.{DebugAttribute, DebugEntry, entry, number_read}
+use Rattle.dwp_units.specs.AbbreviationCodes.{root_code_at}
 use Rattle.dwp_dwarf.specs.Offsets.{from_at}
-use Rattle.dwp_dwarf.specs.Units.{Unit, units}
+use Rattle.dwp_units.specs.Units.{Unit, units}
 use Rattle.dwp_index.specs.Index.{range_in}
 use Rattle.dwp_index.specs.Package.{FoundUnit, place_of, row_bytes}
 use Rattle.dwp_table.specs.declared.object.DwarfObject.{DwarfObject}

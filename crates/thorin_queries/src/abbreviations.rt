@@ -3,7 +3,7 @@
 
 ghost use Rattle.std.specs.Prelude.{◌≡◌, option_map};
 ghost use Rattle.std.specs.Result.{result_ok};
-ghost use Rattle.dwp_dwarf.specs.Units.{unit_of};
+ghost use Rattle.dwp_units.specs.Units.{unit_of};
 ghost use Rattle.thorin_queries.specs.Names.{header_in};
 
 use dwp_base::SectionKind;

@@ -6,7 +6,7 @@ ghost use Rattle.dwp_base.specs.Reading.{Answers};
 ghost use Rattle.dwp_bytes.specs.Input.{front};
 ghost use Rattle.dwp_dwarf.specs.Attributes.{attribute_of, attributes_left, entry_of, root_of};
 ghost use Rattle.dwp_dwarf.specs.Declarations.{table_of};
-ghost use Rattle.dwp_dwarf.specs.Units.{unit_of};
+ghost use Rattle.dwp_units.specs.Units.{unit_of};
 ghost use Rattle.dwp_index.specs.Contents.{content};
 ghost use Rattle.thorin_queries.specs.Names as spec;
 ghost use Rattle.thorin_queries.specs.Names.{table_at, entry_by, unit_die, die_of, named};

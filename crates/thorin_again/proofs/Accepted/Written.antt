@@ -38,7 +38,7 @@ use Rattle.thorin_again.proofs.Opened.Sections.{present-written, Unless}
 use Rattle.thorin_again.proofs.Kept.OneEncoding.{begun-now}
 use Rattle.thorin_again.proofs.Meant.Package.{again-is}
 use Rattle.dwp_base.specs.declared.section.SectionKind.TheVariants as kinds
-use Rattle.dwp_dwarf.specs.declared.unit.UnitSection.TheVariants as places
+use Rattle.dwp_units.specs.declared.unit.UnitSection.TheVariants as places
 use Rattle.std.proofs.lemmas.Bool.Decides.{nat_tests}
 
 -- ---- names

@@ -19,9 +19,9 @@ use Terms.{SectionKind, Some, sound-inside, Source, subst, sym, true, type_signa
 use Terms.{unit_bytes, unit_section, UnitRead, units, units_within, UnitSection, Used, WasRead}
 use Terms.{whole_behind, with_bytes, with_new_units, with_parts, with_unit_added, ℕ, ◌<◌, ◌∙◌, ◌∷◌}
 use Terms.{◌≡◌}
-use Rattle.dwp_dwarf.proofs.Readings.{takes_more}
+use Rattle.dwp_units.proofs.Readings.{takes_more}
 use Rattle.std.proofs.Common.{append_assoc, length-append, slice_get, ◌++◌, ◌⊎◌}
-use Rattle.dwp_dwarf.specs.Units.{header_at, older_type_at}
+use Rattle.dwp_units.specs.Units.{header_at, older_type_at}
 use Rattle.std.proofs.ByRecursion.{All-append}
 use Rattle.thorin_input.specs.Parts.{with_each_part, with_part}
 use Rattle.thorin_join.proofs.Rows.Stay.{Grows, grows-trans, grows-with_bytes, keep-part}
@@ -41,7 +41,7 @@ use Rattle.thorin_again.proofs.Meant.RowByRow.{part-middle}
 use Rattle.thorin_join.proofs.Rows.LieInTurn.{can-lie}
 use Rattle.thorin_join.proofs.Rows.AllAdded.{AllNew, joined-new, names-added}
 use Rattle.dwp_base.specs.declared.section.SectionKind.TheVariants as kinds
-use Rattle.dwp_dwarf.specs.declared.unit.UnitSection.TheVariants as places
+use Rattle.dwp_units.specs.declared.unit.UnitSection.TheVariants as places
 
 -- ---- what is read of a table of abbreviations stays where more bytes follow
 

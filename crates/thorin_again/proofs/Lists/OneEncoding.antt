@@ -16,7 +16,7 @@ use Terms.{unit_bytes, units, units_begun, units_in, units_of, units_within, Uni
 use Terms.{written_elf, written_object, ℕ, ◌<◌, ◌∙◌, ◌∷◌, ◌≡◌}
 use Rattle.dwp_index.specs.Package.{encoding_in, found_counted, Package, package_of, unit_at_row}
 use Rattle.dwp_index.specs.Package.{unit_in}
-use Rattle.dwp_dwarf.specs.Units.{header_at}
+use Rattle.dwp_units.specs.Units.{header_at}
 use Rattle.thorin_join.specs.Builder.{finish_test, IsFinished, State, with_input}
 use Rattle.thorin_again.specs.Again.{input_encoding}
 use Rattle.thorin_again.proofs.Kept.EachUnit.{of-one, OfOne, order-added}
@@ -29,7 +29,7 @@ use Rattle.thorin_again.proofs.Opened.Sections.{first-written, input-encoding}
 use Rattle.thorin_again.proofs.Kept.Names.{HasInfo, info-there}
 use Rattle.thorin_again.proofs.Meant.RowByRow.{of-section, read-alone}
 use Rattle.dwp_index.specs.Package as index
-use Rattle.dwp_dwarf.specs.declared.unit.UnitSection.TheVariants as places
+use Rattle.dwp_units.specs.declared.unit.UnitSection.TheVariants as places
 
 -- ---- a header has one encoding, in whichever section it is read
 

@@ -30,7 +30,7 @@ use Rattle.thorin_again.proofs.Meant.OneRow.{row-means-again}
 use Rattle.thorin_again.proofs.Opened.Indexes.{IsReadOf, lie-kept, lie-used, read-of}
 use Rattle.thorin_again.proofs.Kept.EachUnit.{joined}
 use Rattle.dwp_base.specs.declared.section.SectionKind.TheVariants as kinds
-use Rattle.dwp_dwarf.specs.declared.unit.UnitSection.TheVariants as places
+use Rattle.dwp_units.specs.declared.unit.UnitSection.TheVariants as places
 
 -- the row of a compilation unit that is accepted was tested
 abbrev IsTested : Source → DwarfObject × UnitRead → Type 0

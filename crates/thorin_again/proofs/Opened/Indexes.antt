@@ -34,7 +34,7 @@ use Rattle.thorin_again.proofs.Offsets.RewrittenAgain.{ranges-are, tile-lies, ti
 use Rattle.thorin_again.proofs.Offsets.RewrittenAgain.{used-chosen}
 use Rattle.thorin_package_input.specs.PackagedOffsets.{packaged_offsets, rewritten_from}
 use Rattle.dwp_base.specs.declared.section.SectionKind.TheVariants as kinds
-use Rattle.dwp_dwarf.specs.declared.unit.UnitSection.TheVariants as places
+use Rattle.dwp_units.specs.declared.unit.UnitSection.TheVariants as places
 
 -- rows come from inputs of this version
 abbrev pub HaveVersion : ℕ → List IndexEntry → Type 0

@@ -21,7 +21,7 @@ use Rattle.thorin_join.proofs.Units.HeadersRead.{each-joining, News, Reads}
 use Rattle.thorin_join.proofs.Units.InRows.{keys-units, rows-keys, units-are}
 use Rattle.thorin_join.proofs.Rows.OneAdded.{not-shared}
 use Rattle.dwp_base.specs.declared.section.SectionKind.TheVariants as kinds
-use Rattle.dwp_dwarf.specs.declared.unit.UnitSection.TheVariants as places
+use Rattle.dwp_units.specs.declared.unit.UnitSection.TheVariants as places
 
 -- ---- joining keeps what belongs to units
 

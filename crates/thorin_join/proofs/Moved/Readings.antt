@@ -5,7 +5,7 @@ use Terms.{take-append-drop, ℕ, ℤ, ◌≡◌}
 use Rattle.dwp_bytes.specs.Input.{byte_at, number_at, skip_at, split_at}
 pub use Rattle.dwp_index.proofs.TwoPlaces.{plain}
 use Rattle.dwp_bytes.specs.Leb.{uleb_at, sleb_at}
-use Rattle.dwp_dwarf.proofs.Readings.{by-result, Reads, reads_byte, reads_uleb, reads_sleb}
+use Rattle.dwp_units.proofs.Readings.{by-result, Reads, reads_byte, reads_uleb, reads_sleb}
 
 -- what was read, moved
 abbrev pub moved : {A : Type 0} → (A → A) → Result A ReadError → Result A ReadError

@@ -5,9 +5,10 @@ use Terms.{Header, Ok, ReadError, Result, identity, Input, List, ok_or, refl, ro
 use Terms.{sym, zero, ℕ, ◌∙◌, ◌∷◌, ◌≡◌}
 use Rattle.dwp_bytes.specs.declared.error.ReadError.TheVariants.{UnknownForm}
 use Rattle.dwp_bytes.specs.Input.{split_at}
-use Rattle.dwp_dwarf.proofs.Readings.{bind-bind}
-use Rattle.dwp_dwarf.specs.Abbreviations.{Specification, code_at}
-use Rattle.dwp_dwarf.specs.Entries.{attribute_at, attributes, number_of, root_code_at}
+use Rattle.dwp_units.proofs.Readings.{bind-bind}
+use Rattle.dwp_dwarf.specs.Abbreviations.{Specification}
+use Rattle.dwp_dwarf.specs.Entries.{attribute_at, attributes, number_of}
+use Rattle.dwp_units.specs.AbbreviationCodes.{code_at, root_code_at}
 use Rattle.dwp_dwarf.specs.Forms.{block_length_at, layout_of, named_form_at, named_within}
 use Rattle.dwp_dwarf.specs.Forms.{past_value, text_at, value_at}
 use Rattle.thorin_identity.specs.Identity.{entry_identity}

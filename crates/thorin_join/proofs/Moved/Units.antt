@@ -9,9 +9,9 @@ use Rattle.dwp_bytes.specs.Input.{after, byte_at, split_at, number_at, relocated
 use Rattle.dwp_bytes.specs.Input.{is_address_size}
 use Rattle.dwp_bytes.specs.declared.encoding.Format.TheVariants.{Dwarf32, Dwarf64}
 use Rattle.dwp_bytes.specs.declared.error.ReadError.TheVariants.{AddressSize}
-use Rattle.dwp_dwarf.specs.Units.{initial_length_at, address_size_at, type_at, older_type_at}
-use Rattle.dwp_dwarf.specs.Units.{unit_code_at, unit_type_at, older_at, newer_at, header_at}
-use Rattle.dwp_dwarf.specs.declared.unit.UnitSection.TheVariants.{Types}
+use Rattle.dwp_units.specs.Units.{initial_length_at, address_size_at, type_at, older_type_at}
+use Rattle.dwp_units.specs.Units.{unit_code_at, unit_type_at, older_at, newer_at, header_at}
+use Rattle.dwp_units.specs.declared.unit.UnitSection.TheVariants.{Types}
 use Rattle.thorin_join.proofs.Moved.Readings.{plain, moved, there, Shifts, there-is, readings}
 use Rattle.thorin_join.proofs.Moved.RootEntries.{shifted}
 

@@ -12,7 +12,7 @@ use Rattle.thorin_join.proofs.Rows.OfUnits.{is-unit_row, whole-else}
 use Rattle.thorin_join.proofs.Rows.OneAdded.{CanLie, own-place, place-put, row-name, row-other}
 use Rattle.thorin_join.proofs.Rows.OneAdded.{row-own}
 use Rattle.thorin_join.proofs.Parts.Appended.{content-with_bytes, content-with_parts}
-use Rattle.dwp_dwarf.specs.declared.unit.UnitSection.TheVariants as places
+use Rattle.dwp_units.specs.declared.unit.UnitSection.TheVariants as places
 
 -- one more unit behind the others
 module _ (order : Endianness) (place : UnitSection) (row : IndexEntry) (own : List ℕ) (at : ℕ)

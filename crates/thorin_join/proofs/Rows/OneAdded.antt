@@ -9,7 +9,7 @@ use Rattle.thorin_join.proofs.Rows.Stay.{grows-with_bytes, keep-lie, keep-shares
 use Rattle.thorin_join.proofs.Rows.Ranges.{lies-whole}
 use Rattle.thorin_join.proofs.Parts.Appended.{content-with_bytes}
 use Rattle.dwp_base.specs.declared.section.SectionKind.TheVariants as kinds
-use Rattle.dwp_dwarf.specs.declared.unit.UnitSection.TheVariants as places
+use Rattle.dwp_units.specs.declared.unit.UnitSection.TheVariants as places
 use Rattle.dwp_index.specs.Package as index
 
 -- the content of the kind that bytes are added to

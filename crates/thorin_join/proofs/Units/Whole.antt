@@ -5,7 +5,7 @@ use Terms.{Endianness, Header, inl, Input, inr, IsWhole, kind_of, length, List, 
 use Terms.{name_signature, nat_eq, Ok, place_for, ReadError, Result, same-ok, section, slice_get}
 use Terms.{Some, Source, source_units, suc, sym, take-append-drop, type_signature, unit_at}
 use Terms.{unit_taken, UnitRead, units, UnitSection, zero, ℕ, ◌++◌, ◌+◌, ◌-◌, ◌∙◌, ◌≡◌, ◌⊎◌}
-use Rattle.dwp_dwarf.specs.Units.{units_within}
+use Rattle.dwp_units.specs.Units.{units_within}
 use Rattle.dwp_index.proofs.TwoPlaces.{units_alone}
 use Rattle.thorin_join.proofs.Units.HeadersRead.{each-all, Listed, name-identity, Reads}
 use Rattle.thorin_join.proofs.Units.HeadersRead.{sections-are, WasRead}
@@ -13,7 +13,7 @@ use Rattle.thorin_join.proofs.Units.Sorts.{identity-sort}
 use Rattle.thorin_join.proofs.Moved.RootEntries.{IsShifted}
 use Rattle.thorin_join.proofs.Moved.Readings.{plain}
 use Rattle.thorin_join.proofs.Moved.Units.{FiveOrType, unit-anywhere, unit-five, unit-moves}
-use Rattle.dwp_dwarf.specs.declared.unit.UnitSection.TheVariants as places
+use Rattle.dwp_units.specs.declared.unit.UnitSection.TheVariants as places
 
 -- a unit as it is read of its own bytes alone
 pub record ReadsAlone (order : Endianness) (place : UnitSection) (unit : Header) : Type 0 where

@@ -1,5 +1,5 @@
 use Rattle.dwp_dwarf.proofs.Terms.{err_from_is_err_and, refl, sym, ◌∙◌}
-use Rattle.dwp_dwarf.proofs.Readings.{shorter}
+use Rattle.dwp_units.proofs.Readings.{shorter}
 use Rattle.dwp_dwarf.proofs.Tables.{reads_specification, specifications-cases, past-other}
 use Rattle.dwp_dwarf.proofs.abbrev.after_specifications.Goals as goal
 

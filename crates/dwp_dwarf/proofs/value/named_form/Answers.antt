@@ -1,5 +1,5 @@
 use Rattle.dwp_dwarf.proofs.Terms.{err_from_is_err_and, ne_eqb, refl, sym, ◌∙◌}
-use Rattle.dwp_dwarf.proofs.Readings.{reads_uleb, shorter}
+use Rattle.dwp_units.proofs.Readings.{reads_uleb, shorter}
 use Rattle.dwp_dwarf.proofs.Values.{named_form-cases}
 use Rattle.dwp_dwarf.proofs.value.named_form.Goals as goal
 

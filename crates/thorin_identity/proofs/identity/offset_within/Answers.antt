@@ -1,6 +1,6 @@
 use Rattle.std.proofs.Common.{◌≡◌, ◌∙◌, ◌+◌, Ok, Some, length, min, rules, arith, ap, sym}
-use Rattle.dwp_dwarf.specs.Entries.{root_code_at}
-use Rattle.dwp_dwarf.specs.Units.{unit_of}
+use Rattle.dwp_units.specs.AbbreviationCodes.{root_code_at}
+use Rattle.dwp_units.specs.Units.{unit_of}
 use Rattle.thorin_identity.specs.Identity.{root_identity, part_between}
 use Rattle.thorin_identity.proofs.Parts.{part_min, root_within}
 use Rattle.thorin_identity.proofs.identity.offset_within.Goals as goal

@@ -1,5 +1,5 @@
 use Rattle.std.proofs.Common.{◌≡◌, rules, ap, subst, drop, take}
-use Rattle.dwp_dwarf.specs.Units.{unit_of}
+use Rattle.dwp_units.specs.Units.{unit_of}
 use Rattle.thorin_errors.specs.Answers.{Gives}
 use Rattle.thorin_identity.specs.Identity.{part_between}
 use Rattle.thorin_identity.proofs.Parts.{root_alike}

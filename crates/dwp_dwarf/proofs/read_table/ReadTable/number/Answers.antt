@@ -1,6 +1,6 @@
 use Rattle.dwp_dwarf.proofs.Terms.{declaration_of, none_met, sym, ◌∙◌, ◌≡◌}
 use Rattle.dwp_dwarf.proofs.NeededAttributes.{first_needed}
-use Rattle.dwp_dwarf.proofs.Readings.{one_answer}
+use Rattle.dwp_units.proofs.Readings.{one_answer}
 use Rattle.dwp_dwarf.proofs.read_table.ReadTable.number.Goals as goal
 
 pub returns-in-Some-clause-number : goal.returns-in-Some-clause-number

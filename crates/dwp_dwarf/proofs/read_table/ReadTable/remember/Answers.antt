@@ -1,6 +1,6 @@
 use Rattle.dwp_dwarf.proofs.Terms.{sym, ◌≡◌}
 use Rattle.dwp_dwarf.proofs.Keys.{by_key}
-use Rattle.dwp_dwarf.proofs.Readings.{one_answer}
+use Rattle.dwp_units.proofs.Readings.{one_answer}
 use Rattle.dwp_dwarf.proofs.read_table.ReadTable.remember.Goals as goal
 
 pub returns-then-put_known : goal.returns-then-put_known

@@ -1,6 +1,6 @@
 use Rattle.dwp_dwarf.proofs.Terms.{declaration_of, sym, ◌≡◌}
 use Rattle.dwp_dwarf.proofs.NeededAttributes.{split_needed}
-use Rattle.dwp_dwarf.proofs.Readings.{one_answer}
+use Rattle.dwp_units.proofs.Readings.{one_answer}
 use Rattle.dwp_dwarf.proofs.read_table.ReadTable.split.Goals as goal
 
 pub returns-in-Some-clause-split : goal.returns-in-Some-clause-split

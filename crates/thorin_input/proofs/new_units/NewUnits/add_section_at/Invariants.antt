@@ -1,7 +1,7 @@
 use Rattle.std.proofs.Common.{Some, ◌&&◌, ◌≡◌}
 use Rattle.std.specs.List.{list_all}
 use Rattle.dwp_bytes.specs.Input.{section}
-use Rattle.dwp_dwarf.specs.Units.{units, units_left}
+use Rattle.dwp_units.specs.Units.{units, units_left}
 use Rattle.thorin_input.specs.Encodings.{all_have, has_encoding}
 use Rattle.thorin_input.specs.NewUnits.{with_each_read, with_met}
 use Rattle.thorin_input.specs.View.{used}

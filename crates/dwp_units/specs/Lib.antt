@@ -1,0 +1,2 @@
+pub mod AbbreviationCodes
+pub mod Units

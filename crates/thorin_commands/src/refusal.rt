@@ -1,0 +1,35 @@
+//! Why nothing was packed.
+
+ghost use Rattle.std.specs.Prelude.{◌≡◌};
+ghost use Rattle.thorin_commands.specs.declared.refusal.Refusal.TheVariants.{Command};
+ghost use Rattle.thorin_queries.specs.declared.output.Failure.TheVariants.{Memory};
+
+use std::alloc::AllocError;
+use thorin_queries::Failure;
+
+/// Why nothing was packed.
+#[derive(Clone, Copy)]
+pub(crate) enum Refusal {
+    /// No input began a package, which isn't told yet.
+    Empty,
+    /// An input was refused, or the package could not be finished, and that was told.
+    Told,
+    /// What the command was given can't be done.
+    Command(Failure),
+}
+
+impl From<Failure> for Refusal {
+    ghost from_gives = { λ failure refusal. refusal ≡ Command failure };
+
+    fn from(failure: Failure) -> Refusal {
+        Refusal::Command(failure)
+    }
+}
+
+impl From<AllocError> for Refusal {
+    ghost from_gives = { λ _ refusal. refusal ≡ Command Memory };
+
+    fn from(_e: AllocError) -> Refusal {
+        Refusal::Command(Failure::Memory)
+    }
+}

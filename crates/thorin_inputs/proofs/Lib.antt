@@ -1,0 +1,3 @@
+mod Last
+mod Prefixing
+mod Standing

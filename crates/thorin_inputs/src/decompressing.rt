@@ -1,0 +1,17 @@
+//! Files with plain sections in place of compressed ones.
+
+ghost use Rattle.std.specs.Prelude.{OnOk};
+ghost use Rattle.thorin_queries.specs.Plain.{IsPlainOf};
+
+use std::alloc::{AllocError, Global};
+use thorin_queries::plain_of;
+
+/// Puts plain sections in place of a file's compressed ones, where that is done.
+pub fn decompress(alloc: Global, file: &mut Vec<u8>) -> Result<(), AllocError>
+    ensures { OnOk result (IsPlainOf file.old.items file.new.items) }
+{
+    if let Some(plain) = plain_of(alloc, file)? {
+        *file = plain;
+    }
+    Ok(())
+}

@@ -1,0 +1,133 @@
+//! Which encodings the inputs have, and the first input of each.
+
+use crate::notes::place_of;
+use dwp_bytes::{Encoding, Format};
+use dwp_dwarf::{SliceReader, UnitHeaders, UnitSection};
+use dwp_elf::{ElfFile, Endianness};
+use std::alloc::{AllocError, Global};
+use std::cell::Cell;
+
+/// The encodings of the inputs so far, with the first input of each, for notes.
+#[derive(Drop)]
+pub struct Encodings {
+    alloc: Global,
+    /// What was found; none where that isn't kept, or there was no memory for it.
+    found: Cell<Option<Vec<First>>>,
+}
+
+/// The first input of an encoding.
+#[derive(Drop)]
+struct First {
+    encoding: Encoding,
+    order: Endianness,
+    place: String,
+}
+
+impl Encodings {
+    /// None yet.
+    pub fn new(alloc: Global, keeps: bool) -> Encodings {
+        let found = if keeps { Some(Vec::new(alloc)) } else { None };
+        Encodings {
+            alloc,
+            found: Cell::new(found),
+        }
+    }
+
+    /// Keeps the encoding of a file of an input, which may be named by another, where it is new.
+    /// Where there is no memory for it, nothing is kept any more.
+    pub fn keep_new(&self, file: &[u8], own: &str, named: Option<&str>) {
+        if let Some(mut found) = self.found.replace(None) {
+            let of_file = encoding_of(file);
+            if add_new(self.alloc, &mut found, of_file, own, named).is_ok() {
+                self.found.set(Some(found));
+            }
+        }
+    }
+
+    /// A line `note: ` for each encoding with its first input, where there are several.
+    ///
+    /// # Errors
+    /// Want of memory.
+    pub fn notes(&self) -> Result<Option<String>, AllocError> {
+        match self.found.replace(None) {
+            Some(found) if found.len() > 1 => Ok(Some(lines_of(self.alloc, found.as_slice())?)),
+            _ => Ok(None),
+        }
+    }
+}
+
+/// Adds the encoding of a file, if it has one that is new, to what was found.
+fn add_new(
+    alloc: Global,
+    found: &mut Vec<First>,
+    of_file: Option<(Encoding, Endianness)>,
+    own: &str,
+    named: Option<&str>,
+) -> Result<(), AllocError> {
+    let Some((encoding, order)) = of_file else {
+        return Ok(());
+    };
+    if has(found, encoding, order) {
+        return Ok(());
+    }
+    let place = place_of(alloc, own, named)?;
+    found.push(First {
+        encoding,
+        order,
+        place,
+    })?;
+    Ok(())
+}
+
+/// Whether an encoding was found.
+fn has(found: &[First], encoding: Encoding, order: Endianness) -> bool {
+    for first in found {
+        if first.encoding == encoding && first.order == order {
+            return true;
+        }
+    }
+    false
+}
+
+/// The encoding and the byte order of an object or a package, which are those of its first unit;
+/// none where it has none that can be read.
+fn encoding_of(file: &[u8]) -> Option<(Encoding, Endianness)> {
+    let file = ElfFile::parse(file).ok()?;
+    let section = file.section_by_name(".debug_info.dwo")?;
+    let bytes = section.data().ok()?;
+    let order = file.endianness();
+    let mut units = UnitHeaders::new(SliceReader::new(bytes, order), UnitSection::Info);
+    match units.next() {
+        Some(Ok(unit)) => Some((unit.encoding(), order)),
+        _ => None,
+    }
+}
+
+/// The lines of encodings.
+fn lines_of(alloc: Global, found: &[First]) -> Result<String, AllocError> {
+    let mut lines = String::new(alloc);
+    for first in found {
+        put_line(first, &mut lines)?;
+    }
+    Ok(lines)
+}
+
+/// Adds the line of an encoding.
+fn put_line(first: &First, lines: &mut String) -> Result<(), AllocError> {
+    let place = first.place.as_str();
+    let version = first.encoding.version;
+    let bits = match first.encoding.format {
+        Format::Dwarf32 => 32,
+        Format::Dwarf64 => 64,
+    };
+    let size = first.encoding.address_size;
+    let order = match first.order {
+        Endianness::Little => "little-endian",
+        Endianness::Big => "big-endian",
+    };
+    writeln!(
+        lines,
+        "note: {place}: DWARF {version}, {bits}-bit, {size}-byte addresses, {order}"
+    )?;
+    Ok(())
+}

@@ -1,0 +1,27 @@
+//! What `pack` looks for in the bytes of an input, or changes of them, before they are packed, and
+//! how inputs are named in notes.
+#![tactic(auto)]
+
+mod counting;
+mod decompressing;
+mod encodings;
+mod given;
+mod growth;
+mod inner;
+mod macros;
+mod notes;
+mod prefixes;
+mod used;
+
+pub use counting::count_units;
+pub use decompressing::decompress;
+pub use encodings::Encodings;
+pub use given::place_among;
+pub use growth::{Growth, Repetitions, has_overlap};
+pub use inner::has_inner_strings;
+pub use macros::{MacroWarnings, keep_last_macros};
+pub use notes::{
+    Unread, note_alone, note_before, note_reason, note_refused, note_twice_in, note_unread,
+    place_of, place_of_member, reason,
+};
+pub use prefixes::mapped;

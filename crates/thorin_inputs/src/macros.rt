@@ -1,0 +1,98 @@
+//! Objects with several sections of macros: the last alone counts where that is asked for, else a
+//! warning tells of them.
+
+ghost use Rattle.std.specs.Prelude.{OnOk};
+ghost use Rattle.thorin_inputs.specs.Macros.{IsLastOf};
+
+use crate::notes::place_of;
+use dwp_macros::{MacrosError, has_several_macros, with_last_macros};
+use std::alloc::{AllocError, Global};
+use std::cell::Cell;
+
+/// Leaves only the last of a file's sections of macros its bytes. A file stays as it is where that
+/// can't be written.
+#[tactic(auto, using(crate::proofs::Last::is_last, crate::proofs::Last::stays))]
+pub fn keep_last_macros(alloc: Global, file: &mut Vec<u8>) -> Result<(), AllocError>
+    ensures { OnOk result (IsLastOf file.old.items file.new.items) }
+{
+    match with_last_macros(alloc, file) {
+        Ok(Some(last)) => {
+            *file = last;
+            Ok(())
+        }
+        Ok(None) => Ok(()),
+        Err(MacrosError::Memory) => Err(AllocError),
+        Err(MacrosError::Unrepresentable) => Ok(()),
+    }
+}
+
+/// Warnings of objects with several sections of macros, one for each input.
+#[derive(Drop)]
+pub struct MacroWarnings {
+    alloc: Global,
+    /// Whether such objects are looked for.
+    looks: bool,
+    /// Whether the input has one.
+    found: Cell<bool>,
+    lines: Cell<Option<String>>,
+}
+
+impl MacroWarnings {
+    /// None yet.
+    pub fn new(alloc: Global, looks: bool) -> MacroWarnings {
+        MacroWarnings {
+            alloc,
+            looks,
+            found: Cell::new(false),
+            lines: Cell::new(None),
+        }
+    }
+
+    /// Begins an input.
+    pub fn begin(&self) {
+        self.found.set(false);
+    }
+
+    /// Looks for several sections of macros in a file of the input, which may be named by another:
+    /// a warning tells of the first such file.
+    ///
+    /// # Errors
+    /// Want of memory.
+    pub fn look_for_several(
+        &self,
+        file: &[u8],
+        own: &str,
+        named: Option<&str>,
+    ) -> Result<(), AllocError> {
+        if !self.looks || self.found.get() || !has_several_macros(file) {
+            return Ok(());
+        }
+        self.found.set(true);
+        let place = place_of(self.alloc, own, named)?;
+        self.add(place.as_str())
+    }
+
+    /// Adds a line.
+    fn add(&self, place: &str) -> Result<(), AllocError> {
+        let line = format!(in self.alloc;
+            "warning: {place}: several .debug_macro.dwo sections: --last-macros keeps the last\n"
+        )?;
+        let lines = match self.lines.replace(None) {
+            Some(mut lines) => {
+                lines.push_str(line.as_str())?;
+                lines
+            }
+            None => line,
+        };
+        self.lines.set(Some(lines));
+        Ok(())
+    }
+
+    /// The lines so far.
+    pub fn take(&self) -> String {
+        match self.lines.replace(None) {
+            Some(lines) => lines,
+            None => String::new(self.alloc),
+        }
+    }
+}

@@ -1,0 +1,99 @@
+//! The sections of an object or a package that are used.
+
+use dwp_base::SectionKind;
+use dwp_elf::{ElfFile, Endianness, Section};
+use dwp_index::UnitIndex;
+
+/// The sections of a file that are used. Of strings and of each index that is the first that isn't
+/// empty: its content, or nothing where it is compressed, or can't be read.
+#[derive(Clone, Copy)]
+pub(crate) struct Used<'a> {
+    pub(crate) strings: Option<&'a [u8]>,
+    compilations: Option<&'a [u8]>,
+    types: Option<&'a [u8]>,
+    pub(crate) has_units: bool,
+    /// How many bytes all of them have.
+    size: u64,
+}
+
+impl<'a> Used<'a> {
+    /// Those of a file.
+    pub(crate) fn of(file: &ElfFile<'a>) -> Used<'a> {
+        let mut used = Used {
+            strings: None,
+            compilations: None,
+            types: None,
+            has_units: false,
+            size: 0,
+        };
+        for section in file.sections() {
+            if let Some(kind) = section.section_kind() {
+                used.add(kind, &section);
+            }
+        }
+        used
+    }
+
+    /// Adds a section of a kind.
+    fn add(&mut self, kind: SectionKind, section: &Section<'a>) {
+        self.has_units = self.has_units || matches!(kind, SectionKind::Info);
+        if section.is_empty() {
+            return;
+        }
+        let first = match kind {
+            SectionKind::Str => &mut self.strings,
+            SectionKind::CuIndex => &mut self.compilations,
+            SectionKind::TuIndex => &mut self.types,
+            _ => {
+                self.size = self.size.saturating_add(section.size());
+                return;
+            }
+        };
+        if first.is_none() {
+            *first = Some(content(section));
+            self.size = self.size.saturating_add(section.size());
+        }
+    }
+
+    /// How many bytes they have. None is used where there is none of units.
+    pub(crate) fn size(&self) -> u64 {
+        if self.has_units { self.size } else { 0 }
+    }
+
+    /// Whether no unit of a package has string offsets that begin between words of their section.
+    pub(crate) fn has_aligned_offsets(&self, order: Endianness) -> bool {
+        are_aligned(self.compilations, order) && are_aligned(self.types, order)
+    }
+}
+
+/// The plain content of a section; nothing where it is compressed, or can't be read.
+pub(crate) fn content<'a>(section: &Section<'a>) -> &'a [u8] {
+    if section.is_compressed() {
+        return &[];
+    }
+    section.data().unwrap_or(&[])
+}
+
+/// Whether no unit of an index, if it is one, has string offsets that begin between words.
+fn are_aligned(index: Option<&[u8]>, order: Endianness) -> bool {
+    let Some(bytes) = index else {
+        return true;
+    };
+    let Ok(index) = UnitIndex::parse(bytes, order) else {
+        return true;
+    };
+    if !index.has_column(SectionKind::StrOffsets) {
+        return true;
+    }
+    for number in 0..index.unit_count() {
+        let range = match index.row(number.saturating_add(1)) {
+            Ok(row) => row.range(SectionKind::StrOffsets),
+            Err(_) => None,
+        };
+        match range {
+            Some(range) if range.offset.0 % 4 != 0 => return false,
+            _ => {}
+        }
+    }
+    true
+}

@@ -1,0 +1,115 @@
+//! The files that `pack` reads, and the one that it writes, as a trait; and those of the system.
+
+ghost use Rattle.std.specs.Prelude.{ℕ, List, Result, Option, Some, None, OnOk, OnErr, IfErr};
+ghost use Rattle.std.specs.Path.{path_bytes};
+ghost use Rattle.std.specs.declared.io.Error.{Error as IoError};
+ghost use Rattle.dwp_elf.specs.FileText.{file_text};
+ghost use Rattle.thorin_sessions.specs.Sessions.{IsNoWantOfMemory};
+ghost use Rattle.thorin_output.specs.Files.{Begun, Adds, IsOfWriting};
+ghost use Rattle.thorin_output.specs.Reads.{anything, IsReadOver};
+
+use crate::output::hand_over;
+use dwp_elf::WritableObject;
+use std::io::Write;
+use std::path::Path;
+use thorin_errors::InputError;
+use thorin_files::{Contents, WriteError};
+use thorin_queries::Failure;
+
+/// The files that `pack` reads and writes. It has no other way to a file.
+pub trait FileSystem {
+    // What a read of the file at a path may answer.
+    ghost offer: { Self → List ℕ → Result (List ℕ) IoError → Type 0 };
+
+    // The files that were begun, in order, where that is known: the name of each, with all its
+    // bytes where it was written to its end.
+    ghost begun: { Self → Option (List Begun) } = { λ _. None };
+
+    /// Reads the file at a path whole, into room that other files were read into before.
+    ///
+    /// # Errors
+    /// Why it couldn't be read; want of memory is `InputError::Memory` alone.
+    fn read_over(&self, path: Path<'_>, room: &mut Vec<u8>) -> Result<(), InputError>
+        ensures offered { IsReadOver (offer self.now (path_bytes path.entry)) room.new.items
+            result }
+        ensures memory { IfErr result IsNoWantOfMemory };
+
+    /// The same of a regular file; all else, as a pipe, is refused before it is opened.
+    ///
+    /// # Errors
+    /// As those of `read_over`.
+    fn read_regular_over(&self, path: Path<'_>, room: &mut Vec<u8>) -> Result<(), InputError>
+        ensures offered { IsReadOver (offer self.now (path_bytes path.entry)) room.new.items
+            result }
+        ensures memory { IfErr result IsNoWantOfMemory };
+
+    /// The device and the number of the file at a path, by which two names of one file are known.
+    /// None where there is no file.
+    fn identity(&self, name: &str) -> Option<(u64, u64)>;
+
+    /// Whether there is a regular file at a path.
+    fn is_regular(&self, name: &str) -> bool;
+
+    /// Writes an object's file under a name.
+    ///
+    /// # Errors
+    /// `Output` where it can't be written to its end, `Memory`.
+    fn write_object(&mut self, object: &WritableObject, name: &str) -> Result<(), Failure>
+        ensures whole { OnOk result
+            (Adds (begun self.old) (begun self.new) (name.now, Some (file_text object.now))) }
+        ensures part { OnErr result (Adds (begun self.old) (begun self.new) (name.now, None)) }
+        ensures cause { IfErr result IsOfWriting };
+}
+
+/// The files of the system. What has no end, as a device, isn't read.
+#[derive(Drop)]
+pub struct HostFiles<'a> {
+    rt: &'a HostRuntime,
+}
+
+impl<'a> HostFiles<'a> {
+    /// The files of this runtime.
+    pub fn new(rt: &'a HostRuntime) -> HostFiles<'a> {
+        HostFiles { rt }
+    }
+}
+
+impl FileSystem for HostFiles<'_> {
+    ghost offer = { λ _. anything };
+
+    fn read_over(&self, path: Path<'_>, room: &mut Vec<u8>) -> Result<(), InputError> {
+        thorin_files::read_over(self.rt, path, room)?;
+        Ok(())
+    }
+
+    fn read_regular_over(&self, path: Path<'_>, room: &mut Vec<u8>) -> Result<(), InputError> {
+        thorin_files::read_regular_over(self.rt, path, room)?;
+        Ok(())
+    }
+
+    fn identity(&self, name: &str) -> Option<(u64, u64)> {
+        thorin_files::identity(self.rt, name)
+    }
+
+    fn is_regular(&self, name: &str) -> bool {
+        thorin_files::is_file(self.rt, name)
+    }
+
+    fn write_object(&mut self, object: &WritableObject, name: &str) -> Result<(), Failure> {
+        match thorin_files::write(self.rt, &PackageFile(object), name) {
+            Ok(()) => Ok(()),
+            Err(WriteError::Output) => Err(Failure::Output),
+            Err(WriteError::Memory) => Err(Failure::Memory),
+        }
+    }
+}
+
+/// A package, as what its file is to hold.
+#[derive(Drop)]
+struct PackageFile<'o>(&'o WritableObject);
+
+impl Contents for PackageFile<'_> {
+    fn is_written<W: Write>(&self, file: &mut W) -> bool {
+        hand_over(self.0, file).is_ok()
+    }
+}

@@ -1,0 +1,10 @@
+//! Writing the file of a package, and the warnings that are printed behind it.
+#![tactic(auto)]
+
+mod files;
+mod output;
+mod warnings;
+
+pub use files::{FileSystem, HostFiles};
+pub use output::flush;
+pub use warnings::{Warned, Warnings, write_then_warn};

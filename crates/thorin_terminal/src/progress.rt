@@ -1,0 +1,175 @@
+//! How far packing is, in a line on a terminal that is gone again before anything else is printed.
+
+ghost use Rattle.thorin_output.specs.Reads.{anything};
+
+use dwp_elf::WritableObject;
+use std::cell::Cell;
+use std::io::{self, Write};
+use std::path::Path;
+use std::time::Instant;
+use thorin_errors::InputError;
+use thorin_output::{FileSystem, HostFiles};
+use thorin_queries::Failure;
+
+/// Standard error, with a line that tells how far packing is.
+#[derive(Drop)]
+pub struct Console<'r, 'e, E> {
+    rt: &'r HostRuntime,
+    err: Cell<Option<&'e mut E>>,
+    /// When packing began; none where that isn't told.
+    start: Option<Instant>,
+    /// How many milliseconds must pass from one line to the next, and before the first.
+    pause: u64,
+    next: Cell<u64>,
+    /// How many files are to be read, where that is known.
+    all: Option<u64>,
+    /// How many files were read, and their bytes.
+    files: Cell<u64>,
+    bytes: Cell<u64>,
+    is_shown: Cell<bool>,
+}
+
+impl<'r, 'e, E: Write> Console<'r, 'e, E> {
+    /// That of a packing that begins now. How far it is is told after some milliseconds, if at all.
+    pub fn new(
+        rt: &'r HostRuntime,
+        err: &'e mut E,
+        patience: Option<u64>,
+        all: Option<u64>,
+    ) -> Console<'r, 'e, E> {
+        let start = match patience {
+            Some(_) => Instant::now(rt).ok(),
+            None => None,
+        };
+        let patience = patience.unwrap_or(0);
+        Console {
+            rt,
+            err: Cell::new(Some(err)),
+            start,
+            pause: patience / 10,
+            next: Cell::new(patience),
+            all,
+            files: Cell::new(0),
+            bytes: Cell::new(0),
+            is_shown: Cell::new(false),
+        }
+    }
+
+    /// Counts a file that was read, and tells how far packing is where it is time for that.
+    fn count(&self, size: usize) {
+        self.files.set(self.files.get().saturating_add(1));
+        self.bytes.set(self.bytes.get().saturating_add(size as u64));
+        let Some(start) = &self.start else {
+            return;
+        };
+        let Ok(passed) = start.elapsed(self.rt) else {
+            return;
+        };
+        let passed = u64::try_from(passed.as_millis()).unwrap_or(u64::MAX);
+        if passed >= self.next.get() {
+            self.next.set(passed.saturating_add(self.pause));
+            self.show();
+        }
+    }
+
+    /// Prints the line in place of the one before.
+    fn show(&self) {
+        let files = self.files.get();
+        let megabytes = self.bytes.get() / 1_000_000;
+        if let Some(err) = self.err.replace(None) {
+            let shown = match self.all {
+                Some(all) => write!(err, "\rpacking {files} of {all}, {megabytes} MB\x1b[K"),
+                None => write!(err, "\rpacking {files}, {megabytes} MB\x1b[K"),
+            };
+            self.is_shown.set(shown.is_ok());
+            self.err.set(Some(err));
+        }
+    }
+
+    /// Takes the line away, where there is one.
+    pub fn clear(&self) {
+        if self.is_shown.replace(false) {
+            if let Some(err) = self.err.replace(None) {
+                let _ = write!(err, "\r\x1b[K");
+                self.err.set(Some(err));
+            }
+        }
+    }
+}
+
+/// The lines that are printed while packing.
+#[derive(Drop)]
+pub struct Lines<'c, 'r, 'e, E>(pub &'c Console<'r, 'e, E>);
+
+impl<E: Write> Write for Lines<'_, '_, '_, E> {
+    fn write(&mut self, bytes: &[u8]) -> io::Result<usize> {
+        self.0.clear();
+        match self.0.err.replace(None) {
+            Some(err) => {
+                let written = err.write(bytes);
+                self.0.err.set(Some(err));
+                written
+            }
+            None => Err(io::Error::from(io::ErrorKind::Other)),
+        }
+    }
+
+    fn flush(&mut self) -> io::Result<()> {
+        match self.0.err.replace(None) {
+            Some(err) => {
+                let flushed = err.flush();
+                self.0.err.set(Some(err));
+                flushed
+            }
+            None => Ok(()),
+        }
+    }
+}
+
+/// The files of the system, of which is counted what is read.
+#[derive(Drop)]
+pub struct CountedFiles<'c, 'r, 'e, E> {
+    files: HostFiles<'r>,
+    console: &'c Console<'r, 'e, E>,
+}
+
+impl<'c, 'r, 'e, E: Write> CountedFiles<'c, 'r, 'e, E> {
+    /// The files of the runtime.
+    pub fn new(
+        rt: &'r HostRuntime,
+        console: &'c Console<'r, 'e, E>,
+    ) -> CountedFiles<'c, 'r, 'e, E> {
+        CountedFiles {
+            files: HostFiles::new(rt),
+            console,
+        }
+    }
+}
+
+impl<E: Write> FileSystem for CountedFiles<'_, '_, '_, E> {
+    ghost offer = { λ _. anything };
+
+    fn read_over(&self, path: Path<'_>, room: &mut Vec<u8>) -> Result<(), InputError> {
+        self.files.read_over(path, room)?;
+        self.console.count(room.len());
+        Ok(())
+    }
+
+    fn read_regular_over(&self, path: Path<'_>, room: &mut Vec<u8>) -> Result<(), InputError> {
+        self.files.read_regular_over(path, room)?;
+        self.console.count(room.len());
+        Ok(())
+    }
+
+    fn identity(&self, name: &str) -> Option<(u64, u64)> {
+        self.files.identity(name)
+    }
+
+    fn is_regular(&self, name: &str) -> bool {
+        self.files.is_regular(name)
+    }
+
+    fn write_object(&mut self, object: &WritableObject, name: &str) -> Result<(), Failure> {
+        self.files.write_object(object, name)
+    }
+}

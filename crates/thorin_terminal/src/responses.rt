@@ -1,0 +1,61 @@
+//! Response files of the system.
+
+ghost use Rattle.std.specs.Prelude.{◌≡◌, None};
+ghost use Rattle.thorin_words.specs.Responses.{is_inside_of};
+
+use std::cell::Cell;
+use std::io;
+use thorin_words::{ResponseError, ResponseFiles};
+
+/// The files of the system. What has no end, as a device, isn't read.
+#[derive(Drop)]
+pub struct HostResponses<'r> {
+    rt: &'r HostRuntime,
+    /// The name of the file that couldn't be read.
+    unread: Cell<Option<String>>,
+}
+
+impl<'r> HostResponses<'r> {
+    /// The files of this runtime.
+    pub fn new(rt: &'r HostRuntime) -> HostResponses<'r> {
+        HostResponses {
+            rt,
+            unread: Cell::new(None),
+        }
+    }
+
+    /// The name of the file that couldn't be read.
+    pub fn unread(&self) -> Option<String> {
+        self.unread.replace(None)
+    }
+}
+
+impl ResponseFiles for HostResponses<'_> {
+    ghost offer = { λ _ _ _. Unit {0} };
+
+    fn text(&self, name: &str, most: u32) -> Result<Option<Vec<u8>>, ResponseError> {
+        let rt = self.rt;
+        if !thorin_files::is_there(rt, name) {
+            return Ok(None);
+        }
+        match thorin_files::read_within(rt, name, most) {
+            Ok(Some(bytes)) => Ok(Some(bytes)),
+            Ok(None) => Err(ResponseError::TooLong),
+            Err(e) => {
+                self.unread.set(String::from_str(rt.alloc(), name).ok());
+                Err(read_error(&e))
+            }
+        }
+    }
+}
+
+/// What a failed read of a file is.
+fn read_error(e: &io::Error) -> ResponseError
+    ensures { is_inside_of result ≡ None }
+{
+    if e.kind() == io::ErrorKind::OutOfMemory {
+        ResponseError::Memory
+    } else {
+        ResponseError::Unreadable
+    }
+}
