@@ -231,11 +231,11 @@ def lanes():
     return max(1, min(len(os.sched_getaffinity(0)), free // 3_000_000_000))
 
 
-def prove(copy, say, on_proved=lambda name: None, shown=lambda line: False, anew=False):
+def prove(copy, say, on_proved=lambda name: None, shown=lambda line: False, anew=False, idle_cores=False):
     """Runs `rt ci` in the copy, over what earlier runs on this machine proved or anew; its status, its last line, and the seconds of one core by crate and part."""
     listed, start = crates_listed(copy.at), time.time()
     left, known = set(listed), costs()
-    words = [f"{os.path.dirname(COSTS)}/kept-ci", *["--anew"] * anew]
+    words = [f"{os.path.dirname(COSTS)}/kept-ci", *["--anew"] * anew, *["--idle-cores"] * idle_cores]
     asked = {**os.environ, "RT_JOBS": os.environ.get("RT_JOBS") or str(lanes())}
     ran = subprocess.Popen(words, cwd=copy.at, env=asked, stdin=subprocess.DEVNULL, stdout=subprocess.PIPE, stderr=subprocess.STDOUT, text=True, errors="replace")
     meter = Meter(ran.pid)
@@ -256,6 +256,8 @@ def prove(copy, say, on_proved=lambda name: None, shown=lambda line: False, anew
             say(f"{minutes:5.1f} min: {done[1]} {state}; {len(left)} crates left, about {rest:.0f} minutes of one core of the reference machine")
             if done[2] != "NOT PROVED":
                 on_proved(done[1])
+            elif ": its library " in line:
+                say(line)
             else:
                 say("\n".join(it for it in log[about:] if not it.endswith(": proved") and not it.startswith("statements ")))
         elif tests:
