@@ -8,34 +8,43 @@ ghost use Rattle.dwp_decompress.specs.declared.error.Refusal.TheVariants as refu
 use dwp_elf_read::ReadError;
 use dwp_inflate::InflateError;
 use std::alloc::{AllocError, AllocFailed};
-use thiserror::Error;
+use std::fmt;
 
 /// Why a file can't be decompressed.
-#[derive(Clone, Copy, Debug, PartialEq, Eq, Hash, Error)]
+#[derive(Clone, Copy, Debug, PartialEq, Eq, Hash)]
 pub enum DecompressError {
     /// The file isn't ELF, or a compressed section lies outside of it.
-    #[error("File can't be read")]
     Read(ReadError),
     /// A compressed section is shorter than its header, or lacks the older header's `ZLIB`.
-    #[error("Bad header of a compressed section")]
     Header,
     /// A section is compressed by zstd.
-    #[error("Section is compressed by zstd")]
     Zstd,
     /// A section is compressed in a way that isn't known.
-    #[error("Unknown type of compression")]
     UnknownType(u32),
     /// A section's stream is damaged, or isn't of the size that was said.
-    #[error("Compressed section can't be read")]
     Stream(InflateError),
     /// No file of the class has this content: it is too large, or the section with the sections'
     /// names is itself compressed.
-    #[error("Decompressed file can't be written")]
     Unrepresentable,
     /// Memory ran out.
-    #[error("Out of memory")]
     Memory,
 }
+
+impl fmt::Display for DecompressError {
+    fn fmt<W: fmt::Write>(&self, f: &mut fmt::Formatter<W>) -> fmt::Result {
+        f.write_str(match self {
+            DecompressError::Read(_) => "File can't be read",
+            DecompressError::Header => "Bad header of a compressed section",
+            DecompressError::Zstd => "Section is compressed by zstd",
+            DecompressError::UnknownType(_) => "Unknown type of compression",
+            DecompressError::Stream(_) => "Compressed section can't be read",
+            DecompressError::Unrepresentable => "Decompressed file can't be written",
+            DecompressError::Memory => "Out of memory",
+        })
+    }
+}
+
+impl std::error::Error for DecompressError {}
 
 /// Why a file that was read can't be written.
 #[derive(Clone, Copy)]

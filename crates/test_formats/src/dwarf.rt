@@ -1,40 +1,35 @@
 //! Calls of `dwp_dwarf`: units and their root entries, read from bytes.
 
-ghost use Rattle.dwp_bytes.specs.Relocation.{ascends};
-ghost use Rattle.std.specs.Prelude.{IsTrue};
-
-use crate::reading::slice;
+use crate::reading::{relocated, slice};
 use dwp_dwarf::*;
 use test_rows::{Row, Said, Text, number, place, split};
 
 /// Makes the call of a row, with readers of its words 1 to 5 and of strings.
-pub fn call<R: Reader>(words: [R; 5], strings: [R; 3], row: Row<'_>, said: &mut Said) {
+pub fn call<R: Reader>(words: &[R; 5], strings: &[R; 3], row: Row<'_>, said: &mut Said) {
     match row.word(0) {
-        "unit" => unit(words[2], words[3], section(row), said),
-        "relocated_unit" => relocated(words[0], words[1], &ROOT, UnitSection::Info, said),
-        "relocated_type_unit" => {
-            relocated(words[0], words[1], &TYPE_UNIT, UnitSection::Types, said)
-        }
+        "unit" => unit(words[2], words[3], row, said),
+        "relocated_unit" => relocated(&ROOT, words[0], words[1], row, said),
+        "relocated_type_unit" => relocated(&TYPE_UNIT, words[0], words[1], row, said),
         "attribute" => put_text(strings, row.number(1), words[1], said),
         _ => call_of_tables(words, row, said),
     }
 }
 
-fn call_of_tables<R: Reader>(words: [R; 5], row: Row<'_>, said: &mut Said) {
+fn call_of_tables<R: Reader>(words: &[R; 5], row: Row<'_>, said: &mut Said) {
     match row.word(0) {
-        "remembered" => remembered(row, words[0], row.rest(2), said),
-        "declares_within" => declares_within(row, words[0], said),
+        "remembered" | "declares_within" => remembered(row, words[0], said),
         "sizes" => sizes(row.bytes(1), row.rest(2), said),
         "object" => object(words, row, said),
         _ => crate::elf_read::call(row, said),
     }
 }
 
-/// A section of units by its name.
-fn section(row: Row<'_>) -> UnitSection {
-    match row.word(1) {
-        "types" => UnitSection::Types,
-        _ => UnitSection::Info,
+/// A section of units by its name, or by that of the row.
+pub fn section(row: Row<'_>) -> UnitSection {
+    if row.word(1) == "types" || row.word(0) == "relocated_type_unit" {
+        UnitSection::Types
+    } else {
+        UnitSection::Info
     }
 }
 
@@ -66,23 +61,22 @@ fn identified<R: Reader>(root: Result<Option<RootEntry<R>>, ReadError>) -> Root 
 }
 
 fn numbered<R: Reader>(entry: RootEntry<R>) -> Root {
-    let mut identifier = Ok(None);
+    let mut identifier = None;
     for attribute in entry.attributes {
-        identifier = identifier_after(identifier, attribute);
+        match attribute {
+            Ok(attribute) => identifier = identifier.or(identifier_of(&attribute)),
+            Err(error) => return Err(error),
+        }
     }
-    Ok(Some((entry.tag, identifier?)))
+    Ok(Some((entry.tag, identifier)))
 }
 
-fn identifier_after<R: Reader>(
-    before: Result<Option<u64>, ReadError>,
-    attribute: Result<Attribute<R>, ReadError>,
-) -> Result<Option<u64>, ReadError> {
-    let identifier = before?;
-    let attribute = attribute?;
-    if identifier.is_none() && attribute.name == 0x2131 {
-        return Ok(attribute.number());
+fn identifier_of<R: Reader>(attribute: &Attribute<R>) -> Option<u64> {
+    if attribute.name == 0x2131 {
+        attribute.number()
+    } else {
+        None
     }
-    Ok(identifier)
 }
 
 /// The type of a unit, how many bytes it has, where its abbreviations stand, its version, and
@@ -100,40 +94,23 @@ fn told<R: Reader>(header: &UnitHeader<R>) -> Header {
 }
 
 /// What the first unit of a section is, and its root.
-fn put_unit<R: Reader>(units: R, abbreviations: R, section: UnitSection, said: &mut Said) {
+pub fn first_told<R: Reader>(
+    units: R,
+    abbreviations: R,
+    section: UnitSection,
+) -> Option<Result<(Header, Root), ReadError>> {
     match first(units, section) {
-        Some(Ok(header)) => said.put(&Some(Ok::<(Header, Root), ReadError>((
-            told(&header),
-            identified(root_of(&header, abbreviations)),
-        )))),
-        Some(Err(error)) => said.put(&Some(Err::<(), ReadError>(error))),
-        None => said.word("None"),
+        Some(Ok(header)) => Some(Ok((told(&header), identified(root_of(&header, abbreviations))))),
+        Some(Err(error)) => Some(Err(error)),
+        None => None,
     }
 }
 
 /// `info` or `types`, a byte order, units and abbreviations: the first unit, and its root. Then the
 /// same, read by a reader with relocations, of which there are none.
-fn unit<R: Reader>(units: R, abbreviations: R, section: UnitSection, said: &mut Said) {
-    put_unit(units, abbreviations, section, said);
-    relocated(units, abbreviations, &[], section, said);
-}
-
-/// The first unit, whose section has relocations, and its root.
-fn relocated<R: Reader>(
-    units: R,
-    abbreviations: R,
-    relocations: &[RelocationEntry],
-    section: UnitSection,
-    said: &mut Said,
-)
-    requires { IsTrue (ascends relocations.now) }
-{
-    put_unit(
-        Relocate::new(relocations, units),
-        Relocate::new(&[], abbreviations),
-        section,
-        said,
-    );
+fn unit<R: Reader>(units: R, abbreviations: R, row: Row<'_>, said: &mut Said) {
+    said.put(&first_told(units, abbreviations, section(row)));
+    relocated(&[], units, abbreviations, row, said);
 }
 
 /// What is relocated at the place of a unit's abbreviation offset.
@@ -189,12 +166,12 @@ fn strings<R: Reader>(debug_str: R, debug_line_str: R, debug_str_offsets: R) -> 
 
 /// The string of a form and a value, by sections of strings that are always the same.
 fn put_text<R: Reader>(
-    [debug_str, debug_line_str, debug_str_offsets]: [R; 3],
+    [debug_str, debug_line_str, debug_str_offsets]: &[R; 3],
     form: u64,
     value: R,
     said: &mut Said,
 ) {
-    let sections = strings(debug_str, debug_line_str, debug_str_offsets);
+    let sections = strings(*debug_str, *debug_line_str, *debug_str_offsets);
     let attribute = Attribute {
         name: 0x03,
         form,
@@ -226,14 +203,36 @@ fn as_read<R: Reader>(section: R, offset: u64, code: u64) -> Told {
 }
 
 /// Tables of abbreviations, and places and codes with a colon between: what is remembered of each
-/// in turn, and what is read; and how far the section of the cache stands behind the tables.
-fn remembered<R: Reader>(row: Row<'_>, section: R, words: &[&str], said: &mut Said) {
+/// in turn, and what is read; and how far the section of the cache stands behind the tables. Or
+/// behind each code an end: whether the declaration of the code in the table at the place is known
+/// to end within the first so many bytes.
+fn remembered<R: Reader>(row: Row<'_>, section: R, said: &mut Said) {
     let mut cache = AbbreviationCache::new(row.alloc, section);
-    for word in words {
-        let (offset, code) = split(word, ":");
-        put_tags(&mut cache, section, (number(offset), number(code)), said);
+    put_remembered(&mut cache, section, row, said);
+}
+
+fn put_remembered<R: Reader>(
+    cache: &mut AbbreviationCache<R>,
+    section: R,
+    row: Row<'_>,
+    said: &mut Said,
+) {
+    for word in row.rest(2) {
+        put_word(cache, section, word, said);
     }
-    said.put(&cache.section().offset_from(&section));
+    if row.word(0) == "remembered" {
+        said.put(&cache.section().offset_from(&section));
+    }
+}
+
+fn put_word<R: Reader>(cache: &mut AbbreviationCache<R>, section: R, word: &str, said: &mut Said) {
+    let (offset, rest) = split(word, ":");
+    let (code, end) = split(rest, ":");
+    let (offset, code) = (number(offset), number(code));
+    match end {
+        "" => put_tags(cache, section, (offset, code), said),
+        _ => said.put(&cache.declares_within(offset, code, place(end))),
+    }
 }
 
 /// What is remembered of a code in the table at a place, and what is read.
@@ -247,21 +246,6 @@ fn put_tags<R: Reader>(
     said.put(&[remembered, as_read(section, offset, code)]);
 }
 
-/// Tables of abbreviations, and places, codes and ends with colons between: whether the declaration
-/// of the code in the table at the place is known to end within the first so many bytes.
-fn declares_within<R: Reader>(row: Row<'_>, section: R, said: &mut Said) {
-    let mut cache = AbbreviationCache::new(row.alloc, section);
-    for word in row.rest(2) {
-        put_within(&mut cache, word, said);
-    }
-}
-
-fn put_within<R: Reader>(cache: &mut AbbreviationCache<R>, word: &str, said: &mut Said) {
-    let (offset, rest) = split(word, ":");
-    let (code, end) = split(rest, ":");
-    said.put(&cache.declares_within(number(offset), number(code), place(end)));
-}
-
 /// A unit, and forms: how many bytes a value of each takes.
 fn sizes(unit: &[u8], forms: &[&str], said: &mut Said) {
     for form in forms {
@@ -269,24 +253,24 @@ fn sizes(unit: &[u8], forms: &[&str], said: &mut Said) {
         // The form stands in two bytes. Behind implicit_const the next zero is its number.
         let (low, high) = ((form % 128) as u8 | 0x80, (form / 128 % 128) as u8);
         let table = [1, 0x11, 0, 3, low, high, 0, 0, 0, 0];
-        put_size(slice(unit), slice(&table), said);
+        said.put(&size_of(slice(unit), slice(&table)));
     }
 }
 
 /// How many bytes the value of a root's first attribute takes.
-fn put_size<R: Reader>(unit: R, table: R, said: &mut Said) {
+fn size_of<R: Reader>(unit: R, table: R) -> Result<Option<usize>, ReadError> {
     match entry_of(unit, UnitSection::Info, table) {
-        Ok(Some(entry)) => put_first(entry.attributes, said),
-        Ok(None) => said.ok(&None::<usize>),
-        Err(error) => said.err(&error),
+        Ok(Some(entry)) => size_of_first(entry.attributes),
+        Ok(None) => Ok(None),
+        Err(error) => Err(error),
     }
 }
 
-fn put_first<R: Reader>(mut attributes: Attributes<R>, said: &mut Said) {
+fn size_of_first<R: Reader>(mut attributes: Attributes<R>) -> Result<Option<usize>, ReadError> {
     match attributes.next() {
-        Some(Ok(attribute)) => said.ok(&Some(attribute.value.len())),
-        Some(Err(error)) => said.err(&error),
-        None => said.ok(&None::<usize>),
+        Some(Ok(attribute)) => Ok(Some(attribute.value.len())),
+        Some(Err(error)) => Err(error),
+        None => Ok(None),
     }
 }
 
@@ -304,21 +288,20 @@ fn entry_of<R: Reader>(
 }
 
 /// How many bytes the first unit of a section has, its encoding and its type.
-fn put_header<R: Reader>(units: R, section: UnitSection, said: &mut Said) {
+fn header_of<R: Reader>(
+    units: R,
+    section: UnitSection,
+) -> Option<Result<(usize, Encoding, UnitType), ReadError>> {
     match first(units, section) {
-        Some(Ok(header)) => said.put(&Some(Ok::<_, ReadError>((
-            header.bytes().len(),
-            header.encoding(),
-            header.unit_type(),
-        )))),
-        Some(Err(error)) => said.put(&Some(Err::<(), ReadError>(error))),
-        None => said.word("None"),
+        Some(Ok(header)) => Some(Ok((header.bytes().len(), header.encoding(), header.unit_type()))),
+        Some(Err(error)) => Some(Err(error)),
+        None => None,
     }
 }
 
 /// `info` or `types`, units, abbreviations, strings, string offsets, where these begin and the
 /// format of their offsets: the first unit of an object that a compiler wrote, and its root.
-fn object<R: Reader>(words: [R; 5], row: Row<'_>, said: &mut Said) {
+fn object<R: Reader>(words: &[R; 5], row: Row<'_>, said: &mut Said) {
     let mut empty = words[0];
     empty.empty();
     let sections = strings(words[3], empty, words[4]);
@@ -332,7 +315,7 @@ fn put_object<R: Reader>(
     row: Row<'_>,
     said: &mut Said,
 ) {
-    put_header(units, section(row), said);
+    said.put(&header_of(units, section(row)));
     match entry_of(units, section(row), abbreviations) {
         Ok(Some(entry)) => put_entry(entry, sections, row, said),
         Ok(None) => said.word("no root"),

@@ -12,12 +12,28 @@ use test_rows::{Hex, Row, Said, bytes_of, kind, place, split};
 /// Makes the call of a row.
 pub fn call(row: Row<'_>, said: &mut Said) {
     match row.word(0) {
-        "appended" => appended(row, said),
-        "file_size" => file_size(row, said),
-        "written" => written(row, said),
-        "written_to" => written_to(row, said),
-        "watched" => watched(row, said),
+        "appended" | "file_size" | "written" => with_object(row, 4, said),
+        "written_to" | "watched" => with_object(row, 7, said),
         _ => crate::reading::call(row, said),
+    }
+}
+
+/// Makes the call of a row with an object that has the contents of its words from a place on.
+fn with_object(row: Row<'_>, from: usize, said: &mut Said) {
+    let mut object = object(row);
+    fill(&mut object, row, from, said);
+    of_object(&object, row, said);
+}
+
+/// The object; the size of its file; that size, the size that the file has, and the file; or what a
+/// writer gets of it, which may be watched.
+fn of_object(object: &WritableObject, row: Row<'_>, said: &mut Said) {
+    match row.word(0) {
+        "appended" => put_object(object, said),
+        "file_size" => said.put(&object.file_size()),
+        "written" => put_file(&object.file_size(), &object.write(), said),
+        "written_to" => written_to(object, row, said),
+        _ => watched(object, row, said),
     }
 }
 
@@ -50,23 +66,17 @@ fn add(object: &mut WritableObject, row: Row<'_>, word: &str, said: &mut Said) {
     }
 }
 
-/// An object, and from a place on what is added to it.
-fn filled(row: Row<'_>, from: usize, said: &mut Said) -> WritableObject {
-    let mut object = object(row);
+/// Adds what words say, each a kind, `=` and digits. `appended` says what comes of each, and takes
+/// `cut` and the size that the first section is cut to, when the others are gone.
+fn fill(object: &mut WritableObject, row: Row<'_>, from: usize, said: &mut Said) {
+    let is_told = row.word(0) == "appended";
     for word in row.rest(from) {
-        add(&mut object, row, word, said);
+        if is_told {
+            append_or_cut(object, row, word, said);
+        } else {
+            add(object, row, word, said);
+        }
     }
-    object
-}
-
-/// An object, and what is added to it, each a kind, `=` and digits, or `cut` and the size that the
-/// first section is cut to, when the others are gone.
-fn appended(row: Row<'_>, said: &mut Said) {
-    let mut object = object(row);
-    for word in row.rest(4) {
-        append_or_cut(&mut object, row, word, said);
-    }
-    put_object(&object, said);
 }
 
 fn append_or_cut(object: &mut WritableObject, row: Row<'_>, word: &str, said: &mut Said) {
@@ -81,18 +91,6 @@ fn put_object(object: &WritableObject, said: &mut Said) {
     for (kind, bytes) in object.sections() {
         said.put(&(*kind, Hex(bytes)));
     }
-}
-
-/// An object and its contents: the size of the file.
-fn file_size(row: Row<'_>, said: &mut Said) {
-    let object = filled(row, 4, said);
-    said.put(&object.file_size());
-}
-
-/// An object and its contents: the size of the file that is told, that of the file, and the file.
-fn written(row: Row<'_>, said: &mut Said) {
-    let object = filled(row, 4, said);
-    put_file(&object.file_size(), &object.write(), said);
 }
 
 fn put_file(size: &Result<u64, WriteError>, file: &Result<Vec<u8>, WriteError>, said: &mut Said) {
@@ -141,10 +139,9 @@ fn make_writer(row: Row<'_>, said: &mut Said) -> Limited {
     }
 }
 
-/// An object, a writer and the contents: what came of it, and what the writer has.
-fn written_to(row: Row<'_>, said: &mut Said) {
+/// What came of writing an object, and what the writer has.
+fn written_to(object: &WritableObject, row: Row<'_>, said: &mut Said) {
     let mut writer = make_writer(row, said);
-    let object = filled(row, 7, said);
     put_done(&object.write_to(&mut writer), said);
     put_written(&writer, said);
 }
@@ -162,12 +159,11 @@ fn put_written(writer: &Limited, said: &mut Said) {
 }
 
 /// The same of a writer that is watched, behind the error that was seen.
-fn watched(row: Row<'_>, said: &mut Said) {
+fn watched(object: &WritableObject, row: Row<'_>, said: &mut Said) {
     let mut watched = Watched {
         writer: make_writer(row, said),
         error: None,
     };
-    let object = filled(row, 7, said);
     let done = object.write_to(&mut watched);
     said.put(&watched.error);
     put_done(&done, said);

@@ -3,6 +3,7 @@
 ghost use Rattle.dwp_bytes.specs.Relocation.{ascends};
 ghost use Rattle.std.specs.Prelude.{IsTrue};
 
+use crate::dwarf::{first_told, section};
 use Endianness::Little;
 use dwp_base::Endianness;
 use dwp_bytes::{Format, ReadError, Reader, Relocate, Relocation, RelocationEntry, SliceReader};
@@ -21,7 +22,7 @@ pub fn call(row: Row<'_>, said: &mut Said) {
         reader(row, 5),
     ];
     let strings = [slice(b"a\0bc\0d"), slice(b"x\0"), slice(OFFSETS)];
-    of_readers(words, strings, row, said);
+    of_readers(&words, &strings, row, said);
 }
 
 /// A reader of bytes, with the lowest byte of a number first.
@@ -40,17 +41,18 @@ fn reader(row: Row<'_>, place: usize) -> SliceReader<'_> {
 
 /// Takes the steps of a row with a reader of the words 1 to 5, or reads units of them; the strings
 /// are always the same.
-fn of_readers<R: Reader>(words: [R; 5], strings: [R; 3], row: Row<'_>, said: &mut Said) {
+fn of_readers<R: Reader>(words: &[R; 5], strings: &[R; 3], row: Row<'_>, said: &mut Said) {
     match row.word(0) {
-        "read" => steps(words[1], row.rest(3), said),
-        "relocated" => relocated(words[0], &TWO, 0, row.rest(2), said),
-        "relocated_twice" => twice(words[0], row.rest(2), said),
+        "read" => steps(words[1], 0, row.rest(3), said),
+        "relocated" => relocated(&TWO, words[0], words[1], row, said),
+        "relocated_twice" => twice(words[0], row, said),
         _ => crate::dwarf::call(words, strings, row, said),
     }
 }
 
-/// Takes steps with a reader one after the other.
-fn steps<R: Reader>(mut at: R, calls: &[&str], said: &mut Said) {
+/// Takes steps with a reader one after the other, behind the next so many bytes.
+fn steps<R: Reader>(mut at: R, skipped: usize, calls: &[&str], said: &mut Said) {
+    let _done = at.skip(skipped);
     let base = at;
     for call in calls {
         take_step(&mut at, &base, call, said);
@@ -89,25 +91,10 @@ fn step<R: Reader>(at: &mut R, base: &R, call: &str, argument: u8, said: &mut Sa
         "u24" => said.put(&at.read_u24()),
         "u32" => said.put(&at.read_u32()),
         "sleb" => said.put(&at.read_sleb128()),
-        _ => cut(at, base, call, argument, said),
-    }
-}
-
-/// Where a reader goes, and what it finds.
-fn cut<R: Reader>(at: &mut R, base: &R, call: &str, argument: u8, said: &mut Said) {
-    match shortened(at, call, usize::from(argument)) {
-        Some(done) => said.put(&done),
-        None => ask(at, base, call, argument, said),
-    }
-}
-
-/// Goes on in the next so many bytes, behind them, or up to them.
-fn shortened<R: Reader>(at: &mut R, call: &str, size: usize) -> Option<Result<(), ReadError>> {
-    match call {
-        "piece" => Some(take_piece(at, size)),
-        "skip" => Some(at.skip(size)),
-        "truncate" => Some(at.truncate(size)),
-        _ => None,
+        "piece" => said.put(&take_piece(at, usize::from(argument))),
+        "skip" => said.put(&at.skip(usize::from(argument))),
+        "truncate" => said.put(&at.truncate(usize::from(argument))),
+        _ => ask(at, base, call, argument, said),
     }
 }
 
@@ -168,23 +155,41 @@ static AGAIN: [RelocationEntry; 1] = [RelocationEntry {
     },
 }];
 
-/// Takes steps behind the next so many bytes, with a reader of relocations.
-fn relocated<R: Reader>(
-    section: R,
+/// Takes the steps of a row with a reader of relocations, or tells its first unit and the root of
+/// that.
+pub fn relocated<R: Reader>(
     relocations: &[RelocationEntry],
-    skipped: usize,
-    calls: &[&str],
+    section: R,
+    abbreviations: R,
+    row: Row<'_>,
     said: &mut Said,
 )
     requires { IsTrue (ascends relocations.now) }
 {
-    let mut at = Relocate::new(relocations, section);
-    let _done = at.skip(skipped);
-    steps(at, calls, said);
+    of_relocated(
+        Relocate::new(relocations, section),
+        Relocate::new(&[], abbreviations),
+        row,
+        said,
+    );
+}
+
+fn of_relocated<R: Reader>(at: R, abbreviations: R, row: Row<'_>, said: &mut Said) {
+    match row.word(0) {
+        "relocated" => steps(at, 0, row.rest(2), said),
+        "relocated_twice" => steps(at, 8, row.rest(2), said),
+        _ => said.put(&first_told(at, abbreviations, section(row))),
+    }
 }
 
 /// Relocated twice: to 0x1100 itself at 0, and by 0x1000 beside what is stored at 8, and by 1
 /// beside what was read so at 8. The reader stands there.
-fn twice<R: Reader>(section: R, calls: &[&str], said: &mut Said) {
-    relocated(Relocate::new(&TWO, section), &AGAIN, 8, calls, said);
+fn twice<R: Reader>(section: R, row: Row<'_>, said: &mut Said) {
+    relocated(
+        &AGAIN,
+        Relocate::new(&TWO, section),
+        Relocate::new(&[], section),
+        row,
+        said,
+    );
 }

@@ -1,7 +1,12 @@
 -- Reading words byte by byte: what was read of a word stands in front of what is left of it.
-use Rattle.std.proofs.Common.{◌≡◌, ℕ, List, [], ◌∷◌, ◌++◌, Some, refl, sym, append-nil}
-use Rattle.thorin_words.specs.declared.words.Place.TheVariants.{Between, Inside}
-use Rattle.thorin_words.specs.Words.{put, words_from, escaped, quoted}
+use Rattle.std.proofs.Common.{◌≡◌, ℕ, List, [], ◌∷◌, ◌++◌, Some, refl, sym, append-nil, map}
+use Rattle.std.proofs.Common.{append_assoc, true, false, Vec, Global}
+use Rattle.std.proofs.lemmas.Bool.{false≢true}
+use Rattle.std.proofs.lemmas.List.{map-append}
+use Rattle.thorin_words.specs.declared.words.Place.{Place}
+use Rattle.thorin_words.specs.declared.words.Place.TheVariants.{Between, Inside, Escaped}
+use Rattle.thorin_words.specs.Words.{put, words_from, words_of, escaped, quoted, keeps, behind}
+use Rattle.thorin_words.specs.Words.{is_between}
 
 -- what was read of a word, in front of the first of these
 abbrev pub prefix : List ℕ → List (List ℕ) → List (List ℕ)
@@ -27,3 +32,64 @@ words_from-escaped (byte ∷ word) rest = rw (words_from-escaped word rest) (put
 pub from_quoted : (words : List (List ℕ)) → words_from Between (quoted words) ≡ words
 from_quoted [] = refl
 from_quoted (word ∷ words) = rw (words_from-escaped, append-nil, from_quoted words) refl
+
+extended : (word : List ℕ) (byte : ℕ) (words : List (List ℕ)) → prefix word (put byte words) ≡
+    prefix (word ++ byte ∷ []) words
+extended word byte [] = refl
+extended word byte (first ∷ rest) = rw append_assoc refl
+
+-- a byte further: one that the word keeps, one behind which it ends, another in it, and one between
+-- two words
+module _ (word : List ℕ) (place : Place) (byte : ℕ) {left rest : List ℕ}
+    (front : left ≡ byte ∷ rest) where
+  pub kept : keeps place byte ≡ true → prefix word (words_from place left) ≡
+      prefix (word ++ byte ∷ []) (words_from (behind place byte) rest)
+  kept is = rw (front, is) (extended word byte _)
+
+  pub ended : keeps place byte ≡ false → is_between (behind place byte) ≡ true
+      → is_between place ≡ false → prefix word (words_from place left) ≡
+      word ∷ words_from (behind place byte) rest
+  ended out ends inside = rw (front, out, ends, inside, append-nil) refl
+
+  pub passed : keeps place byte ≡ false → is_between (behind place byte) ≡ false
+      → prefix word (words_from place left) ≡ prefix word (words_from (behind place byte) rest)
+  passed out inside = rw (front, out, inside) refl
+
+  pub spaced : keeps place byte ≡ false → is_between (behind place byte) ≡ true
+      → is_between place ≡ true
+      → prefix word (words_from place left) ≡ prefix word (words_from (behind place byte) rest)
+  spaced out ends was = rw (front, out, ends, was) refl
+
+-- a word behind those that were read, and nothing of the next
+pub one_more : (old new : Vec (Vec ℕ Global) Global) (word : Vec ℕ Global)
+    → new.items ≡ old.items ++ word ∷ [] → (more : List (List ℕ))
+    → map (λ word. word.items) new.items ++ prefix [] more ≡
+    map (λ word. word.items) old.items ++ word.items ∷ more
+one_more old new word added more = rw (added, map-append, append_assoc, prefix-nothing more) refl
+
+-- nothing was read yet
+pub at_start : (word text : List ℕ) → word ≡ [] → words_of text ≡
+    prefix word (words_from Between text)
+unfolding words_of
+at_start word text none = rw (none, prefix-nothing (words_from Between text)) refl
+
+between : (place : Place) → is_between place ≡ true → place ≡ Between
+between Between is = refl
+between (Inside quote) is = absurd (false≢true is)
+between (Escaped quote) is = absurd (false≢true is)
+
+-- behind a word the others begin
+pub anew : (place : Place) (rest : List ℕ) → is_between place ≡ true
+    → words_from place rest ≡ words_of rest
+unfolding words_of
+anew place rest is = rw (between place is) refl
+
+-- at the end: between words, and in the last one
+module _ (word : List ℕ) (place : Place) (left : List ℕ) (end : left ≡ []) where
+  pub none_left : is_between place ≡ true → prefix word (words_from place left) ≡ []
+  none_left is = rw (end, is) refl
+
+  pub last_left : (rest : List ℕ) → rest ≡ [] → is_between place ≡ false
+      → prefix word (words_from place left) ≡ word ∷ words_of rest
+  unfolding words_of
+  last_left rest none is = rw (end, none, is, append-nil) refl

@@ -1,9 +1,12 @@
-use Rattle.std.proofs.Common.{◌≡◌, ◌-◌, ◌*◌, ◌<◌, ◌^◌, ap, arith}
+use Rattle.std.proofs.Common.{◌≡◌, ◌-◌, ◌*◌, ◌<◌, ◌^◌, refl, ap, arith}
 use Rattle.std.proofs.lemmas.Int.{ints}
 use Rattle.std.proofs.lemmas.Result.{err_from_is_err_and}
 use Rattle.dwp_bytes.proofs.Lebs.{small, bits_fit, seven_more, signed_more, sleb_low, sleb_high}
-use Rattle.dwp_bytes.proofs.Lebs.{sleb_fails, sleb_big, cast_less, cast_lowest}
+use Rattle.dwp_bytes.proofs.Lebs.{sleb_fails, sleb_big, cast_less, cast_lowest, signed_begun}
 use Rattle.dwp_bytes.proofs.reader.Reader.read_sleb128.Goals as goal
+
+pub loop-init : goal.loop-init
+loop-init g c = (refl, signed_begun _)
 
 pub returns-in_err-byte : goal.returns-in_err-byte
 returns-in_err-byte g c =
@@ -13,6 +16,27 @@ returns-in_err-byte g c =
       ap g.Self.Reader.input c.loop.invariant.0,
     )
 
+pub overflow_mul-result : goal.overflow_mul-result
+overflow_mul-result g c =
+    let far = c.loop.invariant.1 in
+    let m = seven_more _ _ _ c.in_ok-byte.byte far.scaled c.loop-test.true far.below
+    (omega arith) in
+    rw c.from.ensures (omega (arith, m))
+
+pub overflow_add-result : goal.overflow_add-result
+overflow_add-result g c =
+    let far = c.loop.invariant.1 in
+    let m = seven_more _ _ _ c.in_ok-byte.byte far.scaled c.loop-test.true far.below
+    (omega arith) in
+    rw c.from.ensures (omega (arith, m))
+
+pub overflow_cast-result : goal.overflow_cast-result
+overflow_cast-result g c =
+    let far = c.loop.invariant.1 in
+    let m = seven_more _ _ _ c.in_ok-byte.byte far.scaled c.loop-test.true far.below
+    (omega arith) in
+    rw c.from.ensures (omega (arith, ints, m))
+
 pub returns-then-byte-lt64 : goal.returns-then-byte-lt64
 returns-then-byte-lt64 g c =
     let far = c.loop.invariant.1 in
@@ -20,6 +44,33 @@ returns-then-byte-lt64 g c =
     (omega arith) in
     rw c.from.ensures (sleb_low far (omega arith) c.in_ok-byte.ensures c.if-byte-lt64.true m
     (omega (arith, ints, m)))
+
+pub overflow_cast-result-then-byte-lt128 : goal.overflow_cast-result-then-byte-lt128
+overflow_cast-result-then-byte-lt128 g c =
+    let far = c.loop.invariant.1 in
+    let s = small _ _ far.scaled c.loop-test.true in
+    omega (arith, ints, s, far.below)
+
+pub overflow_mul-result-then-byte-lt128 : goal.overflow_mul-result-then-byte-lt128
+overflow_mul-result-then-byte-lt128 g c =
+    let far = c.loop.invariant.1 in
+    let s = small _ _ far.scaled c.loop-test.true in
+    let m = bits_fit _ _ (128 - c.in_ok-byte.byte) far.below s (omega arith) in
+    rw c.from-then-byte-lt128.ensures (omega (arith, m))
+
+pub overflow_cast-result-then-byte-lt128-2 : goal.overflow_cast-result-then-byte-lt128-2
+overflow_cast-result-then-byte-lt128-2 g c =
+    let far = c.loop.invariant.1 in
+    let s = small _ _ far.scaled c.loop-test.true in
+    let m = bits_fit _ _ (128 - c.in_ok-byte.byte) far.below s (omega arith) in
+    rw c.from-then-byte-lt128.ensures (omega (arith, ints, m))
+
+pub overflow_sub-result : goal.overflow_sub-result
+overflow_sub-result g c =
+    let far = c.loop.invariant.1 in
+    let s = small _ _ far.scaled c.loop-test.true in
+    let m = bits_fit _ _ (128 - c.in_ok-byte.byte) far.below s (omega arith) in
+    rw c.from-then-byte-lt128.ensures (omega (arith, ints, m, s, far.below))
 
 pub returns-then-byte-lt128 : goal.returns-then-byte-lt128
 returns-then-byte-lt128 g c =
@@ -30,6 +81,24 @@ returns-then-byte-lt128 g c =
     rw c.from-then-byte-lt128.ensures (sleb_high far (omega arith) c.in_ok-byte.ensures
     c.if-byte-lt64.false c.if-byte-lt128.true fits (omega (arith, m))
     (cast_less c.loop.value ((128 - c.in_ok-byte.byte) * c.loop.scale) fits (omega (arith, m))))
+
+pub overflow_mul-value : goal.overflow_mul-value
+overflow_mul-value g c =
+    let far = c.loop.invariant.1 in
+    let m = seven_more _ _ _ (c.in_ok-byte.byte - 128) far.scaled c.loop-test.true far.below
+    (omega arith) in
+    rw c.from-in-loop.ensures (omega (arith, m))
+
+pub overflow_add-value : goal.overflow_add-value
+overflow_add-value g c =
+    let far = c.loop.invariant.1 in
+    let m = seven_more _ _ _ (c.in_ok-byte.byte - 128) far.scaled c.loop-test.true far.below
+    (omega arith) in
+    rw c.from-in-loop.ensures (omega (arith, m))
+
+pub overflow_mul-scale : goal.overflow_mul-scale
+overflow_mul-scale g c =
+    omega (arith, small _ _ c.loop.invariant.1.scaled c.loop-test.true)
 
 pub loop-preserved : goal.loop-preserved
 loop-preserved g c = (
@@ -46,6 +115,24 @@ returns-in_err-read_u8 g c =
       sleb_fails c.loop.invariant.1 (omega arith) c.in_err-read_u8.ensures.0,
       ap g.Self.Reader.input c.loop.invariant.0,
     )
+
+pub overflow_cast-number : goal.overflow_cast-number
+overflow_cast-number g c =
+    let nine : c.loop.counter ≡ 9 = omega arith in
+    let far = rw nine at c.loop.invariant.1 in
+    omega (arith, ints, far.scaled, far.below)
+
+pub overflow_cast-number-in-127 : goal.overflow_cast-number-in-127
+overflow_cast-number-in-127 g c =
+    let nine : c.loop.counter ≡ 9 = omega arith in
+    let far = rw nine at c.loop.invariant.1 in
+    omega (arith, ints, far.scaled, far.below)
+
+pub overflow_add-number : goal.overflow_add-number
+overflow_add-number g c =
+    let nine : c.loop.counter ≡ 9 = omega arith in
+    let far = rw nine at c.loop.invariant.1 in
+    omega (arith, ints, far.scaled, far.below)
 
 pub returns-in_default : goal.returns-in_default
 returns-in_default g c = (

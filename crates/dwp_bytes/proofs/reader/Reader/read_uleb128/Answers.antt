@@ -1,7 +1,11 @@
-use Rattle.std.proofs.Common.{◌≡◌, ap, arith}
+use Rattle.std.proofs.Common.{◌≡◌, ◌-◌, refl, ap, arith}
 use Rattle.std.proofs.lemmas.Result.{err_from_is_err_and}
-use Rattle.dwp_bytes.proofs.Lebs.{more, seven_more, uleb_ends, uleb_fails, uleb_big, last_fits}
+use Rattle.dwp_bytes.proofs.Lebs.{more, small, seven_more, uleb_ends, uleb_fails, uleb_big}
+use Rattle.dwp_bytes.proofs.Lebs.{last_fits, unsigned_begun}
 use Rattle.dwp_bytes.proofs.reader.Reader.read_uleb128.Goals as goal
+
+pub loop-init : goal.loop-init
+loop-init g c = (refl, unsigned_begun _)
 
 pub returns-in_err-byte : goal.returns-in_err-byte
 returns-in_err-byte g c =
@@ -11,6 +15,20 @@ returns-in_err-byte g c =
       ap g.Self.Reader.input c.loop.invariant.0,
     )
 
+pub overflow_mul-result : goal.overflow_mul-result
+overflow_mul-result g c =
+    let far = c.loop.invariant.1 in
+    let m = seven_more _ _ _ c.in_ok-byte.byte far.scaled c.loop-test.true far.below
+    (omega arith) in
+    rw c.from.ensures (omega (arith, m))
+
+pub overflow_add-result : goal.overflow_add-result
+overflow_add-result g c =
+    let far = c.loop.invariant.1 in
+    let m = seven_more _ _ _ c.in_ok-byte.byte far.scaled c.loop-test.true far.below
+    (omega arith) in
+    rw c.from.ensures (omega (arith, m))
+
 pub returns-then-byte-lt128 : goal.returns-then-byte-lt128
 returns-then-byte-lt128 g c =
     let far = c.loop.invariant.1 in
@@ -18,6 +36,24 @@ returns-then-byte-lt128 g c =
     (omega arith) in
     rw c.from.ensures (uleb_ends far (omega arith) c.in_ok-byte.ensures (omega arith)
     (omega (arith, m)))
+
+pub overflow_mul-value : goal.overflow_mul-value
+overflow_mul-value g c =
+    let far = c.loop.invariant.1 in
+    let m = seven_more _ _ _ (c.in_ok-byte.byte - 128) far.scaled c.loop-test.true far.below
+    (omega arith) in
+    rw c.from-in-loop.ensures (omega (arith, m))
+
+pub overflow_add-value : goal.overflow_add-value
+overflow_add-value g c =
+    let far = c.loop.invariant.1 in
+    let m = seven_more _ _ _ (c.in_ok-byte.byte - 128) far.scaled c.loop-test.true far.below
+    (omega arith) in
+    rw c.from-in-loop.ensures (omega (arith, m))
+
+pub overflow_mul-scale : goal.overflow_mul-scale
+overflow_mul-scale g c =
+    omega (arith, small _ _ c.loop.invariant.1.scaled c.loop-test.true)
 
 pub loop-preserved : goal.loop-preserved
 loop-preserved g c = (
@@ -41,6 +77,20 @@ returns-then-last-gt1 g c = (
       c.if-last-gt1.true,
   ap g.Self.Reader.input c.loop.invariant.0,
 )
+
+pub overflow_mul-result-2 : goal.overflow_mul-result-2
+overflow_mul-result-2 g c =
+    let nine : c.loop.counter ≡ 9 = omega arith in
+    let far = rw nine at c.loop.invariant.1 in
+    let m = last_fits _ _ c.in_ok-last.last far.below far.scaled (omega arith) in
+    rw c.from-2.ensures (omega (arith, m))
+
+pub overflow_add-result-2 : goal.overflow_add-result-2
+overflow_add-result-2 g c =
+    let nine : c.loop.counter ≡ 9 = omega arith in
+    let far = rw nine at c.loop.invariant.1 in
+    let m = last_fits _ _ c.in_ok-last.last far.below far.scaled (omega arith) in
+    rw c.from-2.ensures (omega (arith, m))
 
 pub returns : goal.returns
 returns g c =
