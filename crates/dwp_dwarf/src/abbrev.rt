@@ -17,7 +17,7 @@ use dwp_bytes::{ReadError, Reader};
 use dwp_units::read_code;
 
 /// An attribute and its form, as an abbreviation lists them.
-#[derive(Clone, Copy, Debug)]
+#[derive(Clone, Copy)]
 pub(crate) struct AttributeSpecification {
     pub(crate) name: u64,
     pub(crate) form: u64,

@@ -32,7 +32,7 @@ use std::alloc::Global;
 use std::collections::BTreeMap;
 
 /// What tables say that go on at a place of a section.
-#[derive(Clone, Copy, Debug)]
+#[derive(Clone, Copy)]
 pub(crate) struct Place {
     // The version that has, by its code, the place of the first declaration from there on.
     pub(crate) version: u32,

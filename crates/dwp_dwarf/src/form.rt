@@ -1,7 +1,7 @@
 //! How the values of forms are laid out (DWARF 5, 7.5.5).
 
 /// How the value of a form is laid out.
-#[derive(Clone, Copy, Debug)]
+#[derive(Clone, Copy)]
 pub(crate) enum Layout {
     /// So many bytes.
     Fixed(u8),
@@ -16,7 +16,7 @@ pub(crate) enum Layout {
 }
 
 /// How the length of a block is written.
-#[derive(Clone, Copy, Debug)]
+#[derive(Clone, Copy)]
 pub(crate) enum BlockLength {
     /// In a byte.
     One,

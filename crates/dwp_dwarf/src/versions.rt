@@ -7,7 +7,7 @@ ghost use Rattle.dwp_dwarf.specs.Versions.{value_below, value_in, Grows};
 use std::alloc::Global;
 
 /// The value of a key, and where the others are.
-#[derive(Clone, Copy, Debug)]
+#[derive(Clone, Copy)]
 pub(crate) struct Node {
     // 0 where there is none.
     pub(crate) value: u32,

@@ -98,14 +98,14 @@ runs_out_after inputs error number is out = record {
 }
 
 -- the package of inputs that are all accepted
-pub packs : (inputs : List ThorinBytes) (old state : State) (signatures : List DebugTypeSignature)
-    (bytes : List ℕ) → old ≡ start → Accepts inputs old state → IsWritten state bytes
+pub packs : (inputs : List ThorinBytes) (state : State) (signatures : List DebugTypeSignature)
+    (bytes : List ℕ) → Accepts inputs start state → IsWritten state bytes
     → IsPackageOf (units_in state) bytes
     → map (λ s. s.0) signatures ≡ differing_in state → IsPackage inputs (length signatures)
     (if packs_again state then 1 else 0) bytes
-packs inputs old state signatures bytes is accepted written joined differ = record {
+packs inputs state signatures bytes accepted written joined differ = record {
   state = state;
-  accepted = rw (← is) accepted;
+  accepted = accepted;
   written = written;
   package_of = joined;
   differ = sym (length-map signatures (λ s. s.0)) ∙ ap length differ;
@@ -120,17 +120,15 @@ AgainLaw = (accepted : List (List ℕ)) (state : State) (bytes : List ℕ)
     → IsTakenAgain (units_in state) bytes
 
 -- where the builder says so, what was written is taken again
-pub taken_again : AgainLaw → (inputs : List ThorinBytes) (old state : State) (bytes : List ℕ)
-    → old ≡ start → Accepts inputs old state → IsWritten state bytes → packs_again state ≡ true
+pub taken_again : AgainLaw → (inputs : List ThorinBytes) (state : State) (bytes : List ℕ)
+    → Accepts inputs start state → IsWritten state bytes → packs_again state ≡ true
     → ArePackedAgain inputs bytes
-taken_again law inputs old state bytes is accepted written packs =
-    let from : Accepts inputs start state = rw (← is) accepted in
-    record {
-      units = units_in state;
-      joined = from.joined;
-      again = law (bytes_of inputs) state bytes (each-taken (bytes_of inputs) start state
-          (sym (all-taken-each inputs start) ∙ from.taken)) packs written;
-    }
+taken_again law inputs state bytes accepted written packs = record {
+  units = units_in state;
+  joined = accepted.joined;
+  again = law (bytes_of inputs) state bytes (each-taken (bytes_of inputs) start state
+      (sym (all-taken-each inputs start) ∙ accepted.taken)) packs written;
+}
 
 -- and so are the bytes in the caller's room
 pub handed_over : (inputs : List ThorinBytes) (file written rest : List ℕ) (n : ℕ)
@@ -140,15 +138,11 @@ handed_over inputs file written rest n same size again =
     rw (same, size, take-append_seam file rest) again
 
 -- and why it can't be finished
-pub fails : (inputs : List ThorinBytes) (old state : State) (error : Error) → old ≡ start
-    → 0 < length inputs → Accepts inputs old state
-    → MemoryAside error (RefusesToWrite state (error_of error)) → Leaves inputs error
-fails inputs old state error is some accepted refused = record {
-  state = state;
-  accepted = rw (← is) accepted;
-  refused = refused;
-  memory = λ e. some;
-}
+pub fails : (inputs : List ThorinBytes) (state : State) (error : Error) → 0 < length inputs
+    → Accepts inputs start state → MemoryAside error (RefusesToWrite state (error_of error))
+    → Leaves inputs error
+fails inputs state error some accepted refused =
+    record { state = state; accepted = accepted; refused = refused; memory = λ e. some }
 
 none_begun : finish_test start ≡ Err NoOutputObjectCreated
 unfolding finish_test targets_test

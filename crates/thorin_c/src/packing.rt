@@ -1,7 +1,8 @@
 //! Packing objects and packages.
 
-ghost use Rattle.std.specs.Prelude.{◌≡◌, ◌≢◌, true, map, take, length, IfOk, IfErr, OnOk, pos, ◌⊎◌};
+ghost use Rattle.std.specs.Prelude.{◌≡◌, ◌≢◌, ◌<◌, true, map, take, length, IfOk, IfErr, OnOk, pos, ◌⊎◌};
 ghost use Rattle.std.specs.Prelude.{if◌then◌else◌};
+ghost use Rattle.thorin_join.specs.Builder.{start};
 ghost use Rattle.thorin_join.specs.Represents.{units_in};
 ghost use Rattle.thorin_join.specs.Join.{IsPackageOf};
 ghost use Rattle.thorin.specs.Run.{Writes};
@@ -100,7 +101,6 @@ pub extern "C" fn thorin_pack(
 /// those of the unit that is kept: 0, as many as there is room for in `types`, in the order of
 /// passing over, and how many there are in `report.differing`. 11 and 13 as `thorin_pack`, and then
 /// `types` is left as it is, as are the other fields of `report` always.
-#[tactic(auto, using(crate::proofs::Taking::refuses, crate::proofs::Taking::differs, crate::proofs::Taking::runs_out_at))]
 #[unsafe(no_mangle)]
 pub extern "C" fn thorin_differing_types(
     alloc: Global,
@@ -117,7 +117,26 @@ pub extern "C" fn thorin_differing_types(
 {
     let session = NoFiles {};
     let mut builder = DwarfPackage::new(alloc, &session);
-    match add_all(&mut builder, inputs) {
+    tell_differing(&mut builder, inputs, types, report)
+}
+
+// Tells of those that a new builder passes over.
+#[tactic(auto, using(crate::proofs::Taking::refuses, crate::proofs::Taking::differs, crate::proofs::Taking::runs_out_at))]
+fn tell_differing<'o, 's: 'o>(
+    builder: &mut DwarfPackage<'o, 's, NoFiles>,
+    inputs: &[ThorinBytes<'_>],
+    types: &mut [u64],
+    report: &mut ThorinReport,
+) -> i32
+    requires { builder.old.state ≡ start }
+    ensures done { result ≡ pos 0 → Differ inputs.now report.new types.old types.new }
+    ensures refused { result ≡ pos 11 → Refuses inputs.now report.new }
+    ensures memory { result ≡ pos 13 → RunsOutAt inputs.now report.new.input }
+    ensures status { IsDifferingStatus result }
+    ensures unchanged { result ≢ pos 0 → types.new ≡ types.old }
+    ensures alone { TellsAlone TellsOfDiffering result report.old report.new }
+{
+    match add_all(builder, inputs) {
         Ok(()) => {
             let differing = builder.differing_types();
             report.differing = differing.len() as u64;
@@ -163,7 +182,7 @@ fn unfinished(error: Error, count: usize, report: &mut ThorinReport) -> i32
 }
 
 // The package of inputs.
-#[tactic(auto, using(crate::proofs::Taking::packs, crate::proofs::Taking::taken_again, crate::proofs::Taking::fails, crate::proofs::Taking::none_fails))]
+#[tactic(auto, using(crate::proofs::Taking::none_fails))]
 fn package_of(alloc: Global, inputs: &[ThorinBytes<'_>]) -> Result<Packed, Refusal>
     ensures packed { IfOk result (λ packed. IsPackage inputs.now packed.differing
         (if packed.packs_again then 1 else 0) packed.file.items) }
@@ -171,15 +190,31 @@ fn package_of(alloc: Global, inputs: &[ThorinBytes<'_>]) -> Result<Packed, Refus
         → ArePackedAgain inputs.now packed.file.items) }
     ensures refused { IfErr result (IsRefusal inputs.now) }
 {
-    written_packages_are_taken_again();
     if inputs.is_empty() {
         return Err(Refusal::Package(Error::NoOutputObjectCreated));
     }
     let session = NoFiles {};
     let mut builder = DwarfPackage::new(alloc, &session);
-    if let Err(refusal) = add_all(&mut builder, inputs) {
-        return Err(Refusal::Input(refusal));
+    match add_all(&mut builder, inputs) {
+        Ok(()) => finish(inputs, builder),
+        Err(refusal) => Err(Refusal::Input(refusal)),
     }
+}
+
+// The package of inputs that were all accepted.
+fn finish<'o, 's: 'o>(
+    inputs: &[ThorinBytes<'_>],
+    builder: DwarfPackage<'o, 's, NoFiles>,
+) -> Result<Packed, Refusal>
+    requires some { 0 < length inputs.now }
+    requires accepted { Accepts inputs.now start builder.state }
+    ensures packed { IfOk result (λ packed. IsPackage inputs.now packed.differing
+        (if packed.packs_again then 1 else 0) packed.file.items) }
+    ensures again { IfOk result (λ packed. packed.packs_again ≡ true
+        → ArePackedAgain inputs.now packed.file.items) }
+    ensures refused { IfErr result (IsRefusal inputs.now) }
+{
+    written_packages_are_taken_again();
     let differing = builder.differing_types().len() as u64;
     let packs_again = builder.packs_again();
     match written(builder) {

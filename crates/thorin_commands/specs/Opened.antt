@@ -8,7 +8,7 @@ use Rattle.thorin.specs.declared.packing.Input.{Input}
 use Rattle.thorin.specs.declared.packing.Input.TheVariants as inputs
 use Rattle.thorin.specs.Run.{Took}
 use Rattle.thorin_commands.specs.Archives.{AreTakenFor, StandsFor, StandFor, split_contents}
-use Rattle.thorin_commands.specs.Packing.{AreAllAccepted}
+use Rattle.thorin_commands.specs.Packing.{AreAllAccepted, left}
 use Rattle.thorin_commands.specs.Plain.{Offer}
 
 -- what an input stands for was taken, and none of it refused
@@ -26,6 +26,13 @@ pub record TookInputs (opens decompresses : Bool) (offer : Offer) (all : List In
   pub stand : StandFor opens decompresses offer all list
   pub accepted : List (List ℕ)
   pub ran : AreAllAccepted offer list old new accepted
+
+-- what a builder has once the inputs were taken, and what isn't there was left out
+pub record Fills (partial opens decompresses : Bool) (offer : Offer) (list : List Input)
+    (old new : State) : Type 0 where
+  pub state : State
+  pub took : TookInputs opens decompresses offer list old state
+  pub rest : new ≡ left partial state
 
 -- what is taken for contents was taken, in order
 pub record TookEach (decompresses : Bool) (offer : Offer) (contents : List (List ℕ))

@@ -283,9 +283,32 @@ pub fn list_missing<F: FileSystem, O: Write, E: Write>(
         return Err(Failure::BadCommand);
     }
     let inputs = InputFiles::new(alloc, files, packing);
+    let listed = list_over(alloc, &inputs, executables, packing.nameless, out);
+    status_of(alloc, listed, err)
+}
+
+/// The same, where there are executables: whether there is a line.
+fn list_over<I: Inputs, O: Write>(
+    alloc: Global,
+    inputs: &I,
+    executables: &[&str],
+    nameless: NamelessUnits,
+    out: &mut O,
+) -> Result<bool, Unlisted> {
     let mut lines = buffer(alloc, out)?;
-    let listed = list_all(alloc, &inputs, executables, packing.nameless, &mut lines);
+    let listed = list_all(alloc, inputs, executables, nameless, &mut lines);
     flush(&mut lines)?;
+    listed
+}
+
+/// The status of a list. Where an executable is refused, that is printed.
+fn status_of<E: Write>(
+    alloc: Global,
+    listed: Result<bool, Unlisted>,
+    err: &mut E,
+) -> Result<u8, Failure>
+    ensures { IfOk result (λ status. status ≤ 1) }
+{
     match listed {
         Ok(false) => Ok(0),
         Ok(true) => Ok(1),
@@ -365,8 +388,10 @@ fn list_read<I: Inputs, W: Write>(
 ) -> Result<bool, Unlisted> {
     let bump = Bump::new(alloc);
     let session = BytesSession::new(&bump);
-    let mut units = named_units(alloc, &session, bytes, nameless)?;
-    list_each(alloc, inputs, &mut units, seen, lines)
+    match named_units(alloc, &session, bytes, nameless) {
+        Ok(mut units) => list_each(alloc, inputs, &mut units, seen, lines),
+        Err(error) => Err(Unlisted::Refused(error)),
+    }
 }
 
 /// Prints those of the units that are left of those that an executable names.

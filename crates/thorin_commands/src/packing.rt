@@ -1,6 +1,6 @@
 //! `thorin pack`.
 
-ghost use Rattle.std.specs.Prelude.{◌≡◌, ◌≤◌, Ok, Some, OnOk, IfOk, IfErr, string_bytes, true};
+ghost use Rattle.std.specs.Prelude.{◌≡◌, ◌≤◌, Ok, Some, OnOk, IfOk, IfErr, map, string_bytes, true};
 ghost use Rattle.dwp_elf.specs.FileText.{file_text};
 ghost use Rattle.thorin_join.specs.Builder.{IsFinishedState};
 ghost use Rattle.thorin_join.specs.Join.{IsPackageOf, IsPackageOnceWritten};
@@ -8,7 +8,8 @@ ghost use Rattle.thorin_join.specs.Meaning.{Members};
 ghost use Rattle.thorin_join.specs.Represents.{units_in};
 ghost use Rattle.thorin_output.specs.Files.{Put, Begins};
 ghost use Rattle.thorin_commands.specs.Packing.{out_of, Packs, Comes, IsPackageFor, IsPackedFrom};
-ghost use Rattle.thorin_commands.specs.Packing.{Fails, paths_in, reads};
+ghost use Rattle.thorin_commands.specs.Packing.{Fails, asked, asks, paths_in, reads};
+ghost use Rattle.thorin_commands.specs.Opened.{Fills};
 
 use crate::asked::{inputs_of, inputs_with};
 use crate::missing::leave_out;
@@ -247,7 +248,6 @@ fn write_and_warn<F: FileSystem, O: Write, E: Write>(
 
 /// The object to be written for what is asked for, the signatures of type units that were passed
 /// over and differ from the ones kept, and the warnings of sections of macros.
-#[tactic(auto, using(crate::proofs::Puts::for_packing, crate::proofs::Puts::packed_alike))]
 fn packed<F: FileSystem, E: Write>(
     alloc: Global,
     files: &F,
@@ -266,6 +266,22 @@ fn packed<F: FileSystem, E: Write>(
         packing.missing,
         packing.nameless,
     )?;
+    packed_from(alloc, files, packing, list.as_slice(), err)
+}
+
+/// The same of the list of what is asked for.
+#[tactic(auto, using(crate::proofs::Puts::for_packing, crate::proofs::Puts::packed_alike))]
+fn packed_from<F: FileSystem, E: Write>(
+    alloc: Global,
+    files: &F,
+    packing: &Packing<'_, '_>,
+    list: &[Input<'_>],
+    err: &mut E,
+) -> Result<(WritableObject, Vec<DebugTypeSignature>, String), Refusal>
+    requires { map asked list.now ≡ asks packing.now }
+    ensures { IfOk result (λ made. IsPackageFor
+        (reads packing.now (F.offer files.now)) packing.now made.0) }
+{
     let inputs = InputFiles::new(alloc, files, packing);
     let telling = Telling {
         alloc,
@@ -273,7 +289,7 @@ fn packed<F: FileSystem, E: Write>(
         notes: packing.notes,
         partial: packing.partial,
     };
-    match packed_inputs(&inputs, list.as_slice(), telling, err) {
+    match packed_inputs(&inputs, list, telling, err) {
         Ok((object, differing)) => Ok((object, differing, inputs.warnings())),
         Err(Refusal::Empty) if packing.lets_empty => {
             let (object, differing) = packed_unsplit(alloc, &inputs, packing, err)?;
@@ -360,13 +376,25 @@ fn packed_over<'s, Sess: Session<RelocationEntry>, I: Inputs, E: Write>(
 {
     runs_go_on(inputs);
     let mut builder = DwarfPackage::new(telling.alloc, session);
-    match take_all(inputs, &mut builder, list, telling, err) {
-        Ok(()) => match leave_out(inputs, &mut builder, list, telling, err) {
-            Ok(()) => finished(inputs, builder, telling, err),
-            Err(refusal) => Err(refusal),
-        },
+    match fill(inputs, &mut builder, list, telling, err) {
+        Ok(()) => finished(inputs, builder, telling, err),
         Err(refusal) => Err(refusal),
     }
+}
+
+/// Takes these inputs, and leaves out what isn't there, where that is asked for.
+fn fill<'o, 's: 'o, Sess: Session<RelocationEntry>, I: Inputs, E: Write>(
+    inputs: &I,
+    builder: &mut DwarfPackage<'o, 's, Sess>,
+    list: &[Input<'_>],
+    telling: Telling,
+    err: &mut E,
+) -> Result<(), Refusal>
+    ensures { OnOk result (Fills telling.partial (I.opens inputs.now) (I.plain inputs.now)
+        (I.offer inputs.now) list.now builder.old.state builder.new.state) }
+{
+    take_all(inputs, builder, list, telling, err)?;
+    leave_out(inputs, builder, list, telling, err)
 }
 
 /// The object of the package, which can be written, and those signatures. Where it can't be

@@ -352,11 +352,15 @@ fn is_of_object(alloc: Global, error: &Error, object: &[u8]) -> bool {
         Error::DuplicateUnit(_) | Error::MixedInputEncodings | Error::NumberTooLarge(_, _) => true,
         _ => {
             let bump = Bump::new(alloc);
-            let session = BytesSession::new(&bump);
-            let mut builder = DwarfPackage::new(alloc, &session);
-            builder.add_object_bytes(object).is_err()
+            refuses_alone(alloc, &BytesSession::new(&bump), object)
         }
     }
+}
+
+/// Whether a new package refuses an object.
+fn refuses_alone(alloc: Global, session: &BytesSession<'_>, object: &[u8]) -> bool {
+    let mut builder = DwarfPackage::new(alloc, session);
+    builder.add_object_bytes(object).is_err()
 }
 
 /// Prints why the package can't be finished, and where that is asked for which object couldn't be

@@ -4,7 +4,13 @@ use Terms.{◌+◌, ◌++◌, ◌<◌, [], All, All-push, ap, arith, below_more,
 use Terms.{contribution_to, entry_by, entry_ids, Err, get_or, get_or-take, get_or_default}
 use Terms.{identifier_of, IndexEntry, length, length-take, List, map, map_push, Ok, OnErr, refl}
 use Terms.{Result, row_of, SectionKind, slice_get, Some, suc, sym, take, with_own, ℕ, ◌∙◌, ◌∷◌, ◌≡◌}
-use Terms.{◌≤◌}
+use Terms.{◌≤◌, Encoding, Endianness, index_version_of, IsHashTable, length-map, ltb, tests_under}
+use Terms.{true, used_sections, ◌*◌, ◌^◌}
+use Rattle.std.proofs.lemmas.Bool.{lt-ltb}
+use Rattle.dwp_table.specs.Table.{HasSlots}
+use Rattle.thorin_errors.specs.Errors.{ErrorValue}
+use Rattle.thorin_index.specs.EntryTests.{count_test, index_tests}
+use Rattle.thorin_index.specs.IndexText.{IsIndexOf, index_bytes}
 use Rattle.std.proofs.lemmas.Option.{get_or_from_slice_get, slice_get_within}
 use Rattle.dwp_table.specs.declared.object.DwarfObject.{DwarfObject}
 use Rattle.thorin_index.specs.declared.rows.Own.{Own}
@@ -95,3 +101,37 @@ pub one_more : (n : ℕ) (e : SectionKind) (a b : IndexEntry) → n < 10
     → SameUpTo n a b → SameUpTo (n + 1) a b
 one_more n e a b within last same =
     below_more (SameAt a b) n same (λ d. rw (get_or_default contribution_kinds n d e within) last)
+
+-- ---- an index of some rows
+
+-- no row number of a table is above the number of rows
+pub rows_within : (entries : List IndexEntry) (slots : List ℕ)
+    → IsHashTable (entry_ids entries) slots → All (λ (row : ℕ). row ≤ length entries) slots
+rows_within entries slots table k d less = rw (get_or_default slots k d 0 less) (omega (
+  arith,
+  table.only k,
+  length-map entries (λ (entry : IndexEntry). identifier_of entry.id),
+))
+
+-- their tests are those under the first one's encoding
+pub tests_of_some : (entries : List IndexEntry) (encoding : Encoding) → 0 < length entries
+    → encoding ≡ (get_or entries 0 blank).encoding
+    → index_tests entries ≡ tests_under encoding entries
+tests_of_some [] encoding some e = absurd (omega arith)
+tests_of_some (entry ∷ entries) encoding some e = rw e refl
+
+-- so many rows aren't refused
+pub not_refused : (n : ℕ) (e : ErrorValue) → n ≤ 1431655765 → count_test n ≡ Err e → ⊥
+not_refused n e few is =
+    let fits : ltb (3 * n) (2 ^ 32) ≡ true = lt-ltb (3 * n) (2 ^ 32) (omega arith) in
+    let ok = rw fits at is in
+    cc
+
+pub index_is : (order : Endianness) (entries : List IndexEntry) (encoding : Encoding)
+    (held bytes : List ℕ) → 0 < length entries → encoding ≡ (get_or entries 0 blank).encoding
+    → IsHashTable (entry_ids entries) held → HasSlots (length entries) (length held)
+    → bytes ≡ index_bytes order (index_version_of encoding.version) (used_sections entries)
+    entries held → IsIndexOf order entries bytes
+index_is order [] encoding held bytes some e table has text = absurd (omega arith)
+index_is order (entry ∷ entries) encoding held bytes some e table has text =
+    record { rows = held; table = table; slots = has; text = rw e at text }

@@ -1,14 +1,15 @@
 -- What was printed, or begun.
-use Rattle.std.proofs.Common.{ℕ, Bool, List, [], length, take, Option, Result, Err, refl}
+use Rattle.std.proofs.Common.{◌≡◌, ℕ, Bool, List, [], length, take, Option, Result, Ok, Err, refl}
 use Rattle.std.proofs.Common.{inr, arith, take_all}
 use Rattle.std.specs.Io.KnownBytes.{Appends, Keeps}
 use Rattle.std.proofs.KnownBytes.{Appends-kept, Appends-nil, Keeps-refl}
 use Rattle.std.proofs.Math.Seq.{take-append_seam}
 use Rattle.dwp_elf.proofs.SoFar.{SoFar, Keeps-from_none}
 use Rattle.thorin_queries.specs.Answers.{Answer, HasBeginning, Comes, Offer, Reads, FailsToRead}
-use Rattle.thorin_queries.specs.Finding.{Seeks, FindsAsked}
+use Rattle.thorin_queries.specs.Finding.{Seeks, FindsAsked, find_answer}
 use Rattle.thorin_queries.specs.declared.output.Failure.{Failure}
 use Rattle.thorin_queries.specs.declared.output.Failure.TheVariants as failures
+use Rattle.thorin_queries.specs.declared.wanted.Sought.{Sought}
 use Rattle.thorin_queries.specs.declared.wanted.Wanted.{Wanted}
 use Rattle.dwp_table.specs.declared.object.DwarfObject.{DwarfObject}
 
@@ -57,6 +58,18 @@ pub unread : (offer : Offer) (path : List ℕ) (meant : List ℕ → Answer) (a 
     (failure : Failure) → FailsToRead offer path failure → Reads offer path meant a a (Err failure)
 unfolding Reads
 unread offer path meant a failure h = inr (h, Keeps-refl a)
+
+-- the words ask for a unit, and for something of it
+pub sought_found : (offer : Offer) (path : List ℕ) (as_json : Bool) (a b : Option (List ℕ))
+    (object : Result DwarfObject Failure) (wanted : Result Wanted Failure) (sought : Sought)
+    (result : Result ℕ Failure) → Seeks as_json object wanted (Ok sought)
+    → Reads offer path (find_answer sought.as_json sought.wanted sought.object) a b result
+    → FindsAsked offer path as_json a b object wanted result
+sought_found offer path as_json a b (Ok object) (Ok wanted) sought result e r =
+    let same : sought ≡ record { object = object; wanted = wanted; as_json = as_json } = cc in
+    rw same at r
+sought_found offer path as_json a b (Ok object) (Err failure) sought result e r = absurd (cc)
+sought_found offer path as_json a b (Err failure) wanted sought result e r = absurd (cc)
 
 -- the words ask for no unit, or for nothing of it: nothing was handed over
 pub not_sought : (offer : Offer) (path : List ℕ) (as_json : Bool) (a : Option (List ℕ))

@@ -1,6 +1,6 @@
 -- What was told of the units that an executable names.
 use Rattle.std.proofs.Common.{◌≡◌, ◌≢◌, List, [], ◌∷◌, ◌++◌, ℕ, Option, Some, None, Result, Ok, Err}
-use Rattle.std.proofs.Common.{OnOk, arith, refl, append_assoc, append-nil}
+use Rattle.std.proofs.Common.{◌<◌, length, OnOk, Bool, true, false, arith, refl, append_assoc}
 use Rattle.dwp_index.specs.Package.{Package, FoundUnit, found}
 use Rattle.dwp_index.specs.declared.error.PackageError.{PackageError}
 use Rattle.thorin_executable.specs.Skeletons.{Named, Listed}
@@ -9,9 +9,9 @@ use Rattle.thorin_errors.specs.Errors.{ErrorValue, error_of}
 use Rattle.thorin_errors.specs.declared.error.Error.{Error}
 use Rattle.thorin_errors.specs.declared.error.Error.TheVariants.{Memory}
 use Rattle.thorin_queries.specs.Faults.{fault_line, missing_text, missing_lines, IsBroken, TellsEnd}
-use Rattle.thorin_queries.specs.Faults.{TellsListed}
+use Rattle.thorin_queries.specs.Faults.{TellsListed, TellsNext, answering}
 use Rattle.thorin_queries.specs.Telling.{Outcome, Progress, Told, Tells, Is}
-use Rattle.thorin_queries.proofs.Told.{told_then, stopped_behind}
+use Rattle.thorin_queries.proofs.Told.{none_told, told_then}
 
 module _ (executable : List ℕ) (named : Named)
     (looked : Result (Option FoundUnit) PackageError) where
@@ -51,7 +51,7 @@ module _ (pack : Package) (executable : List ℕ) where
     pub on_none : GoesOn all []
     on_none = record { on = λ more t. t }
 
-    pub on_next : (before after : Listed) (first : Named) → before ≡ (first ∷ after.0, after.1)
+    on_next : (before after : Listed) (first : Named) → before ≡ (first ∷ after.0, after.1)
         → (ls ms : List (List ℕ)) → GoesOn before ls
         → Is (missing_lines executable first (found pack first.0)) ms → GoesOn after (ls ++ ms)
     on_next before after first e ls ms h k = record {
@@ -59,16 +59,41 @@ module _ (pack : Package) (executable : List ℕ) where
           (record { ended = t.ended; end = t.end; all = rw (t.all, k, append_assoc) refl })));
     }
 
-    pub on_end : (before : Listed) → before ≡ ([], None) → (ls : List (List ℕ))
-        → GoesOn before ls → TellsListed pack executable all ls
-    on_end before e ls h = rw (← append-nil ls) (h.on [] (at_end before [] e refl))
+    -- what was told of the next of them
+    module _ (before after : Listed) {a b c : Progress} (more : Bool)
+        (p : Told (GoesOn before) a b)
+        (t : TellsNext pack executable before after b c (Ok more)) where
+      pub told_first : more ≡ true → Told (GoesOn after) a c
+      told_first one =
+          let h = rw one at t in told_then (on_next before after h.first h.split) p h.told
 
-    -- the error that ends a list was told
-    pub end_broken : (before : Listed) {a b : Progress} (c : Progress) (error : Error)
-        (result : Outcome) → MemoryAside error (before ≡ ([], Some (error_of error)))
-        → OnOk result (error ≢ Memory) → Told (GoesOn before) a b
-        → Tells (IsBroken executable) b c result
-        → Tells (TellsListed pack executable all) a c result
-    end_broken before c error (Ok done) aside known p q =
-        told_then (λ ls ms h k. h.on ms (at_end before ms (aside known) k)) p q
-    end_broken before c error (Err failure) aside known p q = stopped_behind c.written p q
+      pub told_last : more ≡ false → Told (TellsListed pack executable all) a c
+      told_last none =
+          let last = rw none at t in told_then (λ ls ms h k. h.on ms k) p last
+
+  -- ---- the next of the units that are left
+
+  pub next_first : (before after : Listed) (a b : Progress) (first : Named) (told : Outcome)
+      → before ≡ (first ∷ after.0, after.1)
+      → Tells (Is (missing_lines executable first (found pack first.0))) a b told
+      → TellsNext pack executable before after a b (answering told true)
+  next_first before after a b first (Ok done) split t =
+      record { first = first; split = split; told = t }
+  next_first before after a b first (Err failure) split t = t
+
+  pub next_shorter : (before after : Listed) (a b : Progress) (more : Bool) → more ≡ true
+      → TellsNext pack executable before after a b (Ok more) → length after.0 < length before.0
+  next_shorter before after a b more one t =
+      let h = rw one at t in rw h.split (omega arith)
+
+  pub next_end : (before after : Listed) (a : Progress) → before ≡ ([], None)
+      → TellsNext pack executable before after a a (Ok false)
+  next_end before after a e = none_told _ (at_end before [] e refl) a
+
+  pub next_broken : (before after : Listed) (a b : Progress) (error : Error) (told : Outcome)
+      → MemoryAside error (before ≡ ([], Some (error_of error))) → OnOk told (error ≢ Memory)
+      → Tells (IsBroken executable) a b told
+      → TellsNext pack executable before after a b (answering told false)
+  next_broken before after a b error (Ok done) aside known t =
+      read_broken before a b error (Ok done) aside known t
+  next_broken before after a b error (Err failure) aside known t = t

@@ -23,7 +23,8 @@ use Rattle.thorin_queries.specs.Lines.{hex16, line_end, short_kind}
 use Rattle.thorin_queries.specs.Overlaps.{IsClash, overlap_text}
 use Rattle.thorin_queries.specs.Shown.{shown}
 use Rattle.thorin_queries.specs.Telling.{Outcome, Progress, Grows, Is, IsNone, IsLine, ForEach}
-use Rattle.thorin_queries.specs.Telling.{Tells}
+use Rattle.thorin_queries.specs.Telling.{Tells, Told, IsOfPrinting}
+use Rattle.thorin_queries.specs.declared.output.Failure.{Failure}
 use Rattle.thorin_queries.specs.declared.output.Failure.TheVariants as failures
 use Rattle.thorin_words.specs.Printed.{printed}
 use Rattle.dwp_index.specs.Contents.{content}
@@ -208,3 +209,25 @@ pub record TellsListed (pack : Package) (executable : List ℕ) (listed : Listed
   pub end : TellsEnd executable listed.1 ended
   pub all : lines ≡ flat_map (λ named. missing_lines executable named (found pack named.0))
       listed.0 ++ ended
+
+-- the first of the units that are left was told of
+pub record TellsFirst (pack : Package) (executable : List ℕ) (before after : Listed)
+    (old new : Progress) : Type 0 where
+  pub first : Named
+  pub split : before ≡ (first ∷ after.0, after.1)
+  pub told : Told (Is (missing_lines executable first (found pack first.0))) old new
+
+-- the same, where there is one; else the end was told of
+abbrev pub TellsNext : Package → (executable : List ℕ) → (before after : Listed)
+    → (old new : Progress) → Result Bool Failure → Type 0
+TellsNext pack executable before after old new (Ok true) =
+    TellsFirst pack executable before after old new
+TellsNext pack executable before after old new (Ok false) =
+    Told (TellsListed pack executable before) old new
+TellsNext pack executable before after old new (Err failure) =
+    IsOfPrinting failure × Grows old.written new.written
+
+-- an answer, unless telling failed
+abbrev pub answering : Outcome → Bool → Result Bool Failure
+answering (Ok done) more = Ok more
+answering (Err failure) more = Err failure

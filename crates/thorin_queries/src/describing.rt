@@ -1,11 +1,13 @@
 //! What `thorin find` tells of a unit, plain and in JSON.
 
-ghost use Rattle.std.specs.Prelude.{◌≡◌, ◌++◌, OnOk, string_bytes};
+ghost use Rattle.std.specs.Prelude.{◌≡◌, ◌++◌, OnOk, string_bytes, codes};
+ghost use Rattle.std.specs.Fmt.{decimal};
 ghost use Rattle.thorin_queries.specs.Finding.{width, encoding_line, json_encoding, range_text};
 ghost use Rattle.thorin_queries.specs.Finding.{range_texts, counts_text, all_text};
 ghost use Rattle.thorin_queries.specs.Json.{json_unit, json_numbers};
+ghost use Rattle.thorin_queries.specs.Lines.{hex, line_end};
 
-use crate::finding::{short_kind, string_count};
+use crate::finding::{put_object, short_kind, string_count};
 use dwp_base::{Contribution, SectionKind};
 use dwp_bytes::{Encoding, Format};
 use dwp_index::PackagedUnit;
@@ -34,7 +36,7 @@ pub(crate) fn put_all(
 }
 
 /// Adds the line of a unit's encoding.
-#[tactic(auto, using(crate::proofs::Hex::hex16_written), unfolding(crate::specs::Finding::encoding_line))]
+#[tactic(auto, unfolding(crate::specs::Finding::encoding_line))]
 fn put_encoding(
     object: DwarfObject,
     encoding: Encoding,
@@ -43,15 +45,11 @@ fn put_encoding(
     ensures { OnOk result (string_bytes text.new
         ≡ string_bytes text.old ++ encoding_line object encoding) }
 {
-    let kind = short_kind(object);
-    let id = object.index();
+    put_object(object, text)?;
     let version = encoding.version;
     let width = width(encoding.format);
     let address = encoding.address_size;
-    writeln!(
-        text,
-        "{kind} 0x{id:016x} version {version} format {width} address {address}"
-    )
+    writeln!(text, " version {version} format {width} address {address}")
 }
 
 /// How many bits an offset has.
@@ -95,7 +93,7 @@ fn put_json_numbers(encoding: Encoding, text: &mut String) -> Result<(), AllocEr
 
 /// Adds the beginning of the object, up to the unit's identifier.
 #[tactic(auto, using(crate::proofs::Hex::hex16_written), unfolding(crate::specs::Json::json_unit))]
-fn put_json_unit(object: DwarfObject, text: &mut String) -> Result<(), AllocError>
+pub(crate) fn put_json_unit(object: DwarfObject, text: &mut String) -> Result<(), AllocError>
     ensures { OnOk result (string_bytes text.new
         ≡ string_bytes text.old ++ json_unit object) }
 {
@@ -130,13 +128,33 @@ fn put_range(
         return Ok(());
     };
     let name = kind.short_name();
+    if as_json {
+        put_json_range(name, range, text)
+    } else {
+        put_plain_range(name, range, text)
+    }
+}
+
+/// Adds a range of a section of a name to an object.
+fn put_json_range(name: &str, range: Contribution, text: &mut String) -> Result<(), AllocError>
+    ensures { OnOk result (string_bytes text.new ≡ string_bytes text.old
+        ++ (codes ",\"" ++ (name.now ++ (codes "\":{\"offset\":" ++ (decimal range.offset.0
+        ++ (codes ",\"size\":" ++ (decimal range.size ++ codes "}"))))))) }
+{
     let offset = range.offset.0;
     let size = range.size;
-    if as_json {
-        write!(text, ",\"{name}\":{{\"offset\":{offset},\"size\":{size}}}")
-    } else {
-        writeln!(text, "{name} 0x{offset:x} 0x{size:x}")
-    }
+    write!(text, ",\"{name}\":{{\"offset\":{offset},\"size\":{size}}}")
+}
+
+/// Adds the line of a range of a section of a name.
+fn put_plain_range(name: &str, range: Contribution, text: &mut String) -> Result<(), AllocError>
+    ensures { OnOk result (string_bytes text.new ≡ string_bytes text.old
+        ++ (name.now ++ (codes " 0x" ++ (hex range.offset.0
+        ++ (codes " 0x" ++ (hex range.size ++ line_end)))))) }
+{
+    let offset = range.offset.0;
+    let size = range.size;
+    writeln!(text, "{name} 0x{offset:x} 0x{size:x}")
 }
 
 /// Adds the numbers of a unit's strings and of slots: in lines, or as the end of the object.

@@ -7,7 +7,7 @@ ghost use Rattle.thorin_errors.specs.declared.error.Error.TheVariants.{Memory};
 ghost use Rattle.thorin_queries.specs.Checking.{IsOfChecking, IsOfReading, TellsExecutables};
 ghost use Rattle.thorin_queries.specs.Checking.{TellsExecutable, TellsTaken};
 ghost use Rattle.thorin_queries.specs.Faults.{TellsListed, missing_text, missing_lines, IsTextOf};
-ghost use Rattle.thorin_queries.specs.Faults.{broken_line, IsBroken};
+ghost use Rattle.thorin_queries.specs.Faults.{broken_line, IsBroken, TellsNext, answering};
 ghost use Rattle.thorin_queries.specs.Telling.{progress, Tells, TellsOr, Is};
 
 use crate::faults::{Faults, pass_on, some, tell};
@@ -147,7 +147,6 @@ fn check_taken<O: Write>(
 }
 
 /// The same, with a session that holds what is made of them.
-#[tactic(auto, using(crate::proofs::Skeletons::read_broken))]
 fn check_named<'s, Sess: Session<RelocationEntry>, O: Write>(
     session: &'s Sess,
     naming: Naming<'_, '_>,
@@ -179,18 +178,65 @@ fn check_skeletons<O: Write>(
         result }
 {
     loop {
-        match units.next() {
-            Ok(Some(unit)) => {
-                let text = skeleton_text(naming, unit.target, units.path(), &faults.waiting);
-                match tell(unit.target, text, faults, out) {
-                    Ok(()) => {}
-                    Err(failure) => return Err(failure),
+        match check_next(naming, units, faults, out) {
+            Ok(more) => {
+                if !more {
+                    return Ok(());
                 }
             }
-            Ok(None) => return Ok(()),
-            Err(error) => return tell_error(naming.executable, &error, faults, out),
+            Err(failure) => return Err(failure),
         }
     }
+}
+
+/// The same of the next of them. Answers whether there was one.
+fn check_next<O: Write>(
+    naming: Naming<'_, '_>,
+    units: &mut NamedUnits<'_>,
+    faults: &mut Faults,
+    out: &mut O,
+) -> Result<bool, Failure>
+    ensures { TellsNext naming.entry.pack.now naming.entry.executable.now units.old.listed
+        units.new.listed (progress (O.contents out.old) faults.old)
+        (progress (O.contents out.new) faults.new) result }
+{
+    match units.next() {
+        Ok(Some(unit)) => {
+            let told = check_skeleton(naming, unit.target, units.path(), faults, out);
+            answering(told, true)
+        }
+        Ok(None) => Ok(false),
+        Err(error) => {
+            let told = tell_error(naming.executable, &error, faults, out);
+            answering(told, false)
+        }
+    }
+}
+
+/// An answer, unless telling failed.
+fn answering(told: Result<(), Failure>, more: bool) -> Result<bool, Failure>
+    ensures { result ≡ answering told more }
+{
+    match told {
+        Ok(()) => Ok(more),
+        Err(failure) => Err(failure),
+    }
+}
+
+/// A unit that an executable names is in the package.
+fn check_skeleton<O: Write>(
+    naming: Naming<'_, '_>,
+    object: DwarfObject,
+    path: &str,
+    faults: &mut Faults,
+    out: &mut O,
+) -> Result<(), Failure>
+    ensures { Tells (Is (missing_lines naming.entry.executable.now (object, path.now)
+        (found naming.entry.pack.now object))) (progress (O.contents out.old) faults.old)
+        (progress (O.contents out.new) faults.new) result }
+{
+    let text = skeleton_text(naming, object, path, &faults.waiting);
+    tell(object, text, faults, out)
 }
 
 /// What is told of a unit that an executable names, where it isn't in the package; what a slot names
@@ -225,7 +271,6 @@ fn missing_text(alloc: Global, executable: &str, path: &str) -> Result<String, A
 }
 
 /// Tells why an executable can't be read to its end.
-#[tactic(auto, using(crate::proofs::Faulted::broken, crate::proofs::Told::passed))]
 fn tell_error<O: Write>(
     executable: &str,
     error: &Error,

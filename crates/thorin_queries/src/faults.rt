@@ -4,9 +4,9 @@ ghost use Rattle.std.specs.Prelude.{◌≡◌, ◌++◌, [], OnOk, string_bytes}
 ghost use Rattle.thorin_queries.specs.Telling.{progress, HandsOver, PassesOn};
 ghost use Rattle.thorin_queries.specs.Faults.{fault_line, TellsText, IsSomeText};
 
-use crate::finding::short_kind;
+use crate::finding::put_object;
 use crate::output::{Failure, print};
-use dwp_table::{Bucketable, DwarfObject};
+use dwp_table::DwarfObject;
 use std::alloc::{AllocError, Global};
 use std::io::Write;
 
@@ -106,12 +106,11 @@ pub(crate) fn some(text: Result<String, AllocError>) -> Result<Option<String>, A
 }
 
 /// Adds the line of a fault of a unit.
-#[tactic(auto, using(crate::proofs::Hex::hex16_written), unfolding(crate::specs::Faults::fault_line))]
+#[tactic(auto, unfolding(crate::specs::Faults::fault_line))]
 fn put_fault(object: DwarfObject, text: &str, waiting: &mut String) -> Result<(), AllocError>
     ensures { OnOk result (string_bytes waiting.new
         ≡ string_bytes waiting.old ++ fault_line object text.now) }
 {
-    let kind = short_kind(object);
-    let id = object.index();
-    writeln!(waiting, "{kind} 0x{id:016x}: {text}")
+    put_object(object, waiting)?;
+    writeln!(waiting, ": {text}")
 }

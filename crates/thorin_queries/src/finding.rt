@@ -1,13 +1,14 @@
 //! `thorin find`.
 
-ghost use Rattle.std.specs.Prelude.{◌≡◌, ◌++◌, [], IfOk, OnOk, MatchResult, string_bytes};
+ghost use Rattle.std.specs.Prelude.{◌≡◌, ◌++◌, [], IfOk, OnOk, MatchResult, string_bytes, codes};
 ghost use Rattle.std.specs.Option.{option_copied};
 ghost use Rattle.thorin_queries.specs.Answers.{anything, Reads, Comes, refused};
 ghost use Rattle.thorin_queries.specs.Finding.{Finds, Seeks, string_count, string_line};
 ghost use Rattle.thorin_queries.specs.Finding.{string_answer, find_answer, found_answer};
 ghost use Rattle.thorin_queries.specs.Finding.{wanted_answer, string_of, words_of};
 ghost use Rattle.dwp_index.specs.Package.{found_counted};
-ghost use Rattle.thorin_queries.specs.Lines.{short_kind};
+ghost use Rattle.dwp_table.specs.Objects.{identifier_of};
+ghost use Rattle.thorin_queries.specs.Lines.{hex16, short_kind};
 ghost use Rattle.thorin_queries.specs.declared.wanted.Wanted.TheVariants.{Printed, Bytes};
 
 use crate::describing::put_all;
@@ -59,7 +60,6 @@ pub fn find<O: Write>(
 ///
 /// # Errors
 /// Those of `find`.
-#[tactic(auto, using(crate::proofs::Printed::not_sought))]
 pub fn find_by<F: FileReader, O: Write>(
     alloc: Global,
     files: &F,
@@ -163,7 +163,7 @@ fn print_section<O: Write>(
 {
     match section_of_bytes(bytes, object, kind, as_json) {
         Ok(section) => answer_bytes(section, Ok(0), out),
-        Err(failure) => answer_bytes(&[], Err(failure), out),
+        Err(failure) => Err(failure),
     }
 }
 
@@ -349,6 +349,17 @@ pub(crate) fn short_kind(object: DwarfObject) -> &'static str
         DwarfObject::Compilation(_) => "cu",
         DwarfObject::TypeUnit(_) => "tu",
     }
+}
+
+/// Adds a unit's kind and its identifier.
+#[tactic(auto, using(crate::proofs::Hex::hex16_written))]
+pub(crate) fn put_object(object: DwarfObject, text: &mut String) -> Result<(), AllocError>
+    ensures { OnOk result (string_bytes text.new ≡ string_bytes text.old
+        ++ (short_kind object ++ (codes " 0x" ++ hex16 (identifier_of object)))) }
+{
+    let kind = short_kind(object);
+    let id = object.index();
+    write!(text, "{kind} 0x{id:016x}")
 }
 
 /// How many strings a unit has, whether or not they can be read.

@@ -10,8 +10,9 @@ ghost use Rattle.thorin_queries.specs.Listing.{front_of, named_by, unit_names, e
 ghost use Rattle.thorin_queries.specs.Listing.{unit_line, AddsLine, lines_of, IsListed};
 ghost use Rattle.thorin_queries.specs.Listing.{ListsPackage, ListsBytes, Lists};
 
+use crate::describing::put_json_unit;
 use crate::files::{FileReader, HostReader, read_named};
-use crate::finding::short_kind;
+use crate::finding::put_object;
 use crate::names::Strings;
 use crate::output::{Failure, answer};
 use crate::sizes::Sizes;
@@ -19,7 +20,7 @@ use crate::spelled::put_spelled_or;
 use dwp_base::SectionKind;
 use dwp_elf::Contribution;
 use dwp_index::{PackageFile, PackagedUnit, UnitEntry};
-use dwp_table::{Bucketable, CONTRIBUTION_KINDS, DwarfObject};
+use dwp_table::{CONTRIBUTION_KINDS, DwarfObject};
 use std::alloc::{AllocError, Global};
 use std::io::Write;
 
@@ -272,7 +273,7 @@ fn put_unit<'a>(
 }
 
 /// Adds what a line begins with: a unit's kind, its identifier and its size.
-#[tactic(auto, using(crate::proofs::Hex::hex16_written), unfolding(crate::specs::Listing::unit_front, crate::specs::Listing::json_front))]
+#[tactic(auto, unfolding(crate::specs::Listing::unit_front, crate::specs::Listing::json_front, crate::specs::Json::json_unit))]
 fn put_front(
     object: DwarfObject,
     unit: &PackagedUnit<'_>,
@@ -282,16 +283,13 @@ fn put_front(
     ensures { OnOk result (string_bytes text.new
         ≡ string_bytes text.old ++ front_of as_json object unit.now) }
 {
-    let kind = short_kind(object);
-    let id = object.index();
     let size = unit.bytes().len();
     if as_json {
-        write!(
-            text,
-            "{{\"kind\":\"{kind}\",\"id\":\"0x{id:016x}\",\"size\":{size}"
-        )
+        put_json_unit(object, text)?;
+        write!(text, "\",\"size\":{size}")
     } else {
-        write!(text, "{kind} 0x{id:016x} {size}")
+        put_object(object, text)?;
+        write!(text, " {size}")
     }
 }
 

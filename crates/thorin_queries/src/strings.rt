@@ -205,7 +205,19 @@ fn string_text(
 fn unread_text(i: u64, error: ReadError, near: &String) -> Result<String, AllocError>
     ensures { IfOk result (λ text. (cause : List ℕ) × (string_bytes text ≡ string_text i cause)) }
 {
-    let cause = format!(in *near.allocator(); "{error}")?;
-    let cause = cause.as_str();
-    format!(in *near.allocator(); "string {i} can't be read: {cause}")
+    let alloc = *near.allocator();
+    let cause = error_text(alloc, error)?;
+    text_with(alloc, i, cause.as_str())
+}
+
+/// Why a string can't be read.
+fn error_text(alloc: Global, error: ReadError) -> Result<String, AllocError> {
+    format!(in alloc; "{error}")
+}
+
+/// What is told of a string, with why it can't be read.
+fn text_with(alloc: Global, i: u64, cause: &str) -> Result<String, AllocError>
+    ensures { IfOk result (λ text. string_bytes text ≡ string_text i cause.now) }
+{
+    format!(in alloc; "string {i} can't be read: {cause}")
 }

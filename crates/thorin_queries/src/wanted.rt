@@ -106,7 +106,6 @@ fn number(text: &str) -> Option<u64>
 }
 
 /// The bytes of a section.
-#[tactic(auto, using(crate::proofs::Asked::its_short_name, crate::proofs::Asked::no_short_name))]
 fn section_wanted(text: &str) -> Result<Wanted, Failure>
     ensures { AsksSection text.now result }
 {

@@ -21,14 +21,15 @@ made_by : {V E : Type 0} (A B C : File → Type 0) (r : Result (File × V) E)
 made_by A B C (Ok made) f a b = f made.0 a b
 made_by A B C (Err e) f a b = tt
 
-pub returns-in-Ok-leave_out : goal.returns-in-Ok-leave_out
-returns-in-Ok-leave_out g c =
-    let state = c.take_all.new.builder.state in
-    let done = c.leave_out.new.builder.state in
+pub returns-in-Ok : goal.returns-in-Ok
+returns-in-Ok g c =
+    let filled = rw c.new-builder.ensures.state at c.in-Ok.ensures in
+    let took = filled.took in
+    let state = filled.state in
+    let done = c.fill.new.builder.state in
     let partial = c.args.telling.partial in
     let outcome : Input → Outcome = λ i. Ok tt in
-    let took = rw c.new-builder.ensures.state at c.in-Ok.ensures in
-    let now : done ≡ left partial state = c.in-Ok-leave_out.ensures in
+    let now : done ≡ left partial state = filled.rest in
     let units : units_in done ≡ units_in state = ap units_in now ∙ units_left partial state in
     made_by (IsFinishedState done) (λ o. IsPackageOf (units_in done) (file_text o))
     (IsPackedFrom partial (g.I.Inputs.opens c.args.inputs.now)
