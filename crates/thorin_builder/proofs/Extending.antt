@@ -4,6 +4,7 @@ use Terms.{◌++◌, [], append-nil, Contents, Extends, false, File, InProgress,
 use Terms.{map, map-append, New, new_units, Ok, parts_of, refl, Result, rules, Source, sym, take}
 use Terms.{take-append_seam, take-length, true, with_all, with_source, ℕ, ◌∷◌, ◌≡◌}
 use Rattle.dwp_table.specs.declared.object.DebugTypeSignature.{DebugTypeSignature}
+use Rattle.std.proofs.Common.{arith, length-take, take-take}
 use Rattle.std.specs.Result.{OnOk, OnErr, is_err}
 use Rattle.dwp_elf.specs.Growing.{Begins}
 use Rattle.thorin_join.specs.State.{abbreviations_test, adding}
@@ -46,6 +47,24 @@ pub grown-extends : {p : InProgress} {f : File} {strings : List (List ℕ)} {dif
 grown-extends {p = p} grown kept more =
     let file = grown p.file (is_grown-refl p.file) in
     let rows = take-length p.rows in assumption
+
+-- what keeps those before it keeps those before them
+still-kept : {A : Type 0} (old now new : List A) → take (length old) now ≡ old
+    → take (length now) new ≡ now → take (length old) new ≡ old
+still-kept old now new first second =
+    grind (arith, length-take (length old) now, take-take (length old) (length now) new)
+
+-- the same of what lost nothing of an earlier one
+pub still-extends : {before p : InProgress} {f : File} {differing : List ℕ} → Extends before p
+    → ((b : File) → IsGrown b p.file → IsGrown b f)
+    → take (length p.differing) differing ≡ p.differing
+    → Extends before (record p { file = f; differing = differing })
+still-extends {before = before} {p = p} {differing = differing} h grown more = record {
+  file = grown before.file h.file;
+  strings = h.strings;
+  rows = h.rows;
+  differing = still-kept before.differing p.differing differing h.differing more;
+}
 
 pub strings-extend : {p : InProgress} {strings : List (List ℕ)}
     → take (length p.strings) strings ≡ p.strings → Extends p (record p { strings = strings })

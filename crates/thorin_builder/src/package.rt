@@ -2,7 +2,8 @@
 //! calls for executables are in `executables`.
 
 ghost use Rattle.std.specs.Prelude.{◌≡◌, ℕ, List, map, filter, length, IsTrue, IfOk, IfErr, OnOk};
-ghost use Rattle.std.specs.Prelude.{OnErr, IfSome};
+ghost use Rattle.std.specs.Prelude.{OnErr, IfSome, Option, []};
+ghost use Rattle.dwp_bytes.specs.declared.encoding.Encoding.{Encoding as OwnEncoding};
 ghost use Rattle.thorin_errors.specs.Answers.{Gives};
 ghost use Rattle.std.specs.Path.{path_bytes};
 ghost use Rattle.thorin_join.specs.Builder as spec;
@@ -278,7 +279,6 @@ impl<'output, 'session: 'output, Sess: Session<RelocationEntry>> DwarfPackage<
 
     /// What `finish` gives, and beside it, even where `finish` refuses, the signatures that
     /// `differing_types` gives. The list is moved, which takes no memory.
-    #[tactic(auto, unfolding(thorin_join::specs::Builder::finish_test))]
     pub fn finish_with_differing(self) -> (Result<WritableObject, Error>, Vec<DebugTypeSignature>)
         ensures refusal { Gives (λ _. tt) result.0 (spec.finish_test self.entry.state) }
         ensures finished { IfOk result.0 (IsFinishedState self.entry.state) }
@@ -296,20 +296,11 @@ impl<'output, 'session: 'output, Sess: Session<RelocationEntry>> DwarfPackage<
             own: _,
             output: _,
         } = self;
-        let contained = match &in_progress {
-            Some(package) => package.names(),
-            None => &no_units,
-        };
         finished_packages_are_read();
         own_packages_are_accepted();
         own_packages_are_accepted_by_a_new_one();
-        let tested = test_targets(contained, &targets);
-        match (tested, in_progress) {
-            (Ok(()), Some(package)) => package.into_finished(),
-            (Ok(()), None) => (Err(Error::NoOutputObjectCreated), Vec::new(alloc)),
-            (Err(e), Some(package)) => (Err(e), package.into_differing()),
-            (Err(e), None) => (Err(e), Vec::new(alloc)),
-        }
+        let tested = test_targets(contained_in(&in_progress, &no_units), &targets);
+        finished_begun(alloc, in_progress, &targets, tested)
     }
 
     /// The units that the package contains, in order of acceptance. It takes no memory. A proof
@@ -366,6 +357,53 @@ impl<'output, 'session: 'output, Sess: Session<RelocationEntry>> DwarfPackage<
             ≡ filter (spec.is_missing (spec.names_in self.now.state.begun)) self.now.state.targets }
     {
         MissingTargets::new(self.contained_units(), &self.targets)
+    }
+}
+
+/// The names of a package's units; `no_units` where no input has begun one.
+fn contained_in<'p>(
+    in_progress: &'p Option<InProgressDwarfPackage>,
+    no_units: &'p IndexSet<DwarfObject>,
+) -> &'p IndexSet<DwarfObject>
+    requires { no_units.now.keys ≡ [] }
+    ensures { result.now.keys ≡ spec.names_in (begun_of in_progress.now) }
+{
+    match in_progress {
+        Some(package) => package.names(),
+        None => no_units,
+    }
+}
+
+/// What is made of a package, where an input has begun one, once the targets were tested; and the
+/// signatures of its type units that differ.
+#[tactic(auto, unfolding(thorin_join::specs::Builder::finish_test))]
+fn finished_begun(
+    alloc: Global,
+    in_progress: Option<InProgressDwarfPackage>,
+    targets: &IndexSet<DwarfObject>,
+    tested: Result<(), Error>,
+) -> (Result<WritableObject, Error>, Vec<DebugTypeSignature>)
+    requires { Gives (λ _. tt) tested
+        (spec.targets_test (spec.names_in (begun_of in_progress)) targets.now.keys) }
+    ensures refusal { (own : Option OwnEncoding) → Gives (λ _. tt) result.0 (spec.finish_test
+        (record { begun = begun_of in_progress; targets = targets.now.keys; own = own })) }
+    ensures finished { (own : Option OwnEncoding) → IfOk result.0 (IsFinishedState (record {
+      begun = begun_of in_progress;
+      targets = targets.now.keys;
+      own = own;
+    })) }
+    ensures differing { map (λ s. s.0) result.1.items
+        ≡ spec.differing_begun (begun_of in_progress) }
+{
+    match in_progress {
+        Some(package) => match tested {
+            Ok(()) => package.into_finished(),
+            Err(e) => (Err(e), package.into_differing()),
+        },
+        None => match tested {
+            Ok(()) => (Err(Error::NoOutputObjectCreated), Vec::new(alloc)),
+            Err(e) => (Err(e), Vec::new(alloc)),
+        },
     }
 }
 

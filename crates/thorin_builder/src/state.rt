@@ -158,16 +158,30 @@ impl InProgressDwarfPackage {
             (spec.with_source (view.source source.now) (in_progress_of self.old)) }
         ensures extends { spec.Extends (in_progress_of self.old) (in_progress_of self.new) }
     {
-        let alloc = self.alloc;
-        let parts = parts_of(alloc, source, &mut self.strings)?;
+        let parts = parts_of(self.alloc, source, &mut self.strings)?;
         if !source.object.has_abbreviations {
             return Err(Error::MissingRequiredSection(SectionKind::Abbrev.name()));
         }
         let new = self.new_units(source, &parts)?;
+        self.add_all(parts, &new)?;
+        Ok(new.alike)
+    }
+
+    /// Adds parts and units, over strings that are there. It refuses for memory alone, and may then
+    /// leave more than there was.
+    fn add_all(&mut self, parts: Vec<Part<'_>>, new: &NewUnits<'_>) -> Result<(), Error>
+        ensures meaning { OnOk result (in_progress_of self.new
+            ≡ spec.with_all (in_progress_of self.old) (
+              map view.part parts.entry.items,
+              (in_progress_of self.old).strings,
+            ) (new_of new.now)) }
+        ensures refused { IfErr result (λ e. e ≡ Error.Memory) }
+        ensures extends { (before : spec.InProgress) → spec.Extends before (in_progress_of self.old)
+            → spec.Extends before (in_progress_of self.new) }
+    {
         put_parts(&mut self.object, parts)?;
         self.differing.extend_from_slice(&new.differing)?;
-        self.append_units(&new)?;
-        Ok(new.alike)
+        self.append_units(new)
     }
 
     /// Adds units. It refuses for memory alone.

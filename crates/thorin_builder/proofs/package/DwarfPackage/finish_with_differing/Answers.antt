@@ -1,6 +1,8 @@
 use Rattle.thorin_builder.proofs.Terms.{Error, File, finish_test, Gives, IfOk, IsFinishedState, Ok}
-use Rattle.thorin_builder.proofs.Terms.{Result, rules, State, ◌≡◌}
+use Rattle.thorin_builder.proofs.Terms.{Result, rules, State, units_in, ◌≡◌}
+use Rattle.thorin_builder.specs.StateView.{begun_of}
 use Rattle.thorin_again.specs.OwnAccepted.{IsAcceptedOnceWritten, IsAcceptedByNewOnceWritten}
+use Rattle.thorin_join.specs.Join.{IsPackageOnceWritten}
 use Rattle.thorin_builder.proofs.package.DwarfPackage.finish_with_differing.Goals as goal
 
 -- what is so of what was finished, by a law
@@ -9,18 +11,34 @@ by-law : (P : State → File → Type 0) (r : Result File Error) (state : State)
     → Gives (λ _. tt) r (finish_test state) → IfOk r (IsFinishedState state) → IfOk r (P state)
 by-law P r state law tested finished = grind rules
 
-pub returns-in-Ok-Some-clause-accepted : goal.returns-in-Ok-Some-clause-accepted
-unfolding finish_test
-returns-in-Ok-Some-clause-accepted g c =
-    rw (← c.self.view_is) (by-law IsAcceptedOnceWritten c.into_finished.result.0 _
-    (λ file. c.own_packages_are_accepted.ensures _ file c.self.invariant.1 c.self.invariant.2
-    c.self.invariant.3) (search (rules, c.into_finished.ensures.refusal))
-    (search (rules, c.into_finished.ensures.finished, c.into_finished.ensures.identifiers)))
+pub returns-clause-refusal : goal.returns-clause-refusal
+returns-clause-refusal g c = rw (← c.self.view_is) (c.finished_begun.ensures.refusal _)
 
-pub returns-in-Ok-Some-clause-accepted_by_new : goal.returns-in-Ok-Some-clause-accepted_by_new
-unfolding finish_test
-returns-in-Ok-Some-clause-accepted_by_new g c =
-    rw (← c.self.view_is) (by-law IsAcceptedByNewOnceWritten c.into_finished.result.0 _
+pub returns-clause-finished : goal.returns-clause-finished
+returns-clause-finished g c = rw (← c.self.view_is) (c.finished_begun.ensures.finished _)
+
+pub returns-clause-packaged : goal.returns-clause-packaged
+returns-clause-packaged g c =
+    let state : State = record {
+      begun = begun_of c.self.inside.in_progress;
+      targets = c.self.inside.targets.keys;
+      own = c.self.inside.own;
+    } in
+    rw (← c.self.view_is) (by-law (λ of. IsPackageOnceWritten (units_in of))
+    c.finished_begun.result.0 state
+    (λ file. c.finished_packages_are_read.ensures state file c.self.invariant.1)
+    (c.finished_begun.ensures.refusal c.self.inside.own)
+    (c.finished_begun.ensures.finished c.self.inside.own))
+
+pub returns-clause-accepted : goal.returns-clause-accepted
+returns-clause-accepted g c =
+    rw (← c.self.view_is) (by-law IsAcceptedOnceWritten c.finished_begun.result.0 _
+    (λ file. c.own_packages_are_accepted.ensures _ file c.self.invariant.1 c.self.invariant.2
+    c.self.invariant.3) (c.finished_begun.ensures.refusal _) (c.finished_begun.ensures.finished _))
+
+pub returns-clause-accepted_by_new : goal.returns-clause-accepted_by_new
+returns-clause-accepted_by_new g c =
+    rw (← c.self.view_is) (by-law IsAcceptedByNewOnceWritten c.finished_begun.result.0 _
     (λ file. c.own_packages_are_accepted_by_a_new_one.ensures _ file c.self.invariant.1
-    c.self.invariant.2 c.self.invariant.3) (search (rules, c.into_finished.ensures.refusal))
-    (search (rules, c.into_finished.ensures.finished, c.into_finished.ensures.identifiers)))
+    c.self.invariant.2 c.self.invariant.3)
+    (c.finished_begun.ensures.refusal _) (c.finished_begun.ensures.finished _))

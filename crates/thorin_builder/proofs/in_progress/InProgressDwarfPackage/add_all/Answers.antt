@@ -1,0 +1,32 @@
+use Rattle.thorin_builder.proofs.Terms
+use Terms.{in_progress_of, new_of, on_ok_weaker, rules, take-length, with_all, with_new_units, ◌∙◌}
+use Rattle.thorin_builder.proofs.Extending.{signatures, signatures-kept, still-extends}
+use Rattle.thorin_builder.proofs.in_progress.InProgressDwarfPackage.add_all.Goals as goal
+
+pub returns-in_err-put_parts-clause-extends : goal.returns-in_err-put_parts-clause-extends
+returns-in_err-put_parts-clause-extends c before h =
+    still-extends h c.put_parts.ensures.grown (take-length _)
+
+pub returns-in_err-extend_from_slice-clause-extends :
+    goal.returns-in_err-extend_from_slice-clause-extends
+returns-in_err-extend_from_slice-clause-extends c before h =
+    rw c.in_err-extend_from_slice.ensures.items
+    (still-extends h c.put_parts.ensures.grown (take-length _))
+
+pub returns-clause-extends : goal.returns-clause-extends
+returns-clause-extends c before h =
+    c.append_units.ensures.extends before (still-extends h c.put_parts.ensures.grown
+    (signatures-kept c.args.self.now.differing.items c.args.new.now.differing.items
+    c.extend_from_slice.new.self.items
+    (search (rules, c.in_ok-extend_from_slice.ensures.items, c.deref.ensures))))
+
+pub returns-clause-meaning : goal.returns-clause-meaning
+unfolding with_all
+returns-clause-meaning c =
+    let file = c.in_ok-put_parts.ensures.contents in
+    let more = signatures c.args.self.now.differing.items c.args.new.now.differing.items
+    c.extend_from_slice.new.self.items
+    (search (rules, c.in_ok-extend_from_slice.ensures.items, c.deref.ensures)) in
+    on_ok_weaker c.append_units.result (λ is. is ∙ (λ i. with_new_units
+    (record (in_progress_of c.args.self.now) { file = file i; differing = more i })
+    (new_of c.args.new.now).units)) c.append_units.ensures.meaning
