@@ -20,7 +20,7 @@ sys.path.insert(0, str(Path(__file__).resolve().parent))
 from sanitized_library import sanitized  # noqa: E402
 
 ROOT = Path(__file__).resolve().parent.parent
-DATA = ROOT / "crates/test_command_lines/data"
+DATA = ROOT / "command_lines/data"
 CC = os.environ.get("CC", "gcc")
 PLAIN = ["-O2"]
 SANITIZED = ["-g", "-O1", "-fno-omit-frame-pointer", "-fsanitize=address,undefined", "-fno-sanitize-recover=all"]

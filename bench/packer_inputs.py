@@ -270,7 +270,7 @@ def damaged(folder, objects):
     yield "an archive of an object", ["archive.a"]
     yield "the same object twice", good + good
     yield "objects of DWARF 4 and 5", good + file("five.dwo", data["5"])
-    small = Path(__file__).resolve().parent.parent / "crates" / "test_command_lines" / "data"
+    small = Path(__file__).resolve().parent.parent / "command_lines" / "data"
     orders = [file(name, (small / name).read_bytes())[0] for name in ("x.dwo", "big32.dwo")]
     yield "objects of both byte orders", orders
     (folder / "plain.c").write_text("int x;\n")

@@ -21,7 +21,7 @@ import tempfile
 import threading
 
 HERE = os.path.dirname(os.path.abspath(__file__))
-DATA = os.path.join(HERE, "..", "crates", "test_command_lines", "data")
+DATA = os.path.join(HERE, "..", "command_lines", "data")
 
 
 def bytes_of(name):

@@ -1,5 +1,8 @@
 //! The command lines.
 
+ghost use Rattle.std.specs.Prelude.{◌≡◌, IfOk, string_bytes};
+ghost use Rattle.thorin_arguments.specs.Versions.{version_with};
+
 use clap::{Arg, ArgAction, Command};
 use std::alloc::{AllocError, Global};
 
@@ -243,11 +246,21 @@ const LLVM: [Word; 1] = [Word::MayChoose(
 /// What `--version` prints behind the program's name: the version, and the commit where one is
 /// named.
 pub(crate) fn version_of(alloc: Global, commit: &str) -> Result<String, AllocError> {
-    if commit.is_empty() {
-        format!(in alloc; "{VERSION}")
-    } else {
-        format!(in alloc; "{VERSION} ({commit})")
+    version_with(alloc, VERSION, commit)
+}
+
+/// A version, and the commit behind it where one is named.
+#[tactic(auto, unfolding(crate::specs::Versions::version_with))]
+fn version_with(alloc: Global, version: &str, commit: &str) -> Result<String, AllocError>
+    ensures { IfOk result (λ text. string_bytes text ≡ version_with version.now commit.now) }
+{
+    let mut text = String::from_str(alloc, version)?;
+    if !commit.is_empty() {
+        text.push_str(" (")?;
+        text.push_str(commit)?;
+        text.push_str(")")?;
     }
+    Ok(text)
 }
 
 /// The program's command line: `pack`, `find`, `list` and `check`.

@@ -18,3 +18,9 @@ returns-then-slot-hash-clause-found c = search (rules, found_of)
 pub returns-clause-none : goal.returns-clause-none
 returns-clause-none c = none_of _ _ c.loop-number.number _ _ c.home-home.ensures.value (omega arith)
     c.loop-number.invariant (λ more. grind (arith, free_past, c.behind_last-last.ensures))
+
+pub returns-then-slot-hash-clause-next : goal.returns-then-slot-hash-clause-next
+returns-then-slot-hash-clause-next c = search rules
+
+pub returns-then-slot-hash-clause-none : goal.returns-then-slot-hash-clause-none
+returns-then-slot-hash-clause-none c = search rules

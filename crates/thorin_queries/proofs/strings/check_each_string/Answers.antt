@@ -5,6 +5,7 @@ use Rattle.thorin_queries.specs.Finding.{string_of}
 use Rattle.thorin_queries.proofs.Faulted.{text_told, text_stopped}
 use Rattle.thorin_queries.proofs.Told.{told_more}
 use Rattle.thorin_queries.proofs.strings.check_each_string.Goals as goal
+use Rattle.thorin_queries.proofs.Told.{none_told}
 
 pub loop-i-preserved : goal.loop-i-preserved
 loop-i-preserved g c =
@@ -16,3 +17,9 @@ loop-i-preserved g c =
 
 pub returns-in-Err : goal.returns-in-Err
 returns-in-Err g c = text_stopped _ _ _ _ c.loop-i.invariant c.in-Err.ensures
+
+pub loop-i-init : goal.loop-i-init
+loop-i-init g c = grind (arith, none_told)
+
+pub returns : goal.returns
+returns g c = grind (arith, none_told)

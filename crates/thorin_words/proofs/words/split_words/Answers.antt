@@ -8,6 +8,8 @@ use Rattle.thorin_words.proofs.words.split_words.Goals.{else-keeps+then-is_betwe
 use Rattle.thorin_words.proofs.words.split_words.Goals.{else-keeps+else-is_between}
 use Rattle.thorin_words.proofs.words.split_words.Goals.{else-is_between-via-then-is_between+else-not-is_between}
 use Rattle.thorin_words.proofs.words.split_words.Goals.{else-is_between-via-else-is_between}
+use Rattle.std.proofs.Common.{rules}
+use Rattle.thorin_words.specs.Words.{words_of}
 
 pub loop-byte-preserved : goal.loop-byte-preserved
 loop-byte-preserved c =
@@ -35,3 +37,7 @@ loop-byte-preserved c =
             let step = passed word place byte front (cc) (cc) in cc
       ]
     ]
+
+pub loop-byte-init : goal.loop-byte-init
+unfolding words_of
+loop-byte-init c = search rules

@@ -2,6 +2,7 @@ use Rattle.dwp_dwarf.proofs.Terms.{declaration_of, refl, StandsAt, ◌≡◌}
 use Rattle.dwp_dwarf.proofs.Places.{stands_first}
 use Rattle.dwp_dwarf.proofs.cache.AbbreviationCache.number_in.Given.{Over}
 use Rattle.dwp_dwarf.proofs.cache.AbbreviationCache.number_in.Goals as goal
+use Rattle.std.proofs.Common.{rules}
 
 -- the declaration of the code stands where it was first found
 stands : (g : Over) (c : goal.After-number-number g)
@@ -23,3 +24,18 @@ pub returns-in-Some-first-clause-numbered : goal.returns-in-Some-first-clause-nu
 returns-in-Some-first-clause-numbered g c = λ table is.
     let said = rw c.in-Some.is at (c.in_ok-abbreviation.ensures.declared table is) in
     rw (said, c.number-number.ensures.number _ (stands g c) c.self-2.invariant.2) refl
+
+pub invariant_of-self-then-is_at_hand : goal.invariant_of-self-then-is_at_hand
+invariant_of-self-then-is_at_hand g c = search rules
+
+pub returns-else-is_known-clause-numbered : goal.returns-else-is_known-clause-numbered
+returns-else-is_known-clause-numbered g c = search rules
+
+pub returns-in_default-clause-numbered : goal.returns-in_default-clause-numbered
+returns-in_default-clause-numbered g c = search rules
+
+pub returns-in_err-abbreviation-clause-numbered : goal.returns-in_err-abbreviation-clause-numbered
+returns-in_err-abbreviation-clause-numbered g c = search rules
+
+pub returns-then-is_at_hand-clause-numbered : goal.returns-then-is_at_hand-clause-numbered
+returns-then-is_at_hand-clause-numbered g c = search rules

@@ -7,6 +7,7 @@ use Rattle.dwp_dwarf.proofs.cache.AbbreviationCache.split_in.Goals.{in-Some-firs
 use Rattle.dwp_dwarf.proofs.cache.AbbreviationCache.split_in.Goals.{in_default-first+else-is_known}
 use Rattle.dwp_dwarf.proofs.cache.AbbreviationCache.split_in.Goals.{in_default-first+then-is_known+then-is_at_hand}
 use Rattle.dwp_dwarf.proofs.cache.AbbreviationCache.split_in.Goals as goal
+use Rattle.std.proofs.Common.{rules}
 
 -- the declaration of the code stands where it was first found
 stands : (g : Over) (c : goal.After-split-split g)
@@ -51,3 +52,12 @@ returns-clause-split g c = λ table is.
     ] in
     rw (rw c.in-Some.is at (c.in_ok-declared.ensures.declared table is))
     (c.found_split.ensures _ says)
+
+pub invariant_of-self-then-is_at_hand : goal.invariant_of-self-then-is_at_hand
+invariant_of-self-then-is_at_hand g c = search rules
+
+pub returns-in_default-clause-split : goal.returns-in_default-clause-split
+returns-in_default-clause-split g c = search rules
+
+pub returns-in_err-declared-clause-split : goal.returns-in_err-declared-clause-split
+returns-in_err-declared-clause-split g c = search rules

@@ -3,6 +3,7 @@ use Rattle.dwp_strings.proofs.EndLemmas.{ended_free, ended_front, ended_take}
 use Rattle.dwp_strings.proofs.HashedLemmas.{added, entries_few, unplaced, carried_kept}
 use Rattle.dwp_strings.proofs.TableLemmas.{indexed_push}
 use Rattle.dwp_strings.proofs.entries.Entries.add_guessed.Goals as goal
+use Rattle.std.proofs.lemmas.Grind.{common_steps}
 
 pub overflow_add-self : goal.overflow_add-self
 overflow_add-self c = omega (arith, (entries_few c.args.self.now c.requires.table).0)
@@ -25,3 +26,12 @@ returns c =
     (inl (c.if-not-enter.ensures.entered refl, c.if-not-enter.ensures.fits refl)) in
     let placed = rw (← ended_front c.args.rest.now c.args.end first) at done.placed in
     search rules
+
+pub ends_at-requires-clause-long : goal.ends_at-requires-clause-long
+ends_at-requires-clause-long c = search rules
+
+pub returns-then-not-enter-clause-kept : goal.returns-then-not-enter-clause-kept
+returns-then-not-enter-clause-kept c = grind (arith, common_steps)
+
+pub returns-then-not-enter-clause-none : goal.returns-then-not-enter-clause-none
+returns-then-not-enter-clause-none c = grind (arith, common_steps)

@@ -4,6 +4,7 @@ use Rattle.dwp_strings.proofs.table.StringTable.place.Goals.{in-Ok}
 use Rattle.dwp_strings.proofs.table.StringTable.place.Goals.{in-Ok-2+else-stands_at-2+in_ok-place-in-Ok-2+in_default+in_ok-share-in-Ok-2}
 use Rattle.dwp_strings.proofs.table.StringTable.place.Goals.{in-Err}
 use Rattle.dwp_strings.proofs.table.StringTable.place.Goals.{in-Err-2+in_ok-place-in-Err-2+in_default-2}
+use Rattle.std.proofs.Common.{rules}
 
 pub returns-then-stands_at-clause-placed : goal.returns-then-stands_at-clause-placed
 returns-then-stands_at-clause-placed c =
@@ -23,3 +24,12 @@ place_ordered-requires-clause-table c = elim c.match-seek.branch [
   | in-Err w ↦ rw w.self-inside-is c.self.invariant
   | in-Err-2+in_ok-place-in-Err-2+in_default-2 w ↦ rw w.self-inside-is w.add.ensures.table
 ]
+
+pub add-requires-clause-hashed : goal.add-requires-clause-hashed
+add-requires-clause-hashed c = search rules
+
+pub add_over-requires-clause-hashed : goal.add_over-requires-clause-hashed
+add_over-requires-clause-hashed c = search rules
+
+pub place_ordered-requires-clause-hashed : goal.place_ordered-requires-clause-hashed
+place_ordered-requires-clause-hashed c = search rules

@@ -1,5 +1,6 @@
 use Rattle.dwp_strings.proofs.UsedLemmas.{used_there}
 use Rattle.dwp_strings.proofs.table.StringTable.place_guessed.Goals as goal
+use Rattle.std.proofs.Common.{rules}
 
 pub returns-then-begins_alike-clause-placed : goal.returns-then-begins_alike-clause-placed
 returns-then-begins_alike-clause-placed c =
@@ -10,3 +11,6 @@ pub returns-then-begins_alike-2-clause-placed : goal.returns-then-begins_alike-2
 returns-then-begins_alike-2-clause-placed c =
     rw (← c.self.view_is) (used_there _ _ _ _ c.self.invariant.findable.indexed
     (rw c.deref-in-Ok.ensures.value at (c.begins_alike-in-Ok.ensures c.if-begins_alike-2.true)))
+
+pub returns-then-begins_alike-2-clause-fits : goal.returns-then-begins_alike-2-clause-fits
+returns-then-begins_alike-2-clause-fits c = search rules

@@ -5,6 +5,8 @@ use Rattle.thorin_strings.specs.Known.{AreKnown}
 use Rattle.thorin_strings.proofs.KnownLemmas.{entry_told, remapped_refuses, rewritten_more}
 use Rattle.thorin_strings.proofs.RemapLemmas.{kept_more}
 use Rattle.thorin_strings.proofs.table.PackageStringTable.remapped.Goals as goal
+use Rattle.std.proofs.Common.{rules}
+use Rattle.thorin_strings.specs.StringOffsets.{remapped}
 
 pub loop-index-init : goal.loop-index-init
 unfolding remapped_entries
@@ -44,3 +46,7 @@ loop-index-preserved c =
           c.in_ok-push_offset.ensures;
       known = now.2;
     }
+
+pub push_offset-requires : goal.push_offset-requires
+unfolding remapped
+push_offset-requires c = search rules

@@ -1,0 +1,8 @@
+use Rattle.std.proofs.Common.{rules}
+use Rattle.thorin_strings.proofs.table.PackageStringTable.remap_repeating.Goals as goal
+
+pub returns-then-is_err-clause-err : goal.returns-then-is_err-clause-err
+returns-then-is_err-clause-err c = search rules
+
+pub returns-then-is_err-clause-known : goal.returns-then-is_err-clause-known
+returns-then-is_err-clause-known c = search rules
