@@ -3,6 +3,7 @@ use Rattle.dwp_elf.proofs.Terms.{◌++◌, ◌<◌, ap, arith, length, sym, take
 use Rattle.std.proofs.lemmas.Bool.Decides.{nat_tests}
 use Rattle.dwp_elf.proofs.SoFar.{so_far_none, so_far_more, so_far_stop, Keeps-from_none, failed}
 use Rattle.dwp_elf.proofs.output.write_whole.Goals as goal
+use Rattle.std.proofs.Common.{rules}
 
 pub loop-rest-init : goal.loop-rest-init
 loop-rest-init g c = record { text = so_far_none _ _; error = λ kind f. f }
@@ -30,3 +31,6 @@ loop-rest-preserved g c =
           c.in_ok-taken.ensures.bytes;
       error = λ kind f. c.loop-rest.invariant.error kind (c.in_ok-taken.ensures.some some kind f);
     }
+
+pub returns-then-taken-eq0-clause-error : goal.returns-then-taken-eq0-clause-error
+returns-then-taken-eq0-clause-error g c = search rules
