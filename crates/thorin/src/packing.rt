@@ -1,11 +1,11 @@
 //! Whole packages from lists of inputs.
 
-ghost use Rattle.std.specs.Prelude.{◌≡◌, map, IfOk, IfErr};
+ghost use Rattle.std.specs.Prelude.{◌≡◌, ℕ, List, map, IfOk, IfErr};
 ghost use Rattle.thorin_join.specs.Builder.{differing_in};
 ghost use Rattle.thorin_join.specs.Join.{IsPackageOf};
 ghost use Rattle.thorin.specs.Packed.{IsPacked};
 ghost use Rattle.thorin_join.specs.Represents.{units_in};
-ghost use Rattle.thorin.specs.Run.{Took, Writes};
+ghost use Rattle.thorin.specs.Run.{Ran, Took, Writes};
 
 use dwp_bytes::RelocationEntry;
 use dwp_table::DebugTypeSignature;
@@ -53,19 +53,36 @@ pub fn pack<'s, Sess: Session<RelocationEntry>>(
     ensures packed { IfOk result (IsPacked (Sess.offer session.now) inputs.now) }
     ensures refused { IfErr result (λ e. e ≡ Error.Memory) }
 {
-    let mut outcomes = Vec::with_capacity(alloc, inputs.len())?;
     let mut builder = DwarfPackage::new(alloc, session);
-    let mut room = Vec::new(alloc);
-    for input in inputs {
-        let outcome = take_input(&mut builder, session, &mut room, *input);
-        outcomes.push(outcome)?;
-    }
+    let outcomes = take_inputs(alloc, &mut builder, session, inputs)?;
     let (file, differing) = written(builder);
     Ok(Packed {
         outcomes,
         file,
         differing,
     })
+}
+
+/// Adds inputs in order to a builder, passing over those that are refused. Answers an outcome for
+/// each.
+fn take_inputs<'o, 's: 'o, Sess: Session<RelocationEntry>>(
+    alloc: Global,
+    builder: &mut DwarfPackage<'o, 's, Sess>,
+    session: &'s Sess,
+    inputs: &[Input<'s>],
+) -> Result<Vec<Result<(), Error>>, Error>
+    ensures ran { IfOk result (λ outcomes. (accepted : List (List ℕ))
+        × Ran (Sess.offer session.now) inputs.now builder.old.state outcomes.items
+        builder.new.state accepted) }
+    ensures refused { IfErr result (λ e. e ≡ Error.Memory) }
+{
+    let mut outcomes = Vec::with_capacity(alloc, inputs.len())?;
+    let mut room = Vec::new(alloc);
+    for input in inputs {
+        let outcome = take_input(builder, session, &mut room, *input);
+        outcomes.push(outcome)?;
+    }
+    Ok(outcomes)
 }
 
 /// Adds one input to a builder. The reader reads what a path names, into room that is free again

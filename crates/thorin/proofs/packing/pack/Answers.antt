@@ -1,36 +1,18 @@
-use Rattle.thorin.proofs.Terms.{◌++◌, [], get_or, Input, rules, start, take, take_all, take_more}
-use Rattle.thorin.proofs.Terms.{◌∷◌, ◌≡◌}
-use Rattle.thorin.specs.declared.packing.Input.TheVariants.{Object}
-use Rattle.thorin.proofs.Running.{ran-next, run-accepts}
+use Rattle.thorin.proofs.Terms.{start}
+use Rattle.thorin.proofs.Running.{run-accepts}
 use Rattle.thorin.proofs.packing.pack.Goals as goal
-
-pub loop-input-preserved : goal.loop-input-preserved
-loop-input-preserved g c =
-    let offer = g.Sess.Session.offer c.args.session.now in
-    let none : Input = Object (record { text = record { ref_ptr = (0, 0); now = [] } }) in
-    let input = get_or c.args.inputs.now c.loop-input.input-index none in
-    let more = take_more c.args.inputs.now c.loop-input.input-index none c.loop-input-test.true in
-    let took = c.take_input-outcome.ensures.taken in
-    let pushed : c.push.new.self.items ≡ c.loop-input.outcomes.items ++ c.take_input-outcome.result
-    ∷ [] = search (rules, c.in_ok-push.ensures.items) in
-    let ran = ran-next offer (take c.loop-input.input-index c.args.inputs.now) input start
-    c.loop-input.builder.state c.take_input-outcome.new.builder.state
-    c.loop-input.outcomes.items c.take_input-outcome.result c.loop-input.invariant.0
-    took.accepted c.loop-input.invariant.1 took.takes in
-    (c.loop-input.invariant.0 ++ took.accepted, rw (more, pushed) ran)
 
 pub returns-clause-packed : goal.returns-clause-packed
 returns-clause-packed g c =
     let offer = g.Sess.Session.offer c.args.session.now in
-    let accepted = c.loop-input.invariant.0 in
-    let ran = rw (take_all c.loop-input.input-index c.args.inputs.now c.loop-input-test.false) at
-    c.loop-input.invariant.1 in
+    let said = c.in_ok-outcomes.ensures.ran in
+    let ran = rw c.new-builder.ensures.state at said.1 in
     record {
-      state = c.loop-input.builder.state;
-      accepted = accepted;
+      state = c.take_inputs.new.builder.state;
+      accepted = said.0;
       ran = ran;
-      joined = (run-accepts offer c.args.inputs.now start c.loop-input.builder.state
-          c.loop-input.outcomes.items accepted ran).1;
+      joined = (run-accepts offer c.args.inputs.now start c.take_inputs.new.builder.state
+          c.in_ok-outcomes.outcomes.items said.0 ran).1;
       written = c.written-file.ensures.writes;
       package_of = c.written-file.ensures.packaged;
       differing = c.written-file.ensures.differing;
