@@ -1,5 +1,8 @@
 use Rattle.thorin_builder.proofs.Terms.{at_least, take-append-le, take-append_seam, ◌∙◌}
 use Rattle.thorin_builder.proofs.in_progress.InProgressDwarfPackage.append_unit.Goals as goal
+use Rattle.std.proofs.Common.{arith}
+use Rattle.std.proofs.lemmas.Grind.{common_steps}
+use Rattle.thorin_join.specs.State.{with_new_unit}
 
 pub returns-in-Ok-clause-extends : goal.returns-in-Ok-clause-extends
 returns-in-Ok-clause-extends c before h = record {
@@ -22,3 +25,7 @@ returns-in-Err-clause-extends c before h = record {
   ) h.rows;
   differing = h.differing;
 }
+
+pub invariant_of-self-in-Ok : goal.invariant_of-self-in-Ok
+unfolding with_new_unit
+invariant_of-self-in-Ok c = grind (arith, common_steps)

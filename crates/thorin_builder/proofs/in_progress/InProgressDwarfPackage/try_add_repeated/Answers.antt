@@ -1,6 +1,8 @@
 use Rattle.thorin_builder.proofs.Terms.{rules, take-length}
 use Rattle.thorin_builder.proofs.Extending.{grown-extends, signatures-kept}
 use Rattle.thorin_builder.proofs.in_progress.InProgressDwarfPackage.try_add_repeated.Goals as goal
+use Rattle.std.proofs.Common.{arith}
+use Rattle.std.proofs.lemmas.Grind.{common_steps}
 
 pub returns-in_err-put_each-clause-extends : goal.returns-in_err-put_each-clause-extends
 returns-in_err-put_each-clause-extends c =
@@ -16,3 +18,6 @@ returns-clause-extends c =
     grown-extends c.put_each.ensures.grown (take-length _)
     (signatures-kept c.args.self.now.differing.items c.args.again.now.differing.items _
     (search (rules, c.in_ok-extend_from_slice.ensures.items)))
+
+pub returns-clause-added : goal.returns-clause-added
+returns-clause-added c = grind (arith, common_steps)

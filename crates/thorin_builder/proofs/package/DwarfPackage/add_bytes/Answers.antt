@@ -4,6 +4,7 @@ use Terms.{not, Option, own_after, rules, State, sym, with_own, ◌∙◌, ◌�
 use Rattle.std.specs.Prelude.{is_some}
 use Rattle.thorin_builder.proofs.AddedAgain.{joined-later, taken-as}
 use Rattle.thorin_builder.proofs.package.DwarfPackage.add_bytes.Goals as goal
+use Rattle.thorin_join.specs.Builder.{taken}
 
 -- the first input has its own encoding, a later one what all have
 with-own : (p : Option InProgressDwarfPackage) (first : Bool) (own found : Option Encoding)
@@ -52,3 +53,7 @@ returns-clause-later g c =
     rw (← c.self.view_is) (joined-later c.args.bytes.now old now c.in_ok-encoding.ensures.extends
     (c.inputs_are_joined.ensures.joins c.args.bytes.now old now c.self.invariant.1
     c.in_ok-encoding.ensures.meaning))
+
+pub returns-clause-meaning : goal.returns-clause-meaning
+unfolding taken
+returns-clause-meaning g c = search rules

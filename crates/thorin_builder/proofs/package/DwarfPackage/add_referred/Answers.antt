@@ -54,3 +54,6 @@ returns-in-Error-clause-taken g c =
 pub returns-in-Err-Memory-clause-taken : goal.returns-in-Err-Memory-clause-taken
 returns-in-Err-Memory-clause-taken g c =
     record { read = Err Memory; within = tt; accepted = []; taken = (refl, (refl, refl)) }
+
+pub returns-in-Skip-clause-known : goal.returns-in-Skip-clause-known
+returns-in-Skip-clause-known g c = search rules

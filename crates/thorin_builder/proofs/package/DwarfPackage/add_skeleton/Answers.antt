@@ -82,3 +82,6 @@ pub returns-in-None-clause-taken : goal.returns-in-None-clause-taken
 returns-in-None-clause-taken g c =
     took g (goal.at.returns-in-None-clause-taken g c).In_ok-add_target _ _
     c.add_referred.ensures.taken
+
+pub returns-in-None-clause-unread : goal.returns-in-None-clause-unread
+returns-in-None-clause-unread g c = search rules

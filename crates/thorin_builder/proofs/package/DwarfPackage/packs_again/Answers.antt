@@ -3,6 +3,7 @@ use Terms.{building, Encoding, None, Option, refl, Some, State, sym, true, ◌�
 use Rattle.std.specs.Option.{is_some}
 use Rattle.thorin_again.specs.OwnUnits.{HoldsOwn, HasOneEncoding}
 use Rattle.thorin_builder.proofs.package.DwarfPackage.packs_again.Goals as goal
+use Rattle.std.proofs.Common.{rules}
 
 -- a builder whose inputs have one encoding
 one-of : (state : State) (own : Option Encoding) → state.own ≡ own → is_some own ≡ true
@@ -15,3 +16,12 @@ pub returns-then-is_some-clause-encoding : goal.returns-then-is_some-clause-enco
 returns-then-is_some-clause-encoding g c =
     λ h. rw (← c.self.view_is) (one-of (building c.self.inside).state _ refl
     (sym c.is_some.ensures ∙ c.if-is_some.true) c.self.invariant.2)
+
+pub returns-else-is_some-clause-encoding : goal.returns-else-is_some-clause-encoding
+returns-else-is_some-clause-encoding g c = search rules
+
+pub returns-else-is_some-clause-exact : goal.returns-else-is_some-clause-exact
+returns-else-is_some-clause-exact g c = search rules
+
+pub returns-then-is_some-clause-exact : goal.returns-then-is_some-clause-exact
+returns-then-is_some-clause-exact g c = search rules

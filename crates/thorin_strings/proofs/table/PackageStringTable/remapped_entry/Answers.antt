@@ -21,5 +21,7 @@ returns-in_err-offset-clause-meaning c =
 pub returns-clause-meaning : goal.returns-clause-meaning
 returns-clause-meaning c = grind (arith, entry_read, entry_large, entry_unread)
 
-pub returns-then-offset_limit-offset-clause-meaning : goal.returns-then-offset_limit-offset-clause-meaning
-returns-then-offset_limit-offset-clause-meaning c = grind (arith, entry_read, entry_large, entry_unread)
+pub returns-then-offset_limit-offset-clause-meaning :
+    goal.returns-then-offset_limit-offset-clause-meaning
+returns-then-offset_limit-offset-clause-meaning c =
+    grind (arith, entry_read, entry_large, entry_unread)
