@@ -18,8 +18,12 @@ pub fn units_packed_again(alloc: Global, package: &[u8]) -> Result<usize, Error>
     let arena = Bump::new(alloc);
     let session = BytesSession::new(&arena);
     let mut builder = DwarfPackage::new(alloc, &session);
-    add_package(&mut builder, package)?;
-    Ok(builder.contained_units().len())
+    let count = match add_package(&mut builder, package) {
+        Ok(()) => Ok(builder.contained_units().len()),
+        Err(error) => Err(error),
+    };
+    drop(builder);
+    count
 }
 
 /// Adds a package: the builder then has its units beside those that it had, or answers why not. One

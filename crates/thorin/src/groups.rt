@@ -55,7 +55,13 @@ fn pack_alone<'s, Sess: Session<RelocationEntry>>(
 {
     let mut builder = DwarfPackage::new(alloc, session);
     for input in inputs {
-        builder.add_object_bytes(input)?;
+        match builder.add_object_bytes(input) {
+            Ok(()) => {}
+            Err(error) => {
+                drop(builder);
+                return Err(error);
+            }
+        }
     }
     let (file, _) = written(builder);
     file

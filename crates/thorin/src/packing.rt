@@ -54,13 +54,20 @@ pub fn pack<'s, Sess: Session<RelocationEntry>>(
     ensures refused { IfErr result (λ e. e ≡ Error.Memory) }
 {
     let mut builder = DwarfPackage::new(alloc, session);
-    let outcomes = take_inputs(alloc, &mut builder, session, inputs)?;
-    let (file, differing) = written(builder);
-    Ok(Packed {
-        outcomes,
-        file,
-        differing,
-    })
+    match take_inputs(alloc, &mut builder, session, inputs) {
+        Ok(outcomes) => {
+            let (file, differing) = written(builder);
+            Ok(Packed {
+                outcomes,
+                file,
+                differing,
+            })
+        }
+        Err(error) => {
+            drop(builder);
+            Err(error)
+        }
+    }
 }
 
 /// Adds inputs in order to a builder, passing over those that are refused. Answers an outcome for

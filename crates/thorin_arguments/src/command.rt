@@ -223,8 +223,10 @@ const COMMANDS: [Line; 4] = [
     },
 ];
 
-/// The words of a peer, but for its `-o`.
-const PEER: [Word; 7] = [
+/// The words of a peer. The last one LLVM's alone takes: past 2^32 bytes it would write a package
+/// that can't be read, or leave inputs out, where this program refuses.
+const PEER: [Word; 9] = [
+    Word::Output("exec"),
     PACKED,
     FORCE,
     Word::Flag("verify-only", "Check the package OUT instead of writing it"),
@@ -232,16 +234,13 @@ const PEER: [Word; 7] = [
     WARNINGS,
     Word::Verbose,
     Word::Inputs,
+    Word::MayChoose(
+        "continue-on-cu-index-overflow",
+        "HOW",
+        "No effect: a package that is too large is refused",
+        &["continue", "soft-stop"],
+    ),
 ];
-
-/// What LLVM's alone takes: past 2^32 bytes it would write a package that can't be read, or leave
-/// inputs out, where this program refuses.
-const LLVM: [Word; 1] = [Word::MayChoose(
-    "continue-on-cu-index-overflow",
-    "HOW",
-    "No effect: a package that is too large is refused",
-    &["continue", "soft-stop"],
-)];
 
 /// What `--version` prints behind the program's name: the version, and the commit where one is
 /// named.
@@ -265,18 +264,20 @@ fn version_with(alloc: Global, version: &str, commit: &str) -> Result<String, Al
 
 /// The program's command line: `pack`, `find`, `list` and `check`.
 pub(crate) fn command<'a>(alloc: Global, version: &'a str) -> Result<Command<'a>, AllocError> {
-    let mut command = titled(
+    let mut commands = Vec::new(alloc);
+    for line in &COMMANDS {
+        commands.push(command_of(alloc, line)?)?;
+    }
+    titled(
         alloc,
         "thorin",
         "Pack split DWARF objects into DWARF packages, and read such packages",
         EXAMPLES,
     )
     .version(version)
-    .subcommand_required(true);
-    for line in &COMMANDS {
-        command = with_subcommand(command, command_of(alloc, line))?;
-    }
-    command.bin_name("thorin")
+    .subcommand_required(true)
+    .subcommands(commands)?
+    .bin_name("thorin")
 }
 
 /// The command line of `dwp` and `llvm-dwp`, under one of these names.
@@ -285,31 +286,21 @@ pub(crate) fn peer<'a>(
     name: &'a str,
     version: &'a str,
 ) -> Result<Command<'a>, AllocError> {
-    let output = output(alloc).required_unless_present("exec")?;
-    let command = with_words(alloc, peer_with(alloc, name, version, output), &PEER);
-    if name.starts_with("llvm-") {
-        with_words(alloc, command, &LLVM)
+    let words = if name.starts_with("llvm-") {
+        &PEER[..]
     } else {
-        command
-    }
-}
-
-/// The same, with its `-o` alone.
-fn peer_with<'a>(
-    alloc: Global,
-    name: &'a str,
-    version: &'a str,
-    output: Arg<'a>,
-) -> Result<Command<'a>, AllocError> {
-    let command = titled(
+        &PEER[..8]
+    };
+    let args = args_of(alloc, words)?;
+    titled(
         alloc,
         name,
         "Pack split DWARF objects into a DWARF package",
         "Without -o the package of one EXEC is EXEC.dwp. This is thorin by another name.",
     )
     .version(version)
-    .arg(output)?;
-    command.bin_name(name)
+    .args(args)?
+    .bin_name(name)
 }
 
 /// A command with its texts: what it does, and what stands below its options.
@@ -319,29 +310,17 @@ fn titled<'a>(alloc: Global, name: &'a str, about: &'a str, below: &'a str) -> C
 
 /// A command by its line.
 fn command_of<'a>(alloc: Global, line: &Line) -> Result<Command<'a>, AllocError> {
-    let command = titled(alloc, line.name, line.about, line.below);
-    with_words(alloc, Ok(command), line.words)
+    let args = args_of(alloc, line.words)?;
+    titled(alloc, line.name, line.about, line.below).args(args)
 }
 
-/// Adds a command, where both could be made.
-fn with_subcommand<'a>(
-    command: Command<'a>,
-    subcommand: Result<Command<'a>, AllocError>,
-) -> Result<Command<'a>, AllocError> {
-    command.subcommand(subcommand?)
-}
-
-/// Adds words in order to a command that could be made.
-fn with_words<'a>(
-    alloc: Global,
-    command: Result<Command<'a>, AllocError>,
-    words: &[Word],
-) -> Result<Command<'a>, AllocError> {
-    let mut command = command?;
+/// Words in clap's terms.
+fn args_of<'a>(alloc: Global, words: &[Word]) -> Result<Vec<Arg<'a>>, AllocError> {
+    let mut args = Vec::new(alloc);
     for word in words {
-        command = command.arg(arg_of(alloc, *word)?)?;
+        args.push(arg_of(alloc, *word)?)?;
     }
-    Ok(command)
+    Ok(args)
 }
 
 /// A word in clap's terms.

@@ -183,14 +183,31 @@ fn read<'a>(
     words: &'a [String],
 ) -> Result<ArgMatches<'a>, Error> {
     let mut command = command_line(alloc, peer, version)?;
+    read_by(&mut command, peer.is_some(), words)
+}
+
+/// Reads the words by a command line, of a peer where it is one.
+fn read_by<'a>(
+    command: &mut Command<'a>,
+    is_peer: bool,
+    words: &'a [String],
+) -> Result<ArgMatches<'a>, Error> {
     let matches = command.try_get_matches_from_mut(words)?;
-    if let Some(text) = error_of_pack(&matches) {
-        return Err(command.error(ErrorKind::ValueValidation, text)?);
+    match error_of(&matches, is_peer) {
+        Some((kind, text)) => Err(command.error(kind, text)?),
+        None => Ok(matches),
     }
-    if peer.is_some() && lacks_output(&matches) {
-        return Err(command.error(ErrorKind::MissingRequiredArgument, NO_OUTPUT)?);
+}
+
+/// What is wrong with the words beside what clap tests, if anything is.
+fn error_of(matches: &ArgMatches<'_>, is_peer: bool) -> Option<(ErrorKind, &'static str)> {
+    if let Some(text) = error_of_pack(matches) {
+        Some((ErrorKind::ValueValidation, text))
+    } else if is_peer && lacks_output(matches) {
+        Some((ErrorKind::MissingRequiredArgument, NO_OUTPUT))
+    } else {
+        None
     }
-    Ok(matches)
 }
 
 /// What is wrong with the words of the command `pack` beside what clap tests, if anything is.

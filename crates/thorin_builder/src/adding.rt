@@ -89,9 +89,13 @@ fn add_source(
         Some(package) => package.add(source),
         None => {
             let mut package = begun_by(alloc, file);
-            let alike = package.add(source)?;
-            *in_progress = Some(package);
-            Ok(alike)
+            let added = package.add(source);
+            if added.is_ok() {
+                in_progress.insert(package);
+            } else {
+                drop(package);
+            }
+            added
         }
     }
 }
@@ -136,13 +140,13 @@ pub(crate) fn add_input(
         (ExtendsBegun (begun_of in_progress.old) (begun_of in_progress.new)) }
 {
     let file = opened(bytes)?;
-    let walked = Walked::over(alloc, &file);
-    if walked.with_units {
-        let object = walked.input?;
-        return add_input_with_units(alloc, in_progress, &file, object);
+    let Walked { with_units, input } = Walked::over(alloc, &file);
+    if with_units {
+        return add_input_with_units(alloc, in_progress, &file, input?);
     }
+    drop(input);
     if in_progress.is_none() {
-        *in_progress = Some(begun_by(alloc, &file));
+        in_progress.insert(begun_by(alloc, &file));
     }
     Ok(None)
 }

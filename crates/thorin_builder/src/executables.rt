@@ -173,7 +173,9 @@ impl<'output, 'session: 'output, Sess: Session<RelocationEntry>> DwarfPackage<
         let session = self.session();
         let alloc = self.allocator();
         let mut units = NamedUnits::read_by(alloc, session, bytes, nameless)?;
-        self.add_each(reader, room, &mut units, missing)
+        let added = self.add_each(reader, room, &mut units, missing);
+        drop(units);
+        added
     }
 
     /// Adds the objects of the units that are left of those that an executable refers to, up to the

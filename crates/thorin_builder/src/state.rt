@@ -163,8 +163,13 @@ impl InProgressDwarfPackage {
             return Err(Error::MissingRequiredSection(SectionKind::Abbrev.name()));
         }
         let new = self.new_units(source, &parts)?;
-        self.add_all(parts, &new)?;
-        Ok(new.alike)
+        let alike = new.alike;
+        let added = self.add_all(parts, &new);
+        drop(new);
+        match added {
+            Ok(()) => Ok(alike),
+            Err(error) => Err(error),
+        }
     }
 
     /// Adds parts and units, over strings that are there. It refuses for memory alone, and may then

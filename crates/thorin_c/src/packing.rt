@@ -117,7 +117,9 @@ pub extern "C" fn thorin_differing_types(
 {
     let session = NoFiles {};
     let mut builder = DwarfPackage::new(alloc, &session);
-    tell_differing(&mut builder, inputs, types, report)
+    let status = tell_differing(&mut builder, inputs, types, report);
+    drop(builder);
+    status
 }
 
 // Tells of those that a new builder passes over.
@@ -197,7 +199,10 @@ fn package_of(alloc: Global, inputs: &[ThorinBytes<'_>]) -> Result<Packed, Refus
     let mut builder = DwarfPackage::new(alloc, &session);
     match add_all(&mut builder, inputs) {
         Ok(()) => finish(inputs, builder),
-        Err(refusal) => Err(Refusal::Input(refusal)),
+        Err(refusal) => {
+            drop(builder);
+            Err(Refusal::Input(refusal))
+        }
     }
 }
 

@@ -223,7 +223,11 @@ fn tell_read<I: Inputs, E: Write>(
     let bump = Bump::new(left.alloc);
     let session = BytesSession::new(&bump);
     match named_units(left.alloc, &session, bytes, nameless) {
-        Ok(mut units) => tell_each(inputs, executable, &mut units, left, err),
+        Ok(mut units) => {
+            let told = tell_each(inputs, executable, &mut units, left, err);
+            drop(units);
+            told
+        }
         Err(_) => Ok(()),
     }
 }
@@ -284,6 +288,7 @@ pub fn list_missing<F: FileSystem, O: Write, E: Write>(
     }
     let inputs = InputFiles::new(alloc, files, packing);
     let listed = list_over(alloc, &inputs, executables, packing.nameless, out);
+    drop(inputs);
     status_of(alloc, listed, err)
 }
 
@@ -389,7 +394,11 @@ fn list_read<I: Inputs, W: Write>(
     let bump = Bump::new(alloc);
     let session = BytesSession::new(&bump);
     match named_units(alloc, &session, bytes, nameless) {
-        Ok(mut units) => list_each(alloc, inputs, &mut units, seen, lines),
+        Ok(mut units) => {
+            let listed = list_each(alloc, inputs, &mut units, seen, lines);
+            drop(units);
+            listed
+        }
         Err(error) => Err(Unlisted::Refused(error)),
     }
 }

@@ -290,12 +290,21 @@ fn packed_from<F: FileSystem, E: Write>(
         partial: packing.partial,
     };
     match packed_inputs(&inputs, list, telling, err) {
-        Ok((object, differing)) => Ok((object, differing, inputs.warnings())),
+        Ok((object, differing)) => {
+            let warnings = inputs.warnings();
+            drop(inputs);
+            Ok((object, differing, warnings))
+        }
         Err(Refusal::Empty) if packing.lets_empty => {
-            let (object, differing) = packed_unsplit(alloc, &inputs, packing, err)?;
+            let unsplit = packed_unsplit(alloc, &inputs, packing, err);
+            drop(inputs);
+            let (object, differing) = unsplit?;
             Ok((object, differing, String::new(alloc)))
         }
-        Err(refusal) => Err(refusal),
+        Err(refusal) => {
+            drop(inputs);
+            Err(refusal)
+        }
     }
 }
 
@@ -378,7 +387,10 @@ fn packed_over<'s, Sess: Session<RelocationEntry>, I: Inputs, E: Write>(
     let mut builder = DwarfPackage::new(telling.alloc, session);
     match fill(inputs, &mut builder, list, telling, err) {
         Ok(()) => finished(inputs, builder, telling, err),
-        Err(refusal) => Err(refusal),
+        Err(refusal) => {
+            drop(builder);
+            Err(refusal)
+        }
     }
 }
 

@@ -284,7 +284,9 @@ fn first_path(
     let bump = Bump::new(alloc);
     let session = BytesSession::new(&bump);
     let mut units = named_units(alloc, &session, executable, nameless)?;
-    first_of(alloc, &mut units, unit)
+    let found = first_of(alloc, &mut units, unit);
+    drop(units);
+    found
 }
 
 /// The same of the units that are left.
@@ -360,7 +362,9 @@ fn is_of_object(alloc: Global, error: &Error, object: &[u8]) -> bool {
 /// Whether a new package refuses an object.
 fn refuses_alone(alloc: Global, session: &BytesSession<'_>, object: &[u8]) -> bool {
     let mut builder = DwarfPackage::new(alloc, session);
-    builder.add_object_bytes(object).is_err()
+    let is_refused = builder.add_object_bytes(object).is_err();
+    drop(builder);
+    is_refused
 }
 
 /// Prints why the package can't be finished, and where that is asked for which object couldn't be

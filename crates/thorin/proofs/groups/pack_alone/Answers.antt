@@ -1,5 +1,5 @@
 use Rattle.thorin.proofs.Terms
-use Terms.{◌+◌, ◌++◌, [], ap, bind-err, bind-ok, Bor, bytes_in, drop, Err, err_from_is_err_and}
+use Terms.{◌+◌, ◌++◌, [], ap, bind-err, bind-ok, Bor, bytes_in, drop, Err}
 use Terms.{get_or, IfOk, inl, inr, IsPackageOf, List, map_more, Ok, PacksAlone, refl, start, sym}
 use Terms.{take, take_all, taken, taken_each, units_in, Writes, ℕ, ◌∙◌, ◌∷◌, ◌≡◌}
 use Rattle.thorin.proofs.Running.{join-append, taken-then, mapped-around}
@@ -25,27 +25,26 @@ loop-input-preserved g c =
     let next : bytes_in (take (i + 1) inputs) ≡ done ++ item.now ∷ [] =
     map_more (λ (input : Bor (List ℕ)). input.now) inputs i none c.loop-input-test.true in (
       rw next (taken-then done (item.now ∷ []) start before c.loop-input.invariant.0
-          ∙ bind-ok (taken item.now before) after _ c.in_ok-add_object_bytes.ensures.meaning),
+          ∙ bind-ok (taken item.now before) after _ c.in-Ok.ensures.meaning),
       rw next (join-append done (item.now ∷ []) [] (units_in before) (units_in after)
           c.loop-input.invariant.1
-          (units_in after, c.in_ok-add_object_bytes.ensures.joins, refl)),
+          (units_in after, c.in-Ok.ensures.joins, refl)),
     )
 
-pub returns-in_err-add_object_bytes : goal.returns-in_err-add_object_bytes
+pub returns-in-Err : goal.returns-in-Err
 unfolding taken_each
-returns-in_err-add_object_bytes g c =
+returns-in-Err g c =
     let inputs = c.args.inputs.now in
     let i = c.loop-input.input-index in
     let item = get_or inputs i none in
     let before = c.loop-input.builder.state in
-    let p = err_from_is_err_and c.from_residual.result c.from_residual.ensures.1 in
-    rw (p.1, p.2) (λ aside. inl (
+    λ aside. inl (
     ap (λ l. taken_each l start) (mapped-around (λ (input : Bor (List ℕ)). input.now) inputs i none
     c.loop-input-test.true)
     ∙ taken-then (bytes_in (take i inputs)) (item.now ∷ bytes_in (drop (i + 1) inputs)) start
     before c.loop-input.invariant.0
-    ∙ bind-err (taken item.now before) _ _ (c.in_err-add_object_bytes.ensures.meaning aside)
-    ))
+    ∙ bind-err (taken item.now before) _ _ (c.in-Err.ensures.meaning aside)
+    )
 
 pub returns : goal.returns
 returns g c =

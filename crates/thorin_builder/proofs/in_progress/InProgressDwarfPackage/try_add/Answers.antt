@@ -13,19 +13,19 @@ returns-then-not-source-clause-extends c = strings-extend c.parts_of.ensures.kep
 pub returns-in_err-new-clause-extends : goal.returns-in_err-new-clause-extends
 returns-in_err-new-clause-extends c = strings-extend c.parts_of.ensures.kept
 
-pub returns-in_err-add_all-clause-extends : goal.returns-in_err-add_all-clause-extends
-returns-in_err-add_all-clause-extends c =
-    c.add_all.ensures.extends _ (strings-extend c.parts_of.ensures.kept)
+pub returns-in-Err-clause-extends : goal.returns-in-Err-clause-extends
+returns-in-Err-clause-extends c =
+    c.add_all-added.ensures.extends _ (strings-extend c.parts_of.ensures.kept)
 
-pub returns-clause-extends : goal.returns-clause-extends
-returns-clause-extends c =
-    c.add_all.ensures.extends _ (strings-extend c.parts_of.ensures.kept)
+pub returns-in-Ok-clause-extends : goal.returns-in-Ok-clause-extends
+returns-in-Ok-clause-extends c =
+    c.add_all-added.ensures.extends _ (strings-extend c.parts_of.ensures.kept)
 
-pub returns-clause-meaning : goal.returns-clause-meaning
+pub returns-in-Ok-clause-meaning : goal.returns-in-Ok-clause-meaning
 unfolding with_all
-returns-clause-meaning c =
+returns-in-Ok-clause-meaning c =
     let parts : Contents × List (List ℕ) =
     (map view.part c.in_ok-parts.parts.items, c.parts_of.new.strings) in
     with_source-is (view.source c.args.source.now) (in_progress_of c.args.self.now) parts
     (new_of c.in_ok-new.new) c.in_ok-parts.ensures.meaning (search rules)
-    (search (rules, c.in_ok-new.ensures)) ∙ ap Ok (sym c.in_ok-add_all.ensures.meaning)
+    (search (rules, c.in_ok-new.ensures)) ∙ ap Ok (sym c.in-Ok.ensures.meaning)
