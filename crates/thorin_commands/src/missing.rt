@@ -288,7 +288,6 @@ pub fn list_missing<F: FileSystem, O: Write, E: Write>(
     }
     let inputs = InputFiles::new(alloc, files, packing);
     let listed = list_over(alloc, &inputs, executables, packing.nameless, out);
-    drop(inputs);
     status_of(alloc, listed, err)
 }
 

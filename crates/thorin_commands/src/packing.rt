@@ -283,28 +283,46 @@ fn packed_from<F: FileSystem, E: Write>(
         (reads packing.now (F.offer files.now)) packing.now made.0) }
 {
     let inputs = InputFiles::new(alloc, files, packing);
+    match packed_by(alloc, &inputs, packing, list, err) {
+        Ok((object, differing, is_split)) => {
+            let warnings = if is_split {
+                inputs.warnings()
+            } else {
+                String::new(alloc)
+            };
+            Ok((object, differing, warnings))
+        }
+        Err(refusal) => Err(refusal),
+    }
+}
+
+/// The same by these inputs, and whether something is split.
+#[tactic(auto, using(crate::proofs::Puts::for_packing))]
+fn packed_by<I: Inputs, E: Write>(
+    alloc: Global,
+    inputs: &I,
+    packing: &Packing<'_, '_>,
+    list: &[Input<'_>],
+    err: &mut E,
+) -> Result<(WritableObject, Vec<DebugTypeSignature>, bool), Refusal>
+    requires asked { map asked list.now ≡ asks packing.now }
+    requires opens { I.opens inputs.now ≡ packing.now.opens_archives }
+    requires plain { I.plain inputs.now ≡ packing.now.decompresses }
+    ensures { IfOk result (λ made. IsPackageFor (I.offer inputs.now) packing.now made.0) }
+{
     let telling = Telling {
         alloc,
         verbose: packing.verbose,
         notes: packing.notes,
         partial: packing.partial,
     };
-    match packed_inputs(&inputs, list, telling, err) {
-        Ok((object, differing)) => {
-            let warnings = inputs.warnings();
-            drop(inputs);
-            Ok((object, differing, warnings))
-        }
+    match packed_inputs(inputs, list, telling, err) {
+        Ok((object, differing)) => Ok((object, differing, true)),
         Err(Refusal::Empty) if packing.lets_empty => {
-            let unsplit = packed_unsplit(alloc, &inputs, packing, err);
-            drop(inputs);
-            let (object, differing) = unsplit?;
-            Ok((object, differing, String::new(alloc)))
+            let (object, differing) = packed_unsplit(alloc, inputs, packing, err)?;
+            Ok((object, differing, false))
         }
-        Err(refusal) => {
-            drop(inputs);
-            Err(refusal)
-        }
+        Err(refusal) => Err(refusal),
     }
 }
 
