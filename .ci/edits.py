@@ -11,6 +11,8 @@ class Edit:
     def __init__(self, crate, name):
         self.crate, self.name = crate, name
         self.pairs, self.functions, self.is_alone = [], set(), False
+        # Whether it is tried without those answers of the proof that are searches.
+        self.is_bare = False
         with open(f"{crate.folder}/must-fail/{name}", encoding="utf-8") as it:
             self.text = it.read()
         file, old = "", None
@@ -259,6 +261,8 @@ class Group:
 
     def takes(self, edit):
         """Adds the edit where it changes other functions than those that are here, and its texts still stand once."""
+        if self.edits and self.edits[0].is_bare != edit.is_bare:
+            return False
         if self.edits and (self.is_alone or edit.is_alone and not edit.functions):
             return False
         changed, _why = edit.applied(self.texts)

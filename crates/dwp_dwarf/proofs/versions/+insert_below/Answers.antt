@@ -1,3 +1,5 @@
+use Rattle.std.proofs.Common.{arith}
+use Rattle.std.proofs.lemmas.Grind.{common_steps}
 use Rattle.dwp_dwarf.proofs.Terms.{ne_eqb, rules, ◌∙◌}
 use Rattle.dwp_dwarf.proofs.Keys.{if_map, if_both}
 use Rattle.dwp_dwarf.proofs.NewVersions.{value_here, others_here, value_beside, others_beside}
@@ -52,3 +54,9 @@ returns-in_ok-odd-clause-others t c = if_both c.add-else-key-eq0-2.result (λ ad
     rw (ne_eqb _ _ c.if-key-eq0-2.false) (c.in_ok-odd.ensures.others k (λ e.
     apart (e ∙ c.half-else-key-eq0-2.ensures)))))
     c.add-else-key-eq0-2.ensures.above c.add-else-key-eq0-2.ensures.node
+
+pub returns-in_ok-even-clause-grows : goal.returns-in_ok-even-clause-grows
+returns-in_ok-even-clause-grows c = grind (arith, common_steps)
+
+pub returns-in_ok-odd-clause-grows : goal.returns-in_ok-odd-clause-grows
+returns-in_ok-odd-clause-grows c = grind (arith, common_steps)

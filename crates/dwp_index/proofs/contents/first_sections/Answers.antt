@@ -1,3 +1,4 @@
+use Rattle.std.proofs.lemmas.Grind.{common_steps}
 use Rattle.std.proofs.Common.{ap, arith, option_map, sym, ◌∙◌}
 use Rattle.dwp_base.proofs.Finds.{slice_get_none}
 use Rattle.dwp_elf_read.specs.View.{section}
@@ -18,3 +19,6 @@ loop-i-preserved c kind =
       | in_default w ↦ absurd (slice_get_none xs c.loop-i.i (omega arith)
           (sym c.section.ensures.found ∙ ap (option_map section) w.in_default.is))
     ]
+
+pub returns-clause-first : goal.returns-clause-first
+returns-clause-first c = grind (arith, common_steps)

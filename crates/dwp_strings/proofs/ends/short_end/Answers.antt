@@ -1,3 +1,4 @@
+use Rattle.std.proofs.lemmas.Grind.{elements}
 use Rattle.dwp_strings.proofs.Terms.{arith, ◌*◌, ◌+◌, ◌-◌}
 use Rattle.dwp_strings.proofs.ends.short_end.Goals as goal
 
@@ -22,3 +23,9 @@ loop-round-preserved c =
     let some = c.before_zero-some.ensures.some in
     let at = c.loop-round.round * 64 in
     record { within = omega arith; some = λ k less. grind (arith, some (k - at)) }
+
+pub returns-then-bytes-at-lt-LANES-clause-none : goal.returns-then-bytes-at-lt-LANES-clause-none
+returns-then-bytes-at-lt-LANES-clause-none c = grind (arith, elements)
+
+pub returns-clause-none : goal.returns-clause-none
+returns-clause-none c = grind (arith, elements)

@@ -1,3 +1,4 @@
+use Rattle.std.proofs.lemmas.Grind.{common_steps}
 use Rattle.dwp_strings.proofs.Terms
 use Terms.{[], arith, get_or, get_or_read, length, pieces, ◌+◌, ◌/◌, ◌<◌, ◌≡◌}
 use Rattle.dwp_strings.specs.Chunks.{IsHalved}
@@ -44,3 +45,12 @@ returns c =
       short = halves_short _ _ c.args.at there halved c.requires.short;
       halved = halved;
     }
+
+pub returns-in_err-upper-clause-begun : goal.returns-in_err-upper-clause-begun
+returns-in_err-upper-clause-begun c = grind (arith, common_steps)
+
+pub returns-in_err-upper-clause-same : goal.returns-in_err-upper-clause-same
+returns-in_err-upper-clause-same c = grind (arith, common_steps)
+
+pub returns-in_err-upper-clause-short : goal.returns-in_err-upper-clause-short
+returns-in_err-upper-clause-short c = grind (arith, common_steps)

@@ -1,3 +1,4 @@
+use Rattle.std.proofs.lemmas.Grind.{common_steps, elements}
 use Rattle.dwp_strings.proofs.Terms.{arith, get_or_read, length, pieces, rules, ◌<◌, ◌∙◌}
 use Rattle.dwp_strings.proofs.ChunkLemmas.{first_start, IsInHalf, halves_room, in_half}
 use Rattle.dwp_strings.proofs.PieceLemmas.{counts}
@@ -34,3 +35,21 @@ returns-else-rank-index c =
     let room = (halves_room _ _ c.chunk_of-at.result (there after) c.in_ok-cut.ensures.halved
     c.requires.short).1 in
     search rules
+
+pub returns-then-is_empty-clause-begun : goal.returns-then-is_empty-clause-begun
+returns-then-is_empty-clause-begun c = grind (arith, common_steps)
+
+pub returns-then-is_empty-clause-same : goal.returns-then-is_empty-clause-same
+returns-then-is_empty-clause-same c = grind (arith, common_steps)
+
+pub returns-then-is_empty-clause-short : goal.returns-then-is_empty-clause-short
+returns-then-is_empty-clause-short c = grind (arith, common_steps)
+
+pub returns-then-is_empty-clause-at : goal.returns-then-is_empty-clause-at
+returns-then-is_empty-clause-at c = grind (arith, counts)
+
+pub returns-then-is_empty-clause-room : goal.returns-then-is_empty-clause-room
+returns-then-is_empty-clause-room c = grind (arith, elements)
+
+pub returns-then-len-lt-CHUNK-clause-room : goal.returns-then-len-lt-CHUNK-clause-room
+returns-then-len-lt-CHUNK-clause-room c = grind (arith, common_steps)

@@ -1,3 +1,4 @@
+use Rattle.std.proofs.lemmas.Grind.{elements}
 use Rattle.std.proofs.Common.{◌-◌, arith, append_assoc, take-add}
 use Rattle.thorin_strings.proofs.words.append_by_pieces.Goals as goal
 
@@ -10,3 +11,6 @@ loop-at-preserved c = record {
     take-add c.loop-at.at (c.if-bytes-at-lt-PIECE.next - c.loop-at.at) c.args.bytes.now,
   );
 }
+
+pub returns : goal.returns
+returns c = grind (arith, elements)

@@ -1,3 +1,4 @@
+use Rattle.std.proofs.lemmas.Grind.{elements}
 use Rattle.std.proofs.Common.{◌-◌, [], length, refl, arith, lt-ltb, le-ltb}
 use Rattle.dwp_index.proofs.Terms.{index_in, row_in}
 use Rattle.dwp_index.proofs.NumberLists.{get_or-number_rows}
@@ -34,3 +35,6 @@ returns c =
       rows inside.offsets.now r [] (omega arith),
       rows inside.sizes.now r [] (omega arith),
     ) refl
+
+pub invariant_of-result : goal.invariant_of-result
+invariant_of-result c = grind (arith, elements)

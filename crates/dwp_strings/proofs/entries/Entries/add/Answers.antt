@@ -1,3 +1,4 @@
+use Rattle.std.proofs.lemmas.Grind.{elements}
 use Rattle.dwp_strings.proofs.Terms.{append_assoc, arith, inl, refl, rules, ◌+◌}
 use Rattle.dwp_strings.proofs.HashedLemmas.{added, entries_few, unplaced, carried_kept}
 use Rattle.dwp_strings.proofs.TableLemmas.{indexed_push}
@@ -20,3 +21,9 @@ returns c =
     (carried_kept e new c.requires.open c.enter.ensures.kept refl)
     (inl (c.if-not-enter.ensures.entered refl, c.if-not-enter.ensures.fits refl)) in
     search rules
+
+pub returns-in_err-reserve-clause-kept : goal.returns-in_err-reserve-clause-kept
+returns-in_err-reserve-clause-kept c = grind (arith, elements)
+
+pub returns-then-not-enter-clause-kept : goal.returns-then-not-enter-clause-kept
+returns-then-not-enter-clause-kept c = grind (arith, elements)

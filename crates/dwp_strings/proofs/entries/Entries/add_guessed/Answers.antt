@@ -3,7 +3,7 @@ use Rattle.dwp_strings.proofs.EndLemmas.{ended_free, ended_front, ended_take}
 use Rattle.dwp_strings.proofs.HashedLemmas.{added, entries_few, unplaced, carried_kept}
 use Rattle.dwp_strings.proofs.TableLemmas.{indexed_push}
 use Rattle.dwp_strings.proofs.entries.Entries.add_guessed.Goals as goal
-use Rattle.std.proofs.lemmas.Grind.{common_steps}
+use Rattle.std.proofs.lemmas.Grind.{common_steps, elements}
 
 pub overflow_add-self : goal.overflow_add-self
 overflow_add-self c = omega (arith, (entries_few c.args.self.now c.requires.table).0)
@@ -35,3 +35,9 @@ returns-then-not-enter-clause-kept c = grind (arith, common_steps)
 
 pub returns-then-not-enter-clause-none : goal.returns-then-not-enter-clause-none
 returns-then-not-enter-clause-none c = grind (arith, common_steps)
+
+pub returns-then-self-clause-kept : goal.returns-then-self-clause-kept
+returns-then-self-clause-kept c = grind (arith, elements)
+
+pub returns-in_err-ok-clause-kept : goal.returns-in_err-ok-clause-kept
+returns-in_err-ok-clause-kept c = grind (arith, elements)

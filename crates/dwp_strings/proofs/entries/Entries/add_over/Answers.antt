@@ -1,3 +1,4 @@
+use Rattle.std.proofs.lemmas.Grind.{elements}
 use Rattle.dwp_strings.proofs.Terms
 use Terms.{append_assoc, arith, BeginsAt, false≢true, inl, refl, rules, sym, ◌+◌, ◌∙◌}
 use Rattle.dwp_strings.proofs.HashedLemmas.{added, entries_few, misplaced, carried_over}
@@ -25,3 +26,12 @@ returns c =
     c.give.ensures.others c.requires.own (λ begun. gone (begins_at_offset e table _ begun)))
     (inl (c.if-not-give.ensures.given refl _ c.requires.has, c.if-not-give.ensures.fits refl)) in
     search rules
+
+pub returns-then-begins_at-clause-kept : goal.returns-then-begins_at-clause-kept
+returns-then-begins_at-clause-kept c = grind (arith, elements)
+
+pub returns-in_err-reserve-clause-kept : goal.returns-in_err-reserve-clause-kept
+returns-in_err-reserve-clause-kept c = grind (arith, elements)
+
+pub returns-then-not-give-clause-kept : goal.returns-then-not-give-clause-kept
+returns-then-not-give-clause-kept c = grind (arith, elements)

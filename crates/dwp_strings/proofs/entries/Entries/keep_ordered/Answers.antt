@@ -1,3 +1,5 @@
+use Rattle.std.proofs.Common.{arith}
+use Rattle.std.proofs.lemmas.Grind.{elements}
 use Rattle.dwp_strings.proofs.Terms.{refl, sym, ◌∙◌}
 use Rattle.dwp_strings.proofs.PlaceLemmas.{offset_there, known_place_in}
 use Rattle.dwp_strings.proofs.HashedLemmas.{hashed_kept, entries_few, carried_among, absent_there}
@@ -34,3 +36,6 @@ returns-in-Err-clause-table c =
     c.insert.ensures.ok c.insert.ensures.err in
     let new = record e { ordered = c.insert.new.self } in
     hashed_kept e new table refl refl now.0 (carried_among e new refl now.1)
+
+pub returns-in-Err-clause-there : goal.returns-in-Err-clause-there
+returns-in-Err-clause-there c = grind (arith, elements)

@@ -1,3 +1,4 @@
+use Rattle.std.proofs.lemmas.Grind.{elements}
 use Rattle.dwp_strings.proofs.Terms
 use Terms.{append_assoc, arith, held, inr, insert, length, refl, rules, ◌+◌, ◌≡◌}
 use Rattle.dwp_strings.proofs.UsedLemmas.{used_found}
@@ -36,3 +37,12 @@ returns c =
     (carried_among e new refl (λ p there. rw inserted (among_more e.ordered _ _ p there)))
     (inr (rw inserted (among_one e.ordered _ c.len-place.result), c.requires.ordered)) in
     search rules
+
+pub returns-in-Ok-clause-kept : goal.returns-in-Ok-clause-kept
+returns-in-Ok-clause-kept c = grind (arith, elements)
+
+pub returns-in_err-reserve-clause-kept : goal.returns-in_err-reserve-clause-kept
+returns-in_err-reserve-clause-kept c = grind (arith, elements)
+
+pub returns-in_err-insert-clause-kept : goal.returns-in_err-insert-clause-kept
+returns-in_err-insert-clause-kept c = grind (arith, elements)

@@ -1,3 +1,4 @@
+use Rattle.std.proofs.lemmas.Grind.{elements}
 use Rattle.dwp_strings.proofs.Terms
 use Terms.{arith, concat, get_or, get_or_read, length, pieces, sym, ◌-◌, ◌<◌, ◌∙◌, ◌≡◌}
 use Rattle.dwp_strings.proofs.ChunkLemmas.{length-starts_from, first_start, some_piece, placed}
@@ -32,3 +33,6 @@ pub returns : goal.returns
 returns c =
     let found = found (goal.at.returns c).After-index in
     rw (← c.self.view_is) (get_or_read _ _ _ found.0 c.index-2.ensures 0 ∙ sym found.1)
+
+pub overflow_sub-rank : goal.overflow_sub-rank
+overflow_sub-rank c = grind (arith, elements)

@@ -1,7 +1,7 @@
 use Rattle.dwp_strings.proofs.Terms
 use Terms.{ap, arith, concat, get_or_default, get_or_read, insert, IsChunked, length, pieces, sym}
 use Terms.{with_items_is, ◌+◌, ◌∙◌, ◌≡◌}
-use Rattle.std.proofs.lemmas.Grind.{common_steps}
+use Rattle.std.proofs.lemmas.Grind.{common_steps, elements}
 use Rattle.dwp_strings.proofs.ChunkLemmas.{length-starts_from, start_within, placed, raised}
 use Rattle.dwp_strings.proofs.ChunkLemmas.{chunk_inserted}
 use Rattle.dwp_strings.proofs.positions.Positions.insert.Goals.{After-raise}
@@ -40,3 +40,6 @@ pub returns-clause-ok : goal.returns-clause-ok
 returns-clause-ok c =
     (inserted (goal.at.returns-clause-ok c).After-raise).0 ∙ ap (λ l.
     insert l c.args.rank c.args.position) (c.in_ok-at.ensures.same ∙ c.self.view_is)
+
+pub overflow_sub-place : goal.overflow_sub-place
+overflow_sub-place c = grind (arith, elements)

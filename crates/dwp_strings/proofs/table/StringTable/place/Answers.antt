@@ -1,10 +1,11 @@
+use Rattle.std.proofs.lemmas.Grind.{elements}
 use Rattle.dwp_strings.proofs.UsedLemmas.{used_there}
 use Rattle.dwp_strings.proofs.table.StringTable.place.Goals as goal
 use Rattle.dwp_strings.proofs.table.StringTable.place.Goals.{in-Ok}
 use Rattle.dwp_strings.proofs.table.StringTable.place.Goals.{in-Ok-2+else-stands_at-2+in_ok-place-in-Ok-2+in_default+in_ok-share-in-Ok-2}
 use Rattle.dwp_strings.proofs.table.StringTable.place.Goals.{in-Err}
 use Rattle.dwp_strings.proofs.table.StringTable.place.Goals.{in-Err-2+in_ok-place-in-Err-2+in_default-2}
-use Rattle.std.proofs.Common.{rules}
+use Rattle.std.proofs.Common.{rules, arith}
 
 pub returns-then-stands_at-clause-placed : goal.returns-then-stands_at-clause-placed
 returns-then-stands_at-clause-placed c =
@@ -33,3 +34,9 @@ add_over-requires-clause-hashed c = search rules
 
 pub place_ordered-requires-clause-hashed : goal.place_ordered-requires-clause-hashed
 place_ordered-requires-clause-hashed c = search rules
+
+pub returns-then-stands_at-clause-kept : goal.returns-then-stands_at-clause-kept
+returns-then-stands_at-clause-kept c = grind (arith, elements)
+
+pub returns-then-stands_at-2-clause-kept : goal.returns-then-stands_at-2-clause-kept
+returns-then-stands_at-2-clause-kept c = grind (arith, elements)

@@ -1,6 +1,7 @@
+use Rattle.std.proofs.lemmas.Grind.{elements}
 use Rattle.dwp_strings.proofs.UsedLemmas.{used_there}
 use Rattle.dwp_strings.proofs.table.StringTable.place_guessed.Goals as goal
-use Rattle.std.proofs.Common.{rules}
+use Rattle.std.proofs.Common.{rules, arith}
 
 pub returns-then-begins_alike-clause-placed : goal.returns-then-begins_alike-clause-placed
 returns-then-begins_alike-clause-placed c =
@@ -14,3 +15,12 @@ returns-then-begins_alike-2-clause-placed c =
 
 pub returns-then-begins_alike-2-clause-fits : goal.returns-then-begins_alike-2-clause-fits
 returns-then-begins_alike-2-clause-fits c = search rules
+
+pub returns-then-begins_alike-clause-kept : goal.returns-then-begins_alike-clause-kept
+returns-then-begins_alike-clause-kept c = grind (arith, elements)
+
+pub returns-then-begins_alike-2-clause-kept : goal.returns-then-begins_alike-2-clause-kept
+returns-then-begins_alike-2-clause-kept c = grind (arith, elements)
+
+pub returns-in-Ok-clause-kept : goal.returns-in-Ok-clause-kept
+returns-in-Ok-clause-kept c = grind (arith, elements)

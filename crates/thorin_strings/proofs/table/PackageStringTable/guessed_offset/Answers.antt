@@ -1,3 +1,4 @@
+use Rattle.std.proofs.lemmas.Grind.{elements}
 use Rattle.std.proofs.Common.{arith, refl}
 use Rattle.thorin_strings.proofs.KnownLemmas.{read_front, read_used}
 use Rattle.thorin_strings.proofs.table.PackageStringTable.guessed_offset.Goals as goal
@@ -11,3 +12,9 @@ returns-clause-meaning c =
 
 pub place_guessed-requires-clause-ended : goal.place_guessed-requires-clause-ended
 place_guessed-requires-clause-ended c = search rules
+
+pub returns-then-end-ge-SHORT-clause-kept : goal.returns-then-end-ge-SHORT-clause-kept
+returns-then-end-ge-SHORT-clause-kept c = grind (arith, elements)
+
+pub returns-then-rest-end-ne0-clause-kept : goal.returns-then-rest-end-ne0-clause-kept
+returns-then-rest-end-ne0-clause-kept c = grind (arith, elements)

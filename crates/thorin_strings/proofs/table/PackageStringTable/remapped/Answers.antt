@@ -1,3 +1,4 @@
+use Rattle.std.proofs.lemmas.Grind.{elements}
 use Rattle.std.proofs.Common.{◌≡◌, [], Ok, sym, take, length, arith, append-nil, take_all, refl}
 use Rattle.std.proofs.lemmas.Result.{err_from_is_err_and}
 use Rattle.thorin_strings.specs.StringOffsets.{remapped_entry, remapped_entries}
@@ -50,3 +51,22 @@ loop-index-preserved c =
 pub push_offset-requires : goal.push_offset-requires
 unfolding remapped
 push_offset-requires c = search rules
+
+pub returns-then-section_size-eq0-clause-kept : goal.returns-then-section_size-eq0-clause-kept
+returns-then-section_size-eq0-clause-kept c = grind (arith, elements)
+
+pub returns-then-section_size-string_offsets_header_size-clause-kept :
+    goal.returns-then-section_size-string_offsets_header_size-clause-kept
+returns-then-section_size-string_offsets_header_size-clause-kept c = grind (arith, elements)
+
+pub returns-in_err-out-clause-kept : goal.returns-in_err-out-clause-kept
+returns-in_err-out-clause-kept c = grind (arith, elements)
+
+pub returns-in_err-reserve-clause-kept : goal.returns-in_err-reserve-clause-kept
+returns-in_err-reserve-clause-kept c = grind (arith, elements)
+
+pub returns-in_err-offset-in-None-clause-kept : goal.returns-in_err-offset-in-None-clause-kept
+returns-in_err-offset-in-None-clause-kept c = grind (arith, elements)
+
+pub returns-in_err-push_offset-clause-kept : goal.returns-in_err-push_offset-clause-kept
+returns-in_err-push_offset-clause-kept c = grind (arith, elements)

@@ -1,3 +1,4 @@
+use Rattle.std.proofs.lemmas.Grind.{elements}
 use Rattle.std.proofs.Common.{arith}
 use Rattle.std.proofs.lemmas.Result.{err_from_is_err_and}
 use Rattle.thorin_strings.specs.StringOffsets.{named_at, remapped_entry}
@@ -25,3 +26,6 @@ pub returns-then-offset_limit-offset-clause-meaning :
     goal.returns-then-offset_limit-offset-clause-meaning
 returns-then-offset_limit-offset-clause-meaning c =
     grind (arith, entry_read, entry_large, entry_unread)
+
+pub returns-in_err-named-clause-kept : goal.returns-in_err-named-clause-kept
+returns-in_err-named-clause-kept c = grind (arith, elements)

@@ -1,3 +1,4 @@
+use Rattle.std.proofs.lemmas.Grind.{elements}
 use Rattle.std.proofs.Common.{◌≡◌, ◌≤◌, ◌+◌, ◌*◌, ◌∙◌, sym, ap, take, length, arith, take_all}
 use Rattle.std.proofs.Common.{append-nil, refl, [], ◌<◌, length-append, length-take, length-drop}
 use Rattle.std.proofs.Common.{rules}
@@ -91,3 +92,19 @@ loop-index-preserved c =
       long = long_now ∙ old.ok.0 ∙ c.loop-index.invariant.long;
       known = c.other_word.ensures.known;
     })
+
+pub returns-then-section_size-eq0-clause-kept : goal.returns-then-section_size-eq0-clause-kept
+returns-then-section_size-eq0-clause-kept c = grind (arith, elements)
+
+pub returns-then-section_size-string_offsets_header_size-clause-kept :
+    goal.returns-then-section_size-string_offsets_header_size-clause-kept
+returns-then-section_size-string_offsets_header_size-clause-kept c = grind (arith, elements)
+
+pub returns-in_err-out-clause-kept : goal.returns-in_err-out-clause-kept
+returns-in_err-out-clause-kept c = grind (arith, elements)
+
+pub returns-in_err-append_by_pieces-clause-kept : goal.returns-in_err-append_by_pieces-clause-kept
+returns-in_err-append_by_pieces-clause-kept c = grind (arith, elements)
+
+pub returns-in_err-offset-clause-kept : goal.returns-in_err-offset-clause-kept
+returns-in_err-offset-clause-kept c = grind (arith, elements)
