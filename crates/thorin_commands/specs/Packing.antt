@@ -8,7 +8,7 @@ use Rattle.dwp_elf.specs.FileText.{Object as File, file_text}
 use Rattle.thorin_errors.specs.declared.error.MissingReferencedObjectBehaviour.{MissingReferencedObjectBehaviour}
 use Rattle.thorin_executable.specs.declared.listing.NamelessUnits.{NamelessUnits}
 use Rattle.thorin_executable.specs.declared.listing.NamelessUnits.TheVariants.{Refused, PassedOver}
-use Rattle.thorin_join.specs.Builder.{State, start, IsFinishedState}
+use Rattle.thorin_join.specs.Builder.{State, start, finish_test, IsFinishedState}
 use Rattle.thorin_join.specs.Join.{JoinAll, IsPackageOf}
 use Rattle.thorin_join.specs.Represents.{units_in}
 use Rattle.thorin_builder.specs.Missing.{without_targets}
@@ -115,6 +115,7 @@ pub record IsPackedOf (partial : Bool) (offer : List ℕ → Result (List ℕ) I
   pub accepted : List (List ℕ)
   pub ran : AreAllAccepted offer list start state accepted
   pub joined : JoinAll accepted [] (units_in state)
+  pub tested : finish_test (left partial state) ≡ Ok tt
   pub finished : IsFinishedState (left partial state) object
   pub package_of : IsPackageOf (units_in state) (file_text object)
 

@@ -2,7 +2,7 @@
 
 ghost use Rattle.std.specs.Prelude.{◌≡◌, ◌≤◌, Ok, Some, OnOk, IfOk, IfErr, map, string_bytes, true};
 ghost use Rattle.dwp_elf.specs.FileText.{file_text};
-ghost use Rattle.thorin_join.specs.Builder.{IsFinishedState};
+ghost use Rattle.thorin_join.specs.Builder.{IsFinishedState, finish_test};
 ghost use Rattle.thorin_join.specs.Join.{IsPackageOf, IsPackageOnceWritten};
 ghost use Rattle.thorin_join.specs.Meaning.{Members};
 ghost use Rattle.thorin_join.specs.Represents.{units_in};
@@ -435,7 +435,8 @@ fn finished<'o, 's: 'o, Sess: Session<RelocationEntry>, I: Inputs, E: Write>(
     telling: Telling,
     err: &mut E,
 ) -> Result<(WritableObject, Vec<DebugTypeSignature>), Refusal>
-    ensures finished { IfOk result (λ made. IsFinishedState builder.entry.state made.0) }
+    ensures finished { IfOk result (λ made. (finish_test builder.entry.state ≡ Ok tt)
+        × IsFinishedState builder.entry.state made.0) }
     ensures packaged { IfOk result (λ made.
         IsPackageOf (units_in builder.entry.state) (file_text made.0)) }
 {

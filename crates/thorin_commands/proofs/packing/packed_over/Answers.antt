@@ -1,7 +1,7 @@
 use Rattle.std.proofs.Common.{◌≡◌, ◌∙◌, Bool, true, false, refl, Result, Ok, ap, map}
 use Rattle.std.specs.Prelude.{Err, IfOk}
 use Rattle.dwp_elf.specs.FileText.{Object as File, file_text}
-use Rattle.thorin_join.specs.Builder.{State, start, IsFinishedState}
+use Rattle.thorin_join.specs.Builder.{State, start, finish_test, IsFinishedState}
 use Rattle.thorin_join.specs.Join.{IsPackageOf}
 use Rattle.thorin_join.specs.Represents.{units_in}
 use Rattle.thorin_builder.specs.Taking.{Outcome}
@@ -31,7 +31,7 @@ returns-in-Ok g c =
     let outcome : Input → Outcome = λ i. Ok tt in
     let now : done ≡ left partial state = filled.rest in
     let units : units_in done ≡ units_in state = ap units_in now ∙ units_left partial state in
-    made_by (IsFinishedState done) (λ o. IsPackageOf (units_in done) (file_text o))
+    made_by (λ o. (finish_test done ≡ Ok tt) × IsFinishedState done o) (λ o. IsPackageOf (units_in done) (file_text o))
     (IsPackedFrom partial (g.I.Inputs.opens c.args.inputs.now)
     (g.I.Inputs.plain c.args.inputs.now) (g.I.InputReader.offer c.args.inputs.now)
     c.args.list.now) c.finished.result
@@ -44,7 +44,8 @@ returns-in-Ok g c =
         ran = took.ran;
         joined = c.runs_go_on.ensures.joined took.list start state (map outcome took.list)
             took.accepted took.ran;
-        finished = rw now at finished;
+        tested = rw now at finished.0;
+        finished = rw now at finished.1;
         package_of = rw units at packaged;
       };
     })
