@@ -1,3 +1,4 @@
 mod Last
 mod Prefixing
+mod Sizes
 mod Standing

@@ -119,7 +119,7 @@ fn check_read<O: Write>(
     if !reading.decompresses {
         return check_taken(rt, naming, bytes, reading.nameless, faults, out);
     }
-    match plain_of(rt.alloc(), bytes) {
+    match plain_of(rt.alloc(), bytes, false) {
         Ok(Some(plain)) => {
             check_taken(rt, naming, plain.as_slice(), reading.nameless, faults, out)
         }
