@@ -1,3 +1,4 @@
 pub mod Given
 pub mod Macros
+pub mod Plain
 pub mod Prefixes

@@ -10,6 +10,7 @@ mod growth;
 mod inner;
 mod macros;
 mod notes;
+mod plain;
 mod prefixes;
 mod used;
 
@@ -24,4 +25,5 @@ pub use notes::{
     Unread, note_alone, note_before, note_reason, note_refused, note_twice_in, note_unread,
     place_of, place_of_member, reason,
 };
+pub use plain::plain_of;
 pub use prefixes::mapped;

@@ -5,7 +5,7 @@ use std::alloc::{AllocError, Global};
 use std::fmt;
 use std::io::{self, Write};
 use thorin_errors::Error;
-use thorin_queries::shown;
+use thorin_print::shown;
 
 /// A read that failed.
 #[derive(Drop)]
