@@ -6,6 +6,7 @@ use Rattle.std.proofs.KnownBytes.{Appends-nil, Appends-trans}
 use Rattle.std.proofs.lemmas.List.{take_more}
 use Rattle.std.proofs.lemmas.List.Folds.{concat-append}
 use Rattle.thorin_print.specs.Answers.{Grows}
+use Rattle.thorin_print.proofs.Printed.{grown}
 use Rattle.thorin_check.specs.Telling.{counted_on, Progress, Told, TellsOr, Tells, IsLine}
 use Rattle.thorin_print.specs.Answers.{Prints, Outcome}
 use Rattle.thorin_check.specs.Telling.{HandsOver, PassesOn, InTurn, ForEach}
