@@ -17,7 +17,7 @@ use Rattle.thorin_executable.specs.Skeletons.{skeletons_by}
 use Rattle.thorin_find.specs.Files.{Offer, RefusesFile}
 use Rattle.thorin_check.specs.Faults.{TellsUnit, TellsStringsOf, AreRows, TellsListed}
 use Rattle.thorin_print.specs.Lines.{line_end}
-use Rattle.thorin_find.specs.Listing.{AreByRow}
+use Rattle.thorin_find.specs.Listing.{AreByRow, has_no_index}
 use Rattle.thorin_inputs.specs.Plain.{IsPlainOf}
 use Rattle.thorin_print.specs.Answers.{Grows, IsOfPrinting}
 use Rattle.thorin_check.specs.Telling.{InTurn, ForEach, Is, fault_count}

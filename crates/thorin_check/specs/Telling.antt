@@ -4,6 +4,7 @@ use Rattle.std.specs.Prelude.{Result, Ok, Err, string_bytes}
 use Rattle.std.specs.List.{concat}
 use Rattle.std.specs.Io.KnownBytes.{Appends}
 use Rattle.thorin_check.specs.declared.faults.Faults.{Faults}
+use Rattle.thorin_print.specs.Answers.{Outcome, Grows, IsOfPrinting}
 use Rattle.thorin_print.specs.declared.output.Failure.{Failure}
 use Rattle.thorin_print.specs.declared.output.Failure.TheVariants as failures
 
