@@ -23,10 +23,10 @@ use thorin_errors::InputError;
 use thorin_inputs::{
     Encodings, Growth, MacroWarnings, Repetitions, Unread, count_units, decompress,
     has_compressed_overlap, has_inner_strings, has_overlap, keep_last_macros, mapped, place_among,
-    place_of, reason,
+    place_of, plain_of, reason,
 };
 use thorin_output::{FileSystem, Warnings};
-use thorin_queries::{Failure, plain_of};
+use thorin_print::Failure;
 
 /// Files as inputs.
 #[derive(Drop)]
@@ -339,7 +339,7 @@ impl<F: FileSystem> Inputs for InputFiles<'_, F> {
         self.packing.opens_archives
     }
 
-    #[tactic(auto, unfolding(crate::specs::Archives::IsTakenFor, thorin_queries::specs::Plain::IsPlainOf))]
+    #[tactic(auto, unfolding(crate::specs::Archives::IsTakenFor, thorin_inputs::specs::Plain::IsPlainOf))]
     fn plain_member(&self, content: &[u8]) -> Result<Option<Vec<u8>>, AllocError> {
         if self.overlaps(false, content) {
             return Err(AllocError);

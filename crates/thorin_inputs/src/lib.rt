@@ -11,6 +11,7 @@ mod inner;
 mod macros;
 mod notes;
 mod overlaps;
+mod plain;
 mod prefixes;
 mod used;
 
@@ -26,4 +27,5 @@ pub use notes::{
     place_of, place_of_member, reason,
 };
 pub use overlaps::{has_compressed_overlap, has_overlap};
+pub use plain::plain_of;
 pub use prefixes::mapped;

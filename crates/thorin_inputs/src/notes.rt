@@ -5,7 +5,7 @@ use std::alloc::{AllocError, Global};
 use std::fmt;
 use std::io::{self, Write};
 use thorin_errors::Error;
-use thorin_queries::shown;
+use thorin_print::shown;
 
 /// How many bytes of a long name are read from its beginning and from its end: of each end `shown`
 /// prints half as many.
