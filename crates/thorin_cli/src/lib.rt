@@ -17,8 +17,8 @@ use thorin_arguments::{
 };
 pub use thorin_commands::Failure;
 use thorin_commands::{
-    FindForm, HostFiles, ListForm, Packing, Reading, check, check_as_json, find, lacks_index, list,
-    list_missing, pack, report, show, verify,
+    FileSystem, FindForm, HostFiles, ListForm, Packing, Reading, check, check_as_json, find,
+    lacks_index, list, list_missing, pack, report, show, verify,
 };
 use thorin_terminal::{Console, CountedFiles, HostResponses, Lines, Watched, list_in_columns};
 use thorin_words::{ResponseError, expanded, printed};
@@ -136,18 +136,20 @@ impl<O: Write, E: Write> Program<'_, '_, '_, O, E> {
 
     /// Packs.
     fn pack_as(&mut self, packing: &Packing<'_, '_>) -> u8 {
-        match self.pack_told(packing) {
+        let (answer, cause) = self.pack_told(packing);
+        match answer {
             Ok(status) => status,
             Err(failure) => {
                 let status = self.report(&failure);
-                note_packing(self.rt, &failure, packing, self.err);
+                note_packing(self.rt, &failure, packing, cause, self.err);
                 status
             }
         }
     }
 
-    /// Packs, and tells meanwhile how far that is.
-    fn pack_told(&mut self, packing: &Packing<'_, '_>) -> Result<u8, Failure> {
+    /// Packs, and tells meanwhile how far that is. Answers beside the status why the package's file
+    /// couldn't be written, if it couldn't.
+    fn pack_told(&mut self, packing: &Packing<'_, '_>) -> (Result<u8, Failure>, Option<io::Error>) {
         let patience = if self.manner.on_terminal && !packing.verbose {
             Some(self.patience)
         } else {
@@ -164,7 +166,7 @@ impl<O: Write, E: Write> Program<'_, '_, '_, O, E> {
             &mut err,
         );
         console.clear();
-        answer
+        (answer, files.write_failure())
     }
 
     /// Lists the objects that are missing.
