@@ -6,10 +6,12 @@
 
 `rt ci` has built the tests and the program before. Each test whose name begins with `a_refused` or `refused`, and each command,
 is run with its first allocation refused, then with its second, and so on until a run meets no refusal. A test that
-fails is told with the number of the allocation; a command has to tell `error: Out of memory` alone and end with status
-1, or to give all that it gives without a refusal. Wants a C compiler that splits DWARF, and glibc.
+fails is told with the number of the allocation; a command has to tell `error: Out of memory`, with at most one note of
+the file behind it, and end with status 1, or to give all that it gives without a refusal. Wants a C compiler that splits
+DWARF, and glibc.
 """
 import os
+import re
 import subprocess
 import sys
 import tempfile
@@ -74,7 +76,7 @@ def refuse_in_program(folder, shim):
         whole = subprocess.run(words, capture_output=True, text=True, check=True).stdout, bytes_of(f"{folder}/other.dwp")
 
         def why_wrong(status, printed, told, refused, whole=whole):
-            is_refused = refused and (status, told) == (1, "error: Out of memory\n")
+            is_refused = refused and status == 1 and re.fullmatch(r"error: Out of memory\n(note: .*\n)?", told)
             is_whole = (status, told) == (0, "") and (printed, bytes_of(f"{folder}/other.dwp")) == whole
             return "" if is_refused or is_whole else f"status {status}, {told!r}"
 

@@ -202,6 +202,12 @@ impl<'output, 'session: 'output, Sess: Session<RelocationEntry>> DwarfPackage<
                 path: units.path(),
             };
             self.add_skeleton(reader, room, named, missing, &mut known)?;
+            let contained = self.contained_units();
+            reader.after_unit(
+                unit.target,
+                contained.contains(&unit.target),
+                contained.len(),
+            );
         }
         Ok(())
     }

@@ -6,6 +6,7 @@ ghost use Rattle.std.specs.declared.io.Error.{Error as IoError};
 ghost use Rattle.thorin_sessions.specs.Sessions.{IsOffered, IsNoWantOfMemory};
 
 use dwp_bytes::RelocationEntry;
+use dwp_table::DwarfObject;
 use std::path::Path;
 use thorin_errors::InputError;
 use thorin_sessions::Session;
@@ -43,6 +44,12 @@ pub trait InputReader {
     /// Is called in place of a read at the path that was read last: that read failed, and objects
     /// that can't be read are passed over.
     fn pass_over(&self) {}
+
+    /// Is called for each unit that an executable names, in order, once its object was added or
+    /// passed over, or wasn't read since the unit was there. `is_there` says whether the package
+    /// has the unit now, and `unit_count` how many units it has. No object is refused any more that
+    /// was read before: an error behind this call is that of the executable, or of the next object.
+    fn after_unit(&self, _unit: DwarfObject, _is_there: bool, _unit_count: usize) {}
 
     /// Whether an object may be added once more. A reader may set bounds to what small files ask
     /// for; where it says no, the answer is `Memory`.

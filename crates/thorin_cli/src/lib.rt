@@ -16,7 +16,7 @@ use thorin_arguments::{
     CheckArguments, Commands, FindArguments, ListArguments, PackArguments, is_peer,
 };
 use thorin_check::{Reading, check, check_as_json};
-use thorin_commands::{HostFiles, Packing, list_missing, pack, verify};
+use thorin_commands::{FileSystem, HostFiles, Packing, list_missing, pack, verify};
 use thorin_find::{FindForm, ListForm, find, lacks_index, list};
 pub use thorin_print::Failure;
 use thorin_print::{report, show};
@@ -25,11 +25,10 @@ use thorin_words::{ResponseError, expanded, printed};
 
 /// Does what a command line asks for: `words` are the program's name and its arguments, where
 /// `@FILE` stands for the words of a file. What is printed goes to `out`, and an error as one line
-/// `error: ` and its text to `err`; a line `note: ` behind it says what it is about where `err` is
-/// a terminal, with `--verbose`, and under the names `dwp` and `llvm-dwp`. Answers the status: 0; 1
-/// where the command was refused, a package has faults or a line can't be written; 2 for a bad
-/// command line. Under those names it takes the command lines of those programs. `facts` is what is
-/// known of where the program runs.
+/// `error: ` and its text to `err`; lines `note: ` behind it say what it is about. Answers the
+/// status: 0; 1 where the command was refused, a package has faults or a line can't be written; 2
+/// for a bad command line. Under the names `dwp` and `llvm-dwp` it takes the command lines of those
+/// programs. `facts` is what is known of where the program runs.
 pub fn run<S: AsStr, O: Write, E: Write>(
     rt: &HostRuntime,
     words: &[S],
@@ -56,9 +55,7 @@ pub fn run<S: AsStr, O: Write, E: Write>(
         }
         Err(error) => {
             let status = refuse_response(rt, err, &error);
-            if manner.notes {
-                note_response(rt, &files, err);
-            }
+            note_response(rt, &files, err);
             status
         }
     }
@@ -122,9 +119,7 @@ impl<O: Write, E: Write> Program<'_, '_, '_, O, E> {
             Ok(status) => status,
             Err(failure) => {
                 let status = self.report(&failure);
-                if self.manner.notes {
-                    note_reading(self.rt, &failure, given, self.err);
-                }
+                note_reading(self.rt, &failure, given, self.err);
                 status
             }
         }
@@ -141,21 +136,21 @@ impl<O: Write, E: Write> Program<'_, '_, '_, O, E> {
 
     /// Packs.
     fn pack_as(&mut self, packing: &Packing<'_, '_>) -> u8 {
-        match self.pack_told(packing) {
+        let (answer, cause) = self.pack_told(packing);
+        match answer {
             Ok(status) => status,
             Err(failure) => {
                 let status = self.report(&failure);
-                if packing.notes {
-                    note_packing(self.rt, &failure, packing, self.err);
-                }
+                note_packing(self.rt, &failure, packing, cause, self.err);
                 status
             }
         }
     }
 
-    /// Packs, and tells meanwhile how far that is.
-    fn pack_told(&mut self, packing: &Packing<'_, '_>) -> Result<u8, Failure> {
-        let patience = if self.manner.tells_progress && !packing.verbose {
+    /// Packs, and tells meanwhile how far that is. Answers beside the status why the package's file
+    /// couldn't be written, if it couldn't.
+    fn pack_told(&mut self, packing: &Packing<'_, '_>) -> (Result<u8, Failure>, Option<io::Error>) {
+        let patience = if self.manner.on_terminal && !packing.verbose {
             Some(self.patience)
         } else {
             None
@@ -171,7 +166,7 @@ impl<O: Write, E: Write> Program<'_, '_, '_, O, E> {
             &mut err,
         );
         console.clear();
-        answer
+        (answer, files.write_failure())
     }
 
     /// Lists the objects that are missing.
@@ -246,7 +241,7 @@ impl<O: Write, E: Write> Commands for Program<'_, '_, '_, O, E> {
         } else {
             list(self.rt, file, form, &mut self.out)
         };
-        if answer.is_ok() && self.manner.notes && lacks_index(self.rt, file) {
+        if answer.is_ok() && self.manner.on_terminal && lacks_index(self.rt, file) {
             note_no_index(self.rt, file, self.err);
         }
         self.status(answer, Given::file(file))

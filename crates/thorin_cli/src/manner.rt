@@ -20,8 +20,6 @@ pub struct Facts<'a> {
 /// What a program tells that wasn't asked for.
 #[derive(Clone, Copy)]
 pub(crate) struct Manner {
-    /// Whether a line `note: ` behind a refusal says what it is about.
-    pub(crate) notes: bool,
     /// Which warnings of type units that differ are printed.
     pub(crate) warnings: Warnings,
     /// Whether of an object's sections of macros only the last counts.
@@ -32,8 +30,9 @@ pub(crate) struct Manner {
     pub(crate) opens_archives: bool,
     /// Whether units of an executable that name no object are passed over, without being told.
     pub(crate) skips_nameless: bool,
-    /// Whether a line tells how far packing is, while it lasts.
-    pub(crate) tells_progress: bool,
+    /// Whether a terminal is told more: how far packing is, while it lasts, and of a file that is
+    /// listed that it has no index.
+    pub(crate) on_terminal: bool,
 }
 
 impl Manner {
@@ -43,7 +42,6 @@ impl Manner {
         ensures { result ≡ manner is_peer on_terminal }
     {
         Manner {
-            notes: is_peer || on_terminal,
             warnings: if is_peer {
                 Warnings::Never
             } else if on_terminal {
@@ -55,7 +53,7 @@ impl Manner {
             lets_empty: is_peer,
             opens_archives: is_peer,
             skips_nameless: is_peer,
-            tells_progress: on_terminal,
+            on_terminal,
         }
     }
 }

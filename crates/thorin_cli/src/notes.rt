@@ -2,7 +2,7 @@
 //! can't be read or written.
 
 use std::alloc::AllocError;
-use std::io::Write;
+use std::io::{self, Write};
 use thorin_commands::{Packing, reason};
 use thorin_print::Failure;
 use thorin_words::printed;
@@ -63,11 +63,13 @@ pub(crate) fn note_reading<E: Write>(
     }
 }
 
-/// Prints the note on a failure of packing that is about the package's file.
+/// Prints the note on a failure of packing that is about the package's file, and why that couldn't
+/// be written.
 pub(crate) fn note_packing<E: Write>(
     rt: &HostRuntime,
     failure: &Failure,
     packing: &Packing<'_, '_>,
+    cause: Option<io::Error>,
     err: &mut E,
 ) {
     let Ok(output) = packing.output_name(rt.alloc()) else {
@@ -75,7 +77,10 @@ pub(crate) fn note_packing<E: Write>(
     };
     match failure {
         Failure::Output => {
-            let why = why_unwritable(rt, output.as_str()).ok();
+            let why = match &cause {
+                Some(cause) => reason(rt.alloc(), cause).ok(),
+                None => None,
+            };
             note(rt, output.as_str(), text_of(&why), err);
         }
         Failure::Overwrites => note(rt, output.as_str(), "", err),
@@ -113,14 +118,6 @@ fn text_of(text: &Option<String>) -> &str {
     }
 }
 
-/// The folder that a name is in, where it has one.
-fn folder_of(name: &str) -> Option<&str> {
-    match name.rsplit_once('/') {
-        Some((folder, _)) if !folder.is_empty() => Some(folder),
-        _ => None,
-    }
-}
-
 /// The first of the files that can't be read: a regular file, or none, before all else.
 fn unreadable<'a>(rt: &HostRuntime, given: Given<'_, 'a>) -> Option<&'a str> {
     if is_unreadable(rt, given.file) {
@@ -150,17 +147,6 @@ fn is_unreadable(rt: &HostRuntime, name: &str) -> bool {
 /// Whether what has a name is no regular file: a read of it may wait for ever.
 fn is_special(rt: &HostRuntime, name: &str) -> bool {
     thorin_files::is_there(rt, name) && !thorin_files::is_file(rt, name)
-}
-
-/// Why a file can't be written, empty where that isn't known any more.
-fn why_unwritable(rt: &HostRuntime, name: &str) -> Result<String, AllocError> {
-    match folder_of(name) {
-        Some(folder) if !thorin_files::is_there(rt, folder) => why_unreadable(rt, folder),
-        _ if is_special(rt, name) && !thorin_files::is_device(rt, name) => {
-            String::from_str(rt.alloc(), "not a regular file")
-        }
-        _ => Ok(String::new(rt.alloc())),
-    }
 }
 
 /// Why a file can't be read.

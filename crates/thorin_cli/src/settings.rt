@@ -28,7 +28,6 @@ pub(crate) fn packing_of<'m, 'a>(
         partial: arguments.partial,
         opens_archives: arguments.opens_archives || manner.opens_archives,
         verbose: arguments.verbose,
-        notes: manner.notes || arguments.verbose,
         warnings: warnings_of(arguments.warnings, manner.warnings),
         allows_overlap: arguments.allows_overlap,
         keeps_last_macros: arguments.keeps_last_macros || manner.keeps_last_macros,

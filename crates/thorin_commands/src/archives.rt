@@ -7,11 +7,11 @@ ghost use Rattle.dwp_archive.specs.View as view;
 ghost use Rattle.thorin_commands.specs.Archives.{is_split, split_contents};
 ghost use Rattle.thorin_commands.specs.Opened.{TookAll, TookEach, TookMembers, TookBytes};
 
-use crate::origins::{OriginRef, place_of_unit};
+use crate::origins::{Origin, place_of_unit};
 use crate::reading::Inputs;
 use crate::refusal::Refusal;
 use crate::taking::{Tried, settle};
-use crate::telling::{Before, Refused, Telling, note_place, tell_error, tell_refused, warn_of};
+use crate::telling::{Refused, Telling, note_place, tell_error, tell_refused};
 use dwp_archive::{ArchiveError, Member, members};
 use dwp_bytes::RelocationEntry;
 use dwp_elf::ElfFile;
@@ -67,11 +67,10 @@ pub(crate) fn take_opened<'o, 's: 'o, Sess: Session<RelocationEntry>, I: Inputs,
             let error = Error::from(e);
             let refused = Refused {
                 input: Input::Object(path),
-                room: &[],
                 before: None,
                 error: &error,
             };
-            tell_refused(inputs, refused, telling, err);
+            tell_refused(telling.alloc, inputs, refused, err);
             Err(Refusal::Told)
         }
     }
@@ -162,24 +161,10 @@ fn take_listed<'o, 's: 'o, Sess: Session<RelocationEntry>, I: Inputs, E: Write>(
         (split_contents (map view.member members.now)) builder.old.state builder.new.state) }
 {
     let before = builder.contained_units().len();
-    let count = take_each(inputs, builder, members, place, err)?;
-    let added = builder.contained_units().len().saturating_sub(before);
-    tell_members(place, count, added, err)?;
-    Ok(())
-}
-
-/// Tells of an archive how many units were added, or warns that no member has any.
-fn tell_members<E: Write>(
-    place: Place<'_>,
-    count: usize,
-    added: usize,
-    err: &mut E,
-) -> Result<(), Failure> {
+    take_each(inputs, builder, members, place, err)?;
     if place.telling.verbose {
+        let added = builder.contained_units().len().saturating_sub(before);
         tell_taken(err, place.path.path_text(), added, None)?;
-    }
-    if place.telling.notes && count == 0 {
-        return warn_of(place.telling.alloc, place.path, err);
     }
     Ok(())
 }
@@ -191,45 +176,42 @@ struct Place<'p> {
     telling: Telling,
 }
 
-/// Takes those of an archive's members that have split units, and answers how many they are.
+/// Takes those of an archive's members that have split units.
 fn take_each<'o, 's: 'o, Sess: Session<RelocationEntry>, I: Inputs, E: Write>(
     inputs: &I,
     builder: &mut DwarfPackage<'o, 's, Sess>,
     members: &[Member<'_>],
     place: Place<'_>,
     err: &mut E,
-) -> Result<usize, Refusal>
+) -> Result<(), Refusal>
     ensures { OnOk result (TookEach (I.plain inputs.now) (I.offer inputs.now)
         (split_contents (map view.member members.now)) builder.old.state builder.new.state) }
 {
-    let mut count = 0usize;
     for member in members {
-        if take_split(inputs, builder, *member, place, err)? {
-            count = count.saturating_add(1);
-        }
+        take_split(inputs, builder, *member, place, err)?;
     }
-    Ok(count)
+    Ok(())
 }
 
-/// Takes a member of an archive, where it has split units, and answers whether it has.
+/// Takes a member of an archive, where it has split units.
 fn take_split<'o, 's: 'o, Sess: Session<RelocationEntry>, I: Inputs, E: Write>(
     inputs: &I,
     builder: &mut DwarfPackage<'o, 's, Sess>,
     member: Member<'_>,
     place: Place<'_>,
     err: &mut E,
-) -> Result<bool, Refusal>
+) -> Result<(), Refusal>
     ensures { OnOk result (TookEach (I.plain inputs.now) (I.offer inputs.now)
         (split_contents (view.member member.entry ∷ [])) builder.old.state builder.new.state) }
 {
     let content = member.content();
     if !is_split(content) {
-        return Ok(false);
+        return Ok(());
     }
     match take_content(place.telling.alloc, inputs, builder, content) {
         Ok(()) => {
             keep_member(inputs, builder.contained_units().len(), member, place);
-            Ok(true)
+            Ok(())
         }
         Err(error) => {
             refuse_member(inputs, builder, &error, member, place, err);
@@ -240,7 +222,7 @@ fn take_split<'o, 's: 'o, Sess: Session<RelocationEntry>, I: Inputs, E: Write>(
 
 /// Keeps for notes a member that was taken.
 fn keep_member<I: Inputs>(inputs: &I, count: usize, member: Member<'_>, place: Place<'_>) {
-    let taken = OriginRef::Member(place.path.path_text(), member.name());
+    let taken = Origin::Member(place.path.path_text(), member.name());
     inputs.keep_taken(taken, count);
 }
 
@@ -267,15 +249,13 @@ fn malformed<E: Write>(place: Place<'_>, error: ArchiveError, err: &mut E) -> Re
         return Refusal::Command(Failure::Memory);
     }
     let _ = writeln!(err, "error: {error}");
-    if place.telling.notes {
-        if let Ok(archive) = shown(place.telling.alloc, place.path.path_text()) {
-            note_alone(archive.as_str(), err);
-        }
+    if let Ok(archive) = shown(place.telling.alloc, place.path.path_text()) {
+        note_alone(archive.as_str(), err);
     }
     Refusal::Told
 }
 
-/// Tells why a member was refused, and where that is asked for which.
+/// Tells why a member was refused, and which.
 fn refuse_member<'o, 's: 'o, Sess: Session<RelocationEntry>, I: Inputs, E: Write>(
     inputs: &I,
     builder: &DwarfPackage<'o, 's, Sess>,
@@ -285,13 +265,14 @@ fn refuse_member<'o, 's: 'o, Sess: Session<RelocationEntry>, I: Inputs, E: Write
     err: &mut E,
 ) {
     tell_error(place.telling.alloc, error, inputs.found_growth(), err);
-    if place.telling.notes {
-        let before = Before {
-            place: place_of_unit(builder, error),
-            executable: None,
-        };
-        note_member(inputs, error, member, before, place, err);
-    }
+    note_member(
+        inputs,
+        error,
+        member,
+        place_of_unit(builder, error),
+        place,
+        err,
+    );
 }
 
 /// Prints the note on a member that was refused.
@@ -299,7 +280,7 @@ fn note_member<I: Inputs, E: Write>(
     inputs: &I,
     error: &Error,
     member: Member<'_>,
-    before: Before<'_>,
+    before: Option<usize>,
     place: Place<'_>,
     err: &mut E,
 ) {

@@ -31,14 +31,6 @@ pub(crate) fn executable_of(input: Input<'_>) -> Option<Path<'_>> {
     }
 }
 
-/// What becomes of the units of an input that name no object.
-pub(crate) fn nameless_in(input: Input<'_>) -> NamelessUnits {
-    match input {
-        Input::ExecutableSkippingNameless(_, _) => NamelessUnits::PassedOver,
-        _ => NamelessUnits::Refused,
-    }
-}
-
 /// The objects, and then the executables.
 pub(crate) fn inputs_of<'a>(
     alloc: Global,

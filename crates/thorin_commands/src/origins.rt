@@ -11,48 +11,38 @@ use thorin_sessions::Session;
 
 /// What was taken, by its path.
 #[derive(Clone, Copy)]
-pub(crate) enum OriginRef<'a> {
+pub(crate) enum Origin<'a> {
     /// The object at a path.
     Object(&'a str),
-    /// The objects that the executable at a path names.
-    Executable(&'a str),
+    /// The object that the executable at the first path names by the second.
+    Named(&'a str, &'a str),
     /// A member of the archive at a path, by its name.
     Member(&'a str, &'a [u8]),
 }
 
-/// An input, or a member of one, that brought units, as it is kept.
-#[derive(Drop)]
-pub(crate) enum Origin {
-    /// An object or a member, as it is printed.
-    Place(String),
-    /// The objects that the executable at a path names.
-    Executable(String),
-}
-
-/// What was taken, in order, each with the number of units that the package had then: kept for
-/// notes.
+/// What brought units, in order, as it is printed, each with the number of units that the package
+/// had then: kept for notes.
 #[derive(Drop)]
 pub(crate) struct Origins {
     alloc: Global,
-    /// None where that isn't kept, or there was no memory for it.
-    taken: Cell<Option<Vec<(usize, Origin)>>>,
+    /// None where there was no memory for it.
+    taken: Cell<Option<Vec<(usize, String)>>>,
 }
 
 impl Origins {
     /// Nothing yet.
-    pub(crate) fn new(alloc: Global, keeps: bool) -> Origins {
-        let taken = if keeps { Some(Vec::new(alloc)) } else { None };
+    pub(crate) fn new(alloc: Global) -> Origins {
         Origins {
             alloc,
-            taken: Cell::new(taken),
+            taken: Cell::new(Some(Vec::new(alloc))),
         }
     }
 
-    /// Keeps what was taken, and how many units the package has now. Where there is no memory for
-    /// it, nothing is kept any more.
-    pub(crate) fn keep(&self, now: OriginRef<'_>, count: usize) {
+    /// Keeps what was taken, where it brought a unit, and how many units the package has now. Where
+    /// there is no memory for it, nothing is kept any more.
+    pub(crate) fn keep(&self, origin: Origin<'_>, count: usize) {
         if let Some(mut taken) = self.taken.replace(None) {
-            if add_origin(self.alloc, &mut taken, now, count).is_ok() {
+            if add_origin(self.alloc, &mut taken, origin, count).is_ok() {
                 self.taken.set(Some(taken));
             }
         }
@@ -60,7 +50,7 @@ impl Origins {
 
     /// What brought the unit at a place among the package's; none where that isn't known. Asked for
     /// once.
-    pub(crate) fn of(&self, place: usize) -> Option<Origin> {
+    pub(crate) fn of(&self, place: usize) -> Option<String> {
         let taken = self.taken.replace(None)?;
         for (count, origin) in taken {
             if place < count {
@@ -71,26 +61,30 @@ impl Origins {
     }
 }
 
-/// Adds what is taken now to what was taken.
+/// Adds what is taken now to what was taken, where the package has more units than before.
 fn add_origin(
     alloc: Global,
-    taken: &mut Vec<(usize, Origin)>,
-    now: OriginRef<'_>,
+    taken: &mut Vec<(usize, String)>,
+    origin: Origin<'_>,
     count: usize,
 ) -> Result<(), AllocError> {
-    let origin = as_kept(alloc, now)?;
-    taken.push((count, origin))?;
+    let before = match taken.last() {
+        Some((before, _)) => *before,
+        None => 0,
+    };
+    if count > before {
+        let place = printed_origin(alloc, origin)?;
+        taken.push((count, place))?;
+    }
     Ok(())
 }
 
-/// What was taken, as it is kept.
-fn as_kept(alloc: Global, taken: OriginRef<'_>) -> Result<Origin, AllocError> {
-    match taken {
-        OriginRef::Object(path) => Ok(Origin::Place(place_of(alloc, path, None)?)),
-        OriginRef::Executable(path) => Ok(Origin::Executable(String::from_str(alloc, path)?)),
-        OriginRef::Member(archive, name) => {
-            Ok(Origin::Place(place_of_member(alloc, archive, name)?))
-        }
+/// What was taken, as it is printed.
+fn printed_origin(alloc: Global, origin: Origin<'_>) -> Result<String, AllocError> {
+    match origin {
+        Origin::Object(path) => place_of(alloc, path, None),
+        Origin::Named(executable, path) => place_of(alloc, executable, Some(path)),
+        Origin::Member(archive, name) => place_of_member(alloc, archive, name),
     }
 }
 

@@ -17,7 +17,7 @@ use crate::plain::InputFiles;
 use crate::reading::Inputs;
 use crate::refusal::Refusal;
 use crate::taking::take_all;
-use crate::telling::{Telling, print_error, tell_unfinished};
+use crate::telling::{Telling, print_error, tell_unfinished, warn_unsplit};
 use bumpalo::Bump;
 use dwp_bytes::RelocationEntry;
 use dwp_elf::WritableObject;
@@ -59,8 +59,6 @@ pub struct Packing<'m, 'a> {
     pub opens_archives: bool,
     /// Whether a line tells of each input that was taken.
     pub verbose: bool,
-    /// Whether a second line says what a refusal is about.
-    pub notes: bool,
     /// Which warnings of type units that differ are printed.
     pub warnings: Warnings,
     /// Whether an input may have sections that overlap.
@@ -314,7 +312,7 @@ fn packed_by<I: Inputs, E: Write>(
     let telling = Telling {
         alloc,
         verbose: packing.verbose,
-        notes: packing.notes,
+        warns: true,
         partial: packing.partial,
     };
     match packed_inputs(inputs, list, telling, err) {
@@ -360,7 +358,7 @@ fn packed_unsplit<I: Inputs, E: Write>(
     let telling = Telling {
         alloc,
         verbose: false,
-        notes: false,
+        warns: false,
         partial: packing.partial,
     };
     packed_inputs(inputs, list.as_slice(), telling, err)
@@ -405,7 +403,7 @@ fn packed_over<'s, Sess: Session<RelocationEntry>, I: Inputs, E: Write>(
     runs_go_on(inputs);
     let mut builder = DwarfPackage::new(telling.alloc, session);
     match fill(inputs, &mut builder, list, telling, err) {
-        Ok(()) => finished(inputs, builder, telling, err),
+        Ok(()) => finished(telling.alloc, inputs, builder, err),
         Err(refusal) => {
             drop(builder);
             Err(refusal)
@@ -413,7 +411,8 @@ fn packed_over<'s, Sess: Session<RelocationEntry>, I: Inputs, E: Write>(
     }
 }
 
-/// Takes these inputs, and leaves out what isn't there, where that is asked for.
+/// Takes these inputs, warns of them where none has split units, and leaves out what isn't there,
+/// where that is asked for.
 fn fill<'o, 's: 'o, Sess: Session<RelocationEntry>, I: Inputs, E: Write>(
     inputs: &I,
     builder: &mut DwarfPackage<'o, 's, Sess>,
@@ -425,15 +424,16 @@ fn fill<'o, 's: 'o, Sess: Session<RelocationEntry>, I: Inputs, E: Write>(
         (I.offer inputs.now) list.now builder.old.state builder.new.state) }
 {
     take_all(inputs, builder, list, telling, err)?;
-    leave_out(inputs, builder, list, telling, err)
+    warn_unsplit(builder, list, telling, err)?;
+    leave_out(inputs, builder, telling, err)
 }
 
 /// The object of the package, which can be written, and those signatures. Where it can't be
 /// finished, that is printed.
 fn finished<'o, 's: 'o, Sess: Session<RelocationEntry>, I: Inputs, E: Write>(
+    alloc: Global,
     inputs: &I,
     builder: DwarfPackage<'o, 's, Sess>,
-    telling: Telling,
     err: &mut E,
 ) -> Result<(WritableObject, Vec<DebugTypeSignature>), Refusal>
     ensures finished { IfOk result (λ made. (finish_test builder.entry.state ≡ Ok tt)
@@ -445,23 +445,23 @@ fn finished<'o, 's: 'o, Sess: Session<RelocationEntry>, I: Inputs, E: Write>(
     match finished {
         Ok(object) => match can_be_written(&object) {
             Ok(()) => Ok((object, differing)),
-            Err(error) => Err(unfinished(inputs, &error, telling, err)),
+            Err(error) => Err(unfinished(alloc, inputs, &error, err)),
         },
-        Err(error) => Err(unfinished(inputs, &error, telling, err)),
+        Err(error) => Err(unfinished(alloc, inputs, &error, err)),
     }
 }
 
 /// What becomes of a package that can't be finished: it is told here, unless no input began it.
 fn unfinished<I: Inputs, E: Write>(
+    alloc: Global,
     inputs: &I,
     error: &Error,
-    telling: Telling,
     err: &mut E,
 ) -> Refusal {
     match error {
         Error::NoOutputObjectCreated => Refusal::Empty,
         _ => {
-            tell_unfinished(inputs, error, telling, err);
+            tell_unfinished(alloc, inputs, error, err);
             Refusal::Told
         }
     }

@@ -11,19 +11,19 @@ ghost use Rattle.thorin_commands.specs.Packing.{IsAmong, paths_in, through, read
 ghost use Rattle.thorin_commands.specs.Plain.{taken_from};
 
 use crate::asked::executable_of;
-use crate::origins::{Origin, OriginRef, Origins};
+use crate::origins::{Origin, Origins};
 use crate::packing::{Packing, paths_in};
 use crate::reading::Inputs;
+use dwp_table::{DwarfObject, DwoId};
 use std::alloc::{AllocError, Global};
 use std::cell::Cell;
-use std::io;
 use std::path::{AsPath, Path};
 use thorin::{Input, InputReader, Repetition};
 use thorin_errors::InputError;
 use thorin_inputs::{
-    Encodings, Growth, MacroWarnings, Repetitions, Unread, count_units, decompress,
+    AbsentUnits, Encodings, Growth, MacroWarnings, Repetitions, count_units, decompress,
     has_compressed_overlap, has_inner_strings, has_overlap, keep_last_macros, mapped, place_among,
-    place_of, plain_of, reason,
+    plain_of, reason,
 };
 use thorin_output::{FileSystem, Warnings};
 use thorin_print::Failure;
@@ -41,15 +41,16 @@ pub(crate) struct InputFiles<'f, F> {
     macros: MacroWarnings,
     /// Whether the next read is that of an input's own path.
     begins: Cell<bool>,
-    /// Whether it is the second of that path.
-    again: Cell<bool>,
-    /// The input's own path, and the one that was read last of those that it names.
+    /// The input's own path; that of the object that it names and that was read last, unless it was
+    /// taken; and why the last read failed, if it did.
     own: Cell<Option<String>>,
     named: Cell<Option<String>>,
-    unread: Cell<Option<Unread>>,
-    /// What was taken so far, and the encodings of what was read, where notes are printed.
+    failure: Cell<Option<String>>,
+    /// What is kept for notes: what was taken so far, the encodings of what was read, and the units
+    /// that weren't there once their objects were taken.
     origins: Origins,
     encodings: Encodings,
+    absent: Cell<AbsentUnits>,
     /// Whether the input is an executable.
     is_executable: Cell<bool>,
     /// What objects of the input add once more, and why the input was refused that would make the
@@ -76,12 +77,12 @@ impl<'f, F: FileSystem> InputFiles<'f, F> {
             next: Cell::new(0),
             macros: MacroWarnings::new(alloc, warns),
             begins: Cell::new(false),
-            again: Cell::new(false),
             own: Cell::new(None),
             named: Cell::new(None),
-            unread: Cell::new(None),
-            origins: Origins::new(alloc, packing.notes),
-            encodings: Encodings::new(alloc, packing.notes),
+            failure: Cell::new(None),
+            origins: Origins::new(alloc),
+            encodings: Encodings::new(alloc),
+            absent: Cell::new(AbsentUnits::new(alloc)),
             is_executable: Cell::new(false),
             repetitions: Repetitions::new(alloc),
             growth: Cell::new(None),
@@ -130,11 +131,11 @@ impl<'f, F: FileSystem> InputFiles<'f, F> {
         ensures memory { IfErr result IsNoWantOfMemory }
     {
         self.keep_path(is_own, path.path_text());
-        match read_file(self.files, is_own && !self.again.get(), path, room) {
+        match read_file(self.files, is_own, path, room) {
             Ok(()) if self.admits_file(is_own, path.path_text(), room) => Ok(()),
             Ok(()) => Err(InputError::Memory),
             Err(InputError::Io(cause)) => {
-                self.keep_unread(is_own, path.path_text(), &cause);
+                self.failure.set(reason(self.alloc, &cause).ok());
                 Err(InputError::Io(cause))
             }
             Err(InputError::Memory) => Err(InputError::Memory),
@@ -207,35 +208,11 @@ impl<'f, F: FileSystem> InputFiles<'f, F> {
         }
     }
 
-    /// Keeps the first read that fails, and counts those behind it.
-    fn keep_unread(&self, is_own: bool, path: &str, cause: &io::Error) {
-        let unread = match self.unread.replace(None) {
-            Some(first) if !is_own => Some(first.and_one_more()),
-            _ => self.unread_of(is_own, path, cause).ok(),
-        };
-        self.unread.set(unread);
-    }
-
-    /// Counts one more read that fails as the one before did.
-    fn count_unread(&self) {
-        if let Some(first) = self.unread.replace(None) {
-            self.unread.set(Some(first.and_one_more()));
-        }
-    }
-
-    /// A read that fails.
-    fn unread_of(&self, is_own: bool, path: &str, cause: &io::Error) -> Result<Unread, AllocError> {
-        let own = self.own.replace(None);
-        let place = match &own {
-            Some(own) if !is_own => place_of(self.alloc, own.as_str(), Some(path)),
-            _ => place_of(self.alloc, path, None),
-        };
-        self.own.set(own);
-        Ok(Unread {
-            place: place?,
-            reason: reason(self.alloc, cause)?,
-            more: 0,
-        })
+    /// Keeps for notes a unit that isn't there once its object was taken, or passed over.
+    fn keep_absent(&self, unit: DwoId, executable: &str, object: Option<String>) {
+        let mut absent = self.absent_units();
+        let _ = absent.add(unit.0, executable, object, self.last_failure());
+        self.absent.set(absent);
     }
 }
 
@@ -315,17 +292,32 @@ impl<F: FileSystem> InputReader for InputFiles<'_, F> {
         Ok(room.as_slice())
     }
 
-    fn pass_over(&self) {
-        self.count_unread();
+    fn after_unit(&self, unit: DwarfObject, is_there: bool, unit_count: usize) {
+        let object = self.last_named();
+        let own = self.own.replace(None);
+        if let Some(executable) = &own {
+            if let Some(object) = &object {
+                let origin = Origin::Named(executable.as_str(), object.as_str());
+                self.origins.keep(origin, unit_count);
+            }
+            match unit {
+                DwarfObject::Compilation(unit) if !is_there => {
+                    self.keep_absent(unit, executable.as_str(), object);
+                }
+                _ => {}
+            }
+        }
+        self.own.set(own);
+        self.failure.set(None);
     }
 
     fn admits(&self, repetition: Repetition<'_>) -> bool {
+        self.named.set(self.with_prefix_replaced(repetition.path.path_text()).ok());
         let (bytes, differing) = (repetition.bytes, repetition.differing);
         if self.packing.allows_overlap || self.repetitions.admits(bytes, differing) {
             return true;
         }
         self.growth.set(Some(Growth::Repetition));
-        self.named.set(self.with_prefix_replaced(repetition.path.path_text()).ok());
         false
     }
 }
@@ -360,16 +352,15 @@ impl<F: FileSystem> Inputs for InputFiles<'_, F> {
 
     fn begin(&self, input: Input<'_>) {
         self.begins.set(true);
-        self.again.set(false);
+        self.named.set(None);
+        self.failure.set(None);
+        let mut absent = self.absent_units();
+        absent.begin();
+        self.absent.set(absent);
         self.macros.begin();
         self.growth.set(None);
         self.repetitions.begin();
         self.is_executable.set(executable_of(input).is_some());
-    }
-
-    fn begin_again(&self, input: Input<'_>) {
-        self.begin(input);
-        self.again.set(true);
     }
 
     fn decompresses(&self) -> bool {
@@ -413,19 +404,23 @@ impl<F: FileSystem> Inputs for InputFiles<'_, F> {
         }
     }
 
-    fn first_unread(&self) -> Option<Unread> {
-        self.unread.replace(None)
+    fn last_failure(&self) -> Option<String> {
+        self.failure.replace(None)
+    }
+
+    fn absent_units(&self) -> AbsentUnits {
+        self.absent.replace(AbsentUnits::new(self.alloc))
     }
 
     fn found_growth(&self) -> Option<Growth> {
         self.growth.get()
     }
 
-    fn keep_taken(&self, taken: OriginRef<'_>, count: usize) {
+    fn keep_taken(&self, taken: Origin<'_>, count: usize) {
         self.origins.keep(taken, count);
     }
 
-    fn origin_of(&self, place: usize) -> Option<Origin> {
+    fn origin_of(&self, place: usize) -> Option<String> {
         self.origins.of(place)
     }
 

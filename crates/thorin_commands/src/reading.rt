@@ -4,10 +4,10 @@ ghost use Rattle.std.specs.Prelude.{◌≡◌, Bool, IfOk};
 ghost use Rattle.thorin_inputs.specs.Plain.{or_content};
 ghost use Rattle.thorin_commands.specs.Archives.{IsTakenFor};
 
-use crate::origins::{Origin, OriginRef};
+use crate::origins::Origin;
 use std::alloc::AllocError;
 use thorin::{Input, InputReader};
-use thorin_inputs::{Growth, Unread};
+use thorin_inputs::{AbsentUnits, Growth};
 use thorin_print::Failure;
 
 /// What reads inputs, and tells of them.
@@ -15,9 +15,6 @@ pub(crate) trait Inputs: InputReader {
     /// Begins an input: the next read is that of its own path. Those behind it are of objects that
     /// the input names, and these must be regular files: a read of another may wait for ever.
     fn begin(&self, input: Input<'_>);
-
-    /// Begins an input a second time, for what is told of it: what is no regular file isn't read.
-    fn begin_again(&self, input: Input<'_>);
 
     // Whether archives are opened, and whether what is read is decompressed.
     ghost opens: { Self → Bool };
@@ -50,7 +47,8 @@ pub(crate) trait Inputs: InputReader {
     /// `Input` where the read fails, `Memory`.
     fn unit_count(&self, path: &str) -> Result<Option<usize>, Failure>;
 
-    /// The path that the input names and that was read last; none where none was.
+    /// The path of the object that the input names and that was read last; none where none was, and
+    /// where it was taken. Asked for once.
     fn last_named(&self) -> Option<String>;
 
     /// The path at which an object is read that an executable names: its prefix is replaced.
@@ -59,18 +57,22 @@ pub(crate) trait Inputs: InputReader {
     /// Why an object can't be read at a path, none where it can: it must be a regular file.
     fn unreadable(&self, path: &str) -> Result<Option<String>, AllocError>;
 
-    /// The first of the reads that failed.
-    fn first_unread(&self) -> Option<Unread>;
+    /// Why the last read failed; none where it didn't. Asked for once.
+    fn last_failure(&self) -> Option<String>;
+
+    /// The units that executables name and that weren't there once their objects were taken. Asked
+    /// for once.
+    fn absent_units(&self) -> AbsentUnits;
 
     /// How the input would make the package larger than its files, where it was refused for that.
     fn found_growth(&self) -> Option<Growth>;
 
     /// Keeps for notes what was taken, and how many units the package has now.
-    fn keep_taken(&self, taken: OriginRef<'_>, count: usize);
+    fn keep_taken(&self, taken: Origin<'_>, count: usize);
 
-    /// What brought the unit at a place among the package's; none where that isn't known. Asked for
-    /// once.
-    fn origin_of(&self, place: usize) -> Option<Origin>;
+    /// What brought the unit at a place among the package's, as it is printed; none where that
+    /// isn't known. Asked for once.
+    fn origin_of(&self, place: usize) -> Option<String>;
 
     /// A line `note: ` for each encoding of the files that were read, where there are several, with
     /// the first file of each. Asked for once.

@@ -6,7 +6,7 @@ ghost use Rattle.thorin.specs.Run.{Took};
 ghost use Rattle.thorin_commands.specs.Opened.{TookAll, TookInputs};
 
 use crate::archives::take_opened;
-use crate::origins::{OriginRef, place_of_unit};
+use crate::origins::{Origin, place_of_unit};
 use crate::reading::Inputs;
 use crate::refusal::Refusal;
 use crate::telling::{Refused, Telling, tell_refused, told};
@@ -109,11 +109,10 @@ pub(crate) fn settle<'o, 's: 'o, Sess: Session<RelocationEntry>, I: Inputs, E: W
         Err(error) => {
             let refused = Refused {
                 input: tried.input,
-                room: tried.room,
                 before: place_of_unit(builder, &error),
                 error: &error,
             };
-            tell_refused(inputs, refused, telling, err);
+            tell_refused(telling.alloc, inputs, refused, err);
             Err(Refusal::Told)
         }
     }
@@ -133,13 +132,9 @@ fn accept<I: Inputs, E: Write>(
     told(inputs, tried, added, telling, err)
 }
 
-/// Keeps for notes an input that was taken.
+/// Keeps for notes an object that was taken: those of executables are kept as they are read.
 fn keep_input<I: Inputs>(inputs: &I, input: Input<'_>, count: usize) {
-    match input {
-        Input::Object(path) => inputs.keep_taken(OriginRef::Object(path.path_text()), count),
-        Input::Executable(path, _) | Input::ExecutableSkippingNameless(path, _) => {
-            inputs.keep_taken(OriginRef::Executable(path.path_text()), count);
-        }
-        Input::Bytes(_) => {}
+    if let Input::Object(path) = input {
+        inputs.keep_taken(Origin::Object(path.path_text()), count);
     }
 }

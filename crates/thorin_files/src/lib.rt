@@ -5,7 +5,5 @@ mod beside;
 mod reading;
 mod writing;
 
-pub use reading::{
-    identity, is_device, is_file, is_there, read, read_over, read_regular_over, read_within,
-};
+pub use reading::{identity, is_file, is_there, read, read_over, read_regular_over, read_within};
 pub use writing::{Contents, WriteError, write};

@@ -66,14 +66,6 @@ pub fn read_within(rt: &HostRuntime, path: &str, limit: u32) -> io::Result<Optio
     }
 }
 
-/// Whether there is a device at a path. It isn't read: it may have no end.
-pub fn is_device(rt: &HostRuntime, path: &str) -> bool {
-    match fs::metadata(rt, path) {
-        Ok(metadata) => is_kind_of_device(metadata.file_type()),
-        Err(_) => false,
-    }
-}
-
 /// Whether there is a regular file at a path.
 pub fn is_file(rt: &HostRuntime, path: &str) -> bool {
     match fs::metadata(rt, path) {

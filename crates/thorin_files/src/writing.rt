@@ -3,22 +3,31 @@
 use crate::beside;
 use std::alloc::{AllocError, Global};
 use std::fs::{self, File, Permissions};
-use std::io::{BufWriter, Write};
+use std::io::{self, BufWriter, Write};
 use std::os::unix::fs::{MetadataExt, PermissionsExt, fchown};
 
 /// What a file is to hold.
 pub trait Contents {
-    /// Writes all of it, and answers whether all was written.
-    fn is_written<W: Write>(&self, file: &mut W) -> bool;
+    /// Writes all of it.
+    ///
+    /// # Errors
+    /// Why not all was written.
+    fn write<W: Write>(&self, file: &mut W) -> Result<(), io::Error>;
 }
 
 /// Why a file was not written.
-#[derive(Clone, Copy, Debug, PartialEq, Eq)]
+#[derive(Debug, Drop)]
 pub enum WriteError {
     /// The system refused it, or it wasn't written to its end.
-    Output,
+    Output(io::Error),
     /// Memory ran out.
     Memory,
+}
+
+impl From<io::Error> for WriteError {
+    fn from(cause: io::Error) -> WriteError {
+        WriteError::Output(cause)
+    }
 }
 
 impl From<AllocError> for WriteError {
@@ -77,10 +86,8 @@ fn place_of(rt: &HostRuntime, output: &str) -> Result<Place, WriteError> {
         mode: metadata.mode() & 0o777,
         group: metadata.gid(),
     };
-    match File::options().write(true).open(rt, output) {
-        Ok(_) => Ok(Place::File(access)),
-        Err(_) => Err(WriteError::Output),
-    }
+    File::options().write(true).open(rt, output)?;
+    Ok(Place::File(access))
 }
 
 /// Writes the contents to a file beside OUT, which then becomes OUT. False where that can't be, and
@@ -136,33 +143,28 @@ fn write_in_place<C: Contents>(
     contents: &C,
     output: &str,
 ) -> Result<(), WriteError> {
-    match File::options().write(true).create(true).open(rt, output) {
-        Ok(file) => fill(rt.alloc(), contents, file),
-        Err(_) => Err(WriteError::Output),
-    }
+    let file = File::options().write(true).create(true).open(rt, output)?;
+    fill(rt.alloc(), contents, file)
 }
 
 /// Writes the contents to a file in place of what it held, small pieces of them in one write.
 fn fill<C: Contents>(alloc: Global, contents: &C, file: File) -> Result<(), WriteError> {
+    empty(&file)?;
     match BufWriter::new(alloc, file) {
         Ok(mut pieces) => {
-            if is_emptied(pieces.get_ref())
-                && contents.is_written(&mut pieces)
-                && pieces.flush().is_ok()
-            {
-                Ok(())
-            } else {
-                Err(WriteError::Output)
-            }
+            contents.write(&mut pieces)?;
+            pieces.flush()?;
+            Ok(())
         }
         Err(_) => Err(WriteError::Memory),
     }
 }
 
-/// Whether a regular file holds nothing any more. What isn't one has nothing to be taken away.
-fn is_emptied(file: &File) -> bool {
-    match file.metadata() {
-        Ok(metadata) => !metadata.is_file() || metadata.len() == 0 || file.set_len(0).is_ok(),
-        Err(_) => false,
+/// Takes away what a regular file holds. What isn't one has nothing to be taken away.
+fn empty(file: &File) -> io::Result<()> {
+    let metadata = file.metadata()?;
+    if metadata.is_file() && metadata.len() != 0 {
+        file.set_len(0)?;
     }
+    Ok(())
 }

@@ -11,7 +11,7 @@ use std::cell::Cell;
 #[derive(Drop)]
 pub struct Encodings {
     alloc: Global,
-    /// What was found; none where that isn't kept, or there was no memory for it.
+    /// What was found; none where there was no memory for it.
     found: Cell<Option<Vec<First>>>,
 }
 
@@ -25,11 +25,10 @@ struct First {
 
 impl Encodings {
     /// None yet.
-    pub fn new(alloc: Global, keeps: bool) -> Encodings {
-        let found = if keeps { Some(Vec::new(alloc)) } else { None };
+    pub fn new(alloc: Global) -> Encodings {
         Encodings {
             alloc,
-            found: Cell::new(found),
+            found: Cell::new(Some(Vec::new(alloc))),
         }
     }
 

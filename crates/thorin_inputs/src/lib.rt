@@ -2,6 +2,7 @@
 //! how inputs are named in notes.
 #![tactic(auto)]
 
+mod absent;
 mod counting;
 mod decompressing;
 mod encodings;
@@ -15,6 +16,7 @@ mod plain;
 mod prefixes;
 mod used;
 
+pub use absent::AbsentUnits;
 pub use counting::count_units;
 pub use decompressing::decompress;
 pub use encodings::Encodings;
@@ -23,8 +25,8 @@ pub use growth::{Growth, Repetitions};
 pub use inner::has_inner_strings;
 pub use macros::{MacroWarnings, keep_last_macros};
 pub use notes::{
-    Unread, note_alone, note_before, note_reason, note_refused, note_twice_in, note_unread,
-    place_of, place_of_member, reason,
+    note_absent, note_alone, note_before, note_reason, note_refused, note_twice_in, place_of,
+    place_of_member, reason,
 };
 pub use overlaps::{has_compressed_overlap, has_overlap};
 pub use plain::plain_of;

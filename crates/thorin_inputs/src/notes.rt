@@ -11,27 +11,6 @@ use thorin_print::shown;
 /// prints half as many.
 const END_READ: usize = 4096;
 
-/// A read that failed.
-#[derive(Drop)]
-pub struct Unread {
-    /// What couldn't be read, and which input names it.
-    pub place: String,
-    /// What is the matter with it.
-    pub reason: String,
-    /// How many more objects couldn't be read.
-    pub more: u64,
-}
-
-impl Unread {
-    /// The same, and one more object that couldn't be read.
-    pub fn and_one_more(self) -> Unread {
-        Unread {
-            more: self.more.saturating_add(1),
-            ..self
-        }
-    }
-}
-
 /// An input, or an object that it names, as it is printed.
 pub fn place_of(alloc: Global, input: &str, named: Option<&str>) -> Result<String, AllocError> {
     let input = shown(alloc, input)?;
@@ -92,16 +71,12 @@ pub fn note_reason<E: Write>(place: &str, reason: &str, err: &mut E) {
     let _ = writeln!(err, "note: {place}: {reason}");
 }
 
-/// Prints the note on a read that failed.
-pub fn note_unread<E: Write>(unread: &Unread, err: &mut E) {
-    let place = unread.place.as_str();
-    let reason = unread.reason.as_str();
-    match unread.more {
-        0 => note_reason(place, reason, err),
-        more => {
-            let _ = writeln!(err, "note: {place}: {reason} (and {more} more)");
-        }
-    }
+/// Prints the note on a unit that is absent, and how many more are.
+pub fn note_absent<E: Write>(reason: &str, others: usize, err: &mut E) {
+    let _ = match others {
+        0 => writeln!(err, "note: {reason}"),
+        more => writeln!(err, "note: {reason} (and {more} more)"),
+    };
 }
 
 /// Prints the note on an input, or an object that it names, that was read and refused.

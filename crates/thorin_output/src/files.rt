@@ -8,9 +8,8 @@ ghost use Rattle.thorin_sessions.specs.Sessions.{IsNoWantOfMemory};
 ghost use Rattle.thorin_output.specs.Files.{Begun, Adds, IsOfWriting};
 ghost use Rattle.thorin_output.specs.Reads.{anything, IsReadOver};
 
-use crate::output::hand_over;
-use dwp_elf::WritableObject;
-use std::io::Write;
+use dwp_elf::{WritableObject, WriteError as ObjectError};
+use std::io::{self, Write};
 use std::path::Path;
 use thorin_errors::InputError;
 use thorin_files::{Contents, WriteError};
@@ -59,18 +58,25 @@ pub trait FileSystem {
             (Adds (begun self.old) (begun self.new) (name.now, Some (file_text object.now))) }
         ensures part { OnErr result (Adds (begun self.old) (begun self.new) (name.now, None)) }
         ensures cause { IfErr result IsOfWriting };
+
+    /// Why the last file couldn't be written; none where that isn't known. Asked for once.
+    fn write_failure(&mut self) -> Option<io::Error> {
+        None
+    }
 }
 
 /// The files of the system. What has no end, as a device, isn't read.
 #[derive(Drop)]
 pub struct HostFiles<'a> {
     rt: &'a HostRuntime,
+    /// Why the last file couldn't be written.
+    failure: Option<io::Error>,
 }
 
 impl<'a> HostFiles<'a> {
     /// The files of this runtime.
     pub fn new(rt: &'a HostRuntime) -> HostFiles<'a> {
-        HostFiles { rt }
+        HostFiles { rt, failure: None }
     }
 }
 
@@ -98,9 +104,16 @@ impl FileSystem for HostFiles<'_> {
     fn write_object(&mut self, object: &WritableObject, name: &str) -> Result<(), Failure> {
         match thorin_files::write(self.rt, &PackageFile(object), name) {
             Ok(()) => Ok(()),
-            Err(WriteError::Output) => Err(Failure::Output),
+            Err(WriteError::Output(cause)) => {
+                self.failure = Some(cause);
+                Err(Failure::Output)
+            }
             Err(WriteError::Memory) => Err(Failure::Memory),
         }
+    }
+
+    fn write_failure(&mut self) -> Option<io::Error> {
+        self.failure.take()
     }
 }
 
@@ -109,7 +122,11 @@ impl FileSystem for HostFiles<'_> {
 struct PackageFile<'o>(&'o WritableObject);
 
 impl Contents for PackageFile<'_> {
-    fn is_written<W: Write>(&self, file: &mut W) -> bool {
-        hand_over(self.0, file).is_ok()
+    fn write<W: Write>(&self, file: &mut W) -> Result<(), io::Error> {
+        match self.0.write_to(file) {
+            Ok(()) => Ok(()),
+            Err(ObjectError::Io(cause)) => Err(cause),
+            Err(_) => Err(io::Error::from(io::ErrorKind::Other)),
+        }
     }
 }

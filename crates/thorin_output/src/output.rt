@@ -55,7 +55,7 @@ fn write_stream<O: Write>(object: &WritableObject, out: &mut O) -> Result<(), Fa
 /// # Errors
 /// `Line` where it doesn't take all.
 #[tactic(auto, using(crate::proofs::Puts::begun))]
-pub(crate) fn hand_over<W: Write>(object: &WritableObject, file: &mut W) -> Result<(), Failure>
+fn hand_over<W: Write>(object: &WritableObject, file: &mut W) -> Result<(), Failure>
     ensures whole { OnOk result (Appends (W.contents file.old) (W.contents file.new)
         (file_text object.now)) }
     ensures part { OnErr result (HasBeginning (W.contents file.old) (W.contents file.new)

@@ -172,4 +172,8 @@ impl<E: Write> FileSystem for CountedFiles<'_, '_, '_, E> {
     fn write_object(&mut self, object: &WritableObject, name: &str) -> Result<(), Failure> {
         self.files.write_object(object, name)
     }
+
+    fn write_failure(&mut self) -> Option<io::Error> {
+        self.files.write_failure()
+    }
 }

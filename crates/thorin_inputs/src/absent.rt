@@ -1,0 +1,128 @@
+//! Units that executables name and that a package lacked once their objects were taken, and why:
+//! kept for what is told of them.
+
+use crate::notes::place_of;
+use std::alloc::{AllocError, Global};
+use std::collections::BTreeMap;
+use thorin_queries::shown;
+
+/// How many bytes the reasons may have that are kept. Behind them units are kept without one.
+const MOST: usize = 1 << 24;
+
+/// The units that were absent, by their identifiers, each with the place of its reason, if it has
+/// one: units of one object share it.
+#[derive(Drop)]
+pub struct AbsentUnits {
+    alloc: Global,
+    units: BTreeMap<u64, Option<usize>>,
+    reasons: Vec<String>,
+    /// How many bytes the reasons have.
+    size: usize,
+    /// The object that was looked for last, and its reason.
+    object: Option<String>,
+    reason: Option<usize>,
+}
+
+impl AbsentUnits {
+    /// None yet.
+    pub fn new(alloc: Global) -> AbsentUnits {
+        AbsentUnits {
+            alloc,
+            units: BTreeMap::new(alloc),
+            reasons: Vec::new(alloc),
+            size: 0,
+            object: None,
+            reason: None,
+        }
+    }
+
+    /// Begins an executable.
+    pub fn begin(&mut self) {
+        self.object = None;
+        self.reason = None;
+    }
+
+    /// Adds a unit, where it wasn't absent before: with the object that an executable names for it
+    /// (none where that is the one before), and why that couldn't be read, unless it was read.
+    ///
+    /// # Errors
+    /// Want of memory.
+    pub fn add(
+        &mut self,
+        unit: u64,
+        executable: &str,
+        object: Option<String>,
+        unread: Option<String>,
+    ) -> Result<(), AllocError> {
+        match object {
+            Some(object) if !self.is_last(object.as_str()) => {
+                self.reason = None;
+                self.add_reason(executable, object.as_str(), unread)?;
+                self.object = Some(object);
+            }
+            _ => {}
+        }
+        if self.units.get(&unit).is_none() {
+            self.units.insert(unit, self.reason)?;
+        }
+        Ok(())
+    }
+
+    /// Whether an object is the one that was looked for last.
+    fn is_last(&self, object: &str) -> bool {
+        match &self.object {
+            Some(last) => last.as_str() == object,
+            None => false,
+        }
+    }
+
+    /// Adds the reason why an object brings no unit.
+    fn add_reason(
+        &mut self,
+        executable: &str,
+        object: &str,
+        unread: Option<String>,
+    ) -> Result<(), AllocError> {
+        if self.size > MOST {
+            return Ok(());
+        }
+        let reason = reason_of(self.alloc, executable, object, unread)?;
+        self.size = self.size.saturating_add(reason.len());
+        self.reason = Some(self.reasons.len());
+        self.reasons.push(reason)?;
+        Ok(())
+    }
+
+    /// Why a unit is absent; none where that isn't known.
+    pub fn reason(&self, unit: u64) -> Option<&str> {
+        match self.units.get(&unit) {
+            Some(Some(place)) => match self.reasons.get(*place) {
+                Some(reason) => Some(reason.as_str()),
+                None => None,
+            },
+            _ => None,
+        }
+    }
+
+    /// How many units were absent beside one of them.
+    pub fn others(&self) -> usize {
+        self.units.len().saturating_sub(1)
+    }
+}
+
+/// Which object was looked for, and why it brings no unit: it couldn't be read, or lacks it.
+fn reason_of(
+    alloc: Global,
+    executable: &str,
+    object: &str,
+    unread: Option<String>,
+) -> Result<String, AllocError> {
+    let place = place_of(alloc, executable, Some(object))?;
+    match unread {
+        Some(why) => format!(in alloc; "{place}: {why}"),
+        None => {
+            let linked = shown(alloc, executable)?;
+            format!(in alloc; "{place}: lacks the unit (rebuilt since {linked} was linked?)")
+        }
+    }
+}
