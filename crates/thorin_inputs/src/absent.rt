@@ -4,7 +4,7 @@
 use crate::notes::place_of;
 use std::alloc::{AllocError, Global};
 use std::collections::BTreeMap;
-use thorin_queries::shown;
+use thorin_print::shown;
 
 /// How many bytes the reasons may have that are kept. Behind them units are kept without one.
 const MOST: usize = 1 << 24;
