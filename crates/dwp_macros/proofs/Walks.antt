@@ -1,5 +1,6 @@
 -- Sections taken one after the other, from the last.
-use Rattle.std.proofs.Common.{◌≡◌, ℕ, ◌+◌, ◌≤◌, Bool, false, ◌||◌, ◌&&◌, List, ◌∷◌, length, drop}
+use Rattle.std.proofs.Common.{◌≡◌, ℕ, ◌+◌, ◌≤◌, Bool, false, ◌||◌, ◌&&◌, List, [], ◌∷◌, length, drop}
+use Rattle.std.proofs.lemmas.Bool.{and_right}
 use Rattle.std.proofs.Common.{Some, refl, ap, ◌∙◌, slice_get, if◌then◌else◌}
 use Rattle.std.specs.List.{list_any}
 use Rattle.std.proofs.lemmas.List.{drop_all, drop_more}
@@ -8,6 +9,7 @@ use Rattle.dwp_elf_read.specs.Elf.{SectionMeaning}
 use Rattle.dwp_macros.specs.Kept.{has_macros, go, emptied, kept_section, kept_sections}
 use Rattle.dwp_macros.specs.Kept.{lose}
 use Rattle.dwp_macros.specs.declared.kept.KeptMacros.{KeptMacros}
+use Rattle.dwp_macros.specs.declared.kept.KeptMacros.TheVariants.{All}
 
 -- the items from the i-th on are it and those from the j-th on
 pub drop_step : {X : Type 0} (xs : List X) (i j : ℕ) (x : X) → j ≡ i + 1 → slice_get xs i ≡ Some x
@@ -53,3 +55,9 @@ pub kept_end : (kept : KeptMacros) (xs ys : List SectionMeaning) (i : ℕ) → l
     → length ys ≤ i → drop i ys ≡ kept_sections kept (drop i xs)
 unfolding kept_sections
 kept_end kept xs ys i h k = rw (drop_all i ys k, drop_all i xs h) refl
+
+-- where all macros are kept, none go
+pub none_lose : (xs : List SectionMeaning) → lose All xs ≡ false
+unfolding lose
+none_lose [] = refl
+none_lose (x ∷ xs) = rw (none_lose xs, and_right (has_macros x) false refl) refl

@@ -26,10 +26,13 @@ fn is_index(section: &Section<'_>) -> bool
 }
 
 /// Whether macros of an object go; of a package none do.
-#[tactic(auto, unfolding(crate::specs::Kept::is_changed))]
+#[tactic(auto, unfolding(crate::specs::Kept::is_changed), using(crate::proofs::Walks::none_lose))]
 pub fn is_changed(file: &ElfFile<'_>, kept: KeptMacros) -> bool
     ensures { result ≡ spec.is_changed kept (elf file.now).sections }
 {
+    if kept == KeptMacros::All {
+        return false;
+    }
     let mut has_more = false;
     let mut lose = false;
     let mut indexed = false;
