@@ -1,3 +1,2 @@
-mod Last
 mod Prefixing
 mod Standing
