@@ -31,9 +31,8 @@ import edits as of_edits  # noqa: E402
 import kit  # noqa: E402
 
 wrong = kit.load("wrong_bodies", f"{ROOT}/.ci/wrong-bodies")
-CRATES = """dwp_table dwp_elf_read dwp_elf dwp_dwarf dwp_index thorin_identity thorin_package_input thorin_join thorin_index
-thorin_input thorin_executable thorin_strings thorin_builder""".split()
-ERRORS = ["dwp_elf_read/src/fault.rt", "dwp_bytes/src/fault.rt", "dwp_index/src/fault.rt", "thorin_errors/src/error.rt", "thorin_executable/src/relocations.rt"]
+# Crates whose lines aren't changed: those of tests and of examples.
+IS_LEFT_OUT = re.compile(r"test_|example_")
 ALIASES = {"ElfReadError": "ReadError", "DwarfReadError": "ReadError", "ElfWriteError": "WriteError", "DwarfWriteError": "WriteError"}
 LATER = {"<": "<=", "<=": "<", ">": ">=", ">=": ">", "==": "!=", "!=": "=="}
 NUMBER = re.compile(r"(?:(?<=\.\.)|(?<![\w.]))(0x[0-9a-f_]+|\d[\d_]*)(?!\w|\.\d)")
@@ -42,26 +41,40 @@ OPEN = "not explained"
 STILL = ("still proved with it", "not refused: ")
 
 
-def variants():
+def texts_of(crate):
+    """The files of a crate's code, by their names below its folder."""
+    files = [os.path.join(at, it) for at, _, names in os.walk(f"{crate.folder}/src") for it in names if it.endswith(".rt")]
+    found = {}
+    for path in sorted(files):
+        with open(path, encoding="utf-8") as it:
+            found[os.path.relpath(path, crate.folder)] = it.read()
+    return found
+
+
+def variants(crates):
     """Of each enum of errors the lists of variants with the same values, in order."""
     found = {}
-    for file in ERRORS:
-        with open(f"{ROOT}/crates/{file}", encoding="utf-8") as it:
-            text = it.read()
-        for enum, body in re.findall(r"enum (\w*Error|Flaw) \{\n(.*?)\n\}", text, re.S):
-            for name, values in re.findall(r"^    (\w+)(\(.*\))?,$", body, re.M):
-                found.setdefault((enum, file, values), []).append(name)
+    for crate in crates:
+        for file, text in texts_of(crate).items():
+            for enum, body in re.findall(r"enum (\w*Error|Flaw) \{\n(.*?)\n\}", text, re.S):
+                for name, values in re.findall(r"^    (\w+)(\(.*\))?,$", body, re.M):
+                    found.setdefault((enum, crate.name, file, values), []).append(name)
     return found
 
 
-def neighbours():
+def neighbours(crates):
     """Of each error, by its enum's name and its own, the next of the same values, or the one before it."""
     found = {}
-    for (enum, _file, _values), names in variants().items():
+    for (enum, *_place, _values), names in variants(crates).items():
         for at, name in enumerate(names):
             if len(names) > 1:
-                found[enum, name] = names[at + 1] if at + 1 < len(names) else names[at - 1]
+                found.setdefault((enum, name), names[at + 1] if at + 1 < len(names) else names[at - 1])
     return found
+
+
+def changed_crates(tree):
+    """The crates of a tree whose lines are changed, lowest first."""
+    return [it for it in kit.crates_of(tree).values() if not IS_LEFT_OUT.match(it.name)]
 
 
 class Change:
@@ -120,8 +133,7 @@ def changes_of_line(line, integers, after):
 
 def changes_of(crate, after):
     """All changes of a crate's code."""
-    files = [os.path.join(at, it) for at, _, names in os.walk(f"{crate.folder}/src") for it in names if it.endswith(".rt")]
-    texts = {os.path.relpath(it, crate.folder): open(it, encoding="utf-8").read() for it in sorted(files)}
+    texts = texts_of(crate)
     integers = {it for text in texts.values() for it in re.findall(r"const (\w+): (?:u8|u16|u32|u64|usize) =", text)}
     for file, text in texts.items():
         lines = text.split("\n")
@@ -134,7 +146,7 @@ def changes_of(crate, after):
 
 def drawn(crates, seed, count, most):
     """So many changes in the order that the seed gives, and the rest, which stand in for those that don't compile."""
-    after = neighbours()
+    after = neighbours(crates)
     every = [it for crate in crates for it in changes_of(crate, after)]
     random.Random(seed).shuffle(every)
     taken, rest, held = [], [], {}
@@ -262,17 +274,18 @@ def listed(title, whys):
 def write_page():
     """Writes the table and the lists of bench/changes.md anew; how many changes nobody refuses, sees or explains."""
     page = f"{ROOT}/bench/changes.md"
+    crates = [it.name for it in changed_crates(ROOT)]
     with open(page, encoding="utf-8") as it:
         text = it.read()
     rows, reasons = read_page(text)
     tests, seen, neither = tests_of_changes(), [], []
-    for name in CRATES:
+    for name in crates:
         if os.path.exists(f"{ROOT}/out/changes/{name}.json"):
             rows[name], mine, others = row_of(name, tests)
             seen, neither = seen + mine, neither + others
-    rows["all"] = [sum(it) for it in zip(*(rows[name] for name in CRATES if name in rows))]
+    rows["all"] = [sum(it) for it in zip(*(rows[name] for name in crates if name in rows))]
     lines = [text[: text.index("|---|")] + "|---|---|---|---|---|"]
-    lines += [f"| `{name}` | {' | '.join(str(it) for it in rows[name])} |" for name in [*CRATES, "all"] if name in rows]
+    lines += [f"| `{name}` | {' | '.join(str(it) for it in rows[name])} |" for name in [*crates, "all"] if name in rows]
     lines += listed("Seen by a test alone", [(it, f"`{'`, `'.join(tests[it])}`") for it in seen])
     lines += listed("Neither", [(it, reasons.get(it, OPEN)) for it in neither])
     with open(page, "w", encoding="utf-8") as it:
@@ -290,6 +303,17 @@ def number(words, flag, usual):
     return value
 
 
+def list_drawn(asked, taken, every):
+    """Prints what would be changed in the crates that were asked for."""
+    print(f"{every} could be changed, {len(taken)} are drawn")
+    for name in asked:
+        mine = [it for it in taken if it.crate.name == name]
+        print(name, len(mine), len({it.meant for it in mine}))
+        for it in mine:
+            print("   ", it.name, it.meant)
+    return 0 if taken else 1
+
+
 def main(words):
     into = f"{ROOT}/out/changes"
     seed, count, most = number(words, "--seed", 20261125), number(words, "--all", 330), number(words, "--most", 2)
@@ -299,19 +323,14 @@ def main(words):
         return 1 if write_page() else 0
     if not words or words[0].startswith("-"):
         sys.exit(__doc__)
-    crates = kit.crates_of(os.path.abspath(words[0]))
-    asked = words[1:] or CRATES
-    taken, rest, every = drawn([crates[it] for it in CRATES], seed, count, most)
+    crates = {it.name: it for it in changed_crates(os.path.abspath(words[0]))}
+    asked = words[1:] or [*crates]
+    taken, rest, every = drawn([*crates.values()], seed, count, most)
     if is_list:
-        print(f"{every} could be changed, {len(taken)} are drawn")
-        for name in CRATES:
-            mine = [it for it in taken if it.crate.name == name]
-            print(name, len(mine), len({it.meant for it in mine}))
-            for it in mine:
-                print("   ", it.name, it.meant)
-        return
+        return list_drawn(asked, taken, every)
     for name in asked:
         try_crate(crates[name], [it for it in taken if it.crate.name == name], rest, most, into)
+    return 0
 
 
 if __name__ == "__main__":

@@ -276,7 +276,8 @@ static int32_t decompress_into(const uint8_t *bytes, size_t size, uint8_t *out, 
   return status;
 }
 
-/* A file with plain sections: it has none that are compressed, and packing it meets none. */
+/* A file with plain sections: it has none that are compressed, and packing it meets none. A damaged stream is found only where
+ * there is room. */
 static void decompress(const uint8_t *bytes, size_t size) {
   size_t mark = boxed, room = (size_t)drawn(600);
   uint64_t *length = box(sizeof *length), *again = box(sizeof *again), *none = box(sizeof *none);
@@ -285,8 +286,13 @@ static void decompress(const uint8_t *bytes, size_t size) {
   if (status == THORIN_DONE || status == THORIN_TOO_SMALL) {
     size_t plain_size = (size_t)*length;
     uint8_t *plain = box(plain_size);
-    if (decompress_into(bytes, size, plain, plain_size, again) != THORIN_DONE || *again != plain_size)
-      fail("another file", status);
+    int32_t whole = decompress_into(bytes, size, plain, plain_size, again);
+    if (whole != THORIN_DONE) {
+      if (status == THORIN_DONE || (whole != THORIN_DAMAGED && whole != THORIN_UNWRITABLE)) fail("another file", whole);
+      unbox(mark);
+      return;
+    }
+    if (*again != plain_size) fail("another length", status);
     if (decompress_into(plain, plain_size, NULL, 0, none) != THORIN_NOT_COMPRESSED) fail("a compressed section is left", status);
     thorin_bytes input = {plain, plain_size};
     thorin_report *report = box(sizeof *report);

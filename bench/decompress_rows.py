@@ -185,6 +185,39 @@ def refused():
     yield "compressed_names_by_which_names_change", data, "Unrepresentable: Decompressed file can't be written"
 
 
+def length_of(data, contents, added=0):
+    """How many bytes a file of 64 bits has once its sections have these contents, and so many bytes of names are added."""
+    sections = read(data)
+    names = len(sections[-1][4]) + added if added else 0
+    return (len(data) + sum(map(len, contents)) + names + 7) // 8 * 8 + 64 * len(sections)
+
+
+def sized():
+    """Rows of other calls: the call, a name, the bytes, what must be printed."""
+    info, text = b"info" * 9, bytes(range(40)) * 3
+    elf = Elf()
+    elf.add(".debug_info.dwo", elf.chdr(info), flags=COMPRESSED).add(".other", elf.chdr(text), flags=COMPRESSED)
+    elf.add(".zdebug_line.dwo", older(text)).add(".zdebug_other", older(text)).add(".debug_line", elf.chdr(text), flags=COMPRESSED)
+    elf.add(".debug_line_str", elf.chdr(text), flags=COMPRESSED)
+    asked = {".debug_info.dwo": info, ".zdebug_line.dwo": text, ".debug_line_str": text}
+    yield "asked", "names_that_nobody_uses", elf.file(), "; ".join(plain(elf, asked))
+    added = len(".debug_line.dwo") + len(".debug_other") + 2
+    yield "plain_length", "of_all", elf.file(), f"Ok(Some({length_of(elf.file(), [info, *[text] * 5], added)}))"
+    yield "plain_length", "of_a_damaged_stream", one(damaged(elf.chdr(info))), f"Ok(Some({length_of(one(elf.chdr(info)), [info])}))"
+    yield "plain_length", "no_compressed_section", one(info, flags=0), "Ok(None)"
+    yield "plain_length", "out_of_reach", one(elf.chdr(text, size=2 ** 63)), "Err(Stream(Unreachable))"
+    yield "overlaps", "nothing", elf.file(), "false"
+    stream = elf.chdr(bytes(1 << 16)) + bytes(400)
+    elf = Elf().add(".debug_info.dwo", stream, flags=COMPRESSED)
+    for name in (".debug_line.dwo", ".debug_str.dwo", ".debug_info"):
+        elf.add(name, b"", flags=COMPRESSED, size=len(stream), place=64)
+    yield "overlaps", "four_over_one_stream", elf.file(), "true"
+    elf = Elf().add(".debug_info.dwo", stream, flags=COMPRESSED)
+    for name in (".other", ".another", ".third"):
+        elf.add(name, b"", flags=COMPRESSED, size=len(stream), place=64)
+    yield "overlaps", "three_that_nobody_uses_over_one_stream", elf.file(), "false"
+
+
 def compressed(data, kind):
     """The same file with its debug sections compressed."""
     elf = Elf()
@@ -213,6 +246,9 @@ def main():
     for name, data, lines in [*taken(), *made, *refused()]:
         rows.append(f"decompressed {name} {data.hex()}")
         told += [rows[-1], "    " + (lines if isinstance(lines, str) else "; ".join(lines))]
+    for call, name, data, line_ in sized():
+        rows.append(f"{call} {name} {data.hex()}")
+        told += [rows[-1], "    " + line_]
     (folder / "decompress.rows").write_text("\n".join(rows) + "\n")
     (folder / "told").write_text("\n".join(["decompress.rows", *told]) + "\n")
 

@@ -504,10 +504,12 @@ int32_t thorin_differing_types(const thorin_bytes *inputs, size_t count, uint64_
  *   and the rest is as it was; else all is as it was.
  * @param room How many bytes there is room for.
  * @param[in,out] length At THORIN_DONE and THORIN_TOO_SMALL, how many bytes the decompressed file
- *   has; else as it was.
+ *   has, by what the headers of compressed sections say; else as it was.
  * @return THORIN_DONE; THORIN_NOT_COMPRESSED: take the file as it is; THORIN_TOO_SMALL: ask again
- *   with as much room as length says; THORIN_MALFORMED_FILE, THORIN_DAMAGED or THORIN_NOT_ZLIB, by
- *   the first section that has a fault; THORIN_UNWRITABLE; THORIN_NO_MEMORY.
+ *   with as much room as length says (no section was read and no memory taken: a damaged one is found
+ *   only where there is room); THORIN_MALFORMED_FILE, THORIN_DAMAGED or THORIN_NOT_ZLIB, by the first
+ *   section whose header has a fault, else by the first that is damaged; THORIN_UNWRITABLE;
+ *   THORIN_NO_MEMORY.
  */
 int32_t thorin_decompress(const uint8_t *bytes, size_t size, uint8_t *out, size_t room,
                           uint64_t *length);

@@ -1,5 +1,6 @@
 """ELF files, units and packages of a few bytes each, of which inputs are made."""
 import struct
+import zlib
 
 # Abbreviation 1: a compile unit with a GNU_dwo_id of 8 bytes.
 ABBREVIATIONS = bytes.fromhex("011100b142070000" + "00")
@@ -15,10 +16,10 @@ def uleb(n):
         n >>= 7
 
 
-def elf(sections, relocations=None, shared=None):
+def elf(sections, relocations=None, shared=None, compressed=()):
     """An ELF file of 64 bits, little endian, of these names and contents. `relocations` is a RELA table
     of the section of that number, with a symbol table of one symbol behind it. The contents `shared`
-    stand once, however many sections have them."""
+    stand once, however many sections have them. Sections of the names `compressed` are said to be so."""
     names = bytearray(b"\0")
     places = {}
     stand = []
@@ -33,7 +34,8 @@ def elf(sections, relocations=None, shared=None):
 
     def add(name, kind, data, link=0, info=0, size=0):
         place = stand[0] if data is shared and stand else len(out)
-        headers.append(struct.pack("<IIQQQQIIQQ", name_of(name), kind, 0, 0, place, len(data), link, info, 1, size))
+        flags = 0x800 if name in compressed else 0
+        headers.append(struct.pack("<IIQQQQIIQQ", name_of(name), kind, flags, 0, place, len(data), link, info, 1, size))
         if data is shared:
             stand.append(place)
         if place == len(out):
@@ -73,6 +75,11 @@ def type_unit(signature):
 
 def declarations(n, first=1):
     return b"".join(uleb(code) + bytes.fromhex("1100b14207" + "0000") for code in range(first, first + n)) + b"\0"
+
+
+def stream(contents):
+    """The content of a section that is compressed by zlib."""
+    return struct.pack("<IIQQ", 1, 0, len(contents), 1) + zlib.compress(contents, 9)
 
 
 def plain(info, abbreviations=ABBREVIATIONS, more=()):

@@ -39,6 +39,9 @@ WAYS = {
     "list": "list {it}",
     "check": "check {it}",
     "check -e": "check {at}/one_unit.dwp -e {it}",
+    "decompress": "pack --decompress -o {at}/out.dwp {it}",
+    "exe decompress": "pack --decompress -o {at}/out.dwp --skip-missing -e {it}",
+    "check -e decompress": "check {at}/one_unit.dwp --decompress -e {it}",
     "response": "pack -o {at}/out.dwp @{it}",
 }
 LIMIT = 300

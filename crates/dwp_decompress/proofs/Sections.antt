@@ -9,6 +9,7 @@ use Rattle.std.proofs.lemmas.Option.{slice_get-map, slice_get_read, slice_get_wi
 use Rattle.std.proofs.lemmas.Option.{get_or_from_slice_get}
 use Rattle.dwp_elf_read.specs.Elf.{SectionMeaning}
 use Rattle.dwp_decompress.specs.Agreement.{AgreesAt}
+use Rattle.dwp_decompress.specs.declared.asked.Asked.{Asked}
 use Rattle.dwp_decompress.specs.Names.{plain_name, added_name, added_name_of, added_names}
 use Rattle.dwp_decompress.specs.Compressed.{is_older, is_compressed}
 use Rattle.dwp_decompress.specs.Result.{result_sections, plain_contents, contents_of}
@@ -41,40 +42,41 @@ one_more : (front : Contents) (content : Option (List ℕ)) (rest : Result Conte
 one_more front content (Ok contents) = rw append_assoc refl
 one_more front content (Err e) = refl
 
-module _ (class : Class) (order : Endianness) (sections : List SectionMeaning) (i : ℕ)
-    (front : Contents) where
+module _ (asked : Asked) (class : Class) (order : Endianness) (sections : List SectionMeaning)
+    (i : ℕ) (front : Contents) where
   pub contents_step : (section : SectionMeaning) (content : Option (List ℕ))
-      → slice_get sections i ≡ Some section → content_of class order section ≡ Ok content
-      → behind front (contents_of class order (drop i sections)) ≡ behind (front ++ content ∷ [])
-      (contents_of class order (drop (i + 1) sections))
+      → slice_get sections i ≡ Some section → content_of asked class order section ≡ Ok content
+      → behind front (contents_of asked class order (drop i sections)) ≡ behind
+      (front ++ content ∷ [])
+      (contents_of asked class order (drop (i + 1) sections))
   unfolding contents_of
   contents_step section content at is = rw (drop_step sections i section at, is)
-      (one_more front content (contents_of class order (drop (i + 1) sections)))
+      (one_more front content (contents_of asked class order (drop (i + 1) sections)))
 
   pub contents_fail : (section : SectionMeaning) (e : DecompressError)
-      → slice_get sections i ≡ Some section → content_of class order section ≡ Err e
-      → behind front (contents_of class order (drop i sections)) ≡ Err e
+      → slice_get sections i ≡ Some section → content_of asked class order section ≡ Err e
+      → behind front (contents_of asked class order (drop i sections)) ≡ Err e
   unfolding contents_of
   contents_fail section e at is = rw (drop_step sections i section at, is) refl
 
   pub contents_end : length sections ≤ i
-      → behind front (contents_of class order (drop i sections)) ≡ Ok front
+      → behind front (contents_of asked class order (drop i sections)) ≡ Ok front
   unfolding contents_of
   contents_end h = rw (drop_all i sections h, append-nil front) refl
 
 -- names that are added
-pub names_step : (sections : List SectionMeaning) (i : ℕ) (front : List ℕ)
+pub names_step : (asked : Asked) (sections : List SectionMeaning) (i : ℕ) (front : List ℕ)
     (section : SectionMeaning) → slice_get sections i ≡ Some section
-    → front ++ added_names (drop i sections) ≡ (front ++ added_name_of section) ++ added_names
-    (drop (i + 1) sections)
+    → front ++ added_names asked (drop i sections)
+    ≡ (front ++ added_name_of asked section) ++ added_names asked (drop (i + 1) sections)
 unfolding added_names
-names_step sections i front section at = rw (drop_step sections i section at)
-    (sym (append_assoc front (added_name_of section) (added_names (drop (i + 1) sections))))
+names_step asked sections i front section at = rw (drop_step sections i section at) (sym
+    (append_assoc front (added_name_of asked section) (added_names asked (drop (i + 1) sections))))
 
-pub names_end : (sections : List SectionMeaning) (i : ℕ) (front : List ℕ) → length sections ≤ i
-    → front ++ added_names (drop i sections) ≡ front
+pub names_end : (asked : Asked) (sections : List SectionMeaning) (i : ℕ) (front : List ℕ)
+    → length sections ≤ i → front ++ added_names asked (drop i sections) ≡ front
 unfolding added_names
-names_end sections i front h = rw (drop_all i sections h, append-nil front) refl
+names_end asked sections i front h = rw (drop_all i sections h, append-nil front) refl
 
 -- one content more
 pub plain_more : (contents old : List (Option (Vec ℕ))) (content : Option (Vec ℕ))
@@ -90,15 +92,16 @@ pub added_older : (name old a b c : List ℕ) → is_older name ≡ true → a �
 unfolding plain_name
 added_older name old a b c h p q r = rw (r, q, p, h) (simp append_assoc)
 
-pub adds_name : (section : SectionMeaning) (name : Option (List ℕ)) → is_compressed section ≡ true
-    → section.name ≡ name → added_name name ≡ added_name_of section
+pub adds_name : (asked : Asked) (section : SectionMeaning) (name : Option (List ℕ))
+    → is_compressed asked section ≡ true → section.name ≡ name
+    → added_name name ≡ added_name_of asked section
 unfolding added_name_of
-adds_name section name h n = rw (h, n) refl
+adds_name asked section name h n = rw (h, n) refl
 
-pub adds_none : (section : SectionMeaning) → is_compressed section ≡ false
-    → [] ≡ added_name_of section
+pub adds_none : (asked : Asked) (section : SectionMeaning) → is_compressed asked section ≡ false
+    → [] ≡ added_name_of asked section
 unfolding added_name_of
-adds_none section h = rw h refl
+adds_none asked section h = rw h refl
 
 -- an item of plain contents
 pub get_content : (contents : List (Option (Vec ℕ))) (i : ℕ) (x : Option (Vec ℕ))

@@ -5,6 +5,8 @@ use Rattle.std.specs.Prelude.{ℕ, List, Bool, false, ◌&&◌, ◌||◌, ◌==�
 use Rattle.std.specs.Prelude.{Some, None}
 use Rattle.std.specs.List.{starts_with, list_any}
 use Rattle.dwp_elf_read.specs.Elf.{SectionMeaning, SHT_NOBITS, has_compressed_flag}
+use Rattle.dwp_decompress.specs.declared.asked.Asked.{Asked}
+use Rattle.dwp_decompress.specs.Asked.{is_asked}
 
 -- an older name
 unfoldable pub is_older : List ℕ → Bool
@@ -20,11 +22,12 @@ unfoldable pub holds_bytes : SectionMeaning → Bool
 holds_bytes section =
     not (section.number == 0) && not (section.size == 0 || section.kind == SHT_NOBITS)
 
--- the content is compressed
-unfoldable pub is_compressed : SectionMeaning → Bool
-is_compressed section =
-    holds_bytes section && (has_compressed_flag section || name_is_older section.name)
+-- the content is asked for, and compressed
+unfoldable pub is_compressed : Asked → SectionMeaning → Bool
+is_compressed asked section =
+    holds_bytes section && (is_asked asked section
+    && (has_compressed_flag section || name_is_older section.name))
 
 -- some section's is
-abbrev pub has_compressed : List SectionMeaning → Bool
-has_compressed sections = list_any is_compressed sections
+abbrev pub has_compressed : Asked → List SectionMeaning → Bool
+has_compressed asked sections = list_any (is_compressed asked) sections

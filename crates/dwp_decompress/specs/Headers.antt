@@ -1,7 +1,7 @@
 -- The content of a compressed section: a header, and a stream behind it (ELF gABI, "Section
 -- Compression", Elf32_Chdr and Elf64_Chdr; GNU binutils, `--compress-debug-sections=zlib-gnu`).
 use Rattle.std.specs.Prelude.{ℕ, ◌*◌, List, drop, length, nat_lt, nat_eq, ◌==◌, codes}
-use Rattle.std.specs.Prelude.{if◌then◌else◌, Result, Ok, Err, Option, Some, None}
+use Rattle.std.specs.Prelude.{if◌then◌else◌, Result, Ok, Err, Option, Some, None, [], ◌∷◌, ◌+◌}
 use Rattle.std.specs.List.{starts_with}
 use Rattle.std.specs.Option.{ok_or}
 use Rattle.dwp_base.specs.Reading.{◌>>=◌}
@@ -12,9 +12,11 @@ use Rattle.dwp_elf_read.specs.declared.error.ReadError.TheVariants.{SectionRange
 use Rattle.dwp_elf_read.specs.Layout.{word_size, number_at}
 use Rattle.dwp_elf_read.specs.Elf.{SectionMeaning, has_compressed_flag}
 use Rattle.dwp_inflate.specs.Streams.{inflated}
+use Rattle.dwp_inflate.specs.declared.error.InflateError.TheVariants.{Unreachable}
 use Rattle.dwp_decompress.specs.declared.error.DecompressError.{DecompressError}
-use Rattle.dwp_decompress.specs.declared.error.DecompressError.TheVariants.{Header, Zstd}
+use Rattle.dwp_decompress.specs.declared.error.DecompressError.TheVariants.{Header, Zstd, Stream}
 use Rattle.dwp_decompress.specs.declared.error.DecompressError.TheVariants.{UnknownType}
+use Rattle.dwp_decompress.specs.declared.asked.Asked.{Asked}
 use Rattle.dwp_decompress.specs.declared.stream.Packed as declared
 use Rattle.dwp_decompress.specs.Answers.{reading, writing}
 use Rattle.dwp_decompress.specs.Compressed.{is_compressed}
@@ -55,6 +57,30 @@ unfoldable pub packed_in : Class → Endianness → SectionMeaning → List ℕ
 packed_in class order section content =
     if has_compressed_flag section then headed class order content else older content
 
+-- how many bytes a stream is said to write, unless so few bytes cannot write so many
+unfoldable pub told_by : Packed → Result ℕ DecompressError
+told_by packed =
+    if nat_lt (1032 * length packed.bytes) packed.size then Err (Stream Unreachable)
+    else Ok packed.size
+
+-- how many bytes the plain content of a section is said to have; 0 where it isn't compressed
+unfoldable pub told_size : Asked → Class → Endianness → SectionMeaning → Result ℕ DecompressError
+told_size asked class order section =
+    if is_compressed asked section then (do
+      content ← reading (ok_or section.content SectionRange)
+      packed ← packed_in class order section content
+      told_by packed)
+    else Ok 0
+
+-- those of all sections have together, up to the first error
+unfoldable pub told_sizes : Asked → Class → Endianness → List SectionMeaning
+    → Result ℕ DecompressError
+told_sizes asked class order [] = Ok 0
+told_sizes asked class order (section ∷ sections) = do
+  size ← told_size asked class order section
+  sizes ← told_sizes asked class order sections
+  Ok (size + sizes)
+
 -- what a compressed section's stream writes
 unfoldable pub plain_of : Class → Endianness → SectionMeaning → Result (List ℕ) DecompressError
 plain_of class order section = do
@@ -63,10 +89,10 @@ plain_of class order section = do
   writing (inflated packed.bytes packed.size)
 
 -- that of any section, if it is compressed
-unfoldable pub content_of : Class → Endianness → SectionMeaning
+unfoldable pub content_of : Asked → Class → Endianness → SectionMeaning
     → Result (Option (List ℕ)) DecompressError
-content_of class order section =
-    if is_compressed section then (do
+content_of asked class order section =
+    if is_compressed asked section then (do
       plain ← plain_of class order section
       Ok (Some plain))
     else Ok None

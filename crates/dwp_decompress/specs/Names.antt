@@ -4,6 +4,7 @@ use Rattle.std.specs.Prelude.{ℕ, ◌+◌, ◌*◌, List, [], ◌∷◌, ◌++�
 use Rattle.std.specs.Prelude.{if◌then◌else◌, Option, Some, None}
 use Rattle.dwp_elf_read.specs.Layout.{word_size, number_at}
 use Rattle.dwp_elf_read.specs.Elf.{Elf, SectionMeaning}
+use Rattle.dwp_decompress.specs.declared.asked.Asked.{Asked}
 use Rattle.dwp_decompress.specs.Compressed.{is_older, is_compressed}
 
 -- `.debug_X` for `.zdebug_X`; another name stays
@@ -16,13 +17,13 @@ added_name None = []
 added_name (Some name) = if is_older name then plain_name name ++ 0 ∷ [] else []
 
 -- the bytes that it gets for a section
-unfoldable pub added_name_of : SectionMeaning → List ℕ
-added_name_of section = if is_compressed section then added_name section.name else []
+unfoldable pub added_name_of : Asked → SectionMeaning → List ℕ
+added_name_of asked section = if is_compressed asked section then added_name section.name else []
 
 -- the bytes that it gets for all sections
-unfoldable pub added_names : List SectionMeaning → List ℕ
-added_names [] = []
-added_names (section ∷ sections) = added_name_of section ++ added_names sections
+unfoldable pub added_names : Asked → List SectionMeaning → List ℕ
+added_names asked [] = []
+added_names asked (section ∷ sections) = added_name_of asked section ++ added_names asked sections
 
 -- the section that section 0 names in place of the file's header
 abbrev pub link_of : Option SectionMeaning → ℕ

@@ -11,7 +11,9 @@ use Rattle.dwp_elf_read.specs.Elf.{Elf, SectionMeaning, elf_of}
 use Rattle.dwp_decompress.specs.declared.error.DecompressError.{DecompressError}
 use Rattle.dwp_decompress.specs.Answers.{reading}
 use Rattle.dwp_decompress.specs.Compressed.{has_compressed}
+use Rattle.dwp_decompress.specs.declared.asked.Asked.{Asked}
 use Rattle.dwp_decompress.specs.Headers.{content_of}
+use Rattle.dwp_decompress.specs.Sizes.{length_of}
 use Rattle.dwp_decompress.specs.Names.{plain_name, added_names, names_number}
 
 -- the flags without SHF_COMPRESSED
@@ -49,12 +51,12 @@ result_sections names added (section ∷ sections) (content ∷ contents) =
     result_section names added section content ∷ result_sections names added sections contents
 
 -- the contents of all sections, in order, up to the first error
-unfoldable pub contents_of : Class → Endianness → List SectionMeaning
+unfoldable pub contents_of : Asked → Class → Endianness → List SectionMeaning
     → Result (List (Option (List ℕ))) DecompressError
-contents_of class order [] = Ok []
-contents_of class order (section ∷ sections) = do
-  content ← content_of class order section
-  contents ← contents_of class order sections
+contents_of asked class order [] = Ok []
+contents_of asked class order (section ∷ sections) = do
+  content ← content_of asked class order section
+  contents ← contents_of asked class order sections
   Ok (content ∷ contents)
 
 -- the same as the code holds them
@@ -67,17 +69,30 @@ result_file names added file contents = record file {
   sections = result_sections names added file.sections contents;
 }
 
--- what the reader is to say of a file with compressed sections once they are plain
-unfoldable pub plain_file : List ℕ → Elf → Result (Result Elf ReadError) DecompressError
-plain_file bytes file = do
-  contents ← contents_of file.class file.order file.sections
-  Ok (Ok (result_file (names_number bytes file) (added_names file.sections) file contents))
+-- what the reader is to say of a file with compressed sections once they are plain; all of their
+-- headers are read before any stream
+unfoldable pub plain_file : Asked → List ℕ → Elf
+    → Result (Result Elf ReadError) DecompressError
+plain_file asked bytes file = do
+  length ← length_of asked bytes file
+  contents ← contents_of asked file.class file.order file.sections
+  Ok (Ok (result_file (names_number bytes file) (added_names asked file.sections) file contents))
 
--- what it is to say of the result; there is none where no section is compressed
-unfoldable pub decompressed_of : List ℕ → Result (Option (Result Elf ReadError)) DecompressError
-decompressed_of bytes = do
+-- what it is to say of the result; there is none where no section that is asked for is compressed
+unfoldable pub decompressed_of : Asked → List ℕ
+    → Result (Option (Result Elf ReadError)) DecompressError
+decompressed_of asked bytes = do
   file ← reading (elf_of bytes)
-  if has_compressed file.sections then (do
-    plain ← plain_file bytes file
+  if has_compressed asked file.sections then (do
+    plain ← plain_file asked bytes file
     Ok (Some plain))
+      else Ok None
+
+-- how many bytes the result has, by what the headers say
+unfoldable pub plain_length_of : Asked → List ℕ → Result (Option ℕ) DecompressError
+plain_length_of asked bytes = do
+  file ← reading (elf_of bytes)
+  if has_compressed asked file.sections then (do
+    length ← length_of asked bytes file
+    Ok (Some length))
       else Ok None

@@ -7,6 +7,7 @@ ghost use Rattle.dwp_decompress.specs.Answers.{Gives};
 ghost use Rattle.dwp_decompress.specs.Headers.{plain_of, content_of};
 ghost use Rattle.dwp_decompress.specs.Result.{contents_of, plain_contents};
 
+use crate::asked::Asked;
 use crate::compressed::is_compressed;
 use crate::error::DecompressError;
 use crate::stream::packed_in;
@@ -32,18 +33,19 @@ fn plain(
     Ok(plain)
 }
 
-/// The plain content of a section, if it is compressed.
+/// The plain content of a section, if that is asked for and compressed.
 #[tactic(auto, unfolding(crate::specs::Headers::content_of))]
 fn content(
     alloc: Global,
+    asked: Asked,
     class: Class,
     order: Endianness,
     section: &Section<'_>,
 ) -> Result<Option<Vec<u8>>, DecompressError>
     ensures { Gives (option_map (λ plain. plain.items)) result
-        (content_of class order (view.section section.now)) }
+        (content_of asked class order (view.section section.now)) }
 {
-    if is_compressed(section) {
+    if is_compressed(asked, section) {
         let plain = plain(alloc, class, order, section)?;
         return Ok(Some(plain));
     }
@@ -53,17 +55,18 @@ fn content(
 /// The plain contents of all sections, in order, of a file of that class and byte order.
 fn contents_in(
     alloc: Global,
+    asked: Asked,
     class: Class,
     order: Endianness,
     file: &ElfFile<'_>,
 ) -> Result<Vec<Option<Vec<u8>>>, DecompressError>
     ensures { Gives (λ contents. plain_contents contents.items) result
-        (contents_of class order (elf file.now).sections) }
+        (contents_of asked class order (elf file.now).sections) }
 {
     let mut contents = Vec::new(alloc);
     for i in 0..file.section_count() {
         if let Some(section) = file.section(i) {
-            let content = content(alloc, class, order, &section)?;
+            let content = content(alloc, asked, class, order, &section)?;
             contents.push(content)?;
         }
     }
@@ -71,9 +74,13 @@ fn contents_in(
 }
 
 /// The plain contents of all sections, in order.
-pub fn contents(alloc: Global, file: &ElfFile<'_>) -> Result<Vec<Option<Vec<u8>>>, DecompressError>
+pub fn contents(
+    alloc: Global,
+    asked: Asked,
+    file: &ElfFile<'_>,
+) -> Result<Vec<Option<Vec<u8>>>, DecompressError>
     ensures { Gives (λ contents. plain_contents contents.items) result
-        (contents_of (elf file.now).class (elf file.now).order (elf file.now).sections) }
+        (contents_of asked (elf file.now).class (elf file.now).order (elf file.now).sections) }
 {
-    contents_in(alloc, file.class(), file.endianness(), file)
+    contents_in(alloc, asked, file.class(), file.endianness(), file)
 }

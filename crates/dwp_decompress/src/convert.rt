@@ -1,18 +1,22 @@
 //! From a file with compressed sections to one with plain ones.
 
 ghost use Rattle.std.specs.Prelude.{◌≡◌, option_map, Ok, IsTrue, IfOk};
+ghost use Rattle.std.specs.Prelude.{length as length_of_list};
 ghost use Rattle.dwp_elf_read.specs.Elf.{elf_of};
 ghost use Rattle.dwp_elf_read.specs.View.{elf};
 ghost use Rattle.dwp_decompress.specs.Agreement.{expected_file};
 ghost use Rattle.dwp_decompress.specs.Answers.{GivesFile};
-ghost use Rattle.dwp_decompress.specs.Result.{plain_file, decompressed_of};
+ghost use Rattle.dwp_decompress.specs.Result.{plain_file, decompressed_of, plain_length_of};
+ghost use Rattle.dwp_decompress.specs.Sizes.{length_of};
 
 use crate::agree::Expected;
+use crate::asked::Asked;
 use crate::compressed::has_compressed;
 use crate::contents::contents;
 use crate::error::{DecompressError, Refusal};
 use crate::file::Change;
 use crate::names::{added_names, names_number};
+use crate::sizes::length;
 use dwp_elf_read::ElfFile;
 use std::alloc::Global;
 
@@ -26,19 +30,21 @@ fn means(bytes: &[u8], old: &ElfFile<'_>, expected: &Expected<'_>) -> bool
     }
 }
 
-/// The file with these contents, read again.
+/// The file with these contents, read again. It is to have so many bytes.
 fn written(
     alloc: Global,
+    length: u64,
     bytes: &[u8],
     file: &ElfFile<'_>,
     expected: &Expected<'_>,
 ) -> Result<Vec<u8>, Refusal>
-    ensures { IfOk result (λ out. elf_of out.items
+    ensures meant { IfOk result (λ out. elf_of out.items
         ≡ Ok (expected_file expected.now (elf file.now))) }
+    ensures long { IfOk result (λ out. length_of_list out.items ≡ length) }
 {
-    let mut out = Vec::new(alloc);
+    let mut out = Vec::with_capacity(alloc, length as usize)?;
     Change::new(bytes, *file, *expected).write(&mut out)?;
-    if means(&out, file, expected) {
+    if out.len() as u64 == length && means(&out, file, expected) {
         Ok(out)
     } else {
         Err(Refusal::TooLarge)
@@ -47,11 +53,20 @@ fn written(
 
 /// The file of compressed sections with plain ones.
 #[tactic(auto, unfolding(crate::specs::Result::plain_file))]
-fn with_plain(alloc: Global, bytes: &[u8], file: &ElfFile<'_>) -> Result<Vec<u8>, DecompressError>
-    ensures { GivesFile (λ out. elf_of out.items) result (plain_file bytes.now (elf file.now)) }
+fn with_plain(
+    alloc: Global,
+    asked: Asked,
+    bytes: &[u8],
+    file: &ElfFile<'_>,
+) -> Result<Vec<u8>, DecompressError>
+    ensures meant { GivesFile (λ out. elf_of out.items) result
+        (plain_file asked bytes.now (elf file.now)) }
+    ensures long { IfOk result (λ out. length_of asked bytes.now (elf file.now)
+        ≡ Ok (length_of_list out.items)) }
 {
-    let contents = contents(alloc, file)?;
-    let added = added_names(alloc, file)?;
+    let length = length(asked, bytes, file)?;
+    let contents = contents(alloc, asked, file)?;
+    let added = added_names(alloc, asked, file)?;
     let Some(names) = names_number(bytes, file) else {
         return Err(DecompressError::Unrepresentable);
     };
@@ -60,29 +75,40 @@ fn with_plain(alloc: Global, bytes: &[u8], file: &ElfFile<'_>) -> Result<Vec<u8>
         added: &added,
         contents: &contents,
     };
-    let out = written(alloc, bytes, file, &expected)?;
+    let out = written(alloc, length, bytes, file, &expected)?;
     Ok(out)
 }
 
-/// The file with plain sections in place of compressed ones; `None` where it has none.
+/// The file with plain sections in place of the compressed ones that are asked for; `None` where it
+/// has none. Others stay as they are.
 ///
 /// A section is compressed if its flags have `SHF_COMPRESSED`, or its name begins with `.zdebug_`.
 /// It gets its plain content, the name `.debug_X` for `.zdebug_X`, and loses the flag. All else
-/// stays as the ELF reader tells it, but that the table of names grows by the new names.
+/// stays as the ELF reader tells it, but that the table of names grows by the new names. The file
+/// has as many bytes as `plain_length` says.
 ///
 /// # Errors
 /// `Read` where the file can't be read, or a compressed section lies outside of it; then, for the
-/// first section that has an error, `Header`, `Zstd`, `UnknownType` or `Stream`; `Unrepresentable`
-/// where the result's numbers don't fit the class, or the table of names is itself compressed; and
-/// `Memory`. The result is read again and compared before it is given: where it were to mean
-/// anything else, the answer would be `Unrepresentable` too.
-#[tactic(auto, unfolding(crate::specs::Result::decompressed_of))]
-pub fn decompressed(alloc: Global, bytes: &[u8]) -> Result<Option<Vec<u8>>, DecompressError>
-    ensures { GivesFile (option_map (λ out. elf_of out.items)) result (decompressed_of bytes.now) }
+/// first section that has an error, `Header`, `Zstd`, `UnknownType`, or `Stream` where its stream
+/// cannot write as many bytes as are told; then `Stream` for the first other stream that is damaged;
+/// `Unrepresentable` where the result's numbers don't fit the class, or the table of names is itself
+/// compressed, or where all sections and their names have more than 16 times the bytes of the file;
+/// and `Memory`. The result is read again and compared before it is given: where it were
+/// to mean anything else, the answer would be `Unrepresentable` too.
+#[tactic(auto, unfolding(crate::specs::Result::decompressed_of, crate::specs::Result::plain_length_of))]
+pub fn decompressed(
+    alloc: Global,
+    bytes: &[u8],
+    asked: Asked,
+) -> Result<Option<Vec<u8>>, DecompressError>
+    ensures meant { GivesFile (option_map (λ out. elf_of out.items)) result
+        (decompressed_of asked bytes.now) }
+    ensures long { IfOk result (λ plain. plain_length_of asked bytes.now
+        ≡ Ok (option_map (λ out. length_of_list out.items) plain)) }
 {
     let file = ElfFile::parse(bytes)?;
-    if has_compressed(&file) {
-        let out = with_plain(alloc, bytes, &file)?;
+    if has_compressed(asked, &file) {
+        let out = with_plain(alloc, asked, bytes, &file)?;
         return Ok(Some(out));
     }
     Ok(None)

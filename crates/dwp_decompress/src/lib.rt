@@ -2,6 +2,7 @@
 #![tactic(auto)]
 
 mod agree;
+mod asked;
 mod compressed;
 mod contents;
 mod convert;
@@ -9,7 +10,10 @@ mod error;
 mod file;
 mod header;
 mod names;
+mod sizes;
 mod stream;
 
+pub use asked::Asked;
 pub use convert::decompressed;
 pub use error::DecompressError;
+pub use sizes::{overlaps, plain_length};

@@ -6,6 +6,7 @@ ghost use Rattle.dwp_elf_read.specs.View.{elf};
 ghost use Rattle.dwp_decompress.specs.Names.{added_name, added_name_of, added_names, link_of};
 ghost use Rattle.dwp_decompress.specs.Names.{names_number};
 
+use crate::asked::Asked;
 use crate::compressed::{is_compressed, is_older};
 use crate::stream::word_size_of;
 use dwp_elf_read::{ElfFile, Section};
@@ -64,13 +65,13 @@ fn add_name(name: &str, added: &mut Vec<u8>) -> Result<(), AllocError>
     Ok(())
 }
 
-/// Adds the plain name of a section, if it is compressed and has an older name.
+/// Adds the plain name of a section, if that is asked for, compressed, and has an older name.
 #[tactic(auto, unfolding(crate::specs::Names::added_name_of))]
-fn add_name_of(section: &Section<'_>, added: &mut Vec<u8>) -> Result<(), AllocError>
+fn add_name_of(asked: Asked, section: &Section<'_>, added: &mut Vec<u8>) -> Result<(), AllocError>
     ensures { OnOk result (added.new.items
-        ≡ added.old.items ++ added_name_of (view.section section.now)) }
+        ≡ added.old.items ++ added_name_of asked (view.section section.now)) }
 {
-    if !is_compressed(section) {
+    if !is_compressed(asked, section) {
         return Ok(());
     }
     match section.name() {
@@ -80,13 +81,13 @@ fn add_name_of(section: &Section<'_>, added: &mut Vec<u8>) -> Result<(), AllocEr
 }
 
 /// The names that the table gets.
-pub fn added_names(alloc: Global, file: &ElfFile<'_>) -> Result<Vec<u8>, AllocError>
-    ensures { IfOk result (λ added. added.items ≡ added_names (elf file.now).sections) }
+pub fn added_names(alloc: Global, asked: Asked, file: &ElfFile<'_>) -> Result<Vec<u8>, AllocError>
+    ensures { IfOk result (λ added. added.items ≡ added_names asked (elf file.now).sections) }
 {
     let mut added = Vec::new(alloc);
     for i in 0..file.section_count() {
         if let Some(section) = file.section(i) {
-            add_name_of(&section, &mut added)?;
+            add_name_of(asked, &section, &mut added)?;
         }
     }
     Ok(added)

@@ -5,10 +5,12 @@ ghost use Rattle.dwp_base.specs.Reading.{Answers};
 ghost use Rattle.dwp_elf_read.specs.Layout.{word_size, number_at};
 ghost use Rattle.dwp_elf_read.specs.View as view;
 ghost use Rattle.dwp_decompress.specs.Headers.{packed, with_type, headed, older, packed_in};
+ghost use Rattle.dwp_decompress.specs.Headers.{told_by};
 
 use crate::error::DecompressError;
 use dwp_base::{Class, Endianness};
 use dwp_elf_read::Section;
+use dwp_inflate::InflateError;
 
 /// A stream of zlib's, and the size of what it writes.
 #[derive(Clone, Copy)]
@@ -97,5 +99,21 @@ pub fn packed_in<'a>(
         headed(class, order, content)
     } else {
         older(content)
+    }
+}
+
+impl Packed<'_> {
+    /// How many bytes the stream is said to write.
+    ///
+    /// # Errors
+    /// `Stream` where so few bytes cannot write so many.
+    #[tactic(auto, unfolding(crate::specs::Headers::told_by))]
+    pub fn told(&self) -> Result<u64, DecompressError>
+        ensures { Answers (λ size. size) result (told_by (packed self.now)) }
+    {
+        if self.size > (self.bytes.len() as u64).saturating_mul(1032) {
+            return Err(DecompressError::Stream(InflateError::Unreachable));
+        }
+        Ok(self.size)
     }
 }

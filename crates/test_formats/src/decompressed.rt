@@ -1,12 +1,21 @@
 //! Calls of `dwp_decompress`: files with compressed sections, and each error of them.
 
-use dwp_decompress::decompressed;
+use dwp_decompress::{Asked, decompressed, overlaps, plain_length};
 use dwp_elf_read::{ElfFile, Section};
 use test_rows::{Hex, Row, Said, Text};
 
 /// The row's name and a file: each section of the file that is made, or its error.
 pub fn call(row: Row<'_>, said: &mut Said) {
-    match decompressed(row.alloc, row.bytes(2)) {
+    match row.word(0) {
+        "asked" => call_asked(row, Asked::OfUnits, said),
+        "plain_length" => said.put(&plain_length(row.bytes(2), Asked::All)),
+        "overlaps" => said.put(&overlaps(row.bytes(2), Asked::OfUnits)),
+        _ => call_asked(row, Asked::All, said),
+    }
+}
+
+fn call_asked(row: Row<'_>, asked: Asked, said: &mut Said) {
+    match decompressed(row.alloc, row.bytes(2), asked) {
         Ok(Some(file)) => put_file(&file, said),
         Ok(None) => said.word("as it is"),
         Err(error) => said.error(&error),

@@ -15,7 +15,9 @@ pub fn call(row: Row<'_>, said: &mut Said) {
         "texts_of_index" => texts_of_index(said),
         "archive" => crate::archived::archived(row, said),
         "inflate" => crate::inflated::inflated(row, said),
-        "decompressed" => crate::decompressed::call(row, said),
+        "decompressed" | "asked" | "plain_length" | "overlaps" => crate::decompressed::call(
+            row, said,
+        ),
         _ => of_index(row, said),
     }
 }

@@ -3,24 +3,30 @@ use Rattle.std.proofs.Common.{◌≡◌, ◌∙◌, ap, ℕ, ◌<◌, ◌≤◌,
 use Rattle.std.proofs.lemmas.Int.{ints}
 use Rattle.std.specs.Prelude.{◌≢◌, ◌⊎◌, ℤ, pos, Some, Ok, Err}
 use Rattle.dwp_elf_read.specs.Elf.{elf_of}
-use Rattle.dwp_decompress.specs.Result.{decompressed_of}
+use Rattle.dwp_decompress.specs.Result.{decompressed_of, plain_length_of}
+use Rattle.dwp_decompress.specs.declared.asked.Asked.TheVariants.{All}
+use Rattle.dwp_decompress.proofs.Lengths.{length_fails}
 use Rattle.dwp_decompress.specs.declared.error.DecompressError.{DecompressError}
 use Rattle.dwp_decompress.specs.declared.error.DecompressError.TheVariants as errors
 use Rattle.thorin_c.specs.Plain.{Decompresses, NeedsRoom, status_of, IsError, TellsError}
 
 module _ (bytes file : List ℕ) (size : ℕ) where
   -- the file was put at the beginning of the room
-  pub plain_put : (old new : List ℕ) → decompressed_of bytes ≡ Ok (Some (elf_of file))
+  pub plain_put : (old new : List ℕ) → decompressed_of All bytes ≡ Ok (Some (elf_of file))
+      → plain_length_of All bytes ≡ Ok (Some (length file))
       → size ≡ length file → length file ≤ length new → take (length file) new ≡ file
       → drop (length file) new ≡ drop (length file) old → Decompresses bytes size old new
-  plain_put old new meant s fits front rest =
-      record { fits = rw s fits; plain = rw (s, front) meant; rest = rw s rest }
+  plain_put old new meant long s fits front rest = record {
+    fits = rw s fits;
+    told = rw s long;
+    plain = rw (s, front) meant;
+    rest = rw s rest;
+  }
 
   -- it has more bytes than there is room for
-  pub room_needed : (room : ℕ) → decompressed_of bytes ≡ Ok (Some (elf_of file))
+  pub room_needed : (room : ℕ) → plain_length_of All bytes ≡ Ok (Some (length file))
       → size ≡ length file → room < length file → NeedsRoom bytes size room
-  room_needed room meant s past =
-      record { file = file; plain = meant; size_of = s; past = rw s past }
+  room_needed room long s past = record { told = rw s long; past = rw s past }
 
 -- other statuses tell no error
 pub tells_none : (P : Type 0) (status : ℤ)
@@ -33,7 +39,7 @@ apart status told other = grind (arith, ints)
 
 pub told : (bytes : List ℕ) (error : DecompressError) (status : ℤ)
     → (error ≢ errors.Memory → error ≢ errors.Unrepresentable
-    → decompressed_of bytes ≡ Err error)
+    → decompressed_of All bytes ≡ Err error)
     → status ≡ status_of error → TellsError status → IsError bytes status
 told bytes error status gives s h = record {
   error = error;
@@ -41,3 +47,11 @@ told bytes error status gives s h = record {
       (λ k. apart status h (inr (s ∙ ap status_of k)));
   status_is = s;
 }
+
+-- the same of an error that is told before any stream is read
+pub told_early : (bytes : List ℕ) (error : DecompressError) (status : ℤ)
+    → (error ≢ errors.Memory → error ≢ errors.Unrepresentable
+    → plain_length_of All bytes ≡ Err error)
+    → status ≡ status_of error → TellsError status → IsError bytes status
+told_early bytes error status gives =
+    told bytes error status (λ m u. length_fails All bytes error (gives m u))

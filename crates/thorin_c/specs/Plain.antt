@@ -2,21 +2,22 @@
 use Rattle.std.specs.Prelude.{◌≡◌, ◌<◌, ◌≤◌, ℕ, ℤ, pos, List, take, drop, length, Some, Ok, Err}
 use Rattle.std.specs.Prelude.{◌⊎◌}
 use Rattle.dwp_elf_read.specs.Elf.{elf_of}
-use Rattle.dwp_decompress.specs.Result.{decompressed_of}
+use Rattle.dwp_decompress.specs.Result.{decompressed_of, plain_length_of}
+use Rattle.dwp_decompress.specs.declared.asked.Asked.TheVariants.{All}
 use Rattle.dwp_decompress.specs.declared.error.DecompressError.{DecompressError}
 use Rattle.dwp_decompress.specs.declared.error.DecompressError.TheVariants as errors
 
--- the file with plain sections stands at the beginning of the room, the rest of which is as it was
+-- the file with plain sections stands at the beginning of the room, the rest of which is as it was;
+-- its size is the one that the headers told
 pub record Decompresses (bytes : List ℕ) (size : ℕ) (old new : List ℕ) : Type 0 where
   pub fits : size ≤ length new
-  pub plain : decompressed_of bytes ≡ Ok (Some (elf_of (take size new)))
+  pub told : plain_length_of All bytes ≡ Ok (Some size)
+  pub plain : decompressed_of All bytes ≡ Ok (Some (elf_of (take size new)))
   pub rest : drop size new ≡ drop size old
 
--- it has a size past the room
+-- by what the headers tell it has a size past the room
 pub record NeedsRoom (bytes : List ℕ) (size room : ℕ) : Type 0 where
-  pub file : List ℕ
-  pub plain : decompressed_of bytes ≡ Ok (Some (elf_of file))
-  pub size_of : size ≡ length file
+  pub told : plain_length_of All bytes ≡ Ok (Some size)
   pub past : room < size
 
 -- the status of a file that isn't decompressed: it can't be read; one of its compressed sections is
@@ -33,7 +34,7 @@ status_of errors.Memory = pos 13
 -- the error of such a file
 pub record IsError (bytes : List ℕ) (status : ℤ) : Type 0 where
   pub error : DecompressError
-  pub is : decompressed_of bytes ≡ Err error
+  pub is : decompressed_of All bytes ≡ Err error
   pub status_is : status ≡ status_of error
 
 -- the statuses under which an error is told

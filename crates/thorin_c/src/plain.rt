@@ -3,6 +3,7 @@
 ghost use Rattle.std.specs.Prelude.{◌≡◌, ◌≢◌, ◌⊎◌, ◌≤◌, ◌<◌, pos, length, take, drop, Ok, Err};
 ghost use Rattle.std.specs.Prelude.{Some, None};
 ghost use Rattle.dwp_decompress.specs.Result.{decompressed_of};
+ghost use Rattle.dwp_decompress.specs.declared.asked.Asked.TheVariants.{All};
 ghost use Rattle.dwp_decompress.specs.declared.error.DecompressError.TheVariants.{Memory};
 ghost use Rattle.dwp_decompress.specs.declared.error.DecompressError.TheVariants.{Unrepresentable};
 ghost use Rattle.thorin_c.specs.Plain.{Decompresses, NeedsRoom, IsError, TellsError, IsPlainStatus};
@@ -12,16 +13,17 @@ use crate::status::{
     DAMAGED, DONE, MALFORMED_FILE, NO_MEMORY, NOT_COMPRESSED, TOO_SMALL, UNKNOWN_COMPRESSION,
     UNWRITABLE,
 };
-use dwp_decompress::{DecompressError, decompressed};
+use dwp_decompress::{Asked, DecompressError, decompressed, plain_length};
 use std::alloc::Global;
 
 /// Writes a file with plain sections in place of compressed ones to the beginning of `out`, and
 /// answers 0; its length is in `size`. 14 where no section is compressed: the file is to be used as
-/// it is. 10 where `out` is too small, and `size` is the length that is needed. 3 where the file
-/// can't be read, 15 where a compressed section is damaged, 16 where it is compressed in another
-/// way than zlib's, 17 where the plain file can't be written, 13 where memory ran out. `out` is
-/// left as it is but at 0, and `size` but at 0 and 10.
-#[tactic(auto, using(crate::proofs::PlainFiles::plain_put, crate::proofs::PlainFiles::room_needed, crate::proofs::PlainFiles::told, crate::proofs::PlainFiles::tells_none))]
+/// it is. 10 where `out` is too small, and `size` is the length that is needed by what the headers
+/// of compressed sections say: no stream is read then, and no memory taken. 3 where the file can't be
+/// read, 15 where a compressed section is damaged, 16 where it is compressed in another way than
+/// zlib's, 17 where the plain file can't be written, 13 where memory ran out. `out` is left as it is
+/// but at 0, and `size` but at 0 and 10.
+#[tactic(auto, using(crate::proofs::PlainFiles::told_early, crate::proofs::PlainFiles::tells_none))]
 #[unsafe(no_mangle)]
 pub extern "C" fn thorin_decompress(
     alloc: Global,
@@ -31,13 +33,34 @@ pub extern "C" fn thorin_decompress(
 ) -> i32
     ensures plain { result ≡ pos 0 → Decompresses bytes.now size.new out.old out.new }
     ensures small { result ≡ pos 10 → NeedsRoom bytes.now size.new (length out.old) }
-    ensures none { result ≡ pos 14 → decompressed_of bytes.now ≡ Ok None }
+    ensures none { result ≡ pos 14 → decompressed_of All bytes.now ≡ Ok None }
     ensures error { TellsError result → IsError bytes.now result }
     ensures status { IsPlainStatus result }
     ensures unchanged { result ≢ pos 0 → out.new ≡ out.old }
     ensures untold { result ≢ pos 0 → result ≢ pos 10 → size.new ≡ size.old }
 {
-    match decompressed(alloc, bytes) {
+    match plain_length(bytes, Asked::All) {
+        Ok(Some(length)) if length > out.len() as u64 => {
+            *size = length;
+            TOO_SMALL
+        }
+        Ok(_) => put_plain(alloc, bytes, out, size),
+        Err(error) => status_of(error),
+    }
+}
+
+/// The same once the headers are read.
+#[tactic(auto, using(crate::proofs::PlainFiles::plain_put, crate::proofs::PlainFiles::room_needed, crate::proofs::PlainFiles::told, crate::proofs::PlainFiles::tells_none))]
+fn put_plain(alloc: Global, bytes: &[u8], out: &mut [u8], size: &mut u64) -> i32
+    ensures plain { result ≡ pos 0 → Decompresses bytes.now size.new out.old out.new }
+    ensures small { result ≡ pos 10 → NeedsRoom bytes.now size.new (length out.old) }
+    ensures none { result ≡ pos 14 → decompressed_of All bytes.now ≡ Ok None }
+    ensures error { TellsError result → IsError bytes.now result }
+    ensures status { IsPlainStatus result }
+    ensures unchanged { result ≢ pos 0 → out.new ≡ out.old }
+    ensures untold { result ≢ pos 0 → result ≢ pos 10 → size.new ≡ size.old }
+{
+    match decompressed(alloc, bytes, Asked::All) {
         Ok(Some(file)) => put(file.as_slice(), out, size),
         Ok(None) => NOT_COMPRESSED,
         Err(error) => status_of(error),

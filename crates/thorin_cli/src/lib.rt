@@ -15,11 +15,11 @@ use std::io::{self, Write};
 use thorin_arguments::{
     CheckArguments, Commands, FindArguments, ListArguments, PackArguments, is_peer,
 };
-pub use thorin_commands::Failure;
-use thorin_commands::{
-    FindForm, HostFiles, ListForm, Packing, Reading, check, check_as_json, find, lacks_index, list,
-    list_missing, pack, report, show, verify,
-};
+use thorin_check::{Reading, check, check_as_json};
+use thorin_commands::{HostFiles, Packing, list_missing, pack, verify};
+use thorin_find::{FindForm, ListForm, find, lacks_index, list};
+pub use thorin_print::Failure;
+use thorin_print::{report, show};
 use thorin_terminal::{Console, CountedFiles, HostResponses, Lines, Watched, list_in_columns};
 use thorin_words::{ResponseError, expanded, printed};
 

@@ -3,7 +3,8 @@
 
 use std::alloc::AllocError;
 use std::io::Write;
-use thorin_commands::{Failure, Packing, reason};
+use thorin_commands::{Packing, reason};
+use thorin_print::Failure;
 use thorin_words::printed;
 
 /// What a command that reads was given.

@@ -5,7 +5,7 @@ use Rattle.std.specs.Borrow.{Bor}
 use Rattle.std.specs.declared.io.Error.{Error as IoError}
 use Rattle.dwp_elf.specs.FileText.{Object as File, file_text}
 use Rattle.thorin.specs.declared.packing.Input.{Input}
-use Rattle.thorin_queries.specs.declared.output.Failure.{Failure}
+use Rattle.thorin_print.specs.declared.output.Failure.{Failure}
 use Rattle.thorin_output.specs.Files.{IsOfWriting}
 use Rattle.thorin_commands.specs.Packing.{asked, asks, out_of, IsPackedFrom, IsPackageFor, Packs}
 use Rattle.thorin_commands.specs.Packing.{paths_in, reads, Comes, Fails}

@@ -6,7 +6,7 @@ use Rattle.std.specs.Borrow.{Bor}
 use Rattle.thorin_errors.specs.declared.error.InputError.{InputError}
 use Rattle.thorin_errors.specs.declared.error.InputError.TheVariants as input
 use Rattle.thorin_sessions.specs.Sessions.{IsOffered}
-use Rattle.thorin_queries.specs.Plain.{IsPlainOf}
+use Rattle.thorin_inputs.specs.Plain.{IsPlainOf}
 use Rattle.thorin_inputs.specs.Macros.{IsLastOf}
 use Rattle.thorin_inputs.specs.Prefixes.{mapped}
 use Rattle.thorin_output.specs.Reads.{IsReadOver}

@@ -8,7 +8,7 @@ use Rattle.dwp_archive.specs.Entries.{Member}
 use Rattle.dwp_archive.specs.Members.{members_of}
 use Rattle.thorin.specs.declared.packing.Input.{Input}
 use Rattle.thorin.specs.declared.packing.Input.TheVariants as inputs
-use Rattle.thorin_queries.specs.Plain.{IsPlainOf}
+use Rattle.thorin_inputs.specs.Plain.{IsPlainOf}
 use Rattle.thorin_commands.specs.Plain.{Offer}
 
 -- an ELF file has a section of split units, under either of its names

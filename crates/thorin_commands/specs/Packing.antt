@@ -16,7 +16,7 @@ use Rattle.thorin_builder.specs.Taking.{Outcome}
 use Rattle.thorin.specs.declared.packing.Input.{Input}
 use Rattle.thorin.specs.declared.packing.Input.TheVariants as inputs
 use Rattle.thorin.specs.Run.{Ran}
-use Rattle.thorin_queries.specs.declared.output.Failure.{Failure}
+use Rattle.thorin_print.specs.declared.output.Failure.{Failure}
 use Rattle.thorin_inputs.specs.Given.{StandsAt}
 use Rattle.thorin_inputs.specs.Prefixes.{mapped}
 use Rattle.thorin_output.specs.Files.{IsOfWriting}

@@ -1,7 +1,7 @@
 -- Files that are read with plain sections in place of compressed ones, and with the last macros.
 use Rattle.std.specs.Prelude.{◌≡◌, ℕ, List, Bool, true, false, Result, Ok, Err}
 use Rattle.std.specs.declared.io.Error.{Error as IoError}
-use Rattle.thorin_queries.specs.Plain.{IsPlainOf}
+use Rattle.thorin_inputs.specs.Plain.{IsPlainOf}
 use Rattle.thorin_inputs.specs.Macros.{IsLastOf}
 
 -- what a read of the file at a path may answer

@@ -21,7 +21,7 @@ use std::path::{AsPath, Path};
 use thorin::{DwarfPackage, Input, take_input};
 use thorin_errors::Error;
 use thorin_inputs::{note_alone, note_reason, place_of_member};
-use thorin_queries::{Failure, shown, tell_taken};
+use thorin_print::{Failure, shown, tell_taken};
 use thorin_sessions::Session;
 
 /// Whether bytes are those of an archive, plain or thin.

@@ -18,7 +18,3 @@ pub use packing::{Packing, pack, verify};
 pub use thorin::NamelessUnits;
 pub use thorin_inputs::reason;
 pub use thorin_output::{FileSystem, HostFiles, Warnings};
-pub use thorin_queries::{
-    Failure, FindForm, ListForm, Reading, check, check_as_json, find, lacks_index, list, report,
-    show,
-};

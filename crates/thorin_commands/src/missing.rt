@@ -22,7 +22,7 @@ use thorin_errors::{Error, MissingReferencedObjectBehaviour};
 use thorin_executable::NamedUnits;
 use thorin_inputs::place_of;
 use thorin_output::{FileSystem, flush};
-use thorin_queries::{Failure, buffer, shown};
+use thorin_print::{Failure, buffer, shown};
 use thorin_sessions::Session;
 
 /// Where that is asked for, leaves out units that executables refer to and that aren't there: each

@@ -27,9 +27,10 @@ use std::alloc::Global;
 use std::io::Write;
 use thorin::laws::runs_go_on;
 use thorin::{BytesSession, DwarfPackage, Input, NamelessUnits};
+use thorin_check::{Reading, check};
 use thorin_errors::{Error, MissingReferencedObjectBehaviour};
 use thorin_output::{FileSystem, Warned, Warnings, write_then_warn};
-use thorin_queries::{Failure, Reading, buffer, check};
+use thorin_print::{Failure, buffer};
 use thorin_sessions::Session;
 
 /// What is to be packed, and where to.

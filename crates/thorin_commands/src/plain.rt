@@ -22,10 +22,11 @@ use thorin::{Input, InputReader, Repetition};
 use thorin_errors::InputError;
 use thorin_inputs::{
     Encodings, Growth, MacroWarnings, Repetitions, Unread, count_units, decompress,
-    has_inner_strings, has_overlap, keep_last_macros, mapped, place_among, place_of, reason,
+    has_compressed_overlap, has_inner_strings, has_overlap, keep_last_macros, mapped, place_among,
+    place_of, plain_of, reason,
 };
 use thorin_output::{FileSystem, Warnings};
-use thorin_queries::{Failure, plain_of};
+use thorin_print::Failure;
 
 /// Files as inputs.
 #[derive(Drop)]
@@ -164,13 +165,16 @@ impl<'f, F: FileSystem> InputFiles<'f, F> {
         mapped(self.alloc, paths_in(self.packing.prefix_maps), path)
     }
 
-    /// Whether a file that was read is refused since its sections overlap, which is kept. An
-    /// executable isn't: of each name it uses one section alone.
+    /// Whether a file that was read is refused since its sections overlap, which is kept: those that
+    /// are used, and those that would be decompressed. Of an executable only these count: of each
+    /// name it uses one section alone.
     fn overlaps(&self, is_own: bool, file: &[u8]) -> bool {
-        if self.packing.allows_overlap || is_own && self.is_executable.get() {
+        if self.packing.allows_overlap {
             return false;
         }
-        let found = has_overlap(file);
+        let is_executable = is_own && self.is_executable.get();
+        let found = !is_executable && has_overlap(file)
+            || self.packing.decompresses && has_compressed_overlap(file);
         if found {
             self.growth.set(Some(Growth::Sections));
         }
@@ -254,7 +258,7 @@ impl<F: FileSystem> InputFiles<'_, F> {
         if !self.packing.decompresses {
             return Ok(());
         }
-        decompress(self.alloc, room)?;
+        decompress(self.alloc, room, self.packing.allows_overlap)?;
         Ok(())
     }
 
@@ -335,14 +339,14 @@ impl<F: FileSystem> Inputs for InputFiles<'_, F> {
         self.packing.opens_archives
     }
 
-    #[tactic(auto, unfolding(crate::specs::Archives::IsTakenFor, thorin_queries::specs::Plain::IsPlainOf))]
+    #[tactic(auto, unfolding(crate::specs::Archives::IsTakenFor, thorin_inputs::specs::Plain::IsPlainOf))]
     fn plain_member(&self, content: &[u8]) -> Result<Option<Vec<u8>>, AllocError> {
         if self.overlaps(false, content) {
             return Err(AllocError);
         }
         self.inspect_member(content);
         let plain = if self.packing.decompresses {
-            plain_of(self.alloc, content)?
+            plain_of(self.alloc, content, self.packing.allows_overlap)?
         } else {
             None
         };
@@ -387,7 +391,7 @@ impl<F: FileSystem> Inputs for InputFiles<'_, F> {
             Err(InputError::Memory) => return Err(Failure::Memory),
         }
         if self.packing.decompresses {
-            decompress(self.alloc, &mut room)?;
+            decompress(self.alloc, &mut room, self.packing.allows_overlap)?;
         }
         Ok(count_units(room.as_slice()))
     }

@@ -1,14 +1,14 @@
 //! What `pack` asks of the reader of its inputs, as a trait: `plain` has the reader.
 
 ghost use Rattle.std.specs.Prelude.{◌≡◌, Bool, IfOk};
-ghost use Rattle.thorin_queries.specs.Plain.{or_content};
+ghost use Rattle.thorin_inputs.specs.Plain.{or_content};
 ghost use Rattle.thorin_commands.specs.Archives.{IsTakenFor};
 
 use crate::origins::{Origin, OriginRef};
 use std::alloc::AllocError;
 use thorin::{Input, InputReader};
 use thorin_inputs::{Growth, Unread};
-use thorin_queries::Failure;
+use thorin_print::Failure;
 
 /// What reads inputs, and tells of them.
 pub(crate) trait Inputs: InputReader {

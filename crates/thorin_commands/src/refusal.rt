@@ -2,10 +2,10 @@
 
 ghost use Rattle.std.specs.Prelude.{◌≡◌};
 ghost use Rattle.thorin_commands.specs.declared.refusal.Refusal.TheVariants.{Command};
-ghost use Rattle.thorin_queries.specs.declared.output.Failure.TheVariants.{Memory};
+ghost use Rattle.thorin_print.specs.declared.output.Failure.TheVariants.{Memory};
 
 use std::alloc::AllocError;
-use thorin_queries::Failure;
+use thorin_print::Failure;
 
 /// Why nothing was packed.
 #[derive(Clone, Copy)]

@@ -15,7 +15,7 @@ use std::io::Write;
 use std::path::AsPath;
 use thorin::{DwarfPackage, Input, take_input};
 use thorin_errors::Error;
-use thorin_queries::Failure;
+use thorin_print::Failure;
 use thorin_sessions::Session;
 
 /// Takes the inputs in order, up to the first that is refused.

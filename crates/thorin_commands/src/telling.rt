@@ -17,7 +17,7 @@ use thorin_inputs::{
     Growth, count_units, note_alone, note_before, note_reason, note_refused, note_twice_in,
     note_unread, place_of,
 };
-use thorin_queries::{Failure, shown, tell_taken};
+use thorin_print::{Failure, shown, tell_taken};
 use thorin_words::printed;
 
 /// What is told while inputs are taken, and where its texts are made.

@@ -1,2 +1,3 @@
 mod Prefixing
+mod Sizes
 mod Standing

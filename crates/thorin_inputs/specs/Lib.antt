@@ -1,3 +1,5 @@
 pub mod Given
 pub mod Macros
+pub mod Overlaps
+pub mod Plain
 pub mod Prefixes

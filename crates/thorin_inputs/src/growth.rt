@@ -1,7 +1,6 @@
 //! Small files that could ask for a package of any size.
 
-use crate::used::Used;
-use dwp_elf::ElfFile;
+use crate::overlaps::used_size;
 use std::alloc::Global;
 use std::cell::Cell;
 use std::collections::BTreeMap;
@@ -109,19 +108,5 @@ impl Repetitions {
         let is_again = matches!(files.insert((device, number, size), ()), Ok(Some(_)));
         self.files.set(files);
         is_again
-    }
-}
-
-/// Whether the sections of an object or a package that are used have more bytes than its file.
-pub fn has_overlap(bytes: &[u8]) -> bool {
-    used_size(bytes) > bytes.len() as u64
-}
-
-/// How many bytes the sections of an object or a package have that are used. None is used where
-/// there is none of units.
-fn used_size(bytes: &[u8]) -> u64 {
-    match ElfFile::parse(bytes) {
-        Ok(file) => Used::of(&file).size(),
-        Err(_) => 0,
     }
 }

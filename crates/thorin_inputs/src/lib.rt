@@ -10,6 +10,8 @@ mod growth;
 mod inner;
 mod macros;
 mod notes;
+mod overlaps;
+mod plain;
 mod prefixes;
 mod used;
 
@@ -17,11 +19,13 @@ pub use counting::count_units;
 pub use decompressing::decompress;
 pub use encodings::Encodings;
 pub use given::place_among;
-pub use growth::{Growth, Repetitions, has_overlap};
+pub use growth::{Growth, Repetitions};
 pub use inner::has_inner_strings;
 pub use macros::{MacroWarnings, keep_macros};
 pub use notes::{
     Unread, note_alone, note_before, note_reason, note_refused, note_twice_in, note_unread,
     place_of, place_of_member, reason,
 };
+pub use overlaps::{has_compressed_overlap, has_overlap};
+pub use plain::plain_of;
 pub use prefixes::mapped;

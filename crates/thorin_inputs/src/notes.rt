@@ -5,7 +5,11 @@ use std::alloc::{AllocError, Global};
 use std::fmt;
 use std::io::{self, Write};
 use thorin_errors::Error;
-use thorin_queries::shown;
+use thorin_print::shown;
+
+/// How many bytes of a long name are read from its beginning and from its end: of each end `shown`
+/// prints half as many.
+const END_READ: usize = 4096;
 
 /// A read that failed.
 #[derive(Drop)]
@@ -47,8 +51,18 @@ pub fn place_of_member(alloc: Global, archive: &str, name: &[u8]) -> Result<Stri
     format!(in alloc; "{archive}({name})")
 }
 
-/// A name of bytes, as it is printed.
+/// A name of bytes, as it is printed. No more of a long one is read than may be printed.
 fn shown_bytes(alloc: Global, name: &[u8]) -> Result<String, AllocError> {
+    if name.len() <= 2 * END_READ {
+        return shown_text(alloc, name);
+    }
+    let mut ends = Vec::with_capacity(alloc, 2 * END_READ)?;
+    ends.extend_from_slice(name.split_at(END_READ).0)?;
+    ends.extend_from_slice(name.split_at(name.len() - END_READ).1)?;
+    shown_text(alloc, &ends)
+}
+
+fn shown_text(alloc: Global, name: &[u8]) -> Result<String, AllocError> {
     let name = String::from_utf8_lossy(alloc, name)?;
     shown(alloc, name.as_str())
 }

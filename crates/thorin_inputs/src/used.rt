@@ -12,8 +12,6 @@ pub(crate) struct Used<'a> {
     compilations: Option<&'a [u8]>,
     types: Option<&'a [u8]>,
     pub(crate) has_units: bool,
-    /// How many bytes all of them have.
-    size: u64,
 }
 
 impl<'a> Used<'a> {
@@ -24,7 +22,6 @@ impl<'a> Used<'a> {
             compilations: None,
             types: None,
             has_units: false,
-            size: 0,
         };
         for section in file.sections() {
             if let Some(kind) = section.section_kind() {
@@ -44,20 +41,11 @@ impl<'a> Used<'a> {
             SectionKind::Str => &mut self.strings,
             SectionKind::CuIndex => &mut self.compilations,
             SectionKind::TuIndex => &mut self.types,
-            _ => {
-                self.size = self.size.saturating_add(section.size());
-                return;
-            }
+            _ => return,
         };
         if first.is_none() {
             *first = Some(content(section));
-            self.size = self.size.saturating_add(section.size());
         }
-    }
-
-    /// How many bytes they have. None is used where there is none of units.
-    pub(crate) fn size(&self) -> u64 {
-        if self.has_units { self.size } else { 0 }
     }
 
     /// Whether no unit of a package has string offsets that begin between words of their section.

@@ -14,7 +14,7 @@ use std::io::Write;
 use std::path::Path;
 use thorin_errors::InputError;
 use thorin_files::{Contents, WriteError};
-use thorin_queries::Failure;
+use thorin_print::Failure;
 
 /// The files that `pack` reads and writes. It has no other way to a file.
 pub trait FileSystem {

@@ -8,7 +8,7 @@ ghost use Rattle.thorin_output.specs.Files.{HasBeginning, IsOfWriting, Put, Begi
 use crate::files::FileSystem;
 use dwp_elf::WritableObject;
 use std::io::{self, Write};
-use thorin_queries::Failure;
+use thorin_print::Failure;
 
 /// Writes a package to OUT, where `-` is standard output. Where OUT is a regular file, or isn't
 /// there, a write that fails leaves OUT as it was.

@@ -11,7 +11,7 @@ use dwp_elf::WritableObject;
 use dwp_table::DebugTypeSignature;
 use std::alloc::{AllocError, Global};
 use std::io::Write;
-use thorin_queries::{Failure, warn_differing};
+use thorin_print::Failure;
 
 /// Which warnings of type units that differ are printed.
 #[derive(Clone, Copy)]
@@ -103,15 +103,30 @@ fn print_warnings<W: Write>(warned: Warned<'_>, lines: &mut W) -> Result<(), Fai
     ensures { IfErr result IsOfWriting }
 {
     match warned.warnings {
-        Warnings::Each => match warn_differing(lines, warned.differing) {
-            Ok(()) => Ok(()),
-            Err(_) => Err(Failure::Line),
-        },
+        Warnings::Each => warn_each(warned.differing, lines),
         Warnings::Once if !warned.differing.is_empty() => {
             warn_once(warned.alloc, warned.differing, lines)
         }
         _ => Ok(()),
     }
+}
+
+/// Prints a line for each type unit that differs from the one kept.
+fn warn_each<W: Write>(differing: &[DebugTypeSignature], lines: &mut W) -> Result<(), Failure>
+    ensures { IfErr result IsOfWriting }
+{
+    for signature in differing {
+        let id = signature.0;
+        let told = writeln!(
+            lines,
+            "warning: type unit 0x{id:08x} differs from the one kept"
+        );
+        match told {
+            Ok(()) => {}
+            Err(_) => return Err(Failure::Line),
+        }
+    }
+    Ok(())
 }
 
 /// Prints one line: how many type units differ, and in how many copies.

@@ -1,11 +1,11 @@
 -- What `list --columns` prints, and what it answers.
 use Rattle.std.specs.Prelude.{◌≡◌, ◌⊎◌, ℕ, ◌*◌, ◌-◌, ◌/◌, ◌^◌, ◌==◌, min, ◌++◌, List, [], length}
 use Rattle.std.specs.Prelude.{replicate, Some, Result, Err, true, false, if◌then◌else◌}
-use Rattle.thorin_queries.specs.Answers.{anything}
-use Rattle.thorin_queries.specs.Listing.{Lists}
-use Rattle.thorin_queries.specs.declared.listing.ListForm.{ListForm}
-use Rattle.thorin_queries.specs.declared.output.Failure.{Failure}
-use Rattle.thorin_queries.specs.declared.output.Failure.TheVariants.{Line, Memory}
+use Rattle.thorin_find.specs.Files.{anything}
+use Rattle.thorin_find.specs.Listing.{Lists}
+use Rattle.thorin_find.specs.declared.listing.ListForm.{ListForm}
+use Rattle.thorin_print.specs.declared.output.Failure.{Failure}
+use Rattle.thorin_print.specs.declared.output.Failure.TheVariants.{Line, Memory}
 
 -- a cell and blanks up to a width, and blanks up to a width and a cell
 abbrev pub at_left : (width : ℕ) → List ℕ → List ℕ

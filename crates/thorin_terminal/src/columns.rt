@@ -7,7 +7,8 @@ ghost use Rattle.thorin_terminal.specs.Columns.{AnswersAsListed};
 use dwp_table::CONTRIBUTION_KINDS;
 use std::alloc::{AllocError, Global};
 use std::io::Write;
-use thorin_queries::{Failure, ListForm, list, show};
+use thorin_find::{ListForm, list};
+use thorin_print::{Failure, show};
 
 /// Plain lines with sizes, and totals.
 const SIZED: ListForm = ListForm {

@@ -9,7 +9,7 @@ use std::path::Path;
 use std::time::Instant;
 use thorin_errors::InputError;
 use thorin_output::{FileSystem, HostFiles};
-use thorin_queries::Failure;
+use thorin_print::Failure;
 
 /// Standard error, with a line that tells how far packing is.
 #[derive(Drop)]

@@ -5,5 +5,5 @@ use Rattle.dwp_decompress.specs.Compressed.{is_compressed}
 use Rattle.dwp_decompress.proofs.compressed.has_compressed.Given as goal
 
 abbrev pub invariant-loop-i : goal.invariant-loop-i
-invariant-loop-i l = list_any is_compressed (drop l.i (elf l.file).sections) ≡ list_any
-    is_compressed (elf l.file).sections
+invariant-loop-i l = list_any (is_compressed l.asked) (drop l.i (elf l.file).sections) ≡ list_any
+    (is_compressed l.asked) (elf l.file).sections

@@ -11,14 +11,16 @@ use Rattle.dwp_decompress.proofs.contents.contents_in.Goals.{in_default}
 use Rattle.dwp_base.proofs.Finds.{slice_get_none}
 
 pub loop-i-init : goal.loop-i-init
-loop-i-init c = rw c.new-contents.ensures.items (behind_none (contents_of c.args.class c.args.order
+loop-i-init c = rw c.new-contents.ensures.items
+    (behind_none (contents_of c.args.asked c.args.class c.args.order
     (elf c.args.file.now).sections))
 
 pub returns-in_err-content : goal.returns-in_err-content
 returns-in_err-content c =
     let at = sym c.section.ensures.found ∙ ap (option_map section) c.in-Some.is in
     let p = err_from_is_err_and c.from_residual.result c.from_residual.ensures.1 in
-    rw (p.1, p.2) (λ h. sym c.loop-i.invariant ∙ contents_fail c.args.class c.args.order _
+    rw (p.1, p.2) (λ h. sym c.loop-i.invariant ∙ contents_fail c.args.asked
+    c.args.class c.args.order _
     c.loop-i.i (plain_contents c.loop-i.contents.items) _ _ at (c.in_err-content.ensures h))
 
 pub loop-i-preserved : goal.loop-i-preserved
@@ -30,7 +32,7 @@ loop-i-preserved c =
           let more = ap (λ (v : Vec (Option (Vec ℕ))). v.items) w.contents-is
           ∙ w.in_ok-push.ensures.items in
           rw (plain_more _ c.loop-i.contents.items w.in_ok-content.content more)
-          (sym (contents_step c.args.class c.args.order xs c.loop-i.i
+          (sym (contents_step c.args.asked c.args.class c.args.order xs c.loop-i.i
           (plain_contents c.loop-i.contents.items) _ _ at w.in_ok-content.ensures)
           ∙ c.loop-i.invariant)
       | in_default w ↦ absurd (slice_get_none xs c.loop-i.i (omega arith)
@@ -38,5 +40,5 @@ loop-i-preserved c =
     ]
 
 pub returns : goal.returns
-returns c = sym c.loop-i.invariant ∙ contents_end c.args.class c.args.order
+returns c = sym c.loop-i.invariant ∙ contents_end c.args.asked c.args.class c.args.order
     (elf c.args.file.now).sections c.loop-i.i (plain_contents c.loop-i.contents.items) (omega arith)

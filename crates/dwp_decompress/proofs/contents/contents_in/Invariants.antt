@@ -6,5 +6,5 @@ use Rattle.dwp_decompress.proofs.contents.contents_in.Given as goal
 
 -- those so far and those that are left are all
 abbrev pub invariant-loop-i : goal.invariant-loop-i
-invariant-loop-i l = behind (plain_contents l.contents.items) (contents_of l.class l.order
-    (drop l.i (elf l.file).sections)) ≡ contents_of l.class l.order (elf l.file).sections
+invariant-loop-i l = behind (plain_contents l.contents.items) (contents_of l.asked l.class l.order
+    (drop l.i (elf l.file).sections)) ≡ contents_of l.asked l.class l.order (elf l.file).sections

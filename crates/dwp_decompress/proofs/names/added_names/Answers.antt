@@ -13,11 +13,13 @@ loop-i-preserved c =
       | in-Some+in_ok-add_name_of w ↦
           let at = sym c.section.ensures.found ∙ ap (option_map section) w.in-Some.is in
           let more = ap (λ (v : Vec ℕ). v.items) w.added-is ∙ w.in_ok-add_name_of.ensures in
-          rw more (sym (names_step xs c.loop-i.i c.loop-i.added.items _ at) ∙ c.loop-i.invariant)
+          rw more (sym (names_step c.args.asked xs c.loop-i.i c.loop-i.added.items _ at) ∙
+          c.loop-i.invariant)
       | in_default w ↦ absurd (slice_get_none xs c.loop-i.i (omega arith)
           (sym c.section.ensures.found ∙ ap (option_map section) w.in_default.is))
     ]
 
 pub returns : goal.returns
-returns c = sym (names_end (elf c.args.file.now).sections c.loop-i.i c.loop-i.added.items
+returns c = sym (names_end c.args.asked (elf c.args.file.now).sections c.loop-i.i
+    c.loop-i.added.items
     (omega arith)) ∙ c.loop-i.invariant

@@ -5,5 +5,5 @@ use Rattle.dwp_decompress.proofs.names.added_names.Given as goal
 
 -- those so far and those that are left are all
 abbrev pub invariant-loop-i : goal.invariant-loop-i
-invariant-loop-i l = l.added.items ++ added_names (drop l.i (elf l.file).sections) ≡ added_names
-    (elf l.file).sections
+invariant-loop-i l = l.added.items ++ added_names l.asked (drop l.i (elf l.file).sections)
+    ≡ added_names l.asked (elf l.file).sections

@@ -1,0 +1,119 @@
+-- Sizes that are added up.
+use Rattle.std.proofs.Common.{◌≡◌, ℕ, ◌+◌, ◌-◌, ◌<◌, ◌≤◌, true, false, List, [], ◌∷◌, ◌++◌, length}
+use Rattle.std.proofs.Common.{drop, Some, Ok, Err, Result, ap, ◌∙◌, refl, arith}
+use Rattle.std.proofs.Common.{slice_get, nat_lt, codes, length-append, length-drop}
+use Rattle.std.proofs.lemmas.List.{drop_all}
+use Rattle.std.proofs.lemmas.List.Sums.{sum_by-cons}
+use Rattle.std.proofs.lemmas.Bool.{lt-ltb, le-ltb, ltb-true, ltb-false}
+use Rattle.dwp_base.proofs.Bools.{by-bool}
+use Rattle.dwp_base.specs.Reading.{◌>>=◌}
+use Rattle.dwp_base.specs.declared.class.Class.{Class}
+use Rattle.dwp_base.specs.declared.endian.Endianness.{Endianness}
+use Rattle.dwp_elf_read.specs.Elf.{SectionMeaning}
+use Rattle.dwp_decompress.specs.declared.asked.Asked.{Asked}
+use Rattle.dwp_decompress.specs.declared.error.DecompressError.{DecompressError}
+use Rattle.dwp_decompress.specs.Compressed.{is_older}
+use Rattle.dwp_decompress.specs.Headers.{told_size, told_sizes}
+use Rattle.dwp_decompress.specs.Names.{plain_name, added_name, added_name_of, added_names}
+use Rattle.dwp_decompress.specs.Sizes.{size_in, compressed_size}
+use Rattle.dwp_decompress.proofs.Sections.{drop_step}
+
+-- a number and what others have together
+abbrev pub plus : ℕ → Result ℕ DecompressError → Result ℕ DecompressError
+plus n rest = rest >>= λ m. Ok (n + m)
+
+plus_more : (n m : ℕ) (rest : Result ℕ DecompressError) → plus n (rest >>= λ k. Ok (m + k))
+    ≡ plus (n + m) rest
+plus_more n m (Ok k) = ap Ok (omega arith)
+plus_more n m (Err e) = refl
+
+plus_none : (n : ℕ) → plus n (Ok 0) ≡ Ok n
+plus_none n = ap Ok (omega arith)
+
+pub none_plus : (rest : Result ℕ DecompressError) → plus 0 rest ≡ rest
+none_plus (Ok k) = ap Ok (omega arith)
+none_plus (Err e) = refl
+
+module _ (asked : Asked) (class : Class) (order : Endianness) (sections : List SectionMeaning)
+    (i : ℕ) where
+  pub told_step : (n m : ℕ) (section : SectionMeaning) → slice_get sections i ≡ Some section
+      → told_size asked class order section ≡ Ok m
+      → plus n (told_sizes asked class order (drop i sections)) ≡ plus (n + m)
+      (told_sizes asked class order (drop (i + 1) sections))
+  unfolding told_sizes
+  told_step n m section at is = rw (drop_step sections i section at, is)
+      (plus_more n m (told_sizes asked class order (drop (i + 1) sections)))
+
+  pub told_fail : (n : ℕ) (e : DecompressError) (section : SectionMeaning)
+      → slice_get sections i ≡ Some section → told_size asked class order section ≡ Err e
+      → plus n (told_sizes asked class order (drop i sections)) ≡ Err e
+  unfolding told_sizes
+  told_fail n e section at is = rw (drop_step sections i section at, is) refl
+
+  pub told_end : (n : ℕ) → length sections ≤ i
+      → plus n (told_sizes asked class order (drop i sections)) ≡ Ok n
+  unfolding told_sizes
+  told_end n h = rw (drop_all i sections h) (plus_none n)
+
+module _ (asked : Asked) (sections : List SectionMeaning) (i : ℕ) where
+  pub size_step : (left : ℕ) (section : SectionMeaning) → slice_get sections i ≡ Some section
+      → size_in asked section ≤ left
+      → nat_lt left (compressed_size asked (drop i sections)) ≡ nat_lt
+      (left - size_in asked section)
+      (compressed_size asked (drop (i + 1) sections))
+  unfolding compressed_size
+  size_step left section at h =
+      let rest = compressed_size asked (drop (i + 1) sections) in
+      let all = ap (compressed_size asked) (drop_step sections i section at)
+      ∙ sum_by-cons (size_in asked) section (drop (i + 1) sections) in
+      by-bool _ (nat_lt (left - size_in asked section) rest)
+      (λ yes. rw yes (lt-ltb left _ (omega (arith, all, h, ltb-true _ _ yes))))
+      (λ no. rw no (le-ltb left _ (omega (arith, all, h, ltb-false _ _ no))))
+
+  pub size_past : (left : ℕ) (section : SectionMeaning) → slice_get sections i ≡ Some section
+      → left < size_in asked section
+      → nat_lt left (compressed_size asked (drop i sections)) ≡ true
+  unfolding compressed_size
+  size_past left section at h =
+      let all = ap (compressed_size asked) (drop_step sections i section at)
+      ∙ sum_by-cons (size_in asked) section (drop (i + 1) sections) in
+      lt-ltb left _ (omega (arith, all, h))
+
+  pub size_end : (left : ℕ) → length sections ≤ i
+      → nat_lt left (compressed_size asked (drop i sections)) ≡ false
+  unfolding compressed_size
+  size_end left h = rw (drop_all i sections h) (le-ltb left 0 (omega arith))
+
+  pub added_step : (section : SectionMeaning) → slice_get sections i ≡ Some section
+      → length (added_names asked (drop i sections)) ≡ length (added_name_of asked section)
+      + length (added_names asked (drop (i + 1) sections))
+  unfolding added_names
+  added_step section at = rw (drop_step sections i section at)
+      (length-append (added_name_of asked section) (added_names asked (drop (i + 1) sections)))
+
+  pub added_end : length sections ≤ i → length (added_names asked (drop i sections)) ≡ 0
+  unfolding added_names
+  added_end h = rw (drop_all i sections h) refl
+
+-- an older name has at least as many bytes as it begins with
+older_long : (name : List ℕ) → is_older name ≡ true → 8 ≤ length name
+unfolding is_older
+older_long [] h = absurd cc
+older_long (a ∷ []) h = absurd (grind arith)
+older_long (a ∷ b ∷ []) h = absurd (grind arith)
+older_long (a ∷ b ∷ c ∷ []) h = absurd (grind arith)
+older_long (a ∷ b ∷ c ∷ d ∷ []) h = absurd (grind arith)
+older_long (a ∷ b ∷ c ∷ d ∷ e ∷ []) h = absurd (grind arith)
+older_long (a ∷ b ∷ c ∷ d ∷ e ∷ f ∷ []) h = absurd (grind arith)
+older_long (a ∷ b ∷ c ∷ d ∷ e ∷ f ∷ g ∷ []) h = absurd (grind arith)
+older_long (a ∷ b ∷ c ∷ d ∷ e ∷ f ∷ g ∷ i ∷ rest) h = omega arith
+
+-- a plain name and its end are as long as the older name
+pub older_adds : (name : List ℕ) → is_older name ≡ true
+    → length name ≡ length (added_name (Some name))
+unfolding plain_name
+older_adds name h =
+    let long = older_long name h in
+    let behind = length-drop 8 name in
+    let all = length-append (codes ".debug_" ++ drop 8 name) (0 ∷ []) in
+    rw h (omega (arith, all, behind, long))

@@ -1,0 +1,9 @@
+use Rattle.std.proofs.Common.{◌≡◌, ◌+◌, drop, length}
+use Rattle.dwp_elf_read.specs.View.{elf}
+use Rattle.dwp_decompress.specs.Names.{added_names}
+use Rattle.dwp_decompress.proofs.sizes.added_sizes.Given as goal
+
+-- those so far and those that are left are all
+abbrev pub invariant-loop-i : goal.invariant-loop-i
+invariant-loop-i l = l.added + length (added_names l.asked (drop l.i (elf l.file).sections))
+    ≡ length (added_names l.asked (elf l.file).sections)

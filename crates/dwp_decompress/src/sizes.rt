@@ -1,0 +1,258 @@
+//! How many bytes a file has once its sections are plain, and its compressed sections before.
+
+ghost use Rattle.std.specs.Prelude.{◌≡◌, ◌+◌, ◌*◌, length, slice_get, nat_lt, IfSome, IfOk, IfErr};
+ghost use Rattle.dwp_base.specs.Reading.{Answers};
+ghost use Rattle.dwp_elf_read.specs.Elf.{elf_of};
+ghost use Rattle.dwp_elf_read.specs.Layout.{entry_size};
+ghost use Rattle.dwp_elf_read.specs.View as view;
+ghost use Rattle.dwp_elf_read.specs.View.{elf};
+ghost use Rattle.dwp_decompress.specs.Answers.{GivesFile};
+ghost use Rattle.dwp_decompress.specs.Headers.{told_size, told_sizes};
+ghost use Rattle.dwp_decompress.specs.Names.{added_name_of, added_names, names_number};
+ghost use Rattle.dwp_decompress.specs.Result.{plain_length_of};
+ghost use Rattle.dwp_decompress.specs.declared.error.DecompressError.TheVariants.{Unrepresentable};
+ghost use Rattle.dwp_decompress.specs.Sizes.{size_of, names_size, rounded, length_with, length_of};
+ghost use Rattle.dwp_decompress.specs.Sizes.{compressed_size, size_in, overlaps};
+
+use crate::asked::Asked;
+use crate::compressed::{has_compressed, is_compressed, is_older};
+use crate::error::DecompressError;
+use crate::names::names_number;
+use crate::stream::{packed_in, word_size_of};
+use dwp_base::{Class, Endianness};
+use dwp_elf_read::{ElfFile, Section};
+
+/// How many times as many bytes as their file its sections and their names may have together: each
+/// is read, and compared with what is written.
+const MOST_TIMES: u64 = 16;
+
+/// How many bytes a section and its name have. A name that can't be read has as many as the table of
+/// names.
+fn read_size(section: &Section<'_>, table: u64) -> u64 {
+    let name = match section.name() {
+        Ok(name) => name.len() as u64,
+        Err(_) => table,
+    };
+    match section.data() {
+        Ok(content) => name.saturating_add(content.len() as u64),
+        Err(_) => name,
+    }
+}
+
+/// Whether they have more than these.
+fn reads_more(file: &ElfFile<'_>, table: u64, most: u64) -> bool {
+    let mut read = 0u64;
+    for i in 0..file.section_count() {
+        if let Some(section) = file.section(i) {
+            read = read.saturating_add(read_size(&section, table));
+            if read > most {
+                return true;
+            }
+        }
+    }
+    false
+}
+
+/// How many bytes the plain content of a section is said to have; 0 where it isn't compressed.
+#[tactic(auto, unfolding(crate::specs::Headers::told_size))]
+fn told_size(
+    asked: Asked,
+    class: Class,
+    order: Endianness,
+    section: &Section<'_>,
+) -> Result<u64, DecompressError>
+    ensures { Answers (λ size. size) result
+        (told_size asked class order (view.section section.now)) }
+{
+    if is_compressed(asked, section) {
+        let content = section.data()?;
+        let packed = packed_in(class, order, section, content)?;
+        return packed.told();
+    }
+    Ok(0)
+}
+
+/// A sum, which is to be a `u64`.
+fn plus(a: u64, b: u64) -> Result<u64, DecompressError>
+    ensures sum { IfOk result (λ sum. sum ≡ a + b) }
+    ensures error { IfErr result (λ e. e ≡ Unrepresentable) }
+{
+    a.checked_add(b).ok_or(DecompressError::Unrepresentable)
+}
+
+/// What those of all sections have together, of a file of that class and byte order.
+fn told_sizes(
+    asked: Asked,
+    class: Class,
+    order: Endianness,
+    file: &ElfFile<'_>,
+) -> Result<u64, DecompressError>
+    ensures { GivesFile (λ size. size) result
+        (told_sizes asked class order (elf file.now).sections) }
+{
+    let mut told = 0u64;
+    for i in 0..file.section_count() {
+        if let Some(section) = file.section(i) {
+            let size = told_size(asked, class, order, &section)?;
+            told = plus(told, size)?;
+        }
+    }
+    Ok(told)
+}
+
+/// How many bytes the table of names gets for a section.
+#[tactic(auto, unfolding(crate::specs::Names::added_name_of), using(crate::proofs::Sums::older_adds))]
+fn added_size(asked: Asked, section: &Section<'_>) -> usize
+    ensures { result ≡ length (added_name_of asked (view.section section.now)) }
+{
+    if !is_compressed(asked, section) {
+        return 0;
+    }
+    match section.name() {
+        Ok(name) if is_older(name) => name.len(),
+        _ => 0,
+    }
+}
+
+/// How many it gets for all of them.
+fn added_sizes(asked: Asked, file: &ElfFile<'_>) -> Option<u64>
+    ensures { IfSome result (λ size. size
+        ≡ length (added_names asked (elf file.now).sections)) }
+{
+    let mut added = 0u64;
+    for i in 0..file.section_count() {
+        if let Some(section) = file.section(i) {
+            added = added.checked_add(added_size(asked, &section) as u64)?;
+        }
+    }
+    Some(added)
+}
+
+/// The size of the section of a number; 0 where there is none.
+fn size_of(file: &ElfFile<'_>, number: usize) -> u64
+    ensures { result ≡ size_of (slice_get (elf file.now).sections number) }
+{
+    match file.section(number) {
+        Some(section) => section.size(),
+        None => 0,
+    }
+}
+
+/// How many bytes the table of names is written again with, where it gets so many more.
+fn names_size(table: u64, added: u64) -> Option<u64>
+    ensures { IfSome result (λ size. size ≡ names_size table added) }
+{
+    if added == 0 {
+        return Some(0);
+    }
+    table.checked_add(added)
+}
+
+/// The next multiple of 8.
+fn rounded(n: u64) -> Option<u64>
+    ensures { IfSome result (λ size. size ≡ rounded n) }
+{
+    Some(n.checked_add(7)? / 8 * 8)
+}
+
+/// How many bytes are behind one another, the last of them at a multiple of 8.
+fn behind(file: u64, plain: u64, names: u64, headers: u64) -> Option<u64>
+    ensures { IfSome result (λ size. size ≡ rounded (file + plain + names) + headers) }
+{
+    let end = file.checked_add(plain)?.checked_add(names)?;
+    rounded(end)?.checked_add(headers)
+}
+
+/// How many bytes the section headers have.
+fn headers_size(file: &ElfFile<'_>) -> Option<u64>
+    ensures { IfSome result (λ size. size
+        ≡ length (elf file.now).sections * entry_size (elf file.now).class) }
+{
+    let size = 16 + 6 * word_size_of(file.class()) as u64;
+    (file.section_count() as u64).checked_mul(size)
+}
+
+/// How many bytes the file has once there are so many plain ones.
+#[tactic(auto, unfolding(crate::specs::Sizes::length_with))]
+fn length_with(asked: Asked, bytes: &[u8], file: &ElfFile<'_>, told: u64) -> Option<u64>
+    ensures { IfSome result (λ size. size ≡ length_with asked bytes.now (elf file.now) told) }
+{
+    let table = size_of(file, names_number(bytes, file)?);
+    if reads_more(file, table, (bytes.len() as u64).saturating_mul(MOST_TIMES)) {
+        return None;
+    }
+    let names = names_size(table, added_sizes(asked, file)?)?;
+    let headers = headers_size(file)?;
+    behind(bytes.len() as u64, told, names, headers)
+}
+
+/// How many bytes a file has once its compressed sections are plain.
+#[tactic(auto, unfolding(crate::specs::Sizes::length_of))]
+pub(crate) fn length(asked: Asked, bytes: &[u8], file: &ElfFile<'_>) -> Result<u64, DecompressError>
+    ensures { GivesFile (λ size. size) result (length_of asked bytes.now (elf file.now)) }
+{
+    let told = told_sizes(asked, file.class(), file.endianness(), file)?;
+    match length_with(asked, bytes, file, told) {
+        Some(length) => Ok(length),
+        None => Err(DecompressError::Unrepresentable),
+    }
+}
+
+/// How many bytes `decompressed` gives, by what the headers say: no stream is read, and no memory
+/// is taken. `None` where no section that is asked for is compressed.
+///
+/// # Errors
+/// `Read`, `Header`, `Zstd`, `UnknownType`, `Stream` where a stream cannot write as many bytes as
+/// are told, and `Unrepresentable`, as of `decompressed`.
+#[tactic(auto, unfolding(crate::specs::Result::plain_length_of))]
+pub fn plain_length(bytes: &[u8], asked: Asked) -> Result<Option<u64>, DecompressError>
+    ensures length { GivesFile (λ size. size) result (plain_length_of asked bytes.now) }
+{
+    let file = ElfFile::parse(bytes)?;
+    if has_compressed(asked, &file) {
+        let length = length(asked, bytes, &file)?;
+        return Ok(Some(length));
+    }
+    Ok(None)
+}
+
+/// How many bytes a section has in the file, if it is asked for and compressed.
+fn size_in(asked: Asked, section: &Section<'_>) -> u64
+    ensures { result ≡ size_in asked (view.section section.now) }
+{
+    if is_compressed(asked, section) {
+        section.size()
+    } else {
+        0
+    }
+}
+
+/// Whether those of a file have more than these.
+#[tactic(auto, using(crate::proofs::Sums::size_step, crate::proofs::Sums::size_past, crate::proofs::Sums::size_end))]
+fn have_more(asked: Asked, file: &ElfFile<'_>, room: u64) -> bool
+    ensures { result ≡ nat_lt room (compressed_size asked (elf file.now).sections) }
+{
+    let mut left = room;
+    for i in 0..file.section_count() {
+        if let Some(section) = file.section(i) {
+            let size = size_in(asked, &section);
+            if left < size {
+                return true;
+            }
+            left -= size;
+        }
+    }
+    false
+}
+
+/// Whether the compressed sections that are asked for have more bytes than their file: then some of
+/// them overlap, which sections of a file may not (ELF gABI, "Sections"). Of a file for which this
+/// is false the streams that are asked for write at most 1,032 times as many bytes as it has.
+pub fn overlaps(bytes: &[u8], asked: Asked) -> bool
+    ensures exact { result ≡ overlaps asked bytes.now (elf_of bytes.now) }
+{
+    match ElfFile::parse(bytes) {
+        Ok(file) => have_more(asked, &file, bytes.len() as u64),
+        Err(_) => false,
+    }
+}

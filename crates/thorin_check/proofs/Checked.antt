@@ -1,0 +1,127 @@
+-- What was checked.
+use Rattle.std.proofs.Common.{◌≡◌, ℕ, zero, suc, get_or, ◌<◌, Bool, true, false, List, [], ◌∷◌}
+use Rattle.std.proofs.Common.{Option, Result, Ok, Err, Bor, refl, length, inl, inr, arith}
+use Rattle.std.proofs.Common.{append_assoc}
+use Rattle.std.specs.declared.io.Error.{Error as IoError}
+use Rattle.std.proofs.KnownBytes.{Appends-trans, Keeps-refl}
+use Rattle.dwp_index.specs.Package.{Package}
+use Rattle.dwp_index.specs.declared.error.PackageError.{PackageError}
+use Rattle.dwp_index.specs.declared.units.UnitEntry.{UnitEntry}
+use Rattle.thorin_executable.specs.Skeletons.{skeletons_by}
+use Rattle.thorin_find.specs.Files.{Offer, FailsToRead}
+use Rattle.thorin_find.specs.Listing.{has_no_index}
+use Rattle.thorin_check.specs.Checking.{Executables, TellsTaken, TellsExecutable}
+use Rattle.thorin_check.specs.Checking.{TellsPackage, FailsOne, IsOfReading, IsOfChecking}
+use Rattle.thorin_check.specs.Checking.{Finishes}
+use Rattle.thorin_check.specs.Checking.{ChecksIndexed, ChecksPackage, ChecksBytes, Checks}
+use Rattle.thorin_check.specs.Faults.{TellsListed}
+use Rattle.thorin_find.specs.Listing.{AreByRow}
+use Rattle.thorin_inputs.specs.Plain.{IsPlainOf}
+use Rattle.thorin_print.specs.Answers.{IsOfPrinting, Grows, Outcome}
+use Rattle.thorin_check.specs.Telling.{fault_count, Progress, Told}
+use Rattle.thorin_check.specs.Telling.{TellsOr, Tells}
+use Rattle.thorin_check.specs.declared.executables.Reading.{Reading}
+use Rattle.thorin_print.specs.declared.output.Failure.{Failure}
+use Rattle.thorin_print.specs.declared.output.Failure.TheVariants as failures
+use Rattle.thorin_check.proofs.Told.{told_as, tells_as, stopped_behind, counted_from}
+use Rattle.thorin_print.proofs.Printed.{none_grown}
+
+module _ (offer : Offer) where
+  -- ---- failures
+
+  pub of_printing : (executables : List (Bor (List ℕ))) (failure : Failure) → IsOfPrinting failure
+      → IsOfChecking offer executables failure
+  of_printing executables failure h = grind (arith)
+
+  pub executable_unread : (path : List ℕ) (failure : Failure) (a : Option (List ℕ))
+      → FailsToRead offer path failure → IsOfReading offer path failure × Grows a a
+  executable_unread path failure a h = grind (arith, none_grown a)
+
+  -- one of them is one of all
+  fails_one : (es : List (Bor (List ℕ))) (i : ℕ) (d : Bor (List ℕ)) → i < length es
+      → (cause : IoError) × offer (get_or es i d).now (Err cause) → FailsOne offer es
+  fails_one [] i d lt h = absurd (omega arith)
+  fails_one (e ∷ es) zero d lt h = inl h
+  fails_one (e ∷ es) (suc i) d lt h = inr (fails_one es i d (omega arith) h)
+
+  pub reading_one : (es : List (Bor (List ℕ))) (i : ℕ) (d : Bor (List ℕ)) (failure : Failure)
+      → i < length es → IsOfReading offer (get_or es i d).now failure
+      → IsOfChecking offer es failure
+  reading_one es i d failure lt h = grind (arith, fails_one es i d lt)
+
+  -- ---- an executable
+
+  pub executable_read : (reading : Reading) (pack : Package) (executable : List ℕ)
+      (a b : Progress) (result : Outcome) (bytes lent : List ℕ) → offer executable (Ok bytes)
+      → lent ≡ bytes → Tells (TellsTaken reading pack executable lent) a b result
+      → TellsOr (IsOfReading offer executable)
+      (TellsExecutable offer reading pack executable) a b result
+  executable_read reading pack executable a b (Ok done) bytes lent read same t =
+      told_as t (λ lines k. record { bytes = bytes; read = read; tells = rw same at k })
+  executable_read reading pack executable a b (Err failure) bytes lent read same t = grind (arith)
+
+-- ---- what is taken for an executable
+
+module _ (reading : Reading) (pack : Package) (executable bytes : List ℕ) (a b : Progress) where
+  pub taken_as_it_is : (result : Outcome) → reading.decompresses ≡ false
+      → Tells (TellsListed pack executable (skeletons_by reading.nameless bytes)) a b result
+      → Tells (TellsTaken reading pack executable bytes) a b result
+  taken_as_it_is result e =
+      tells_as a b result (λ lines k. record { taken = bytes; is_taken = rw e refl; listed = k })
+
+  pub taken_plain : (result : Outcome) (plain lent : List ℕ) → reading.decompresses ≡ true
+      → IsPlainOf bytes plain → lent ≡ plain
+      → Tells (TellsListed pack executable (skeletons_by reading.nameless lent)) a b result
+      → Tells (TellsTaken reading pack executable bytes) a b result
+  taken_plain result plain lent e is same t = tells_as a b result
+      (λ lines k. record { taken = plain; is_taken = rw e is; listed = rw same at k }) t
+
+-- ---- a package
+
+module _ (offer : Offer) (executables : Executables) where
+  pub checked : (pack : Package) (entries : List UnitEntry) (a b : Progress)
+      (c : Option (List ℕ)) (result : Result ℕ Failure)
+      → AreByRow pack entries → a.waiting ≡ [] → a.count ≡ 0
+      → Told (TellsPackage offer executables pack entries) a b
+      → Finishes (length entries) b.count b.written b.waiting c result
+      → ChecksIndexed offer executables pack a.written c result
+  checked pack entries a b c (Ok status) by_row none begun t f =
+      let all : b.count ≡ fault_count t.lines =
+      omega (arith, rw begun at t.counted, counted_from 0 t.lines (omega arith)) in
+      let printed = Appends-trans a.written b.written c t.handed _ t.added f.0 in
+      record {
+        entries = entries;
+        by_row = by_row;
+        lines = t.lines;
+        told = t.are;
+        printed = rw (← append_assoc, ← t.split, none, all) at printed;
+        status_is = rw all at f.1;
+      }
+  checked pack entries a b c (Err failure) by_row none begun t f =
+      stopped_behind c t (of_printing offer executables.paths failure f.0, f.1)
+
+  pub no_memory_left : (pack : Package) (a : Option (List ℕ))
+      → ChecksIndexed offer executables pack a a (Err failures.Memory)
+  no_memory_left pack a = (tt, none_grown a)
+
+  pub no_index : (pack : Package) (a : Option (List ℕ)) (b : Bool) → b ≡ has_no_index pack
+      → b ≡ true
+      → ChecksPackage offer executables pack a a (Err failures.NoIndex) (has_no_index pack)
+  no_index pack a b e f = rw (← e, f) (refl, Keeps-refl a)
+
+  pub has_index : (pack : Package) (a c : Option (List ℕ)) (result : Result ℕ Failure) (b : Bool)
+      → b ≡ has_no_index pack → b ≡ false
+      → ChecksIndexed offer executables pack a c result
+      → ChecksPackage offer executables pack a c result (has_no_index pack)
+  has_index pack a c result b e f h = rw (← e, f) h
+
+  pub malformed : (cause : PackageError) (p : Result Package PackageError)
+      (a : Option (List ℕ)) → p ≡ Err cause
+      → ChecksBytes offer executables p a a (Err failures.Malformed)
+  malformed cause p a e = rw e (refl, Keeps-refl a)
+
+  pub not_checked : (path : List ℕ) (a : Option (List ℕ)) (failure : Failure)
+      → FailsToRead offer path failure
+      → Checks offer path executables a a (Err failure)
+  unfolding Checks
+  not_checked path a failure h = inr (h, Keeps-refl a)

@@ -1,0 +1,167 @@
+-- Faults that were told.
+use Rattle.std.proofs.Common.{◌≡◌, ◌≢◌, ℕ, Bool, true, false, ◌&&◌, List, [], ◌∷◌, ◌++◌, codes, map}
+use Rattle.std.proofs.Common.{Option, Some, None, is_none, Result, Ok, Err, IfOk, OnOk, String}
+use Rattle.std.proofs.Common.{string_bytes, Global, decimal, refl, sym, inl, inr, arith}
+use Rattle.std.specs.Result.{result_err}
+use Rattle.std.proofs.KnownBytes.{Appends-trans}
+use Rattle.std.proofs.lemmas.List.{map-append}
+use Rattle.dwp_base.specs.declared.section.SectionKind.{SectionKind}
+use Rattle.dwp_base.specs.declared.section.SectionKind.TheVariants.{Abbrev}
+use Rattle.dwp_bytes.specs.declared.error.ReadError.{ReadError}
+use Rattle.dwp_index.specs.Index.{range_in}
+use Rattle.dwp_index.specs.Package.{Package, FoundUnit, found}
+use Rattle.dwp_index.specs.declared.error.PackageError.{PackageError}
+use Rattle.dwp_index.specs.declared.units.UnitEntry.{UnitEntry}
+use Rattle.dwp_table.specs.declared.object.DwarfObject.{DwarfObject}
+use Rattle.thorin_check.specs.Checking.{TellsSomeStrings}
+use Rattle.thorin_check.specs.Faults.{fault_line, TellsText, IsTextOf, IsSomeText, IsUnreadText}
+use Rattle.thorin_check.specs.Faults.{IsOwnText, TellsOwn, TellsItself, TellsFound, TellsUnit}
+use Rattle.thorin_check.specs.Faults.{has_abbreviations, string_text, TellsString, TellsStrings}
+use Rattle.thorin_check.specs.Faults.{TellsStringsOf, row_line, AreRows, broken_line, IsBroken}
+use Rattle.thorin_check.specs.Overlaps.{IsClash, overlap_text}
+use Rattle.thorin_print.specs.Answers.{Outcome}
+use Rattle.thorin_check.specs.Telling.{Progress, Told, Tells, IsLine, ForEach}
+use Rattle.thorin_print.specs.Answers.{IsOfPrinting, Grows}
+use Rattle.thorin_check.specs.Telling.{PassesOn}
+use Rattle.thorin_print.specs.declared.output.Failure.{Failure}
+use Rattle.thorin_check.proofs.Told.{none_told, tells_as, then_or, passed}
+
+-- ---- texts
+
+module _ {E : Type 0} (P : List (List ℕ) → Type 0) (object : DwarfObject) where
+  -- what is made for a fault was told
+  pub text_told : (text : Result (Option (String Global)) E) (a b : Progress) (result : Outcome)
+      → IsTextOf P object text → TellsText object text a b result → Tells P a b result
+  text_told text a b result is h = grind (arith)
+
+  -- a text of which something holds was made
+  pub made : (Q : List ℕ → Type 0) (text : Result (String Global) E)
+      (result : Result (Option (String Global)) E)
+      → ((t : List ℕ) → Q t → P (fault_line object t ∷ []))
+      → IfOk text (λ t. Q (string_bytes t)) → IsSomeText text result → IsTextOf P object result
+  made Q text result goes is so = grind (arith, goes)
+
+-- lines were told, and then not what was to be made for a fault
+pub text_stopped : {E : Type 0} {P : List (List ℕ) → Type 0} {a b : Progress} (object : DwarfObject)
+    (text : Result (Option (String Global)) E) (c : Progress) (failure : Failure) → Told P a b
+    → TellsText object text b c (Err failure) → IsOfPrinting failure × Grows a.written c.written
+text_stopped object text c failure p h = grind (arith, Appends-trans)
+
+-- ---- units
+
+module _ (pack : Package) (entry : UnitEntry) where
+  pub unit_none : found pack entry.object ≡ Ok None → (text : List ℕ)
+      → text ≡ codes "not found under its identifier"
+      → TellsUnit pack entry (fault_line entry.object text ∷ [])
+  unfolding TellsUnit
+  unit_none e text is = rw (e, is) refl
+
+  pub unit_unread : (cause : PackageError) → found pack entry.object ≡ Err cause
+      → (text : List ℕ) → IsUnreadText cause text
+      → TellsUnit pack entry (fault_line entry.object text ∷ [])
+  unfolding TellsUnit
+  unit_unread cause e text is = grind (arith)
+
+  pub unit_some : {E : Type 0} (unit : FoundUnit) (text : Result (Option (String Global)) E)
+      → found pack entry.object ≡ Ok (Some unit)
+      → IsTextOf (TellsFound pack entry unit) entry.object text
+      → IsTextOf (TellsUnit pack entry) entry.object text
+  unfolding TellsUnit
+  unit_some unit text e h = grind (arith)
+
+  module _ (unit : FoundUnit) where
+    pub other_row : unit.number ≢ entry.row → (text : List ℕ)
+        → text ≡ codes "found in row " ++ decimal unit.number
+        → TellsFound pack entry unit (fault_line entry.object text ∷ [])
+    other_row e text is = inl (e, rw is refl)
+
+    module _ (has bare : Bool) (some : has ≡ has_abbreviations pack)
+        (is : bare ≡ (has && is_none (range_in unit.row Abbrev))) (row : unit.number ≡ entry.row)
+      where
+        pub in_bare_row : bare ≡ true → (text : List ℕ)
+            → text ≡ codes "its row has no abbreviations"
+            → TellsFound pack entry unit (fault_line entry.object text ∷ [])
+        in_bare_row e text so = grind (arith)
+
+        pub in_whole_row : {E : Type 0} (text : Result (Option (String Global)) E) → bare ≡ false
+            → IsTextOf (TellsItself pack entry.object unit) entry.object text
+            → IsTextOf (TellsFound pack entry unit) entry.object text
+        in_whole_row text e h = grind (arith)
+
+module _ (pack : Package) (object : DwarfObject) (unit : FoundUnit) where
+  pub overlapped : (kind : SectionKind) (other : DwarfObject) → IsClash pack unit kind other
+      → (text : List ℕ) → text ≡ overlap_text kind other
+      → TellsItself pack object unit (fault_line object text ∷ [])
+  overlapped kind other clash text is =
+      inl (record { kind = kind; other = other; clash = clash; line = rw is refl })
+
+  pub of_its_own : {E : Type 0} (text : Result (Option (String Global)) E)
+      → IsTextOf (TellsOwn object) object text → IsTextOf (TellsItself pack object unit) object text
+  of_its_own text h = grind (arith)
+
+pub own_fault : (object : DwarfObject) (text : List ℕ) → IsOwnText text
+    → TellsOwn object (fault_line object text ∷ [])
+own_fault object text is = inr (record { text = text; is_text = is; line = refl })
+
+-- what is said of an identifier of its own
+pub is_own_text : {E : Type 0} (text : Result (String Global) E) (rest : List ℕ)
+    → IfOk text (λ t. string_bytes t ≡ codes "its own identifier " ++ rest)
+    → IfOk text (λ t. IsOwnText (string_bytes t))
+is_own_text (Ok t) rest e = inr (rest, e)
+is_own_text (Err cause) rest e = tt
+
+-- ---- rows
+
+pub no_rows : (kind : List ℕ) (a : Progress) → Told (AreRows kind) a a
+no_rows kind a = none_told (AreRows kind) ([], refl) a
+
+pub rows_then : (kind : List ℕ) (ls ms : List (List ℕ)) → AreRows kind ls → AreRows kind ms
+    → AreRows kind (ls ++ ms)
+rows_then kind ls ms h k = (h.0 ++ k.0, rw (h.1, k.1) (sym (map-append (row_line kind) h.0 k.0)))
+
+-- one more row, whose line was added
+pub row_or : {E : Type 0} (kind : List ℕ) (row : ℕ) {a b : Progress} (c : Progress)
+    (more : List ℕ) (put : Result (Unit {0}) E) (result : Outcome) → Told (AreRows kind) a b
+    → OnOk put (more ≡ b.waiting ++ row_line kind row)
+    → PassesOn put (record b { waiting = more }) c result → Tells (AreRows kind) a c result
+row_or kind row {a} {b} c more put result p e q =
+    then_or (AreRows kind) (IsLine (row_line kind row)) IsOfPrinting a b c (AreRows kind)
+    (λ ls ms h k. rows_then kind ls ms h (row ∷ [], k)) result p
+    (passed (row_line kind row) b.written b.waiting more b.count c put result e q)
+
+-- ---- executables
+
+pub broken : (executable : List ℕ) (a b : Progress) (result : Outcome) (text : List ℕ)
+    → Tells (IsLine (broken_line executable text)) a b result
+    → Tells (IsBroken executable) a b result
+broken executable a b result text = tells_as a b result (λ lines e. (text, e))
+
+-- ---- strings
+
+pub string_fine : (object : DwarfObject) (i : ℕ) (read : Result (Option (List ℕ)) ReadError)
+    → None ≡ result_err read → TellsString object i read []
+string_fine object i read e = grind (arith)
+
+pub string_faulty : (object : DwarfObject) (i : ℕ) (read : Result (Option (List ℕ)) ReadError)
+    (error : ReadError) → Some error ≡ result_err read → (text : List ℕ)
+    → ((cause : List ℕ) × (text ≡ string_text i cause))
+    → TellsString object i read (fault_line object text ∷ [])
+string_faulty object i read error e text is = grind (arith)
+
+pub strings_some : (object : DwarfObject) (looked : Result (Option FoundUnit) PackageError)
+    (a b : Progress) (result : Outcome) (unit : FoundUnit) → looked ≡ Ok (Some unit)
+    → Tells (TellsStrings object unit) a b result → Tells (TellsStringsOf object looked) a b result
+strings_some object looked a b result unit e h = rw e h
+
+for_each_of : {X Y : Type 0} (P : Y → List (List ℕ) → Type 0) (f : X → Y) (xs : List X)
+    (lines : List (List ℕ)) → ForEach (λ x. P (f x)) xs lines → ForEach P (map f xs) lines
+for_each_of P f [] lines h = h
+for_each_of P f (x ∷ xs) lines h =
+    grind (arith, for_each_of P f xs h.rest h.is_rest)
+
+pub some_strings : {R : Type 0} (pack : Package) (strings : List (R × DwarfObject))
+    (a b : Progress) (result : Outcome)
+    → Tells (ForEach (λ s. TellsStringsOf s.1 (found pack s.1)) strings) a b result
+    → Tells (TellsSomeStrings pack) a b result
+some_strings pack strings a b result = tells_as a b result
+    (λ lines l. (_, for_each_of (λ o. TellsStringsOf o (found pack o)) (λ s. s.1) strings lines l))

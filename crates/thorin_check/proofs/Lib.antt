@@ -1,0 +1,5 @@
+pub mod Checked
+pub mod Faulted
+pub mod Reached
+pub mod Skeletons
+pub mod Told

@@ -1,0 +1,114 @@
+-- Lines that were told.
+use Rattle.std.proofs.Common.{◌≡◌, ℕ, ◌+◌, ◌-◌, ◌^◌, ◌<◌, ◌≤◌, List, [], ◌∷◌, ◌++◌, length}
+use Rattle.std.proofs.Common.{min, Option, Result, OnOk, take, get_or, refl, sym, arith, rules}
+use Rattle.std.proofs.Common.{append_assoc, append-nil, take_all}
+use Rattle.std.proofs.KnownBytes.{Appends-nil, Appends-trans}
+use Rattle.std.proofs.lemmas.List.{take_more}
+use Rattle.std.proofs.lemmas.List.Folds.{concat-append}
+use Rattle.thorin_print.specs.Answers.{Grows}
+use Rattle.thorin_print.proofs.Printed.{grown}
+use Rattle.thorin_check.specs.Telling.{counted_on, Progress, Told, TellsOr, Tells, IsLine}
+use Rattle.thorin_print.specs.Answers.{Prints, Outcome}
+use Rattle.thorin_check.specs.Telling.{HandsOver, PassesOn, InTurn, ForEach}
+use Rattle.thorin_print.specs.declared.output.Failure.{Failure}
+
+-- ---- what was printed
+
+-- what waited was handed over, and then nothing waited
+pub handed_over : (a b : Option (List ℕ)) (held lent left : List ℕ) (result : Outcome)
+    → lent ≡ held → left ≡ [] → Prints lent a b result → HandsOver a held b left result
+handed_over a b held lent left result same none p = grind (arith)
+
+-- ---- how many
+
+counted-append : (n : ℕ) (xs ys : List (List ℕ))
+    → counted_on n (xs ++ ys) ≡ counted_on (counted_on n xs) ys
+counted-append n [] ys = refl
+counted-append n (x ∷ xs) ys = counted-append (min (n + 1) (2 ^ 64 - 1)) xs ys
+
+pub counted_from : (n : ℕ) (lines : List (List ℕ)) → n ≤ 2 ^ 64 - 1
+    → counted_on n lines ≡ min (n + length lines) (2 ^ 64 - 1)
+counted_from n [] fits = omega arith
+counted_from n (line ∷ lines) fits = grind (arith, counted_from (min (n + 1) (2 ^ 64 - 1)) lines)
+
+-- ---- lines
+
+-- none, where nothing was done
+pub none_told : (P : List (List ℕ) → Type 0) → P [] → (a : Progress) → Told P a a
+none_told P none a = search (rules, Appends-nil, append-nil)
+
+-- lines of one kind, and behind them those of another
+pub told_then : {P Q R : List (List ℕ) → Type 0} {a b c : Progress}
+    → ((xs ys : List (List ℕ)) → P xs → Q ys → R (xs ++ ys)) → Told P a b → Told Q b c
+    → Told R a c
+told_then {a = a} {b = b} {c = c} joins p q = record {
+  lines = p.lines ++ q.lines;
+  are = joins p.lines q.lines p.are q.are;
+  handed = p.handed ++ q.handed;
+  added = Appends-trans a.written b.written c.written p.handed q.handed p.added q.added;
+  split = rw (concat-append, ← append_assoc, p.split, append_assoc, q.split, append_assoc) refl;
+  counted = rw (q.counted, p.counted) (sym (counted-append a.count p.lines q.lines));
+}
+
+-- lines of which more holds
+pub told_as : {P Q : List (List ℕ) → Type 0} {a b : Progress} → Told P a b
+    → ((lines : List (List ℕ)) → P lines → Q lines) → Told Q a b
+told_as t goes = grind (arith)
+
+-- the same, where telling them may have stopped
+pub tells_as : {P Q : List (List ℕ) → Type 0} (a b : Progress) (result : Outcome)
+    → ((lines : List (List ℕ)) → P lines → Q lines) → Tells P a b result → Tells Q a b result
+tells_as a b result goes t = grind (arith)
+
+-- what comes next stopped
+pub stopped_behind : {P : List (List ℕ) → Type 0} {Why : Type 0} {a b : Progress}
+    (c : Option (List ℕ)) → Told P a b → Why × Grows b.written c → Why × Grows a.written c
+stopped_behind {a = a} {b = b} c p q =
+    (q.0, grown a.written b.written c (p.handed, p.added) q.1)
+
+pub in_turn : {P Q : List (List ℕ) → Type 0} (xs ys : List (List ℕ)) → P xs → Q ys
+    → InTurn P Q (xs ++ ys)
+in_turn xs ys p q = record { first = xs; rest = ys; is_first = p; is_rest = q; all = refl }
+
+module _ (P Q : List (List ℕ) → Type 0) (Stops : Failure → Type 0) (a b c : Progress) where
+  -- lines, and what was told behind them or stopped
+  pub then_or : (R : List (List ℕ) → Type 0)
+      → ((xs ys : List (List ℕ)) → P xs → Q ys → R (xs ++ ys)) → (result : Outcome) → Told P a b
+      → TellsOr Stops Q b c result → TellsOr Stops R a c result
+  then_or R joins result p q = grind (arith, told_then {R = R} {c = c} joins p, Appends-trans)
+
+  pub in_turn_or : (result : Outcome) → Told P a b → TellsOr Stops Q b c result
+      → TellsOr Stops (InTurn P Q) a c result
+  in_turn_or result p q = then_or (InTurn P Q) in_turn result p q
+
+-- a line that was added was passed on
+pub passed : (line : List ℕ) (written : Option (List ℕ)) (held more : List ℕ) (count : ℕ)
+    (new : Progress) {E : Type 0} (put : Result (Unit {0}) E) (result : Outcome)
+    → OnOk put (more ≡ held ++ line)
+    → PassesOn put (record { written = written; waiting = more; count = count }) new result
+    → Tells (IsLine line) (record { written = written; waiting = held; count = count }) new result
+passed line written held more count new put result e p = grind (arith, append-nil)
+
+-- ---- lines for each of a list
+
+module _ {X : Type 0} (P : X → List (List ℕ) → Type 0) where
+  for_each_more : (xs : List X) (x : X) (lines more : List (List ℕ)) → ForEach P xs lines
+      → P x more → ForEach P (xs ++ (x ∷ [])) (lines ++ more)
+  for_each_more [] x lines more h p = grind (arith, append-nil)
+  for_each_more (y ∷ ys) x lines more h p =
+      grind (arith, append_assoc, for_each_more ys x h.rest more h.is_rest p)
+
+  -- those of one more
+  pub told_more : (xs ys : List X) (x : X) {a b c : Progress} → ys ≡ xs ++ (x ∷ [])
+      → Told (ForEach P xs) a b → Told (P x) b c → Told (ForEach P ys) a c
+  told_more xs ys x e p q = rw e (told_then (for_each_more xs x) p q)
+
+  pub told_next : (xs : List X) (i : ℕ) (d : X) {a b c : Progress} → i < length xs
+      → Told (ForEach P (take i xs)) a b → Told (P (get_or xs i d)) b c
+      → Told (ForEach P (take (i + 1) xs)) a c
+  told_next xs i d lt p q = told_more (take i xs) _ (get_or xs i d) (take_more xs i d lt) p q
+
+  -- all of them
+  pub told_all : (xs : List X) (i : ℕ) {a b : Progress} → length xs ≤ i
+      → Told (ForEach P (take i xs)) a b → Told (ForEach P xs) a b
+  told_all xs i h t = rw (take_all i xs h) at t

@@ -1,0 +1,209 @@
+-- What `check` prints.
+use Rattle.std.specs.Prelude.{◌≡◌, ◌⊎◌, ℕ, Bool, true, false, not, ◌&&◌, ◌==◌, List, [], ◌∷◌, ◌++◌}
+use Rattle.std.specs.Prelude.{codes, length, if◌then◌else◌, Option, Result, Ok, Err}
+use Rattle.std.specs.Borrow.{Bor}
+use Rattle.std.specs.Fmt.{decimal}
+use Rattle.std.specs.List.{concat}
+use Rattle.std.specs.declared.io.Error.{Error as IoError}
+use Rattle.std.specs.Io.KnownBytes.{Appends, Keeps}
+use Rattle.dwp_base.specs.Sections.{name_of}
+use Rattle.dwp_base.specs.declared.section.SectionKind.{SectionKind}
+use Rattle.dwp_base.specs.declared.section.SectionKind.TheVariants.{Abbrev, Str, StrOffsets}
+use Rattle.dwp_index.specs.Package.{Package, package_of, found}
+use Rattle.dwp_index.specs.declared.error.PackageError.{PackageError}
+use Rattle.dwp_index.specs.declared.units.UnitEntry.{UnitEntry}
+use Rattle.dwp_table.specs.declared.object.DwarfObject.{DwarfObject}
+use Rattle.thorin_executable.specs.Skeletons.{skeletons_by}
+use Rattle.thorin_find.specs.Files.{Offer, RefusesFile}
+use Rattle.thorin_check.specs.Faults.{TellsUnit, TellsStringsOf, AreRows, TellsListed}
+use Rattle.thorin_print.specs.Lines.{line_end}
+use Rattle.thorin_find.specs.Listing.{AreByRow, has_no_index}
+use Rattle.thorin_inputs.specs.Plain.{IsPlainOf}
+use Rattle.thorin_print.specs.Answers.{Grows, IsOfPrinting}
+use Rattle.thorin_check.specs.Telling.{InTurn, ForEach, Is, fault_count}
+use Rattle.thorin_check.specs.declared.executables.Named.{Named}
+use Rattle.thorin_check.specs.declared.executables.Reading.{Reading}
+use Rattle.thorin_print.specs.declared.output.Failure.{Failure}
+use Rattle.thorin_print.specs.declared.output.Failure.TheVariants as failures
+use Rattle.dwp_index.specs.Contents.{content}
+
+-- ---- the last line
+
+-- a number of things of a name: `1 unit`, `2 units`
+abbrev pub count_text : ℕ → (name : List ℕ) → List ℕ
+count_text n name =
+    if n == 1 then codes "1 " ++ name else decimal n ++ (codes " " ++ (name ++ codes "s"))
+
+unfoldable pub counts_line : (units faults : ℕ) → List ℕ
+counts_line units faults = count_text units (codes "unit")
+    ++ (codes ", " ++ (count_text faults (codes "fault") ++ line_end))
+
+-- the status: 1 where there are faults
+abbrev pub status_of : (faults : ℕ) → ℕ
+status_of faults = if faults == 0 then 0 else 1
+
+-- ---- what is told
+
+-- what is told of the strings of some units
+abbrev pub TellsSomeStrings : Package → List (List ℕ) → Type 0
+TellsSomeStrings pack lines = (objects : List DwarfObject)
+    × ForEach (λ object. TellsStringsOf object (found pack object)) objects lines
+
+-- what is told of the units that slots name, and then of their strings
+abbrev pub TellsUnits : Package → List UnitEntry → List (List ℕ) → Type 0
+TellsUnits pack entries =
+    InTurn (ForEach (TellsUnit pack) entries) (TellsSomeStrings pack)
+
+-- what is told of the rows of both indexes
+abbrev pub TellsRows : List (List ℕ) → Type 0
+TellsRows = InTurn (AreRows (codes "cu")) (AreRows (codes "tu"))
+
+-- a package that has units has no section of abbreviations, or an empty one. Every unit needs
+-- abbreviations (DWARF 5, 7.5.3), and packing refuses a package without them
+abbrev pub lacks_abbreviations : Package → List UnitEntry → Bool
+lacks_abbreviations pack entries =
+    not (length entries == 0) && (length (content pack.contents Abbrev) == 0)
+
+-- a package that has string offsets (DWARF 5, 7.26) has no section of strings, or an empty one. The
+-- standard allows it where no offset names a string; but packing refuses such a package, or the one
+-- that it makes of it
+abbrev pub lacks_strings : Package → Bool
+lacks_strings pack =
+    not (length (content pack.contents StrOffsets) == 0) &&
+    (length (content pack.contents Str) == 0)
+
+unfoldable pub lacking_line : SectionKind → List ℕ
+lacking_line kind = name_of kind ++ (codes " is empty or absent" ++ line_end)
+
+abbrev pub lacking_lines : SectionKind → (lacks : Bool) → List (List ℕ)
+lacking_lines kind true = lacking_line kind ∷ []
+lacking_lines kind false = []
+
+-- what is told of the sections of abbreviations and of strings
+abbrev pub TellsSections : (no_abbreviations no_strings : Bool) → List (List ℕ) → Type 0
+TellsSections no_abbreviations no_strings =
+    InTurn (Is (lacking_lines Abbrev no_abbreviations)) (Is (lacking_lines Str no_strings))
+
+-- the same, and what is told of the rows
+abbrev pub TellsTables : (no_abbreviations no_strings : Bool) → List (List ℕ) → Type 0
+TellsTables no_abbreviations no_strings =
+    InTurn (TellsSections no_abbreviations no_strings) TellsRows
+
+-- what is taken for the bytes of an executable: these, or decompressed ones where that is asked for
+abbrev pub IsTaken : (decompresses : Bool) → (bytes taken : List ℕ) → Type 0
+IsTaken false bytes taken = taken ≡ bytes
+IsTaken true bytes taken = IsPlainOf bytes taken
+
+-- what is told of an executable with these bytes
+pub record TellsTaken (reading : Reading) (pack : Package) (executable bytes : List ℕ)
+    (lines : List (List ℕ)) : Type 0 where
+  pub taken : List ℕ
+  pub is_taken : IsTaken reading.decompresses bytes taken
+  pub listed : TellsListed pack executable (skeletons_by reading.nameless taken) lines
+
+-- what is told of the executable at a path
+pub record TellsExecutable (offer : Offer) (reading : Reading) (pack : Package)
+    (executable : List ℕ) (lines : List (List ℕ)) : Type 0 where
+  pub bytes : List ℕ
+  pub read : offer executable (Ok bytes)
+  pub tells : TellsTaken reading pack executable bytes lines
+
+abbrev pub TellsExecutables : Offer → (reading : Reading) → Package → List (Bor (List ℕ))
+    → List (List ℕ) → Type 0
+TellsExecutables offer reading pack executables =
+    ForEach (λ executable. TellsExecutable offer reading pack executable.now) executables
+
+-- the executables whose units a package is to have: their paths, and how they are read
+pub record Executables : Type 0 where
+  pub paths : List (Bor (List ℕ))
+  pub reading : Reading
+
+-- those at hand
+abbrev pub executables_of : Named → Executables
+executables_of named = record { paths = named.executables.now; reading = named.reading }
+
+-- all that is told of a package: of its units, its abbreviations, its strings, its rows, and the
+-- units that executables name
+abbrev pub TellsPackage : Offer → Executables → Package → List UnitEntry → List (List ℕ) → Type 0
+TellsPackage offer executables pack entries =
+    InTurn (TellsUnits pack entries)
+    (InTurn (TellsTables (lacks_abbreviations pack entries) (lacks_strings pack))
+    (TellsExecutables offer executables.reading pack executables.paths))
+
+-- ---- what comes of it
+
+-- one of the executables can't be read
+abbrev pub FailsOne : Offer → List (Bor (List ℕ)) → Type 0
+FailsOne offer [] = ⊥
+FailsOne offer (executable ∷ executables) =
+    ((cause : IoError) × offer executable.now (Err cause)) ⊎ FailsOne offer executables
+
+-- a line can't be written, memory ran out, or the file at a path can't be read
+abbrev pub IsOfReading : Offer → (path : List ℕ) → Failure → Type 0
+IsOfReading offer path failures.Input = (cause : IoError) × offer path (Err cause)
+IsOfReading offer path failures.Line = Unit {0}
+IsOfReading offer path failures.Memory = Unit {0}
+IsOfReading offer path _ = ⊥
+
+-- the same, of any of the executables
+abbrev pub IsOfChecking : Offer → List (Bor (List ℕ)) → Failure → Type 0
+IsOfChecking offer executables failures.Input = FailsOne offer executables
+IsOfChecking offer executables failures.Line = Unit {0}
+IsOfChecking offer executables failures.Memory = Unit {0}
+IsOfChecking offer executables _ = ⊥
+
+-- a last text was printed to its end, and the status answered
+abbrev pub PrintsLast : (faults : ℕ) → (text : List ℕ) → (old new : Option (List ℕ))
+    → Result ℕ Failure → Type 0
+PrintsLast faults text old new (Ok status) =
+    Appends old new text × (status ≡ status_of faults)
+PrintsLast faults text old new (Err failure) = IsOfPrinting failure × Grows old new
+
+-- the same of what waited and the line of counts
+abbrev pub Finishes : (units faults : ℕ) → (old : Option (List ℕ)) → (held : List ℕ)
+    → (new : Option (List ℕ)) → Result ℕ Failure → Type 0
+Finishes units faults old held new result =
+    PrintsLast faults (held ++ counts_line units faults) old new result
+
+-- a package was checked: all lines were printed, and behind them that of the counts
+pub record Checked (offer : Offer) (executables : Executables) (pack : Package)
+    (old new : Option (List ℕ)) (status : ℕ) : Type 0 where
+  pub entries : List UnitEntry
+  pub by_row : AreByRow pack entries
+  pub lines : List (List ℕ)
+  pub told : TellsPackage offer executables pack entries lines
+  pub printed : Appends old new
+      (concat lines ++ counts_line (length entries) (fault_count lines))
+  pub status_is : status ≡ status_of (fault_count lines)
+
+-- the same, or it stopped, and something was printed or nothing
+abbrev pub ChecksIndexed : Offer → Executables → Package → (old new : Option (List ℕ))
+    → Result ℕ Failure → Type 0
+ChecksIndexed offer executables pack old new (Ok status) =
+    Checked offer executables pack old new status
+ChecksIndexed offer executables pack old new (Err failure) =
+    IsOfChecking offer executables.paths failure × Grows old new
+
+-- a package without index is refused
+abbrev pub ChecksPackage : Offer → Executables → Package → (old new : Option (List ℕ))
+    → Result ℕ Failure → (is_refused : Bool) → Type 0
+ChecksPackage offer executables pack old new result true =
+    (result ≡ Err failures.NoIndex) × Keeps old new
+ChecksPackage offer executables pack old new result false =
+    ChecksIndexed offer executables pack old new result
+
+-- the same for what bytes are: where they are no package, they are refused
+abbrev pub ChecksBytes : Offer → Executables → Result Package PackageError
+    → (old new : Option (List ℕ)) → Result ℕ Failure → Type 0
+ChecksBytes offer executables (Err cause) old new result =
+    (result ≡ Err failures.Malformed) × Keeps old new
+ChecksBytes offer executables (Ok pack) old new result =
+    ChecksPackage offer executables pack old new result (has_no_index pack)
+
+-- `check`: the file at the path was read and checked; or it can't be read, and nothing was printed
+unfoldable pub Checks : Offer → (path : List ℕ) → Executables → (old new : Option (List ℕ))
+    → Result ℕ Failure → Type 0
+Checks offer path executables old new result =
+    ((bytes : List ℕ) × offer path (Ok bytes)
+    × ChecksBytes offer executables (package_of bytes) old new result)
+    ⊎ (RefusesFile offer path result × Keeps old new)

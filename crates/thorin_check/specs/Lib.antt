@@ -1,0 +1,5 @@
+pub mod Checking
+pub mod Ends
+pub mod Faults
+pub mod Overlaps
+pub mod Telling

@@ -1,0 +1,36 @@
+-- Ranges of units that overlap: each byte of a section belongs to one contribution, which several
+-- units may share (DWARF 5, 7.3.5).
+use Rattle.std.specs.Prelude.{◌≡◌, ℕ, ◌+◌, Bool, true, false, ◌&&◌, ◌||◌, ◌==◌, not, List, ◌++◌}
+use Rattle.std.specs.Prelude.{codes, nat_lt, nat_le, Option, Some, Ok}
+use Rattle.dwp_base.specs.Sections.{name_of}
+use Rattle.dwp_base.specs.declared.section.Contribution.{Contribution}
+use Rattle.dwp_base.specs.declared.section.SectionKind.{SectionKind}
+use Rattle.dwp_index.specs.Index.{range_in}
+use Rattle.dwp_index.specs.Package.{Package, FoundUnit, found}
+use Rattle.dwp_table.specs.Objects.{identifier_of}
+use Rattle.dwp_table.specs.declared.object.DwarfObject.{DwarfObject}
+use Rattle.thorin_print.specs.Lines.{hex16}
+use Rattle.thorin_find.specs.Lines.{short_kind}
+
+-- a range begins inside another
+abbrev pub begins_inside : Contribution → Contribution → Bool
+begins_inside a b =
+    nat_le b.offset.0 a.offset.0 && nat_lt a.offset.0 (b.offset.0 + b.size)
+
+-- two ranges of a section overlap: they aren't the same, and one begins inside the other
+abbrev pub overlap : Option Contribution → Option Contribution → Bool
+overlap (Some a) (Some b) =
+    not (a.offset.0 == b.offset.0 && a.size == b.size) && (begins_inside a b || begins_inside b a)
+overlap _ _ = false
+
+-- a look-up in a package finds a unit under an identifier whose range of a section overlaps
+pub record IsClash (pack : Package) (unit : FoundUnit) (kind : SectionKind) (other : DwarfObject)
+    : Type 0 where
+  pub second : FoundUnit
+  pub is_found : found pack other ≡ Ok (Some second)
+  pub is : overlap (range_in unit.row kind) (range_in second.row kind) ≡ true
+
+-- what is told of a unit whose range of a section overlaps that of another
+abbrev pub overlap_text : SectionKind → DwarfObject → List ℕ
+overlap_text kind other = codes "its range of " ++ (name_of kind ++ (codes " overlaps that of "
+    ++ (short_kind other ++ (codes " 0x" ++ hex16 (identifier_of other)))))

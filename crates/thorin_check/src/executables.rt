@@ -1,0 +1,310 @@
+//! The units that executables name, in `thorin check`.
+
+ghost use Rattle.std.specs.Prelude.{◌≡◌, ◌≢◌, ◌++◌, IfOk, OnOk, string_bytes};
+ghost use Rattle.dwp_index.specs.Package.{found};
+ghost use Rattle.thorin_executable.specs.Skeletons.{skeletons_by};
+ghost use Rattle.thorin_errors.specs.declared.error.Error.TheVariants.{Memory};
+ghost use Rattle.thorin_check.specs.Checking.{IsOfChecking, IsOfReading, TellsExecutables};
+ghost use Rattle.thorin_check.specs.Checking.{TellsExecutable, TellsTaken};
+ghost use Rattle.thorin_check.specs.Faults.{TellsListed, missing_text, missing_lines, IsTextOf};
+ghost use Rattle.thorin_check.specs.Faults.{broken_line, IsBroken, TellsNext, answering};
+ghost use Rattle.thorin_check.specs.Telling.{progress, Tells, TellsOr, Is};
+
+use crate::faults::{Faults, pass_on, some, tell};
+use bumpalo::Bump;
+use dwp_bytes::RelocationEntry;
+use dwp_index::PackageFile;
+use dwp_table::DwarfObject;
+use std::alloc::{AllocError, Global};
+use std::io::Write;
+use thorin_errors::Error;
+use thorin_executable::{NamedUnits, NamelessUnits};
+use thorin_find::{FileReader, read_named};
+use thorin_inputs::plain_of;
+use thorin_print::{Failure, shown};
+use thorin_sessions::{ArenaSession, Session};
+use thorin_words::printed;
+
+/// How the executables are read whose units are to be in a package.
+#[derive(Clone, Copy)]
+pub struct Reading {
+    /// Whether their compressed sections are decompressed.
+    pub decompresses: bool,
+    /// What becomes of their units that name no object.
+    pub nameless: NamelessUnits,
+}
+
+/// The executables whose units are to be in a package.
+#[derive(Clone, Copy)]
+pub(crate) struct Named<'m, 'a> {
+    /// Their paths.
+    pub executables: &'m [&'a str],
+    /// How they are read.
+    pub reading: Reading,
+}
+
+/// An executable whose units are to be in a package.
+#[derive(Clone, Copy)]
+struct Naming<'m, 'a> {
+    /// The package.
+    pack: &'m PackageFile<'a>,
+    /// The executable's path.
+    executable: &'m str,
+}
+
+/// Each split unit that executables name is in the package.
+#[tactic(auto, using(crate::proofs::Told::none_told, crate::proofs::Told::told_all))]
+pub(crate) fn check_executables<F: FileReader, O: Write>(
+    rt: &HostRuntime,
+    files: &F,
+    pack: &PackageFile<'_>,
+    named: Named<'_, '_>,
+    faults: &mut Faults,
+    out: &mut O,
+) -> Result<(), Failure>
+    ensures { TellsOr (IsOfChecking (F.offer files.now) named.entry.executables.now)
+        (TellsExecutables (F.offer files.now) named.entry.reading pack.now named.entry.executables.now)
+        (progress (O.contents out.old) faults.old) (progress (O.contents out.new) faults.new)
+        result }
+{
+    for i in 0..named.executables.len() {
+        let naming = Naming {
+            pack,
+            executable: named.executables[i],
+        };
+        match check_executable(rt, files, naming, named.reading, faults, out) {
+            Ok(()) => {}
+            Err(failure) => return Err(failure),
+        }
+    }
+    Ok(())
+}
+
+/// Each split unit that an executable names is in the package.
+#[tactic(auto, using(crate::proofs::Checked::executable_read, crate::proofs::Checked::executable_unread))]
+fn check_executable<F: FileReader, O: Write>(
+    rt: &HostRuntime,
+    files: &F,
+    naming: Naming<'_, '_>,
+    reading: Reading,
+    faults: &mut Faults,
+    out: &mut O,
+) -> Result<(), Failure>
+    ensures { TellsOr (IsOfReading (F.offer files.now) naming.entry.executable.now)
+        (TellsExecutable (F.offer files.now) reading naming.entry.pack.now naming.entry.executable.now)
+        (progress (O.contents out.old) faults.old) (progress (O.contents out.new) faults.new)
+        result }
+{
+    match read_named(files, naming.executable) {
+        Ok(bytes) => check_read(rt, naming, bytes.as_slice(), reading, faults, out),
+        Err(failure) => Err(failure),
+    }
+}
+
+/// The same of the bytes of an executable, decompressed where that is asked for.
+#[tactic(auto, using(crate::proofs::Checked::taken_as_it_is, crate::proofs::Checked::taken_plain))]
+fn check_read<O: Write>(
+    rt: &HostRuntime,
+    naming: Naming<'_, '_>,
+    bytes: &[u8],
+    reading: Reading,
+    faults: &mut Faults,
+    out: &mut O,
+) -> Result<(), Failure>
+    ensures { Tells (TellsTaken reading naming.entry.pack.now naming.entry.executable.now bytes.now)
+        (progress (O.contents out.old) faults.old) (progress (O.contents out.new) faults.new)
+        result }
+{
+    if !reading.decompresses {
+        return check_taken(rt, naming, bytes, reading.nameless, faults, out);
+    }
+    match plain_of(rt.alloc(), bytes, false) {
+        Ok(Some(plain)) => {
+            check_taken(rt, naming, plain.as_slice(), reading.nameless, faults, out)
+        }
+        Ok(None) => check_taken(rt, naming, bytes, reading.nameless, faults, out),
+        Err(_) => Err(Failure::Memory),
+    }
+}
+
+/// The same of the bytes that are taken for it.
+fn check_taken<O: Write>(
+    rt: &HostRuntime,
+    naming: Naming<'_, '_>,
+    bytes: &[u8],
+    nameless: NamelessUnits,
+    faults: &mut Faults,
+    out: &mut O,
+) -> Result<(), Failure>
+    ensures { Tells (TellsListed naming.entry.pack.now naming.entry.executable.now
+        (skeletons_by nameless bytes.now)) (progress (O.contents out.old) faults.old)
+        (progress (O.contents out.new) faults.new) result }
+{
+    let bump = Bump::new(rt.alloc());
+    let session = ArenaSession::new(rt, &bump);
+    check_named(&session, naming, bytes, nameless, faults, out)
+}
+
+/// The same, with a session that holds what is made of them.
+fn check_named<'s, Sess: Session<RelocationEntry>, O: Write>(
+    session: &'s Sess,
+    naming: Naming<'_, '_>,
+    bytes: &'s [u8],
+    nameless: NamelessUnits,
+    faults: &mut Faults,
+    out: &mut O,
+) -> Result<(), Failure>
+    ensures { Tells (TellsListed naming.entry.pack.now naming.entry.executable.now
+        (skeletons_by nameless bytes.now)) (progress (O.contents out.old) faults.old)
+        (progress (O.contents out.new) faults.new) result }
+{
+    let alloc = *faults.waiting.allocator();
+    match NamedUnits::read_by(alloc, session, bytes, nameless) {
+        Ok(mut units) => check_skeletons(naming, &mut units, faults, out),
+        Err(error) => tell_error(naming.executable, &error, faults, out),
+    }
+}
+
+/// The same of the units that are left of those that an executable names.
+fn check_skeletons<O: Write>(
+    naming: Naming<'_, '_>,
+    units: &mut NamedUnits<'_>,
+    faults: &mut Faults,
+    out: &mut O,
+) -> Result<(), Failure>
+    ensures { Tells (TellsListed naming.entry.pack.now naming.entry.executable.now units.old.listed)
+        (progress (O.contents out.old) faults.old) (progress (O.contents out.new) faults.new)
+        result }
+{
+    loop {
+        match check_next(naming, units, faults, out) {
+            Ok(more) => {
+                if !more {
+                    return Ok(());
+                }
+            }
+            Err(failure) => return Err(failure),
+        }
+    }
+}
+
+/// The same of the next of them. Answers whether there was one.
+fn check_next<O: Write>(
+    naming: Naming<'_, '_>,
+    units: &mut NamedUnits<'_>,
+    faults: &mut Faults,
+    out: &mut O,
+) -> Result<bool, Failure>
+    ensures { TellsNext naming.entry.pack.now naming.entry.executable.now units.old.listed
+        units.new.listed (progress (O.contents out.old) faults.old)
+        (progress (O.contents out.new) faults.new) result }
+{
+    match units.next() {
+        Ok(Some(unit)) => {
+            let told = check_skeleton(naming, unit.target, units.path(), faults, out);
+            answering(told, true)
+        }
+        Ok(None) => Ok(false),
+        Err(error) => {
+            let told = tell_error(naming.executable, &error, faults, out);
+            answering(told, false)
+        }
+    }
+}
+
+/// An answer, unless telling failed.
+fn answering(told: Result<(), Failure>, more: bool) -> Result<bool, Failure>
+    ensures { result ≡ answering told more }
+{
+    match told {
+        Ok(()) => Ok(more),
+        Err(failure) => Err(failure),
+    }
+}
+
+/// A unit that an executable names is in the package.
+fn check_skeleton<O: Write>(
+    naming: Naming<'_, '_>,
+    object: DwarfObject,
+    path: &str,
+    faults: &mut Faults,
+    out: &mut O,
+) -> Result<(), Failure>
+    ensures { Tells (Is (missing_lines naming.entry.executable.now (object, path.now)
+        (found naming.entry.pack.now object))) (progress (O.contents out.old) faults.old)
+        (progress (O.contents out.new) faults.new) result }
+{
+    let text = skeleton_text(naming, object, path, &faults.waiting);
+    tell(object, text, faults, out)
+}
+
+/// What is told of a unit that an executable names, where it isn't in the package; what a slot names
+/// and can't be read was told with its unit.
+#[tactic(auto, using(crate::proofs::Faulted::made, crate::proofs::Skeletons::missing_none, crate::proofs::Skeletons::missing_some, crate::proofs::Skeletons::missing_unread))]
+fn skeleton_text(
+    naming: Naming<'_, '_>,
+    object: DwarfObject,
+    path: &str,
+    near: &String,
+) -> Result<Option<String>, AllocError>
+    ensures { IsTextOf (Is (missing_lines naming.entry.executable.now (object, path.now)
+        (found naming.entry.pack.now object))) object result }
+{
+    match naming.pack.find(object) {
+        Ok(None) => some(missing_text(*near.allocator(), naming.executable, path)),
+        Ok(Some(_)) => Ok(None),
+        Err(_) => Ok(None),
+    }
+}
+
+/// What is told of a unit that the package lacks: the executable that names it, and the path of its
+/// object.
+fn missing_text(alloc: Global, executable: &str, path: &str) -> Result<String, AllocError>
+    ensures { IfOk result (λ text. string_bytes text ≡ missing_text executable.now path.now) }
+{
+    let executable = shown(alloc, executable)?;
+    let executable = executable.as_str();
+    let path = shown(alloc, path)?;
+    let path = path.as_str();
+    format!(in alloc; "not in the package, {executable} names {path}")
+}
+
+/// Tells why an executable can't be read to its end.
+fn tell_error<O: Write>(
+    executable: &str,
+    error: &Error,
+    faults: &mut Faults,
+    out: &mut O,
+) -> Result<(), Failure>
+    ensures told { Tells (IsBroken executable.now) (progress (O.contents out.old) faults.old)
+        (progress (O.contents out.new) faults.new) result }
+    ensures known { OnOk result (error.now ≢ Memory) }
+{
+    if matches!(error, Error::Memory) {
+        return Err(Failure::Memory);
+    }
+    match error_text(*faults.waiting.allocator(), error) {
+        Ok(text) => {
+            let put = put_broken(executable, text.as_str(), &mut faults.waiting);
+            pass_on(put, faults, out)
+        }
+        Err(_) => Err(Failure::Memory),
+    }
+}
+
+fn error_text(alloc: Global, error: &Error) -> Result<String, AllocError> {
+    format!(in alloc; "{error}")
+}
+
+/// Adds the line of an executable that can't be read to its end.
+#[tactic(auto, unfolding(crate::specs::Faults::broken_line))]
+fn put_broken(executable: &str, text: &str, waiting: &mut String) -> Result<(), AllocError>
+    ensures { OnOk result (string_bytes waiting.new
+        ≡ string_bytes waiting.old ++ broken_line executable.now text.now) }
+{
+    let executable = shown(*waiting.allocator(), executable)?;
+    let executable = executable.as_str();
+    let text = printed(*waiting.allocator(), text)?;
+    let text = text.as_str();
+    writeln!(waiting, "{executable}: {text}")
+}

@@ -1,0 +1,377 @@
+//! Ranges of units that overlap those of others, in `thorin check`.
+
+ghost use Rattle.std.specs.Prelude.{◌≡◌};
+ghost use Rattle.thorin_check.specs.Overlaps.{begins_inside, overlap};
+
+use dwp_base::{Contribution, SectionKind};
+use dwp_index::{PackageFile, Row, UnitEntry, UnitIndex};
+use dwp_table::{CONTRIBUTION_KINDS, DwarfObject};
+use std::alloc::{AllocError, Global};
+
+/// A section, and another unit whose range of it seems to overlap.
+pub(crate) type Clash = (SectionKind, DwarfObject);
+
+/// A range that a unit has of a section; the unit is the one of an entry.
+#[derive(Clone, Copy)]
+struct Placed {
+    offset: u64,
+    size: u64,
+    entry: usize,
+}
+
+/// The ranges that units have of a section.
+#[derive(Drop)]
+struct Column {
+    kind: SectionKind,
+    ranges: Vec<Placed>,
+}
+
+/// What the ranges of a unit have in common with those of others.
+#[derive(Clone, Copy)]
+pub(crate) struct Shares {
+    /// A range that seems to overlap that of another.
+    pub clash: Option<Clash>,
+    /// Whether another unit has the same bytes.
+    pub has_twin: bool,
+}
+
+/// What the ranges of each unit that a slot names have in common with those of others.
+#[derive(Drop)]
+pub(crate) struct Overlaps {
+    // For each entry whether another row has the range of its own bytes.
+    twins: Vec<bool>,
+    // For each entry a range that seems to overlap that of another; nothing where no row has one.
+    clashes: Vec<Option<Clash>>,
+}
+
+impl Overlaps {
+    /// Goes over the ranges of the rows that these entries name, of each section in turn: these are
+    /// read without a look-up. Where some of them overlap without being the same, it looks each
+    /// entry's unit up, and goes over the ranges of those that are found in the row of their entry:
+    /// no others count as overlapping.
+    pub(crate) fn find(
+        alloc: Global,
+        pack: &PackageFile<'_>,
+        entries: &[UnitEntry],
+    ) -> Result<Overlaps, AllocError> {
+        let mut overlaps = Overlaps {
+            twins: Vec::from_elem(alloc, false, entries.len())?,
+            clashes: Vec::new(alloc),
+        };
+        if overlaps.find_twins(alloc, pack, entries)? {
+            overlaps.find_clashes(alloc, pack, entries)?;
+        }
+        Ok(overlaps)
+    }
+
+    /// What the ranges of the unit of an entry have in common with those of others.
+    pub(crate) fn of(&self, entry: usize) -> Shares {
+        Shares {
+            clash: match self.clashes.get(entry) {
+                Some(clash) => *clash,
+                None => None,
+            },
+            has_twin: match self.twins.get(entry) {
+                Some(has_twin) => *has_twin,
+                None => false,
+            },
+        }
+    }
+
+    /// Marks each entry whose row has the range of its own bytes in common with another's. Answers
+    /// whether ranges of the rows overlap without being the same.
+    fn find_twins(
+        &mut self,
+        alloc: Global,
+        pack: &PackageFile<'_>,
+        entries: &[UnitEntry],
+    ) -> Result<bool, AllocError> {
+        let mut columns = columns_of(alloc, pack)?;
+        gather_rows(pack, entries, &mut columns)?;
+        let mut overlap = false;
+        for i in 0..columns.len() {
+            if let Some(column) = columns.get_mut(i) {
+                sort(&mut column.ranges)?;
+                overlap |= self.mark_twins(column.kind, column.ranges.as_slice());
+            }
+        }
+        Ok(overlap)
+    }
+
+    /// The same of the ranges of one section, sorted by their places.
+    fn mark_twins(&mut self, kind: SectionKind, ranges: &[Placed]) -> bool {
+        let mut overlap = false;
+        let mut farthest = 0u64;
+        let mut before: Option<Placed> = None;
+        for range in ranges {
+            match before {
+                Some(last) => {
+                    if is_same(last, *range) {
+                        self.mark_twin(kind, last.entry);
+                        self.mark_twin(kind, range.entry);
+                    } else if range.offset < farthest {
+                        overlap = true;
+                    }
+                }
+                None => {}
+            }
+            farthest = farthest.max(end(*range));
+            before = Some(*range);
+        }
+        overlap
+    }
+
+    /// Marks a unit that has the bytes of another, where the range is that of its own bytes.
+    fn mark_twin(&mut self, kind: SectionKind, entry: usize) {
+        if matches!(kind, SectionKind::Info | SectionKind::Types) {
+            if let Some(has_twin) = self.twins.get_mut(entry) {
+                *has_twin = true;
+            }
+        }
+    }
+
+    /// Marks each range of the units that are found in the row of their entry that seems to overlap
+    /// one of another.
+    fn find_clashes(
+        &mut self,
+        alloc: Global,
+        pack: &PackageFile<'_>,
+        entries: &[UnitEntry],
+    ) -> Result<(), AllocError> {
+        self.clashes.resize(entries.len(), None)?;
+        let mut columns = columns_of(alloc, pack)?;
+        for entry in 0..entries.len() {
+            gather_found(pack, entries[entry], entry, &mut columns)?;
+        }
+        self.mark_clashes(&mut columns, entries)
+    }
+
+    /// Marks each range that another seems to overlap. Sorted by their places, a range overlaps one
+    /// before it where the farthest end before is past its place, and one behind it where the next
+    /// place is before its end.
+    fn mark_clashes(
+        &mut self,
+        columns: &mut Vec<Column>,
+        entries: &[UnitEntry],
+    ) -> Result<(), AllocError> {
+        for i in 0..columns.len() {
+            if let Some(column) = columns.get_mut(i) {
+                sort(&mut column.ranges)?;
+                self.mark_earlier(column.kind, column.ranges.as_slice(), entries);
+                self.mark_later(column.kind, column.ranges.as_slice(), entries);
+            }
+        }
+        Ok(())
+    }
+
+    /// Marks each range that one before it overlaps.
+    fn mark_earlier(&mut self, kind: SectionKind, ranges: &[Placed], entries: &[UnitEntry]) {
+        let mut farthest: Option<Placed> = None;
+        let mut before: Option<Placed> = None;
+        for range in ranges {
+            if let Some(last) = before {
+                if !is_same(last, *range) {
+                    farthest = farther(farthest, last);
+                }
+            }
+            if let Some(other) = farthest {
+                if range.offset < end(other) {
+                    self.mark(kind, *range, other, entries);
+                }
+            }
+            before = Some(*range);
+        }
+    }
+
+    /// Marks each range that the next one behind it overlaps.
+    fn mark_later(&mut self, kind: SectionKind, ranges: &[Placed], entries: &[UnitEntry]) {
+        let mut next: Option<Placed> = None;
+        let mut behind: Option<Placed> = None;
+        for range in ranges.iter().rev() {
+            if let Some(last) = behind {
+                if !is_same(last, *range) {
+                    next = Some(last);
+                }
+            }
+            if let Some(other) = next {
+                if other.offset < end(*range) {
+                    self.mark(kind, *range, other, entries);
+                }
+            }
+            behind = Some(*range);
+        }
+    }
+
+    /// Marks a range that another seems to overlap; the first mark of a unit stays.
+    fn mark(&mut self, kind: SectionKind, range: Placed, other: Placed, entries: &[UnitEntry]) {
+        if let Some(clash) = self.clashes.get_mut(range.entry) {
+            if let Some(other) = entries.get(other.entry) {
+                if clash.is_none() {
+                    *clash = Some((kind, other.object));
+                }
+            }
+        }
+    }
+}
+
+/// The sections that an index of a package has a column for. No range is gathered yet.
+fn columns_of(alloc: Global, pack: &PackageFile<'_>) -> Result<Vec<Column>, AllocError> {
+    let compilations = pack.compilation_index();
+    let types = pack.type_index();
+    let mut columns = Vec::new(alloc);
+    for kind in &CONTRIBUTION_KINDS {
+        if has_column(compilations, *kind) || has_column(types, *kind) {
+            columns.push(Column {
+                kind: *kind,
+                ranges: Vec::new(alloc),
+            })?;
+        }
+    }
+    Ok(columns)
+}
+
+/// Whether an index has a column for a section.
+fn has_column(index: Option<&UnitIndex<'_>>, kind: SectionKind) -> bool {
+    match index {
+        Some(index) => index.has_column(kind),
+        None => false,
+    }
+}
+
+/// Gathers the ranges of the rows that these entries name, of the sections of these columns.
+fn gather_rows(
+    pack: &PackageFile<'_>,
+    entries: &[UnitEntry],
+    columns: &mut Vec<Column>,
+) -> Result<(), AllocError> {
+    let compilations = pack.compilation_index();
+    let types = pack.type_index();
+    for entry in 0..entries.len() {
+        let slot = entries[entry];
+        let index = match slot.object {
+            DwarfObject::Compilation(_) => compilations,
+            DwarfObject::TypeUnit(_) => types,
+        };
+        gather_row(index, slot, entry, columns)?;
+    }
+    Ok(())
+}
+
+/// Gathers the ranges of the row that a slot of an index names.
+fn gather_row(
+    index: Option<&UnitIndex<'_>>,
+    slot: UnitEntry,
+    entry: usize,
+    columns: &mut Vec<Column>,
+) -> Result<(), AllocError> {
+    if let Some(index) = index {
+        if let Ok(row) = index.row(slot.row) {
+            return gather_of(&row, entry, columns);
+        }
+    }
+    Ok(())
+}
+
+/// Gathers the ranges of the unit that a slot names, where its identifier leads to the slot's row
+/// and the unit can be read.
+fn gather_found(
+    pack: &PackageFile<'_>,
+    slot: UnitEntry,
+    entry: usize,
+    columns: &mut Vec<Column>,
+) -> Result<(), AllocError> {
+    match pack.find(slot.object) {
+        Ok(Some(unit)) => {
+            if unit.row() == slot.row {
+                gather_of(unit.ranges(), entry, columns)
+            } else {
+                Ok(())
+            }
+        }
+        _ => Ok(()),
+    }
+}
+
+/// Gathers the ranges of a row, of the sections of these columns.
+fn gather_of(row: &Row<'_>, entry: usize, columns: &mut Vec<Column>) -> Result<(), AllocError> {
+    for i in 0..columns.len() {
+        if let Some(column) = columns.get_mut(i) {
+            if let Some(range) = row.range(column.kind) {
+                column.ranges.push(Placed {
+                    offset: range.offset.0,
+                    size: range.size,
+                    entry,
+                })?;
+            }
+        }
+    }
+    Ok(())
+}
+
+/// Sorts ranges by their places, unless they are sorted: mostly rows have the order of their ranges.
+fn sort(ranges: &mut Vec<Placed>) -> Result<(), AllocError> {
+    if is_sorted(ranges.as_slice()) {
+        return Ok(());
+    }
+    ranges.sort_by_key(|range| (range.offset, range.size))
+}
+
+/// Whether ranges are sorted by their places.
+fn is_sorted(ranges: &[Placed]) -> bool {
+    let mut offset = 0u64;
+    let mut size = 0u64;
+    for range in ranges {
+        if range.offset < offset || (range.offset == offset && range.size < size) {
+            return false;
+        }
+        offset = range.offset;
+        size = range.size;
+    }
+    true
+}
+
+/// Whether two ranges are the same.
+fn is_same(a: Placed, b: Placed) -> bool {
+    a.offset == b.offset && a.size == b.size
+}
+
+/// Where a range ends.
+fn end(range: Placed) -> u64 {
+    range.offset.saturating_add(range.size)
+}
+
+/// The one of two ranges that ends behind the other.
+fn farther(first: Option<Placed>, second: Placed) -> Option<Placed> {
+    match first {
+        Some(first) => {
+            if end(second) > end(first) {
+                Some(second)
+            } else {
+                Some(first)
+            }
+        }
+        None => Some(second),
+    }
+}
+
+/// Whether two ranges of a section overlap without being the same.
+pub(crate) fn overlap(a: Option<Contribution>, b: Option<Contribution>) -> bool
+    ensures { result ≡ overlap a b }
+{
+    match (a, b) {
+        (Some(a), Some(b)) => {
+            if a.offset.0 == b.offset.0 && a.size == b.size {
+                return false;
+            }
+            begins_inside(a, b) || begins_inside(b, a)
+        }
+        _ => false,
+    }
+}
+
+/// Whether a range begins inside another.
+fn begins_inside(a: Contribution, b: Contribution) -> bool
+    ensures { result ≡ begins_inside a b }
+{
+    b.offset.0 <= a.offset.0 && a.offset.0 - b.offset.0 < b.size
+}

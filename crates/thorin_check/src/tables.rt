@@ -1,0 +1,89 @@
+//! The sections of abbreviations and of strings, and the rows of a package, in `thorin check`.
+
+ghost use Rattle.std.specs.Prelude.{◌≡◌, ◌++◌, OnOk, string_bytes};
+ghost use Rattle.thorin_check.specs.Checking.{lacks_abbreviations, lacks_strings, lacking_line};
+ghost use Rattle.thorin_check.specs.Checking.{lacking_lines, TellsTables};
+ghost use Rattle.thorin_check.specs.Faults.{has_abbreviations};
+ghost use Rattle.thorin_check.specs.Telling.{progress, Tells, Is};
+
+use crate::checking::Opened;
+use crate::faults::{Faults, pass_on};
+use crate::rows::check_indexes;
+use dwp_base::SectionKind;
+use dwp_index::{PackageFile, UnitEntry};
+use std::alloc::AllocError;
+use std::io::Write;
+use thorin_print::Failure;
+
+/// Whether a package has abbreviations.
+pub(crate) fn has_abbreviations(pack: &PackageFile<'_>) -> bool
+    ensures { result ≡ has_abbreviations pack.now }
+{
+    !pack.content(SectionKind::Abbrev).is_empty()
+}
+
+/// Whether a package that has units has no section of abbreviations, or an empty one.
+fn lacks_abbreviations(pack: &PackageFile<'_>, entries: &[UnitEntry]) -> bool
+    ensures { result ≡ lacks_abbreviations pack.now entries.now }
+{
+    !entries.is_empty() && pack.content(SectionKind::Abbrev).is_empty()
+}
+
+/// Whether a package that has string offsets has no section of strings, or an empty one.
+fn lacks_strings(pack: &PackageFile<'_>) -> bool
+    ensures { result ≡ lacks_strings pack.now }
+{
+    if pack.content(SectionKind::StrOffsets).is_empty() {
+        return false;
+    }
+    pack.content(SectionKind::Str).is_empty()
+}
+
+/// The sections of abbreviations and of strings aren't lacking, and a slot names each row of both
+/// indexes.
+pub(crate) fn check_tables<O: Write>(
+    opened: Opened<'_, '_>,
+    faults: &mut Faults,
+    out: &mut O,
+) -> Result<(), Failure>
+    ensures { Tells (TellsTables (lacks_abbreviations opened.entry.pack.now opened.entry.entries.now)
+        (lacks_strings opened.entry.pack.now)) (progress (O.contents out.old) faults.old)
+        (progress (O.contents out.new) faults.new) result }
+{
+    let no_abbreviations = lacks_abbreviations(opened.pack, opened.entries);
+    let no_strings = lacks_strings(opened.pack);
+    match check_section(SectionKind::Abbrev, no_abbreviations, faults, out) {
+        Ok(()) => match check_section(SectionKind::Str, no_strings, faults, out) {
+            Ok(()) => check_indexes(opened.pack, opened.entries, faults, out),
+            Err(failure) => Err(failure),
+        },
+        Err(failure) => Err(failure),
+    }
+}
+
+/// Tells that a section is lacking, where it is.
+#[tactic(auto, using(crate::proofs::Told::none_told, crate::proofs::Told::passed))]
+fn check_section<O: Write>(
+    kind: SectionKind,
+    lacks: bool,
+    faults: &mut Faults,
+    out: &mut O,
+) -> Result<(), Failure>
+    ensures { Tells (Is (lacking_lines kind lacks)) (progress (O.contents out.old) faults.old)
+        (progress (O.contents out.new) faults.new) result }
+{
+    if !lacks {
+        return Ok(());
+    }
+    let put = put_lacking(kind, &mut faults.waiting);
+    pass_on(put, faults, out)
+}
+
+/// Adds the line of a package that lacks a section.
+fn put_lacking(kind: SectionKind, waiting: &mut String) -> Result<(), AllocError>
+    ensures { OnOk result (string_bytes waiting.new
+        ≡ string_bytes waiting.old ++ lacking_line kind) }
+{
+    let name = kind.name();
+    writeln!(waiting, "{name} is empty or absent")
+}

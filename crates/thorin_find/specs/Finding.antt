@@ -1,0 +1,254 @@
+-- What `find` prints.
+use Rattle.std.specs.Prelude.{◌≡◌, ◌≢◌, ◌⊎◌, ◌<◌, ◌^◌, ◌==◌, ℕ, Bool, true, false, List, [], ◌++◌}
+use Rattle.std.specs.Prelude.{codes, length, Option, Some, None, Result, Ok, Err, if◌then◌else◌}
+use Rattle.std.specs.Fmt.{decimal}
+use Rattle.std.specs.List.{flat_map}
+use Rattle.std.specs.Option.{option_copied}
+use Rattle.std.specs.Str.Parse.{digits_value, IsNumeral}
+use Rattle.std.specs.Io.KnownBytes.{Keeps}
+use Rattle.dwp_base.specs.declared.section.SectionKind.{SectionKind}
+use Rattle.dwp_base.specs.Sections.{short_name}
+use Rattle.dwp_base.specs.declared.section.SectionKind.TheVariants.{StrOffsets, Str}
+use Rattle.dwp_base.specs.declared.section.Contribution.{Contribution}
+use Rattle.dwp_bytes.specs.StringOffsets.{entry_count, string_in}
+use Rattle.dwp_bytes.specs.declared.encoding.Encoding.{Encoding}
+use Rattle.dwp_bytes.specs.declared.encoding.Format.{Format}
+use Rattle.dwp_bytes.specs.declared.encoding.Format.TheVariants.{Dwarf32, Dwarf64}
+use Rattle.dwp_bytes.specs.declared.error.ReadError.{ReadError}
+use Rattle.dwp_index.specs.Index.{range_in}
+use Rattle.dwp_index.specs.Package.{Package, FoundUnit, package_of, found_counted, row_bytes}
+use Rattle.dwp_index.specs.declared.error.PackageError.{PackageError}
+use Rattle.dwp_table.specs.Columns.{contribution_kinds}
+use Rattle.dwp_table.specs.Objects.{identifier_of}
+use Rattle.dwp_table.specs.declared.object.DwarfObject.{DwarfObject}
+use Rattle.dwp_table.specs.declared.object.DwarfObject.TheVariants.{Compilation, TypeUnit}
+use Rattle.thorin_words.specs.Identifiers.{IsIdentifier}
+use Rattle.thorin_print.specs.Answers.{Answer, refused}
+use Rattle.thorin_find.specs.Files.{Offer, Reads}
+use Rattle.thorin_print.specs.Lines.{hex, hex16, line_end}
+use Rattle.thorin_find.specs.Lines.{short_kind}
+use Rattle.thorin_print.specs.Spelled.{spelled, spelled_or}
+use Rattle.thorin_find.specs.declared.wanted.FindWords.{FindWords}
+use Rattle.thorin_find.specs.declared.wanted.Sought.{Sought}
+use Rattle.thorin_find.specs.declared.wanted.Wanted.{Wanted}
+use Rattle.thorin_find.specs.declared.wanted.Wanted.TheVariants.{Printed, Bytes}
+use Rattle.thorin_find.specs.declared.wanted.Printing.TheVariants.{AllOf, StringOf}
+use Rattle.thorin_print.specs.declared.output.Failure.{Failure}
+use Rattle.thorin_print.specs.declared.output.Failure.TheVariants as failures
+use Rattle.dwp_index.specs.Contents.{content}
+
+-- ---- the unit that is asked for
+
+-- the digits of an identifier: what stands behind `0x`, or all of it where it doesn't begin so
+abbrev pub HasDigits : (text digits : List ℕ) → Type 0
+HasDigits text digits = (text ≡ codes "0x" ++ digits)
+    ⊎ (((rest : List ℕ) → text ≢ codes "0x" ++ rest) × (digits ≡ text))
+
+-- a text writes an identifier
+pub record Writes (text : List ℕ) (n : ℕ) : Type 0 where
+  pub digits : List ℕ
+  pub has : HasDigits text digits
+  pub is : IsIdentifier digits
+  pub value : n ≡ digits_value 16 digits
+
+-- it writes none
+pub record WritesNone (text : List ℕ) : Type 0 where
+  pub digits : List ℕ
+  pub has : HasDigits text digits
+  pub is_none : ¬ (IsIdentifier digits)
+
+-- which unit a kind and an identifier ask for; the kind is tested first
+abbrev pub Asks : (kind id : List ℕ) → Result DwarfObject Failure → Type 0
+Asks kind id (Ok (Compilation n)) = (kind ≡ codes "cu") × Writes id n.0
+Asks kind id (Ok (TypeUnit n)) = (kind ≡ codes "tu") × Writes id n.0
+Asks kind id (Err failures.BadKind) = (kind ≢ codes "cu") × (kind ≢ codes "tu")
+Asks kind id (Err failures.BadIdentifier) =
+    ((kind ≡ codes "cu") ⊎ (kind ≡ codes "tu")) × WritesNone id
+Asks kind id (Err _) = ⊥
+
+-- ---- what is asked of it
+
+-- a text writes the number of a string: decimal digits of a number of 64 bits
+abbrev pub IsNumber : List ℕ → Type 0
+IsNumber text = IsNumeral 10 text × (digits_value 10 text < 2 ^ 64)
+
+abbrev pub AsksString : List ℕ → Result Wanted Failure → Type 0
+AsksString text (Ok (Printed (StringOf n))) = IsNumber text × (n ≡ digits_value 10 text)
+AsksString text (Err failures.BadNumber) = ¬ (IsNumber text)
+AsksString text _ = ⊥
+
+-- a text is the short name of a kind of section
+abbrev pub AsksSection : List ℕ → Result Wanted Failure → Type 0
+AsksSection text (Ok (Bytes kind)) = text ≡ short_name kind
+AsksSection text (Err failures.BadSection) = (kind : SectionKind) → text ≢ short_name kind
+AsksSection text _ = ⊥
+
+-- what is asked for: a string, a section's bytes, or all that is told of a unit
+abbrev pub AsksFor : (string section : Option (List ℕ)) → Result Wanted Failure → Type 0
+AsksFor (Some text) section wanted = AsksString text wanted
+AsksFor None (Some text) wanted = AsksSection text wanted
+AsksFor None None wanted = wanted ≡ Ok (Printed AllOf)
+
+-- ---- what is printed of it
+
+-- how many bits an offset has
+abbrev pub width : Format → ℕ
+width Dwarf32 = 32
+width Dwarf64 = 64
+
+-- the line of a unit's encoding
+unfoldable pub encoding_line : DwarfObject → Encoding → List ℕ
+encoding_line object encoding =
+    short_kind object ++ (codes " 0x" ++ (hex16 (identifier_of object)
+    ++ (codes " version " ++ (decimal encoding.version
+    ++ (codes " format " ++ (decimal (width encoding.format)
+    ++ (codes " address " ++ (decimal encoding.address_size ++ line_end))))))))
+
+-- a range, where it begins in its section, and its size: on a line, or in JSON (RFC 8259) by the
+-- short name of its section
+abbrev pub range_text : (as_json : Bool) → SectionKind → Option Contribution → List ℕ
+range_text as_json kind None = []
+range_text false kind (Some range) =
+    short_name kind ++ (codes " 0x" ++ (hex range.offset.0
+    ++ (codes " 0x" ++ (hex range.size ++ line_end))))
+range_text true kind (Some range) = codes ",\"" ++ (short_name kind ++ (codes "\":{\"offset\":"
+    ++ (decimal range.offset.0 ++ (codes ",\"size\":" ++ (decimal range.size ++ codes "}")))))
+
+-- a unit's ranges, in the order of columns
+unfoldable pub range_texts : (as_json : Bool) → FoundUnit → List ℕ
+range_texts as_json unit =
+    flat_map (λ kind. range_text as_json kind (range_in unit.row kind)) contribution_kinds
+
+-- how many strings a unit has, by its string offsets
+unfoldable pub string_count : FoundUnit → ℕ
+string_count unit =
+    entry_count unit.encoding (length (row_bytes unit.contents unit.row StrOffsets))
+
+-- a unit's string of a number
+abbrev pub string_of : FoundUnit → ℕ → Result (Option (List ℕ)) ReadError
+string_of unit i = string_in unit.order unit.encoding (content unit.contents Str)
+    (row_bytes unit.contents unit.row StrOffsets) i
+
+-- the numbers of a unit's strings and of slots: on lines, or as the end of an object
+abbrev pub counts_text : (as_json : Bool) → (strings slots : ℕ) → List ℕ
+counts_text false strings slots = codes "strings " ++ (decimal strings
+    ++ (codes "\nslots " ++ (decimal slots ++ line_end)))
+counts_text true strings slots = codes ",\"strings\":" ++ (decimal strings
+    ++ (codes ",\"slots\":" ++ (decimal slots ++ (codes "}" ++ line_end))))
+
+-- the beginning of a JSON object, up to the unit's encoding
+unfoldable pub json_encoding : DwarfObject → Encoding → List ℕ
+json_encoding object encoding =
+    codes "{\"kind\":\"" ++ (short_kind object
+    ++ (codes "\",\"id\":\"0x" ++ (hex16 (identifier_of object)
+    ++ (codes "\",\"version\":" ++ (decimal encoding.version
+    ++ (codes ",\"format\":" ++ (decimal (width encoding.format)
+    ++ (codes ",\"address\":" ++ decimal encoding.address_size))))))))
+
+abbrev pub encoding_text : (as_json : Bool) → DwarfObject → Encoding → List ℕ
+encoding_text false = encoding_line
+encoding_text true = json_encoding
+
+-- all that is printed of a unit for which so many slots were looked at
+unfoldable pub all_text : (as_json : Bool) → DwarfObject → FoundUnit → (slots : ℕ) → List ℕ
+all_text as_json object unit slots = encoding_text as_json object unit.encoding
+    ++ range_texts as_json unit ++ counts_text as_json (string_count unit) slots
+
+-- the line of a string
+abbrev pub string_line : (as_json : Bool) → List ℕ → List ℕ
+string_line false string = spelled false string ++ line_end
+string_line true string =
+    codes "{\"string\":" ++ (spelled_or true (Some string) ++ (codes "}" ++ line_end))
+
+-- ---- what comes of it
+
+-- a string that can be read; past the last there is none
+abbrev pub string_answer : (as_json : Bool) → ℕ → Result (Option (List ℕ)) ReadError → Answer
+string_answer as_json i (Ok (Some string)) =
+    record { printed = string_line as_json string; answer = Ok 0 }
+string_answer as_json i (Ok None) = refused (failures.NoString i)
+string_answer as_json i (Err cause) = refused failures.Malformed
+
+-- the bytes of a section as they are, where there are any
+abbrev pub bytes_answer : SectionKind → List ℕ → Answer
+bytes_answer kind bytes = if length bytes == 0 then refused (failures.NoRange kind)
+    else record { printed = bytes; answer = Ok 0 }
+
+-- what is wanted of a unit
+abbrev pub wanted_answer : (as_json : Bool) → Wanted → DwarfObject → FoundUnit → (slots : ℕ)
+    → Answer
+wanted_answer as_json (Printed AllOf) object unit slots =
+    record { printed = all_text as_json object unit slots; answer = Ok 0 }
+wanted_answer as_json (Printed (StringOf i)) object unit slots =
+    string_answer as_json i (string_of unit i)
+wanted_answer as_json (Bytes kind) object unit slots =
+    bytes_answer kind (row_bytes unit.contents unit.row kind)
+
+abbrev pub found_answer : (as_json : Bool) → Wanted → DwarfObject
+    → Result (Option FoundUnit × ℕ) PackageError → Answer
+found_answer as_json wanted object (Err cause) = refused failures.Malformed
+found_answer as_json wanted object (Ok (None, slots)) =
+    refused (failures.NoUnit (identifier_of object))
+found_answer as_json wanted object (Ok (Some unit, slots)) =
+    wanted_answer as_json wanted object unit slots
+
+abbrev pub answer_in : (as_json : Bool) → Wanted → DwarfObject → Result Package PackageError
+    → Answer
+answer_in as_json wanted object (Err cause) = refused failures.Malformed
+answer_in as_json wanted object (Ok pack) =
+    found_answer as_json wanted object (found_counted pack object)
+
+-- what `find` comes to for a unit, over the bytes of a file
+unfoldable pub find_answer : (as_json : Bool) → Wanted → DwarfObject → List ℕ → Answer
+find_answer as_json wanted object bytes = answer_in as_json wanted object (package_of bytes)
+
+abbrev pub FindsWanted : Offer → (path : List ℕ) → (as_json : Bool)
+    → (old new : Option (List ℕ)) → DwarfObject → Result Wanted Failure → Result ℕ Failure → Type 0
+FindsWanted offer path as_json old new object (Ok wanted) result =
+    Reads offer path (find_answer as_json wanted object) old new result
+FindsWanted offer path as_json old new object (Err failure) result =
+    (result ≡ Err failure) × Keeps old new
+
+abbrev pub FindsAsked : Offer → (path : List ℕ) → (as_json : Bool)
+    → (old new : Option (List ℕ)) → Result DwarfObject Failure → Result Wanted Failure
+    → Result ℕ Failure → Type 0
+FindsAsked offer path as_json old new (Ok object) wanted result =
+    FindsWanted offer path as_json old new object wanted result
+FindsAsked offer path as_json old new (Err failure) wanted result =
+    (result ≡ Err failure) × Keeps old new
+
+-- what words ask for: the unit's are tested first
+abbrev pub Seeks : (as_json : Bool) → Result DwarfObject Failure → Result Wanted Failure
+    → Result Sought Failure → Type 0
+Seeks as_json (Ok object) (Ok wanted) result =
+    result ≡ Ok (record { object = object; wanted = wanted; as_json = as_json })
+Seeks as_json (Ok object) (Err failure) result = result ≡ Err failure
+Seeks as_json (Err failure) wanted result = result ≡ Err failure
+
+-- the words that ask for a unit, and for something of it
+pub record Words : Type 0 where
+  pub kind : List ℕ
+  pub id : List ℕ
+  pub string : Option (List ℕ)
+  pub section : Option (List ℕ)
+  pub as_json : Bool
+
+-- those at hand
+abbrev pub words_of : FindWords → Words
+words_of asked = record {
+  kind = asked.kind.now;
+  id = asked.id.now;
+  string = option_copied asked.form.string;
+  section = option_copied asked.form.section;
+  as_json = asked.form.json;
+}
+
+-- `find`: the words ask for a unit, and for something of it, and the file at the path is read for
+-- it; or they ask for none, the unit's words tested first, and nothing is printed
+pub record Finds (offer : Offer) (path : List ℕ) (words : Words) (old new : Option (List ℕ))
+    (result : Result ℕ Failure) : Type 0 where
+  pub asked : Result DwarfObject Failure
+  pub asks : Asks words.kind words.id asked
+  pub wanted : Result Wanted Failure
+  pub wants : AsksFor words.string words.section wanted
+  pub finds : FindsAsked offer path words.as_json old new asked wanted result

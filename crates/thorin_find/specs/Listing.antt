@@ -1,0 +1,193 @@
+-- What `list` prints.
+use Rattle.std.specs.Prelude.{◌≡◌, ◌⊎◌, ℕ, ◌+◌, ◌^◌, Bool, true, false, List, [], ◌∷◌, ◌++◌, codes}
+use Rattle.std.specs.Prelude.{length, Option, Some, None, Result, Ok, Err, ◌==◌, if◌then◌else◌}
+use Rattle.std.specs.Prelude.{◌&&◌, is_none}
+use Rattle.std.specs.Fmt.{decimal}
+use Rattle.std.specs.List.{flat_map}
+use Rattle.std.specs.List.Sorted.{IsPermutation, IsSortedByKey, IsStableByKey}
+use Rattle.std.specs.Ordering.{nat_cmp}
+use Rattle.std.specs.Io.KnownBytes.{Keeps}
+use Rattle.dwp_base.specs.declared.endian.Endianness.{Endianness}
+use Rattle.dwp_base.specs.Sections.{short_name}
+use Rattle.dwp_base.specs.declared.section.SectionKind.{SectionKind}
+use Rattle.dwp_base.specs.declared.section.Contribution.{Contribution}
+use Rattle.dwp_index.specs.Entries.{entries_from}
+use Rattle.dwp_index.specs.Index.{range_in}
+use Rattle.dwp_index.specs.Package.{Package, FoundUnit, package_of, found}
+use Rattle.dwp_index.specs.declared.error.PackageError.{PackageError}
+use Rattle.dwp_index.specs.declared.units.UnitEntry.{UnitEntry}
+use Rattle.dwp_table.specs.Columns.{contribution_kinds}
+use Rattle.dwp_table.specs.Objects.{identifier_of}
+use Rattle.dwp_table.specs.declared.object.DwarfObject.{DwarfObject}
+use Rattle.dwp_table.specs.declared.object.DwarfObject.TheVariants.{Compilation, TypeUnit}
+use Rattle.thorin_print.specs.Answers.{Answer, refused, Comes}
+use Rattle.thorin_find.specs.Files.{Offer, RefusesFile}
+use Rattle.thorin_find.specs.Names.{source_name, object_name}
+use Rattle.thorin_print.specs.Spelled.{spelled_or}
+use Rattle.thorin_find.specs.declared.listing.ListForm.{ListForm}
+use Rattle.thorin_print.specs.Lines.{hex16, line_end}
+use Rattle.thorin_find.specs.Lines.{short_kind}
+use Rattle.thorin_print.specs.declared.output.Failure.{Failure}
+use Rattle.thorin_print.specs.declared.output.Failure.TheVariants as failures
+use Rattle.dwp_index.specs.Contents.{content}
+use Rattle.dwp_base.specs.declared.section.SectionKind.TheVariants.{Str}
+
+-- ---- indexes
+
+-- a package has no index of either kind
+abbrev pub has_no_index : Package → Bool
+has_no_index pack = is_none pack.compilations && is_none pack.types
+
+-- ---- the order of lines
+
+-- compilation units by row, then type units by row
+abbrev pub place_by : DwarfObject → ℕ → ℕ
+place_by (Compilation id) row = row
+place_by (TypeUnit signature) row = 2 ^ 32 + row
+
+abbrev pub place_of_line : UnitEntry → ℕ
+place_of_line entry = place_by entry.object entry.row
+
+-- what the slots of a package name, in the order of lines; those of one row in order of slot
+pub record AreByRow (pack : Package) (entries : List UnitEntry) : Type 0 where
+  pub all : IsPermutation (entries_from pack.compilations pack.types 0 0) entries
+  pub by_row : IsSortedByKey place_of_line nat_cmp entries
+  pub by_slot : IsStableByKey place_of_line nat_cmp (entries_from pack.compilations pack.types 0 0)
+      entries
+
+-- ---- the line of a unit
+
+-- what lines are made from: what they are to have, and a package's byte order and strings
+pub record ListView : Type 0 where
+  pub form : ListForm
+  pub order : Endianness
+  pub strings : List ℕ
+
+-- the strings that a package has
+abbrev pub view_of : ListForm → Package → ListView
+view_of form pack =
+    record { form = form; order = pack.order; strings = content pack.contents Str }
+
+-- the size of a range, behind the short name of its section
+abbrev pub range_size : (as_json : Bool) → SectionKind → Option Contribution → List ℕ
+range_size as_json kind None = []
+range_size false kind (Some range) =
+    codes " " ++ (short_name kind ++ (codes " " ++ decimal range.size))
+range_size true kind (Some range) =
+    codes ",\"" ++ (short_name kind ++ (codes "\":" ++ decimal range.size))
+
+unfoldable pub range_sizes : (as_json : Bool) → FoundUnit → List ℕ
+range_sizes as_json unit =
+    flat_map (λ kind. range_size as_json kind (range_in unit.row kind)) contribution_kinds
+
+-- a unit's kind, its identifier and the size of its bytes
+unfoldable pub unit_front : DwarfObject → FoundUnit → List ℕ
+unit_front object unit =
+    short_kind object ++ (codes " 0x" ++ (hex16 (identifier_of object)
+    ++ (codes " " ++ decimal (length unit.bytes))))
+
+-- the same as the beginning of a JSON object (RFC 8259)
+unfoldable pub json_front : DwarfObject → FoundUnit → List ℕ
+json_front object unit =
+    codes "{\"kind\":\"" ++ (short_kind object ++ (codes "\",\"id\":\"0x"
+    ++ (hex16 (identifier_of object) ++ (codes "\",\"size\":" ++ decimal (length unit.bytes)))))
+
+abbrev pub front_of : (as_json : Bool) → DwarfObject → FoundUnit → List ℕ
+front_of false object unit = unit_front object unit
+front_of true object unit = json_front object unit
+
+-- the names of a unit's source and of its object; plain ones stand behind tabs, which no name has
+-- as it is spelled
+abbrev pub named_by : (as_json : Bool) → (source object : Option (List ℕ)) → List ℕ
+named_by false source object =
+    codes "\t" ++ (spelled_or false source ++ (codes "\t" ++ spelled_or false object))
+named_by true source object = codes ",\"name\":" ++ (spelled_or true source
+    ++ (codes ",\"dwo_name\":" ++ spelled_or true object))
+
+unfoldable pub unit_names : ListView → DwarfObject → FoundUnit → List ℕ
+unit_names view object unit =
+    named_by view.form.json (source_name view.order view.strings object unit)
+    (object_name view.order view.strings object unit)
+
+abbrev pub end_of : (as_json : Bool) → List ℕ
+end_of false = line_end
+end_of true = codes "}" ++ line_end
+
+-- the line of a unit; the sizes of its ranges and its names stand in it where these are asked for
+unfoldable pub unit_line : ListView → DwarfObject → FoundUnit → List ℕ
+unit_line view object unit = front_of view.form.json object unit
+    ++ (if view.form.sizes then range_sizes view.form.json unit else [])
+    ++ (if view.form.names then unit_names view object unit else []) ++ end_of view.form.json
+
+-- the line for a slot: that of the unit which is found under its identifier, if that is the one of
+-- the slot's row; no line, if another or none is found
+abbrev pub slot_line : (view : ListView) → UnitEntry → Option FoundUnit → List ℕ
+slot_line view entry None = []
+slot_line view entry (Some unit) =
+    if unit.number == entry.row then unit_line view entry.object unit else []
+
+-- ---- all lines
+
+-- the lines of these slots, up to the first whose unit can't be looked up; and whether there is
+-- none such
+pub record Lines : Type 0 where
+  pub printed : List ℕ
+  pub is_all : Bool
+
+abbrev pub behind_line : (view : ListView) → UnitEntry → Result (Option FoundUnit) PackageError
+    → Lines → Lines
+behind_line view entry (Err cause) lines = record { printed = []; is_all = false }
+behind_line view entry (Ok unit) lines = record {
+  printed = slot_line view entry unit ++ lines.printed;
+  is_all = lines.is_all;
+}
+
+abbrev pub lines_of : (view : ListView) → Package → List UnitEntry → Lines
+lines_of view pack [] = record { printed = []; is_all = true }
+lines_of view pack (entry ∷ entries) =
+    behind_line view entry (found pack entry.object) (lines_of view pack entries)
+
+-- where a unit was looked up, its line is added, and else nothing
+abbrev pub AddsLine : (view : ListView) → UnitEntry → Result (Option FoundUnit) PackageError
+    → (old new : List ℕ) → Bool → Type 0
+AddsLine view entry (Err cause) old new is_found = (is_found ≡ false) × (new ≡ old)
+AddsLine view entry (Ok unit) old new is_found =
+    (is_found ≡ true) × (new ≡ old ++ slot_line view entry unit)
+
+-- ---- what comes of it
+
+-- the answer once such lines are printed; totals stand behind them, where sizes are asked for
+abbrev pub after_lines : Lines → (totals : List ℕ) → Answer
+after_lines lines totals = if lines.is_all
+    then record { printed = lines.printed ++ totals; answer = Ok 0 }
+    else record { printed = lines.printed; answer = Err failures.Malformed }
+
+-- that is meant, with some totals; there are none where sizes aren't asked for
+pub record IsListed (form : ListForm) (lines : Lines) (meant : Answer) : Type 0 where
+  pub totals : List ℕ
+  pub no_totals : form.sizes ≡ false → totals ≡ []
+  pub is : after_lines lines totals ≡ meant
+
+-- `list`, where the bytes of a file are a package
+pub record ListsPackage (form : ListForm) (pack : Package) (old new : Option (List ℕ))
+    (result : Result ℕ Failure) : Type 0 where
+  pub entries : List UnitEntry
+  pub by_row : AreByRow pack entries
+  pub meant : Answer
+  pub listed : IsListed form (lines_of (view_of form pack) pack entries) meant
+  pub comes : Comes result meant old new
+
+-- the same for what the bytes are: where they are no package, that is answered
+abbrev pub ListsBytes : (form : ListForm) → Result Package PackageError
+    → (old new : Option (List ℕ)) → Result ℕ Failure → Type 0
+ListsBytes form (Err cause) old new result = Comes result (refused failures.Malformed) old new
+ListsBytes form (Ok pack) old new result = ListsPackage form pack old new result
+
+-- `list`: the file at the path was read and listed; or it can't be read, or there is no memory to
+-- do so, and nothing was printed
+unfoldable pub Lists : Offer → (path : List ℕ) → (form : ListForm)
+    → (old new : Option (List ℕ)) → Result ℕ Failure → Type 0
+Lists offer path form old new result =
+    ((bytes : List ℕ) × offer path (Ok bytes)
+    × ListsBytes form (package_of bytes) old new result)
+    ⊎ (RefusesFile offer path result × Keeps old new)

@@ -1,0 +1,170 @@
+//! What `thorin find` tells of a unit, plain and in JSON.
+
+ghost use Rattle.std.specs.Prelude.{◌≡◌, ◌++◌, OnOk, string_bytes, codes};
+ghost use Rattle.std.specs.Fmt.{decimal};
+ghost use Rattle.thorin_find.specs.Finding.{width, encoding_line, json_encoding, range_text};
+ghost use Rattle.thorin_find.specs.Finding.{range_texts, counts_text, all_text};
+ghost use Rattle.thorin_find.specs.Json.{json_unit, json_numbers};
+ghost use Rattle.thorin_print.specs.Lines.{hex, line_end};
+
+use crate::finding::{put_object, short_kind, string_count};
+use dwp_base::{Contribution, SectionKind};
+use dwp_bytes::{Encoding, Format};
+use dwp_index::PackagedUnit;
+use dwp_table::{Bucketable, CONTRIBUTION_KINDS, DwarfObject};
+use std::alloc::AllocError;
+
+/// Adds all that is told of a unit: in lines, or as a JSON object.
+#[tactic(auto, unfolding(crate::specs::Finding::all_text))]
+pub(crate) fn put_all(
+    object: DwarfObject,
+    unit: &PackagedUnit<'_>,
+    slots: u32,
+    as_json: bool,
+    text: &mut String,
+) -> Result<(), AllocError>
+    ensures { OnOk result (string_bytes text.new
+        ≡ string_bytes text.old ++ all_text as_json object unit.now slots) }
+{
+    if as_json {
+        put_json_encoding(object, unit.encoding(), text)?;
+    } else {
+        put_encoding(object, unit.encoding(), text)?;
+    }
+    put_ranges(unit, as_json, text)?;
+    put_counts(string_count(unit), slots, as_json, text)
+}
+
+/// Adds the line of a unit's encoding.
+#[tactic(auto, unfolding(crate::specs::Finding::encoding_line))]
+fn put_encoding(
+    object: DwarfObject,
+    encoding: Encoding,
+    text: &mut String,
+) -> Result<(), AllocError>
+    ensures { OnOk result (string_bytes text.new
+        ≡ string_bytes text.old ++ encoding_line object encoding) }
+{
+    put_object(object, text)?;
+    let version = encoding.version;
+    let width = width(encoding.format);
+    let address = encoding.address_size;
+    writeln!(text, " version {version} format {width} address {address}")
+}
+
+/// How many bits an offset has.
+fn width(format: Format) -> u8
+    ensures { result ≡ width format }
+{
+    match format {
+        Format::Dwarf32 => 32,
+        Format::Dwarf64 => 64,
+    }
+}
+
+/// Adds the beginning of the object, up to the unit's encoding.
+#[tactic(auto, unfolding(crate::specs::Json::json_unit, crate::specs::Json::json_numbers, crate::specs::Finding::json_encoding))]
+fn put_json_encoding(
+    object: DwarfObject,
+    encoding: Encoding,
+    text: &mut String,
+) -> Result<(), AllocError>
+    ensures { OnOk result (string_bytes text.new
+        ≡ string_bytes text.old ++ json_encoding object encoding) }
+{
+    put_json_unit(object, text)?;
+    put_json_numbers(encoding, text)
+}
+
+/// Adds the numbers of a unit's encoding.
+#[tactic(auto, unfolding(crate::specs::Json::json_numbers))]
+fn put_json_numbers(encoding: Encoding, text: &mut String) -> Result<(), AllocError>
+    ensures { OnOk result (string_bytes text.new
+        ≡ string_bytes text.old ++ json_numbers encoding) }
+{
+    let version = encoding.version;
+    let width = width(encoding.format);
+    let address = encoding.address_size;
+    write!(
+        text,
+        "\",\"version\":{version},\"format\":{width},\"address\":{address}"
+    )
+}
+
+/// Adds the beginning of the object, up to the unit's identifier.
+#[tactic(auto, using(thorin_print::proofs::Hex::hex16_written), unfolding(crate::specs::Json::json_unit))]
+pub(crate) fn put_json_unit(object: DwarfObject, text: &mut String) -> Result<(), AllocError>
+    ensures { OnOk result (string_bytes text.new
+        ≡ string_bytes text.old ++ json_unit object) }
+{
+    let kind = short_kind(object);
+    let id = object.index();
+    write!(text, "{{\"kind\":\"{kind}\",\"id\":\"0x{id:016x}")
+}
+
+/// Adds each range that a unit has of a section.
+#[tactic(auto, unfolding(crate::specs::Finding::range_texts))]
+fn put_ranges(unit: &PackagedUnit<'_>, as_json: bool, text: &mut String) -> Result<(), AllocError>
+    ensures { OnOk result (string_bytes text.new
+        ≡ string_bytes text.old ++ range_texts as_json unit.now) }
+{
+    for kind in &CONTRIBUTION_KINDS {
+        put_range(*kind, unit.range(*kind), as_json, text)?;
+    }
+    Ok(())
+}
+
+/// Adds a range, where there is one.
+fn put_range(
+    kind: SectionKind,
+    range: Option<Contribution>,
+    as_json: bool,
+    text: &mut String,
+) -> Result<(), AllocError>
+    ensures { OnOk result (string_bytes text.new
+        ≡ string_bytes text.old ++ range_text as_json kind range) }
+{
+    let Some(range) = range else {
+        return Ok(());
+    };
+    let name = kind.short_name();
+    if as_json {
+        put_json_range(name, range, text)
+    } else {
+        put_plain_range(name, range, text)
+    }
+}
+
+/// Adds a range of a section of a name to an object.
+fn put_json_range(name: &str, range: Contribution, text: &mut String) -> Result<(), AllocError>
+    ensures { OnOk result (string_bytes text.new ≡ string_bytes text.old
+        ++ (codes ",\"" ++ (name.now ++ (codes "\":{\"offset\":" ++ (decimal range.offset.0
+        ++ (codes ",\"size\":" ++ (decimal range.size ++ codes "}"))))))) }
+{
+    let offset = range.offset.0;
+    let size = range.size;
+    write!(text, ",\"{name}\":{{\"offset\":{offset},\"size\":{size}}}")
+}
+
+/// Adds the line of a range of a section of a name.
+fn put_plain_range(name: &str, range: Contribution, text: &mut String) -> Result<(), AllocError>
+    ensures { OnOk result (string_bytes text.new ≡ string_bytes text.old
+        ++ (name.now ++ (codes " 0x" ++ (hex range.offset.0
+        ++ (codes " 0x" ++ (hex range.size ++ line_end)))))) }
+{
+    let offset = range.offset.0;
+    let size = range.size;
+    writeln!(text, "{name} 0x{offset:x} 0x{size:x}")
+}
+
+/// Adds the numbers of a unit's strings and of slots: in lines, or as the end of the object.
+fn put_counts(strings: u64, slots: u32, as_json: bool, text: &mut String) -> Result<(), AllocError>
+    ensures { OnOk result (string_bytes text.new
+        ≡ string_bytes text.old ++ counts_text as_json strings slots) }
+{
+    if as_json {
+        writeln!(text, ",\"strings\":{strings},\"slots\":{slots}}}")
+    } else {
+        writeln!(text, "strings {strings}\nslots {slots}")
+    }
+}

@@ -1,0 +1,363 @@
+//! `thorin list`.
+
+ghost use Rattle.std.specs.Prelude.{◌≡◌, ◌++◌, [], IfOk, OnOk, string_bytes};
+ghost use Rattle.std.specs.Option.{option_copied};
+ghost use Rattle.dwp_index.specs.Entries.{entries_from};
+ghost use Rattle.dwp_index.specs.Package.{package_of, found};
+ghost use Rattle.thorin_find.specs.Files.{anything, OrNoMemory};
+ghost use Rattle.thorin_find.specs.Listing.{place_by, AreByRow, range_size, range_sizes};
+ghost use Rattle.thorin_find.specs.Listing.{front_of, named_by, unit_names, end_of, view_of};
+ghost use Rattle.thorin_find.specs.Listing.{unit_line, AddsLine, lines_of, IsListed};
+ghost use Rattle.thorin_find.specs.Listing.{ListsPackage, ListsBytes, Lists};
+
+use crate::describing::put_json_unit;
+use crate::files::{FileReader, HostReader, read_named};
+use crate::finding::put_object;
+use crate::names::Strings;
+use crate::sizes::Sizes;
+use dwp_base::{Contribution, SectionKind};
+use dwp_index::{PackageFile, PackagedUnit, UnitEntry};
+use dwp_table::{CONTRIBUTION_KINDS, DwarfObject};
+use std::alloc::{AllocError, Global};
+use std::io::Write;
+use thorin_print::{Failure, answer, put_spelled_or};
+
+/// What the lines of a list are to have.
+#[derive(Clone, Copy)]
+pub struct ListForm {
+    /// The size of each of a unit's ranges; totals then follow the lines.
+    pub sizes: bool,
+    /// The names of a unit's source and of its object.
+    pub names: bool,
+    /// Each line is a JSON object.
+    pub json: bool,
+}
+
+/// Prints a line for each unit of a package: compilation units by row, then type units by row. A
+/// line goes on with sizes and names where these are asked for; totals follow then. Answers the
+/// status 0. The text is printed once it is whole; where a unit can't be looked up, that is up to
+/// the line before it.
+///
+/// # Errors
+/// `Input` where the file can't be read, `Malformed` where it is no package or a unit can't be
+/// looked up, `Line` or `Memory`.
+pub fn list<O: Write>(
+    rt: &HostRuntime,
+    file: &str,
+    form: ListForm,
+    out: &mut O,
+) -> Result<u8, Failure>
+    ensures { Lists anything file.now form (O.contents out.old) (O.contents out.new) result }
+{
+    list_by(rt.alloc(), &HostReader::new(rt), file, form, out)
+}
+
+/// The same of a file that a reader reads.
+///
+/// # Errors
+/// Those of `list`.
+#[tactic(auto, using(crate::proofs::Listed::not_listed))]
+pub fn list_by<F: FileReader, O: Write>(
+    alloc: Global,
+    files: &F,
+    file: &str,
+    form: ListForm,
+    out: &mut O,
+) -> Result<u8, Failure>
+    ensures { Lists (F.offer files.now) file.now form (O.contents out.old)
+        (O.contents out.new) result }
+{
+    match read_named(files, file) {
+        Ok(bytes) => list_bytes(alloc, bytes.as_slice(), form, out),
+        Err(failure) => Err(failure),
+    }
+}
+
+/// A package that is listed.
+#[derive(Clone, Copy)]
+struct Listed<'m, 'a> {
+    /// The package.
+    pack: &'m PackageFile<'a>,
+    /// How many bytes its file has.
+    file_size: usize,
+    /// What its lines are to have.
+    form: ListForm,
+}
+
+/// Lists a package's bytes.
+#[tactic(auto, using(crate::proofs::Listed::bytes_listed, crate::proofs::Listed::bytes_malformed))]
+fn list_bytes<O: Write>(
+    alloc: Global,
+    bytes: &[u8],
+    form: ListForm,
+    out: &mut O,
+) -> Result<u8, Failure>
+    ensures { OrNoMemory (ListsBytes form (package_of bytes.now) (O.contents out.old)
+        (O.contents out.new) result) (O.contents out.old) (O.contents out.new) result }
+{
+    match PackageFile::parse(bytes) {
+        Ok(package) => {
+            let listed = Listed {
+                pack: &package,
+                file_size: bytes.len(),
+                form,
+            };
+            list_package(alloc, listed, out)
+        }
+        Err(_) => Err(Failure::Malformed),
+    }
+}
+
+/// Lists a package.
+#[tactic(auto, using(crate::proofs::Listed::same_entries, crate::proofs::Listed::no_memory))]
+fn list_package<O: Write>(alloc: Global, listed: Listed<'_, '_>, out: &mut O) -> Result<u8, Failure>
+    ensures { OrNoMemory (ListsPackage listed.entry.form listed.entry.pack.now (O.contents out.old)
+        (O.contents out.new) result) (O.contents out.old) (O.contents out.new) result }
+{
+    match entries_by_row(alloc, listed.pack) {
+        Ok(entries) => list_entries(alloc, listed, entries.as_slice(), out),
+        Err(_) => Err(Failure::Memory),
+    }
+}
+
+/// Lists the units of a package.
+#[tactic(auto, using(crate::proofs::Listed::no_memory))]
+fn list_entries<O: Write>(
+    alloc: Global,
+    listed: Listed<'_, '_>,
+    entries: &[UnitEntry],
+    out: &mut O,
+) -> Result<u8, Failure>
+    requires { AreByRow listed.pack.now entries.now }
+    ensures { OrNoMemory (ListsPackage listed.entry.form listed.entry.pack.now (O.contents out.old)
+        (O.contents out.new) result) (O.contents out.old) (O.contents out.new) result }
+{
+    let mut text = String::new(alloc);
+    match put_listing(listed, entries, &mut text) {
+        Ok(given) => answer(text.as_str(), given, out),
+        Err(_) => Err(Failure::Memory),
+    }
+}
+
+/// Makes the text of a list, and of totals where sizes are asked for. Answers what is to be
+/// answered.
+#[tactic(auto, using(crate::proofs::Listed::listed_part, crate::proofs::Listed::listed_plain, crate::proofs::Listed::listed_sized))]
+fn put_listing(
+    listed: Listed<'_, '_>,
+    entries: &[UnitEntry],
+    text: &mut String,
+) -> Result<Result<u8, Failure>, AllocError>
+    requires { string_bytes text.old ≡ [] }
+    ensures { IfOk result (λ given. IsListed listed.entry.form
+        (lines_of (view_of listed.entry.form listed.entry.pack.now) listed.entry.pack.now entries.now)
+        (record { printed = string_bytes text.new; answer = given })) }
+{
+    let mut sizes = Sizes::new(*text.allocator());
+    let is_all = put_lines(listed, entries, &mut sizes, text)?;
+    if !is_all {
+        return Ok(Err(Failure::Malformed));
+    }
+    if !listed.form.sizes {
+        return Ok(Ok(0));
+    }
+    sizes.put(listed.pack, listed.file_size, listed.form.json, text)?;
+    Ok(Ok(0))
+}
+
+/// Adds the lines of units, up to one that can't be looked up: then it answers false.
+#[tactic(auto, using(crate::proofs::Walk::so_far_next, thorin_print::proofs::Lines::drop_next))]
+fn put_lines(
+    listed: Listed<'_, '_>,
+    entries: &[UnitEntry],
+    sizes: &mut Sizes,
+    text: &mut String,
+) -> Result<bool, AllocError>
+    ensures lines { OnOk result (string_bytes text.new ≡ string_bytes text.old
+        ++ (lines_of (view_of listed.entry.form listed.entry.pack.now) listed.entry.pack.now
+        entries.now).printed) }
+    ensures all { IfOk result (λ is_all. is_all
+        ≡ (lines_of (view_of listed.entry.form listed.entry.pack.now) listed.entry.pack.now
+        entries.now).is_all) }
+{
+    for entry in entries {
+        let is_found = put_slot(listed, *entry, sizes, text)?;
+        if !is_found {
+            return Ok(false);
+        }
+    }
+    Ok(true)
+}
+
+/// Adds the line of the unit that is found for a slot, where it is that of the slot's row. Answers
+/// whether it could be looked up.
+fn put_slot(
+    listed: Listed<'_, '_>,
+    entry: UnitEntry,
+    sizes: &mut Sizes,
+    text: &mut String,
+) -> Result<bool, AllocError>
+    ensures { IfOk result (AddsLine (view_of listed.entry.form listed.entry.pack.now) entry
+        (found listed.entry.pack.now entry.object) (string_bytes text.old)
+        (string_bytes text.new)) }
+{
+    match listed.pack.find(entry.object) {
+        Ok(Some(unit)) => {
+            if unit.row() == entry.row {
+                put_unit(listed, entry.object, &unit, sizes, text)?;
+            }
+            Ok(true)
+        }
+        Ok(None) => Ok(true),
+        Err(_) => Ok(false),
+    }
+}
+
+/// The units that the slots of a package name: compilation units by row, then type units by row.
+pub fn entries_by_row(alloc: Global, pack: &PackageFile<'_>) -> Result<Vec<UnitEntry>, AllocError>
+    ensures { IfOk result (λ entries. AreByRow pack.now entries.items) }
+{
+    let mut entries = entries_by_slot(alloc, pack)?;
+    entries.sort_by_key(|entry| place_of_line(entry.object, entry.row))?;
+    Ok(entries)
+}
+
+/// The units that the slots of a package name, in order of slot.
+fn entries_by_slot(alloc: Global, pack: &PackageFile<'_>) -> Result<Vec<UnitEntry>, AllocError>
+    ensures { IfOk result (λ entries. entries.items
+        ≡ entries_from pack.now.compilations pack.now.types 0 0) }
+{
+    pack.units().collect(alloc)
+}
+
+/// Where the line of a unit stands among the others.
+fn place_of_line(object: DwarfObject, row: u32) -> u64
+    ensures { result ≡ place_by object row }
+{
+    match object {
+        DwarfObject::Compilation(_) => u64::from(row),
+        DwarfObject::TypeUnit(_) => (1 << 32) + u64::from(row),
+    }
+}
+
+/// Adds the line of a unit, with its sizes and names where these are asked for.
+#[tactic(auto, unfolding(crate::specs::Listing::unit_line))]
+fn put_unit<'a>(
+    listed: Listed<'_, 'a>,
+    object: DwarfObject,
+    unit: &PackagedUnit<'a>,
+    sizes: &mut Sizes,
+    text: &mut String,
+) -> Result<(), AllocError>
+    ensures { OnOk result (string_bytes text.new ≡ string_bytes text.old
+        ++ unit_line (view_of listed.entry.form listed.entry.pack.now) object unit.now) }
+{
+    let form = listed.form;
+    put_front(object, unit, form.json, text)?;
+    if form.sizes {
+        put_sizes(unit, form.json, sizes, text)?;
+    }
+    if form.names {
+        put_names(listed, object, unit, text)?;
+    }
+    put_end(form.json, text)
+}
+
+/// Adds what a line begins with: a unit's kind, its identifier and its size.
+#[tactic(auto, unfolding(crate::specs::Listing::unit_front, crate::specs::Listing::json_front, crate::specs::Json::json_unit))]
+fn put_front(
+    object: DwarfObject,
+    unit: &PackagedUnit<'_>,
+    as_json: bool,
+    text: &mut String,
+) -> Result<(), AllocError>
+    ensures { OnOk result (string_bytes text.new
+        ≡ string_bytes text.old ++ front_of as_json object unit.now) }
+{
+    let size = unit.bytes().len();
+    if as_json {
+        put_json_unit(object, text)?;
+        write!(text, "\",\"size\":{size}")
+    } else {
+        put_object(object, text)?;
+        write!(text, " {size}")
+    }
+}
+
+/// Adds the names of a unit's source and of its object.
+#[tactic(auto, unfolding(crate::specs::Listing::unit_names))]
+fn put_names<'a>(
+    listed: Listed<'_, 'a>,
+    object: DwarfObject,
+    unit: &PackagedUnit<'a>,
+    text: &mut String,
+) -> Result<(), AllocError>
+    ensures { OnOk result (string_bytes text.new ≡ string_bytes text.old
+        ++ unit_names (view_of listed.entry.form listed.entry.pack.now) object unit.now) }
+{
+    let (source, name) = Strings::of(listed.pack).names_of(object, unit);
+    put_named(source, name, listed.form.json, text)
+}
+
+/// Adds these names.
+fn put_named(
+    source: Option<&[u8]>,
+    object: Option<&[u8]>,
+    as_json: bool,
+    text: &mut String,
+) -> Result<(), AllocError>
+    ensures { OnOk result (string_bytes text.new ≡ string_bytes text.old
+        ++ named_by as_json (option_copied source.entry) (option_copied object.entry)) }
+{
+    text.push_str(if as_json { ",\"name\":" } else { "\t" })?;
+    put_spelled_or(source, as_json, text)?;
+    text.push_str(if as_json { ",\"dwo_name\":" } else { "\t" })?;
+    put_spelled_or(object, as_json, text)
+}
+
+/// Adds the end of a line.
+fn put_end(as_json: bool, text: &mut String) -> Result<(), AllocError>
+    ensures { OnOk result (string_bytes text.new ≡ string_bytes text.old ++ end_of as_json) }
+{
+    text.push_str(if as_json { "}\n" } else { "\n" })
+}
+
+/// Adds the sizes on the line of a unit, and gathers its ranges.
+#[tactic(auto, unfolding(crate::specs::Listing::range_sizes))]
+fn put_sizes(
+    unit: &PackagedUnit<'_>,
+    as_json: bool,
+    sizes: &mut Sizes,
+    text: &mut String,
+) -> Result<(), AllocError>
+    ensures { OnOk result (string_bytes text.new
+        ≡ string_bytes text.old ++ range_sizes as_json unit.now) }
+{
+    for kind in &CONTRIBUTION_KINDS {
+        put_size(*kind, unit.range(*kind), as_json, sizes, text)?;
+    }
+    Ok(())
+}
+
+/// Adds one of these sizes, where there is a range.
+fn put_size(
+    kind: SectionKind,
+    range: Option<Contribution>,
+    as_json: bool,
+    sizes: &mut Sizes,
+    text: &mut String,
+) -> Result<(), AllocError>
+    ensures { OnOk result (string_bytes text.new
+        ≡ string_bytes text.old ++ range_size as_json kind range) }
+{
+    let Some(range) = range else {
+        return Ok(());
+    };
+    sizes.add(kind, range)?;
+    let name = kind.short_name();
+    let size = range.size;
+    if as_json {
+        write!(text, ",\"{name}\":{size}")
+    } else {
+        write!(text, " {name} {size}")
+    }
+}

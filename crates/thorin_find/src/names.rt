@@ -1,0 +1,282 @@
+//! The names that a unit's own bytes give: of its source, and of its object.
+
+ghost use Rattle.std.specs.Prelude.{◌≡◌, ◌+◌, ◌==◌, take, option_map};
+ghost use Rattle.std.specs.Option.{option_copied, option_and_then};
+ghost use Rattle.std.specs.Result.{result_ok};
+ghost use Rattle.dwp_base.specs.Reading.{Answers};
+ghost use Rattle.dwp_bytes.specs.Input.{front};
+ghost use Rattle.dwp_dwarf.specs.Attributes.{attribute_of, attributes_left, entry_of, root_of};
+ghost use Rattle.dwp_dwarf.specs.Declarations.{table_of};
+ghost use Rattle.dwp_units.specs.Units.{unit_of};
+ghost use Rattle.dwp_index.specs.Contents.{content};
+ghost use Rattle.thorin_find.specs.Names as spec;
+ghost use Rattle.thorin_find.specs.Names.{table_at, entry_by, header_in, unit_die, die_of};
+ghost use Rattle.thorin_find.specs.Names.{named, short_string_at, string_number, numbered_string};
+ghost use Rattle.thorin_find.specs.Names.{string_of, source_in, object_in, source_name};
+ghost use Rattle.thorin_find.specs.Names.{object_name};
+
+use dwp_base::{Endianness, SectionKind};
+use dwp_bytes::{ReadError, Reader, SliceReader, StringOffsets, string_at};
+use dwp_dwarf::{Abbreviations, Attribute, Attributes, RootEntry, UnitHeader, UnitHeaders};
+use dwp_index::{PackageFile, PackagedUnit, place_of};
+use dwp_table::DwarfObject;
+
+const DW_AT_NAME: u64 = 0x03;
+
+const DW_AT_DWO_NAME: u64 = 0x76;
+
+const DW_AT_GNU_DWO_NAME: u64 = 0x2130;
+
+const DW_FORM_STRING: u64 = 0x08;
+
+const DW_FORM_STRX: u64 = 0x1a;
+
+const DW_FORM_STRX1: u64 = 0x25;
+
+const DW_FORM_STRX2: u64 = 0x26;
+
+const DW_FORM_STRX3: u64 = 0x27;
+
+const DW_FORM_STRX4: u64 = 0x28;
+
+const DW_FORM_GNU_STR_INDEX: u64 = 0x1f02;
+
+/// How many bytes are read at most of a unit's abbreviations, and of the values of its unit DIE.
+const MOST_READ: usize = 16384;
+
+/// How many bytes a name is sought in.
+const MOST_NAMED: u64 = 4096;
+
+/// The strings of a package.
+#[derive(Clone, Copy)]
+pub(crate) struct Strings<'a> {
+    /// The package's byte order.
+    pub order: Endianness,
+    /// `.debug_str.dwo`.
+    pub bytes: &'a [u8],
+}
+
+impl<'a> Strings<'a> {
+    /// Those of a package.
+    pub fn of(pack: &PackageFile<'a>) -> Strings<'a>
+        ensures order { result.order ≡ pack.now.order }
+        ensures bytes { result.bytes.now ≡ content pack.now.contents SectionKind.Str }
+    {
+        Strings {
+            order: pack.order(),
+            bytes: pack.content(SectionKind::Str),
+        }
+    }
+
+    /// The names of a unit's source, `DW_AT_name` of its unit DIE, and of its object, `DW_AT_dwo_name`
+    /// or `DW_AT_GNU_dwo_name` there.
+    #[tactic(auto, unfolding(crate::specs::Names::source_name, crate::specs::Names::object_name))]
+    pub fn names_of(
+        self,
+        object: DwarfObject,
+        unit: &PackagedUnit<'a>,
+    ) -> (Option<&'a [u8]>, Option<&'a [u8]>)
+        ensures source { option_copied result.0 ≡ source_name self.entry.order
+            self.entry.bytes.now object unit.now }
+        ensures name { option_copied result.1 ≡ object_name self.entry.order
+            self.entry.bytes.now object unit.now }
+    {
+        match die_of(self.order, object, unit) {
+            Some(die) => (
+                self.string_of(unit, source_in(&die)),
+                self.string_of(unit, object_in(&die)),
+            ),
+            None => (None, None),
+        }
+    }
+
+    /// The string of an attribute of a unit, where there is one.
+    #[tactic(auto, unfolding(crate::specs::Names::string_of))]
+    fn string_of(
+        self,
+        unit: &PackagedUnit<'a>,
+        attribute: Option<Attribute<SliceReader<'a>>>,
+    ) -> Option<&'a [u8]>
+        ensures { option_copied result ≡ option_and_then
+            (string_of self.entry.order self.entry.bytes.now unit.now)
+            (option_map (attribute_of ⟦<SliceReader<'a> as Reader>⟧.input) attribute.entry) }
+    {
+        let attribute = attribute?;
+        if attribute.form == DW_FORM_STRING {
+            return short_string_at(attribute.value.slice(), 0);
+        }
+        let i = string_number(&attribute)?;
+        self.numbered_string(unit, i)
+    }
+
+    /// The string of a number of a unit.
+    #[tactic(auto, unfolding(crate::specs::Names::numbered_string))]
+    fn numbered_string(self, unit: &PackagedUnit<'a>, i: u64) -> Option<&'a [u8]>
+        ensures { option_copied result ≡ numbered_string self.entry.order self.entry.bytes.now
+            unit.now i }
+    {
+        let offsets = StringOffsets {
+            strings: self.bytes,
+            offsets: unit.section(SectionKind::StrOffsets),
+            order: self.order,
+            encoding: unit.encoding(),
+        };
+        let offset = offsets.entry(i)?;
+        short_string_at(self.bytes, offset)
+    }
+}
+
+/// The attribute that names the source.
+fn source_in<R: Reader>(die: &RootEntry<R>) -> Option<Attribute<R>>
+    ensures { option_map (attribute_of R.input) result ≡ source_in (entry_of R.input die.now) }
+{
+    attribute_named(die.attributes, DW_AT_NAME)
+}
+
+/// The attribute that names the object.
+fn object_in<R: Reader>(die: &RootEntry<R>) -> Option<Attribute<R>>
+    ensures { option_map (attribute_of R.input) result ≡ object_in (entry_of R.input die.now) }
+{
+    match attribute_named(die.attributes, DW_AT_DWO_NAME) {
+        Some(attribute) => Some(attribute),
+        None => attribute_named(die.attributes, DW_AT_GNU_DWO_NAME),
+    }
+}
+
+/// The first attribute of a name, before the first error.
+fn attribute_named<R: Reader>(attributes: Attributes<R>, name: u64) -> Option<Attribute<R>>
+    ensures { option_map (attribute_of R.input) result
+        ≡ named name (attributes_left R.input attributes) }
+{
+    for attribute in attributes {
+        let attribute = attribute.ok()?;
+        if attribute.name == name {
+            return Some(attribute);
+        }
+    }
+    None
+}
+
+/// The header of a unit, as its own bytes have it.
+pub fn header_of<'a>(
+    unit: &PackagedUnit<'a>,
+    object: DwarfObject,
+    order: Endianness,
+) -> Result<UnitHeader<SliceReader<'a>>, ReadError>
+    ensures { option_map (unit_of ⟦<SliceReader<'a> as Reader>⟧.input) (result_ok result)
+        ≡ header_in order object unit.now }
+{
+    let reader = SliceReader::new(unit.bytes(), order);
+    let place = place_of(object, unit.range(SectionKind::Types));
+    match UnitHeaders::new(reader, place).next() {
+        Some(Ok(header)) => Ok(header),
+        Some(Err(error)) => Err(error),
+        None => Err(ReadError::UnexpectedEof),
+    }
+}
+
+/// The unit DIE of a unit, where it can be read.
+#[tactic(auto, unfolding(crate::specs::Names::die_of))]
+fn die_of<'a>(
+    order: Endianness,
+    object: DwarfObject,
+    unit: &PackagedUnit<'a>,
+) -> Option<RootEntry<SliceReader<'a>>>
+    ensures { root_of ⟦<SliceReader<'a> as Reader>⟧.input result ≡ die_of order object unit.now }
+{
+    let header = header_of(unit, object, order).ok()?;
+    let abbreviations = SliceReader::new(unit.section(SectionKind::Abbrev), order);
+    match unit_die(abbreviations, &header) {
+        Ok(die) => die,
+        Err(_) => None,
+    }
+}
+
+/// The unit DIE of a unit with this header.
+#[tactic(auto, unfolding(crate::specs::Names::unit_die))]
+fn unit_die<R: Reader>(
+    abbreviations: R,
+    header: &UnitHeader<R>,
+) -> Result<Option<RootEntry<R>>, ReadError>
+    ensures { Answers (root_of R.input) result
+        (unit_die (R.input abbreviations) (unit_of R.input header.now)) }
+{
+    match header.root_code()? {
+        None => Ok(None),
+        Some((code, values)) => entry_by(abbreviations, header, code, values),
+    }
+}
+
+/// The entry of a code, whose values stand there.
+fn entry_by<R: Reader>(
+    abbreviations: R,
+    header: &UnitHeader<R>,
+    code: u64,
+    values: R,
+) -> Result<Option<RootEntry<R>>, ReadError>
+    ensures { Answers (root_of R.input) result (entry_by (R.input abbreviations)
+        (unit_of R.input header.now) (Some (code, R.input values))) }
+{
+    let table = table_at(abbreviations, header.abbrev_offset())?;
+    match table.get(code)? {
+        None => Ok(None),
+        Some(abbreviation) => Ok(Some(abbreviation.entry(header.encoding(), beginning(values)))),
+    }
+}
+
+/// A beginning of the abbreviations that stand at an offset.
+#[tactic(auto, unfolding(crate::specs::Names::table_at))]
+fn table_at<R: Reader>(mut abbreviations: R, offset: u64) -> Result<Abbreviations<R>, ReadError>
+    ensures { Answers (table_of R.input) result (table_at offset (R.input abbreviations)) }
+{
+    abbreviations.skip(offset as usize)?;
+    Abbreviations::new(beginning(abbreviations), 0)
+}
+
+/// What is read at most.
+#[tactic(auto, unfolding(dwp_bytes::specs::Input::truncate_at))]
+fn beginning<R: Reader>(mut reader: R) -> R
+    ensures { R.input result ≡ front spec.most_read (R.input reader) }
+{
+    match reader.truncate(MOST_READ) {
+        Ok(()) => reader,
+        Err(_) => reader,
+    }
+}
+
+/// The number of an attribute's string among those of its unit.
+#[tactic(auto, unfolding(crate::specs::Names::string_number))]
+fn string_number<R: Reader>(attribute: &Attribute<R>) -> Option<u64>
+    ensures { result ≡ string_number (attribute_of R.input attribute.now) }
+{
+    let mut value = attribute.value;
+    let number = match attribute.form {
+        DW_FORM_STRX | DW_FORM_GNU_STR_INDEX => value.read_uleb128().ok()?,
+        DW_FORM_STRX1 => u64::from(value.read_u8().ok()?),
+        DW_FORM_STRX2 => u64::from(value.read_u16().ok()?),
+        DW_FORM_STRX3 => u64::from(value.read_u24().ok()?),
+        DW_FORM_STRX4 => u64::from(value.read_u32().ok()?),
+        _ => return None,
+    };
+    Some(number)
+}
+
+/// The string at an offset, where it is short enough for a name.
+#[tactic(auto, unfolding(crate::specs::Names::short_string_at))]
+fn short_string_at(strings: &[u8], offset: u64) -> Option<&[u8]>
+    ensures { option_copied result ≡ short_string_at strings.now offset }
+{
+    string_at(up_to(strings, offset), offset).ok()
+}
+
+/// The bytes up to an offset, and as many behind it as a name has at most.
+fn up_to(bytes: &[u8], offset: u64) -> &[u8]
+    ensures { result.now ≡ take (offset + spec.most_named) bytes.now }
+{
+    let len = bytes.len() as u64;
+    if offset < len && MOST_NAMED < len - offset {
+        &bytes[..(offset + MOST_NAMED) as usize]
+    } else {
+        bytes
+    }
+}

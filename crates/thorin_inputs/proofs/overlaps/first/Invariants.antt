@@ -1,0 +1,9 @@
+use Rattle.std.proofs.Common.{◌≡◌, find, drop}
+use Rattle.dwp_elf_read.specs.Elf.{holds}
+use Rattle.dwp_elf_read.specs.View.{elf}
+use Rattle.thorin_inputs.proofs.overlaps.first.Given as goal
+
+-- the first of those that are left is the first of all
+abbrev pub invariant-loop-i : goal.invariant-loop-i
+invariant-loop-i l = find (holds l.kind) (drop l.i (elf l.file).sections) ≡ find (holds l.kind)
+    (elf l.file).sections

@@ -1,0 +1,5 @@
+pub mod Cuts
+pub mod Hex
+pub mod Lines
+pub mod Printed
+pub mod Spelling

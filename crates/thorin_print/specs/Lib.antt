@@ -1,0 +1,4 @@
+pub mod Answers
+pub mod Lines
+pub mod Shown
+pub mod Spelled

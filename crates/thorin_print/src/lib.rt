@@ -1,0 +1,13 @@
+//! What the program prints: failures, lines through a buffer, texts as they are spelled, plain and in
+//! JSON, and names as they are shown.
+#![tactic(auto)]
+
+mod output;
+mod showing;
+mod spelled;
+mod telling;
+
+pub use output::{Failure, answer, answer_bytes, buffer, flush, print, report, show};
+pub use showing::shown;
+pub use spelled::{put_spelled, put_spelled_or};
+pub use telling::tell_taken;

@@ -1,6 +1,0 @@
-use Rattle.std.proofs.Common.{arith}
-use Rattle.thorin_queries.proofs.Told.{none_grown}
-use Rattle.thorin_queries.proofs.checking.finish.Goals as goal
-
-pub returns-in-Ok : goal.returns-in-Ok
-returns-in-Ok g c = grind (arith, none_grown)

@@ -1,9 +1,0 @@
-use Rattle.std.proofs.Common.{arith, rules}
-use Rattle.thorin_queries.proofs.Checked.{executable_read, executable_unread}
-use Rattle.thorin_queries.proofs.executables.check_executable.Goals as goal
-
-pub returns-in-Err : goal.returns-in-Err
-returns-in-Err g c = search rules
-
-pub returns-in-Ok : goal.returns-in-Ok
-returns-in-Ok g c = grind (arith, executable_read, executable_unread)

@@ -1,6 +1,0 @@
-use Rattle.thorin_queries.proofs.Told.{in_turn_or}
-use Rattle.thorin_queries.proofs.units.check_all.Goals as goal
-
-pub returns-in-Ok : goal.returns-in-Ok
-returns-in-Ok g c =
-    in_turn_or _ _ _ _ _ _ c.check_strings.result c.in-Ok.ensures c.check_strings.ensures
