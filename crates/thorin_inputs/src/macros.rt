@@ -4,6 +4,7 @@
 ghost use Rattle.std.specs.Prelude.{OnOk};
 ghost use Rattle.thorin_inputs.specs.Macros.{IsKeptOf};
 
+use crate::encodings::encoding_of;
 use crate::notes::place_of;
 use dwp_macros::{KeptMacros, MacrosError, loses_macros, with_macros};
 use std::alloc::{AllocError, Global};
@@ -14,11 +15,7 @@ use std::cell::Cell;
 /// # Errors
 /// `Unrepresentable` where that can't be written, and `Memory`: the file stays as it is.
 #[tactic(auto, unfolding(crate::specs::Macros::IsKeptOf))]
-pub fn keep_macros(
-    alloc: Global,
-    kept: KeptMacros,
-    file: &mut Vec<u8>,
-) -> Result<(), MacrosError>
+pub fn keep_macros(alloc: Global, kept: KeptMacros, file: &mut Vec<u8>) -> Result<(), MacrosError>
     ensures { OnOk result (IsKeptOf kept file.old.items file.new.items) }
 {
     if let Some(changed) = with_macros(alloc, file, kept)? {
@@ -65,7 +62,7 @@ impl MacroWarnings {
         own: &str,
         named: Option<&str>,
     ) -> Result<(), AllocError> {
-        if !self.looks || self.found.get() || !loses_macros(file, KeptMacros::Last) {
+        if !self.looks || self.found.get() || !is_warned_of(file) {
             return Ok(());
         }
         self.found.set(true);
@@ -76,7 +73,7 @@ impl MacroWarnings {
     /// Adds a line.
     fn add(&self, place: &str) -> Result<(), AllocError> {
         let line = format!(in self.alloc;
-            "warning: {place}: several .debug_macro.dwo sections: --last-macros keeps the last\n"
+            "warning: {place}: several .debug_macro.dwo sections, which gdb can't read: --no-macros leaves them out\n"
         )?;
         let lines = match self.lines.replace(None) {
             Some(mut lines) => {
@@ -96,4 +93,14 @@ impl MacroWarnings {
             None => String::new(self.alloc),
         }
     }
+}
+
+/// Whether an object has several sections of macros, and is of a version of DWARF of which debuggers
+/// then read no unit: one before 5.
+fn is_warned_of(file: &[u8]) -> bool {
+    loses_macros(file, KeptMacros::Last)
+        && match encoding_of(file) {
+            Some((encoding, _)) => encoding.version < 5,
+            None => false,
+        }
 }
