@@ -1,11 +1,15 @@
 -- Sections taken one after the other, from the last.
-use Rattle.std.proofs.Common.{◌≡◌, ℕ, ◌+◌, ◌≤◌, Bool, false, ◌||◌, ◌&&◌, List, ◌∷◌, length, drop}
+use Rattle.std.proofs.Common.{◌≡◌, ℕ, ◌+◌, ◌≤◌, Bool, false, ◌||◌, ◌&&◌, List, [], ◌∷◌, length, drop}
+use Rattle.std.proofs.lemmas.Bool.{and_right}
 use Rattle.std.proofs.Common.{Some, refl, ap, ◌∙◌, slice_get, if◌then◌else◌}
 use Rattle.std.specs.List.{list_any}
 use Rattle.std.proofs.lemmas.List.{drop_all, drop_more}
 use Rattle.std.proofs.lemmas.Option.{slice_get_within, get_or_from_slice_get}
 use Rattle.dwp_elf_read.specs.Elf.{SectionMeaning}
-use Rattle.dwp_macros.specs.Last.{has_macros, emptied, kept_section, kept_sections, has_several}
+use Rattle.dwp_macros.specs.Kept.{has_macros, go, emptied, kept_section, kept_sections}
+use Rattle.dwp_macros.specs.Kept.{lose}
+use Rattle.dwp_macros.specs.declared.kept.KeptMacros.{KeptMacros}
+use Rattle.dwp_macros.specs.declared.kept.KeptMacros.TheVariants.{All}
 
 -- the items from the i-th on are it and those from the j-th on
 pub drop_step : {X : Type 0} (xs : List X) (i j : ℕ) (x : X) → j ≡ i + 1 → slice_get xs i ≡ Some x
@@ -20,32 +24,40 @@ pub any_step : {X : Type 0} (p : X → Bool) (xs : List X) (i j : ℕ) (x : X) (
     → (here || behind) ≡ list_any p (drop i xs)
 any_step p xs i j x here behind n e h b = rw (h, b, drop_step xs i j x n e) refl
 
-module _ (xs : List SectionMeaning) (i j : ℕ) (x : SectionMeaning) (behind : Bool)
+module _ (kept : KeptMacros) (xs : List SectionMeaning) (i j : ℕ) (x : SectionMeaning) (behind : Bool)
     (next : j ≡ i + 1) (at : slice_get xs i ≡ Some x)
     (more : behind ≡ list_any has_macros (drop j xs)) where
-  pub several_step : (several here : Bool) → several ≡ has_several (drop j xs)
-      → here ≡ has_macros x → (several || (here && behind)) ≡ has_several (drop i xs)
-  unfolding has_several
-  several_step several here s h = rw (s, h, more, drop_step xs i j x next at) refl
+  pub lose_step : (some here goes : Bool) → some ≡ lose kept (drop j xs)
+      → here ≡ has_macros x → goes ≡ go kept behind
+      → (some || (here && goes)) ≡ lose kept (drop i xs)
+  unfolding lose
+  lose_step some here goes s h g = rw (s, h, g, more, drop_step xs i j x next at) refl
 
   pub kept_step : (ys : List SectionMeaning) (y : SectionMeaning) → slice_get ys i ≡ Some y
-      → y ≡ (if has_macros x && behind then emptied x else x)
-      → drop j ys ≡ kept_sections (drop j xs) → drop i ys ≡ kept_sections (drop i xs)
+      → (goes : Bool) → goes ≡ go kept behind
+      → y ≡ (if has_macros x && goes then emptied x else x)
+      → drop j ys ≡ kept_sections kept (drop j xs) → drop i ys ≡ kept_sections kept (drop i xs)
   unfolding kept_sections kept_section
-  kept_step ys y is e rest =
-      rw (drop_step ys i j y next is, drop_step xs i j x next at, e, more, rest) refl
+  kept_step ys y is goes g e rest =
+      rw (drop_step ys i j y next is, drop_step xs i j x next at, e, g, more, rest) refl
 
 -- behind the last item there is none
 pub any_end : {X : Type 0} (p : X → Bool) (xs : List X) (i : ℕ) → length xs ≤ i
     → false ≡ list_any p (drop i xs)
 any_end p xs i h = rw (drop_all i xs h) refl
 
-pub several_end : (xs : List SectionMeaning) (i : ℕ) → length xs ≤ i
-    → false ≡ has_several (drop i xs)
-unfolding has_several
-several_end xs i h = rw (drop_all i xs h) refl
+pub lose_end : (kept : KeptMacros) (xs : List SectionMeaning) (i : ℕ) → length xs ≤ i
+    → false ≡ lose kept (drop i xs)
+unfolding lose
+lose_end kept xs i h = rw (drop_all i xs h) refl
 
-pub kept_end : (xs ys : List SectionMeaning) (i : ℕ) → length xs ≤ i → length ys ≤ i
-    → drop i ys ≡ kept_sections (drop i xs)
+pub kept_end : (kept : KeptMacros) (xs ys : List SectionMeaning) (i : ℕ) → length xs ≤ i
+    → length ys ≤ i → drop i ys ≡ kept_sections kept (drop i xs)
 unfolding kept_sections
-kept_end xs ys i h k = rw (drop_all i ys k, drop_all i xs h) refl
+kept_end kept xs ys i h k = rw (drop_all i ys k, drop_all i xs h) refl
+
+-- where all macros are kept, none go
+pub none_lose : (xs : List SectionMeaning) → lose All xs ≡ false
+unfolding lose
+none_lose [] = refl
+none_lose (x ∷ xs) = rw (none_lose xs, and_right (has_macros x) false refl) refl

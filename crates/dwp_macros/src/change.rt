@@ -1,5 +1,6 @@
 //! The bytes of the changed file: the old ones, but for the sizes of sections that lose theirs.
 
+use crate::kept::KeptMacros;
 use crate::sections::has_macros;
 use dwp_base::Class;
 use dwp_elf_read::ElfFile;
@@ -45,8 +46,8 @@ fn empty(file: &ElfFile<'_>, bytes: &mut [u8], i: usize) {
     }
 }
 
-/// Sets the sizes of the sections that have macros to 0, but that of the last.
-pub fn empty_all_but_last(file: &ElfFile<'_>, bytes: &mut [u8]) {
+/// Sets the sizes of the sections whose macros go to 0.
+pub fn empty_all(file: &ElfFile<'_>, kept: KeptMacros, bytes: &mut [u8]) {
     let mut has_more = false;
     let mut left = file.section_count();
     while left > 0 {
@@ -55,7 +56,7 @@ pub fn empty_all_but_last(file: &ElfFile<'_>, bytes: &mut [u8]) {
             return;
         };
         if has_macros(&section) {
-            if has_more {
+            if kept.go(has_more) {
                 empty(file, bytes, left);
             }
             has_more = true;

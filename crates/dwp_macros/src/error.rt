@@ -3,7 +3,7 @@
 use std::alloc::{AllocError, AllocFailed};
 use thiserror::Error;
 
-/// Why the sections of macros but the last can't be emptied.
+/// Why sections of macros can't be emptied.
 #[derive(Clone, Copy, Debug, PartialEq, Eq, Hash, Error)]
 pub enum MacrosError {
     /// The file would mean something else: one of these sections lies outside of it, or the section

@@ -1,11 +1,13 @@
-//! An object in which of the sections of macros only the last counts.
+//! An object in which macros of some sections don't count.
 #![tactic(auto)]
 
 mod agree;
 mod change;
+mod changed;
 mod error;
-mod last;
+mod kept;
 mod sections;
 
+pub use changed::{loses_macros, with_macros};
 pub use error::MacrosError;
-pub use last::{has_several_macros, with_last_macros};
+pub use kept::KeptMacros;

@@ -3,13 +3,14 @@
 ghost use Rattle.std.specs.Prelude.{◌≡◌};
 ghost use Rattle.dwp_elf_read.specs.View as view;
 ghost use Rattle.dwp_elf_read.specs.View.{elf};
-ghost use Rattle.dwp_macros.specs.Last as spec;
+ghost use Rattle.dwp_macros.specs.Kept as spec;
 
+use crate::kept::KeptMacros;
 use dwp_base::SectionKind;
 use dwp_elf_read::{ElfFile, Section};
 
 /// Whether a section has macros.
-#[tactic(auto, unfolding(crate::specs::Last::has_macros))]
+#[tactic(auto, unfolding(crate::specs::Kept::has_macros))]
 pub fn has_macros(section: &Section<'_>) -> bool
     ensures { result ≡ spec.has_macros (view.section section.now) }
 {
@@ -17,20 +18,23 @@ pub fn has_macros(section: &Section<'_>) -> bool
 }
 
 /// Whether a section is an index.
-#[tactic(auto, unfolding(crate::specs::Last::is_index))]
+#[tactic(auto, unfolding(crate::specs::Kept::is_index))]
 fn is_index(section: &Section<'_>) -> bool
     ensures { result ≡ spec.is_index (view.section section.now) }
 {
     section.holds(SectionKind::CuIndex) || section.holds(SectionKind::TuIndex)
 }
 
-/// Whether several sections of an object have macros; of a package that isn't asked.
-#[tactic(auto, unfolding(crate::specs::Last::is_changed))]
-pub fn is_changed(file: &ElfFile<'_>) -> bool
-    ensures { result ≡ spec.is_changed (elf file.now).sections }
+/// Whether macros of an object go; of a package none do.
+#[tactic(auto, unfolding(crate::specs::Kept::is_changed), using(crate::proofs::Walks::none_lose))]
+pub fn is_changed(file: &ElfFile<'_>, kept: KeptMacros) -> bool
+    ensures { result ≡ spec.is_changed kept (elf file.now).sections }
 {
+    if kept == KeptMacros::All {
+        return false;
+    }
     let mut has_more = false;
-    let mut several = false;
+    let mut lose = false;
     let mut indexed = false;
     let mut left = file.section_count();
     while left > 0 {
@@ -38,9 +42,9 @@ pub fn is_changed(file: &ElfFile<'_>) -> bool
         let Some(section) = file.section(left) else {
             return false;
         };
-        several |= has_macros(&section) & has_more;
+        lose |= has_macros(&section) & kept.go(has_more);
         has_more = has_macros(&section) | has_more;
         indexed = is_index(&section) | indexed;
     }
-    several && !indexed
+    lose && !indexed
 }

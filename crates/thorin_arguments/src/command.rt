@@ -54,8 +54,8 @@ Status 1 where there are faults.";
 /// A word that a command line may have.
 #[derive(Clone, Copy)]
 enum Word {
-    /// `-o OUT`, which must be there, unless the option of this name is.
-    Output(&'static str),
+    /// `-o OUT`, which must be there, unless an option of one of these names is.
+    Output(&'static [&'static str]),
     /// `-e EXEC`, as often as one likes, with its help.
     Executables(&'static str),
     /// `-v`.
@@ -129,9 +129,33 @@ const OVERLAP: Word = Word::Flag(
     "Take inputs that make a package larger than they are",
 );
 
-const LAST_MACROS: Word = Word::Flag(
+const LAST_MACROS: Word = Word::FlagAlone(
     "last-macros",
     "Keep only the last .debug_macro.dwo of each object",
+    &["no-macros"],
+);
+
+const NO_MACROS: Word = Word::Flag("no-macros", "Leave out .debug_macro.dwo of all objects");
+
+const SKIP_MISSING: Word = Word::Flag(
+    "skip-missing",
+    "Skip missing objects; their units must come from another input",
+);
+
+const PARTIAL: Word = Word::Flag(
+    "partial",
+    "Pack what is there; warn of each unit of EXEC that isn't",
+);
+
+const MISSING: Word = Word::Flag(
+    "missing",
+    "List the missing objects of EXECs instead of packing",
+);
+
+const PREFIX_MAP: Word = Word::Values(
+    "prefix-map",
+    "FROM=TO",
+    "Look for objects of EXECs below TO where FROM is named",
 );
 
 const WARNINGS: Word = Word::Choice(
@@ -147,31 +171,19 @@ const COMMANDS: [Line; 4] = [
         about: "Pack objects into a package",
         below: PACK_EXAMPLES,
         words: &[
-            Word::Output("missing"),
+            Word::Output(&["missing"]),
             PACKED,
-            Word::Flag(
-                "skip-missing",
-                "Skip missing objects; their units must come from another input",
-            ),
+            SKIP_MISSING,
             SKIP_NAMELESS,
-            Word::Flag(
-                "partial",
-                "Pack what is there; warn of each unit of EXEC that isn't",
-            ),
-            Word::Flag(
-                "missing",
-                "List the missing objects of EXECs instead of packing",
-            ),
-            Word::Values(
-                "prefix-map",
-                "FROM=TO",
-                "Look for objects of EXECs below TO where FROM is named",
-            ),
+            PARTIAL,
+            MISSING,
+            PREFIX_MAP,
             FORCE,
             DECOMPRESS,
             ARCHIVES,
             OVERLAP,
             LAST_MACROS,
+            NO_MACROS,
             WARNINGS,
             Word::Verbose,
             Word::Inputs,
@@ -223,24 +235,35 @@ const COMMANDS: [Line; 4] = [
     },
 ];
 
-/// The words of a peer. The last one LLVM's alone takes: past 2^32 bytes it would write a package
-/// that can't be read, or leave inputs out, where this program refuses.
-const PEER: [Word; 9] = [
-    Word::Output("exec"),
+/// The words of a peer: those of `pack`, some of which say what a peer does in any case.
+const PEER: [Word; 17] = [
+    Word::Output(&["exec", "missing"]),
     PACKED,
-    FORCE,
     Word::Flag("verify-only", "Check the package OUT instead of writing it"),
+    SKIP_MISSING,
+    SKIP_NAMELESS,
+    PARTIAL,
+    MISSING,
+    PREFIX_MAP,
+    FORCE,
+    DECOMPRESS,
+    ARCHIVES,
     OVERLAP,
+    LAST_MACROS,
+    NO_MACROS,
     WARNINGS,
     Word::Verbose,
     Word::Inputs,
-    Word::MayChoose(
-        "continue-on-cu-index-overflow",
-        "HOW",
-        "No effect: a package that is too large is refused",
-        &["continue", "soft-stop"],
-    ),
 ];
+
+/// What LLVM's alone takes: past 2^32 bytes it would write a package that can't be read, or leave
+/// inputs out, where this program refuses.
+const LLVM: Word = Word::MayChoose(
+    "continue-on-cu-index-overflow",
+    "HOW",
+    "No effect: a package that is too large is refused",
+    &["continue", "soft-stop"],
+);
 
 /// What `--version` prints behind the program's name: the version, and the commit where one is
 /// named.
@@ -280,18 +303,17 @@ pub(crate) fn command<'a>(alloc: Global, version: &'a str) -> Result<Command<'a>
     .bin_name("thorin")
 }
 
-/// The command line of `dwp` and `llvm-dwp`, under one of these names.
+/// The command line of `dwp` and `llvm-dwp`, under one of these names. As there, the last of
+/// repeated options counts, and a long one may be cut short.
 pub(crate) fn peer<'a>(
     alloc: Global,
     name: &'a str,
     version: &'a str,
 ) -> Result<Command<'a>, AllocError> {
-    let words = if name.starts_with("llvm-") {
-        &PEER[..]
-    } else {
-        &PEER[..8]
-    };
-    let args = args_of(alloc, words)?;
+    let mut args = args_of(alloc, &PEER)?;
+    if is_of_llvm(name) {
+        args.push(arg_of(alloc, LLVM)?)?;
+    }
     titled(
         alloc,
         name,
@@ -299,8 +321,15 @@ pub(crate) fn peer<'a>(
         "Without -o the package of one EXEC is EXEC.dwp. This is thorin by another name.",
     )
     .version(version)
+    .args_override_self(true)
+    .infer_long_args(true)
     .args(args)?
     .bin_name(name)
+}
+
+/// Whether a peer's name is that of LLVM's.
+pub(crate) fn is_of_llvm(name: &str) -> bool {
+    name.starts_with("llvm-")
 }
 
 /// A command with its texts: what it does, and what stands below its options.
@@ -326,7 +355,7 @@ fn args_of<'a>(alloc: Global, words: &[Word]) -> Result<Vec<Arg<'a>>, AllocError
 /// A word in clap's terms.
 fn arg_of<'a>(alloc: Global, word: Word) -> Result<Arg<'a>, AllocError> {
     let arg = match word {
-        Word::Output(other) => return output(alloc).required_unless_present(other),
+        Word::Output(others) => return output(alloc).required_unless_present_any(others),
         Word::Executables(help) => executables(alloc, help),
         Word::Verbose => flag(alloc, "verbose", "Report each input").short('v'),
         Word::Flag(name, help) => flag(alloc, name, help),

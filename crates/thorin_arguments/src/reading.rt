@@ -49,6 +49,8 @@ pub struct PackArguments<'m, 'a> {
     pub lists_missing: bool,
     /// Whether of an object's sections of macros only the last counts.
     pub keeps_last_macros: bool,
+    /// Whether none of them counts.
+    pub drops_macros: bool,
 }
 
 /// What `check` is asked for.
@@ -128,9 +130,32 @@ pub trait Commands {
 /// is the one that the program was built from, where that is known, for `--version`.
 pub fn run<C: Commands>(alloc: Global, words: &[String], commit: &str, commands: &mut C) -> u8 {
     match command::version_of(alloc, commit) {
-        Ok(version) => run_as(alloc, words, version.as_str(), commands),
+        Ok(version) => match long_words(alloc, words) {
+            Ok(long) => run_as(alloc, long.as_slice(), version.as_str(), commands),
+            Err(AllocError) => commands.lack_memory(),
+        },
         Err(AllocError) => commands.lack_memory(),
     }
+}
+
+/// The words of a command line, in which LLVM's long options, which may have one dash, have two.
+fn long_words(alloc: Global, words: &[String]) -> Result<Vec<String>, AllocError> {
+    let mut long = Vec::with_capacity(alloc, words.len())?;
+    let mut takes_options = peer_name(words).is_some_and(command::is_of_llvm);
+    for word in words {
+        takes_options = takes_options && word.as_str() != "--";
+        if takes_options && has_one_dash(word.as_str()) {
+            long.push(format!(in alloc; "-{word}")?)?;
+        } else {
+            long.push(word.clone()?)?;
+        }
+    }
+    Ok(long)
+}
+
+/// Whether a word is one of LLVM's long options behind one dash.
+fn has_one_dash(word: &str) -> bool {
+    word == "-version" || word == "-help" || word.starts_with("-continue-on-cu-index-overflow")
 }
 
 /// The same of a program of this version.
@@ -201,7 +226,7 @@ fn read_by<'a>(
 
 /// What is wrong with the words beside what clap tests, if anything is.
 fn error_of(matches: &ArgMatches<'_>, is_peer: bool) -> Option<(ErrorKind, &'static str)> {
-    if let Some(text) = error_of_pack(matches) {
+    if let Some(text) = error_of_pack(packed_in(matches, is_peer)?) {
         Some((ErrorKind::ValueValidation, text))
     } else if is_peer && lacks_output(matches) {
         Some((ErrorKind::MissingRequiredArgument, NO_OUTPUT))
@@ -210,11 +235,16 @@ fn error_of(matches: &ArgMatches<'_>, is_peer: bool) -> Option<(ErrorKind, &'sta
     }
 }
 
-/// What is wrong with the words of the command `pack` beside what clap tests, if anything is.
+/// The words that ask for packing: a peer's, or those of the command `pack`.
+fn packed_in<'m, 'a>(matches: &'m ArgMatches<'a>, is_peer: bool) -> Option<&'m ArgMatches<'a>> {
+    if is_peer {
+        return Some(matches);
+    }
+    matches.subcommand_matches("pack")
+}
+
+/// What is wrong with words that ask for packing beside what clap tests, if anything is.
 fn error_of_pack(matches: &ArgMatches<'_>) -> Option<&'static str> {
-    let Some(("pack", matches)) = matches.subcommand() else {
-        return None;
-    };
     for word in values_of(matches, "prefix-map").unwrap_or(&[]) {
         if !word.contains('=') {
             return Some(NO_PREFIX);
@@ -229,7 +259,9 @@ fn error_of_pack(matches: &ArgMatches<'_>) -> Option<&'static str> {
 /// Whether a peer's command line names no package, and no single executable either that would name
 /// it.
 fn lacks_output(matches: &ArgMatches<'_>) -> bool {
-    value_of(matches, "output").is_none() && values_of(matches, "exec").unwrap_or(&[]).len() != 1
+    value_of(matches, "output").is_none()
+        && !has_flag(matches, "missing")
+        && values_of(matches, "exec").unwrap_or(&[]).len() != 1
 }
 
 fn command_line<'a>(
@@ -269,7 +301,7 @@ fn peer_name(words: &[String]) -> Option<&str> {
 /// Does what the words ask for, and answers the status.
 fn dispatch<C: Commands>(matches: &ArgMatches<'_>, is_peer: bool, commands: &mut C) -> u8 {
     if is_peer {
-        return commands.pack(arguments_of_peer(matches));
+        return commands.pack(arguments_of(matches, true));
     }
     match matches.subcommand() {
         Some((name, matches)) => dispatch_to(name, matches, commands),
@@ -280,7 +312,7 @@ fn dispatch<C: Commands>(matches: &ArgMatches<'_>, is_peer: bool, commands: &mut
 /// Does what the words behind a command's name ask for, and answers the status.
 fn dispatch_to<C: Commands>(name: &str, matches: &ArgMatches<'_>, commands: &mut C) -> u8 {
     match name {
-        "pack" => commands.pack(arguments_of(matches)),
+        "pack" => commands.pack(arguments_of(matches, false)),
         "find" => find(matches, commands),
         "list" => list(matches, commands),
         "check" => check(matches, commands),
@@ -342,38 +374,26 @@ fn has_flag(matches: &ArgMatches<'_>, name: &str) -> bool {
     matches.get_flag(name)
 }
 
-/// What the command `pack` asks for.
-fn arguments_of<'m, 'a>(matches: &'m ArgMatches<'a>) -> PackArguments<'m, 'a> {
-    PackArguments {
-        skips_missing: has_flag(matches, "skip-missing"),
-        skips_nameless: has_flag(matches, "skip-nameless"),
-        decompresses: has_flag(matches, "decompress"),
-        prefix_maps: values_of(matches, "prefix-map"),
-        partial: has_flag(matches, "partial"),
-        lists_missing: has_flag(matches, "missing"),
-        keeps_last_macros: has_flag(matches, "last-macros"),
-        ..arguments_of_peer(matches)
-    }
-}
-
-/// What the command lines of `dwp` and `llvm-dwp` ask for. Those decompress without being told.
-fn arguments_of_peer<'m, 'a>(matches: &'m ArgMatches<'a>) -> PackArguments<'m, 'a> {
+/// What the command `pack` asks for, or a peer's command line, which decompresses without being
+/// told.
+fn arguments_of<'m, 'a>(matches: &'m ArgMatches<'a>, is_peer: bool) -> PackArguments<'m, 'a> {
     PackArguments {
         output: value_of(matches, "output"),
         inputs: values_of(matches, "input"),
         executables: values_of(matches, "exec"),
-        skips_missing: false,
-        skips_nameless: false,
+        skips_missing: has_flag(matches, "skip-missing"),
+        skips_nameless: has_flag(matches, "skip-nameless"),
         force: has_flag(matches, "force"),
-        decompresses: true,
+        decompresses: is_peer || has_flag(matches, "decompress"),
         opens_archives: has_flag(matches, "archives"),
         verifies_only: has_flag(matches, "verify-only"),
         verbose: has_flag(matches, "verbose"),
         warnings: value_of(matches, "warnings"),
         allows_overlap: has_flag(matches, "allow-overlap"),
-        prefix_maps: None,
-        partial: false,
-        lists_missing: false,
-        keeps_last_macros: false,
+        prefix_maps: values_of(matches, "prefix-map"),
+        partial: has_flag(matches, "partial"),
+        lists_missing: has_flag(matches, "missing"),
+        keeps_last_macros: has_flag(matches, "last-macros"),
+        drops_macros: has_flag(matches, "no-macros"),
     }
 }

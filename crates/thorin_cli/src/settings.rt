@@ -3,7 +3,7 @@
 
 use crate::manner::Manner;
 use thorin_arguments::PackArguments;
-use thorin_commands::{NamelessUnits, Packing, Warnings};
+use thorin_commands::{KeptMacros, NamelessUnits, Packing, Warnings};
 use thorin_errors::MissingReferencedObjectBehaviour;
 
 /// What is to be packed, in the packer's terms.
@@ -16,6 +16,8 @@ pub(crate) fn packing_of<'m, 'a>(
     } else {
         MissingReferencedObjectBehaviour::Error
     };
+    let warnings = warnings_of(arguments.warnings, manner.warnings);
+    let macros = macros_of(arguments, manner);
     Packing {
         output: arguments.output,
         inputs: arguments.inputs,
@@ -28,10 +30,24 @@ pub(crate) fn packing_of<'m, 'a>(
         partial: arguments.partial,
         opens_archives: arguments.opens_archives || manner.opens_archives,
         verbose: arguments.verbose,
-        warnings: warnings_of(arguments.warnings, manner.warnings),
+        warnings,
         allows_overlap: arguments.allows_overlap,
-        keeps_last_macros: arguments.keeps_last_macros || manner.keeps_last_macros,
+        macros,
+        warns_of_macros: macros == KeptMacros::All
+            && !matches!(warnings, Warnings::Never)
+            && (arguments.verbose || manner.tells_progress),
         lets_empty: manner.lets_empty,
+    }
+}
+
+/// Which macros count: those that the words keep, or the manner of a peer.
+fn macros_of(arguments: PackArguments<'_, '_>, manner: Manner) -> KeptMacros {
+    if arguments.drops_macros {
+        KeptMacros::None
+    } else if arguments.keeps_last_macros || manner.keeps_last_macros {
+        KeptMacros::Last
+    } else {
+        KeptMacros::All
     }
 }
 

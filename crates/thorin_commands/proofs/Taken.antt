@@ -7,11 +7,12 @@ use Rattle.thorin_errors.specs.declared.error.InputError.{InputError}
 use Rattle.thorin_errors.specs.declared.error.InputError.TheVariants as input
 use Rattle.thorin_sessions.specs.Sessions.{IsOffered}
 use Rattle.thorin_inputs.specs.Plain.{IsPlainOf}
-use Rattle.thorin_inputs.specs.Macros.{IsLastOf}
+use Rattle.dwp_macros.specs.declared.kept.KeptMacros.{KeptMacros}
+use Rattle.thorin_inputs.specs.Macros.{IsKeptOf}
 use Rattle.thorin_inputs.specs.Prefixes.{mapped}
 use Rattle.thorin_output.specs.Reads.{IsReadOver}
 use Rattle.thorin_commands.specs.Packing.{IsAmong, through}
-use Rattle.thorin_commands.specs.Plain.{Offer, taken_from, last_from}
+use Rattle.thorin_commands.specs.Plain.{Offer, taken_from, OffersKept}
 
 module _ (offer : Offer) (path : List ℕ) where
   -- a file that is decompressed
@@ -37,29 +38,19 @@ module _ (offer : Offer) (path : List ℕ) where
   taken_failed true room input.Memory result q h = rw q tt
   taken_failed false room e result q h = rw q h
 
-  -- one whose last macros alone are kept
-  pub with_last : (b : Bool) (file taken lent : List ℕ) → lent ≡ taken → b ≡ true
-      → offer path (Ok file) → IsLastOf file taken → last_from b offer path (Ok lent)
-  unfolding last_from
-  with_last b file taken lent l e offered last =
-      rw (l, e) (record { read = Ok file; offered = offered; last = last })
-
-  -- one that keeps them all
-  pub with_all : (b : Bool) (file lent : List ℕ) → lent ≡ file → b ≡ false
-      → offer path (Ok file) → last_from b offer path (Ok lent)
-  unfolding last_from
-  with_all b file lent l e offered = rw (l, e) offered
+  -- one of whose macros some may go
+  pub with_kept : (kept : KeptMacros) (file taken lent : List ℕ) → lent ≡ taken
+      → offer path (Ok file) → IsKeptOf kept file taken → OffersKept kept offer path (Ok lent)
+  with_kept kept file taken lent l offered keeps =
+      rw l (record { read = Ok file; offered = offered; keeps = keeps })
 
   -- a read that failed
-  pub with_none : (b : Bool) (room : List ℕ) (e : InputError)
+  pub with_none : (kept : KeptMacros) (room : List ℕ) (e : InputError)
       (result : Result (Bor (List ℕ)) InputError) → result ≡ Err e
-      → IsReadOver (offer path) room (Err e) → IsOffered (last_from b offer path) result
-  unfolding last_from
-  with_none true room (input.Io cause) result q h =
-      rw q (record { read = Err cause; offered = h; last = refl })
-  with_none true room input.Memory result q h = rw q tt
-  with_none false room (input.Io cause) result q h = rw q h
-  with_none false room input.Memory result q h = rw q tt
+      → IsReadOver (offer path) room (Err e) → IsOffered (OffersKept kept offer path) result
+  with_none kept room (input.Io cause) result q h =
+      rw q (record { read = Err cause; offered = h; keeps = refl })
+  with_none kept room input.Memory result q h = rw q tt
 
 -- where a path is read
 module _ (objects executables : List (Bor (List ℕ))) (offer : Offer) (path : List ℕ)

@@ -21,7 +21,7 @@ use Rattle.thorin_inputs.specs.Given.{StandsAt}
 use Rattle.thorin_inputs.specs.Prefixes.{mapped}
 use Rattle.thorin_output.specs.Files.{IsOfWriting}
 use Rattle.thorin_commands.specs.Archives.{StandFor}
-use Rattle.thorin_commands.specs.Plain.{Offer, taken_from, last_from}
+use Rattle.thorin_commands.specs.Plain.{Offer, taken_from, OffersKept}
 use Rattle.thorin_commands.specs.declared.packing.Packing.{Packing}
 use Rattle.thorin_commands.specs.declared.refusal.Refusal.{Refusal}
 use Rattle.thorin_commands.specs.declared.refusal.Refusal.TheVariants as refusals
@@ -86,10 +86,10 @@ through (word ∷ words) objects executables offer = λ path answer.
     ⊎ ((IsAmong objects path ⊎ IsAmong executables path) × offer path answer)
 
 -- what is taken for the file at a path that a command asks for, or that an executable names:
--- decompressed, and with the last macros alone, where that is asked for
+-- decompressed where that is asked for, and with the macros that are kept
 abbrev pub reads : Packing → Offer → Offer
 reads packing offer =
-    last_from packing.keeps_last_macros (taken_from packing.decompresses
+    OffersKept packing.macros (taken_from packing.decompresses
     (through (paths_in packing.prefix_maps) (paths_in packing.inputs)
     (paths_in packing.executables) offer))
 

@@ -13,6 +13,7 @@ mod refusal;
 mod taking;
 mod telling;
 
+pub use dwp_macros::KeptMacros;
 pub use missing::list_missing;
 pub use packing::{Packing, pack, verify};
 pub use thorin::NamelessUnits;

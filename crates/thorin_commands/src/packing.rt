@@ -22,6 +22,7 @@ use bumpalo::Bump;
 use dwp_bytes::RelocationEntry;
 use dwp_elf::WritableObject;
 use dwp_elf::laws::written_contents_are_read_back;
+use dwp_macros::KeptMacros;
 use dwp_table::DebugTypeSignature;
 use std::alloc::Global;
 use std::io::Write;
@@ -63,8 +64,10 @@ pub struct Packing<'m, 'a> {
     pub warnings: Warnings,
     /// Whether an input may have sections that overlap.
     pub allows_overlap: bool,
-    /// Whether of an object's sections of macros only the last counts.
-    pub keeps_last_macros: bool,
+    /// Which of an object's sections of macros count.
+    pub macros: KeptMacros,
+    /// Whether an object is warned of that has several, and of which all count.
+    pub warns_of_macros: bool,
     /// Whether the package is empty where nothing of the executables is split, and that is no
     /// error.
     pub lets_empty: bool,

@@ -1,10 +1,12 @@
-//! The reader of the inputs of `pack`: files are read, decompressed, left with their last macros
-//! where that is asked for, and tested for strings and sections that overlap; what can't be read is
+//! The reader of the inputs of `pack`: files are read, decompressed, left with the macros
+//! that are kept, and tested for strings and sections that overlap; what can't be read is
 //! kept for notes.
 
-ghost use Rattle.std.specs.Prelude.{◌≡◌, ◌⊎◌, IsTrue, IfOk, IfErr, string_bytes};
+ghost use Rattle.std.specs.Prelude.{◌≡◌, ◌⊎◌, IsTrue, IfOk, IfErr, OnOk, string_bytes};
 ghost use Rattle.std.specs.Path.{path_bytes};
 ghost use Rattle.thorin_sessions.specs.Sessions.{IsNoWantOfMemory};
+ghost use Rattle.thorin_errors.specs.declared.error.InputError.TheVariants.{Memory};
+ghost use Rattle.thorin_inputs.specs.Macros.{IsKeptOf};
 ghost use Rattle.thorin_inputs.specs.Prefixes.{mapped as mapped_path};
 ghost use Rattle.thorin_output.specs.Reads.{IsReadOver};
 ghost use Rattle.thorin_commands.specs.Packing.{IsAmong, paths_in, through, reads};
@@ -14,6 +16,7 @@ use crate::asked::executable_of;
 use crate::origins::{Origin, Origins};
 use crate::packing::{Packing, paths_in};
 use crate::reading::Inputs;
+use dwp_macros::MacrosError;
 use dwp_table::{DwarfObject, DwoId};
 use std::alloc::{AllocError, Global};
 use std::cell::Cell;
@@ -22,10 +25,10 @@ use thorin::{Input, InputReader, Repetition};
 use thorin_errors::InputError;
 use thorin_inputs::{
     AbsentUnits, Encodings, Growth, MacroWarnings, Repetitions, count_units, decompress,
-    has_compressed_overlap, has_inner_strings, has_overlap, keep_last_macros, mapped, place_among,
+    has_compressed_overlap, has_inner_strings, has_overlap, keep_macros, mapped, place_among,
     plain_of, reason,
 };
-use thorin_output::{FileSystem, Warnings};
+use thorin_output::FileSystem;
 use thorin_print::Failure;
 
 /// Files as inputs.
@@ -37,7 +40,7 @@ pub(crate) struct InputFiles<'f, F> {
     packing: &'f Packing<'f, 'f>,
     /// The place among the objects of the command line at which the next path is looked for.
     next: Cell<usize>,
-    /// What is warned of where not only the last of an object's sections of macros counts.
+    /// What is warned of where several of an object's sections of macros count.
     macros: MacroWarnings,
     /// Whether the next read is that of an input's own path.
     begins: Cell<bool>,
@@ -69,13 +72,12 @@ impl<'f, F: FileSystem> InputFiles<'f, F> {
         ensures files { result.files.now ≡ files.now }
         ensures packing { result.packing.now ≡ packing.now }
     {
-        let warns = !packing.keeps_last_macros && !matches!(packing.warnings, Warnings::Never);
         InputFiles {
             alloc,
             files,
             packing,
             next: Cell::new(0),
-            macros: MacroWarnings::new(alloc, warns),
+            macros: MacroWarnings::new(alloc, packing.warns_of_macros),
             begins: Cell::new(false),
             own: Cell::new(None),
             named: Cell::new(None),
@@ -239,6 +241,22 @@ impl<F: FileSystem> InputFiles<'_, F> {
         Ok(())
     }
 
+    /// Leaves only the macros that are kept in a file: where others can't be left out, it is refused.
+    fn keep_macros(&self, room: &mut Vec<u8>) -> Result<(), InputError>
+        ensures kept { OnOk result (IsKeptOf self.now.packing.now.macros room.old.items
+            room.new.items) }
+        ensures memory { IfErr result (λ e. e ≡ Memory) }
+    {
+        match keep_macros(self.alloc, self.packing.macros, room) {
+            Ok(()) => Ok(()),
+            Err(MacrosError::Memory) => Err(InputError::Memory),
+            Err(MacrosError::Unrepresentable) => {
+                self.growth.set(Some(Growth::Macros));
+                Err(InputError::Memory)
+            }
+        }
+    }
+
     /// Looks at the file at a path: at its encoding, for notes, and for several sections of macros,
     /// where that is to be warned of.
     fn inspect(&self, path: &str, file: &[u8]) -> Result<(), AllocError> {
@@ -275,7 +293,7 @@ impl<F: FileSystem> InputFiles<'_, F> {
 impl<F: FileSystem> InputReader for InputFiles<'_, F> {
     ghost offer = { λ inputs. reads inputs.packing.now (F.offer inputs.files.now) };
 
-    #[tactic(auto, using(crate::proofs::Taken::with_last, crate::proofs::Taken::with_all, crate::proofs::Taken::with_none))]
+    #[tactic(auto, using(crate::proofs::Taken::with_kept, crate::proofs::Taken::with_none))]
     fn read_into<'b>(
         &'b self,
         path: Path<'_>,
@@ -285,10 +303,7 @@ impl<F: FileSystem> InputReader for InputFiles<'_, F> {
         self.read_plain(path, room)?;
         self.test_strings(is_own, room)?;
         self.inspect(path.path_text(), room)?;
-        if !self.packing.keeps_last_macros {
-            return Ok(room.as_slice());
-        }
-        keep_last_macros(self.alloc, room)?;
+        self.keep_macros(room)?;
         Ok(room.as_slice())
     }
 

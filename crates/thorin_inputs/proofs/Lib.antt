@@ -1,4 +1,3 @@
-mod Last
 mod Prefixing
 mod Sizes
 mod Standing

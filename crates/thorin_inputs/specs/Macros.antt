@@ -1,14 +1,14 @@
--- Files of whose sections of macros only the last counts.
-use Rattle.std.specs.Prelude.{◌≡◌, ℕ, List, Result, Option, Some, None, ◌⊎◌}
+-- Files of which only the macros that are kept have bytes.
+use Rattle.std.specs.Prelude.{◌≡◌, ℕ, List, Result, Option, Some, None}
 use Rattle.dwp_elf_read.specs.Elf.{Elf, elf_of}
 use Rattle.dwp_elf_read.specs.declared.error.ReadError.{ReadError}
-use Rattle.dwp_macros.specs.Last.{last_macros_of}
+use Rattle.dwp_macros.specs.Kept.{kept_macros_of}
+use Rattle.dwp_macros.specs.declared.kept.KeptMacros.{KeptMacros}
 
--- what is taken for a file of whose sections of macros only the last counts, by what it is then: a
--- file that is so, unless none can be written; else the file as it is
-abbrev pub IsLast : (file taken : List ℕ) → Option (Result Elf ReadError) → Type 0
-IsLast file taken (Some last) = (elf_of taken ≡ last) ⊎ (taken ≡ file)
-IsLast file taken None = taken ≡ file
+-- what is taken for a file: one that is so, where macros go; else the file as it is
+abbrev pub HasKept : (file taken : List ℕ) → Option (Result Elf ReadError) → Type 0
+HasKept file taken (Some meaning) = elf_of taken ≡ meaning
+HasKept file taken None = taken ≡ file
 
-unfoldable pub IsLastOf : (file taken : List ℕ) → Type 0
-IsLastOf file taken = IsLast file taken (last_macros_of file)
+unfoldable pub IsKeptOf : KeptMacros → (file taken : List ℕ) → Type 0
+IsKeptOf kept file taken = HasKept file taken (kept_macros_of kept file)

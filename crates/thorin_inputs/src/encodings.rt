@@ -90,7 +90,7 @@ fn has(found: &[First], encoding: Encoding, order: Endianness) -> bool {
 
 /// The encoding and the byte order of an object or a package, which are those of its first unit;
 /// none where it has none that can be read.
-fn encoding_of(file: &[u8]) -> Option<(Encoding, Endianness)> {
+pub(crate) fn encoding_of(file: &[u8]) -> Option<(Encoding, Endianness)> {
     let file = ElfFile::parse(file).ok()?;
     let section = file.section_by_name(".debug_info.dwo")?;
     let bytes = section.data().ok()?;

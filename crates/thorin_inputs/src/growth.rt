@@ -11,7 +11,8 @@ pub(crate) const LEAST_ROOM: usize = 1 << 12;
 /// How many bytes a type unit counts that differs from the one kept: a line warns of it.
 const DIFFERING_SIZE: usize = 64;
 
-/// How an input would make the package larger than its files are.
+/// Why an input is refused that a builder may take: it would make the package larger than its files
+/// are, or can't be changed as it is to be.
 #[derive(Clone, Copy)]
 pub enum Growth {
     /// The sections of a file overlap.
@@ -20,6 +21,8 @@ pub enum Growth {
     Strings,
     /// An object that lacks the units which name it would be added for each of them.
     Repetition,
+    /// Macros that are to go can't be left out of a file.
+    Macros,
 }
 
 impl Growth {
@@ -29,6 +32,7 @@ impl Growth {
             Growth::Sections => "Sections overlap",
             Growth::Strings => "Strings overlap",
             Growth::Repetition => "Object named too often",
+            Growth::Macros => "Macros can't be left out",
         }
     }
 
@@ -37,6 +41,7 @@ impl Growth {
         match self {
             Growth::Sections | Growth::Strings => "--allow-overlap packs it",
             Growth::Repetition => "lacks units that name it",
+            Growth::Macros => "its section headers lie in another section, or it is cut off",
         }
     }
 }

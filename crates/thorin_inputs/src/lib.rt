@@ -23,7 +23,7 @@ pub use encodings::Encodings;
 pub use given::place_among;
 pub use growth::{Growth, Repetitions};
 pub use inner::has_inner_strings;
-pub use macros::{MacroWarnings, keep_last_macros};
+pub use macros::{MacroWarnings, keep_macros};
 pub use notes::{
     note_absent, note_alone, note_before, note_reason, note_refused, note_twice_in, place_of,
     place_of_member, reason,

@@ -1,29 +1,27 @@
-//! Objects with several sections of macros: the last alone counts where that is asked for, else a
-//! warning tells of them.
+//! Objects with several sections of macros: which of them count, and a warning where more than one
+//! does.
 
 ghost use Rattle.std.specs.Prelude.{OnOk};
-ghost use Rattle.thorin_inputs.specs.Macros.{IsLastOf};
+ghost use Rattle.thorin_inputs.specs.Macros.{IsKeptOf};
 
+use crate::encodings::encoding_of;
 use crate::notes::place_of;
-use dwp_macros::{MacrosError, has_several_macros, with_last_macros};
+use dwp_macros::{KeptMacros, MacrosError, loses_macros, with_macros};
 use std::alloc::{AllocError, Global};
 use std::cell::Cell;
 
-/// Leaves only the last of a file's sections of macros its bytes. A file stays as it is where that
-/// can't be written.
-#[tactic(auto, using(crate::proofs::Last::is_last, crate::proofs::Last::stays))]
-pub fn keep_last_macros(alloc: Global, file: &mut Vec<u8>) -> Result<(), AllocError>
-    ensures { OnOk result (IsLastOf file.old.items file.new.items) }
+/// Leaves only the sections of a file's macros that are kept their bytes.
+///
+/// # Errors
+/// `Unrepresentable` where that can't be written, and `Memory`: the file stays as it is.
+#[tactic(auto, unfolding(crate::specs::Macros::IsKeptOf))]
+pub fn keep_macros(alloc: Global, kept: KeptMacros, file: &mut Vec<u8>) -> Result<(), MacrosError>
+    ensures { OnOk result (IsKeptOf kept file.old.items file.new.items) }
 {
-    match with_last_macros(alloc, file) {
-        Ok(Some(last)) => {
-            *file = last;
-            Ok(())
-        }
-        Ok(None) => Ok(()),
-        Err(MacrosError::Memory) => Err(AllocError),
-        Err(MacrosError::Unrepresentable) => Ok(()),
+    if let Some(changed) = with_macros(alloc, file, kept)? {
+        *file = changed;
     }
+    Ok(())
 }
 
 /// Warnings of objects with several sections of macros, one for each input.
@@ -64,7 +62,7 @@ impl MacroWarnings {
         own: &str,
         named: Option<&str>,
     ) -> Result<(), AllocError> {
-        if !self.looks || self.found.get() || !has_several_macros(file) {
+        if !self.looks || self.found.get() || !is_warned_of(file) {
             return Ok(());
         }
         self.found.set(true);
@@ -75,7 +73,7 @@ impl MacroWarnings {
     /// Adds a line.
     fn add(&self, place: &str) -> Result<(), AllocError> {
         let line = format!(in self.alloc;
-            "warning: {place}: several .debug_macro.dwo sections: --last-macros keeps the last\n"
+            "warning: {place}: several .debug_macro.dwo sections, which gdb can't read: --no-macros leaves them out\n"
         )?;
         let lines = match self.lines.replace(None) {
             Some(mut lines) => {
@@ -95,4 +93,14 @@ impl MacroWarnings {
             None => String::new(self.alloc),
         }
     }
+}
+
+/// Whether an object has several sections of macros, and is of a version of DWARF of which debuggers
+/// then read no unit: one before 5.
+fn is_warned_of(file: &[u8]) -> bool {
+    loses_macros(file, KeptMacros::Last)
+        && match encoding_of(file) {
+            Some((encoding, _)) => encoding.version < 5,
+            None => false,
+        }
 }

@@ -1,14 +1,16 @@
 //! Texts out of files and of the command line as they are printed.
 
-ghost use Rattle.std.specs.Prelude.{◌≡◌, ◌++◌, ◌∷◌, [], ◌<◌, ◌||◌, ◌==◌, nat_lt, string_bytes};
+ghost use Rattle.std.specs.Prelude.{◌≡◌, ◌++◌, ◌∷◌, [], ◌<◌, IsTrue, string_bytes};
 ghost use Rattle.std.specs.Prelude.{IfOk, OnOk};
 ghost use Rattle.thorin_words.specs.Printed as spec;
-ghost use Rattle.thorin_words.specs.Printed.{hex_digit, printed_character};
+ghost use Rattle.thorin_words.specs.Printed.{hex_digit, two_digits, printed_character};
+ghost use Rattle.thorin_words.specs.Printed.{is_short_control, is_long_control};
 
 use std::alloc::{AllocError, Global};
 
-/// A text as it is printed: a character below a blank, and the one that deletes, as `\x` and two
-/// digits of its number, so that no text forges a line or commands a terminal.
+/// A text as it is printed: a control character as `\x` and two digits of its number, a separator of
+/// lines and a mark that turns the direction of a text as `\u` and four, so that no text forges a
+/// line or commands a terminal.
 ///
 /// # Errors
 /// Want of memory.
@@ -28,19 +30,45 @@ fn push_printed(printed: &mut String, c: char) -> Result<(), AllocError>
         ++ printed_character c) }
 {
     let number = u32::from(c);
-    if !is_control(number) {
-        return printed.push(c);
+    if is_short_control(number) {
+        printed.push_str("\\x")?;
+        return push_digits(printed, number);
     }
-    printed.push_str("\\x")?;
-    push_digit(printed, number / 16)?;
-    push_digit(printed, number % 16)
+    if is_long_control(number) {
+        printed.push_str("\\u")?;
+        push_digits(printed, number / 256)?;
+        return push_digits(printed, number % 256);
+    }
+    printed.push(c)
 }
 
-/// Whether the character of a number isn't printed as it is.
-fn is_control(number: u32) -> bool
-    ensures { result ≡ (nat_lt number 32 || (number == 127)) }
+/// Whether the character of a number is a control character.
+fn is_short_control(number: u32) -> bool
+    ensures { result ≡ is_short_control number }
 {
-    number < 32 || number == 127
+    number < 32 || (126 < number && number < 160)
+}
+
+/// Whether it separates lines, or turns the direction of a text.
+fn is_long_control(number: u32) -> bool
+    ensures is { result ≡ is_long_control number }
+    ensures bound { IsTrue result → number < 65536 }
+{
+    number == 0x61c
+        || number == 0x200e
+        || number == 0x200f
+        || (0x2027 < number && number < 0x202f)
+        || (0x2065 < number && number < 0x206a)
+}
+
+/// Adds the two digits of a number.
+fn push_digits(printed: &mut String, number: u32) -> Result<(), AllocError>
+    requires { number < 256 }
+    ensures { OnOk result (string_bytes printed.new ≡ string_bytes printed.old
+        ++ two_digits number) }
+{
+    push_digit(printed, number / 16)?;
+    push_digit(printed, number % 16)
 }
 
 /// Adds a hexadecimal digit.

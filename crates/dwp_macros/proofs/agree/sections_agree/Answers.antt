@@ -1,6 +1,6 @@
 use Rattle.std.proofs.Common.{◌≡◌, ◌+◌, ◌-◌, sym, ap, ◌∙◌, arith, option_map}
 use Rattle.dwp_elf_read.specs.View.{elf, section}
-use Rattle.dwp_macros.specs.Last.{has_macros}
+use Rattle.dwp_macros.specs.Kept.{has_macros}
 use Rattle.dwp_macros.proofs.Walks.{any_step, any_end, kept_step, kept_end}
 use Rattle.dwp_macros.proofs.agree.sections_agree.Goals as goal
 
@@ -10,7 +10,7 @@ loop-left-init c =
     record {
       inside = omega arith;
       more = any_end has_macros (elf c.args.old.now).sections count (omega arith);
-      agree = kept_end (elf c.args.old.now).sections (elf c.args.new.now).sections count
+      agree = kept_end c.args.kept (elf c.args.old.now).sections (elf c.args.new.now).sections count
           (omega arith) (omega arith);
     }
 
@@ -30,6 +30,6 @@ loop-left-preserved c =
     record {
       inside = omega arith;
       more = any_step has_macros xs i j x _ _ next at c.has_macros-has_more.ensures more;
-      agree = kept_step xs i j x _ next at more ys y is (c.is_kept.ensures c.if-not-is_kept.false)
+      agree = kept_step c.args.kept xs i j x _ next at more ys y is _ c.go.ensures (c.is_kept.ensures c.if-not-is_kept.false)
           c.loop-left.invariant.agree;
     }

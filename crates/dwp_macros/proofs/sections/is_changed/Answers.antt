@@ -1,7 +1,7 @@
 use Rattle.std.proofs.Common.{◌≡◌, ◌+◌, ◌-◌, ◌<◌, ◌≤◌, length, sym, ap, ◌∙◌, arith, option_map}
 use Rattle.dwp_elf_read.specs.View.{elf, section}
-use Rattle.dwp_macros.specs.Last.{has_macros, is_index}
-use Rattle.dwp_macros.proofs.Walks.{any_step, any_end, several_step, several_end}
+use Rattle.dwp_macros.specs.Kept.{has_macros, is_index}
+use Rattle.dwp_macros.proofs.Walks.{any_step, any_end, lose_step, lose_end}
 use Rattle.dwp_macros.proofs.sections.is_changed.Goals as goal
 use Rattle.dwp_base.proofs.Finds.{slice_get_none}
 
@@ -12,7 +12,7 @@ loop-left-init c =
     record {
       inside = omega arith;
       more = any_end has_macros xs _ h;
-      several = several_end xs _ h;
+      lose = lose_end c.args.kept xs _ h;
       indexed = any_end is_index xs _ h;
     }
 
@@ -35,8 +35,8 @@ loop-left-preserved c =
     record {
       inside = omega arith;
       more = any_step has_macros xs i j x _ _ next at c.has_macros-has_more.ensures more;
-      several = several_step xs i j x _ next at more _ _ c.loop-left.invariant.several
-          c.has_macros.ensures;
+      lose = lose_step c.args.kept xs i j x _ next at more _ _ _ c.loop-left.invariant.lose
+          c.has_macros.ensures c.go.ensures;
       indexed = any_step is_index xs i j x _ _ next at c.is_index-indexed.ensures
           c.loop-left.invariant.indexed;
     }

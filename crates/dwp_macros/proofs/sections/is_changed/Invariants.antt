@@ -1,7 +1,7 @@
 use Rattle.std.proofs.Common.{◌≡◌, ◌≤◌, drop, length}
 use Rattle.std.specs.List.{list_any}
 use Rattle.dwp_elf_read.specs.View.{elf}
-use Rattle.dwp_macros.specs.Last.{has_macros, has_several, is_index}
+use Rattle.dwp_macros.specs.Kept.{has_macros, lose, is_index}
 use Rattle.dwp_macros.proofs.sections.is_changed.Given as goal
 
 -- what was found behind
@@ -9,7 +9,7 @@ abbrev pub invariant-loop-left : goal.invariant-loop-left
 invariant-loop-left l = record {
   inside : l.left ≤ length (elf l.file).sections;
   more : l.has_more ≡ list_any has_macros (drop l.left (elf l.file).sections);
-  several : l.several ≡ has_several (drop l.left (elf l.file).sections);
+  lose : l.lose ≡ lose l.kept (drop l.left (elf l.file).sections);
   indexed : l.indexed ≡ list_any is_index (drop l.left (elf l.file).sections);
 }
 
