@@ -35,7 +35,7 @@ pub(crate) fn packing_of<'m, 'a>(
         macros,
         warns_of_macros: macros == KeptMacros::All
             && !matches!(warnings, Warnings::Never)
-            && (arguments.verbose || manner.tells_progress),
+            && (arguments.verbose || manner.on_terminal),
         lets_empty: manner.lets_empty,
     }
 }
