@@ -22,11 +22,11 @@ const PACK_EXAMPLES: &'static str = "Examples:
   thorin pack -o app.dwp -e app            packs those that app refers to
 
 Nothing is printed where all went well, but for lines `warning: `: for each type
-unit that was passed over though it differs from the one kept, and for an input
-that has an object with several sections of macros. At the first input that is
-refused a line `error: ` says why, and OUT isn't written: status 1. On a
-terminal, and with --verbose, a line `note: ` says where. Where a warning can't
-be printed the status is 1; OUT is written, unless the warning is of --partial.";
+unit that was passed over though it differs from the one kept, and on a terminal
+or with --verbose for an object with several sections of macros. At the first
+input that is refused a line `error: ` says why and a line `note: ` where, and
+OUT isn't written: status 1. Where a warning can't be printed the status is 1;
+OUT is written, unless the warning is of --partial.";
 
 const FIND_EXAMPLES: &'static str = "Example:
   thorin find hello.dwp cu 0x084a58cc96339e44
