@@ -1,5 +1,11 @@
 //! Answers the rows of its data files: each is a call of the crates of formats, `dwp_base` to
 //! `dwp_decompress`, with its arguments, and is printed with what it answers. For the gate alone.
+//!
+//! `CALL WORD..`, as `test_rows` has it. What words a call takes is said above its function: those
+//! of `base.rows` and `table.rows` are in `formats`, of `bytes.rows` in `reading` and `formats`, of
+//! `elf.rows`, `elf_read.rows`, `dwarf.rows` and `index.rows` in the modules of these names, and of
+//! `inflate.rows`, `archive.rows` and `decompress.rows` in `inflated`, `archived` and
+//! `decompressed`.
 #![tactic(auto)]
 
 mod archived;

@@ -1,6 +1,9 @@
 //! Answers the rows of its data files: each is a call of the parts of packaging, `thorin_errors` to
 //! `thorin_executable`, with its arguments, and is printed with what it answers. For the gate
 //! alone.
+//!
+//! `CALL WORD..`, as `test_rows` has it. What words a call takes is said above its function, in the
+//! module of the file's name.
 #![tactic(auto)]
 
 mod errors;

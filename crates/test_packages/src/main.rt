@@ -1,8 +1,9 @@
-//! Runs the lines of the scripts of `data/` and prints each line that asks something with what it
-//! answers: packing, packages as inputs, packages cut or damaged, packing in groups, and the same
-//! of what a seed damages. A script makes its inputs byte for byte (`objects`), packs them
-//! (`packing`, `builders`, `large`), reads what came of it (`reading`, `cutting`), and damages
-//! samples by chance (`random`). For the gate; with `random`, by hand too.
+//! Runs the lines of the scripts of `data/`, of those that its words name or of all, and prints
+//! their comments, and each line that asks something with what it answers: packing, packages as
+//! inputs, packages cut or damaged, packing in groups, and the same of what a seed damages. A
+//! script makes its inputs byte for byte (`objects`), packs them (`packing`, `builders`, `large`),
+//! reads what came of it (`reading`, `cutting`), and damages samples by chance (`random`). For the
+//! gate; with `random`, by hand too.
 #![tactic(auto)]
 
 mod builders;
@@ -16,7 +17,7 @@ mod tally;
 
 use std::alloc::Global;
 use std::{fs, io};
-use test_rows::{Said, Table, split};
+use test_rows::{Said, Table, asked, split};
 
 /// The script that names the parts that every other one may use.
 const COMMON: &str = "common";
@@ -38,8 +39,14 @@ const SCRIPTS: [&str; 12] = [
 ];
 
 fn main(rt: HostRuntime) -> io::Result<()> {
-    for i in 0..SCRIPTS.len() {
-        run_named(&rt, SCRIPTS[i])?;
+    let asked = asked(&rt)?;
+    for script in &asked {
+        run_named(&rt, script)?;
+    }
+    if asked.is_empty() {
+        for i in 0..SCRIPTS.len() {
+            run_named(&rt, SCRIPTS[i])?;
+        }
     }
     Ok(())
 }
@@ -51,8 +58,8 @@ fn run_named(rt: &HostRuntime, script: &str) -> io::Result<()> {
     let common = text_of(rt, COMMON, &mut said);
     let lines = text_of(rt, script, &mut said);
     let mut table = Table::new(rt.alloc());
-    run_script(rt, &mut table, &common, &mut said);
-    run_script(rt, &mut table, &lines, &mut said);
+    run_script(rt, &mut table, false, &common, &mut said);
+    run_script(rt, &mut table, true, &lines, &mut said);
     let answers = said.finish()?;
     print!(rt; "== {script}\n{answers}")
 }
@@ -68,9 +75,19 @@ fn text_of(rt: &HostRuntime, file: &str, said: &mut Said) -> String {
     }
 }
 
-/// Runs the lines of a script.
-fn run_script<'n>(rt: &HostRuntime, table: &mut Table<'n>, script: &'n str, said: &mut Said) {
+/// Runs the lines of a script, and says its comments where they are asked for.
+fn run_script<'n>(
+    rt: &HostRuntime,
+    table: &mut Table<'n>,
+    is_told: bool,
+    script: &'n str,
+    said: &mut Said,
+) {
     for line in script.lines() {
+        if is_told && line.starts_with('#') {
+            said.add(line);
+            said.add("\n");
+        }
         let line = split(line, "#").0;
         let words = line.split_whitespace().collect(rt.alloc());
         let words: Vec<&str> = said.made(words, Vec::new(rt.alloc()));

@@ -1,6 +1,12 @@
 //! What the programs of rows have in common: each row of their data files is a call with its
 //! arguments, and is printed with what it answers. Also the bytes of a script by their names, and
 //! damage to bytes by a seed. For the gate alone.
+//!
+//! A row is a line `CALL WORD..`; a line that begins with `#` is a comment, and isn't printed. Bytes
+//! are hexadecimal digits, or `@NAME`, whose digits stand behind the name in a line of the file
+//! `named`; changes may follow, each `,PLACE=BYTE`. A number is decimal, or hexadecimal behind
+//! `0x`; a byte order is `little` or `big`, a format `narrow` or `wide`; a kind of section has its
+//! name in the enum, as `StrOffsets`. What a call answers is printed behind four blanks.
 #![tactic(auto)]
 
 mod damage;
@@ -13,7 +19,7 @@ pub use row::{
     split,
 };
 use std::alloc::{AllocError, Global};
-use std::{fs, io};
+use std::{env, fs, io};
 pub use table::{Table, part};
 
 /// The calls of a program of rows.
@@ -22,16 +28,33 @@ pub trait Calls {
     fn call(&self, row: Row<'_>, said: &mut Said);
 }
 
-/// Prints the name of each file of rows, and its rows, each with what it answers in the next line.
-/// The file `named` has the bytes that rows name.
+/// The words of the command line behind the program's name: the files that are to be run alone.
+///
+/// # Errors
+///
+/// A word is no UTF-8, or memory is refused.
+pub fn asked(rt: &HostRuntime) -> io::Result<Vec<String>> {
+    let words = env::args(rt)?;
+    let words: Vec<String> = words.skip(1).collect(rt.alloc())?;
+    Ok(words)
+}
+
+/// Prints the name of each file of rows, and its rows, each with what it answers in the next line:
+/// of those that the command line names, or of all. The file `named` has the bytes that rows name.
 ///
 /// # Errors
 ///
 /// A file can't be read, nothing can be printed, or memory is refused.
 pub fn print_files<C: Calls>(rt: &HostRuntime, calls: &C, files: &[&str]) -> io::Result<()> {
     let named = fs::read_to_string(rt, "named")?;
-    for file in files {
+    let asked = asked(rt)?;
+    for file in &asked {
         print_rows(rt, calls, &named, file)?;
+    }
+    if asked.is_empty() {
+        for file in files {
+            print_rows(rt, calls, &named, file)?;
+        }
     }
     Ok(())
 }
