@@ -2,7 +2,6 @@
 
 ghost use Rattle.std.specs.Prelude.{◌≡◌, ◌++◌, Err, OnOk, string_bytes};
 ghost use Rattle.dwp_index.specs.Package.{package_of};
-ghost use Rattle.thorin_find.specs.Files.{anything};
 ghost use Rattle.thorin_check.specs.Checking.{count_text, counts_line, status_of};
 ghost use Rattle.thorin_find.specs.Listing.{has_no_index};
 ghost use Rattle.thorin_check.specs.Checking.{TellsPackage, IsOfChecking, Finishes, PrintsLast};
@@ -20,8 +19,24 @@ use crate::units::check_units;
 use dwp_index::{PackageFile, UnitEntry};
 use std::alloc::AllocError;
 use std::io::Write;
-use thorin_find::{FileReader, HostReader, entries_by_row, has_no_index, read_named};
+use thorin_find::{FileReader, entries_by_row, has_no_index, read_named};
 use thorin_print::{Failure, flush, print};
+
+/// The same as `check_by`, with a JSON object for each line.
+///
+/// # Errors
+/// Those of `check_by`.
+pub fn check_as_json<F: FileReader, O: Write>(
+    rt: &HostRuntime,
+    files: &F,
+    file: &str,
+    executables: &[&str],
+    reading: Reading,
+    out: &mut O,
+) -> Result<u8, Failure> {
+    let mut lines = JsonLines::new(rt.alloc(), out);
+    check_by(rt, files, file, executables, reading, &mut lines)
+}
 
 /// Goes over a package: each unit that a slot of an index names is found under its identifier, its
 /// ranges are inside their sections, its header and all its strings can be read, and the identifier
@@ -33,38 +48,6 @@ use thorin_print::{Failure, flush, print};
 /// # Errors
 /// `Input` where a file can't be read, `Malformed` where it is no package, `NoIndex` where it has
 /// no index, `Line` or `Memory`.
-pub fn check<O: Write>(
-    rt: &HostRuntime,
-    file: &str,
-    executables: &[&str],
-    reading: Reading,
-    out: &mut O,
-) -> Result<u8, Failure>
-    ensures { Checks anything file.now (record { paths = executables.now; reading = reading })
-        (O.contents out.old) (O.contents out.new) result }
-{
-    check_by(rt, &HostReader::new(rt), file, executables, reading, out)
-}
-
-/// The same, with a JSON object for each line.
-///
-/// # Errors
-/// Those of `check`.
-pub fn check_as_json<O: Write>(
-    rt: &HostRuntime,
-    file: &str,
-    executables: &[&str],
-    reading: Reading,
-    out: &mut O,
-) -> Result<u8, Failure> {
-    let mut lines = JsonLines::new(rt.alloc(), out);
-    check(rt, file, executables, reading, &mut lines)
-}
-
-/// The same of files that a reader reads: that of the package, and the executables.
-///
-/// # Errors
-/// Those of `check`.
 #[tactic(auto, using(crate::proofs::Checked::not_checked))]
 pub fn check_by<F: FileReader, O: Write>(
     rt: &HostRuntime,

@@ -2,7 +2,7 @@
 
 use std::alloc::{AllocError, Global};
 use std::io::{self, Write};
-use thorin_print::put_spelled;
+use thorin_print::{Form, put_spelled};
 
 /// Prints each line that it is given as a JSON object: of a fault of a unit its kind, its identifier
 /// and the rest, of another fault its text, and the numbers of units and of faults.
@@ -73,7 +73,7 @@ fn put_fault(line: &str, text: &mut String) -> Result<(), AllocError> {
 /// Adds what is told of a fault, and the end of the object.
 fn put_text(mark: &str, told: &[u8], text: &mut String) -> Result<(), AllocError> {
     write!(text, "{mark}\"fault\":\"")?;
-    put_spelled(told, true, text)?;
+    put_spelled(told, Form::Json, text)?;
     text.push_str("\"}\n")
 }
 

@@ -13,5 +13,5 @@ mod strings;
 mod tables;
 mod units;
 
-pub use checking::{check, check_as_json, check_by};
+pub use checking::{check_as_json, check_by};
 pub use executables::Reading;
