@@ -15,7 +15,7 @@ use std::io::{self, Write};
 use thorin_arguments::{
     CheckArguments, Commands, FindArguments, ListArguments, PackArguments, is_peer,
 };
-use thorin_check::{Reading, check_as_json, check_by};
+use thorin_check::{Reading, check_by};
 use thorin_commands::{FileSystem, HostFiles, Packing, list_missing, pack};
 use thorin_find::{FindForm, FindWords, HostReader, ListForm, find_by, lacks_index, list_by};
 pub use thorin_print::Failure;
@@ -186,25 +186,23 @@ impl<O: Write, E: Write> Program<'_, '_, '_, O, E> {
     /// Checks the package that would be made.
     fn verify_as(&mut self, packing: &Packing<'_, '_>) -> u8 {
         let reading = Reading {
+            form: Form::Lines,
             decompresses: packing.decompresses,
             nameless: packing.nameless,
         };
         match packing.output_name(self.rt.alloc()) {
             Ok(output) => {
                 let executables = packing.executables.unwrap_or(&[]);
-                self.check_as(output.as_str(), executables, reading, Form::Lines)
+                self.check_as(output.as_str(), executables, reading)
             }
             Err(failure) => report(self.err, &failure),
         }
     }
 
     /// Checks a package.
-    fn check_as(&mut self, file: &str, executables: &[&str], reading: Reading, form: Form) -> u8 {
-        let (rt, files) = (self.rt, HostReader::new(self.rt));
-        let answer = match form {
-            Form::Lines => check_by(rt, &files, file, executables, reading, &mut self.out),
-            Form::Json => check_as_json(rt, &files, file, executables, reading, &mut self.out),
-        };
+    fn check_as(&mut self, file: &str, executables: &[&str], reading: Reading) -> u8 {
+        let files = HostReader::new(self.rt);
+        let answer = check_by(self.rt, &files, file, executables, reading, &mut self.out);
         self.status(answer, Given::file(file), &files)
     }
 }
@@ -271,10 +269,11 @@ impl<O: Write, E: Write> Commands for Program<'_, '_, '_, O, E> {
             json,
         } = arguments;
         let reading = Reading {
+            form: form_of(json),
             decompresses,
             nameless: nameless_units(skips_nameless),
         };
-        self.check_as(file, executables, reading, form_of(json))
+        self.check_as(file, executables, reading)
     }
 
     fn show<D: fmt::Display>(&mut self, text: &D) -> u8 {
