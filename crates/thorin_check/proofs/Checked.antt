@@ -57,7 +57,7 @@ module _ (offer : Offer) where
       → TellsOr (IsOfReading offer executable)
       (TellsExecutable offer reading pack executable) a b result
   executable_read reading pack executable a b (Ok done) bytes lent read same t =
-      told_as t (λ lines k. record { bytes = bytes; read = read; tells = rw same at k })
+      told_as t (λ faults k. record { bytes = bytes; read = read; tells = rw same at k })
   executable_read reading pack executable a b (Err failure) bytes lent read same t = grind (arith)
 
 -- ---- what is taken for an executable
@@ -67,37 +67,39 @@ module _ (reading : Reading) (pack : Package) (executable bytes : List ℕ) (a b
       → Tells (TellsListed pack executable (skeletons_by reading.nameless bytes)) a b result
       → Tells (TellsTaken reading pack executable bytes) a b result
   taken_as_it_is result e =
-      tells_as a b result (λ lines k. record { taken = bytes; is_taken = rw e refl; listed = k })
+      tells_as a b result (λ faults k. record { taken = bytes; is_taken = rw e refl; listed = k })
 
   pub taken_plain : (result : Outcome) (plain lent : List ℕ) → reading.decompresses ≡ true
       → IsPlainOf bytes plain → lent ≡ plain
       → Tells (TellsListed pack executable (skeletons_by reading.nameless lent)) a b result
       → Tells (TellsTaken reading pack executable bytes) a b result
   taken_plain result plain lent e is same t = tells_as a b result
-      (λ lines k. record { taken = plain; is_taken = rw e is; listed = rw same at k }) t
+      (λ faults k. record { taken = plain; is_taken = rw e is; listed = rw same at k }) t
 
 -- ---- a package
 
 module _ (offer : Offer) (executables : Executables) where
   pub checked : (pack : Package) (entries : List UnitEntry) (a b : Progress)
       (c : Option (List ℕ)) (result : Result ℕ Failure)
-      → AreByRow pack entries → a.waiting ≡ [] → a.count ≡ 0
+      → AreByRow pack entries → a.form ≡ executables.reading.form → a.waiting ≡ [] → a.count ≡ 0
       → Told (TellsPackage offer executables pack entries) a b
-      → Finishes (length entries) b.count b.written b.waiting c result
+      → Finishes b.form (length entries) b.count b.written b.waiting c result
       → ChecksIndexed offer executables pack a.written c result
-  checked pack entries a b c (Ok status) by_row none begun t f =
-      let all : b.count ≡ fault_count t.lines =
-      omega (arith, rw begun at t.counted, counted_from 0 t.lines (omega arith)) in
-      let printed = Appends-trans a.written b.written c t.handed _ t.added f.0 in
+  checked pack entries a b c (Ok status) by_row formed none begun t f =
+      let all : b.count ≡ fault_count t.faults =
+      omega (arith, rw begun at t.counted, counted_from 0 t.faults (omega arith)) in
+      let last = rw (t.formed, formed) at f.0 in
+      let split = rw formed at t.split in
+      let printed = Appends-trans a.written b.written c t.handed _ t.added last in
       record {
         entries = entries;
         by_row = by_row;
-        lines = t.lines;
+        faults = t.faults;
         told = t.are;
-        printed = rw (← append_assoc, ← t.split, none, all) at printed;
+        printed = rw (← append_assoc, ← split, none, all) at printed;
         status_is = rw all at f.1;
       }
-  checked pack entries a b c (Err failure) by_row none begun t f =
+  checked pack entries a b c (Err failure) by_row formed none begun t f =
       stopped_behind c t (of_printing offer executables.paths failure f.0, f.1)
 
   pub no_memory_left : (pack : Package) (a : Option (List ℕ))

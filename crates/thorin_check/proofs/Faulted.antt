@@ -1,6 +1,6 @@
 -- Faults that were told.
 use Rattle.std.proofs.Common.{◌≡◌, ◌≢◌, ℕ, Bool, true, false, ◌&&◌, List, [], ◌∷◌, ◌++◌, codes, map}
-use Rattle.std.proofs.Common.{Option, Some, None, is_none, Result, Ok, Err, IfOk, OnOk, String}
+use Rattle.std.proofs.Common.{Option, Some, None, is_none, Result, Ok, Err, IfOk, String}
 use Rattle.std.proofs.Common.{string_bytes, Global, decimal, refl, sym, inl, inr, arith}
 use Rattle.std.specs.Result.{result_err}
 use Rattle.std.proofs.KnownBytes.{Appends-trans}
@@ -14,21 +14,23 @@ use Rattle.dwp_index.specs.declared.error.PackageError.{PackageError}
 use Rattle.dwp_index.specs.declared.units.UnitEntry.{UnitEntry}
 use Rattle.dwp_table.specs.declared.object.DwarfObject.{DwarfObject}
 use Rattle.thorin_check.specs.Checking.{TellsSomeStrings}
-use Rattle.thorin_check.specs.Faults.{fault_line, TellsText, IsTextOf, IsSomeText, IsUnreadText}
+use Rattle.thorin_check.specs.Faults.{TellsText, IsTextOf, IsSomeText, IsUnreadText}
 use Rattle.thorin_check.specs.Faults.{IsOwnText, TellsOwn, TellsItself, TellsFound, TellsUnit}
 use Rattle.thorin_check.specs.Faults.{has_abbreviations, string_text, TellsString, TellsStrings}
-use Rattle.thorin_check.specs.Faults.{TellsStringsOf, row_line, AreRows, broken_line, IsBroken}
+use Rattle.thorin_check.specs.Faults.{TellsStringsOf, TellsWhat, row_text, AreRows, IsBroken}
 use Rattle.thorin_check.specs.Overlaps.{IsClash, overlap_text}
 use Rattle.thorin_print.specs.Answers.{Outcome}
-use Rattle.thorin_check.specs.Telling.{Progress, Told, Tells, IsLine, ForEach}
+use Rattle.thorin_print.specs.Shown.{shown}
+use Rattle.thorin_words.specs.Printed.{printed}
+use Rattle.thorin_check.specs.Rendering.{FaultValue, of_unit, of_package, of_executable}
+use Rattle.thorin_check.specs.Telling.{Progress, Told, Tells, IsFault, ForEach}
 use Rattle.thorin_print.specs.Answers.{IsOfPrinting, Grows}
-use Rattle.thorin_check.specs.Telling.{PassesOn}
 use Rattle.thorin_print.specs.declared.output.Failure.{Failure}
-use Rattle.thorin_check.proofs.Told.{none_told, tells_as, then_or, passed}
+use Rattle.thorin_check.proofs.Told.{none_told, tells_as, then_or}
 
 -- ---- texts
 
-module _ {E : Type 0} (P : List (List ℕ) → Type 0) (object : DwarfObject) where
+module _ {E : Type 0} (P : List FaultValue → Type 0) (object : DwarfObject) where
   -- what is made for a fault was told
   pub text_told : (text : Result (Option (String Global)) E) (a b : Progress) (result : Outcome)
       → IsTextOf P object text → TellsText object text a b result → Tells P a b result
@@ -37,28 +39,36 @@ module _ {E : Type 0} (P : List (List ℕ) → Type 0) (object : DwarfObject) wh
   -- a text of which something holds was made
   pub made : (Q : List ℕ → Type 0) (text : Result (String Global) E)
       (result : Result (Option (String Global)) E)
-      → ((t : List ℕ) → Q t → P (fault_line object t ∷ []))
+      → ((t : List ℕ) → Q t → P (of_unit object t ∷ []))
       → IfOk text (λ t. Q (string_bytes t)) → IsSomeText text result → IsTextOf P object result
   made Q text result goes is so = grind (arith, goes)
 
--- lines were told, and then not what was to be made for a fault
-pub text_stopped : {E : Type 0} {P : List (List ℕ) → Type 0} {a b : Progress} (object : DwarfObject)
+-- faults were told, and then not what was to be made for a fault
+pub text_stopped : {E : Type 0} {P : List FaultValue → Type 0} {a b : Progress}
+    (object : DwarfObject)
     (text : Result (Option (String Global)) E) (c : Progress) (failure : Failure) → Told P a b
     → TellsText object text b c (Err failure) → IsOfPrinting failure × Grows a.written c.written
 text_stopped object text c failure p h = grind (arith, Appends-trans)
+
+-- a text that was made for a fault of the package was told
+pub what_told : {E : Type 0} (what : List ℕ) (text : Result (String Global) E) (a b : Progress)
+    (result : Outcome) → IfOk text (λ t. string_bytes t ≡ what) → TellsWhat text a b result
+    → Tells (IsFault (of_package what)) a b result
+what_told what (Ok text) a b result is h = rw is at h
+what_told what (Err cause) a b result is h = rw h.0 (tt, h.1)
 
 -- ---- units
 
 module _ (pack : Package) (entry : UnitEntry) where
   pub unit_none : found pack entry.object ≡ Ok None → (text : List ℕ)
       → text ≡ codes "not found under its identifier"
-      → TellsUnit pack entry (fault_line entry.object text ∷ [])
+      → TellsUnit pack entry (of_unit entry.object text ∷ [])
   unfolding TellsUnit
   unit_none e text is = rw (e, is) refl
 
   pub unit_unread : (cause : PackageError) → found pack entry.object ≡ Err cause
       → (text : List ℕ) → IsUnreadText cause text
-      → TellsUnit pack entry (fault_line entry.object text ∷ [])
+      → TellsUnit pack entry (of_unit entry.object text ∷ [])
   unfolding TellsUnit
   unit_unread cause e text is = grind (arith)
 
@@ -72,7 +82,7 @@ module _ (pack : Package) (entry : UnitEntry) where
   module _ (unit : FoundUnit) where
     pub other_row : unit.number ≢ entry.row → (text : List ℕ)
         → text ≡ codes "found in row " ++ decimal unit.number
-        → TellsFound pack entry unit (fault_line entry.object text ∷ [])
+        → TellsFound pack entry unit (of_unit entry.object text ∷ [])
     other_row e text is = inl (e, rw is refl)
 
     module _ (has bare : Bool) (some : has ≡ has_abbreviations pack)
@@ -80,7 +90,7 @@ module _ (pack : Package) (entry : UnitEntry) where
       where
         pub in_bare_row : bare ≡ true → (text : List ℕ)
             → text ≡ codes "its row has no abbreviations"
-            → TellsFound pack entry unit (fault_line entry.object text ∷ [])
+            → TellsFound pack entry unit (of_unit entry.object text ∷ [])
         in_bare_row e text so = grind (arith)
 
         pub in_whole_row : {E : Type 0} (text : Result (Option (String Global)) E) → bare ≡ false
@@ -91,17 +101,17 @@ module _ (pack : Package) (entry : UnitEntry) where
 module _ (pack : Package) (object : DwarfObject) (unit : FoundUnit) where
   pub overlapped : (kind : SectionKind) (other : DwarfObject) → IsClash pack unit kind other
       → (text : List ℕ) → text ≡ overlap_text kind other
-      → TellsItself pack object unit (fault_line object text ∷ [])
+      → TellsItself pack object unit (of_unit object text ∷ [])
   overlapped kind other clash text is =
-      inl (record { kind = kind; other = other; clash = clash; line = rw is refl })
+      inl (record { kind = kind; other = other; clash = clash; is = rw is refl })
 
   pub of_its_own : {E : Type 0} (text : Result (Option (String Global)) E)
       → IsTextOf (TellsOwn object) object text → IsTextOf (TellsItself pack object unit) object text
   of_its_own text h = grind (arith)
 
 pub own_fault : (object : DwarfObject) (text : List ℕ) → IsOwnText text
-    → TellsOwn object (fault_line object text ∷ [])
-own_fault object text is = inr (record { text = text; is_text = is; line = refl })
+    → TellsOwn object (of_unit object text ∷ [])
+own_fault object text is = inr (record { text = text; is_text = is; is = refl })
 
 -- what is said of an identifier of its own
 pub is_own_text : {E : Type 0} (text : Result (String Global) E) (rest : List ℕ)
@@ -115,26 +125,29 @@ is_own_text (Err cause) rest e = tt
 pub no_rows : (kind : List ℕ) (a : Progress) → Told (AreRows kind) a a
 no_rows kind a = none_told (AreRows kind) ([], refl) a
 
-pub rows_then : (kind : List ℕ) (ls ms : List (List ℕ)) → AreRows kind ls → AreRows kind ms
+pub rows_then : (kind : List ℕ) (ls ms : List FaultValue) → AreRows kind ls → AreRows kind ms
     → AreRows kind (ls ++ ms)
-rows_then kind ls ms h k = (h.0 ++ k.0, rw (h.1, k.1) (sym (map-append (row_line kind) h.0 k.0)))
+rows_then kind ls ms h k =
+    (h.0 ++ k.0, rw (h.1, k.1) (sym (map-append (λ row. of_package (row_text kind row)) h.0 k.0)))
 
--- one more row, whose line was added
+-- one more row, of which a text was made
 pub row_or : {E : Type 0} (kind : List ℕ) (row : ℕ) {a b : Progress} (c : Progress)
-    (more : List ℕ) (put : Result (Unit {0}) E) (result : Outcome) → Told (AreRows kind) a b
-    → OnOk put (more ≡ b.waiting ++ row_line kind row)
-    → PassesOn put (record b { waiting = more }) c result → Tells (AreRows kind) a c result
-row_or kind row {a} {b} c more put result p e q =
-    then_or (AreRows kind) (IsLine (row_line kind row)) IsOfPrinting a b c (AreRows kind)
-    (λ ls ms h k. rows_then kind ls ms h (row ∷ [], k)) result p
-    (passed (row_line kind row) b.written b.waiting more b.count c put result e q)
+    (text : Result (String Global) E) (result : Outcome) → Told (AreRows kind) a b
+    → IfOk text (λ t. string_bytes t ≡ row_text kind row) → TellsWhat text b c result
+    → Tells (AreRows kind) a c result
+row_or kind row {a} {b} c text result p e q =
+    then_or (AreRows kind) (IsFault (of_package (row_text kind row))) IsOfPrinting a b c
+    (AreRows kind) (λ ls ms h k. rows_then kind ls ms h (row ∷ [], k)) result p
+    (what_told (row_text kind row) text b c result e q)
 
 -- ---- executables
 
-pub broken : (executable : List ℕ) (a b : Progress) (result : Outcome) (text : List ℕ)
-    → Tells (IsLine (broken_line executable text)) a b result
+pub broken : (executable : List ℕ) (a b : Progress) (result : Outcome) (name told : List ℕ)
+    → name ≡ shown executable → ((text : List ℕ) × (told ≡ printed text))
+    → Tells (IsFault (of_executable name told)) a b result
     → Tells (IsBroken executable) a b result
-broken executable a b result text = tells_as a b result (λ lines e. (text, e))
+broken executable a b result name told is so =
+    tells_as a b result (λ faults e. (so.0, rw (is, so.1) at e))
 
 -- ---- strings
 
@@ -145,7 +158,7 @@ string_fine object i read e = grind (arith)
 pub string_faulty : (object : DwarfObject) (i : ℕ) (read : Result (Option (List ℕ)) ReadError)
     (error : ReadError) → Some error ≡ result_err read → (text : List ℕ)
     → ((cause : List ℕ) × (text ≡ string_text i cause))
-    → TellsString object i read (fault_line object text ∷ [])
+    → TellsString object i read (of_unit object text ∷ [])
 string_faulty object i read error e text is = grind (arith)
 
 pub strings_some : (object : DwarfObject) (looked : Result (Option FoundUnit) PackageError)
@@ -153,10 +166,10 @@ pub strings_some : (object : DwarfObject) (looked : Result (Option FoundUnit) Pa
     → Tells (TellsStrings object unit) a b result → Tells (TellsStringsOf object looked) a b result
 strings_some object looked a b result unit e h = rw e h
 
-for_each_of : {X Y : Type 0} (P : Y → List (List ℕ) → Type 0) (f : X → Y) (xs : List X)
-    (lines : List (List ℕ)) → ForEach (λ x. P (f x)) xs lines → ForEach P (map f xs) lines
-for_each_of P f [] lines h = h
-for_each_of P f (x ∷ xs) lines h =
+for_each_of : {X Y : Type 0} (P : Y → List FaultValue → Type 0) (f : X → Y) (xs : List X)
+    (faults : List FaultValue) → ForEach (λ x. P (f x)) xs faults → ForEach P (map f xs) faults
+for_each_of P f [] faults h = h
+for_each_of P f (x ∷ xs) faults h =
     grind (arith, for_each_of P f xs h.rest h.is_rest)
 
 pub some_strings : {R : Type 0} (pack : Package) (strings : List (R × DwarfObject))
@@ -164,4 +177,8 @@ pub some_strings : {R : Type 0} (pack : Package) (strings : List (R × DwarfObje
     → Tells (ForEach (λ s. TellsStringsOf s.1 (found pack s.1)) strings) a b result
     → Tells (TellsSomeStrings pack) a b result
 some_strings pack strings a b result = tells_as a b result
-    (λ lines l. (_, for_each_of (λ o. TellsStringsOf o (found pack o)) (λ s. s.1) strings lines l))
+    (λ faults l. (
+      _,
+      for_each_of (λ o. TellsStringsOf o (found pack o)) (λ s. s.1)
+          strings faults l,
+    ))

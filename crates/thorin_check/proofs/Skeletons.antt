@@ -8,32 +8,33 @@ use Rattle.thorin_errors.specs.Answers.{MemoryAside}
 use Rattle.thorin_errors.specs.Errors.{ErrorValue, error_of}
 use Rattle.thorin_errors.specs.declared.error.Error.{Error}
 use Rattle.thorin_errors.specs.declared.error.Error.TheVariants.{Memory}
-use Rattle.thorin_check.specs.Faults.{fault_line, missing_text, missing_lines, IsBroken, TellsEnd}
+use Rattle.thorin_check.specs.Faults.{missing_text, missing_faults, IsBroken, TellsEnd}
 use Rattle.thorin_check.specs.Faults.{TellsListed, TellsNext, answering}
 use Rattle.thorin_print.specs.Answers.{Outcome}
+use Rattle.thorin_check.specs.Rendering.{FaultValue, of_unit}
 use Rattle.thorin_check.specs.Telling.{Progress, Told, Tells, Is}
 use Rattle.thorin_check.proofs.Told.{none_told, told_then}
 
 module _ (executable : List ℕ) (named : Named)
     (looked : Result (Option FoundUnit) PackageError) where
   pub missing_some : (unit : FoundUnit) → looked ≡ Ok (Some unit)
-      → [] ≡ missing_lines executable named looked
+      → [] ≡ missing_faults executable named looked
   missing_some unit e = rw e refl
 
   pub missing_unread : (cause : PackageError) → looked ≡ Err cause
-      → [] ≡ missing_lines executable named looked
+      → [] ≡ missing_faults executable named looked
   missing_unread cause e = rw e refl
 
   pub missing_none : looked ≡ Ok None → (text : List ℕ)
       → text ≡ missing_text executable named.1
-      → fault_line named.0 text ∷ [] ≡ missing_lines executable named looked
+      → of_unit named.0 text ∷ [] ≡ missing_faults executable named looked
   missing_none e text is = rw (e, is) refl
 
 module _ (pack : Package) (executable : List ℕ) where
   -- no unit is left, but the end
-  at_end : {end : Option ErrorValue} (left : Listed) (lines : List (List ℕ)) → left ≡ ([], end)
-      → TellsEnd executable end lines → TellsListed pack executable left lines
-  at_end left lines e h = rw e (record { ended = lines; end = h; all = refl })
+  at_end : {end : Option ErrorValue} (left : Listed) (faults : List FaultValue) → left ≡ ([], end)
+      → TellsEnd executable end faults → TellsListed pack executable left faults
+  at_end left faults e h = rw e (record { ended = faults; end = h; all = refl })
 
   -- the error that a list begins with was told
   pub read_broken : (listed : Listed) (a b : Progress) (error : Error) (result : Outcome)
@@ -44,17 +45,17 @@ module _ (pack : Package) (executable : List ℕ) where
       grind (arith, at_end {end = Some (error_of error)} listed)
 
   module _ (all : Listed) where
-    -- what is told of those that are left makes, behind these lines, what is told of all
-    pub record GoesOn (left : Listed) (lines : List (List ℕ)) : Type 0 where
-      pub on : (more : List (List ℕ)) → TellsListed pack executable left more
-          → TellsListed pack executable all (lines ++ more)
+    -- what is told of those that are left makes, behind these faults, what is told of all
+    pub record GoesOn (left : Listed) (faults : List FaultValue) : Type 0 where
+      pub on : (more : List FaultValue) → TellsListed pack executable left more
+          → TellsListed pack executable all (faults ++ more)
 
     pub on_none : GoesOn all []
     on_none = record { on = λ more t. t }
 
     on_next : (before after : Listed) (first : Named) → before ≡ (first ∷ after.0, after.1)
-        → (ls ms : List (List ℕ)) → GoesOn before ls
-        → Is (missing_lines executable first (found pack first.0)) ms → GoesOn after (ls ++ ms)
+        → (ls ms : List FaultValue) → GoesOn before ls
+        → Is (missing_faults executable first (found pack first.0)) ms → GoesOn after (ls ++ ms)
     on_next before after first e ls ms h k = record {
       on = λ more t. rw (append_assoc ls ms more) (h.on (ms ++ more) (rw e
           (record { ended = t.ended; end = t.end; all = rw (t.all, k, append_assoc) refl })));
@@ -76,7 +77,7 @@ module _ (pack : Package) (executable : List ℕ) where
 
   pub next_first : (before after : Listed) (a b : Progress) (first : Named) (told : Outcome)
       → before ≡ (first ∷ after.0, after.1)
-      → Tells (Is (missing_lines executable first (found pack first.0))) a b told
+      → Tells (Is (missing_faults executable first (found pack first.0))) a b told
       → TellsNext pack executable before after a b (answering told true)
   next_first before after a b first (Ok done) split t =
       record { first = first; split = split; told = t }

@@ -1,13 +1,15 @@
--- Lines that were told.
-use Rattle.std.proofs.Common.{◌≡◌, ℕ, ◌+◌, ◌-◌, ◌^◌, ◌<◌, ◌≤◌, List, [], ◌∷◌, ◌++◌, length}
+-- Faults that were told.
+use Rattle.std.proofs.Common.{◌≡◌, ◌∙◌, ℕ, ◌+◌, ◌-◌, ◌^◌, ◌<◌, ◌≤◌, List, [], ◌∷◌, ◌++◌, length}
 use Rattle.std.proofs.Common.{min, Option, Result, OnOk, take, get_or, refl, sym, arith, rules}
 use Rattle.std.proofs.Common.{append_assoc, append-nil, take_all}
 use Rattle.std.proofs.KnownBytes.{Appends-nil, Appends-trans}
 use Rattle.std.proofs.lemmas.List.{take_more}
-use Rattle.std.proofs.lemmas.List.Folds.{concat-append}
+use Rattle.std.proofs.lemmas.Grind.{flat_map-append}
 use Rattle.thorin_print.specs.Answers.{Grows}
 use Rattle.thorin_print.proofs.Printed.{grown}
-use Rattle.thorin_check.specs.Telling.{counted_on, Progress, Told, TellsOr, Tells, IsLine}
+use Rattle.thorin_print.specs.declared.form.Form.{Form}
+use Rattle.thorin_check.specs.Rendering.{FaultValue, fault_text}
+use Rattle.thorin_check.specs.Telling.{counted_on, Progress, Told, TellsOr, Tells, IsFault}
 use Rattle.thorin_print.specs.Answers.{Prints, Outcome}
 use Rattle.thorin_check.specs.Telling.{HandsOver, PassesOn, InTurn, ForEach}
 use Rattle.thorin_print.specs.declared.output.Failure.{Failure}
@@ -21,59 +23,63 @@ handed_over a b held lent left result same none p = grind (arith)
 
 -- ---- how many
 
-counted-append : (n : ℕ) (xs ys : List (List ℕ))
+counted-append : (n : ℕ) (xs ys : List FaultValue)
     → counted_on n (xs ++ ys) ≡ counted_on (counted_on n xs) ys
 counted-append n [] ys = refl
 counted-append n (x ∷ xs) ys = counted-append (min (n + 1) (2 ^ 64 - 1)) xs ys
 
-pub counted_from : (n : ℕ) (lines : List (List ℕ)) → n ≤ 2 ^ 64 - 1
-    → counted_on n lines ≡ min (n + length lines) (2 ^ 64 - 1)
+pub counted_from : (n : ℕ) (faults : List FaultValue) → n ≤ 2 ^ 64 - 1
+    → counted_on n faults ≡ min (n + length faults) (2 ^ 64 - 1)
 counted_from n [] fits = omega arith
-counted_from n (line ∷ lines) fits = grind (arith, counted_from (min (n + 1) (2 ^ 64 - 1)) lines)
+counted_from n (fault ∷ faults) fits =
+    grind (arith, counted_from (min (n + 1) (2 ^ 64 - 1)) faults)
 
--- ---- lines
+-- ---- faults
 
 -- none, where nothing was done
-pub none_told : (P : List (List ℕ) → Type 0) → P [] → (a : Progress) → Told P a a
+pub none_told : (P : List FaultValue → Type 0) → P [] → (a : Progress) → Told P a a
 none_told P none a = search (rules, Appends-nil, append-nil)
 
--- lines of one kind, and behind them those of another
-pub told_then : {P Q R : List (List ℕ) → Type 0} {a b c : Progress}
-    → ((xs ys : List (List ℕ)) → P xs → Q ys → R (xs ++ ys)) → Told P a b → Told Q b c
+-- faults of one kind, and behind them those of another
+pub told_then : {P Q R : List FaultValue → Type 0} {a b c : Progress}
+    → ((xs ys : List FaultValue) → P xs → Q ys → R (xs ++ ys)) → Told P a b → Told Q b c
     → Told R a c
-told_then {a = a} {b = b} {c = c} joins p q = record {
-  lines = p.lines ++ q.lines;
-  are = joins p.lines q.lines p.are q.are;
-  handed = p.handed ++ q.handed;
-  added = Appends-trans a.written b.written c.written p.handed q.handed p.added q.added;
-  split = rw (concat-append, ← append_assoc, p.split, append_assoc, q.split, append_assoc) refl;
-  counted = rw (q.counted, p.counted) (sym (counted-append a.count p.lines q.lines));
-}
+told_then {a = a} {b = b} {c = c} joins p q =
+    let rest = rw p.formed at q.split in
+    record {
+      faults = p.faults ++ q.faults;
+      are = joins p.faults q.faults p.are q.are;
+      handed = p.handed ++ q.handed;
+      added = Appends-trans a.written b.written c.written p.handed q.handed p.added q.added;
+      split = rw (flat_map-append, ← append_assoc, p.split, append_assoc, rest, append_assoc) refl;
+      counted = rw (q.counted, p.counted) (sym (counted-append a.count p.faults q.faults));
+      formed = q.formed ∙ p.formed;
+    }
 
--- lines of which more holds
-pub told_as : {P Q : List (List ℕ) → Type 0} {a b : Progress} → Told P a b
-    → ((lines : List (List ℕ)) → P lines → Q lines) → Told Q a b
+-- faults of which more holds
+pub told_as : {P Q : List FaultValue → Type 0} {a b : Progress} → Told P a b
+    → ((faults : List FaultValue) → P faults → Q faults) → Told Q a b
 told_as t goes = grind (arith)
 
 -- the same, where telling them may have stopped
-pub tells_as : {P Q : List (List ℕ) → Type 0} (a b : Progress) (result : Outcome)
-    → ((lines : List (List ℕ)) → P lines → Q lines) → Tells P a b result → Tells Q a b result
+pub tells_as : {P Q : List FaultValue → Type 0} (a b : Progress) (result : Outcome)
+    → ((faults : List FaultValue) → P faults → Q faults) → Tells P a b result → Tells Q a b result
 tells_as a b result goes t = grind (arith)
 
 -- what comes next stopped
-pub stopped_behind : {P : List (List ℕ) → Type 0} {Why : Type 0} {a b : Progress}
+pub stopped_behind : {P : List FaultValue → Type 0} {Why : Type 0} {a b : Progress}
     (c : Option (List ℕ)) → Told P a b → Why × Grows b.written c → Why × Grows a.written c
 stopped_behind {a = a} {b = b} c p q =
     (q.0, grown a.written b.written c (p.handed, p.added) q.1)
 
-pub in_turn : {P Q : List (List ℕ) → Type 0} (xs ys : List (List ℕ)) → P xs → Q ys
+pub in_turn : {P Q : List FaultValue → Type 0} (xs ys : List FaultValue) → P xs → Q ys
     → InTurn P Q (xs ++ ys)
 in_turn xs ys p q = record { first = xs; rest = ys; is_first = p; is_rest = q; all = refl }
 
-module _ (P Q : List (List ℕ) → Type 0) (Stops : Failure → Type 0) (a b c : Progress) where
-  -- lines, and what was told behind them or stopped
-  pub then_or : (R : List (List ℕ) → Type 0)
-      → ((xs ys : List (List ℕ)) → P xs → Q ys → R (xs ++ ys)) → (result : Outcome) → Told P a b
+module _ (P Q : List FaultValue → Type 0) (Stops : Failure → Type 0) (a b c : Progress) where
+  -- faults, and what was told behind them or stopped
+  pub then_or : (R : List FaultValue → Type 0)
+      → ((xs ys : List FaultValue) → P xs → Q ys → R (xs ++ ys)) → (result : Outcome) → Told P a b
       → TellsOr Stops Q b c result → TellsOr Stops R a c result
   then_or R joins result p q = grind (arith, told_then {R = R} {c = c} joins p, Appends-trans)
 
@@ -81,21 +87,23 @@ module _ (P Q : List (List ℕ) → Type 0) (Stops : Failure → Type 0) (a b c 
       → TellsOr Stops (InTurn P Q) a c result
   in_turn_or result p q = then_or (InTurn P Q) in_turn result p q
 
--- a line that was added was passed on
-pub passed : (line : List ℕ) (written : Option (List ℕ)) (held more : List ℕ) (count : ℕ)
-    (new : Progress) {E : Type 0} (put : Result (Unit {0}) E) (result : Outcome)
-    → OnOk put (more ≡ held ++ line)
-    → PassesOn put (record { written = written; waiting = more; count = count }) new result
-    → Tells (IsLine line) (record { written = written; waiting = held; count = count }) new result
-passed line written held more count new put result e p = grind (arith, append-nil)
+-- a fault that was added was passed on
+pub passed : (fault : FaultValue) (form : Form) (written : Option (List ℕ)) (held more : List ℕ)
+    (count : ℕ) (new : Progress) {E : Type 0} (put : Result (Unit {0}) E) (result : Outcome)
+    → OnOk put (more ≡ held ++ fault_text form fault)
+    → PassesOn put (record { form = form; written = written; waiting = more; count = count }) new
+    result
+    → Tells (IsFault fault)
+    (record { form = form; written = written; waiting = held; count = count }) new result
+passed fault form written held more count new put result e p = grind (arith, append-nil)
 
--- ---- lines for each of a list
+-- ---- faults for each of a list
 
-module _ {X : Type 0} (P : X → List (List ℕ) → Type 0) where
-  for_each_more : (xs : List X) (x : X) (lines more : List (List ℕ)) → ForEach P xs lines
-      → P x more → ForEach P (xs ++ (x ∷ [])) (lines ++ more)
-  for_each_more [] x lines more h p = grind (arith, append-nil)
-  for_each_more (y ∷ ys) x lines more h p =
+module _ {X : Type 0} (P : X → List FaultValue → Type 0) where
+  for_each_more : (xs : List X) (x : X) (faults more : List FaultValue) → ForEach P xs faults
+      → P x more → ForEach P (xs ++ (x ∷ [])) (faults ++ more)
+  for_each_more [] x faults more h p = grind (arith, append-nil)
+  for_each_more (y ∷ ys) x faults more h p =
       grind (arith, append_assoc, for_each_more ys x h.rest more h.is_rest p)
 
   -- those of one more

@@ -2,8 +2,7 @@
 use Rattle.std.specs.Prelude.{◌≡◌, ◌⊎◌, ℕ, Bool, true, false, not, ◌&&◌, ◌==◌, List, [], ◌∷◌, ◌++◌}
 use Rattle.std.specs.Prelude.{codes, length, if◌then◌else◌, Option, Result, Ok, Err}
 use Rattle.std.specs.Borrow.{Bor}
-use Rattle.std.specs.Fmt.{decimal}
-use Rattle.std.specs.List.{concat}
+use Rattle.std.specs.List.{flat_map}
 use Rattle.std.specs.declared.io.Error.{Error as IoError}
 use Rattle.std.specs.Io.KnownBytes.{Appends, Keeps}
 use Rattle.dwp_base.specs.Sections.{name_of}
@@ -15,8 +14,9 @@ use Rattle.dwp_index.specs.declared.units.UnitEntry.{UnitEntry}
 use Rattle.dwp_table.specs.declared.object.DwarfObject.{DwarfObject}
 use Rattle.thorin_executable.specs.Skeletons.{skeletons_by}
 use Rattle.thorin_find.specs.Files.{Offer, RefusesFile}
+use Rattle.thorin_print.specs.declared.form.Form.{Form}
+use Rattle.thorin_check.specs.Rendering.{FaultValue, of_package, fault_text, totals_text}
 use Rattle.thorin_check.specs.Faults.{TellsUnit, TellsStringsOf, AreRows, TellsListed}
-use Rattle.thorin_print.specs.Lines.{line_end}
 use Rattle.thorin_find.specs.Listing.{AreByRow, has_no_index}
 use Rattle.thorin_inputs.specs.Plain.{IsPlainOf}
 use Rattle.thorin_print.specs.Answers.{Grows, IsOfPrinting}
@@ -27,17 +27,6 @@ use Rattle.thorin_print.specs.declared.output.Failure.{Failure}
 use Rattle.thorin_print.specs.declared.output.Failure.TheVariants as failures
 use Rattle.dwp_index.specs.Contents.{content}
 
--- ---- the last line
-
--- a number of things of a name: `1 unit`, `2 units`
-abbrev pub count_text : ℕ → (name : List ℕ) → List ℕ
-count_text n name =
-    if n == 1 then codes "1 " ++ name else decimal n ++ (codes " " ++ (name ++ codes "s"))
-
-unfoldable pub counts_line : (units faults : ℕ) → List ℕ
-counts_line units faults = count_text units (codes "unit")
-    ++ (codes ", " ++ (count_text faults (codes "fault") ++ line_end))
-
 -- the status: 1 where there are faults
 abbrev pub status_of : (faults : ℕ) → ℕ
 status_of faults = if faults == 0 then 0 else 1
@@ -45,17 +34,17 @@ status_of faults = if faults == 0 then 0 else 1
 -- ---- what is told
 
 -- what is told of the strings of some units
-abbrev pub TellsSomeStrings : Package → List (List ℕ) → Type 0
-TellsSomeStrings pack lines = (objects : List DwarfObject)
-    × ForEach (λ object. TellsStringsOf object (found pack object)) objects lines
+abbrev pub TellsSomeStrings : Package → List FaultValue → Type 0
+TellsSomeStrings pack faults = (objects : List DwarfObject)
+    × ForEach (λ object. TellsStringsOf object (found pack object)) objects faults
 
 -- what is told of the units that slots name, and then of their strings
-abbrev pub TellsUnits : Package → List UnitEntry → List (List ℕ) → Type 0
+abbrev pub TellsUnits : Package → List UnitEntry → List FaultValue → Type 0
 TellsUnits pack entries =
     InTurn (ForEach (TellsUnit pack) entries) (TellsSomeStrings pack)
 
 -- what is told of the rows of both indexes
-abbrev pub TellsRows : List (List ℕ) → Type 0
+abbrev pub TellsRows : List FaultValue → Type 0
 TellsRows = InTurn (AreRows (codes "cu")) (AreRows (codes "tu"))
 
 -- a package that has units has no section of abbreviations, or an empty one. Every unit needs
@@ -72,20 +61,20 @@ lacks_strings pack =
     not (length (content pack.contents StrOffsets) == 0) &&
     (length (content pack.contents Str) == 0)
 
-unfoldable pub lacking_line : SectionKind → List ℕ
-lacking_line kind = name_of kind ++ (codes " is empty or absent" ++ line_end)
+unfoldable pub lacking_text : SectionKind → List ℕ
+lacking_text kind = name_of kind ++ codes " is empty or absent"
 
-abbrev pub lacking_lines : SectionKind → (lacks : Bool) → List (List ℕ)
-lacking_lines kind true = lacking_line kind ∷ []
-lacking_lines kind false = []
+abbrev pub lacking_faults : SectionKind → (lacks : Bool) → List FaultValue
+lacking_faults kind true = of_package (lacking_text kind) ∷ []
+lacking_faults kind false = []
 
 -- what is told of the sections of abbreviations and of strings
-abbrev pub TellsSections : (no_abbreviations no_strings : Bool) → List (List ℕ) → Type 0
+abbrev pub TellsSections : (no_abbreviations no_strings : Bool) → List FaultValue → Type 0
 TellsSections no_abbreviations no_strings =
-    InTurn (Is (lacking_lines Abbrev no_abbreviations)) (Is (lacking_lines Str no_strings))
+    InTurn (Is (lacking_faults Abbrev no_abbreviations)) (Is (lacking_faults Str no_strings))
 
 -- the same, and what is told of the rows
-abbrev pub TellsTables : (no_abbreviations no_strings : Bool) → List (List ℕ) → Type 0
+abbrev pub TellsTables : (no_abbreviations no_strings : Bool) → List FaultValue → Type 0
 TellsTables no_abbreviations no_strings =
     InTurn (TellsSections no_abbreviations no_strings) TellsRows
 
@@ -96,24 +85,25 @@ IsTaken true bytes taken = IsPlainOf bytes taken
 
 -- what is told of an executable with these bytes
 pub record TellsTaken (reading : Reading) (pack : Package) (executable bytes : List ℕ)
-    (lines : List (List ℕ)) : Type 0 where
+    (faults : List FaultValue) : Type 0 where
   pub taken : List ℕ
   pub is_taken : IsTaken reading.decompresses bytes taken
-  pub listed : TellsListed pack executable (skeletons_by reading.nameless taken) lines
+  pub listed : TellsListed pack executable (skeletons_by reading.nameless taken) faults
 
 -- what is told of the executable at a path
 pub record TellsExecutable (offer : Offer) (reading : Reading) (pack : Package)
-    (executable : List ℕ) (lines : List (List ℕ)) : Type 0 where
+    (executable : List ℕ) (faults : List FaultValue) : Type 0 where
   pub bytes : List ℕ
   pub read : offer executable (Ok bytes)
-  pub tells : TellsTaken reading pack executable bytes lines
+  pub tells : TellsTaken reading pack executable bytes faults
 
 abbrev pub TellsExecutables : Offer → (reading : Reading) → Package → List (Bor (List ℕ))
-    → List (List ℕ) → Type 0
+    → List FaultValue → Type 0
 TellsExecutables offer reading pack executables =
     ForEach (λ executable. TellsExecutable offer reading pack executable.now) executables
 
--- the executables whose units a package is to have: their paths, and how they are read
+-- the executables whose units a package is to have: their paths, and how they are read; and how
+-- faults are printed
 pub record Executables : Type 0 where
   pub paths : List (Bor (List ℕ))
   pub reading : Reading
@@ -124,7 +114,7 @@ executables_of named = record { paths = named.executables.now; reading = named.r
 
 -- all that is told of a package: of its units, its abbreviations, its strings, its rows, and the
 -- units that executables name
-abbrev pub TellsPackage : Offer → Executables → Package → List UnitEntry → List (List ℕ) → Type 0
+abbrev pub TellsPackage : Offer → Executables → Package → List UnitEntry → List FaultValue → Type 0
 TellsPackage offer executables pack entries =
     InTurn (TellsUnits pack entries)
     (InTurn (TellsTables (lacks_abbreviations pack entries) (lacks_strings pack))
@@ -159,22 +149,23 @@ PrintsLast faults text old new (Ok status) =
     Appends old new text × (status ≡ status_of faults)
 PrintsLast faults text old new (Err failure) = IsOfPrinting failure × Grows old new
 
--- the same of what waited and the line of counts
-abbrev pub Finishes : (units faults : ℕ) → (old : Option (List ℕ)) → (held : List ℕ)
+-- the same of what waited and the totals
+abbrev pub Finishes : Form → (units faults : ℕ) → (old : Option (List ℕ)) → (held : List ℕ)
     → (new : Option (List ℕ)) → Result ℕ Failure → Type 0
-Finishes units faults old held new result =
-    PrintsLast faults (held ++ counts_line units faults) old new result
+Finishes form units faults old held new result =
+    PrintsLast faults (held ++ totals_text form units faults) old new result
 
--- a package was checked: all lines were printed, and behind them that of the counts
+-- a package was checked: all faults were printed, and behind them the totals
 pub record Checked (offer : Offer) (executables : Executables) (pack : Package)
     (old new : Option (List ℕ)) (status : ℕ) : Type 0 where
   pub entries : List UnitEntry
   pub by_row : AreByRow pack entries
-  pub lines : List (List ℕ)
-  pub told : TellsPackage offer executables pack entries lines
+  pub faults : List FaultValue
+  pub told : TellsPackage offer executables pack entries faults
   pub printed : Appends old new
-      (concat lines ++ counts_line (length entries) (fault_count lines))
-  pub status_is : status ≡ status_of (fault_count lines)
+      (flat_map (fault_text executables.reading.form) faults
+      ++ totals_text executables.reading.form (length entries) (fault_count faults))
+  pub status_is : status ≡ status_of (fault_count faults)
 
 -- the same, or it stopped, and something was printed or nothing
 abbrev pub ChecksIndexed : Offer → Executables → Package → (old new : Option (List ℕ))

@@ -1,9 +1,8 @@
 //! `thorin check`.
 
-ghost use Rattle.std.specs.Prelude.{◌≡◌, ◌++◌, Err, OnOk, string_bytes};
+ghost use Rattle.std.specs.Prelude.{◌≡◌, Err, string_bytes};
 ghost use Rattle.dwp_index.specs.Package.{package_of};
-ghost use Rattle.thorin_find.specs.Files.{anything};
-ghost use Rattle.thorin_check.specs.Checking.{count_text, counts_line, status_of};
+ghost use Rattle.thorin_check.specs.Checking.{status_of};
 ghost use Rattle.thorin_find.specs.Listing.{has_no_index};
 ghost use Rattle.thorin_check.specs.Checking.{TellsPackage, IsOfChecking, Finishes, PrintsLast};
 ghost use Rattle.thorin_check.specs.Checking.{ChecksIndexed, ChecksPackage, ChecksBytes, Checks};
@@ -14,57 +13,24 @@ ghost use Rattle.thorin_print.specs.Answers.{Grows};
 
 use crate::executables::{Named, Reading, check_executables};
 use crate::faults::Faults;
-use crate::json_lines::JsonLines;
+use crate::rendering::put_totals;
 use crate::tables::check_tables;
 use crate::units::check_units;
 use dwp_index::{PackageFile, UnitEntry};
-use std::alloc::AllocError;
 use std::io::Write;
-use thorin_find::{FileReader, HostReader, entries_by_row, has_no_index, read_named};
+use thorin_find::{FileReader, entries_by_row, has_no_index, read_named};
 use thorin_print::{Failure, flush, print};
 
 /// Goes over a package: each unit that a slot of an index names is found under its identifier, its
 /// ranges are inside their sections, its header and all its strings can be read, and the identifier
 /// is its own; a slot names each row; there are abbreviations for the units and strings for the
 /// string offsets; and the package has each split unit that the executables name. Compressed
-/// sections of these may be decompressed. Prints a line for each fault, and how many units and
-/// faults there are. Answers the status, 1 where there are faults.
+/// sections of these may be decompressed. Prints each fault, and how many units and faults there are,
+/// in lines or as JSON objects. Answers the status, 1 where there are faults.
 ///
 /// # Errors
 /// `Input` where a file can't be read, `Malformed` where it is no package, `NoIndex` where it has
 /// no index, `Line` or `Memory`.
-pub fn check<O: Write>(
-    rt: &HostRuntime,
-    file: &str,
-    executables: &[&str],
-    reading: Reading,
-    out: &mut O,
-) -> Result<u8, Failure>
-    ensures { Checks anything file.now (record { paths = executables.now; reading = reading })
-        (O.contents out.old) (O.contents out.new) result }
-{
-    check_by(rt, &HostReader::new(rt), file, executables, reading, out)
-}
-
-/// The same, with a JSON object for each line.
-///
-/// # Errors
-/// Those of `check`.
-pub fn check_as_json<O: Write>(
-    rt: &HostRuntime,
-    file: &str,
-    executables: &[&str],
-    reading: Reading,
-    out: &mut O,
-) -> Result<u8, Failure> {
-    let mut lines = JsonLines::new(rt.alloc(), out);
-    check(rt, file, executables, reading, &mut lines)
-}
-
-/// The same of files that a reader reads: that of the package, and the executables.
-///
-/// # Errors
-/// Those of `check`.
 #[tactic(auto, using(crate::proofs::Checked::not_checked))]
 pub fn check_by<F: FileReader, O: Write>(
     rt: &HostRuntime,
@@ -159,7 +125,7 @@ fn check_entries<F: FileReader, O: Write>(
     ensures { ChecksIndexed (F.offer files.now) (executables_of named.entry)
         opened.entry.pack.now (O.contents out.old) (O.contents out.new) result }
 {
-    let mut faults = Faults::none(rt.alloc());
+    let mut faults = Faults::none(rt.alloc(), named.reading.form);
     match check_all(rt, files, opened, named, &mut faults, out) {
         Ok(()) => finish(opened.entries.len(), &mut faults, out),
         Err(failure) => give_up(failure, faults.waiting.as_str(), out),
@@ -194,11 +160,11 @@ fn check_all<F: FileReader, O: Write>(
 /// Prints what waits and how many units and faults there are. Answers the status.
 #[tactic(auto, using(thorin_print::proofs::Printed::none_grown))]
 fn finish<O: Write>(units: usize, faults: &mut Faults, out: &mut O) -> Result<u8, Failure>
-    ensures { Finishes units faults.old.count (O.contents out.old) (string_bytes faults.old.waiting)
+    ensures { Finishes faults.old.form units faults.old.count (O.contents out.old) (string_bytes faults.old.waiting)
         (O.contents out.new) result }
 {
     let count = faults.count;
-    match put_counts(units as u64, count, &mut faults.waiting) {
+    match put_totals(faults.form, units as u64, count, &mut faults.waiting) {
         Ok(()) => print_last(count, faults.waiting.as_str(), out),
         Err(_) => Err(Failure::Memory),
     }
@@ -235,28 +201,4 @@ fn status_of(faults: u64) -> u8
     ensures { result ≡ status_of faults }
 {
     if faults == 0 { 0 } else { 1 }
-}
-
-/// Adds the line of how many units and faults there are.
-#[tactic(auto, unfolding(crate::specs::Checking::counts_line))]
-fn put_counts(units: u64, faults: u64, text: &mut String) -> Result<(), AllocError>
-    ensures { OnOk result (string_bytes text.new
-        ≡ string_bytes text.old ++ counts_line units faults) }
-{
-    put_count(units, "unit", text)?;
-    text.push_str(", ")?;
-    put_count(faults, "fault", text)?;
-    writeln!(text)
-}
-
-/// Adds a number of things of one name: `1 unit`, `2 units`.
-fn put_count(number: u64, name: &str, text: &mut String) -> Result<(), AllocError>
-    ensures { OnOk result (string_bytes text.new
-        ≡ string_bytes text.old ++ count_text number name.now) }
-{
-    if number == 1 {
-        write!(text, "1 {name}")
-    } else {
-        write!(text, "{number} {name}s")
-    }
 }

@@ -1,16 +1,19 @@
 //! The units that executables name, in `thorin check`.
 
-ghost use Rattle.std.specs.Prelude.{◌≡◌, ◌≢◌, ◌++◌, IfOk, OnOk, string_bytes};
+ghost use Rattle.std.specs.Prelude.{◌≡◌, ◌≢◌, ℕ, List, IfOk, OnOk, string_bytes};
 ghost use Rattle.dwp_index.specs.Package.{found};
 ghost use Rattle.thorin_executable.specs.Skeletons.{skeletons_by};
 ghost use Rattle.thorin_errors.specs.declared.error.Error.TheVariants.{Memory};
 ghost use Rattle.thorin_check.specs.Checking.{IsOfChecking, IsOfReading, TellsExecutables};
 ghost use Rattle.thorin_check.specs.Checking.{TellsExecutable, TellsTaken};
-ghost use Rattle.thorin_check.specs.Faults.{TellsListed, missing_text, missing_lines, IsTextOf};
-ghost use Rattle.thorin_check.specs.Faults.{broken_line, IsBroken, TellsNext, answering};
+ghost use Rattle.thorin_check.specs.Faults.{TellsListed, missing_text, missing_faults, IsTextOf};
+ghost use Rattle.thorin_check.specs.Faults.{IsBroken, TellsNext, answering};
+ghost use Rattle.thorin_print.specs.Shown.{shown};
+ghost use Rattle.thorin_words.specs.Printed.{printed};
 ghost use Rattle.thorin_check.specs.Telling.{progress, Tells, TellsOr, Is};
 
-use crate::faults::{Faults, pass_on, some, tell};
+use crate::faults::{Faults, some, tell, tell_fault};
+use crate::rendering::Fault;
 use bumpalo::Bump;
 use dwp_bytes::RelocationEntry;
 use dwp_index::PackageFile;
@@ -21,13 +24,15 @@ use thorin_errors::Error;
 use thorin_executable::{NamedUnits, NamelessUnits};
 use thorin_find::{FileReader, read_named};
 use thorin_inputs::plain_of;
-use thorin_print::{Failure, shown};
+use thorin_print::{Failure, Form, shown};
 use thorin_sessions::{ArenaSession, Session};
 use thorin_words::printed;
 
-/// How the executables are read whose units are to be in a package.
+/// How the executables are read whose units are to be in a package, and how faults are printed.
 #[derive(Clone, Copy)]
 pub struct Reading {
+    /// How faults are printed.
+    pub form: Form,
     /// Whether their compressed sections are decompressed.
     pub decompresses: bool,
     /// What becomes of their units that name no object.
@@ -230,7 +235,7 @@ fn check_skeleton<O: Write>(
     faults: &mut Faults,
     out: &mut O,
 ) -> Result<(), Failure>
-    ensures { Tells (Is (missing_lines naming.entry.executable.now (object, path.now)
+    ensures { Tells (Is (missing_faults naming.entry.executable.now (object, path.now)
         (found naming.entry.pack.now object))) (progress (O.contents out.old) faults.old)
         (progress (O.contents out.new) faults.new) result }
 {
@@ -247,7 +252,7 @@ fn skeleton_text(
     path: &str,
     near: &String,
 ) -> Result<Option<String>, AllocError>
-    ensures { IsTextOf (Is (missing_lines naming.entry.executable.now (object, path.now)
+    ensures { IsTextOf (Is (missing_faults naming.entry.executable.now (object, path.now)
         (found naming.entry.pack.now object))) object result }
 {
     match naming.pack.find(object) {
@@ -270,6 +275,7 @@ fn missing_text(alloc: Global, executable: &str, path: &str) -> Result<String, A
 }
 
 /// Tells why an executable can't be read to its end.
+#[tactic(auto, using(crate::proofs::Faulted::broken))]
 fn tell_error<O: Write>(
     executable: &str,
     error: &Error,
@@ -283,28 +289,25 @@ fn tell_error<O: Write>(
     if matches!(error, Error::Memory) {
         return Err(Failure::Memory);
     }
-    match error_text(*faults.waiting.allocator(), error) {
-        Ok(text) => {
-            let put = put_broken(executable, text.as_str(), &mut faults.waiting);
-            pass_on(put, faults, out)
+    match broken(*faults.waiting.allocator(), executable, error) {
+        Ok((name, text)) => {
+            let fault = Fault::Executable(name.as_str(), text.as_str());
+            tell_fault(fault, faults, out)
         }
         Err(_) => Err(Failure::Memory),
     }
 }
 
-fn error_text(alloc: Global, error: &Error) -> Result<String, AllocError> {
-    format!(in alloc; "{error}")
+/// The name of an executable that can't be read to its end, and why, as they are told.
+fn broken(alloc: Global, executable: &str, error: &Error) -> Result<(String, String), AllocError>
+    ensures name { IfOk result (λ told. string_bytes told.0 ≡ shown executable.now) }
+    ensures text { IfOk result (λ told. (text : List ℕ) × (string_bytes told.1 ≡ printed text)) }
+{
+    let text = error_text(alloc, error)?;
+    let text = printed(alloc, text.as_str())?;
+    Ok((shown(alloc, executable)?, text))
 }
 
-/// Adds the line of an executable that can't be read to its end.
-#[tactic(auto, unfolding(crate::specs::Faults::broken_line))]
-fn put_broken(executable: &str, text: &str, waiting: &mut String) -> Result<(), AllocError>
-    ensures { OnOk result (string_bytes waiting.new
-        ≡ string_bytes waiting.old ++ broken_line executable.now text.now) }
-{
-    let executable = shown(*waiting.allocator(), executable)?;
-    let executable = executable.as_str();
-    let text = printed(*waiting.allocator(), text)?;
-    let text = text.as_str();
-    writeln!(waiting, "{executable}: {text}")
+fn error_text(alloc: Global, error: &Error) -> Result<String, AllocError> {
+    format!(in alloc; "{error}")
 }

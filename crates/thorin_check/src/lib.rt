@@ -6,12 +6,12 @@ mod checking;
 mod ends;
 mod executables;
 mod faults;
-mod json_lines;
 mod overlaps;
+mod rendering;
 mod rows;
 mod strings;
 mod tables;
 mod units;
 
-pub use checking::{check, check_as_json, check_by};
+pub use checking::check_by;
 pub use executables::Reading;

@@ -1,14 +1,14 @@
 //! The rows of a package that no slot names, in `thorin check`.
 
-ghost use Rattle.std.specs.Prelude.{◌≡◌, ◌++◌, codes, OnOk, string_bytes};
+ghost use Rattle.std.specs.Prelude.{◌≡◌, codes, IfOk, string_bytes};
 ghost use Rattle.thorin_check.specs.Checking.{TellsRows};
-ghost use Rattle.thorin_check.specs.Faults.{row_line, AreRows};
+ghost use Rattle.thorin_check.specs.Faults.{row_text, AreRows};
 ghost use Rattle.thorin_check.specs.Telling.{progress, Tells};
 
-use crate::faults::{Faults, pass_on};
+use crate::faults::{Faults, tell_of_package};
 use dwp_index::{PackageFile, UnitEntry, UnitIndex};
 use dwp_table::DwarfObject;
-use std::alloc::AllocError;
+use std::alloc::{AllocError, Global};
 use std::io::Write;
 use thorin_print::Failure;
 
@@ -113,8 +113,8 @@ fn tell_rows<O: Write>(
         (progress (O.contents out.new) faults.new) result }
 {
     for row in first..end {
-        let put = put_row(kind, row, &mut faults.waiting);
-        match pass_on(put, faults, out) {
+        let text = row_text(*faults.waiting.allocator(), kind, row);
+        match tell_of_package(text, faults, out) {
             Ok(()) => {}
             Err(failure) => return Err(failure),
         }
@@ -122,11 +122,10 @@ fn tell_rows<O: Write>(
     Ok(())
 }
 
-/// Adds the line of a row that no slot names.
-#[tactic(auto, unfolding(crate::specs::Faults::row_line))]
-fn put_row(kind: &str, row: u64, waiting: &mut String) -> Result<(), AllocError>
-    ensures { OnOk result (string_bytes waiting.new
-        ≡ string_bytes waiting.old ++ row_line kind.now row) }
+/// What is told of a row that no slot names.
+#[tactic(auto, unfolding(crate::specs::Faults::row_text))]
+fn row_text(alloc: Global, kind: &str, row: u64) -> Result<String, AllocError>
+    ensures { IfOk result (λ text. string_bytes text ≡ row_text kind.now row) }
 {
-    writeln!(waiting, "{kind} row {row}: no slot names it")
+    format!(in alloc; "{kind} row {row}: no slot names it")
 }

@@ -1,17 +1,17 @@
 //! The sections of abbreviations and of strings, and the rows of a package, in `thorin check`.
 
-ghost use Rattle.std.specs.Prelude.{◌≡◌, ◌++◌, OnOk, string_bytes};
-ghost use Rattle.thorin_check.specs.Checking.{lacks_abbreviations, lacks_strings, lacking_line};
-ghost use Rattle.thorin_check.specs.Checking.{lacking_lines, TellsTables};
+ghost use Rattle.std.specs.Prelude.{◌≡◌, IfOk, string_bytes};
+ghost use Rattle.thorin_check.specs.Checking.{lacks_abbreviations, lacks_strings, lacking_text};
+ghost use Rattle.thorin_check.specs.Checking.{lacking_faults, TellsTables};
 ghost use Rattle.thorin_check.specs.Faults.{has_abbreviations};
 ghost use Rattle.thorin_check.specs.Telling.{progress, Tells, Is};
 
 use crate::checking::Opened;
-use crate::faults::{Faults, pass_on};
+use crate::faults::{Faults, tell_of_package};
 use crate::rows::check_indexes;
 use dwp_base::SectionKind;
 use dwp_index::{PackageFile, UnitEntry};
-use std::alloc::AllocError;
+use std::alloc::{AllocError, Global};
 use std::io::Write;
 use thorin_print::Failure;
 
@@ -62,28 +62,28 @@ pub(crate) fn check_tables<O: Write>(
 }
 
 /// Tells that a section is lacking, where it is.
-#[tactic(auto, using(crate::proofs::Told::none_told, crate::proofs::Told::passed))]
+#[tactic(auto, using(crate::proofs::Told::none_told, crate::proofs::Faulted::what_told))]
 fn check_section<O: Write>(
     kind: SectionKind,
     lacks: bool,
     faults: &mut Faults,
     out: &mut O,
 ) -> Result<(), Failure>
-    ensures { Tells (Is (lacking_lines kind lacks)) (progress (O.contents out.old) faults.old)
+    ensures { Tells (Is (lacking_faults kind lacks)) (progress (O.contents out.old) faults.old)
         (progress (O.contents out.new) faults.new) result }
 {
     if !lacks {
         return Ok(());
     }
-    let put = put_lacking(kind, &mut faults.waiting);
-    pass_on(put, faults, out)
+    let text = lacking_text(*faults.waiting.allocator(), kind);
+    tell_of_package(text, faults, out)
 }
 
-/// Adds the line of a package that lacks a section.
-fn put_lacking(kind: SectionKind, waiting: &mut String) -> Result<(), AllocError>
-    ensures { OnOk result (string_bytes waiting.new
-        ≡ string_bytes waiting.old ++ lacking_line kind) }
+/// What is told of a package that lacks a section.
+#[tactic(auto, unfolding(crate::specs::Checking::lacking_text))]
+fn lacking_text(alloc: Global, kind: SectionKind) -> Result<String, AllocError>
+    ensures { IfOk result (λ text. string_bytes text ≡ lacking_text kind) }
 {
     let name = kind.name();
-    writeln!(waiting, "{name} is empty or absent")
+    format!(in alloc; "{name} is empty or absent")
 }

@@ -7,20 +7,20 @@ mod settings;
 
 pub use crate::manner::Facts;
 use crate::manner::Manner;
-use crate::notes::{Given, note_no_index, note_packing, note_reading, note_unreadable};
-use crate::settings::{file_count, nameless_units, packing_of};
+use crate::notes::{Given, note_no_index, note_packing, note_reading, note_unread};
+use crate::settings::{file_count, form_of, nameless_units, packing_of};
 use std::convert::AsStr;
 use std::fmt;
 use std::io::{self, Write};
 use thorin_arguments::{
     CheckArguments, Commands, FindArguments, ListArguments, PackArguments, is_peer,
 };
-use thorin_check::{Reading, check, check_as_json};
-use thorin_commands::{FileSystem, HostFiles, Packing, list_missing, pack, verify};
-use thorin_find::{FindForm, ListForm, find, lacks_index, list};
+use thorin_check::{Reading, check_by};
+use thorin_commands::{FileSystem, HostFiles, Packing, list_missing, pack};
+use thorin_find::{FindForm, FindWords, HostReader, ListForm, find_by, lacks_index, list_by};
 pub use thorin_print::Failure;
-use thorin_print::{report, show};
-use thorin_terminal::{Console, CountedFiles, HostResponses, Lines, Watched, list_in_columns};
+use thorin_print::{Form, report, show};
+use thorin_terminal::{Console, CountedFiles, HostResponses, Lines, Watched};
 use thorin_words::{ResponseError, expanded, printed};
 
 /// Does what a command line asks for: `words` are the program's name and its arguments, where
@@ -77,8 +77,8 @@ fn refuse_response<E: Write>(rt: &HostRuntime, err: &mut E, error: &ResponseErro
 
 /// Prints the note on a response file that can't be read.
 fn note_response<E: Write>(rt: &HostRuntime, files: &HostResponses<'_>, err: &mut E) {
-    if let Some(name) = files.unread() {
-        note_unreadable(rt, name.as_str(), err);
+    if let Some((name, cause)) = files.unread() {
+        note_unread(rt, name.as_str(), &cause, err);
     }
 }
 
@@ -113,13 +113,18 @@ struct Program<'r, 'o, 'e, O, E> {
 }
 
 impl<O: Write, E: Write> Program<'_, '_, '_, O, E> {
-    /// The status of a command that reads. Where it was refused, that is printed.
-    fn status(&mut self, answer: Result<u8, Failure>, given: Given<'_, '_>) -> u8 {
+    /// The status of a command that reads these files. Where it was refused, that is printed.
+    fn status(
+        &mut self,
+        answer: Result<u8, Failure>,
+        given: Given<'_>,
+        files: &HostReader<'_>,
+    ) -> u8 {
         match answer {
             Ok(status) => status,
             Err(failure) => {
                 let status = self.report(&failure);
-                note_reading(self.rt, &failure, given, self.err);
+                note_reading(self.rt, &failure, given, files.unread(), self.err);
                 status
             }
         }
@@ -180,17 +185,25 @@ impl<O: Write, E: Write> Program<'_, '_, '_, O, E> {
 
     /// Checks the package that would be made.
     fn verify_as(&mut self, packing: &Packing<'_, '_>) -> u8 {
-        let answer = verify(self.rt, packing, &mut self.out);
+        let reading = Reading {
+            form: Form::Lines,
+            decompresses: packing.decompresses,
+            nameless: packing.nameless,
+        };
         match packing.output_name(self.rt.alloc()) {
             Ok(output) => {
-                let given = Given {
-                    executables: packing.executables.unwrap_or(&[]),
-                    ..Given::file(output.as_str())
-                };
-                self.status(answer, given)
+                let executables = packing.executables.unwrap_or(&[]);
+                self.check_as(output.as_str(), executables, reading)
             }
             Err(failure) => report(self.err, &failure),
         }
+    }
+
+    /// Checks a package.
+    fn check_as(&mut self, file: &str, executables: &[&str], reading: Reading) -> u8 {
+        let files = HostReader::new(self.rt);
+        let answer = check_by(self.rt, &files, file, executables, reading, &mut self.out);
+        self.status(answer, Given::file(file), &files)
     }
 }
 
@@ -218,33 +231,33 @@ impl<O: Write, E: Write> Commands for Program<'_, '_, '_, O, E> {
         let form = FindForm {
             string,
             section,
-            json,
+            form: form_of(json),
         };
-        let answer = find(self.rt, file, kind, id, form, &mut self.out);
+        let files = HostReader::new(self.rt);
+        let asked = FindWords { kind, id, form };
+        let answer = find_by(self.rt.alloc(), &files, file, asked, &mut self.out);
         let given = Given {
             kind,
             id,
             wanted: string.or(section).unwrap_or(""),
             ..Given::file(file)
         };
-        self.status(answer, given)
+        self.status(answer, given, &files)
     }
 
     fn list(&mut self, file: &str, arguments: ListArguments) -> u8 {
         let form = ListForm {
             sizes: arguments.sizes,
             names: arguments.names,
-            json: arguments.json,
+            columns: arguments.columns,
+            form: form_of(arguments.json),
         };
-        let answer = if arguments.columns {
-            list_in_columns(self.rt, file, &mut self.out)
-        } else {
-            list(self.rt, file, form, &mut self.out)
-        };
+        let files = HostReader::new(self.rt);
+        let answer = list_by(self.rt.alloc(), &files, file, form, &mut self.out);
         if answer.is_ok() && self.manner.on_terminal && lacks_index(self.rt, file) {
             note_no_index(self.rt, file, self.err);
         }
-        self.status(answer, Given::file(file))
+        self.status(answer, Given::file(file), &files)
     }
 
     fn check(&mut self, arguments: CheckArguments<'_, '_>) -> u8 {
@@ -256,19 +269,11 @@ impl<O: Write, E: Write> Commands for Program<'_, '_, '_, O, E> {
             json,
         } = arguments;
         let reading = Reading {
+            form: form_of(json),
             decompresses,
             nameless: nameless_units(skips_nameless),
         };
-        let answer = if json {
-            check_as_json(self.rt, file, executables, reading, &mut self.out)
-        } else {
-            check(self.rt, file, executables, reading, &mut self.out)
-        };
-        let given = Given {
-            executables,
-            ..Given::file(file)
-        };
-        self.status(answer, given)
+        self.check_as(file, executables, reading)
     }
 
     fn show<D: fmt::Display>(&mut self, text: &D) -> u8 {

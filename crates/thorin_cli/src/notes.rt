@@ -4,16 +4,15 @@
 use std::alloc::AllocError;
 use std::io::{self, Write};
 use thorin_commands::{Packing, reason};
+use thorin_find::Unread;
 use thorin_print::Failure;
 use thorin_words::printed;
 
 /// What a command that reads was given.
 #[derive(Clone, Copy)]
-pub(crate) struct Given<'m, 'a> {
+pub(crate) struct Given<'a> {
     /// The package.
     pub(crate) file: &'a str,
-    /// The executables.
-    pub(crate) executables: &'m [&'a str],
     /// The kind and the identifier of a unit; empty where none was asked for.
     pub(crate) kind: &'a str,
     pub(crate) id: &'a str,
@@ -21,12 +20,11 @@ pub(crate) struct Given<'m, 'a> {
     pub(crate) wanted: &'a str,
 }
 
-impl<'m, 'a> Given<'m, 'a> {
+impl<'a> Given<'a> {
     /// A package alone.
-    pub(crate) fn file(file: &'a str) -> Given<'m, 'a> {
+    pub(crate) fn file(file: &'a str) -> Given<'a> {
         Given {
             file,
-            executables: &[],
             kind: "",
             id: "",
             wanted: "",
@@ -35,17 +33,18 @@ impl<'m, 'a> Given<'m, 'a> {
 }
 
 /// Prints the note on a failure of a command that reads: which of the files it is about, or the
-/// word.
+/// word. `unread` is the file that couldn't be read.
 pub(crate) fn note_reading<E: Write>(
     rt: &HostRuntime,
     failure: &Failure,
-    given: Given<'_, '_>,
+    given: Given<'_>,
+    unread: Option<Unread>,
     err: &mut E,
 ) {
     match failure {
         Failure::Input => {
-            if let Some(name) = unreadable(rt, given) {
-                note_unreadable(rt, name, err);
+            if let Some(unread) = unread {
+                note_unread(rt, unread.path.as_str(), &unread.cause, err);
             }
         }
         Failure::Malformed
@@ -93,9 +92,9 @@ pub(crate) fn note_no_index<E: Write>(rt: &HostRuntime, name: &str, err: &mut E)
     note(rt, name, "no index: not a package", err);
 }
 
-/// Prints the note on a file that can't be read.
-pub(crate) fn note_unreadable<E: Write>(rt: &HostRuntime, name: &str, err: &mut E) {
-    let why = why_unreadable(rt, name).ok();
+/// Prints the note on a file that couldn't be read.
+pub(crate) fn note_unread<E: Write>(rt: &HostRuntime, name: &str, cause: &io::Error, err: &mut E) {
+    let why = why_unread(rt, cause).ok();
     note(rt, name, text_of(&why), err);
 }
 
@@ -118,44 +117,10 @@ fn text_of(text: &Option<String>) -> &str {
     }
 }
 
-/// The first of the files that can't be read: a regular file, or none, before all else.
-fn unreadable<'a>(rt: &HostRuntime, given: Given<'_, 'a>) -> Option<&'a str> {
-    if is_unreadable(rt, given.file) {
-        return Some(given.file);
-    }
-    for name in given.executables {
-        if is_unreadable(rt, *name) {
-            return Some(*name);
-        }
-    }
-    if is_special(rt, given.file) {
-        return Some(given.file);
-    }
-    for name in given.executables {
-        if is_special(rt, *name) {
-            return Some(*name);
-        }
-    }
-    None
-}
-
-/// Whether there is no file of a name, or a regular one that can't be read.
-fn is_unreadable(rt: &HostRuntime, name: &str) -> bool {
-    !is_special(rt, name) && thorin_files::read_within(rt, name, 0).is_err()
-}
-
-/// Whether what has a name is no regular file: a read of it may wait for ever.
-fn is_special(rt: &HostRuntime, name: &str) -> bool {
-    thorin_files::is_there(rt, name) && !thorin_files::is_file(rt, name)
-}
-
-/// Why a file can't be read.
-fn why_unreadable(rt: &HostRuntime, name: &str) -> Result<String, AllocError> {
-    if is_special(rt, name) {
-        return String::from_str(rt.alloc(), "not a regular file");
-    }
-    match thorin_files::read_within(rt, name, 0) {
-        Ok(_) => Ok(String::new(rt.alloc())),
-        Err(cause) => reason(rt.alloc(), &cause),
+/// Why a file couldn't be read.
+fn why_unread(rt: &HostRuntime, cause: &io::Error) -> Result<String, AllocError> {
+    match cause.kind() {
+        io::ErrorKind::IsADirectory => String::from_str(rt.alloc(), "not a regular file"),
+        _ => reason(rt.alloc(), cause),
     }
 }

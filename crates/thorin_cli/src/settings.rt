@@ -5,6 +5,7 @@ use crate::manner::Manner;
 use thorin_arguments::PackArguments;
 use thorin_commands::{KeptMacros, NamelessUnits, Packing, Warnings};
 use thorin_errors::MissingReferencedObjectBehaviour;
+use thorin_print::Form;
 
 /// What is to be packed, in the packer's terms.
 pub(crate) fn packing_of<'m, 'a>(
@@ -58,6 +59,11 @@ pub(crate) fn nameless_units(are_skipped: bool) -> NamelessUnits {
     } else {
         NamelessUnits::Refused
     }
+}
+
+/// In which form a command prints.
+pub(crate) fn form_of(as_json: bool) -> Form {
+    if as_json { Form::Json } else { Form::Lines }
 }
 
 /// The warnings that a word asks for, where there is one.

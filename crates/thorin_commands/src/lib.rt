@@ -15,7 +15,7 @@ mod telling;
 
 pub use dwp_macros::KeptMacros;
 pub use missing::list_missing;
-pub use packing::{Packing, pack, verify};
+pub use packing::{Packing, pack};
 pub use thorin::NamelessUnits;
 pub use thorin_inputs::reason;
 pub use thorin_output::{FileSystem, HostFiles, Warnings};

@@ -28,7 +28,6 @@ use std::alloc::Global;
 use std::io::Write;
 use thorin::laws::runs_go_on;
 use thorin::{BytesSession, DwarfPackage, Input, NamelessUnits};
-use thorin_check::{Reading, check};
 use thorin_errors::{Error, MissingReferencedObjectBehaviour};
 use thorin_output::{FileSystem, Warned, Warnings, write_then_warn};
 use thorin_print::{Failure, buffer};
@@ -109,24 +108,6 @@ fn has_file<F: FileSystem>(files: &F, names: &[&str], file: &str) -> bool {
         }
     }
     false
-}
-
-/// Checks the package that would be written, for the executables. Answers the status.
-///
-/// # Errors
-/// `BadCommand` where the package's file has no name; those of `check`.
-pub fn verify<O: Write>(
-    rt: &HostRuntime,
-    packing: &Packing<'_, '_>,
-    out: &mut O,
-) -> Result<u8, Failure> {
-    let output = packing.output_name(rt.alloc())?;
-    let executables = paths_in(packing.executables);
-    let reading = Reading {
-        decompresses: packing.decompresses,
-        nameless: packing.nameless,
-    };
-    check(rt, output.as_str(), executables, reading, out)
 }
 
 /// Packs the inputs in order, then what each executable refers to, and writes the package: to the

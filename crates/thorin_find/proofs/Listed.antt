@@ -6,31 +6,42 @@ use Rattle.dwp_index.specs.Package.{Package}
 use Rattle.dwp_index.specs.declared.error.PackageError.{PackageError}
 use Rattle.dwp_index.specs.declared.units.UnitEntry.{UnitEntry}
 use Rattle.thorin_find.specs.Files.{Offer, FailsToRead, OrNoMemory}
-use Rattle.thorin_find.specs.Listing.{AreByRow, Lines, IsListed, ListsPackage, ListsBytes, Lists}
+use Rattle.thorin_find.specs.Listing.{AreByRow, UnitLines, answer_of, IsListedIn, ListsPackage}
+use Rattle.thorin_find.specs.Listing.{ListsBytes}
+use Rattle.thorin_find.specs.Listing.{Lists}
 use Rattle.thorin_find.specs.declared.listing.ListForm.{ListForm}
 use Rattle.thorin_print.specs.declared.output.Failure.{Failure}
 use Rattle.thorin_print.specs.declared.output.Failure.TheVariants as failures
 
 -- ---- the text of a list
 
-module _ (form : ListForm) (lines : Lines) (is_all : Bool) (old text : List ℕ) (none : old ≡ [])
+module _ (form : ListForm) (lines : UnitLines) (is_all : Bool) (old text : List ℕ) (none : old ≡ [])
     (added : text ≡ old ++ lines.printed) (all : is_all ≡ lines.is_all) where
+  -- in columns
+  pub listed_columns : (new : List ℕ) (given : Result ℕ Failure) → form.columns ≡ true
+      → given ≡ answer_of is_all
+      → IsListedIn form.columns form lines (record { printed = new; answer = given })
+  listed_columns new given asked e = rw (asked, ← all) e
+
   -- up to a unit that can't be looked up
-  pub listed_part : is_all ≡ false
-      → IsListed form lines (record { printed = text; answer = Err failures.Malformed })
-  listed_part ends = record { totals = []; no_totals = λ e. refl; is = grind (arith) }
+  pub listed_part : form.columns ≡ false → is_all ≡ false
+      → IsListedIn form.columns form lines
+      (record { printed = text; answer = Err failures.Malformed })
+  listed_part plain ends = rw plain
+      (record { totals = []; no_totals = λ e. refl; is = grind (arith) })
 
   -- without totals
-  pub listed_plain : is_all ≡ true
-      → IsListed form lines (record { printed = text; answer = Ok 0 })
-  listed_plain goes = record { totals = []; no_totals = λ e. refl; is = grind (arith, append-nil) }
+  pub listed_plain : form.columns ≡ false → is_all ≡ true
+      → IsListedIn form.columns form lines (record { printed = text; answer = Ok 0 })
+  listed_plain plain goes = rw plain
+      (record { totals = []; no_totals = λ e. refl; is = grind (arith, append-nil) })
 
   -- with totals
-  pub listed_sized : (new : List ℕ) → is_all ≡ true → form.sizes ≡ true
+  pub listed_sized : (new : List ℕ) → form.columns ≡ false → is_all ≡ true → form.sizes ≡ true
       → ((totals : List ℕ) × (new ≡ text ++ totals))
-      → IsListed form lines (record { printed = new; answer = Ok 0 })
-  listed_sized new goes asked more =
-      record { totals = more.0; no_totals = λ e. absurd cc; is = grind (arith, more.1) }
+      → IsListedIn form.columns form lines (record { printed = new; answer = Ok 0 })
+  listed_sized new plain goes asked more = rw plain
+      (record { totals = more.0; no_totals = λ e. absurd cc; is = grind (arith, more.1) })
 
 -- ---- what came of it
 

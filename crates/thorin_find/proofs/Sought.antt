@@ -1,8 +1,9 @@
 -- What came of a command that reads a file.
-use Rattle.std.proofs.Common.{◌≡◌, ℕ, Bool, List, Option, Result, Ok, Err, inr, arith}
+use Rattle.std.proofs.Common.{◌≡◌, ℕ, List, Option, Result, Ok, Err, inr, arith}
 use Rattle.std.proofs.KnownBytes.{Keeps-refl}
 use Rattle.dwp_table.specs.declared.object.DwarfObject.{DwarfObject}
 use Rattle.thorin_print.specs.Answers.{Answer}
+use Rattle.thorin_print.specs.declared.form.Form.{Form}
 use Rattle.thorin_print.specs.declared.output.Failure.{Failure}
 use Rattle.thorin_find.specs.Files.{Offer, Reads, FailsToRead}
 use Rattle.thorin_find.specs.Finding.{Seeks, FindsAsked, find_answer}
@@ -16,20 +17,20 @@ unfolding Reads
 unread offer path meant a failure h = inr (h, Keeps-refl a)
 
 -- the words ask for a unit, and for something of it
-pub sought_found : (offer : Offer) (path : List ℕ) (as_json : Bool) (a b : Option (List ℕ))
+pub sought_found : (offer : Offer) (path : List ℕ) (form : Form) (a b : Option (List ℕ))
     (object : Result DwarfObject Failure) (wanted : Result Wanted Failure) (sought : Sought)
-    (result : Result ℕ Failure) → Seeks as_json object wanted (Ok sought)
-    → Reads offer path (find_answer sought.as_json sought.wanted sought.object) a b result
-    → FindsAsked offer path as_json a b object wanted result
-sought_found offer path as_json a b (Ok object) (Ok wanted) sought result e r =
-    let same : sought ≡ record { object = object; wanted = wanted; as_json = as_json } = cc in
+    (result : Result ℕ Failure) → Seeks form object wanted (Ok sought)
+    → Reads offer path (find_answer sought.form sought.wanted sought.object) a b result
+    → FindsAsked offer path form a b object wanted result
+sought_found offer path form a b (Ok object) (Ok wanted) sought result e r =
+    let same : sought ≡ record { object = object; wanted = wanted; form = form } = cc in
     rw same at r
-sought_found offer path as_json a b (Ok object) (Err failure) sought result e r = absurd (cc)
-sought_found offer path as_json a b (Err failure) wanted sought result e r = absurd (cc)
+sought_found offer path form a b (Ok object) (Err failure) sought result e r = absurd (cc)
+sought_found offer path form a b (Err failure) wanted sought result e r = absurd (cc)
 
 -- the words ask for no unit, or for nothing of it: nothing was handed over
-pub not_sought : (offer : Offer) (path : List ℕ) (as_json : Bool) (a : Option (List ℕ))
+pub not_sought : (offer : Offer) (path : List ℕ) (form : Form) (a : Option (List ℕ))
     (object : Result DwarfObject Failure) (wanted : Result Wanted Failure) (failure : Failure)
-    → Seeks as_json object wanted (Err failure)
-    → FindsAsked offer path as_json a a object wanted (Err failure)
-not_sought offer path as_json a object wanted failure h = grind (arith, Keeps-refl a)
+    → Seeks form object wanted (Err failure)
+    → FindsAsked offer path form a a object wanted (Err failure)
+not_sought offer path form a object wanted failure h = grind (arith, Keeps-refl a)

@@ -4,11 +4,11 @@ use Rattle.std.proofs.Common.{append_assoc, true≢false}
 use Rattle.dwp_index.specs.Package.{Package, FoundUnit, found}
 use Rattle.dwp_index.specs.declared.error.PackageError.{PackageError}
 use Rattle.dwp_index.specs.declared.units.UnitEntry.{UnitEntry}
-use Rattle.thorin_find.specs.Listing.{ListView, Lines, lines_of, slot_line, AddsLine}
+use Rattle.thorin_find.specs.Listing.{ListView, UnitLines, lines_of, slot_line, AddsLine}
 use Rattle.thorin_find.specs.Listing.{behind_line}
 
 -- some text, and the lines behind it
-abbrev behind : List ℕ → Lines → Lines
+abbrev behind : List ℕ → UnitLines → UnitLines
 behind text lines = record { printed = text ++ lines.printed; is_all = lines.is_all }
 
 -- of the lines of all slots, those up to the rest were added

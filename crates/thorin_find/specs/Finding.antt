@@ -1,5 +1,5 @@
 -- What `find` prints.
-use Rattle.std.specs.Prelude.{◌≡◌, ◌≢◌, ◌⊎◌, ◌<◌, ◌^◌, ◌==◌, ℕ, Bool, true, false, List, [], ◌++◌}
+use Rattle.std.specs.Prelude.{◌≡◌, ◌≢◌, ◌⊎◌, ◌<◌, ◌^◌, ◌==◌, ℕ, List, [], ◌++◌}
 use Rattle.std.specs.Prelude.{codes, length, Option, Some, None, Result, Ok, Err, if◌then◌else◌}
 use Rattle.std.specs.Fmt.{decimal}
 use Rattle.std.specs.List.{flat_map}
@@ -27,6 +27,8 @@ use Rattle.thorin_print.specs.Answers.{Answer, refused}
 use Rattle.thorin_find.specs.Files.{Offer, Reads}
 use Rattle.thorin_print.specs.Lines.{hex, hex16, line_end}
 use Rattle.thorin_find.specs.Lines.{short_kind}
+use Rattle.thorin_print.specs.declared.form.Form.{Form}
+use Rattle.thorin_print.specs.declared.form.Form.TheVariants.{Lines, Json}
 use Rattle.thorin_print.specs.Spelled.{spelled, spelled_or}
 use Rattle.thorin_find.specs.declared.wanted.FindWords.{FindWords}
 use Rattle.thorin_find.specs.declared.wanted.Sought.{Sought}
@@ -106,18 +108,18 @@ encoding_line object encoding =
 
 -- a range, where it begins in its section, and its size: on a line, or in JSON (RFC 8259) by the
 -- short name of its section
-abbrev pub range_text : (as_json : Bool) → SectionKind → Option Contribution → List ℕ
-range_text as_json kind None = []
-range_text false kind (Some range) =
+abbrev pub range_text : Form → SectionKind → Option Contribution → List ℕ
+range_text form kind None = []
+range_text Lines kind (Some range) =
     short_name kind ++ (codes " 0x" ++ (hex range.offset.0
     ++ (codes " 0x" ++ (hex range.size ++ line_end))))
-range_text true kind (Some range) = codes ",\"" ++ (short_name kind ++ (codes "\":{\"offset\":"
+range_text Json kind (Some range) = codes ",\"" ++ (short_name kind ++ (codes "\":{\"offset\":"
     ++ (decimal range.offset.0 ++ (codes ",\"size\":" ++ (decimal range.size ++ codes "}")))))
 
 -- a unit's ranges, in the order of columns
-unfoldable pub range_texts : (as_json : Bool) → FoundUnit → List ℕ
-range_texts as_json unit =
-    flat_map (λ kind. range_text as_json kind (range_in unit.row kind)) contribution_kinds
+unfoldable pub range_texts : Form → FoundUnit → List ℕ
+range_texts form unit =
+    flat_map (λ kind. range_text form kind (range_in unit.row kind)) contribution_kinds
 
 -- how many strings a unit has, by its string offsets
 unfoldable pub string_count : FoundUnit → ℕ
@@ -130,10 +132,10 @@ string_of unit i = string_in unit.order unit.encoding (content unit.contents Str
     (row_bytes unit.contents unit.row StrOffsets) i
 
 -- the numbers of a unit's strings and of slots: on lines, or as the end of an object
-abbrev pub counts_text : (as_json : Bool) → (strings slots : ℕ) → List ℕ
-counts_text false strings slots = codes "strings " ++ (decimal strings
+abbrev pub counts_text : Form → (strings slots : ℕ) → List ℕ
+counts_text Lines strings slots = codes "strings " ++ (decimal strings
     ++ (codes "\nslots " ++ (decimal slots ++ line_end)))
-counts_text true strings slots = codes ",\"strings\":" ++ (decimal strings
+counts_text Json strings slots = codes ",\"strings\":" ++ (decimal strings
     ++ (codes ",\"slots\":" ++ (decimal slots ++ (codes "}" ++ line_end))))
 
 -- the beginning of a JSON object, up to the unit's encoding
@@ -145,29 +147,29 @@ json_encoding object encoding =
     ++ (codes ",\"format\":" ++ (decimal (width encoding.format)
     ++ (codes ",\"address\":" ++ decimal encoding.address_size))))))))
 
-abbrev pub encoding_text : (as_json : Bool) → DwarfObject → Encoding → List ℕ
-encoding_text false = encoding_line
-encoding_text true = json_encoding
+abbrev pub encoding_text : Form → DwarfObject → Encoding → List ℕ
+encoding_text Lines = encoding_line
+encoding_text Json = json_encoding
 
 -- all that is printed of a unit for which so many slots were looked at
-unfoldable pub all_text : (as_json : Bool) → DwarfObject → FoundUnit → (slots : ℕ) → List ℕ
-all_text as_json object unit slots = encoding_text as_json object unit.encoding
-    ++ range_texts as_json unit ++ counts_text as_json (string_count unit) slots
+unfoldable pub all_text : Form → DwarfObject → FoundUnit → (slots : ℕ) → List ℕ
+all_text form object unit slots = encoding_text form object unit.encoding
+    ++ range_texts form unit ++ counts_text form (string_count unit) slots
 
 -- the line of a string
-abbrev pub string_line : (as_json : Bool) → List ℕ → List ℕ
-string_line false string = spelled false string ++ line_end
-string_line true string =
-    codes "{\"string\":" ++ (spelled_or true (Some string) ++ (codes "}" ++ line_end))
+abbrev pub string_line : Form → List ℕ → List ℕ
+string_line Lines string = spelled Lines string ++ line_end
+string_line Json string =
+    codes "{\"string\":" ++ (spelled_or Json (Some string) ++ (codes "}" ++ line_end))
 
 -- ---- what comes of it
 
 -- a string that can be read; past the last there is none
-abbrev pub string_answer : (as_json : Bool) → ℕ → Result (Option (List ℕ)) ReadError → Answer
-string_answer as_json i (Ok (Some string)) =
-    record { printed = string_line as_json string; answer = Ok 0 }
-string_answer as_json i (Ok None) = refused (failures.NoString i)
-string_answer as_json i (Err cause) = refused failures.Malformed
+abbrev pub string_answer : Form → ℕ → Result (Option (List ℕ)) ReadError → Answer
+string_answer form i (Ok (Some string)) =
+    record { printed = string_line form string; answer = Ok 0 }
+string_answer form i (Ok None) = refused (failures.NoString i)
+string_answer form i (Err cause) = refused failures.Malformed
 
 -- the bytes of a section as they are, where there are any
 abbrev pub bytes_answer : SectionKind → List ℕ → Answer
@@ -175,55 +177,55 @@ bytes_answer kind bytes = if length bytes == 0 then refused (failures.NoRange ki
     else record { printed = bytes; answer = Ok 0 }
 
 -- what is wanted of a unit
-abbrev pub wanted_answer : (as_json : Bool) → Wanted → DwarfObject → FoundUnit → (slots : ℕ)
+abbrev pub wanted_answer : Form → Wanted → DwarfObject → FoundUnit → (slots : ℕ)
     → Answer
-wanted_answer as_json (Printed AllOf) object unit slots =
-    record { printed = all_text as_json object unit slots; answer = Ok 0 }
-wanted_answer as_json (Printed (StringOf i)) object unit slots =
-    string_answer as_json i (string_of unit i)
-wanted_answer as_json (Bytes kind) object unit slots =
+wanted_answer form (Printed AllOf) object unit slots =
+    record { printed = all_text form object unit slots; answer = Ok 0 }
+wanted_answer form (Printed (StringOf i)) object unit slots =
+    string_answer form i (string_of unit i)
+wanted_answer form (Bytes kind) object unit slots =
     bytes_answer kind (row_bytes unit.contents unit.row kind)
 
-abbrev pub found_answer : (as_json : Bool) → Wanted → DwarfObject
+abbrev pub found_answer : Form → Wanted → DwarfObject
     → Result (Option FoundUnit × ℕ) PackageError → Answer
-found_answer as_json wanted object (Err cause) = refused failures.Malformed
-found_answer as_json wanted object (Ok (None, slots)) =
+found_answer form wanted object (Err cause) = refused failures.Malformed
+found_answer form wanted object (Ok (None, slots)) =
     refused (failures.NoUnit (identifier_of object))
-found_answer as_json wanted object (Ok (Some unit, slots)) =
-    wanted_answer as_json wanted object unit slots
+found_answer form wanted object (Ok (Some unit, slots)) =
+    wanted_answer form wanted object unit slots
 
-abbrev pub answer_in : (as_json : Bool) → Wanted → DwarfObject → Result Package PackageError
+abbrev pub answer_in : Form → Wanted → DwarfObject → Result Package PackageError
     → Answer
-answer_in as_json wanted object (Err cause) = refused failures.Malformed
-answer_in as_json wanted object (Ok pack) =
-    found_answer as_json wanted object (found_counted pack object)
+answer_in form wanted object (Err cause) = refused failures.Malformed
+answer_in form wanted object (Ok pack) =
+    found_answer form wanted object (found_counted pack object)
 
 -- what `find` comes to for a unit, over the bytes of a file
-unfoldable pub find_answer : (as_json : Bool) → Wanted → DwarfObject → List ℕ → Answer
-find_answer as_json wanted object bytes = answer_in as_json wanted object (package_of bytes)
+unfoldable pub find_answer : Form → Wanted → DwarfObject → List ℕ → Answer
+find_answer form wanted object bytes = answer_in form wanted object (package_of bytes)
 
-abbrev pub FindsWanted : Offer → (path : List ℕ) → (as_json : Bool)
+abbrev pub FindsWanted : Offer → (path : List ℕ) → Form
     → (old new : Option (List ℕ)) → DwarfObject → Result Wanted Failure → Result ℕ Failure → Type 0
-FindsWanted offer path as_json old new object (Ok wanted) result =
-    Reads offer path (find_answer as_json wanted object) old new result
-FindsWanted offer path as_json old new object (Err failure) result =
+FindsWanted offer path form old new object (Ok wanted) result =
+    Reads offer path (find_answer form wanted object) old new result
+FindsWanted offer path form old new object (Err failure) result =
     (result ≡ Err failure) × Keeps old new
 
-abbrev pub FindsAsked : Offer → (path : List ℕ) → (as_json : Bool)
+abbrev pub FindsAsked : Offer → (path : List ℕ) → Form
     → (old new : Option (List ℕ)) → Result DwarfObject Failure → Result Wanted Failure
     → Result ℕ Failure → Type 0
-FindsAsked offer path as_json old new (Ok object) wanted result =
-    FindsWanted offer path as_json old new object wanted result
-FindsAsked offer path as_json old new (Err failure) wanted result =
+FindsAsked offer path form old new (Ok object) wanted result =
+    FindsWanted offer path form old new object wanted result
+FindsAsked offer path form old new (Err failure) wanted result =
     (result ≡ Err failure) × Keeps old new
 
 -- what words ask for: the unit's are tested first
-abbrev pub Seeks : (as_json : Bool) → Result DwarfObject Failure → Result Wanted Failure
+abbrev pub Seeks : Form → Result DwarfObject Failure → Result Wanted Failure
     → Result Sought Failure → Type 0
-Seeks as_json (Ok object) (Ok wanted) result =
-    result ≡ Ok (record { object = object; wanted = wanted; as_json = as_json })
-Seeks as_json (Ok object) (Err failure) result = result ≡ Err failure
-Seeks as_json (Err failure) wanted result = result ≡ Err failure
+Seeks form (Ok object) (Ok wanted) result =
+    result ≡ Ok (record { object = object; wanted = wanted; form = form })
+Seeks form (Ok object) (Err failure) result = result ≡ Err failure
+Seeks form (Err failure) wanted result = result ≡ Err failure
 
 -- the words that ask for a unit, and for something of it
 pub record Words : Type 0 where
@@ -231,7 +233,7 @@ pub record Words : Type 0 where
   pub id : List ℕ
   pub string : Option (List ℕ)
   pub section : Option (List ℕ)
-  pub as_json : Bool
+  pub form : Form
 
 -- those at hand
 abbrev pub words_of : FindWords → Words
@@ -240,7 +242,7 @@ words_of asked = record {
   id = asked.id.now;
   string = option_copied asked.form.string;
   section = option_copied asked.form.section;
-  as_json = asked.form.json;
+  form = asked.form.form;
 }
 
 -- `find`: the words ask for a unit, and for something of it, and the file at the path is read for
@@ -251,4 +253,4 @@ pub record Finds (offer : Offer) (path : List ℕ) (words : Words) (old new : Op
   pub asks : Asks words.kind words.id asked
   pub wanted : Result Wanted Failure
   pub wants : AsksFor words.string words.section wanted
-  pub finds : FindsAsked offer path words.as_json old new asked wanted result
+  pub finds : FindsAsked offer path words.form old new asked wanted result

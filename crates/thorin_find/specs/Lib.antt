@@ -1,3 +1,4 @@
+pub mod Columns
 pub mod Files
 pub mod Finding
 pub mod Json

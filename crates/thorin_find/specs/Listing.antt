@@ -23,6 +23,8 @@ use Rattle.dwp_table.specs.declared.object.DwarfObject.TheVariants.{Compilation,
 use Rattle.thorin_print.specs.Answers.{Answer, refused, Comes}
 use Rattle.thorin_find.specs.Files.{Offer, RefusesFile}
 use Rattle.thorin_find.specs.Names.{source_name, object_name}
+use Rattle.thorin_print.specs.declared.form.Form.{Form}
+use Rattle.thorin_print.specs.declared.form.Form.TheVariants.{Lines, Json}
 use Rattle.thorin_print.specs.Spelled.{spelled_or}
 use Rattle.thorin_find.specs.declared.listing.ListForm.{ListForm}
 use Rattle.thorin_print.specs.Lines.{hex16, line_end}
@@ -69,16 +71,16 @@ view_of form pack =
     record { form = form; order = pack.order; strings = content pack.contents Str }
 
 -- the size of a range, behind the short name of its section
-abbrev pub range_size : (as_json : Bool) → SectionKind → Option Contribution → List ℕ
-range_size as_json kind None = []
-range_size false kind (Some range) =
+abbrev pub range_size : Form → SectionKind → Option Contribution → List ℕ
+range_size form kind None = []
+range_size Lines kind (Some range) =
     codes " " ++ (short_name kind ++ (codes " " ++ decimal range.size))
-range_size true kind (Some range) =
+range_size Json kind (Some range) =
     codes ",\"" ++ (short_name kind ++ (codes "\":" ++ decimal range.size))
 
-unfoldable pub range_sizes : (as_json : Bool) → FoundUnit → List ℕ
-range_sizes as_json unit =
-    flat_map (λ kind. range_size as_json kind (range_in unit.row kind)) contribution_kinds
+unfoldable pub range_sizes : Form → FoundUnit → List ℕ
+range_sizes form unit =
+    flat_map (λ kind. range_size form kind (range_in unit.row kind)) contribution_kinds
 
 -- a unit's kind, its identifier and the size of its bytes
 unfoldable pub unit_front : DwarfObject → FoundUnit → List ℕ
@@ -92,32 +94,34 @@ json_front object unit =
     codes "{\"kind\":\"" ++ (short_kind object ++ (codes "\",\"id\":\"0x"
     ++ (hex16 (identifier_of object) ++ (codes "\",\"size\":" ++ decimal (length unit.bytes)))))
 
-abbrev pub front_of : (as_json : Bool) → DwarfObject → FoundUnit → List ℕ
-front_of false object unit = unit_front object unit
-front_of true object unit = json_front object unit
+abbrev pub front_of : Form → DwarfObject → FoundUnit → List ℕ
+front_of Lines object unit = unit_front object unit
+front_of Json object unit = json_front object unit
 
 -- the names of a unit's source and of its object; plain ones stand behind tabs, which no name has
 -- as it is spelled
-abbrev pub named_by : (as_json : Bool) → (source object : Option (List ℕ)) → List ℕ
-named_by false source object =
-    codes "\t" ++ (spelled_or false source ++ (codes "\t" ++ spelled_or false object))
-named_by true source object = codes ",\"name\":" ++ (spelled_or true source
-    ++ (codes ",\"dwo_name\":" ++ spelled_or true object))
+abbrev pub named_by : Form → (source object : Option (List ℕ)) → List ℕ
+named_by Lines source object =
+    codes "\t" ++ (spelled_or Lines source ++ (codes "\t" ++ spelled_or Lines object))
+named_by Json source object = codes ",\"name\":" ++ (spelled_or Json source
+    ++ (codes ",\"dwo_name\":" ++ spelled_or Json object))
 
 unfoldable pub unit_names : ListView → DwarfObject → FoundUnit → List ℕ
 unit_names view object unit =
-    named_by view.form.json (source_name view.order view.strings object unit)
+    named_by view.form.form (source_name view.order view.strings object unit)
     (object_name view.order view.strings object unit)
 
-abbrev pub end_of : (as_json : Bool) → List ℕ
-end_of false = line_end
-end_of true = codes "}" ++ line_end
+abbrev pub end_of : Form → List ℕ
+end_of Lines = line_end
+end_of Json = codes "}" ++ line_end
 
--- the line of a unit; the sizes of its ranges and its names stand in it where these are asked for
+-- the line of a unit; the sizes of its ranges and its names stand in it where these are asked for.
+-- In columns there is none
 unfoldable pub unit_line : ListView → DwarfObject → FoundUnit → List ℕ
-unit_line view object unit = front_of view.form.json object unit
-    ++ (if view.form.sizes then range_sizes view.form.json unit else [])
-    ++ (if view.form.names then unit_names view object unit else []) ++ end_of view.form.json
+unit_line view object unit = if view.form.columns then [] else
+    front_of view.form.form object unit
+    ++ (if view.form.sizes then range_sizes view.form.form unit else [])
+    ++ (if view.form.names then unit_names view object unit else []) ++ end_of view.form.form
 
 -- the line for a slot: that of the unit which is found under its identifier, if that is the one of
 -- the slot's row; no line, if another or none is found
@@ -130,19 +134,19 @@ slot_line view entry (Some unit) =
 
 -- the lines of these slots, up to the first whose unit can't be looked up; and whether there is
 -- none such
-pub record Lines : Type 0 where
+pub record UnitLines : Type 0 where
   pub printed : List ℕ
   pub is_all : Bool
 
 abbrev pub behind_line : (view : ListView) → UnitEntry → Result (Option FoundUnit) PackageError
-    → Lines → Lines
+    → UnitLines → UnitLines
 behind_line view entry (Err cause) lines = record { printed = []; is_all = false }
 behind_line view entry (Ok unit) lines = record {
   printed = slot_line view entry unit ++ lines.printed;
   is_all = lines.is_all;
 }
 
-abbrev pub lines_of : (view : ListView) → Package → List UnitEntry → Lines
+abbrev pub lines_of : (view : ListView) → Package → List UnitEntry → UnitLines
 lines_of view pack [] = record { printed = []; is_all = true }
 lines_of view pack (entry ∷ entries) =
     behind_line view entry (found pack entry.object) (lines_of view pack entries)
@@ -156,17 +160,26 @@ AddsLine view entry (Ok unit) old new is_found =
 
 -- ---- what comes of it
 
+-- what is answered, where all units could be looked up or not
+abbrev pub answer_of : (is_all : Bool) → Result ℕ Failure
+answer_of is_all = if is_all then Ok 0 else Err failures.Malformed
+
 -- the answer once such lines are printed; totals stand behind them, where sizes are asked for
-abbrev pub after_lines : Lines → (totals : List ℕ) → Answer
+abbrev pub after_lines : UnitLines → (totals : List ℕ) → Answer
 after_lines lines totals = if lines.is_all
     then record { printed = lines.printed ++ totals; answer = Ok 0 }
     else record { printed = lines.printed; answer = Err failures.Malformed }
 
 -- that is meant, with some totals; there are none where sizes aren't asked for
-pub record IsListed (form : ListForm) (lines : Lines) (meant : Answer) : Type 0 where
+pub record IsListed (form : ListForm) (lines : UnitLines) (meant : Answer) : Type 0 where
   pub totals : List ℕ
   pub no_totals : form.sizes ≡ false → totals ≡ []
   pub is : after_lines lines totals ≡ meant
+
+-- the same, or columns, with the answer that lines have
+abbrev pub IsListedIn : (columns : Bool) → ListForm → UnitLines → Answer → Type 0
+IsListedIn false form lines meant = IsListed form lines meant
+IsListedIn true form lines meant = meant.answer ≡ answer_of lines.is_all
 
 -- `list`, where the bytes of a file are a package
 pub record ListsPackage (form : ListForm) (pack : Package) (old new : Option (List ℕ))
@@ -174,7 +187,7 @@ pub record ListsPackage (form : ListForm) (pack : Package) (old new : Option (Li
   pub entries : List UnitEntry
   pub by_row : AreByRow pack entries
   pub meant : Answer
-  pub listed : IsListed form (lines_of (view_of form pack) pack entries) meant
+  pub listed : IsListedIn form.columns form (lines_of (view_of form pack) pack entries) meant
   pub comes : Comes result meant old new
 
 -- the same for what the bytes are: where they are no package, that is answered

@@ -2,7 +2,8 @@
 
 ghost use Rattle.std.specs.Prelude.{◌≡◌, ◌++◌, OnOk, string_bytes, codes};
 ghost use Rattle.std.specs.Fmt.{decimal};
-ghost use Rattle.thorin_find.specs.Finding.{width, encoding_line, json_encoding, range_text};
+ghost use Rattle.thorin_find.specs.Finding.{width, encoding_line, json_encoding, encoding_text};
+ghost use Rattle.thorin_find.specs.Finding.{range_text};
 ghost use Rattle.thorin_find.specs.Finding.{range_texts, counts_text, all_text};
 ghost use Rattle.thorin_find.specs.Json.{json_unit, json_numbers};
 ghost use Rattle.thorin_print.specs.Lines.{hex, line_end};
@@ -13,6 +14,7 @@ use dwp_bytes::{Encoding, Format};
 use dwp_index::PackagedUnit;
 use dwp_table::{Bucketable, CONTRIBUTION_KINDS, DwarfObject};
 use std::alloc::AllocError;
+use thorin_print::Form;
 
 /// Adds all that is told of a unit: in lines, or as a JSON object.
 #[tactic(auto, unfolding(crate::specs::Finding::all_text))]
@@ -20,19 +22,31 @@ pub(crate) fn put_all(
     object: DwarfObject,
     unit: &PackagedUnit<'_>,
     slots: u32,
-    as_json: bool,
+    form: Form,
     text: &mut String,
 ) -> Result<(), AllocError>
     ensures { OnOk result (string_bytes text.new
-        ≡ string_bytes text.old ++ all_text as_json object unit.now slots) }
+        ≡ string_bytes text.old ++ all_text form object unit.now slots) }
 {
-    if as_json {
-        put_json_encoding(object, unit.encoding(), text)?;
-    } else {
-        put_encoding(object, unit.encoding(), text)?;
+    put_encoding_in(form, object, unit.encoding(), text)?;
+    put_ranges(unit, form, text)?;
+    put_counts(string_count(unit), slots, form, text)
+}
+
+/// Adds a unit's encoding: a line, or the beginning of an object.
+fn put_encoding_in(
+    form: Form,
+    object: DwarfObject,
+    encoding: Encoding,
+    text: &mut String,
+) -> Result<(), AllocError>
+    ensures { OnOk result (string_bytes text.new
+        ≡ string_bytes text.old ++ encoding_text form object encoding) }
+{
+    match form {
+        Form::Lines => put_encoding(object, encoding, text),
+        Form::Json => put_json_encoding(object, encoding, text),
     }
-    put_ranges(unit, as_json, text)?;
-    put_counts(string_count(unit), slots, as_json, text)
 }
 
 /// Adds the line of a unit's encoding.
@@ -93,7 +107,7 @@ fn put_json_numbers(encoding: Encoding, text: &mut String) -> Result<(), AllocEr
 
 /// Adds the beginning of the object, up to the unit's identifier.
 #[tactic(auto, using(thorin_print::proofs::Hex::hex16_written), unfolding(crate::specs::Json::json_unit))]
-pub(crate) fn put_json_unit(object: DwarfObject, text: &mut String) -> Result<(), AllocError>
+pub fn put_json_unit(object: DwarfObject, text: &mut String) -> Result<(), AllocError>
     ensures { OnOk result (string_bytes text.new
         ≡ string_bytes text.old ++ json_unit object) }
 {
@@ -104,12 +118,12 @@ pub(crate) fn put_json_unit(object: DwarfObject, text: &mut String) -> Result<()
 
 /// Adds each range that a unit has of a section.
 #[tactic(auto, unfolding(crate::specs::Finding::range_texts))]
-fn put_ranges(unit: &PackagedUnit<'_>, as_json: bool, text: &mut String) -> Result<(), AllocError>
+fn put_ranges(unit: &PackagedUnit<'_>, form: Form, text: &mut String) -> Result<(), AllocError>
     ensures { OnOk result (string_bytes text.new
-        ≡ string_bytes text.old ++ range_texts as_json unit.now) }
+        ≡ string_bytes text.old ++ range_texts form unit.now) }
 {
     for kind in &CONTRIBUTION_KINDS {
-        put_range(*kind, unit.range(*kind), as_json, text)?;
+        put_range(*kind, unit.range(*kind), form, text)?;
     }
     Ok(())
 }
@@ -118,20 +132,19 @@ fn put_ranges(unit: &PackagedUnit<'_>, as_json: bool, text: &mut String) -> Resu
 fn put_range(
     kind: SectionKind,
     range: Option<Contribution>,
-    as_json: bool,
+    form: Form,
     text: &mut String,
 ) -> Result<(), AllocError>
     ensures { OnOk result (string_bytes text.new
-        ≡ string_bytes text.old ++ range_text as_json kind range) }
+        ≡ string_bytes text.old ++ range_text form kind range) }
 {
     let Some(range) = range else {
         return Ok(());
     };
     let name = kind.short_name();
-    if as_json {
-        put_json_range(name, range, text)
-    } else {
-        put_plain_range(name, range, text)
+    match form {
+        Form::Lines => put_plain_range(name, range, text),
+        Form::Json => put_json_range(name, range, text),
     }
 }
 
@@ -158,13 +171,12 @@ fn put_plain_range(name: &str, range: Contribution, text: &mut String) -> Result
 }
 
 /// Adds the numbers of a unit's strings and of slots: in lines, or as the end of the object.
-fn put_counts(strings: u64, slots: u32, as_json: bool, text: &mut String) -> Result<(), AllocError>
+fn put_counts(strings: u64, slots: u32, form: Form, text: &mut String) -> Result<(), AllocError>
     ensures { OnOk result (string_bytes text.new
-        ≡ string_bytes text.old ++ counts_text as_json strings slots) }
+        ≡ string_bytes text.old ++ counts_text form strings slots) }
 {
-    if as_json {
-        writeln!(text, ",\"strings\":{strings},\"slots\":{slots}}}")
-    } else {
-        writeln!(text, "strings {strings}\nslots {slots}")
+    match form {
+        Form::Lines => writeln!(text, "strings {strings}\nslots {slots}"),
+        Form::Json => writeln!(text, ",\"strings\":{strings},\"slots\":{slots}}}"),
     }
 }

@@ -4,6 +4,7 @@ ghost use Rattle.std.specs.Prelude.{ℕ, List, Result, Ok, Err, IfOk, IfErr};
 ghost use Rattle.std.specs.declared.io.Error.{Error as IoError};
 ghost use Rattle.thorin_find.specs.Files.{anything, FailsToRead};
 
+use std::cell::Cell;
 use std::io;
 use thorin_print::Failure;
 
@@ -21,16 +22,35 @@ pub trait FileReader {
         ensures refused { IfErr result (λ cause. offer self.now path.now (Err cause)) };
 }
 
+/// A file that couldn't be read.
+#[derive(Drop)]
+pub struct Unread {
+    /// Its path.
+    pub path: String,
+    /// Why.
+    pub cause: io::Error,
+}
+
 /// The files of the system. What has no end, as a device, isn't read.
 #[derive(Drop)]
 pub struct HostReader<'a> {
     rt: &'a HostRuntime,
+    /// The last that couldn't be read.
+    unread: Cell<Option<Unread>>,
 }
 
 impl<'a> HostReader<'a> {
     /// The files of this runtime.
     pub fn new(rt: &'a HostRuntime) -> HostReader<'a> {
-        HostReader { rt }
+        HostReader {
+            rt,
+            unread: Cell::new(None),
+        }
+    }
+
+    /// The last file that couldn't be read, as far as there was memory to keep it.
+    pub fn unread(&self) -> Option<Unread> {
+        self.unread.replace(None)
     }
 }
 
@@ -38,7 +58,16 @@ impl FileReader for HostReader<'_> {
     ghost offer = { λ _. anything };
 
     fn read(&self, path: &str) -> io::Result<Vec<u8>> {
-        thorin_files::read(self.rt, path)
+        match thorin_files::read(self.rt, path) {
+            Ok(bytes) => Ok(bytes),
+            Err(cause) => {
+                let kind = cause.kind();
+                if let Ok(path) = String::from_str(self.rt.alloc(), path) {
+                    self.unread.set(Some(Unread { path, cause }));
+                }
+                Err(io::Error::from(kind))
+            }
+        }
     }
 }
 

@@ -1,8 +1,7 @@
 //! `thorin find`.
 
 ghost use Rattle.std.specs.Prelude.{◌≡◌, ◌++◌, [], IfOk, OnOk, MatchResult, string_bytes, codes};
-ghost use Rattle.std.specs.Option.{option_copied};
-ghost use Rattle.thorin_find.specs.Files.{anything, Reads};
+ghost use Rattle.thorin_find.specs.Files.{Reads};
 ghost use Rattle.thorin_print.specs.Answers.{Comes, refused};
 ghost use Rattle.thorin_find.specs.Finding.{Finds, Seeks, string_count, string_line};
 ghost use Rattle.thorin_find.specs.Finding.{string_answer, find_answer, found_answer};
@@ -14,14 +13,14 @@ ghost use Rattle.thorin_find.specs.Lines.{short_kind};
 ghost use Rattle.thorin_find.specs.declared.wanted.Wanted.TheVariants.{Printed, Bytes};
 
 use crate::describing::put_all;
-use crate::files::{FileReader, HostReader, read_named};
-use crate::wanted::{FindForm, FindWords, Printing, Sought, Wanted, object, wanted_of};
+use crate::files::{FileReader, read_named};
+use crate::wanted::{FindWords, Printing, Sought, Wanted, object, wanted_of};
 use dwp_base::SectionKind;
 use dwp_index::{PackageFile, PackagedUnit};
 use dwp_table::{Bucketable, DwarfObject};
 use std::alloc::{AllocError, Global};
 use std::io::Write;
-use thorin_print::{Failure, answer, answer_bytes, put_spelled, put_spelled_or};
+use thorin_print::{Failure, Form, answer, answer_bytes, put_spelled, put_spelled_or};
 
 /// Looks a unit up in a package's file and prints what belongs to it, or what is wanted of that. Its
 /// kind is `cu` or `tu`, its identifier 1 to 16 hexadecimal digits, with or without `0x` in front.
@@ -32,35 +31,6 @@ use thorin_print::{Failure, answer, answer_bytes, put_spelled, put_spelled_or};
 /// read, `Malformed` where it is no package, or a string can't be read, `NoUnit` where it has no
 /// such unit, `NoString` or `NoRange` where the unit doesn't have what is wanted; `Line` or
 /// `Memory`.
-pub fn find<O: Write>(
-    rt: &HostRuntime,
-    file: &str,
-    kind: &str,
-    id: &str,
-    form: FindForm<'_>,
-    out: &mut O,
-) -> Result<u8, Failure>
-    ensures { Finds anything file.now (record {
-      kind = kind.now;
-      id = id.now;
-      string = option_copied form.entry.string;
-      section = option_copied form.entry.section;
-      as_json = form.entry.json;
-    }) (O.contents out.old) (O.contents out.new) result }
-{
-    find_by(
-        rt.alloc(),
-        &HostReader::new(rt),
-        file,
-        FindWords { kind, id, form },
-        out,
-    )
-}
-
-/// The same of a file that a reader reads.
-///
-/// # Errors
-/// Those of `find`.
 pub fn find_by<F: FileReader, O: Write>(
     alloc: Global,
     files: &F,
@@ -73,7 +43,7 @@ pub fn find_by<F: FileReader, O: Write>(
 {
     let object = object(asked.kind, asked.id);
     let wanted = wanted_of(asked.form.string, asked.form.section);
-    match sought(object, wanted, asked.form.json) {
+    match sought(object, wanted, asked.form.form) {
         Ok(sought) => find_at(alloc, files, file, sought, out),
         Err(failure) => Err(failure),
     }
@@ -83,14 +53,14 @@ pub fn find_by<F: FileReader, O: Write>(
 fn sought(
     object: Result<DwarfObject, Failure>,
     wanted: Result<Wanted, Failure>,
-    as_json: bool,
+    form: Form,
 ) -> Result<Sought, Failure>
-    ensures { Seeks as_json object wanted result }
+    ensures { Seeks form object wanted result }
 {
     Ok(Sought {
         object: object?,
         wanted: wanted?,
-        as_json,
+        form,
     })
 }
 
@@ -104,7 +74,7 @@ fn find_at<F: FileReader, O: Write>(
     out: &mut O,
 ) -> Result<u8, Failure>
     ensures { Reads (F.offer files.now) file.now
-        (find_answer sought.as_json sought.wanted sought.object) (O.contents out.old)
+        (find_answer sought.form sought.wanted sought.object) (O.contents out.old)
         (O.contents out.new) result }
 {
     match read_named(files, file) {
@@ -120,14 +90,14 @@ fn find_in<O: Write>(
     sought: Sought,
     out: &mut O,
 ) -> Result<u8, Failure>
-    ensures { Comes result (find_answer sought.as_json sought.wanted sought.object bytes.now)
+    ensures { Comes result (find_answer sought.form sought.wanted sought.object bytes.now)
         (O.contents out.old) (O.contents out.new) }
 {
     let object = sought.object;
-    let as_json = sought.as_json;
+    let form = sought.form;
     match sought.wanted {
-        Wanted::Printed(printing) => print_text(alloc, bytes, object, printing, as_json, out),
-        Wanted::Bytes(kind) => print_section(bytes, object, kind, as_json, out),
+        Wanted::Printed(printing) => print_text(alloc, bytes, object, printing, form, out),
+        Wanted::Bytes(kind) => print_section(bytes, object, kind, form, out),
     }
 }
 
@@ -138,14 +108,14 @@ fn print_text<O: Write>(
     bytes: &[u8],
     object: DwarfObject,
     printing: Printing,
-    as_json: bool,
+    form: Form,
     out: &mut O,
 ) -> Result<u8, Failure>
-    ensures { Comes result (find_answer as_json (Printed printing) object bytes.now)
+    ensures { Comes result (find_answer form (Printed printing) object bytes.now)
         (O.contents out.old) (O.contents out.new) }
 {
     let mut text = String::new(alloc);
-    match put_of_bytes(bytes, object, printing, as_json, &mut text) {
+    match put_of_bytes(bytes, object, printing, form, &mut text) {
         Ok(given) => answer(text.as_str(), given, out),
         Err(_) => Err(Failure::Memory),
     }
@@ -156,13 +126,13 @@ fn print_section<O: Write>(
     bytes: &[u8],
     object: DwarfObject,
     kind: SectionKind,
-    as_json: bool,
+    form: Form,
     out: &mut O,
 ) -> Result<u8, Failure>
-    ensures { Comes result (find_answer as_json (Bytes kind) object bytes.now)
+    ensures { Comes result (find_answer form (Bytes kind) object bytes.now)
         (O.contents out.old) (O.contents out.new) }
 {
-    match section_of_bytes(bytes, object, kind, as_json) {
+    match section_of_bytes(bytes, object, kind, form) {
         Ok(section) => answer_bytes(section, Ok(0), out),
         Err(failure) => Err(failure),
     }
@@ -174,14 +144,14 @@ fn section_of_bytes(
     bytes: &[u8],
     object: DwarfObject,
     kind: SectionKind,
-    as_json: bool,
+    form: Form,
 ) -> Result<&[u8], Failure>
-    ensures { MatchResult result (λ section. find_answer as_json (Bytes kind) object bytes.now
+    ensures { MatchResult result (λ section. find_answer form (Bytes kind) object bytes.now
         ≡ record { printed = section.now; answer = Ok 0 })
-        (λ failure. find_answer as_json (Bytes kind) object bytes.now ≡ refused failure) }
+        (λ failure. find_answer form (Bytes kind) object bytes.now ≡ refused failure) }
 {
     match PackageFile::parse(bytes) {
-        Ok(package) => section_of_package(&package, object, kind, as_json),
+        Ok(package) => section_of_package(&package, object, kind, form),
         Err(_) => Err(Failure::Malformed),
     }
 }
@@ -191,15 +161,15 @@ fn section_of_package<'a>(
     pack: &PackageFile<'a>,
     object: DwarfObject,
     kind: SectionKind,
-    as_json: bool,
+    form: Form,
 ) -> Result<&'a [u8], Failure>
-    ensures { MatchResult result (λ section. found_answer as_json (Bytes kind) object
+    ensures { MatchResult result (λ section. found_answer form (Bytes kind) object
         (found_counted pack.now object) ≡ record { printed = section.now; answer = Ok 0 })
-        (λ failure. found_answer as_json (Bytes kind) object (found_counted pack.now object)
+        (λ failure. found_answer form (Bytes kind) object (found_counted pack.now object)
         ≡ refused failure) }
 {
     match pack.find_counted(object) {
-        Ok((found, slots)) => section_of_found(object, found, kind, as_json, slots),
+        Ok((found, slots)) => section_of_found(object, found, kind, form, slots),
         Err(_) => Err(Failure::Malformed),
     }
 }
@@ -209,12 +179,12 @@ fn section_of_found<'a>(
     object: DwarfObject,
     found: Option<PackagedUnit<'a>>,
     kind: SectionKind,
-    as_json: bool,
+    form: Form,
     slots: u32,
 ) -> Result<&'a [u8], Failure>
-    ensures { MatchResult result (λ section. found_answer as_json (Bytes kind) object
+    ensures { MatchResult result (λ section. found_answer form (Bytes kind) object
         (Ok (found.entry, slots)) ≡ record { printed = section.now; answer = Ok 0 })
-        (λ failure. found_answer as_json (Bytes kind) object (Ok (found.entry, slots))
+        (λ failure. found_answer form (Bytes kind) object (Ok (found.entry, slots))
         ≡ refused failure) }
 {
     let Some(unit) = found else {
@@ -234,15 +204,15 @@ fn put_of_bytes(
     bytes: &[u8],
     object: DwarfObject,
     printing: Printing,
-    as_json: bool,
+    form: Form,
     text: &mut String,
 ) -> Result<Result<u8, Failure>, AllocError>
     requires { string_bytes text.old ≡ [] }
-    ensures { IfOk result (λ given. find_answer as_json (Printed printing) object bytes.now
+    ensures { IfOk result (λ given. find_answer form (Printed printing) object bytes.now
         ≡ record { printed = string_bytes text.new; answer = given }) }
 {
     match PackageFile::parse(bytes) {
-        Ok(package) => put_of_package(&package, object, printing, as_json, text),
+        Ok(package) => put_of_package(&package, object, printing, form, text),
         Err(_) => Ok(Err(Failure::Malformed)),
     }
 }
@@ -252,16 +222,16 @@ fn put_of_package(
     pack: &PackageFile<'_>,
     object: DwarfObject,
     printing: Printing,
-    as_json: bool,
+    form: Form,
     text: &mut String,
 ) -> Result<Result<u8, Failure>, AllocError>
     requires { string_bytes text.old ≡ [] }
-    ensures { IfOk result (λ given. found_answer as_json (Printed printing) object
+    ensures { IfOk result (λ given. found_answer form (Printed printing) object
         (found_counted pack.now object)
         ≡ record { printed = string_bytes text.new; answer = given }) }
 {
     match pack.find_counted(object) {
-        Ok((found, slots)) => put_found(object, found, slots, printing, as_json, text),
+        Ok((found, slots)) => put_found(object, found, slots, printing, form, text),
         Err(_) => Ok(Err(Failure::Malformed)),
     }
 }
@@ -272,15 +242,15 @@ fn put_found(
     found: Option<PackagedUnit<'_>>,
     slots: u32,
     printing: Printing,
-    as_json: bool,
+    form: Form,
     text: &mut String,
 ) -> Result<Result<u8, Failure>, AllocError>
     requires { string_bytes text.old ≡ [] }
-    ensures { IfOk result (λ given. found_answer as_json (Printed printing) object
+    ensures { IfOk result (λ given. found_answer form (Printed printing) object
         (Ok (found.entry, slots)) ≡ record { printed = string_bytes text.new; answer = given }) }
 {
     match found {
-        Some(unit) => put_printing(object, &unit, slots, printing, as_json, text),
+        Some(unit) => put_printing(object, &unit, slots, printing, form, text),
         None => Ok(Err(Failure::NoUnit(object.index()))),
     }
 }
@@ -291,19 +261,19 @@ fn put_printing(
     unit: &PackagedUnit<'_>,
     slots: u32,
     printing: Printing,
-    as_json: bool,
+    form: Form,
     text: &mut String,
 ) -> Result<Result<u8, Failure>, AllocError>
     requires { string_bytes text.old ≡ [] }
-    ensures { IfOk result (λ given. wanted_answer as_json (Printed printing) object unit.now slots
+    ensures { IfOk result (λ given. wanted_answer form (Printed printing) object unit.now slots
         ≡ record { printed = string_bytes text.new; answer = given }) }
 {
     match printing {
         Printing::AllOf => {
-            put_all(object, unit, slots, as_json, text)?;
+            put_all(object, unit, slots, form, text)?;
             Ok(Ok(0))
         }
-        Printing::StringOf(i) => put_string(unit, i, as_json, text),
+        Printing::StringOf(i) => put_string(unit, i, form, text),
     }
 }
 
@@ -311,16 +281,16 @@ fn put_printing(
 fn put_string(
     unit: &PackagedUnit<'_>,
     i: u64,
-    as_json: bool,
+    form: Form,
     text: &mut String,
 ) -> Result<Result<u8, Failure>, AllocError>
     requires { string_bytes text.old ≡ [] }
-    ensures { IfOk result (λ given. string_answer as_json i (string_of unit.now i)
+    ensures { IfOk result (λ given. string_answer form i (string_of unit.now i)
         ≡ record { printed = string_bytes text.new; answer = given }) }
 {
     match unit.string(i) {
         Ok(Some(string)) => {
-            put_string_line(string, as_json, text)?;
+            put_string_line(string, form, text)?;
             Ok(Ok(0))
         }
         Ok(None) => Ok(Err(Failure::NoString(i))),
@@ -329,17 +299,21 @@ fn put_string(
 }
 
 /// Adds the line of a string.
-fn put_string_line(string: &[u8], as_json: bool, text: &mut String) -> Result<(), AllocError>
+fn put_string_line(string: &[u8], form: Form, text: &mut String) -> Result<(), AllocError>
     ensures { OnOk result (string_bytes text.new
-        ≡ string_bytes text.old ++ string_line as_json string.now) }
+        ≡ string_bytes text.old ++ string_line form string.now) }
 {
-    if !as_json {
-        put_spelled(string, false, text)?;
-        return text.push_str("\n");
+    match form {
+        Form::Lines => {
+            put_spelled(string, form, text)?;
+            text.push_str("\n")
+        }
+        Form::Json => {
+            text.push_str("{\"string\":")?;
+            put_spelled_or(Some(string), form, text)?;
+            text.push_str("}\n")
+        }
     }
-    text.push_str("{\"string\":")?;
-    put_spelled_or(Some(string), true, text)?;
-    text.push_str("}\n")
 }
 
 /// `cu` or `tu`.

@@ -1,7 +1,8 @@
-//! The commands `find` and `list`: a unit of a package looked up, and all its units in lines, with
-//! their names and sizes.
+//! The commands `find` and `list`: a unit of a package looked up, and all its units in lines or in
+//! columns, with their names and sizes.
 #![tactic(auto)]
 
+mod columns;
 mod describing;
 mod files;
 mod finding;
@@ -12,9 +13,10 @@ mod names;
 mod sizes;
 mod wanted;
 
-pub use files::{FileReader, HostReader, read_named};
-pub use finding::{find, find_by, put_object, short_kind, string_count};
+pub use describing::put_json_unit;
+pub use files::{FileReader, HostReader, Unread, read_named};
+pub use finding::{find_by, put_object, short_kind, string_count};
 pub use indexes::{has_no_index, lacks_index};
-pub use listing::{ListForm, entries_by_row, list, list_by};
+pub use listing::{ListForm, entries_by_row, list_by};
 pub use names::header_of;
 pub use wanted::{FindForm, FindWords};

@@ -4,23 +4,24 @@ ghost use Rattle.std.specs.Prelude.{◌≡◌, ◌++◌, [], IfOk, OnOk, string_
 ghost use Rattle.std.specs.Option.{option_copied};
 ghost use Rattle.dwp_index.specs.Entries.{entries_from};
 ghost use Rattle.dwp_index.specs.Package.{package_of, found};
-ghost use Rattle.thorin_find.specs.Files.{anything, OrNoMemory};
+ghost use Rattle.thorin_find.specs.Files.{OrNoMemory};
 ghost use Rattle.thorin_find.specs.Listing.{place_by, AreByRow, range_size, range_sizes};
 ghost use Rattle.thorin_find.specs.Listing.{front_of, named_by, unit_names, end_of, view_of};
-ghost use Rattle.thorin_find.specs.Listing.{unit_line, AddsLine, lines_of, IsListed};
+ghost use Rattle.thorin_find.specs.Listing.{unit_line, AddsLine, lines_of, answer_of, IsListedIn};
 ghost use Rattle.thorin_find.specs.Listing.{ListsPackage, ListsBytes, Lists};
 
+use crate::columns::{put_total_rows, put_unit_rows};
 use crate::describing::put_json_unit;
-use crate::files::{FileReader, HostReader, read_named};
+use crate::files::{FileReader, read_named};
 use crate::finding::put_object;
 use crate::names::Strings;
-use crate::sizes::Sizes;
+use crate::sizes::{Sizes, put_totals};
 use dwp_base::{Contribution, SectionKind};
 use dwp_index::{PackageFile, PackagedUnit, UnitEntry};
 use dwp_table::{CONTRIBUTION_KINDS, DwarfObject};
 use std::alloc::{AllocError, Global};
 use std::io::Write;
-use thorin_print::{Failure, answer, put_spelled_or};
+use thorin_print::{Failure, Form, answer, put_spelled_or};
 
 /// What the lines of a list are to have.
 #[derive(Clone, Copy)]
@@ -29,33 +30,21 @@ pub struct ListForm {
     pub sizes: bool,
     /// The names of a unit's source and of its object.
     pub names: bool,
-    /// Each line is a JSON object.
-    pub json: bool,
+    /// Columns, which have the sizes and no names, in the place of lines.
+    pub columns: bool,
+    /// In which form each line is.
+    pub form: Form,
 }
 
 /// Prints a line for each unit of a package: compilation units by row, then type units by row. A
-/// line goes on with sizes and names where these are asked for; totals follow then. Answers the
+/// line goes on with sizes and names where these are asked for; totals follow then. In columns it
+/// is a row, under the names of the sections, and each total has its share of the file. Answers the
 /// status 0. The text is printed once it is whole; where a unit can't be looked up, that is up to
 /// the line before it.
 ///
 /// # Errors
 /// `Input` where the file can't be read, `Malformed` where it is no package or a unit can't be
 /// looked up, `Line` or `Memory`.
-pub fn list<O: Write>(
-    rt: &HostRuntime,
-    file: &str,
-    form: ListForm,
-    out: &mut O,
-) -> Result<u8, Failure>
-    ensures { Lists anything file.now form (O.contents out.old) (O.contents out.new) result }
-{
-    list_by(rt.alloc(), &HostReader::new(rt), file, form, out)
-}
-
-/// The same of a file that a reader reads.
-///
-/// # Errors
-/// Those of `list`.
 #[tactic(auto, using(crate::proofs::Listed::not_listed))]
 pub fn list_by<F: FileReader, O: Write>(
     alloc: Global,
@@ -141,27 +130,61 @@ fn list_entries<O: Write>(
 
 /// Makes the text of a list, and of totals where sizes are asked for. Answers what is to be
 /// answered.
-#[tactic(auto, using(crate::proofs::Listed::listed_part, crate::proofs::Listed::listed_plain, crate::proofs::Listed::listed_sized))]
+#[tactic(auto, using(crate::proofs::Listed::listed_part, crate::proofs::Listed::listed_plain, crate::proofs::Listed::listed_sized, crate::proofs::Listed::listed_columns))]
 fn put_listing(
     listed: Listed<'_, '_>,
     entries: &[UnitEntry],
     text: &mut String,
 ) -> Result<Result<u8, Failure>, AllocError>
     requires { string_bytes text.old ≡ [] }
-    ensures { IfOk result (λ given. IsListed listed.entry.form
+    ensures { IfOk result (λ given. IsListedIn listed.entry.form.columns listed.entry.form
         (lines_of (view_of listed.entry.form listed.entry.pack.now) listed.entry.pack.now entries.now)
         (record { printed = string_bytes text.new; answer = given })) }
 {
     let mut sizes = Sizes::new(*text.allocator());
     let is_all = put_lines(listed, entries, &mut sizes, text)?;
+    if listed.form.columns {
+        put_sheet(listed, is_all, &mut sizes, text)?;
+        return Ok(answer_of(is_all));
+    }
     if !is_all {
         return Ok(Err(Failure::Malformed));
     }
     if !listed.form.sizes {
         return Ok(Ok(0));
     }
-    sizes.put(listed.pack, listed.file_size, listed.form.json, text)?;
+    let totals = sizes.totals(listed.pack, listed.file_size)?;
+    put_totals(totals.as_slice(), listed.form.form, text)?;
     Ok(Ok(0))
+}
+
+/// What is answered, where all units could be looked up or not.
+fn answer_of(is_all: bool) -> Result<u8, Failure>
+    ensures { result ≡ answer_of is_all }
+{
+    if is_all {
+        Ok(0)
+    } else {
+        Err(Failure::Malformed)
+    }
+}
+
+/// Adds the columns of the units that were gathered, and of totals where these are all.
+fn put_sheet(
+    listed: Listed<'_, '_>,
+    is_all: bool,
+    sizes: &mut Sizes,
+    text: &mut String,
+) -> Result<(), AllocError> {
+    put_unit_rows(sizes, text)?;
+    if !is_all {
+        return Ok(());
+    }
+    if !sizes.units().is_empty() {
+        text.push_str("\n")?;
+    }
+    let totals = sizes.totals(listed.pack, listed.file_size)?;
+    put_total_rows(totals.as_slice(), text)
 }
 
 /// Adds the lines of units, up to one that can't be looked up: then it answers false.
@@ -252,14 +275,17 @@ fn put_unit<'a>(
         ++ unit_line (view_of listed.entry.form listed.entry.pack.now) object unit.now) }
 {
     let form = listed.form;
-    put_front(object, unit, form.json, text)?;
+    if form.columns {
+        return sizes.add_unit(object, unit);
+    }
+    put_front(object, unit, form.form, text)?;
     if form.sizes {
-        put_sizes(unit, form.json, sizes, text)?;
+        put_sizes(unit, form.form, sizes, text)?;
     }
     if form.names {
         put_names(listed, object, unit, text)?;
     }
-    put_end(form.json, text)
+    put_end(form.form, text)
 }
 
 /// Adds what a line begins with: a unit's kind, its identifier and its size.
@@ -267,19 +293,22 @@ fn put_unit<'a>(
 fn put_front(
     object: DwarfObject,
     unit: &PackagedUnit<'_>,
-    as_json: bool,
+    form: Form,
     text: &mut String,
 ) -> Result<(), AllocError>
     ensures { OnOk result (string_bytes text.new
-        ≡ string_bytes text.old ++ front_of as_json object unit.now) }
+        ≡ string_bytes text.old ++ front_of form object unit.now) }
 {
     let size = unit.bytes().len();
-    if as_json {
-        put_json_unit(object, text)?;
-        write!(text, "\",\"size\":{size}")
-    } else {
-        put_object(object, text)?;
-        write!(text, " {size}")
+    match form {
+        Form::Lines => {
+            put_object(object, text)?;
+            write!(text, " {size}")
+        }
+        Form::Json => {
+            put_json_unit(object, text)?;
+            write!(text, "\",\"size\":{size}")
+        }
     }
 }
 
@@ -295,45 +324,58 @@ fn put_names<'a>(
         ++ unit_names (view_of listed.entry.form listed.entry.pack.now) object unit.now) }
 {
     let (source, name) = Strings::of(listed.pack).names_of(object, unit);
-    put_named(source, name, listed.form.json, text)
+    put_named(source, name, listed.form.form, text)
 }
 
 /// Adds these names.
 fn put_named(
     source: Option<&[u8]>,
     object: Option<&[u8]>,
-    as_json: bool,
+    form: Form,
     text: &mut String,
 ) -> Result<(), AllocError>
     ensures { OnOk result (string_bytes text.new ≡ string_bytes text.old
-        ++ named_by as_json (option_copied source.entry) (option_copied object.entry)) }
+        ++ named_by form (option_copied source.entry) (option_copied object.entry)) }
 {
-    text.push_str(if as_json { ",\"name\":" } else { "\t" })?;
-    put_spelled_or(source, as_json, text)?;
-    text.push_str(if as_json { ",\"dwo_name\":" } else { "\t" })?;
-    put_spelled_or(object, as_json, text)
+    match form {
+        Form::Lines => {
+            text.push_str("\t")?;
+            put_spelled_or(source, form, text)?;
+            text.push_str("\t")?;
+            put_spelled_or(object, form, text)
+        }
+        Form::Json => {
+            text.push_str(",\"name\":")?;
+            put_spelled_or(source, form, text)?;
+            text.push_str(",\"dwo_name\":")?;
+            put_spelled_or(object, form, text)
+        }
+    }
 }
 
 /// Adds the end of a line.
-fn put_end(as_json: bool, text: &mut String) -> Result<(), AllocError>
-    ensures { OnOk result (string_bytes text.new ≡ string_bytes text.old ++ end_of as_json) }
+fn put_end(form: Form, text: &mut String) -> Result<(), AllocError>
+    ensures { OnOk result (string_bytes text.new ≡ string_bytes text.old ++ end_of form) }
 {
-    text.push_str(if as_json { "}\n" } else { "\n" })
+    match form {
+        Form::Lines => text.push_str("\n"),
+        Form::Json => text.push_str("}\n"),
+    }
 }
 
 /// Adds the sizes on the line of a unit, and gathers its ranges.
 #[tactic(auto, unfolding(crate::specs::Listing::range_sizes))]
 fn put_sizes(
     unit: &PackagedUnit<'_>,
-    as_json: bool,
+    form: Form,
     sizes: &mut Sizes,
     text: &mut String,
 ) -> Result<(), AllocError>
     ensures { OnOk result (string_bytes text.new
-        ≡ string_bytes text.old ++ range_sizes as_json unit.now) }
+        ≡ string_bytes text.old ++ range_sizes form unit.now) }
 {
     for kind in &CONTRIBUTION_KINDS {
-        put_size(*kind, unit.range(*kind), as_json, sizes, text)?;
+        put_size(*kind, unit.range(*kind), form, sizes, text)?;
     }
     Ok(())
 }
@@ -342,12 +384,12 @@ fn put_sizes(
 fn put_size(
     kind: SectionKind,
     range: Option<Contribution>,
-    as_json: bool,
+    form: Form,
     sizes: &mut Sizes,
     text: &mut String,
 ) -> Result<(), AllocError>
     ensures { OnOk result (string_bytes text.new
-        ≡ string_bytes text.old ++ range_size as_json kind range) }
+        ≡ string_bytes text.old ++ range_size form kind range) }
 {
     let Some(range) = range else {
         return Ok(());
@@ -355,9 +397,8 @@ fn put_size(
     sizes.add(kind, range)?;
     let name = kind.short_name();
     let size = range.size;
-    if as_json {
-        write!(text, ",\"{name}\":{size}")
-    } else {
-        write!(text, " {name} {size}")
+    match form {
+        Form::Lines => write!(text, " {name} {size}"),
+        Form::Json => write!(text, ",\"{name}\":{size}"),
     }
 }

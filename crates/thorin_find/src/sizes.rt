@@ -3,9 +3,10 @@
 ghost use Rattle.std.specs.Prelude.{◌≡◌, ◌-◌, ◌^◌, ◌++◌, min, sum_by, OnOk, List, ℕ, string_bytes};
 
 use dwp_base::{Contribution, SectionKind};
-use dwp_index::PackageFile;
-use dwp_table::CONTRIBUTION_KINDS;
+use dwp_index::{PackageFile, PackagedUnit};
+use dwp_table::{CONTRIBUTION_KINDS, DwarfObject};
 use std::alloc::{AllocError, Global};
+use thorin_print::Form;
 
 /// A range of a section that a unit has.
 #[derive(Clone, Copy, PartialEq, Eq, PartialOrd, Ord)]
@@ -15,10 +16,43 @@ struct Range {
     size: u64,
 }
 
+/// The sizes of a unit that is listed in columns.
+#[derive(Clone, Copy)]
+pub(crate) struct UnitSizes {
+    /// The unit.
+    pub object: DwarfObject,
+    /// How many bytes it has.
+    pub size: u64,
+    // Which of the ranges are its own: the number of the first, and that behind the last.
+    first: usize,
+    end: usize,
+}
+
+/// How many bytes a section of a package has, or its file.
+#[derive(Clone, Copy)]
+pub(crate) struct Total {
+    /// The short name of the section, or `file`.
+    pub name: &'static str,
+    /// How many bytes it has.
+    pub size: u64,
+    /// Those of the ranges that units have of it, where units can have such ranges.
+    pub ranges: Option<RangeTotal>,
+}
+
+/// How many bytes the ranges of a section have together.
+#[derive(Clone, Copy)]
+pub(crate) struct RangeTotal {
+    /// The distinct ones.
+    pub once: u64,
+    /// How many more all of them have.
+    pub shared: u64,
+}
+
 /// The ranges that units have of the sections of a package.
 #[derive(Drop)]
 pub(crate) struct Sizes {
     ranges: Vec<Range>,
+    units: Vec<UnitSizes>,
 }
 
 impl Sizes {
@@ -26,6 +60,7 @@ impl Sizes {
     pub(crate) fn new(alloc: Global) -> Sizes {
         Sizes {
             ranges: Vec::new(alloc),
+            units: Vec::new(alloc),
         }
     }
 
@@ -43,77 +78,83 @@ impl Sizes {
         Ok(())
     }
 
-    /// Adds a line `total` for each section of a package: its bytes in the file; for a section
-    /// that units have ranges of, also the bytes of its distinct ranges, and how many more all
-    /// ranges have together. Then how many bytes the file has.
-    pub(crate) fn put(
+    /// Adds a unit with all its ranges.
+    pub(crate) fn add_unit(
         &mut self,
-        pack: &PackageFile<'_>,
-        file_size: usize,
-        as_json: bool,
-        text: &mut String,
-    ) -> Result<(), AllocError>
-        ensures { OnOk result ((totals : List ℕ)
-            × (string_bytes text.new ≡ string_bytes text.old ++ totals)) }
-    {
-        let mut totals = String::new(*self.ranges.allocator());
-        self.put_totals(pack, file_size, as_json, &mut totals)?;
-        text.push_str(totals.as_str())
-    }
-
-    /// Adds these lines.
-    fn put_totals(
-        &mut self,
-        pack: &PackageFile<'_>,
-        file_size: usize,
-        as_json: bool,
-        text: &mut String,
+        object: DwarfObject,
+        unit: &PackagedUnit<'_>,
     ) -> Result<(), AllocError> {
-        self.ranges.sort_unstable();
-        self.put_columns(pack, as_json, text)?;
-        put_wholes(pack, as_json, text)?;
-        put_total("file", file_size, as_json, text)
-    }
-
-    /// The totals of the sections that units have ranges of.
-    fn put_columns(
-        &self,
-        pack: &PackageFile<'_>,
-        as_json: bool,
-        text: &mut String,
-    ) -> Result<(), AllocError> {
+        let first = self.ranges.len();
         for kind in &CONTRIBUTION_KINDS {
-            self.put_column(*kind, pack.content(*kind).len(), as_json, text)?;
+            if let Some(range) = unit.range(*kind) {
+                self.add(*kind, range)?;
+            }
         }
+        self.units.push(UnitSizes {
+            object,
+            size: unit.bytes().len() as u64,
+            first,
+            end: self.ranges.len(),
+        })?;
         Ok(())
     }
 
-    /// The total of a section that units have ranges of, where it isn't empty.
-    fn put_column(
-        &self,
-        kind: SectionKind,
-        content: usize,
-        as_json: bool,
-        text: &mut String,
-    ) -> Result<(), AllocError> {
-        if content == 0 {
-            return Ok(());
-        }
-        let name = kind.short_name();
-        let (all, once) = self.of(kind)?;
-        let shared = all.saturating_sub(once);
-        if as_json {
-            writeln!(
-                text,
-                "{{\"total\":\"{name}\",\"size\":{content},\"units\":{once},\"shared\":{shared}}}"
-            )
-        } else {
-            writeln!(text, "total {name} {content} units {once} shared {shared}")
-        }
+    /// The units that were added with all their ranges.
+    pub(crate) fn units(&self) -> &[UnitSizes] {
+        self.units.as_slice()
     }
 
-    /// The bytes of all ranges of a section together, and those of its distinct ranges.
-    fn of(&self, kind: SectionKind) -> Result<(u64, u64), AllocError> {
+    /// Whether a unit has a range of a section.
+    pub(crate) fn has_range_of(&self, kind: SectionKind) -> bool {
+        let section = kind.rank();
+        for range in &self.ranges {
+            if range.section == section {
+                return true;
+            }
+        }
+        false
+    }
+
+    /// The size of a unit's range of a section, where it has one; before totals are made.
+    pub(crate) fn size_of(&self, unit: UnitSizes, kind: SectionKind) -> Option<u64> {
+        let section = kind.rank();
+        for i in unit.first..unit.end {
+            if let Some(range) = self.ranges.get(i) {
+                if range.section == section {
+                    return Some(range.size);
+                }
+            }
+        }
+        None
+    }
+
+    /// The totals of a package: of each section that isn't empty its bytes in the file; for a
+    /// section that units have ranges of, also the bytes of its distinct ranges, and how many more
+    /// all ranges have together. Then how many bytes the file has.
+    pub(crate) fn totals(
+        &mut self,
+        pack: &PackageFile<'_>,
+        file_size: usize,
+    ) -> Result<Vec<Total>, AllocError> {
+        self.ranges.sort_unstable();
+        let mut totals = Vec::new(*self.ranges.allocator());
+        for kind in &CONTRIBUTION_KINDS {
+            let ranges = self.range_total(*kind)?;
+            push_total(pack, *kind, Some(ranges), &mut totals)?;
+        }
+        for kind in &[SectionKind::Str, SectionKind::CuIndex, SectionKind::TuIndex] {
+            push_total(pack, *kind, None, &mut totals)?;
+        }
+        totals.push(Total {
+            name: "file",
+            size: file_size as u64,
+            ranges: None,
+        })?;
+        Ok(totals)
+    }
+
+    /// The bytes of the distinct ranges of a section, and how many more all of them have.
+    fn range_total(&self, kind: SectionKind) -> Result<RangeTotal, AllocError> {
         let section = kind.rank();
         let mut ranges = Vec::new(*self.ranges.allocator());
         for range in &self.ranges {
@@ -121,44 +162,71 @@ impl Sizes {
                 ranges.push(*range)?;
             }
         }
-        let all = total(ranges.as_slice());
+        let all = bytes_of(ranges.as_slice());
         ranges.dedup();
-        Ok((all, total(ranges.as_slice())))
+        let once = bytes_of(ranges.as_slice());
+        Ok(RangeTotal {
+            once,
+            shared: all.saturating_sub(once),
+        })
     }
 }
 
-/// The totals of the sections that no unit has a range of.
-fn put_wholes(pack: &PackageFile<'_>, as_json: bool, text: &mut String) -> Result<(), AllocError> {
-    for kind in &[SectionKind::Str, SectionKind::CuIndex, SectionKind::TuIndex] {
-        put_whole(kind.short_name(), pack.content(*kind).len(), as_json, text)?;
+/// Adds the total of a section, where it isn't empty.
+fn push_total(
+    pack: &PackageFile<'_>,
+    kind: SectionKind,
+    ranges: Option<RangeTotal>,
+    totals: &mut Vec<Total>,
+) -> Result<(), AllocError> {
+    let size = pack.content(kind).len() as u64;
+    if size != 0 {
+        totals.push(Total {
+            name: kind.short_name(),
+            size,
+            ranges,
+        })?;
     }
     Ok(())
 }
 
-/// The total of a section that no unit has a range of, where it isn't empty.
-fn put_whole(
-    name: &str,
-    content: usize,
-    as_json: bool,
-    text: &mut String,
-) -> Result<(), AllocError> {
-    if content == 0 {
-        return Ok(());
+/// Adds totals.
+pub(crate) fn put_totals(totals: &[Total], form: Form, text: &mut String) -> Result<(), AllocError>
+    ensures { OnOk result ((totals : List ℕ)
+        × (string_bytes text.new ≡ string_bytes text.old ++ totals)) }
+{
+    let mut added = String::new(*text.allocator());
+    for total in totals {
+        put_total(*total, form, &mut added)?;
     }
-    put_total(name, content, as_json, text)
+    text.push_str(added.as_str())
 }
 
-/// The line of a total.
-fn put_total(name: &str, size: usize, as_json: bool, text: &mut String) -> Result<(), AllocError> {
-    if as_json {
-        writeln!(text, "{{\"total\":\"{name}\",\"size\":{size}}}")
-    } else {
-        writeln!(text, "total {name} {size}")
+/// Adds a total.
+fn put_total(total: Total, form: Form, text: &mut String) -> Result<(), AllocError> {
+    let name = total.name;
+    let size = total.size;
+    match (form, total.ranges) {
+        (Form::Lines, None) => writeln!(text, "total {name} {size}"),
+        (Form::Lines, Some(ranges)) => {
+            let once = ranges.once;
+            let shared = ranges.shared;
+            writeln!(text, "total {name} {size} units {once} shared {shared}")
+        }
+        (Form::Json, None) => writeln!(text, "{{\"total\":\"{name}\",\"size\":{size}}}"),
+        (Form::Json, Some(ranges)) => {
+            let once = ranges.once;
+            let shared = ranges.shared;
+            writeln!(
+                text,
+                "{{\"total\":\"{name}\",\"size\":{size},\"units\":{once},\"shared\":{shared}}}"
+            )
+        }
     }
 }
 
 /// The bytes of ranges together, as far as 64 bits go.
-fn total(ranges: &[Range]) -> u64
+fn bytes_of(ranges: &[Range]) -> u64
     ensures { result ≡ min (sum_by (λ range. range.size) ranges.now) (2 ^ 64 - 1) }
 {
     let mut bytes = 0u64;

@@ -8,7 +8,7 @@ ghost use Rattle.thorin_find.specs.Finding.{Asks, AsksFor, AsksString, AsksSecti
 use crate::identifier::identifier;
 use dwp_base::SectionKind;
 use dwp_table::{DebugTypeSignature, DwarfObject, DwoId};
-use thorin_print::Failure;
+use thorin_print::{Failure, Form};
 
 /// What is wanted of a unit, and how it is printed.
 #[derive(Clone, Copy)]
@@ -17,8 +17,8 @@ pub struct FindForm<'a> {
     pub string: Option<&'a str>,
     /// The short name of a kind of section, where its bytes are wanted.
     pub section: Option<&'a str>,
-    /// Whether a JSON object is printed.
-    pub json: bool,
+    /// In which form it is printed.
+    pub form: Form,
 }
 
 /// The words that ask for a unit, and what is wanted of it.
@@ -32,12 +32,12 @@ pub struct FindWords<'a> {
     pub form: FindForm<'a>,
 }
 
-/// The unit that is asked for, what is wanted of it, and whether a JSON object is printed.
+/// The unit that is asked for, what is wanted of it, and in which form it is printed.
 #[derive(Clone, Copy)]
 pub(crate) struct Sought {
     pub object: DwarfObject,
     pub wanted: Wanted,
-    pub as_json: bool,
+    pub form: Form,
 }
 
 /// What is wanted of a unit.

@@ -1,5 +1,5 @@
 -- What was printed, or begun.
-use Rattle.std.proofs.Common.{◌≡◌, ℕ, List, [], length, take, Option, Result, Err, refl}
+use Rattle.std.proofs.Common.{◌≡◌, ℕ, List, [], length, take, Option, Result, Err}
 use Rattle.std.proofs.Common.{arith, take_all, ◌++◌, append-nil, Some, None, append_assoc, sym}
 use Rattle.std.specs.Io.KnownBytes.{Appends, Keeps}
 pub use Rattle.std.proofs.KnownBytes.{Appends-kept as flushed}

@@ -2,11 +2,13 @@
 //! JSON, and names as they are shown.
 #![tactic(auto)]
 
+mod form;
 mod output;
 mod showing;
 mod spelled;
 mod telling;
 
+pub use form::Form;
 pub use output::{Failure, answer, answer_bytes, buffer, flush, print, report, show};
 pub use showing::shown;
 pub use spelled::{put_spelled, put_spelled_or};

@@ -1,6 +1,6 @@
 //! Texts out of a file as a line has them, plain or in JSON (RFC 8259, 7).
 
-ghost use Rattle.std.specs.Prelude.{◌≡◌, ◌++◌, ◌∷◌, [], ◌<◌, ◌||◌, ◌&&◌, ◌==◌, OnOk, string_bytes};
+ghost use Rattle.std.specs.Prelude.{◌≡◌, ◌++◌, ◌∷◌, [], ◌<◌, ◌||◌, ◌==◌, OnOk, string_bytes};
 ghost use Rattle.std.specs.List.{flat_map};
 ghost use Rattle.std.specs.Option.{option_copied};
 ghost use Rattle.std.specs.Str.{chars};
@@ -8,115 +8,137 @@ ghost use Rattle.thorin_words.specs.Printed.{hex_digit};
 ghost use Rattle.thorin_print.specs.Spelled as spec;
 ghost use Rattle.thorin_print.specs.Spelled.{escape, is_marked, spelled_character, spelled_byte};
 
+use crate::form::Form;
 use std::alloc::AllocError;
 
 /// Adds a text: `-` for none, in JSON a string or `null`. A character below a blank, and the one
 /// that deletes, is spelled by its number, as is each byte above ASCII of a text that isn't UTF-8.
-pub fn put_spelled_or(
-    bytes: Option<&[u8]>,
-    as_json: bool,
-    text: &mut String,
-) -> Result<(), AllocError>
+pub fn put_spelled_or(bytes: Option<&[u8]>, form: Form, text: &mut String) -> Result<(), AllocError>
     ensures { OnOk result (string_bytes text.new ≡ string_bytes text.old
-        ++ spec.spelled_or as_json (option_copied bytes.entry)) }
+        ++ spec.spelled_or form (option_copied bytes.entry)) }
 {
     match bytes {
-        None => text.push_str(if as_json { "null" } else { "-" }),
-        Some(bytes) => put_marked(bytes, as_json, text),
+        None => text.push_str(none_in(form)),
+        Some(bytes) => put_marked(bytes, form, text),
+    }
+}
+
+/// What stands for no text.
+fn none_in(form: Form) -> &'static str
+    ensures { result.now ≡ spec.none_in form }
+{
+    match form {
+        Form::Lines => "-",
+        Form::Json => "null",
     }
 }
 
 /// Adds a text, in JSON between quotation marks.
-fn put_marked(bytes: &[u8], as_json: bool, text: &mut String) -> Result<(), AllocError>
+fn put_marked(bytes: &[u8], form: Form, text: &mut String) -> Result<(), AllocError>
     ensures { OnOk result (string_bytes text.new ≡ string_bytes text.old
-        ++ spec.spelled_or as_json (Some bytes.now)) }
+        ++ spec.spelled_or form (Some bytes.now)) }
 {
-    if !as_json {
-        return put_spelled(bytes, as_json, text);
+    match form {
+        Form::Lines => put_spelled(bytes, form, text),
+        Form::Json => {
+            text.push_str("\"")?;
+            put_spelled(bytes, form, text)?;
+            text.push_str("\"")
+        }
     }
-    text.push_str("\"")?;
-    put_spelled(bytes, as_json, text)?;
-    text.push_str("\"")
 }
 
 /// Adds a text as it is spelled.
 #[tactic(auto, using(crate::proofs::Spelling::spelled_text, crate::proofs::Spelling::spelled_bytes), unfolding(crate::specs::Spelled::spelled))]
-pub fn put_spelled(bytes: &[u8], as_json: bool, text: &mut String) -> Result<(), AllocError>
+pub fn put_spelled(bytes: &[u8], form: Form, text: &mut String) -> Result<(), AllocError>
     ensures { OnOk result (string_bytes text.new ≡ string_bytes text.old
-        ++ spec.spelled as_json bytes.now) }
+        ++ spec.spelled form bytes.now) }
 {
     match str::from_utf8(bytes) {
-        Ok(name) => put_characters(name, as_json, text),
-        Err(_) => put_bytes(bytes, as_json, text),
+        Ok(name) => put_characters(name, form, text),
+        Err(_) => put_bytes(bytes, form, text),
     }
 }
 
 /// Adds each character of a text.
-fn put_characters(name: &str, as_json: bool, text: &mut String) -> Result<(), AllocError>
+fn put_characters(name: &str, form: Form, text: &mut String) -> Result<(), AllocError>
     ensures { OnOk result (string_bytes text.new ≡ string_bytes text.old
-        ++ flat_map (spelled_character as_json) (chars name.now)) }
+        ++ flat_map (spelled_character form) (chars name.now)) }
 {
     for c in name.chars() {
-        put_character(c, as_json, text)?;
+        put_character(c, form, text)?;
     }
     Ok(())
 }
 
 /// Adds each byte of a text that isn't UTF-8.
 #[tactic(auto, using(crate::proofs::Lines::flat_map_next))]
-fn put_bytes(bytes: &[u8], as_json: bool, text: &mut String) -> Result<(), AllocError>
+fn put_bytes(bytes: &[u8], form: Form, text: &mut String) -> Result<(), AllocError>
     ensures { OnOk result (string_bytes text.new ≡ string_bytes text.old
-        ++ flat_map (spelled_byte as_json) bytes.now) }
+        ++ flat_map (spelled_byte form) bytes.now) }
 {
     for byte in bytes {
-        put_byte(*byte, as_json, text)?;
+        put_byte(*byte, form, text)?;
     }
     Ok(())
 }
 
 /// Adds a byte of such a text.
-fn put_byte(byte: u8, as_json: bool, text: &mut String) -> Result<(), AllocError>
+fn put_byte(byte: u8, form: Form, text: &mut String) -> Result<(), AllocError>
     ensures { OnOk result (string_bytes text.new ≡ string_bytes text.old
-        ++ spelled_byte as_json byte) }
+        ++ spelled_byte form byte) }
 {
     if byte < 128 {
-        put_character(char::from(byte), as_json, text)
+        put_character(char::from(byte), form, text)
     } else {
-        put_escape(u32::from(byte), as_json, text)
+        put_escape(u32::from(byte), form, text)
     }
 }
 
 /// Adds a character.
-fn put_character(c: char, as_json: bool, text: &mut String) -> Result<(), AllocError>
+fn put_character(c: char, form: Form, text: &mut String) -> Result<(), AllocError>
     ensures { OnOk result (string_bytes text.new ≡ string_bytes text.old
-        ++ spelled_character as_json c) }
+        ++ spelled_character form c) }
 {
     let number = u32::from(c);
     if number < 32 || number == 127 {
-        return put_escape(number, as_json, text);
+        return put_escape(number, form, text);
     }
-    if is_marked(number, as_json) {
+    if is_marked(number, form) {
         text.push_str("\\")?;
     }
     text.push(c)
 }
 
 /// Whether a character has a backslash in front of it.
-fn is_marked(number: u32, as_json: bool) -> bool
-    ensures { result ≡ is_marked as_json number }
+fn is_marked(number: u32, form: Form) -> bool
+    ensures { result ≡ is_marked form number }
 {
-    as_json && (number == 34 || number == 92)
+    match form {
+        Form::Lines => false,
+        Form::Json => number == 34 || number == 92,
+    }
 }
 
 /// Adds a number by two digits.
-fn put_escape(number: u32, as_json: bool, text: &mut String) -> Result<(), AllocError>
+fn put_escape(number: u32, form: Form, text: &mut String) -> Result<(), AllocError>
     requires { number < 256 }
     ensures { OnOk result (string_bytes text.new ≡ string_bytes text.old
-        ++ escape as_json number) }
+        ++ escape form number) }
 {
-    text.push_str(if as_json { "\\u00" } else { "\\x" })?;
+    text.push_str(escape_in(form))?;
     put_digit(number / 16, text)?;
     put_digit(number % 16, text)
+}
+
+/// What the two digits of such a number stand behind.
+fn escape_in(form: Form) -> &'static str
+    ensures { result.now ≡ spec.escape_in form }
+{
+    match form {
+        Form::Lines => "\\x",
+        Form::Json => "\\u00",
+    }
 }
 
 /// Adds a hexadecimal digit.

@@ -11,8 +11,8 @@ use thorin_words::{ResponseError, ResponseFiles};
 #[derive(Drop)]
 pub struct HostResponses<'r> {
     rt: &'r HostRuntime,
-    /// The name of the file that couldn't be read.
-    unread: Cell<Option<String>>,
+    /// The name of the file that couldn't be read, and why.
+    unread: Cell<Option<(String, io::Error)>>,
 }
 
 impl<'r> HostResponses<'r> {
@@ -24,8 +24,8 @@ impl<'r> HostResponses<'r> {
         }
     }
 
-    /// The name of the file that couldn't be read.
-    pub fn unread(&self) -> Option<String> {
+    /// The name of the file that couldn't be read, and why.
+    pub fn unread(&self) -> Option<(String, io::Error)> {
         self.unread.replace(None)
     }
 }
@@ -41,9 +41,12 @@ impl ResponseFiles for HostResponses<'_> {
         match thorin_files::read_within(rt, name, most) {
             Ok(Some(bytes)) => Ok(Some(bytes)),
             Ok(None) => Err(ResponseError::TooLong),
-            Err(e) => {
-                self.unread.set(String::from_str(rt.alloc(), name).ok());
-                Err(read_error(&e))
+            Err(cause) => {
+                let error = read_error(&cause);
+                if let Ok(name) = String::from_str(rt.alloc(), name) {
+                    self.unread.set(Some((name, cause)));
+                }
+                Err(error)
             }
         }
     }

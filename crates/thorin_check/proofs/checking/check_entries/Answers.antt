@@ -7,7 +7,8 @@ pub returns-in-Ok : goal.returns-in-Ok
 returns-in-Ok g c =
     checked (g.F.FileReader.offer c.args.files.now) (executables_of c.args.named) _
     c.args.opened.entries.now _ _ _ c.finish.result
-    c.requires c.none-faults.ensures.waiting c.none-faults.ensures.count c.in-Ok.ensures
+    c.requires c.none-faults.ensures.form c.none-faults.ensures.waiting
+    c.none-faults.ensures.count c.in-Ok.ensures
     c.finish.ensures
 
 pub returns : goal.returns

@@ -4,10 +4,10 @@ use Rattle.thorin_check.proofs.rows.tell_rows.Goals as goal
 
 pub loop-row-preserved : goal.loop-row-preserved
 loop-row-preserved g c =
-    row_or c.args.kind.now c.loop-row.row _ _ c.put_row-put.result (Ok tt) c.loop-row.invariant
-    c.put_row-put.ensures c.in-Ok.ensures
+    row_or c.args.kind.now c.loop-row.row _ c.row_text-text.result (Ok tt) c.loop-row.invariant
+    c.row_text-text.ensures c.in-Ok.ensures
 
 pub returns-in-Err : goal.returns-in-Err
 returns-in-Err g c =
-    row_or c.args.kind.now c.loop-row.row _ _ c.put_row-put.result (Err c.in-Err.failure)
-    c.loop-row.invariant c.put_row-put.ensures c.in-Err.ensures
+    row_or c.args.kind.now c.loop-row.row _ c.row_text-text.result (Err c.in-Err.failure)
+    c.loop-row.invariant c.row_text-text.ensures c.in-Err.ensures

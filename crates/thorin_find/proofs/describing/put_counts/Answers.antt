@@ -1,5 +1,5 @@
 use Rattle.std.proofs.Common.{rules}
 use Rattle.thorin_find.proofs.describing.put_counts.Goals as goal
 
-pub returns-else-as_json : goal.returns-else-as_json
-returns-else-as_json c = search rules
+pub returns-in-Lines : goal.returns-in-Lines
+returns-in-Lines c = search rules

@@ -7,5 +7,5 @@ use Rattle.thorin_find.proofs.describing.put_ranges.Given as goal
 -- the ranges of the kinds so far
 abbrev pub invariant-loop-kind : goal.invariant-loop-kind
 invariant-loop-kind l = string_bytes l.text ≡ string_bytes l.initial.text
-    ++ flat_map (λ kind. range_text l.as_json kind (range_in l.unit.row kind))
+    ++ flat_map (λ kind. range_text l.form kind (range_in l.unit.row kind))
     (take l.kind-index contribution_kinds)

@@ -7,5 +7,5 @@ use Rattle.thorin_find.proofs.listing.put_sizes.Given as goal
 -- the sizes of the kinds so far
 abbrev pub invariant-loop-kind : goal.invariant-loop-kind
 invariant-loop-kind l = string_bytes l.text ≡ string_bytes l.initial.text
-    ++ flat_map (λ kind. range_size l.as_json kind (range_in l.unit.row kind))
+    ++ flat_map (λ kind. range_size l.form kind (range_in l.unit.row kind))
     (take l.kind-index contribution_kinds)

@@ -5,4 +5,4 @@ use Rattle.thorin_print.proofs.spelled.put_bytes.Given as goal
 -- the bytes so far
 abbrev pub invariant-loop-byte : goal.invariant-loop-byte
 invariant-loop-byte l = string_bytes l.text ≡ string_bytes l.initial.text
-    ++ flat_map (spelled_byte l.as_json) (take l.byte-index l.bytes)
+    ++ flat_map (spelled_byte l.form) (take l.byte-index l.bytes)

@@ -5,4 +5,4 @@ use Rattle.thorin_print.proofs.spelled.put_characters.Given as goal
 -- the characters so far
 abbrev pub invariant-loop-c : goal.invariant-loop-c
 invariant-loop-c l = string_bytes l.text
-    ≡ string_bytes l.initial.text ++ flat_map (spelled_character l.as_json) l.yielded
+    ≡ string_bytes l.initial.text ++ flat_map (spelled_character l.form) l.yielded

@@ -1,6 +1,6 @@
 use Rattle.std.proofs.Common.{◌≡◌, ◌++◌, replicate}
 use Rattle.std.specs.Prelude.{string_bytes}
-use Rattle.thorin_terminal.proofs.columns.put_blanks.Given as goal
+use Rattle.thorin_find.proofs.columns.put_blanks.Given as goal
 
 -- as many blanks as there were turns
 abbrev pub invariant-loop-i : goal.invariant-loop-i
