@@ -1,0 +1,5 @@
+pub mod Terms
+pub mod HighBits
+pub mod LowBits
+pub mod Rounds
+pub mod Stripes
