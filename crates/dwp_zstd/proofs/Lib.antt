@@ -3,3 +3,4 @@ pub mod HighBits
 pub mod LowBits
 pub mod Rounds
 pub mod Stripes
+pub mod Values
