@@ -1,0 +1,6 @@
+pub mod Terms
+pub mod HighBits
+pub mod LowBits
+pub mod Rounds
+pub mod Stripes
+pub mod Values

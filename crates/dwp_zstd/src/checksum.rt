@@ -1,0 +1,203 @@
+//! XXH64 with seed 0, the check sum of a frame (RFC 8878, 3.1.1).
+
+ghost use Rattle.std.specs.Prelude.{◌≡◌, ◌≤◌, ◌<◌, ◌*◌, ◌/◌, ◌^◌, length, drop};
+ghost use Rattle.byteorder.specs.Endian.{little_number};
+ghost use Rattle.dwp_zstd.specs.Checksum.{plus, round, start, behind_stripe, behind_stripes};
+ghost use Rattle.dwp_zstd.specs.Checksum.{Four, merged, joined, with_lanes, with_four, with_bytes};
+ghost use Rattle.dwp_zstd.specs.Checksum.{with_lane, with_byte, with_rest, mixed, of_stripes, xxh64, accumulators_of};
+
+use byteorder::{ByteOrder, LittleEndian};
+
+const PRIME_1: u64 = 11400714785074694791;
+
+const PRIME_2: u64 = 14029467366897019727;
+
+const PRIME_3: u64 = 1609587929392839161;
+
+const PRIME_4: u64 = 9650029242287828579;
+
+const PRIME_5: u64 = 2870177450012600261;
+
+/// The four accumulators.
+#[derive(Clone, Copy)]
+struct Accumulators {
+    first: u64,
+    second: u64,
+    third: u64,
+    fourth: u64,
+}
+
+/// A lane is taken up by an accumulator.
+#[inline]
+#[tactic(auto, unfolding(crate::specs::Checksum::round, crate::specs::Checksum::plus, crate::specs::Checksum::times, crate::specs::Checksum::turn, crate::specs::Checksum::prime1, crate::specs::Checksum::prime2))]
+fn round(acc: u64, lane: u64) -> u64
+    ensures { result ≡ round acc lane }
+{
+    acc.wrapping_add(lane.wrapping_mul(PRIME_2))
+        .rotate_left(31)
+        .wrapping_mul(PRIME_1)
+}
+
+/// The accumulators behind a stripe.
+#[inline]
+#[tactic(auto, unfolding(crate::specs::Checksum::behind_stripe, crate::specs::Checksum::accumulators_of))]
+fn behind_stripe(four: Accumulators, bytes: &[u8]) -> Accumulators
+    requires { 32 ≤ length bytes.now }
+    ensures { accumulators_of result ≡ behind_stripe (accumulators_of four) bytes.now }
+{
+    Accumulators {
+        first: round(four.first, LittleEndian::read_u64(bytes)),
+        second: round(four.second, LittleEndian::read_u64(&bytes[8..])),
+        third: round(four.third, LittleEndian::read_u64(&bytes[16..])),
+        fourth: round(four.fourth, LittleEndian::read_u64(&bytes[24..])),
+    }
+}
+
+/// The accumulators behind all stripes.
+fn behind_stripes(four: Accumulators, bytes: &[u8]) -> Accumulators
+    ensures { accumulators_of result
+        ≡ behind_stripes (length bytes.now / 32) (accumulators_of four) bytes.now }
+{
+    let mut all = four;
+    let mut rest = bytes;
+    for _ in 0..bytes.len() / 32 {
+        all = behind_stripe(all, rest);
+        let (_stripe, more) = rest.split_at(32);
+        rest = more;
+    }
+    all
+}
+
+/// One accumulator is merged into the number of them all.
+#[tactic(auto, unfolding(crate::specs::Checksum::merged, crate::specs::Checksum::plus, crate::specs::Checksum::times, crate::specs::Checksum::prime1, crate::specs::Checksum::prime4))]
+fn merged(h: u64, acc: u64) -> u64
+    ensures { result ≡ merged h acc }
+{
+    (h ^ round(0, acc))
+        .wrapping_mul(PRIME_1)
+        .wrapping_add(PRIME_4)
+}
+
+/// One number of the four accumulators.
+#[tactic(auto, unfolding(crate::specs::Checksum::joined, crate::specs::Checksum::accumulators_of, crate::specs::Checksum::plus, crate::specs::Checksum::turn))]
+fn joined(four: Accumulators) -> u64
+    ensures { result ≡ joined (accumulators_of four) }
+{
+    let h = four
+        .first
+        .rotate_left(1)
+        .wrapping_add(four.second.rotate_left(7))
+        .wrapping_add(four.third.rotate_left(12))
+        .wrapping_add(four.fourth.rotate_left(18));
+    let h = merged(h, four.first);
+    let h = merged(h, four.second);
+    let h = merged(h, four.third);
+    merged(h, four.fourth)
+}
+
+/// What stands for the stripes.
+#[tactic(auto, unfolding(crate::specs::Checksum::of_stripes, crate::specs::Checksum::start, crate::specs::Checksum::accumulators_of, crate::specs::Checksum::plus, crate::specs::Checksum::prime1, crate::specs::Checksum::prime2, crate::specs::Checksum::prime5))]
+fn of_stripes(bytes: &[u8]) -> u64
+    ensures { result ≡ of_stripes bytes.now }
+{
+    if bytes.len() < 32 {
+        return PRIME_5;
+    }
+    let start = Accumulators {
+        first: PRIME_1.wrapping_add(PRIME_2),
+        second: PRIME_2,
+        third: 0,
+        fourth: 0u64.wrapping_sub(PRIME_1),
+    };
+    joined(behind_stripes(start, bytes))
+}
+
+/// One lane more behind the last stripe.
+#[tactic(auto, unfolding(crate::specs::Checksum::with_lane, crate::specs::Checksum::plus, crate::specs::Checksum::times, crate::specs::Checksum::turn, crate::specs::Checksum::prime1, crate::specs::Checksum::prime4))]
+fn with_lane(h: u64, lane: u64) -> u64
+    ensures { result ≡ with_lane h lane }
+{
+    (h ^ round(0, lane))
+        .rotate_left(27)
+        .wrapping_mul(PRIME_1)
+        .wrapping_add(PRIME_4)
+}
+
+/// The lanes behind the last stripe.
+fn with_lanes(h: u64, bytes: &[u8]) -> u64
+    ensures { result ≡ with_lanes (length bytes.now / 8) h bytes.now }
+{
+    let mut sum = h;
+    let mut rest = bytes;
+    for _ in 0..bytes.len() / 8 {
+        sum = with_lane(sum, LittleEndian::read_u64(rest));
+        let (_lane, more) = rest.split_at(8);
+        rest = more;
+    }
+    sum
+}
+
+/// Four bytes more.
+#[tactic(auto, unfolding(crate::specs::Checksum::with_four, crate::specs::Checksum::plus, crate::specs::Checksum::times, crate::specs::Checksum::turn, crate::specs::Checksum::prime1, crate::specs::Checksum::prime2, crate::specs::Checksum::prime3))]
+fn with_four(h: u64, four: u64) -> u64
+    ensures { result ≡ with_four h four }
+{
+    (h ^ four.wrapping_mul(PRIME_1))
+        .rotate_left(23)
+        .wrapping_mul(PRIME_2)
+        .wrapping_add(PRIME_3)
+}
+
+/// A byte more.
+#[tactic(auto, unfolding(crate::specs::Checksum::with_byte, crate::specs::Checksum::times, crate::specs::Checksum::turn, crate::specs::Checksum::prime1, crate::specs::Checksum::prime5))]
+fn with_byte(h: u64, byte: u64) -> u64
+    ensures { result ≡ with_byte h byte }
+{
+    (h ^ byte.wrapping_mul(PRIME_5))
+        .rotate_left(11)
+        .wrapping_mul(PRIME_1)
+}
+
+/// The last bytes.
+fn with_bytes(h: u64, bytes: &[u8]) -> u64
+    ensures { result ≡ with_bytes h bytes.now }
+{
+    let mut sum = h;
+    for byte in bytes {
+        sum = with_byte(sum, *byte as u64);
+    }
+    sum
+}
+
+/// The bytes behind the last lane.
+#[tactic(auto, unfolding(crate::specs::Checksum::with_rest))]
+fn with_rest(h: u64, bytes: &[u8]) -> u64
+    ensures { result ≡ with_rest h bytes.now }
+{
+    if bytes.len() < 4 {
+        return with_bytes(h, bytes);
+    }
+    let h = with_four(h, LittleEndian::read_u32(bytes) as u64);
+    with_bytes(h, &bytes[4..])
+}
+
+/// The last mixing.
+#[tactic(auto, unfolding(crate::specs::Checksum::mixed, crate::specs::Checksum::times, crate::specs::Checksum::prime2, crate::specs::Checksum::prime3))]
+fn mixed(h: u64) -> u64
+    ensures { result ≡ mixed h }
+{
+    let h = (h ^ (h >> 33)).wrapping_mul(PRIME_2);
+    let h = (h ^ (h >> 29)).wrapping_mul(PRIME_3);
+    h ^ (h >> 32)
+}
+
+/// XXH64 of bytes, with seed 0.
+#[tactic(auto, unfolding(crate::specs::Checksum::xxh64, crate::specs::Checksum::plus))]
+pub fn xxh64(bytes: &[u8]) -> u64
+    ensures { result ≡ xxh64 bytes.now }
+{
+    let rest = &bytes[bytes.len() / 32 * 32..];
+    let h = of_stripes(bytes).wrapping_add(bytes.len() as u64);
+    let h = with_lanes(h, rest);
+    mixed(with_rest(h, &rest[rest.len() / 8 * 8..]))
+}
