@@ -1,5 +1,6 @@
 -- Sections taken one after the other, from the last.
-use Rattle.std.proofs.Common.{◌≡◌, ℕ, ◌+◌, ◌≤◌, Bool, false, ◌||◌, ◌&&◌, List, [], ◌∷◌, length, drop}
+use Rattle.std.proofs.Common.{◌≡◌, ℕ, ◌+◌, ◌≤◌, Bool, false, ◌||◌, ◌&&◌, List, [], ◌∷◌, length}
+use Rattle.std.proofs.Common.{drop}
 use Rattle.std.proofs.lemmas.Bool.{and_right}
 use Rattle.std.proofs.Common.{Some, refl, ap, ◌∙◌, slice_get, if◌then◌else◌}
 use Rattle.std.specs.List.{list_any}
@@ -24,7 +25,8 @@ pub any_step : {X : Type 0} (p : X → Bool) (xs : List X) (i j : ℕ) (x : X) (
     → (here || behind) ≡ list_any p (drop i xs)
 any_step p xs i j x here behind n e h b = rw (h, b, drop_step xs i j x n e) refl
 
-module _ (kept : KeptMacros) (xs : List SectionMeaning) (i j : ℕ) (x : SectionMeaning) (behind : Bool)
+module _ (kept : KeptMacros) (xs : List SectionMeaning) (i j : ℕ)
+    (x : SectionMeaning) (behind : Bool)
     (next : j ≡ i + 1) (at : slice_get xs i ≡ Some x)
     (more : behind ≡ list_any has_macros (drop j xs)) where
   pub lose_step : (some here goes : Bool) → some ≡ lose kept (drop j xs)

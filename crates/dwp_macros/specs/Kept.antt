@@ -1,6 +1,6 @@
--- An object in which the macros of some sections don't count. A compiler that puts macros into COMDAT
--- groups (ELF gABI, "Section Groups") leaves several sections of one name in an object; GNU's `dwp`
--- and LLVM's `llvm-dwp` have a unit refer to the last of them.
+-- An object in which the macros of some sections don't count. A compiler that puts macros into
+-- COMDAT groups (ELF gABI, "Section Groups") leaves several sections of one name in an object;
+-- GNU's `dwp` and LLVM's `llvm-dwp` have a unit refer to the last of them.
 use Rattle.std.specs.Prelude.{ℕ, List, [], ◌∷◌, Bool, true, false, ◌&&◌, ◌||◌, not}
 use Rattle.std.specs.Prelude.{if◌then◌else◌, Option, Some, None, Result, Ok, Err}
 use Rattle.std.specs.List.{list_any}

@@ -19,6 +19,7 @@ complete -c thorin -n '__fish_seen_subcommand_from pack; and not __fish_seen_sub
 complete -c thorin -n '__fish_seen_subcommand_from pack; and not __fish_seen_subcommand_from help' -l archives -d 'Pack the split objects that inputs have as archives'
 complete -c thorin -n '__fish_seen_subcommand_from pack; and not __fish_seen_subcommand_from help' -l allow-overlap -d 'Take inputs that make a package larger than they are'
 complete -c thorin -n '__fish_seen_subcommand_from pack; and not __fish_seen_subcommand_from help' -l last-macros -d 'Keep only the last .debug_macro.dwo of each object'
+complete -c thorin -n '__fish_seen_subcommand_from pack; and not __fish_seen_subcommand_from help' -l no-macros -d 'Leave out .debug_macro.dwo of all objects'
 complete -c thorin -n '__fish_seen_subcommand_from pack; and not __fish_seen_subcommand_from help' -l warnings -x -a 'each once none' -d 'Warn of type units that differ: each, once or none'
 complete -c thorin -n '__fish_seen_subcommand_from pack; and not __fish_seen_subcommand_from help' -s v -l verbose -d 'Report each input'
 complete -c thorin -n '__fish_seen_subcommand_from pack; and not __fish_seen_subcommand_from help' -s h -l help -d 'Print help'

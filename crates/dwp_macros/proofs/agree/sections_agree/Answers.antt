@@ -30,6 +30,7 @@ loop-left-preserved c =
     record {
       inside = omega arith;
       more = any_step has_macros xs i j x _ _ next at c.has_macros-has_more.ensures more;
-      agree = kept_step c.args.kept xs i j x _ next at more ys y is _ c.go.ensures (c.is_kept.ensures c.if-not-is_kept.false)
+      agree = kept_step c.args.kept xs i j x _ next at more ys y is _ c.go.ensures
+          (c.is_kept.ensures c.if-not-is_kept.false)
           c.loop-left.invariant.agree;
     }

@@ -9,7 +9,8 @@ abbrev pub invariant-loop-left : goal.invariant-loop-left
 invariant-loop-left l = record {
   inside : l.left ≤ length (elf l.old).sections;
   more : l.has_more ≡ list_any has_macros (drop l.left (elf l.old).sections);
-  agree : drop l.left (elf l.new).sections ≡ kept_sections l.kept (drop l.left (elf l.old).sections);
+  agree : drop l.left (elf l.new).sections ≡ kept_sections l.kept
+      (drop l.left (elf l.old).sections);
 }
 
 abbrev pub decreases-loop-left : goal.decreases-loop-left
