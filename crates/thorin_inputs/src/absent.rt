@@ -55,16 +55,28 @@ impl AbsentUnits {
         unread: Option<String>,
     ) -> Result<(), AllocError> {
         match object {
-            Some(object) if !self.is_last(object.as_str()) => {
-                self.reason = None;
-                self.add_reason(executable, object.as_str(), unread)?;
-                self.object = Some(object);
-            }
-            _ => {}
+            Some(object) => self.look_at(executable, object, unread)?,
+            None => drop(unread),
         }
         if self.units.get(&unit).is_none() {
             self.units.insert(unit, self.reason)?;
         }
+        Ok(())
+    }
+
+    /// Keeps the object that is looked for, and its reason, unless that is the last one.
+    fn look_at(
+        &mut self,
+        executable: &str,
+        object: String,
+        unread: Option<String>,
+    ) -> Result<(), AllocError> {
+        if self.is_last(object.as_str()) {
+            return Ok(());
+        }
+        self.reason = None;
+        self.add_reason(executable, object.as_str(), unread)?;
+        self.object = Some(object);
         Ok(())
     }
 
