@@ -32,7 +32,7 @@ returns-in-Ok g c =
     let now : done ≡ left partial state = filled.rest in
     let units : units_in done ≡ units_in state = ap units_in now ∙ units_left partial state in
     made_by (λ o. (finish_test done ≡ Ok tt) × IsFinishedState done o) (λ o.
-        IsPackageOf (units_in done) (file_text o))
+    IsPackageOf (units_in done) (file_text o))
     (IsPackedFrom partial (g.I.Inputs.opens c.args.inputs.now)
     (g.I.Inputs.plain c.args.inputs.now) (g.I.InputReader.offer c.args.inputs.now)
     c.args.list.now) c.finished.result
