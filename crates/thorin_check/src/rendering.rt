@@ -2,7 +2,7 @@
 
 ghost use Rattle.std.specs.Prelude.{◌≡◌, ◌++◌, OnOk, string_bytes};
 ghost use Rattle.thorin_check.specs.Rendering.{value_of, fault_text, fault_line, fault_object};
-ghost use Rattle.thorin_check.specs.Rendering.{fault_members};
+ghost use Rattle.thorin_check.specs.Rendering.{fault_members, fault_member};
 ghost use Rattle.thorin_check.specs.Rendering.{totals_text, counts_line, count_text};
 
 use dwp_table::DwarfObject;
@@ -65,8 +65,7 @@ fn put_members(fault: Fault<'_>, text: &mut String) -> Result<(), AllocError>
     match fault {
         Fault::Unit(object, what) => {
             put_json_unit(object, text)?;
-            text.push_str("\",\"fault\":\"")?;
-            put_spelled(what.as_bytes(), Form::Json, text)
+            put_member(what, text)
         }
         Fault::Package(what) => {
             text.push_str("{\"fault\":\"")?;
@@ -79,6 +78,15 @@ fn put_members(fault: Fault<'_>, text: &mut String) -> Result<(), AllocError>
             put_spelled(what.as_bytes(), Form::Json, text)
         }
     }
+}
+
+/// Adds what is wrong behind the unit that it is wrong with, up to the end of the string.
+fn put_member(what: &str, text: &mut String) -> Result<(), AllocError>
+    ensures { OnOk result (string_bytes text.new
+        ≡ string_bytes text.old ++ fault_member what.now) }
+{
+    text.push_str("\",\"fault\":\"")?;
+    put_spelled(what.as_bytes(), Form::Json, text)
 }
 
 /// Adds how many units and faults there are.
