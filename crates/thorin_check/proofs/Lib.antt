@@ -1,5 +1,6 @@
 pub mod Checked
 pub mod Faulted
 pub mod Reached
+pub mod Rendered
 pub mod Skeletons
 pub mod Told
