@@ -1,7 +1,9 @@
 -- Whether a text of a string table is one that is given, by as much of it as that is long.
 use Rattle.std.proofs.Common.{◌≡◌, ℕ, zero, suc, ◌+◌, ◌<◌, ◌≤◌, ◌==◌, nat_lt, Bool, false, List, []}
 use Rattle.std.proofs.Common.{◌∷◌, Option, None, Some, length, take, drop, position, refl, ap, sym}
-use Rattle.std.proofs.Common.{min, find, arith}
+use Rattle.std.proofs.Common.{min, find, get_or, arith}
+use Rattle.std.proofs.lemmas.Bool.{eqb-true}
+use Rattle.std.proofs.lemmas.List.Quantifiers.{position-Some}
 use Rattle.std.specs.List.{position_or_len}
 use Rattle.std.specs.Option.{option_and_then}
 use Rattle.std.specs.Str.{is_utf8, bytes_eq}
@@ -28,12 +30,31 @@ first_before (suc m) (b ∷ bytes) h = by-bool _ (zero_byte b) (λ e. rw e (omeg
     (λ e. rw e (omega (arith, first_before m bytes (omega arith))))
 
 -- a text of another length is another
-longer_text : (own text : List ℕ) → length text < length own → name_is text (text_of own) ≡ false
+other_text : (own text : List ℕ) → (length own ≡ length text → ⊥) → name_is text (text_of own)
+    ≡ false
 unfolding text_of
-longer_text own text longer = by-bool _ (is_utf8 own)
+other_text own text differs = by-bool _ (is_utf8 own)
     (λ yes. rw yes (false_from_ne_true (bytes_eq own text) (λ same.
-    omega (arith, ap length ((bytes_eq-Decides own text).0 same)))))
+    differs (ap length ((bytes_eq-Decides own text).0 same)))))
     (λ no. rw no refl)
+
+-- nor is it a text behind which no zero byte stands
+unended_text : (bytes text : List ℕ) (end : Option ℕ) → position zero_byte bytes ≡ end
+    → (length text < length bytes → get_or bytes (length text) 0 ≡ 0 → ⊥)
+    → false ≡ name_is text (first_text bytes end)
+unended_text bytes text None is other = refl
+unended_text bytes text (Some n) is other =
+    let found = position-Some zero_byte bytes n 0 is in
+    let size = length-take-le n bytes (omega (arith, found.0)) in
+    sym (other_text (take n bytes) text (λ same.
+    let here : n ≡ length text = omega (arith, same, size) in
+    other (omega (arith, here, found.0)) (rw (← here) (eqb-true (get_or bytes n 0) 0 found.1))))
+
+pub no_end : (table rest text : List ℕ) (place : ℕ) → rest ≡ drop place table
+    → (length text < length rest → get_or rest (length text) 0 ≡ 0 → ⊥)
+    → false ≡ name_is text (text_at table place)
+unfolding text_at
+no_end table rest text place here other = rw (← here) (unended_text rest text _ refl other)
 
 -- whether the text that begins the bytes is one that is given, by a beginning that is a byte longer
 -- or all there is
@@ -60,7 +81,7 @@ short_text m bytes text fits long =
     let within = ltb-true first (length bytes) inside in
     let taken = length-take-le first bytes (omega arith) in
     let whole = long (omega arith) in
-    rw inside (sym (longer_text (take first bytes) text (omega arith))))
+    rw inside (sym (other_text (take first bytes) text (λ same. omega (arith, same)))))
     (λ past. rw past refl)))
 
 -- the same by what a look at the table gives

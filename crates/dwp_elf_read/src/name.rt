@@ -38,8 +38,11 @@ pub(crate) fn is_text_at(table: &[u8], place: u32, text: &str) -> bool
         return false;
     }
     let rest = table.split_at(place).1;
-    let start = rest.split_at(rest.len().min(text.len() + 1)).0;
-    match text_in(start, 0) {
+    // Most names have another length: then no zero byte stands there.
+    if text.len() >= rest.len() || rest[text.len()] != 0 {
+        return false;
+    }
+    match text_in(rest.split_at(text.len() + 1).0, 0) {
         Some(own) => own == text,
         None => false,
     }
