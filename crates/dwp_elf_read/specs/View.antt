@@ -38,6 +38,13 @@ section s = section_of s.file.image.bytes.now (option_copied s.file.names) s.num
 unfoldable pub file : Section → Elf
 file s = elf s.file
 
+-- the bytes of a file, and those of the file that a section stands in
+unfoldable pub bytes_of : ElfFile → List ℕ
+bytes_of f = f.image.bytes.now
+
+unfoldable pub file_bytes : Section → List ℕ
+file_bytes s = bytes_of s.file
+
 -- a section in its file
 pub record Placed : Type 0 where
   pub file : Elf

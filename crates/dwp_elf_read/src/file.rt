@@ -22,12 +22,13 @@ pub struct ElfFile<'a> {
 }
 
 impl<'a> ElfFile<'a> {
-    ghost use Rattle.std.specs.Prelude.{◌≡◌, ◌^◌, ◌<◌, length, option_map, IfSome, slice_get, find};
+    ghost use Rattle.std.specs.Prelude.{◌≡◌, ◌^◌, ◌<◌, length, option_map, IfOk, IfSome};
+    ghost use Rattle.std.specs.Prelude.{slice_get, find};
     ghost use Rattle.dwp_base.specs.Reading.{Answers};
     ghost use Rattle.dwp_elf_read.specs.Elf.{elf_of, is_named};
     ghost use Rattle.dwp_elf_read.specs.Symbol.{symbol_value_of};
     ghost use Rattle.dwp_elf_read.specs.View.{elf, nth, section, file, sections_left};
-    ghost use Rattle.dwp_elf_read.specs.View.{placed_sections};
+    ghost use Rattle.dwp_elf_read.specs.View.{placed_sections, bytes_of, file_bytes};
 
     /// The file that the bytes are.
     ///
@@ -35,9 +36,10 @@ impl<'a> ElfFile<'a> {
     /// The first error, in this order: `TooShort` below 16 bytes, `NotElf`, `TooShort` below a
     /// header of the class, `ByteOrder`, `Version`, `SectionEntrySize`, `SectionTable` and
     /// `NameTable`.
-    #[tactic(auto, unfolding(crate::specs::Elf::elf_of, crate::specs::View::elf, crate::specs::View::sections_after))]
+    #[tactic(auto, unfolding(crate::specs::Elf::elf_of, crate::specs::View::elf, crate::specs::View::sections_after, crate::specs::View::bytes_of))]
     pub fn parse(bytes: &'a [u8]) -> Result<ElfFile<'a>, ReadError>
-        ensures { Answers elf result (elf_of bytes.now) }
+        ensures meaning { Answers elf result (elf_of bytes.now) }
+        ensures of_bytes { IfOk result (λ file. bytes_of file ≡ bytes.now) }
     {
         let (class, order) = identity(bytes)?;
         let image = Image {
@@ -90,11 +92,12 @@ impl<'a> ElfFile<'a> {
     }
 
     /// The section of a number.
-    #[tactic(auto, unfolding(crate::specs::View::section, crate::specs::View::file))]
+    #[tactic(auto, unfolding(crate::specs::View::section, crate::specs::View::file, crate::specs::View::file_bytes))]
     pub(crate) fn section_at(&self, i: usize) -> Section<'a>
         requires { i < self.now.count }
         ensures value { section result ≡ nth self.now i }
         ensures in_file { file result ≡ elf self.now }
+        ensures in_bytes { file_bytes result ≡ bytes_of self.now }
     {
         Section {
             file: *self,
@@ -108,6 +111,7 @@ impl<'a> ElfFile<'a> {
     pub fn section(&self, i: usize) -> Option<Section<'a>>
         ensures found { option_map section result ≡ slice_get (elf self.now).sections i }
         ensures in_file { IfSome result (λ s. file s ≡ elf self.now) }
+        ensures in_bytes { IfSome result (λ s. file_bytes s ≡ bytes_of self.now) }
     {
         if i < self.count {
             Some(self.section_at(i))

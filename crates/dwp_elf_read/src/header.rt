@@ -1,6 +1,6 @@
 //! The headers of a file and of its sections (ELF gABI, "ELF Header" and "Section Header").
 
-ghost use Rattle.std.specs.Prelude.{◌≡◌, ◌+◌, ◌*◌, ◌≤◌, length};
+ghost use Rattle.std.specs.Prelude.{◌≡◌, ◌+◌, ◌*◌, ◌≤◌, length, slice_range, option_map, IfSome};
 ghost use Rattle.std.specs.Option.{option_copied};
 ghost use Rattle.dwp_elf_read.specs.Layout.{word_size, header_size, entry_size, file_header_of};
 ghost use Rattle.dwp_elf_read.specs.Layout.{section_header_of};
@@ -97,19 +97,29 @@ impl<'a> Image<'a> {
             .section_header()
     }
 
-    /// The content of a section, if it lies in the file.
+    /// Where the content of a section begins and how many bytes it has, if it lies in the file.
     #[tactic(auto, unfolding(crate::specs::Elf::section_content))]
-    pub fn content(&self, header: &SectionHeader) -> Option<&'a [u8]>
-        ensures { option_copied result ≡ section_content self.now.bytes.now header.now }
+    pub fn range(&self, header: &SectionHeader) -> Option<(u64, u64)>
+        ensures content { option_map (λ range. slice_range self.now.bytes.now range.0
+            (range.0 + range.1)) result ≡ section_content self.now.bytes.now header.now }
+        ensures inside { IfSome result (λ range.
+            range.0 + range.1 ≤ length self.now.bytes.now) }
     {
         if header.kind == SHT_NOBITS {
-            return Some(&[]);
+            return Some((0, 0));
         }
         if !self.contains(header.offset, header.size) {
             return None;
         }
+        Some((header.offset, header.size))
+    }
+
+    /// The content of a section, if it lies in the file.
+    pub fn content(&self, header: &SectionHeader) -> Option<&'a [u8]>
+        ensures { option_copied result ≡ section_content self.now.bytes.now header.now }
+    {
+        let (start, size) = self.range(header)?;
         let bytes = self.bytes;
-        let start = header.offset as usize;
-        Some(&bytes[start..start + header.size as usize])
+        Some(&bytes[start as usize..start as usize + size as usize])
     }
 }

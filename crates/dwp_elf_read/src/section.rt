@@ -22,14 +22,15 @@ pub struct Section<'a> {
 impl<'a> Section<'a> {
     ghost use Rattle.dwp_elf_read.specs.declared.error.ReadError.TheVariants.{NameRange};
     ghost use Rattle.dwp_elf_read.specs.declared.error.ReadError.TheVariants.{SectionRange};
-    ghost use Rattle.std.specs.Prelude.{◌≡◌, find};
+    ghost use Rattle.std.specs.Prelude.{◌≡◌, ◌≤◌, ◌+◌, IfSome, find, length, option_map};
+    ghost use Rattle.std.specs.Prelude.{slice_range};
     ghost use Rattle.std.specs.Option.{ok_or, option_and_then};
     ghost use Rattle.dwp_base.specs.Sections.{all_kinds, kind_named};
     ghost use Rattle.dwp_base.specs.Reading.{Answers};
     ghost use Rattle.dwp_elf_read.specs.Elf.{is_empty, has_compressed_flag};
     ghost use Rattle.dwp_elf_read.specs.Elf.{is_named, is_of, has_older_name, holds};
     ghost use Rattle.dwp_elf_read.specs.Relocation.{relocations_of};
-    ghost use Rattle.dwp_elf_read.specs.View.{section, file, relocations_left};
+    ghost use Rattle.dwp_elf_read.specs.View.{section, file, file_bytes, relocations_left};
 
     /// The section's number.
     pub fn number(&self) -> usize
@@ -173,6 +174,18 @@ impl<'a> Section<'a> {
             .image
             .content(&self.header)
             .ok_or(ReadError::SectionRange)
+    }
+
+    /// Where the section's content begins in the file, and how many bytes it has there: none, at 0,
+    /// for a section without bytes in the file. None where it lies outside the file.
+    #[tactic(auto, unfolding(crate::specs::View::file_bytes, crate::specs::View::bytes_of))]
+    pub fn file_range(&self) -> Option<(u64, u64)>
+        ensures content { option_map (λ range. slice_range (file_bytes self.now) range.0
+            (range.0 + range.1)) result ≡ (section self.now).content }
+        ensures inside { IfSome result (λ range.
+            range.0 + range.1 ≤ length (file_bytes self.now)) }
+    {
+        self.file.image.range(&self.header)
     }
 
     /// The relocations of this section, in file order: those of every section of relocations that
