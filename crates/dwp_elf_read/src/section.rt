@@ -178,7 +178,7 @@ impl<'a> Section<'a> {
 
     /// Where the section's content begins in the file, and how many bytes it has there: none, at 0,
     /// for a section without bytes in the file. None where it lies outside the file.
-    #[tactic(auto, unfolding(crate::specs::View::file_bytes, crate::specs::View::bytes_of))]
+    #[tactic(auto, unfolding(crate::specs::View::file_bytes, crate::specs::View::bytes_of, crate::specs::View::section, crate::specs::Elf::section_of))]
     pub fn file_range(&self) -> Option<(u64, u64)>
         ensures content { option_map (λ range. slice_range (file_bytes self.now) range.0
             (range.0 + range.1)) result ≡ (section self.now).content }
