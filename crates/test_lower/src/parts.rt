@@ -1,4 +1,4 @@
-//! Calls of `thorin_parts`: hash tables, entries, written indexes and relocations.
+//! Calls of what a package is made of: hash tables, entries, written indexes and relocations.
 
 use dwp_base::{ByKind, Contribution, ContributionOffset, Endianness, SectionKind};
 use dwp_bytes::{Encoding, RelocationEntry};
@@ -7,9 +7,9 @@ use dwp_index::{DwarfObject, DwoId, UnitIndex};
 use std::alloc::{AllocError, Global};
 use test_rows::{Row, Said, encoding, number, place, split};
 use thorin_errors::Error;
-use thorin_parts::{
-    Buckets, ContributionAdjustor, IndexEntry, add_relocations, bucket, write_index,
-};
+use thorin_executable::add_relocations;
+use thorin_index::{Buckets, IndexEntry, bucket, write_index};
+use thorin_input::ContributionAdjustor;
 
 /// Makes the call of a row.
 pub fn call(row: Row<'_>, said: &mut Said) {

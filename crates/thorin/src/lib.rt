@@ -26,10 +26,11 @@ pub use thorin_builder::{
     DwarfPackage, InProgressDwarfPackage, InputReader, MissingTargets, Repetition,
 };
 pub use thorin_errors::{Error, InputError, MissingReferencedObjectBehaviour, Result};
-pub use thorin_executable::{NamelessUnits, Skeleton, SkeletonList, SkeletonUnits, skeletons};
-pub use thorin_identity::dwo_identifier_of_unit;
-pub use thorin_parts::{
-    Buckets, ContributionAdjustor, IndexEntry, PackageStringOffset, PackageStringTable, Repeats,
-    StringOffsets, add_relocations, bucket, write_index,
+pub use thorin_executable::{
+    NamelessUnits, Skeleton, SkeletonList, SkeletonUnits, add_relocations, skeletons,
 };
+pub use thorin_identity::dwo_identifier_of_unit;
+pub use thorin_index::{Buckets, IndexEntry, bucket, write_index};
+pub use thorin_input::ContributionAdjustor;
 pub use thorin_sessions::{ArenaSession, BytesSession, MemorySession, Session};
+pub use thorin_strings::{PackageStringOffset, PackageStringTable, Repeats, StringOffsets};

@@ -6,8 +6,8 @@ use dwp_bytes::{Encoding, Format};
 use dwp_index::{DwarfObject, DwoId, UnitIndex};
 use std::alloc::Global;
 use thorin_errors::Error;
+use thorin_index::{IndexEntry, write_index};
 use thorin_package_input::{RowPlaces, remap_packaged_offsets};
-use thorin_parts::{IndexEntry, write_index};
 use thorin_strings::{PackageStringTable, StringOffsets};
 
 const DWARF5: Encoding = Encoding {
