@@ -273,13 +273,43 @@ def cell(text):
     return text.replace("|", "\\|").strip()
 
 
-def table(title, packers, rows, about="", before=()):
+def briefly(text, with_sizes):
+    """A cell in few words: of an error that it was refused, of a package whether it has all units."""
+    found = re.fullmatch(r"with (`[^`]*`) (.*), without (.*)", text)
+    if found:
+        return f"with {found[1]} {briefly(found[2], with_sizes)}, without {briefly(found[3], with_sizes)}"
+    found = re.fullmatch(r"(.*), also with (`[^`]*`)", text)
+    if found:
+        return f"{briefly(found[1], with_sizes)}, also with {found[2]}"
+    said, leaves, _ = text.partition("; leaves a file")
+    if re.search(r"\(\d+\)$", said):
+        return "refused" + leaves
+    said = re.sub(r"(packed), but: .*", r"\1, with a warning", said)
+    said = re.sub(r"(no package, status 0), but: .*", r"\1", said)
+    found = re.match(r"(?:(all) \d+|(\*\*\d+ of \d+\*\*))(, [\d,]+ bytes)?(.*)", said)
+    if found:
+        lengths = "; wrong lengths" if "wrong lengths" in found[4] else ""
+        said = (found[1] or found[2]) + (found[3] if with_sizes and found[1] and found[3] else "") + lengths
+    return said + leaves
+
+
+def table(title, packers, rows, about="", before=(), counts=False):
+    """Prints the rows that differ, those of the same cells as one, and behind them a line for all others."""
     print(f"\n## {title}\n" + (f"\n{wrapped(about)}\n" if about else ""))
     titles = ["input", *before, *(it.title for it in packers)]
     print(f"| {' | '.join(titles)} |")
     print("|---" * len(titles) + "|")
+    kinds = collections.defaultdict(list)
     for name, cells in rows:
-        print(f"| {name} | " + " | ".join(cell(text) for text in cells) + " |")
+        sizes = [int(size.replace(",", "")) for text in cells for size in re.findall(r"all \d+, ([\d,]+) bytes", text)]
+        with_sizes = bool(sizes) and max(sizes) - min(sizes) > 500
+        kinds[tuple(briefly(text, with_sizes) for text in cells)].append(re.sub(r": \d+ objects?$", "", name))
+    alike = {cells: names for cells, names in kinds.items() if len(set(cells)) == 1 and not counts}
+    for cells, names in kinds.items():
+        if cells not in alike:
+            print(f"| {'; '.join(names)} | " + " | ".join(cell(text) for text in cells) + " |")
+    for cells, names in alike.items():
+        print("\n" + wrapped(f"The same in each column, {cells[0]}: {'; '.join(names)}."))
     sys.stdout.flush()
 
 
@@ -351,16 +381,16 @@ def head(commands, compilers, note):
                 f"A run had {SECONDS} seconds and 4 GiB. The inputs were made by {compilers}. Time and memory are in "
                 f"[bench/README.md](../bench/README.md).{note}"),
         "\n".join([
-            wrapped("**All N**: llvm-dwarfdump finds all N units of the inputs in the package by DWO id or type signature, and "
-                    "reads from each the same names and strings as from the objects. **K of N**: it does so for only K of "
-                    "them.", "- "),
-            wrapped("**Wrong lengths of string offsets**: a header of DWARF 5 string offsets doesn't have the length of what "
-                    "follows it (DWARF 5, 7.26).", "- "),
-            wrapped("A warning of `thorin` names a type unit that was passed over though its bytes differ from those that "
-                    "were kept; one of macros tells of an object with several sections of them.", "- "),
+            wrapped("**All**: llvm-dwarfdump finds all units of the inputs in the package by DWO id or type signature, and reads "
+                    "from each the same names and strings as from the objects. **K of N**: it does so for only K of them. The "
+                    "size stands behind it where the packages differ by more than 500 bytes.", "- "),
+            wrapped("**Wrong lengths**: a header of DWARF 5 string offsets doesn't have the length of what follows it (DWARF 5, "
+                    "7.26).", "- "),
             wrapped("**With** an option of `thorin`'s that is for such an input, and **without** it: what came of each.", "- "),
-            wrapped("A number in brackets is the exit status. **No word**: it failed without a message. **Leaves a file**: one "
-                    "that was begun and is no package.", "- ")])])
+            wrapped("**Refused**: it ended with another status than 0 and a message. **Leaves a file**: one that was begun and is "
+                    "no package.", "- "),
+            wrapped("Inputs of which the same came stand in one row, and those of which the same came of each packer in a line "
+                    "below.", "- ")])])
 
 
 def compare(folder, packers, debuggers, rounds, note):
@@ -413,7 +443,7 @@ def compare(folder, packers, debuggers, rounds, note):
     counts = [at_random(p, wrong, files, rounds) for p in packers]
     kinds = ["packed", "refused", "crash", "panic", "no answer"]
     table(f"{rounds} objects and packages with one to eight bytes changed at random", packers,
-          [(kind, [str(c[kind]) for c in counts]) for kind in kinds])
+          [(kind, [str(c[kind]) for c in counts]) for kind in kinds], counts=True)
 
 
 if __name__ == "__main__":
