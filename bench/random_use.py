@@ -3,9 +3,10 @@
 
     bench/random_use.py PROGRAM [FILES [SEED]]      FILES is 1,000 and SEED 1 where they aren't given
 
-A file is an object or a package, its sections or ranges often over one another, an executable that names such files, FIFOs
-and devices, or a response file; or one of the samples; four of ten are damaged. Each is given to a command with options that
-chance picks, all in one folder with the files before it. A run has 20 seconds and 4 GiB. A package that comes out is checked,
+A file is an object or a package, its sections or ranges often over one another, some of them compressed; an archive of such
+files; an executable that names such files, each by several spellings, FIFOs and devices; or a response file; or one of the
+samples; four of ten are damaged. Each is given to a command with options that chance picks, all in one folder with the files
+before it. A run has 20 seconds and 4 GiB. A package that comes out is checked,
 and packed again where `check` finds nothing. A line for each mistake, then a table of what came of the runs of each kind; the
 status is 1 where there was a mistake. With the same numbers the files are the same. SIGTERM ends it with the table so far.
 """
@@ -19,6 +20,7 @@ import struct
 import subprocess
 import sys
 import tempfile
+import zlib
 
 sys.dont_write_bytecode = True
 TOP = os.path.dirname(os.path.dirname(os.path.realpath(__file__)))
@@ -93,12 +95,29 @@ class Maker:
             struct.pack_into("<QQ", out, one + 24, place + cut, self.chance.choice([size - cut, size, self.some(len(out))]))
         return bytes(out)
 
-    def object(self):
-        version = self.chance.choice([4, 4, 5])
+    def compressed(self, sections):
+        """The same sections, some of them compressed by zlib, in the way of ELF or the older one; told sizes are often wrong."""
+        out, flagged = [], []
+        for name, data in sections:
+            how = self.chance.random()
+            told = len(data) if self.chance.random() < 0.9 else self.chance.choice([0, self.some(1 << 20), self.chance.getrandbits(64)])
+            stream = zlib.compress(data, self.chance.choice([0, 1, 9]))
+            if how < 0.4:
+                kind = 1 if self.chance.random() < 0.95 else self.some(4)
+                out.append((name, struct.pack("<IIQQ", kind, 0, told, 1) + stream))
+                flagged.append(name)
+            elif how < 0.6:
+                out.append((name.replace(".debug", ".zdebug"), b"ZLIB" + struct.pack(">Q", told) + stream))
+            else:
+                out.append((name, data))
+        return elf(out, compressed=flagged)
+
+    def object(self, version=None):
+        version = version or self.chance.choice([4, 4, 5])
         sections = [(".debug_info.dwo", b"".join(self.units(version))), (".debug_abbrev.dwo", self.abbreviations()), *self.others(version)]
         if self.chance.random() < 0.3:
             self.chance.shuffle(sections)
-        data = elf(sections)
+        data = self.compressed(sections) if self.chance.random() < 0.2 else elf(sections)
         return self.overlapped(data) if self.chance.random() < 0.4 else data
 
     def range_of(self, size, step):
@@ -137,12 +156,33 @@ class Maker:
             (".debug_info.dwo", info), (".debug_abbrev.dwo", table), (".debug_str.dwo", strings), (".debug_str_offsets.dwo", entries),
             *(self.others(version)[1:] if self.chance.random() < 0.2 else []), (name, made),
         ]
-        data = elf(sections)
+        data = self.compressed(sections) if self.chance.random() < 0.1 else elf(sections)
         return self.overlapped(data) if self.chance.random() < 0.2 else data
+
+    def archive(self):
+        """An archive of objects, packages and other data (System V's, with long names)."""
+        out, names, members, version = bytearray(b"!<arch>\n"), bytearray(), [], self.chance.choice([4, 5])
+        for number in range(self.some(8)):
+            name = f"m{number}.o" if self.chance.random() < 0.7 else "long" * self.some(40) + f"{number}.o"
+            shown = f"{name}/" if len(name) < 16 else f"/{len(names)}"
+            if len(name) >= 16:
+                names += f"{name}/\n".encode()
+            content = self.object(version) if self.chance.random() < 0.8 else self.chance.choice([self.sample, self.package, lambda: self.data(200)])()
+            members.append((shown, self.damaged(content) if self.chance.random() < 0.05 else content))
+        if names:
+            members.insert(0, ("//", bytes(names)))
+        for shown, content in members:
+            size = len(content) if self.chance.random() < 0.98 else self.some(1 << 20)
+            out += f"{shown:<16}{0:<12}{0:<6}{0:<6}{644:<8}{size:<10}`\n".encode() + content + b"\n" * (len(content) % 2)
+        return bytes(out)
 
     def path(self):
         """A path of a file, if there is one, or of what isn't to be read."""
         return self.chance.choice([*(self.names[-20:] or ["none"]), "none", ".", "fifo", "/dev/zero", "x" * self.some(5000), "a\x1b[2J\n0 units", ""])
+
+    def spelled(self, path):
+        """A path in another spelling of the same file."""
+        return self.chance.choice(["./", ".//", "././"]) * (1 + self.some(4)) + path if path in self.names else path
 
     def file_path(self):
         """The same, of nothing that the program would wait for: what the command line names it reads."""
@@ -150,9 +190,10 @@ class Maker:
         return "none" if path in ("fifo", "/dev/zero") else path
 
     def executable(self):
-        units = bytearray()
-        for _ in range(1 + self.some(12)):
-            body = struct.pack("<HIB", 4, 0, 8) + b"\1" + self.path().encode() + b"\0" + struct.pack("<Q", self.identifier())
+        units, one = bytearray(), self.path()
+        for _ in range(1 + self.some(40)):
+            path = self.spelled(one if self.chance.random() < 0.5 else self.path())
+            body = struct.pack("<HIB", 4, 0, 8) + b"\1" + path.encode() + b"\0" + struct.pack("<Q", self.identifier())
             units += struct.pack("<I", len(body)) + body
         return elf([(".debug_abbrev", NAMED), (".debug_info", bytes(units))])
 
@@ -188,7 +229,7 @@ class Maker:
 
     def file(self):
         """A kind, and bytes of it."""
-        kind = self.chance.choice(["object", "object", "package", "package", "executable", "response", "sample"])
+        kind = self.chance.choice(["object", "object", "package", "package", "executable", "executable", "archive", "response", "sample"])
         data = getattr(self, kind)()
         return kind, self.damaged(data) if self.chance.random() < 0.4 else data
 
@@ -197,7 +238,9 @@ class Maker:
 
     def command(self, kind, name):
         """Words to run the program on a file with."""
-        pack = ["pack", "-o", "out.dwp", *self.options(["--allow-overlap", "--last-macros", "--partial", "--skip-missing", "-v", "--archives", "--decompress", "--force"])]
+        pack = ["pack", "-o", "out.dwp", *self.options(["--allow-overlap", self.chance.choice(["--last-macros", "--no-macros"]), "--partial", "--skip-missing", "-v", "--archives", "--decompress", "--force"])]
+        if kind == "archive" and "--archives" not in pack:
+            pack.append("--archives")
         which = self.chance.random()
         if kind == "response":
             return ["pack", "-o", "out.dwp", f"@{name}"] if which < 0.7 else [f"@{name}"]
@@ -208,7 +251,7 @@ class Maker:
         if which < 0.75:
             return ["list", *self.options(["--sizes", "--names", "--json"]), name]
         if which < 0.9:
-            return ["check", *self.options(["--json"]), name, *(["-e", self.chance.choice(self.names)] if self.names and self.chance.random() < 0.3 else [])]
+            return ["check", *self.options(["--json", "--decompress"]), name, *(["-e", self.chance.choice(self.names)] if self.names and self.chance.random() < 0.3 else [])]
         return ["find", name, self.chance.choice(["cu", "tu"]), hex(self.identifier())]
 
 
