@@ -7,13 +7,18 @@ A pipe that a command line names is read, whether as an object or as an executab
 read only where it is a regular file: a pipe, a directory or a file of /proc there is refused at once, or passed over by
 --skip-missing and --partial, and listed by --missing.
 
-An output keeps its permissions and group, but for setuid and setgid; where it is a symbolic link, a bind mount or another's
-file in a sticky folder, it is written in place. What an interrupted run left beside it is removed, and what a running one
-has there stays. Where a warning can't be printed the status is 1, and the package is written but for one of --partial. What this
+An output keeps its permissions and group, but for setuid and setgid; where it is a bind mount or another's file in a sticky
+folder, it is written in place. Where it is a symbolic link, the file that it leads to is replaced, or stays as it was where the
+package can't be written. What an interrupted run left beside it is removed, and what a running one has there stays, also one
+whose process can't be seen: runs that write one output at once, each in a namespace of its own, leave a whole package. Response
+files inside one another are read up to a depth. Where a warning can't be printed the status is 1, and the package is written but for one of --partial. What this
 machine doesn't let one make (a mount, a file of another owner) is told and left out.
 """
+import fcntl
 import os
+import resource
 import shutil
+import signal
 import stat
 import subprocess
 import sys
@@ -113,6 +118,60 @@ def writes_through_a_link(program, folder):
     return not pack(program, folder, link) and os.path.islink(link) and is_packed(out)
 
 
+def writes_little():
+    """The next program can write files of a hundred bytes at most."""
+    signal.signal(signal.SIGXFSZ, signal.SIG_IGN)
+    resource.setrlimit(resource.RLIMIT_FSIZE, (100, 100))
+
+
+def keeps_what_a_link_leads_to(program, folder):
+    out, link = old_output(folder, 0o644), os.path.join(folder, "link.dwp")
+    os.symlink("old.dwp", link)
+    before = set(os.listdir(folder))
+    status = pack(program, folder, link, preexec_fn=writes_little)
+    with open(out, encoding="utf-8") as it:
+        return status == 1 and it.read() == "old" and set(os.listdir(folder)) == before
+
+
+def writes_what_the_system_links_to(program, folder):
+    """/dev/stdout stands for an open file: no other takes its place."""
+    path = old_output(folder, 0o644)
+    with open(path, "r+b") as out:
+        return not pack(program, folder, "/dev/stdout", stdout=out) and is_packed(path) and os.stat(path).st_ino == os.fstat(out.fileno()).st_ino
+
+
+def gives_each_run_a_file(program, folder):
+    out, apart = os.path.join(folder, "out.dwp"), ["unshare", "-pfm"]
+    if not shutil.which("unshare") or subprocess.run([*apart, "true"], capture_output=True, check=False).returncode:
+        return None
+    for _ in range(10):
+        runs = [subprocess.Popen([*apart, program, "pack", "-o", out, "y.dwo"], cwd=folder, stderr=subprocess.DEVNULL) for _ in range(3)]
+        if any(run.wait(10) for run in runs) or not is_packed(out) or [name for name in os.listdir(folder) if name.endswith(".tmp")]:
+            return False
+    return True
+
+
+def leaves_what_is_locked(program, folder):
+    """A file of a process that can't be seen from here, which holds its lock."""
+    out = old_output(folder, 0o644)
+    ended = subprocess.Popen(["true"])
+    ended.wait()
+    with open(old_output(folder, 0o600, f"old.dwp.{ended.pid}.1.tmp"), "r+b") as held:
+        fcntl.flock(held, fcntl.LOCK_EX)
+        if pack(program, folder, out) or not os.path.exists(held.name):
+            return False
+    return not pack(program, folder, out) and not os.path.exists(held.name)
+
+
+def reads_response_files_to_a_depth(program, folder):
+    for number in range(1, 71):
+        with open(os.path.join(folder, f"deep_{number}"), "w", encoding="utf-8") as it:
+            it.write(f"@deep_{number + 1}\n" if number < 70 else "y.dwo\n")
+    told = [subprocess.run([program, "pack", "-o", "out.dwp", f"@deep_{first}"], cwd=folder, capture_output=True, text=True, check=False)
+            for first in (7, 6)]
+    return [(it.returncode, it.stderr) for it in told] == [(0, ""), (1, "error: Response file deep_70 is inside 64 others\n")]
+
+
 def writes_a_bind_mount(program, folder):
     out, other = old_output(folder, 0o644), old_output(folder, 0o644, "mounted")
     if not shutil.which("mount") or subprocess.run(["mount", "--bind", other, out], capture_output=True, check=False).returncode:
@@ -167,8 +226,9 @@ def tells_that_warnings_were_lost(program, folder):
 
 
 OUTPUTS = [
-    keeps_permissions, keeps_the_group, writes_through_a_link, writes_a_bind_mount, writes_anothers_file, removes_what_was_left,
-    tells_that_warnings_were_lost,
+    keeps_permissions, keeps_the_group, writes_through_a_link, keeps_what_a_link_leads_to, writes_what_the_system_links_to,
+    writes_a_bind_mount, writes_anothers_file, removes_what_was_left, gives_each_run_a_file, leaves_what_is_locked,
+    reads_response_files_to_a_depth, tells_that_warnings_were_lost,
 ]
 
 

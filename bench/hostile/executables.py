@@ -131,6 +131,12 @@ def attributes_of_an_executable(n):
     return elf([(".debug_abbrev", fields), (".debug_info", bytes(units))])
 
 
+def checked_control_path(n, folder):
+    """An executable whose n units name one object by 4,000 control characters, and a package that lacks them."""
+    write(os.path.join(folder, "one_unit.dwp"), package(unit(1 << 60), ABBREVIATIONS, [(1 << 60, (0, 20), (0, 9))]))
+    return skeletons_of(["\1" * 4000], n, False)
+
+
 def checked_paths(n, long_name, folder, turns=1):
     """An executable's paths, and a package that lacks its units."""
     write(os.path.join(folder, "one_unit.dwp"), package(unit(1 << 60), ABBREVIATIONS, [(1 << 60, (0, 20), (0, 9))]))

@@ -37,6 +37,9 @@ WAYS = {
     "partial": "pack -o {at}/out.dwp --partial -e {it}",
     "missing": "pack --missing -e {it}",
     "list": "list {it}",
+    "list --names --json": "list --names --json {it}",
+    "pack --archives": "pack -v --archives -o {at}/out.dwp {it}",
+    "prefixes": "pack -o {at}/out.dwp --partial @{at}/maps -e {it}",
     "check": "check {it}",
     "check -e": "check {at}/one_unit.dwp -e {it}",
     "decompress": "pack --decompress -o {at}/out.dwp {it}",
@@ -52,10 +55,13 @@ LEAST = {"instructions": 1_000_000, "seconds": 0.05}
 # A row whose larger input costs no more instructions than this for each byte that is read, put into the package or printed is
 # well below n log n: those of its smaller one aren't counted, since valgrind takes half a second to begin.
 CHEAP = 100
-# How many bytes may be held for each byte that is read, put into the package or printed, and beside them. A unit of 20 bytes
-# has some 150 in rows and names, and up to 530 more where it shares its row with none.
+# How many bytes may be held for each byte that is read, put into the package or printed, and beside them; what a
+# list prints isn't counted. A unit of 20 bytes has some 150 in rows and names, and up to 530 more where it shares its row with none.
 BYTES_HELD = 40
 BYTES_BESIDE = 8 << 20
+# How many bytes may be printed for each byte that is read, and beside them.
+BYTES_PRINTED = 40
+PRINTED_BESIDE = 1 << 16
 
 
 @dataclass
@@ -128,7 +134,9 @@ def faults(row, scale, small, large, base, is_seconds):
         wrong.append("past n log n")
     if grows(small.made + small.printed, large.made + large.printed, 1 << 16, low, high):
         wrong.append("writes more than n log n")
-    if large.held > BYTES_BESIDE + BYTES_HELD * large.all():
+    if large.printed > PRINTED_BESIDE + BYTES_PRINTED * large.read:
+        wrong.append(f"prints past {BYTES_PRINTED} times the bytes")
+    if large.held > BYTES_BESIDE + BYTES_HELD * (large.read + large.made if row.way.startswith("list") else large.all()):
         wrong.append(f"past {BYTES_HELD} times the bytes")
     if {small.status, large.status} - {"0", "1", "2"}:
         wrong.append(f"status {small.status}, {large.status}")

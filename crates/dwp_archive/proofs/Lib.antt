@@ -1,2 +1,3 @@
+pub mod Beginnings
 mod Decimals
 mod Entering

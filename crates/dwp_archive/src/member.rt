@@ -1,6 +1,6 @@
 //! Members, and their names.
 
-ghost use Rattle.std.specs.Prelude.{◌≡◌, ◌==◌};
+ghost use Rattle.std.specs.Prelude.{◌≡◌, ◌==◌, ◌<◌, take};
 ghost use Rattle.std.specs.List.{before_first};
 ghost use Rattle.dwp_archive.specs.Names.{short_name, long_name, own_name};
 ghost use Rattle.dwp_archive.specs.View.{member};
@@ -33,6 +33,17 @@ fn up_to(bytes: &[u8], end: u8) -> &[u8]
     match memchr(end, bytes) {
         Some(n) => bytes.split_at(n).0,
         None => bytes,
+    }
+}
+
+/// As many bytes from the beginning, or all where there are fewer.
+fn front(bytes: &[u8], count: usize) -> &[u8]
+    ensures { result.now ≡ take count bytes.now }
+{
+    if count < bytes.len() {
+        bytes.split_at(count).0
+    } else {
+        bytes
     }
 }
 
@@ -78,6 +89,20 @@ impl<'a> Member<'a> {
             NameForm::Short => short_name(self.named),
             NameForm::Long => long_name(self.named),
             NameForm::Own => own_name(self.named),
+        }
+    }
+
+    /// The beginning of the member's name: as many bytes as `most`, or all where it is shorter. No
+    /// more of a long name is read than that.
+    #[tactic(auto, unfolding(crate::specs::View::member), using(crate::proofs::Beginnings::long_begins, crate::proofs::Beginnings::own_begins))]
+    pub fn beginning_of_name(&self, most: usize) -> &'a [u8]
+        requires { most < usize.MAX }
+        ensures { result.now ≡ take most (member self.now).name }
+    {
+        match self.form {
+            NameForm::Short => front(short_name(self.named), most),
+            NameForm::Long => front(long_name(front(self.named, most + 1)), most),
+            NameForm::Own => own_name(front(self.named, most)),
         }
     }
 

@@ -2,7 +2,10 @@ pub mod Answers
 pub mod Bits
 pub mod Bytes
 pub mod Checksum
+pub mod FseTables
 pub mod FseValues
 pub mod Headers
+pub mod Ranks
 pub mod Spread
+pub mod Weights
 pub mod Writing

@@ -14,7 +14,9 @@ const EXAMPLES: &'static str = "Example:
   thorin list hello.dwp                    lists the units of the package
 
 A word @FILE stands for the words in FILE. Whitespace separates these; quotation
-marks and backslashes keep it in a word. Without such a file the word stays.";
+marks and backslashes keep it in a word. Without such a file the word stays.
+
+Behind `thorin dwp` or `thorin llvm-dwp` stands a command line of that program.";
 
 const PACK_EXAMPLES: &'static str = "Examples:
   thorin pack -o hello.dwp hello.dwo       packs one object
@@ -49,7 +51,19 @@ const CHECK_EXAMPLES: &'static str = "Example:
   thorin check app.dwp -e app
 
 It prints a line for each fault, then how many units and faults there are.
-Status 1 where there are faults.";
+Status 1 where there are faults. An EXEC that names no split unit is one.";
+
+const PEER_NOTES: &'static str =
+    "Without -o the package of one EXEC is EXEC.dwp. This is thorin by another name.
+
+As programs of this name do, it decompresses inputs, opens archives, skips units
+that name no object, keeps the last .debug_macro.dwo of each object and compares
+no type units: --decompress, --archives, --skip-nameless and --last-macros change
+nothing here, and --warnings=each asks for what `thorin pack` warns of.
+--no-macros helps gdb with DWARF 4 of `gcc -g3`. --skip-missing, --partial,
+--missing, --prefix-map, --force and --allow-overlap are thorin's own, and
+`thorin pack --help` says more. A long option may be cut short; of one that is
+given twice the last counts.";
 
 /// A word that a command line may have.
 #[derive(Clone, Copy)]
@@ -100,6 +114,16 @@ const FORCE: Word = Word::Flag("force", "Write OUT even if it is an input");
 const DECOMPRESS: Word = Word::Flag(
     "decompress",
     "Read inputs and executables that are compressed by zlib",
+);
+
+const DECOMPRESS_PACKAGE: Word = Word::Flag(
+    "decompress",
+    "Read a package that is compressed by zlib",
+);
+
+const DECOMPRESS_ALL: Word = Word::Flag(
+    "decompress",
+    "Read a package and executables that are compressed by zlib",
 );
 
 const ARCHIVES: Word = Word::Flag(
@@ -203,6 +227,7 @@ const COMMANDS: [Line; 4] = [
             Word::Place("id", "ID", "The unit's identifier, in hexadecimal"),
             Word::Value("string", "N", "Print the string of a number instead"),
             SECTION,
+            DECOMPRESS_PACKAGE,
             JSON,
         ],
     },
@@ -217,6 +242,7 @@ const COMMANDS: [Line; 4] = [
             ),
             Word::Flag("names", "Add the names of each unit's source and object"),
             COLUMNS,
+            DECOMPRESS_PACKAGE,
             JSON,
             FILE,
         ],
@@ -229,7 +255,7 @@ const COMMANDS: [Line; 4] = [
             FILE,
             Word::Executables("Executables whose units have to be in the package"),
             SKIP_NAMELESS,
-            DECOMPRESS,
+            DECOMPRESS_ALL,
             JSON,
         ],
     },
@@ -303,6 +329,16 @@ pub(crate) fn command<'a>(alloc: Global, version: &'a str) -> Result<Command<'a>
     .bin_name("thorin")
 }
 
+/// The command line of `thorin pack` alone, as its usage is shown.
+pub(crate) fn pack_command<'a>(alloc: Global) -> Result<Command<'a>, AllocError> {
+    command_of(alloc, &COMMANDS[0])?.bin_name("thorin pack")
+}
+
+/// Whether a word names a command.
+pub(crate) fn is_command(word: &str) -> bool {
+    COMMANDS.iter().any(|line| line.name == word)
+}
+
 /// The command line of `dwp` and `llvm-dwp`, under one of these names. As there, the last of
 /// repeated options counts, and a long one may be cut short.
 pub(crate) fn peer<'a>(
@@ -318,7 +354,7 @@ pub(crate) fn peer<'a>(
         alloc,
         name,
         "Pack split DWARF objects into a DWARF package",
-        "Without -o the package of one EXEC is EXEC.dwp. This is thorin by another name.",
+        PEER_NOTES,
     )
     .version(version)
     .args_override_self(true)

@@ -14,6 +14,8 @@ const NO_PREFIX: &'static str = "the value of --prefix-map <FROM=TO> has no `=`"
 
 const NO_EXECUTABLE: &'static str = "--missing needs --exec <EXEC>";
 
+const PACK_TIP: &'static str = "\n\n  tip: packing is a command: 'thorin pack -o OUT ..'";
+
 /// What a command line names to be packed.
 #[derive(Clone, Copy)]
 pub struct PackArguments<'m, 'a> {
@@ -62,7 +64,7 @@ pub struct CheckArguments<'m, 'a> {
     pub executables: &'m [&'a str],
     /// Whether their units that name no object are passed over.
     pub skips_nameless: bool,
-    /// Whether their compressed sections are decompressed.
+    /// Whether compressed sections are decompressed, those of the package and theirs.
     pub decompresses: bool,
     /// Whether each line is a JSON object.
     pub json: bool,
@@ -81,6 +83,8 @@ pub struct FindArguments<'a> {
     pub string: Option<&'a str>,
     /// A kind of section, where its bytes are wanted.
     pub section: Option<&'a str>,
+    /// Whether compressed sections are decompressed.
+    pub decompresses: bool,
     /// Whether a JSON object is printed.
     pub json: bool,
 }
@@ -94,6 +98,8 @@ pub struct ListArguments {
     pub names: bool,
     /// Whether sizes stand in columns.
     pub columns: bool,
+    /// Whether compressed sections are decompressed.
+    pub decompresses: bool,
     /// Whether each line is a JSON object.
     pub json: bool,
 }
@@ -184,10 +190,56 @@ fn tell_printed<C: Commands>(
             version,
             shown.as_slice(),
         ) {
-            Err(error) => tell(&error, commands),
+            Err(error) => tell_or_advise(alloc, shown.as_slice(), &error, commands),
             Ok(_) => tell(error, commands),
         },
         Err(AllocError) => commands.lack_memory(),
+    }
+}
+
+/// Prints what is said of these words, with a tip where they are meant for packing.
+fn tell_or_advise<C: Commands>(
+    alloc: Global,
+    words: &[String],
+    error: &Error,
+    commands: &mut C,
+) -> u8 {
+    if !lacks_pack(words, error) {
+        return tell(error, commands);
+    }
+    match with_tip(alloc, error) {
+        Ok(text) => commands.refuse(&text),
+        Err(AllocError) => commands.lack_memory(),
+    }
+}
+
+/// Whether words name no command, though one of them is an option of packing.
+fn lacks_pack(words: &[String], error: &Error) -> bool {
+    matches!(
+        error.kind(),
+        ErrorKind::UnknownArgument | ErrorKind::InvalidSubcommand
+    ) && peer_name(words).is_none()
+        && !words.iter().any(|word| command::is_command(word.as_str()))
+        && words.iter().any(|word| is_of_packing(word.as_str()))
+}
+
+/// Whether a word is an option that says what is packed, or where to.
+fn is_of_packing(word: &str) -> bool {
+    word.starts_with("-o")
+        || word.starts_with("-e")
+        || word.starts_with("--output")
+        || word.starts_with("--exec")
+}
+
+/// What is said of them, with a tip before the usage unless there is another.
+fn with_tip(alloc: Global, error: &Error) -> Result<String, AllocError> {
+    let text = format!(in alloc; "{error}")?;
+    if text.contains("  tip: ") {
+        return Ok(text);
+    }
+    match text.as_str().split_once("\n\nUsage:") {
+        Some((front, usage)) => format!(in alloc; "{front}{PACK_TIP}\n\nUsage:{usage}"),
+        None => Ok(text),
     }
 }
 
@@ -208,20 +260,28 @@ fn read<'a>(
     words: &'a [String],
 ) -> Result<ArgMatches<'a>, Error> {
     let mut command = command_line(alloc, peer, version)?;
-    read_by(&mut command, peer.is_some(), words)
+    read_by(alloc, &mut command, peer.is_some(), words)
 }
 
 /// Reads the words by a command line, of a peer where it is one.
 fn read_by<'a>(
+    alloc: Global,
     command: &mut Command<'a>,
     is_peer: bool,
     words: &'a [String],
 ) -> Result<ArgMatches<'a>, Error> {
     let matches = command.try_get_matches_from_mut(words)?;
     match error_of(&matches, is_peer) {
-        Some((kind, text)) => Err(command.error(kind, text)?),
+        Some((kind, text)) if is_peer => Err(command.error(kind, text)?),
+        Some((kind, text)) => Err(pack_error(alloc, kind, text)?),
         None => Ok(matches),
     }
+}
+
+/// What is said of words of the command `pack`, with its usage.
+fn pack_error(alloc: Global, kind: ErrorKind, text: &str) -> Result<Error, AllocError> {
+    let mut pack = command::pack_command(alloc)?;
+    pack.error(kind, text)
 }
 
 /// What is wrong with the words beside what clap tests, if anything is.
@@ -326,6 +386,7 @@ fn list<C: Commands>(matches: &ArgMatches<'_>, commands: &mut C) -> u8 {
         sizes: has_flag(matches, "sizes"),
         names: has_flag(matches, "names"),
         columns: has_flag(matches, "columns"),
+        decompresses: has_flag(matches, "decompress"),
         json: has_flag(matches, "json"),
     };
     commands.list(word_of(matches, "file"), arguments)
@@ -350,6 +411,7 @@ fn find<C: Commands>(matches: &ArgMatches<'_>, commands: &mut C) -> u8 {
         id: word_of(matches, "id"),
         string: value_of(matches, "string"),
         section: value_of(matches, "section"),
+        decompresses: has_flag(matches, "decompress"),
         json: has_flag(matches, "json"),
     })
 }

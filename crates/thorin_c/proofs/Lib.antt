@@ -3,7 +3,6 @@ pub mod Looking
 pub mod PlainFiles
 pub mod Taking
 pub mod SplitHeaders
-pub mod Headers
 pub mod ByIndex
 pub mod RowsTold
 pub mod PlacesRead

@@ -1,6 +1,8 @@
 -- The places of sections that are read for each kind, and a package by them.
-use Rattle.std.proofs.Common.{◌≡◌, ℕ, List, refl}
-use Rattle.std.specs.Prelude.{Some, Result, Ok, Err, IfOk, slice_get}
+use Rattle.std.proofs.Common.{◌≡◌, ℕ, List, refl, Bool, true, false, cond, length}
+use Rattle.std.specs.Prelude.{nat_le, Option, Some, None, Result, Ok, Err, IfOk, IfSome, slice_get}
+use Rattle.std.specs.Prelude.{[]}
+use Rattle.std.specs.Prelude.{option_map, find}
 use Rattle.std.proofs.lemmas.Option.{get_or_from_slice_get}
 use Rattle.dwp_base.specs.ByKind.{value_of}
 use Rattle.dwp_base.specs.Reading.{Answers}
@@ -10,9 +12,13 @@ use Rattle.dwp_base.proofs.EveryKind.{value-of}
 use Rattle.dwp_base.proofs.KindsRead.{ReadBelow, read-all, answers-each}
 use Rattle.dwp_base.proofs.Steps.{each-read}
 use Rattle.dwp_elf_read.specs.Elf.{Elf, SectionMeaning, elf_of}
+use Rattle.dwp_elf_read.specs.View.{section}
 use Rattle.dwp_elf_read.specs.declared.error.ReadError.{ReadError}
-use Rattle.dwp_index.specs.Contents.{content, content_among, contents_of}
+use Rattle.dwp_elf_read.specs.declared.section.Section.{Section}
+use Rattle.dwp_index.specs.Contents.{content, content_among, contents_of, is_of_kind}
+use Rattle.dwp_index.specs.Contents.{bytes_of}
 use Rattle.dwp_index.specs.Package.{as_error, package_of}
+use Rattle.dwp_index.specs.declared.error.PackageError.{PackageError}
 use Rattle.dwp_index.specs.declared.error.PackageError.TheVariants as errors
 use Rattle.thorin_c.specs.Opening.{bytes_at, nowhere, IsPlaceIn, place_in, sections_at, order_of}
 use Rattle.thorin_c.specs.Opening.{package_in}
@@ -24,6 +30,34 @@ abbrev pub IsPlaceOf : List SectionMeaning → List ℕ → SectionKind → Resu
     → Type 0
 IsPlaceOf sections bytes kind place =
     Answers (bytes_at bytes) place (content_among sections kind) × IfOk place (IsPlaceIn bytes)
+
+-- the content of a kind is that of the section of the number that was met first
+pub located : (sections : List SectionMeaning) (kind : SectionKind) (met : Option (ℕ × Section))
+    (number : ℕ) (first : Section) (at : Option Section) → met ≡ Some (number, first)
+    → option_map (λ found. section found.1) met ≡ find (is_of_kind kind) sections
+    → IfSome met (λ found. slice_get sections found.0 ≡ Some (section found.1))
+    → option_map section at ≡ slice_get sections number
+    → content_among sections kind ≡ bytes_of kind (option_map section at)
+unfolding content_among
+located sections kind met number first at is firsts there of_number =
+    let among = rw is at firsts in
+    let there_is : slice_get sections number ≡ Some (section first) = rw is at there in
+    rw (← among, of_number, there_is) refl
+
+-- where none was met there are no bytes
+same_by : (b : Bool) (xs : List ℕ) → cond b xs xs ≡ xs
+same_by true xs = refl
+same_by false xs = refl
+
+pub unplaced : (sections : List SectionMeaning) (bytes : List ℕ) (kind : SectionKind)
+    (met : Option (ℕ × Section)) → met ≡ None
+    → option_map (λ found. section found.1) met ≡ find (is_of_kind kind) sections
+    → content_among sections kind ≡ Ok (bytes_at bytes nowhere)
+unfolding content_among
+unplaced sections bytes kind met is firsts =
+    let among = rw is at firsts in
+    let none : bytes_at bytes nowhere ≡ [] = same_by (nat_le 0 (length bytes)) [] in
+    rw (← among, none) refl
 
 -- what holds of what was read for each kind
 module _ (sections : List SectionMeaning) (bytes : List ℕ) (places : List ThorinRange)
@@ -76,3 +110,9 @@ pub package_by : (bytes : List ℕ) (places : ThorinPackage) (file : Elf)
     → order_of places.big_endian ≡ file.order → package_of bytes ≡ package_in places bytes
 unfolding package_of package_in
 package_by bytes places file read contents order = rw (read, contents, order) refl
+
+pub none_by : (bytes : List ℕ) (file : Elf) (e : PackageError)
+    → as_error errors.Elf (elf_of bytes) ≡ Ok file
+    → as_error errors.Elf (contents_of file.sections) ≡ Err e → package_of bytes ≡ Err e
+unfolding package_of
+none_by bytes file e read contents = rw (read, contents) refl

@@ -1,7 +1,6 @@
 pub mod ByIndex
 pub mod Errors
 pub mod Finding
-pub mod Headers
 pub mod Listing
 pub mod OpenedFields
 pub mod Opening

@@ -2,16 +2,18 @@
 
 ghost use Rattle.std.specs.Prelude.{◌≡◌, pos, Ok, map, take};
 ghost use Rattle.dwp_base.specs.Reading.{Answers};
-ghost use Rattle.dwp_index.specs.Package.{package_of, found_counted};
+ghost use Rattle.dwp_bytes.specs.Encoding.{offset_size};
+ghost use Rattle.dwp_index.specs.Package.{package_of};
 ghost use Rattle.thorin_c.specs.Finding.{object_of, section_of, as_status, range_of, ranges_of};
-ghost use Rattle.thorin_c.specs.Finding.{row_of, unit_of, unit_in, looked_up, looked, unit_found};
+ghost use Rattle.thorin_c.specs.Finding.{row_of, unit_of, looked, unit_found};
 ghost use Rattle.thorin_c.specs.Finding.{content_found, string_found, Fills, FillsEach};
 
-use crate::status::{
-    ABSENT, DONE, MALFORMED_STRING, NO_SUCH_KIND, NO_SUCH_SECTION, NO_SUCH_STRING, status_of,
-};
+use crate::inside::{thorin_content_in, thorin_string_in};
+use crate::opening::placed;
+use crate::status::{ABSENT, DONE, NO_SUCH_KIND, NO_SUCH_SECTION, status_of};
 use crate::types::{ThorinBytes, ThorinLookup, ThorinRange, ThorinUnit};
 use dwp_base::{Contribution, SectionKind};
+use dwp_bytes::Encoding;
 use dwp_index::{PackageFile, PackagedUnit, Row};
 use dwp_table::{CONTRIBUTION_KINDS, DebugTypeSignature, DwarfObject, DwoId};
 
@@ -47,6 +49,7 @@ pub extern "C" fn thorin_find_each(bytes: &[u8], lookups: &mut [ThorinLookup]) -
 
 /// Lends a unit's bytes in a section: `section` is 0 for `.debug_info.dwo` and so on in the order
 /// of `ThorinUnit`. Answers as `thorin_find`; or 7 for another section.
+#[tactic(auto, unfolding(crate::specs::Finding::content_found, crate::specs::Finding::looked_up))]
 #[unsafe(no_mangle)]
 pub extern "C" fn thorin_content<'a>(
     bytes: &'a [u8],
@@ -58,17 +61,15 @@ pub extern "C" fn thorin_content<'a>(
     ensures { Fills (λ lent. lent.bytes.now) (content_found (as_status (package_of bytes.now)) kind id
         section) found.old found.new result }
 {
-    match content(bytes, kind, id, section) {
-        Ok(content) => {
-            found.bytes = content;
-            DONE
-        }
-        Err(status) => status,
+    match placed(bytes) {
+        Ok(places) => thorin_content_in(&places, bytes, kind, id, section, found),
+        Err(error) => status_of(error),
     }
 }
 
 /// Lends the string of a number of a unit, by the unit's own encoding. Answers as `thorin_find`; or
 /// 8 past the last string, 9 where the string is malformed.
+#[tactic(auto, unfolding(crate::specs::Finding::string_found, crate::specs::Finding::looked_up))]
 #[unsafe(no_mangle)]
 pub extern "C" fn thorin_string<'a>(
     bytes: &'a [u8],
@@ -80,12 +81,9 @@ pub extern "C" fn thorin_string<'a>(
     ensures { Fills (λ lent. lent.bytes.now) (string_found (as_status (package_of bytes.now)) kind id
         index) found.old found.new result }
 {
-    match string(bytes, kind, id, index) {
-        Ok(string) => {
-            found.bytes = string;
-            DONE
-        }
-        Err(status) => status,
+    match placed(bytes) {
+        Ok(places) => thorin_string_in(&places, bytes, kind, id, index, found),
+        Err(error) => status_of(error),
     }
 }
 
@@ -95,39 +93,6 @@ pub(crate) fn open(bytes: &[u8]) -> Result<PackageFile<'_>, i32>
 {
     match PackageFile::parse(bytes) {
         Ok(file) => Ok(file),
-        Err(error) => Err(status_of(error)),
-    }
-}
-
-/// The unit of a name, and how many slots were looked at.
-#[tactic(auto, unfolding(crate::specs::Finding::looked_up))]
-fn look_up<'a>(bytes: &'a [u8], kind: u8, id: u64) -> Result<(PackagedUnit<'a>, u32), i32>
-    ensures { Answers (λ x. x) result (looked_up (as_status (package_of bytes.now)) kind id) }
-{
-    let file = open(bytes)?;
-    look_up_in(&file, kind, id)
-}
-
-#[tactic(auto, unfolding(crate::specs::Finding::unit_in))]
-fn look_up_in<'a>(file: &PackageFile<'a>, kind: u8, id: u64) -> Result<(PackagedUnit<'a>, u32), i32>
-    ensures { Answers (λ x. x) result (unit_in file.now kind id) }
-{
-    let object = object_of(kind, id)?;
-    let (unit, slots) = find_in(file, object)?;
-    match unit {
-        Some(unit) => Ok((unit, slots)),
-        None => Err(ABSENT),
-    }
-}
-
-fn find_in<'a>(
-    file: &PackageFile<'a>,
-    object: DwarfObject,
-) -> Result<(Option<PackagedUnit<'a>>, u32), i32>
-    ensures { Answers (λ x. x) result (as_status (found_counted file.now object)) }
-{
-    match file.find_counted(object) {
-        Ok(found) => Ok(found),
         Err(error) => Err(status_of(error)),
     }
 }
@@ -192,29 +157,6 @@ fn fill(file: &PackageFile<'_>, kind: u8, id: u64, found: &mut ThorinUnit) -> i3
     }
 }
 
-#[tactic(auto, unfolding(crate::specs::Finding::content_found))]
-fn content<'a>(bytes: &'a [u8], kind: u8, id: u64, section: u8) -> Result<&'a [u8], i32>
-    ensures { Answers (λ lent. lent.now) result (content_found (as_status (package_of bytes.now)) kind id
-        section) }
-{
-    let (unit, _) = look_up(bytes, kind, id)?;
-    let section = section_of(section)?;
-    Ok(unit.section(section))
-}
-
-#[tactic(auto, unfolding(crate::specs::Finding::string_found))]
-fn string<'a>(bytes: &'a [u8], kind: u8, id: u64, index: u64) -> Result<&'a [u8], i32>
-    ensures { Answers (λ lent. lent.now) result (string_found (as_status (package_of bytes.now)) kind id
-        index) }
-{
-    let (unit, _) = look_up(bytes, kind, id)?;
-    match unit.string(index) {
-        Ok(Some(string)) => Ok(string),
-        Ok(None) => Err(NO_SUCH_STRING),
-        Err(_) => Err(MALFORMED_STRING),
-    }
-}
-
 /// The name of a unit.
 pub(crate) fn object_of(kind: u8, id: u64) -> Result<DwarfObject, i32>
     ensures { result ≡ object_of kind id }
@@ -242,8 +184,19 @@ pub(crate) fn section_of(number: u8) -> Result<SectionKind, i32>
 fn write_unit(unit: &PackagedUnit<'_>, slots: u32, found: &mut ThorinUnit)
     ensures { found.new ≡ unit_of unit.now slots }
 {
-    let encoding = unit.encoding();
     write_row(unit.ranges(), unit.row(), slots, found);
+    write_encoding(unit.encoding(), found);
+}
+
+/// Writes an encoding.
+#[inline(always)]
+pub(crate) fn write_encoding(encoding: Encoding, found: &mut ThorinUnit)
+    ensures { found.new ≡ record found.old {
+      version = encoding.version;
+      offset_size = offset_size encoding.format;
+      address_size = encoding.address_size;
+    } }
+{
     found.version = encoding.version;
     found.offset_size = encoding.format.offset_size() as u8;
     found.address_size = encoding.address_size;

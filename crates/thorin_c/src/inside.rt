@@ -1,25 +1,22 @@
 //! The exports over a package that is open: they check their arguments and fill what the caller
 //! gave.
 
-ghost use Rattle.std.specs.Prelude.{◌≡◌, Ok};
+ghost use Rattle.std.specs.Prelude.{◌≡◌};
 ghost use Rattle.dwp_base.specs.Reading.{Answers};
-ghost use Rattle.dwp_base.specs.declared.endian.Endianness.TheVariants as orders;
-ghost use Rattle.dwp_bytes.specs.Encoding.{offset_size};
 ghost use Rattle.dwp_index.specs.Package.{found_counted};
-ghost use Rattle.thorin_c.specs.Finding.{as_status, unit_in, unit_of, unit_found, looked_up};
-ghost use Rattle.thorin_c.specs.Finding.{row_found, row_found_in, content_found, string_found};
+ghost use Rattle.thorin_c.specs.Finding.{as_status, unit_in, unit_found, looked_up};
+ghost use Rattle.thorin_c.specs.Finding.{row_found_in, content_found, string_found};
 ghost use Rattle.thorin_c.specs.Finding.{Fills};
 ghost use Rattle.thorin_c.specs.Listing.{count_in, Lists};
 ghost use Rattle.thorin_c.specs.Opening.{package_in, order_of};
 
-use crate::finding::{object_of, section_of, write_row};
+use crate::finding::{object_of, section_of, write_encoding, write_row};
 use crate::listing::list;
 use crate::opened::{Opened, order_of};
 use crate::status::{ABSENT, DONE, MALFORMED_STRING, NO_SUCH_STRING, status_of};
 use crate::types::{ThorinBytes, ThorinName, ThorinPackage, ThorinUnit};
 use crate::unit::Found;
 use dwp_base::Endianness;
-use dwp_bytes::Encoding;
 use dwp_table::DwarfObject;
 
 /// `thorin_find` in a package that is open: its sections are where `places` says, whatever that
@@ -37,11 +34,8 @@ pub extern "C" fn thorin_find_in(
         id) found.old found.new result }
 {
     match order_of(places.big_endian) {
-        Endianness::Little => find_unit(places, bytes, kind, id, found),
-        Endianness::Big => match opened(places, bytes) {
-            Ok(pack) => fill(&pack, kind, id, found),
-            Err(status) => status,
-        },
+        Endianness::Little => find_unit(places, bytes, Endianness::Little, kind, id, found),
+        Endianness::Big => find_unit(places, bytes, Endianness::Big, kind, id, found),
     }
 }
 
@@ -58,11 +52,8 @@ pub extern "C" fn thorin_find_row_in(
         id) found.old found.new result }
 {
     match order_of(places.big_endian) {
-        Endianness::Little => find_row(places, bytes, kind, id, found),
-        Endianness::Big => match opened(places, bytes) {
-            Ok(pack) => fill_row(&pack, kind, id, found),
-            Err(status) => status,
-        },
+        Endianness::Little => find_row(places, bytes, Endianness::Little, kind, id, found),
+        Endianness::Big => find_row(places, bytes, Endianness::Big, kind, id, found),
     }
 }
 
@@ -132,15 +123,22 @@ pub extern "C" fn thorin_list_in(
     }
 }
 
-/// `thorin_find_in` where numbers have their lowest byte first: all that it calls is compiled into
-/// it.
+/// `thorin_find_in` in the byte order of the package: all that it calls is compiled into it.
 #[tactic(auto, using(crate::proofs::RowsTold::unit_is_told))]
-fn find_unit(places: &ThorinPackage, bytes: &[u8], kind: u8, id: u64, found: &mut ThorinUnit) -> i32
-    requires { order_of places.now.big_endian ≡ orders.Little }
+#[inline(always)]
+fn find_unit(
+    places: &ThorinPackage,
+    bytes: &[u8],
+    order: Endianness,
+    kind: u8,
+    id: u64,
+    found: &mut ThorinUnit,
+) -> i32
+    requires { order ≡ order_of places.now.big_endian }
     ensures { Fills (λ unit. unit) (unit_found (as_status (package_in places.now bytes.now)) kind
         id) found.old found.new result }
 {
-    let pack = match Opened::at(places, bytes, Endianness::Little) {
+    let pack = match Opened::at(places, bytes, order) {
         Ok(pack) => pack,
         Err(error) => return status_of(error),
     };
@@ -158,14 +156,22 @@ fn find_unit(places: &ThorinPackage, bytes: &[u8], kind: u8, id: u64, found: &mu
     }
 }
 
-/// `thorin_find_row_in` where numbers have their lowest byte first, in the same way.
+/// `thorin_find_row_in` in the byte order of the package, in the same way.
 #[tactic(auto, using(crate::proofs::RowsTold::row_is_told))]
-fn find_row(places: &ThorinPackage, bytes: &[u8], kind: u8, id: u64, found: &mut ThorinUnit) -> i32
-    requires { order_of places.now.big_endian ≡ orders.Little }
+#[inline(always)]
+fn find_row(
+    places: &ThorinPackage,
+    bytes: &[u8],
+    order: Endianness,
+    kind: u8,
+    id: u64,
+    found: &mut ThorinUnit,
+) -> i32
+    requires { order ≡ order_of places.now.big_endian }
     ensures { Fills (λ unit. unit) (row_found_in (as_status (package_in places.now bytes.now)) kind
         id) found.old found.new result }
 {
-    let pack = match Opened::at(places, bytes, Endianness::Little) {
+    let pack = match Opened::at(places, bytes, order) {
         Ok(pack) => pack,
         Err(error) => return status_of(error),
     };
@@ -185,67 +191,6 @@ fn opened<'p, 'a>(places: &'p ThorinPackage, bytes: &'a [u8]) -> Result<Opened<'
         Ok(pack) => Ok(pack),
         Err(error) => Err(status_of(error)),
     }
-}
-
-/// Fills in the unit of a name.
-#[tactic(auto, unfolding(crate::specs::Finding::unit_in))]
-fn fill(pack: &Opened<'_, '_>, kind: u8, id: u64, found: &mut ThorinUnit) -> i32
-    ensures { Fills (λ unit. unit) (unit_found (Ok pack.now) kind id) found.old found.new
-        result }
-{
-    let object = match object_of(kind, id) {
-        Ok(object) => object,
-        Err(status) => return status,
-    };
-    match &pack.find_counted(object) {
-        Ok((Some(unit), slots)) => {
-            write_found(unit, *slots, found);
-            DONE
-        }
-        Ok((None, _)) => ABSENT,
-        Err(error) => status_of(*error),
-    }
-}
-
-/// Fills in the row of a name.
-#[tactic(auto, unfolding(crate::specs::Finding::row_found))]
-fn fill_row(pack: &Opened<'_, '_>, kind: u8, id: u64, found: &mut ThorinUnit) -> i32
-    ensures { Fills (λ unit. unit) (row_found pack.now kind id) found.old found.new result }
-{
-    let object = match object_of(kind, id) {
-        Ok(object) => object,
-        Err(status) => return status,
-    };
-    match &pack.find_row(object) {
-        Ok((Some((number, row)), slots)) => {
-            write_row(row, *number, *slots, found);
-            DONE
-        }
-        Ok((None, _)) => ABSENT,
-        Err(error) => status_of(*error),
-    }
-}
-
-/// Writes a unit with its ranges and its encoding.
-fn write_found(unit: &Found<'_, '_>, slots: u32, found: &mut ThorinUnit)
-    ensures { found.new ≡ unit_of unit.now slots }
-{
-    write_row(&unit.row, unit.number, slots, found);
-    write_encoding(unit.encoding, found);
-}
-
-/// Writes an encoding.
-#[inline(always)]
-fn write_encoding(encoding: Encoding, found: &mut ThorinUnit)
-    ensures { found.new ≡ record found.old {
-      version = encoding.version;
-      offset_size = offset_size encoding.format;
-      address_size = encoding.address_size;
-    } }
-{
-    found.version = encoding.version;
-    found.offset_size = encoding.format.offset_size() as u8;
-    found.address_size = encoding.address_size;
 }
 
 /// The unit of a name, and how many slots were looked at.

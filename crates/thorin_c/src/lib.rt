@@ -4,7 +4,6 @@
 
 mod error;
 mod finding;
-mod header;
 mod inside;
 mod listing;
 mod opened;

@@ -5,7 +5,7 @@ ghost use Rattle.std.specs.Option.{option_copied};
 ghost use Rattle.dwp_base.specs.Reading.{Answers};
 ghost use Rattle.dwp_index.specs.Entries.{units_left, entries_from};
 ghost use Rattle.dwp_index.specs.Package.{as_error, index_for, unit_in, encoding_in};
-ghost use Rattle.dwp_index.specs.Package.{found_counted, row_inside, row_counted};
+ghost use Rattle.dwp_index.specs.Package.{found_counted};
 ghost use Rattle.dwp_index.specs.declared.error.PackageError.TheVariants as errors;
 ghost use Rattle.thorin_c.specs.ByIndex.{row_named, row_asked, row_encoding};
 ghost use Rattle.thorin_c.specs.Opening.{package_in, order_of};
@@ -82,21 +82,6 @@ impl<'p, 'a> Opened<'p, 'a> {
         }
     }
 
-    /// The row of an identifier's unit, and how many slots were looked at.
-    #[tactic(auto, using(crate::proofs::ByIndex::row_is))]
-    pub(crate) fn find_row(
-        &self,
-        object: DwarfObject,
-    ) -> Result<(Option<(u32, Row<'a>)>, u32), PackageError>
-        ensures { Answers (λ x. x) result (row_counted self.now object) }
-    {
-        let (found, count) = self.row_named(object)?;
-        match found {
-            None => Ok((None, count)),
-            Some((number, row)) => self.row_inside(number, count, row),
-        }
-    }
-
     /// The units that the slots of both indexes name, in order of slot, those of the compilation
     /// index first.
     pub(crate) fn units(&self) -> Units<'_>
@@ -155,22 +140,6 @@ impl<'p, 'a> Opened<'p, 'a> {
         match object {
             DwarfObject::Compilation(_) => row_by(object, self.compilations.as_ref()),
             DwarfObject::TypeUnit(_) => row_by(object, self.types.as_ref()),
-        }
-    }
-
-    /// A row whose ranges lie inside their sections.
-    #[inline(always)]
-    fn row_inside(
-        &self,
-        number: u32,
-        count: u32,
-        row: Row<'a>,
-    ) -> Result<(Option<(u32, Row<'a>)>, u32), PackageError>
-        ensures { Answers (λ x. x) result (row_inside self.now number count row.entry) }
-    {
-        match self.sections.first_outside(&row) {
-            None => Ok((Some((number, row)), count)),
-            Some(kind) => Err(PackageError::Range(kind)),
         }
     }
 

@@ -1,9 +1,10 @@
 //! Where the sections of a package lie among its bytes.
 
-ghost use Rattle.std.specs.Prelude.{◌≡◌, pos, Ok, Some, IsTrue, IfOk, IfSome, find, slice_get};
+ghost use Rattle.std.specs.Prelude.{◌≡◌, pos, Err, Some, IfOk, IfErr, IfSome, find};
+ghost use Rattle.std.specs.Prelude.{slice_get};
 ghost use Rattle.dwp_base.specs.Reading.{Answers};
 ghost use Rattle.dwp_elf_read.specs.Elf.{elf_of};
-ghost use Rattle.dwp_elf_read.specs.View.{elf, section};
+ghost use Rattle.dwp_elf_read.specs.View.{elf, section, bytes_of, file_bytes};
 ghost use Rattle.dwp_index.specs.Contents.{is_of_kind, used_bytes, content_among, contents_of};
 ghost use Rattle.dwp_index.specs.Firsts.{first_in, found_in};
 ghost use Rattle.dwp_index.specs.Package.{as_error, package_of};
@@ -12,9 +13,7 @@ ghost use Rattle.thorin_c.specs.Opening.{bytes_at, order_of, sections_at, packag
 ghost use Rattle.thorin_c.specs.Opening.{IsPlaceIn, LieIn};
 ghost use Rattle.thorin_c.specs.Finding.{as_status, Fills};
 
-use crate::header::offset_of;
 use crate::opened::{Opened, order_of};
-use crate::sections::is_inside;
 use crate::status::{DONE, status_of};
 use crate::types::{ThorinPackage, ThorinRange};
 use dwp_base::{ByKind, Endianness, SectionKind};
@@ -43,23 +42,35 @@ pub extern "C" fn thorin_open(bytes: &[u8], places: &mut ThorinPackage) -> i32
 }
 
 /// The places of a package's sections, once its indexes are read.
-#[tactic(auto, unfolding(dwp_index::specs::Package::package_of))]
 fn places_of(bytes: &[u8]) -> Result<ThorinPackage, PackageError>
     ensures read { Answers (λ found. package_in found bytes.now) result
         (opened (package_of bytes.now)) }
     ensures inside { IfOk result (LieIn bytes.now) }
 {
-    let file = read_file(bytes)?;
-    let places = read_places(&file, bytes)?;
+    let places = placed(bytes)?;
     match Opened::at(&places, bytes, order_of(places.big_endian)) {
         Ok(_) => Ok(places),
         Err(error) => Err(error),
     }
 }
 
+/// The places of a package's sections, before its indexes are read.
+#[tactic(auto, unfolding(dwp_index::specs::Package::package_of))]
+pub(crate) fn placed(bytes: &[u8]) -> Result<ThorinPackage, PackageError>
+    ensures same { IfOk result (λ places. package_of bytes.now ≡ package_in places bytes.now) }
+    ensures fails { IfErr result (λ error. package_of bytes.now ≡ Err error) }
+    ensures inside { IfOk result (LieIn bytes.now) }
+{
+    let file = read_file(bytes)?;
+    match section_places(&file) {
+        Ok(places) => Ok(places),
+        Err(e) => Err(PackageError::Elf(e)),
+    }
+}
+
 fn read_file(bytes: &[u8]) -> Result<ElfFile<'_>, PackageError>
     ensures exact { Answers elf result (as_error errors.Elf (elf_of bytes.now)) }
-    ensures whole { IfOk result (λ file. elf_of bytes.now ≡ Ok (elf file)) }
+    ensures of_bytes { IfOk result (λ file. bytes_of file ≡ bytes.now) }
 {
     match ElfFile::parse(bytes) {
         Ok(file) => Ok(file),
@@ -67,32 +78,18 @@ fn read_file(bytes: &[u8]) -> Result<ElfFile<'_>, PackageError>
     }
 }
 
-fn read_places(file: &ElfFile<'_>, bytes: &[u8]) -> Result<ThorinPackage, PackageError>
-    requires { elf_of bytes.now ≡ Ok (elf file.now) }
-    ensures contents { Answers (λ places. sections_at places bytes.now) result
-        (as_error errors.Elf (contents_of (elf file.now).sections)) }
-    ensures order { IfOk result (λ places. order_of places.big_endian ≡ (elf file.now).order) }
-    ensures inside { IfOk result (LieIn bytes.now) }
-{
-    match section_places(file, bytes) {
-        Ok(places) => Ok(places),
-        Err(e) => Err(PackageError::Elf(e)),
-    }
-}
-
 /// The places of all sections, and the byte order.
 #[tactic(auto, unfolding(dwp_index::specs::Contents::contents_of))]
-fn section_places(file: &ElfFile<'_>, bytes: &[u8]) -> Result<ThorinPackage, ReadError>
-    requires { elf_of bytes.now ≡ Ok (elf file.now) }
-    ensures contents { Answers (λ places. sections_at places bytes.now) result
+fn section_places(file: &ElfFile<'_>) -> Result<ThorinPackage, ReadError>
+    ensures contents { Answers (λ places. sections_at places (bytes_of file.now)) result
         (contents_of (elf file.now).sections) }
     ensures order { IfOk result (λ places. order_of places.big_endian ≡ (elf file.now).order) }
-    ensures inside { IfOk result (LieIn bytes.now) }
+    ensures inside { IfOk result (LieIn (bytes_of file.now)) }
 {
     let firsts = first_sections(file);
     let mut sections = [NOWHERE; 13];
     for kind in &SectionKind::ALL {
-        match place(file, bytes, &firsts, *kind) {
+        match place(file, &firsts, *kind) {
             Ok(found) => sections[kind.rank() as usize] = found,
             Err(e) => return Err(e),
         }
@@ -114,52 +111,39 @@ fn number_of(order: Endianness) -> u64
 }
 
 /// The place of the section of a kind that was met first; of no bytes where there is none.
-#[tactic(auto, unfolding(dwp_index::specs::Contents::content_among))]
 fn place(
     file: &ElfFile<'_>,
-    bytes: &[u8],
     firsts: &ByKind<Option<(usize, Section<'_>)>>,
     kind: SectionKind,
 ) -> Result<ThorinRange, ReadError>
-    requires whole { elf_of bytes.now ≡ Ok (elf file.now) }
     requires first { first_in firsts.now kind ≡ find (is_of_kind kind) (elf file.now).sections }
     requires there { IfSome (found_in firsts.now kind) (λ found.
         slice_get (elf file.now).sections found.0 ≡ Some (section found.1)) }
-    requires filled { IfSome (found_in firsts.now kind) (λ found.
-        IsTrue (is_of_kind kind (section found.1))) }
-    ensures content { Answers (λ place. bytes_at bytes.now place) result
+    ensures content { Answers (bytes_at (bytes_of file.now)) result
         (content_among (elf file.now).sections kind) }
-    ensures inside { IfOk result (IsPlaceIn bytes.now) }
+    ensures inside { IfOk result (IsPlaceIn (bytes_of file.now)) }
 {
-    match firsts.get(kind) {
+    let Some((number, _)) = firsts.get(kind) else {
+        return Ok(NOWHERE);
+    };
+    match file.section(number) {
         None => Ok(NOWHERE),
-        Some((number, used)) => used_place(file, bytes, kind, number, &used),
+        Some(used) => used_place(&used, kind),
     }
 }
 
 /// The place of a section that is used.
 #[tactic(auto, unfolding(dwp_index::specs::Contents::used_bytes))]
-fn used_place(
-    file: &ElfFile<'_>,
-    bytes: &[u8],
-    kind: SectionKind,
-    number: usize,
-    used: &Section<'_>,
-) -> Result<ThorinRange, ReadError>
-    requires whole { elf_of bytes.now ≡ Ok (elf file.now) }
-    requires there { slice_get (elf file.now).sections number ≡ Some (section used.now) }
-    requires filled { IsTrue (is_of_kind kind (section used.now)) }
-    ensures content { Answers (λ place. bytes_at bytes.now place) result
+fn used_place(used: &Section<'_>, kind: SectionKind) -> Result<ThorinRange, ReadError>
+    ensures content { Answers (bytes_at (file_bytes used.now)) result
         (used_bytes kind (section used.now)) }
-    ensures inside { IfOk result (IsPlaceIn bytes.now) }
+    ensures inside { IfOk result (IsPlaceIn (file_bytes used.now)) }
 {
     if used.is_compressed() || used.has_older_name(kind) {
         return Err(ReadError::Compressed);
     }
-    let offset = offset_of(file, bytes, number);
-    let size = used.size();
-    if !is_inside(bytes, offset, size) {
-        return Err(ReadError::SectionRange);
+    match used.file_range() {
+        None => Err(ReadError::SectionRange),
+        Some((offset, size)) => Ok(ThorinRange { offset, size }),
     }
-    Ok(ThorinRange { offset, size })
 }

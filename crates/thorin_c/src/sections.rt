@@ -21,7 +21,7 @@ pub(crate) struct PlacedSections<'p, 'a> {
 
 /// Whether `size` bytes from a place on are inside the bytes.
 #[inline(always)]
-pub(crate) fn is_inside(bytes: &[u8], place: u64, size: u64) -> bool
+fn is_inside(bytes: &[u8], place: u64, size: u64) -> bool
     ensures { result ≡ is_inside bytes.now place size }
 {
     let len = bytes.len() as u64;
@@ -30,7 +30,7 @@ pub(crate) fn is_inside(bytes: &[u8], place: u64, size: u64) -> bool
 
 /// The bytes of a place; none where it isn't inside.
 #[inline(always)]
-pub(crate) fn bytes_at(bytes: &[u8], place: ThorinRange) -> &[u8]
+fn bytes_at(bytes: &[u8], place: ThorinRange) -> &[u8]
     ensures { result.now ≡ bytes_at bytes.now place }
 {
     if !is_inside(bytes, place.offset, place.size) {

@@ -1,7 +1,7 @@
 -- What was checked.
 use Rattle.std.proofs.Common.{◌≡◌, ℕ, zero, suc, get_or, ◌<◌, Bool, true, false, List, [], ◌∷◌}
 use Rattle.std.proofs.Common.{Option, Result, Ok, Err, Bor, refl, length, inl, inr, arith}
-use Rattle.std.proofs.Common.{append_assoc}
+use Rattle.std.proofs.Common.{append_assoc, subst}
 use Rattle.std.specs.declared.io.Error.{Error as IoError}
 use Rattle.std.proofs.KnownBytes.{Appends-trans, Keeps-refl}
 use Rattle.dwp_index.specs.Package.{Package}
@@ -10,20 +10,21 @@ use Rattle.dwp_index.specs.declared.units.UnitEntry.{UnitEntry}
 use Rattle.thorin_executable.specs.Skeletons.{skeletons_by}
 use Rattle.thorin_find.specs.Files.{Offer, FailsToRead}
 use Rattle.thorin_find.specs.Listing.{has_no_index}
-use Rattle.thorin_check.specs.Checking.{Executables, TellsTaken, TellsExecutable}
+use Rattle.thorin_check.specs.Executables.{Executables}
+use Rattle.thorin_check.specs.Checking.{TellsExecutable}
 use Rattle.thorin_check.specs.Checking.{TellsPackage, FailsOne, IsOfReading, IsOfChecking}
 use Rattle.thorin_check.specs.Checking.{Finishes}
 use Rattle.thorin_check.specs.Checking.{ChecksIndexed, ChecksPackage, ChecksBytes, Checks}
-use Rattle.thorin_check.specs.Faults.{TellsListed}
+use Rattle.thorin_check.specs.Faults.{TellsNamed}
 use Rattle.thorin_find.specs.Listing.{AreByRow}
-use Rattle.thorin_inputs.specs.Plain.{IsPlainOf}
 use Rattle.thorin_print.specs.Answers.{IsOfPrinting, Grows, Outcome}
 use Rattle.thorin_check.specs.Telling.{fault_count, Progress, Told}
 use Rattle.thorin_check.specs.Telling.{TellsOr, Tells}
 use Rattle.thorin_check.specs.declared.executables.Reading.{Reading}
 use Rattle.thorin_print.specs.declared.output.Failure.{Failure}
 use Rattle.thorin_print.specs.declared.output.Failure.TheVariants as failures
-use Rattle.thorin_check.proofs.Told.{told_as, tells_as, stopped_behind, counted_from}
+use Rattle.thorin_check.proofs.Told.{told_as, stopped_behind, counted_from}
+use Rattle.thorin_check.proofs.Sound.{no_fault_told, no_fault, some_fault}
 use Rattle.thorin_print.proofs.Printed.{none_grown}
 
 module _ (offer : Offer) where
@@ -53,28 +54,13 @@ module _ (offer : Offer) where
 
   pub executable_read : (reading : Reading) (pack : Package) (executable : List ℕ)
       (a b : Progress) (result : Outcome) (bytes lent : List ℕ) → offer executable (Ok bytes)
-      → lent ≡ bytes → Tells (TellsTaken reading pack executable lent) a b result
+      → lent ≡ bytes
+      → Tells (TellsNamed pack executable (skeletons_by reading.nameless lent)) a b result
       → TellsOr (IsOfReading offer executable)
       (TellsExecutable offer reading pack executable) a b result
   executable_read reading pack executable a b (Ok done) bytes lent read same t =
       told_as t (λ faults k. record { bytes = bytes; read = read; tells = rw same at k })
   executable_read reading pack executable a b (Err failure) bytes lent read same t = grind (arith)
-
--- ---- what is taken for an executable
-
-module _ (reading : Reading) (pack : Package) (executable bytes : List ℕ) (a b : Progress) where
-  pub taken_as_it_is : (result : Outcome) → reading.decompresses ≡ false
-      → Tells (TellsListed pack executable (skeletons_by reading.nameless bytes)) a b result
-      → Tells (TellsTaken reading pack executable bytes) a b result
-  taken_as_it_is result e =
-      tells_as a b result (λ faults k. record { taken = bytes; is_taken = rw e refl; listed = k })
-
-  pub taken_plain : (result : Outcome) (plain lent : List ℕ) → reading.decompresses ≡ true
-      → IsPlainOf bytes plain → lent ≡ plain
-      → Tells (TellsListed pack executable (skeletons_by reading.nameless lent)) a b result
-      → Tells (TellsTaken reading pack executable bytes) a b result
-  taken_plain result plain lent e is same t = tells_as a b result
-      (λ faults k. record { taken = plain; is_taken = rw e is; listed = rw same at k }) t
 
 -- ---- a package
 
@@ -90,6 +76,7 @@ module _ (offer : Offer) (executables : Executables) where
       omega (arith, rw begun at t.counted, counted_from 0 t.faults (omega arith)) in
       let last = rw (t.formed, formed) at f.0 in
       let split = rw formed at t.split in
+      let status_is = rw all at f.1 in
       let printed = Appends-trans a.written b.written c t.handed _ t.added last in
       record {
         entries = entries;
@@ -97,7 +84,11 @@ module _ (offer : Offer) (executables : Executables) where
         faults = t.faults;
         told = t.are;
         printed = rw (← append_assoc, ← split, none, all) at printed;
-        status_is = rw all at f.1;
+        status_is = status_is;
+        sound = λ good. no_fault_told offer executables pack entries by_row
+            (subst (TellsPackage offer executables pack entries)
+            (no_fault t.faults status status_is good) t.are);
+        faulty = some_fault t.faults status status_is;
       }
   checked pack entries a b c (Err failure) by_row formed none begun t f =
       stopped_behind c t (of_printing offer executables.paths failure f.0, f.1)

@@ -4,7 +4,6 @@ use Rattle.std.proofs.Common.{Option, Some, None, is_none, Result, Ok, Err, IfOk
 use Rattle.std.proofs.Common.{string_bytes, Global, decimal, refl, sym, inl, inr, arith}
 use Rattle.std.specs.Result.{result_err}
 use Rattle.std.proofs.KnownBytes.{Appends-trans}
-use Rattle.std.proofs.lemmas.List.{map-append}
 use Rattle.dwp_base.specs.declared.section.SectionKind.{SectionKind}
 use Rattle.dwp_base.specs.declared.section.SectionKind.TheVariants.{Abbrev}
 use Rattle.dwp_bytes.specs.declared.error.ReadError.{ReadError}
@@ -17,7 +16,7 @@ use Rattle.thorin_check.specs.Checking.{TellsSomeStrings}
 use Rattle.thorin_check.specs.Faults.{TellsText, IsTextOf, IsSomeText, IsUnreadText}
 use Rattle.thorin_check.specs.Faults.{IsOwnText, TellsOwn, TellsItself, TellsFound, TellsUnit}
 use Rattle.thorin_check.specs.Faults.{has_abbreviations, string_text, TellsString, TellsStrings}
-use Rattle.thorin_check.specs.Faults.{TellsStringsOf, TellsWhat, row_text, AreRows, IsBroken}
+use Rattle.thorin_check.specs.Faults.{TellsStringsOf, TellsWhat, IsBroken}
 use Rattle.thorin_check.specs.Overlaps.{IsClash, overlap_text}
 use Rattle.thorin_print.specs.Answers.{Outcome}
 use Rattle.thorin_print.specs.Shown.{shown}
@@ -26,7 +25,7 @@ use Rattle.thorin_check.specs.Rendering.{FaultValue, of_unit, of_package, of_exe
 use Rattle.thorin_check.specs.Telling.{Progress, Told, Tells, IsFault, ForEach}
 use Rattle.thorin_print.specs.Answers.{IsOfPrinting, Grows}
 use Rattle.thorin_print.specs.declared.output.Failure.{Failure}
-use Rattle.thorin_check.proofs.Told.{none_told, tells_as, then_or}
+use Rattle.thorin_check.proofs.Told.{tells_as}
 
 -- ---- texts
 
@@ -119,26 +118,6 @@ pub is_own_text : {E : Type 0} (text : Result (String Global) E) (rest : List �
     → IfOk text (λ t. IsOwnText (string_bytes t))
 is_own_text (Ok t) rest e = inr (rest, e)
 is_own_text (Err cause) rest e = tt
-
--- ---- rows
-
-pub no_rows : (kind : List ℕ) (a : Progress) → Told (AreRows kind) a a
-no_rows kind a = none_told (AreRows kind) ([], refl) a
-
-pub rows_then : (kind : List ℕ) (ls ms : List FaultValue) → AreRows kind ls → AreRows kind ms
-    → AreRows kind (ls ++ ms)
-rows_then kind ls ms h k =
-    (h.0 ++ k.0, rw (h.1, k.1) (sym (map-append (λ row. of_package (row_text kind row)) h.0 k.0)))
-
--- one more row, of which a text was made
-pub row_or : {E : Type 0} (kind : List ℕ) (row : ℕ) {a b : Progress} (c : Progress)
-    (text : Result (String Global) E) (result : Outcome) → Told (AreRows kind) a b
-    → IfOk text (λ t. string_bytes t ≡ row_text kind row) → TellsWhat text b c result
-    → Tells (AreRows kind) a c result
-row_or kind row {a} {b} c text result p e q =
-    then_or (AreRows kind) (IsFault (of_package (row_text kind row))) IsOfPrinting a b c
-    (AreRows kind) (λ ls ms h k. rows_then kind ls ms h (row ∷ [], k)) result p
-    (what_told (row_text kind row) text b c result e q)
 
 -- ---- executables
 

@@ -1,6 +1,9 @@
 pub mod Checked
 pub mod Faulted
+pub mod FoundUnits
+pub mod NamedRows
 pub mod Reached
 pub mod Rendered
 pub mod Skeletons
+pub mod Sound
 pub mod Told

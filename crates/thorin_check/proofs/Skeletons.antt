@@ -9,11 +9,11 @@ use Rattle.thorin_errors.specs.Errors.{ErrorValue, error_of}
 use Rattle.thorin_errors.specs.declared.error.Error.{Error}
 use Rattle.thorin_errors.specs.declared.error.Error.TheVariants.{Memory}
 use Rattle.thorin_check.specs.Faults.{missing_text, missing_faults, IsBroken, TellsEnd}
-use Rattle.thorin_check.specs.Faults.{TellsListed, TellsNext, answering}
-use Rattle.thorin_print.specs.Answers.{Outcome}
+use Rattle.thorin_check.specs.Faults.{TellsListed, TellsNamed, TellsNext, answering, bare_fault}
+use Rattle.thorin_print.specs.Answers.{Outcome, IsOfPrinting}
 use Rattle.thorin_check.specs.Rendering.{FaultValue, of_unit}
-use Rattle.thorin_check.specs.Telling.{Progress, Told, Tells, Is}
-use Rattle.thorin_check.proofs.Told.{none_told, told_then}
+use Rattle.thorin_check.specs.Telling.{Progress, Told, Tells, Is, IsFault}
+use Rattle.thorin_check.proofs.Told.{none_told, told_then, then_or}
 
 module _ (executable : List ℕ) (named : Named)
     (looked : Result (Option FoundUnit) PackageError) where
@@ -99,3 +99,36 @@ module _ (pack : Package) (executable : List ℕ) where
   next_broken before after a b error (Ok done) aside known t =
       read_broken before a b error (Ok done) aside known t
   next_broken before after a b error (Err failure) aside known t = t
+
+  -- ---- the units of an executable
+
+  -- some are left behind the first of them
+  named_listed : (listed after : Listed) (first : Named) → listed ≡ (first ∷ after.0, after.1)
+      → (faults : List FaultValue) → TellsListed pack executable (first ∷ after.0, after.1) faults
+      → TellsNamed pack executable listed faults
+  named_listed listed after first e faults t = rw e t
+
+  pub named_first : (listed after : Listed) (a b c : Progress) (first : Named) (result : Outcome)
+      → listed ≡ (first ∷ after.0, after.1)
+      → Told (Is (missing_faults executable first (found pack first.0))) a b
+      → Tells (TellsListed pack executable after) b c result
+      → Tells (TellsNamed pack executable listed) a c result
+  named_first listed after a b c first result e p q =
+      then_or (Is (missing_faults executable first (found pack first.0)))
+      (TellsListed pack executable after) IsOfPrinting a b c (TellsNamed pack executable listed)
+      (λ ls ms k t. named_listed listed after first e (ls ++ ms)
+      (record { ended = t.ended; end = t.end; all = rw (t.all, k, append_assoc) refl }))
+      result p q
+
+  -- the error that they begin with was told
+  pub named_broken : (listed : Listed) (a b : Progress) (error : Error) (result : Outcome)
+      → MemoryAside error (listed ≡ ([], Some (error_of error)))
+      → OnOk result (error ≢ Memory) → Tells (IsBroken executable) a b result
+      → Tells (TellsNamed pack executable listed) a b result
+  named_broken listed a b error result aside known h = grind (arith, read_broken listed)
+
+  -- there are none
+  pub named_none : (listed : Listed) (a b : Progress) (result : Outcome) → listed ≡ ([], None)
+      → Tells (IsFault (bare_fault executable)) a b result
+      → Tells (TellsNamed pack executable listed) a b result
+  named_none listed a b result e h = rw e h

@@ -1,5 +1,5 @@
 -- What `check` prints.
-use Rattle.std.specs.Prelude.{◌≡◌, ◌⊎◌, ℕ, Bool, true, false, not, ◌&&◌, ◌==◌, List, [], ◌∷◌, ◌++◌}
+use Rattle.std.specs.Prelude.{◌≡◌, ◌≢◌, ◌⊎◌, ℕ, Bool, true, false, ◌==◌, List, [], ◌∷◌, ◌++◌}
 use Rattle.std.specs.Prelude.{codes, length, if◌then◌else◌, Option, Result, Ok, Err}
 use Rattle.std.specs.Borrow.{Bor}
 use Rattle.std.specs.List.{flat_map}
@@ -7,7 +7,7 @@ use Rattle.std.specs.declared.io.Error.{Error as IoError}
 use Rattle.std.specs.Io.KnownBytes.{Appends, Keeps}
 use Rattle.dwp_base.specs.Sections.{name_of}
 use Rattle.dwp_base.specs.declared.section.SectionKind.{SectionKind}
-use Rattle.dwp_base.specs.declared.section.SectionKind.TheVariants.{Abbrev, Str, StrOffsets}
+use Rattle.dwp_base.specs.declared.section.SectionKind.TheVariants.{Abbrev, Str}
 use Rattle.dwp_index.specs.Package.{Package, package_of, found}
 use Rattle.dwp_index.specs.declared.error.PackageError.{PackageError}
 use Rattle.dwp_index.specs.declared.units.UnitEntry.{UnitEntry}
@@ -16,16 +16,16 @@ use Rattle.thorin_executable.specs.Skeletons.{skeletons_by}
 use Rattle.thorin_find.specs.Files.{Offer, RefusesFile}
 use Rattle.thorin_print.specs.declared.form.Form.{Form}
 use Rattle.thorin_check.specs.Rendering.{FaultValue, of_package, fault_text, totals_text}
-use Rattle.thorin_check.specs.Faults.{TellsUnit, TellsStringsOf, AreRows, TellsListed}
+use Rattle.thorin_check.specs.Faults.{TellsUnit, TellsStringsOf, TellsRowsOf, row_end, TellsNamed}
+use Rattle.thorin_check.specs.Faults.{lacks_abbreviations, lacks_strings}
 use Rattle.thorin_find.specs.Listing.{AreByRow, has_no_index}
-use Rattle.thorin_inputs.specs.Plain.{IsPlainOf}
 use Rattle.thorin_print.specs.Answers.{Grows, IsOfPrinting}
 use Rattle.thorin_check.specs.Telling.{InTurn, ForEach, Is, fault_count}
-use Rattle.thorin_check.specs.declared.executables.Named.{Named}
+use Rattle.thorin_check.specs.Executables.{Executables}
+use Rattle.thorin_check.specs.Sound.{IsSound}
 use Rattle.thorin_check.specs.declared.executables.Reading.{Reading}
 use Rattle.thorin_print.specs.declared.output.Failure.{Failure}
 use Rattle.thorin_print.specs.declared.output.Failure.TheVariants as failures
-use Rattle.dwp_index.specs.Contents.{content}
 
 -- the status: 1 where there are faults
 abbrev pub status_of : (faults : ℕ) → ℕ
@@ -44,22 +44,10 @@ TellsUnits pack entries =
     InTurn (ForEach (TellsUnit pack) entries) (TellsSomeStrings pack)
 
 -- what is told of the rows of both indexes
-abbrev pub TellsRows : List FaultValue → Type 0
-TellsRows = InTurn (AreRows (codes "cu")) (AreRows (codes "tu"))
-
--- a package that has units has no section of abbreviations, or an empty one. Every unit needs
--- abbreviations (DWARF 5, 7.5.3), and packing refuses a package without them
-abbrev pub lacks_abbreviations : Package → List UnitEntry → Bool
-lacks_abbreviations pack entries =
-    not (length entries == 0) && (length (content pack.contents Abbrev) == 0)
-
--- a package that has string offsets (DWARF 5, 7.26) has no section of strings, or an empty one. The
--- standard allows it where no offset names a string; but packing refuses such a package, or the one
--- that it makes of it
-abbrev pub lacks_strings : Package → Bool
-lacks_strings pack =
-    not (length (content pack.contents StrOffsets) == 0) &&
-    (length (content pack.contents Str) == 0)
+abbrev pub TellsRows : Package → List UnitEntry → List FaultValue → Type 0
+TellsRows pack entries =
+    InTurn (TellsRowsOf (codes "cu") false (row_end pack.compilations) entries)
+    (TellsRowsOf (codes "tu") true (row_end pack.types) entries)
 
 unfoldable pub lacking_text : SectionKind → List ℕ
 lacking_text kind = name_of kind ++ codes " is empty or absent"
@@ -74,50 +62,29 @@ TellsSections no_abbreviations no_strings =
     InTurn (Is (lacking_faults Abbrev no_abbreviations)) (Is (lacking_faults Str no_strings))
 
 -- the same, and what is told of the rows
-abbrev pub TellsTables : (no_abbreviations no_strings : Bool) → List FaultValue → Type 0
-TellsTables no_abbreviations no_strings =
-    InTurn (TellsSections no_abbreviations no_strings) TellsRows
-
--- what is taken for the bytes of an executable: these, or decompressed ones where that is asked for
-abbrev pub IsTaken : (decompresses : Bool) → (bytes taken : List ℕ) → Type 0
-IsTaken false bytes taken = taken ≡ bytes
-IsTaken true bytes taken = IsPlainOf bytes taken
-
--- what is told of an executable with these bytes
-pub record TellsTaken (reading : Reading) (pack : Package) (executable bytes : List ℕ)
-    (faults : List FaultValue) : Type 0 where
-  pub taken : List ℕ
-  pub is_taken : IsTaken reading.decompresses bytes taken
-  pub listed : TellsListed pack executable (skeletons_by reading.nameless taken) faults
+abbrev pub TellsTables : Package → List UnitEntry → List FaultValue → Type 0
+TellsTables pack entries =
+    InTurn (TellsSections (lacks_abbreviations pack entries) (lacks_strings pack))
+    (TellsRows pack entries)
 
 -- what is told of the executable at a path
 pub record TellsExecutable (offer : Offer) (reading : Reading) (pack : Package)
     (executable : List ℕ) (faults : List FaultValue) : Type 0 where
   pub bytes : List ℕ
   pub read : offer executable (Ok bytes)
-  pub tells : TellsTaken reading pack executable bytes faults
+  pub tells : TellsNamed pack executable (skeletons_by reading.nameless bytes) faults
 
 abbrev pub TellsExecutables : Offer → (reading : Reading) → Package → List (Bor (List ℕ))
     → List FaultValue → Type 0
 TellsExecutables offer reading pack executables =
     ForEach (λ executable. TellsExecutable offer reading pack executable.now) executables
 
--- the executables whose units a package is to have: their paths, and how they are read; and how
--- faults are printed
-pub record Executables : Type 0 where
-  pub paths : List (Bor (List ℕ))
-  pub reading : Reading
-
--- those at hand
-abbrev pub executables_of : Named → Executables
-executables_of named = record { paths = named.executables.now; reading = named.reading }
-
 -- all that is told of a package: of its units, its abbreviations, its strings, its rows, and the
 -- units that executables name
 abbrev pub TellsPackage : Offer → Executables → Package → List UnitEntry → List FaultValue → Type 0
 TellsPackage offer executables pack entries =
     InTurn (TellsUnits pack entries)
-    (InTurn (TellsTables (lacks_abbreviations pack entries) (lacks_strings pack))
+    (InTurn (TellsTables pack entries)
     (TellsExecutables offer executables.reading pack executables.paths))
 
 -- ---- what comes of it
@@ -155,7 +122,8 @@ abbrev pub Finishes : Form → (units faults : ℕ) → (old : Option (List ℕ)
 Finishes form units faults old held new result =
     PrintsLast faults (held ++ totals_text form units faults) old new result
 
--- a package was checked: all faults were printed, and behind them the totals
+-- a package was checked: all faults were printed, and behind them the totals. The status is 0 only
+-- where the package is sound, and 1 only where there is a fault
 pub record Checked (offer : Offer) (executables : Executables) (pack : Package)
     (old new : Option (List ℕ)) (status : ℕ) : Type 0 where
   pub entries : List UnitEntry
@@ -166,6 +134,8 @@ pub record Checked (offer : Offer) (executables : Executables) (pack : Package)
       (flat_map (fault_text executables.reading.form) faults
       ++ totals_text executables.reading.form (length entries) (fault_count faults))
   pub status_is : status ≡ status_of (fault_count faults)
+  pub sound : status ≡ 0 → IsSound offer executables pack
+  pub faulty : status ≡ 1 → faults ≢ []
 
 -- the same, or it stopped, and something was printed or nothing
 abbrev pub ChecksIndexed : Offer → Executables → Package → (old new : Option (List ℕ))

@@ -1,25 +1,27 @@
 -- The faults of a package that `check` tells.
-use Rattle.std.specs.Prelude.{◌≡◌, ◌≢◌, ◌⊎◌, ℕ, Bool, true, false, not, ◌&&◌, ◌==◌, List, [], ◌∷◌}
+use Rattle.std.specs.Prelude.{◌≡◌, ◌≢◌, ◌⊎◌, ℕ, ◌+◌, ◌-◌, ◌<◌, Bool, true, false, not, ◌&&◌, ◌==◌}
+use Rattle.std.specs.Prelude.{List, [], ◌∷◌}
 use Rattle.std.specs.Prelude.{◌++◌, codes, map, length, Option, Some, None, is_none, Result, Ok}
 use Rattle.std.specs.Prelude.{Err, String, string_bytes}
 use Rattle.std.specs.Fmt.{decimal}
 use Rattle.std.specs.Global.{Global}
-use Rattle.std.specs.List.{flat_map, range_with_len}
+use Rattle.std.specs.List.{All, Contains, flat_map, range_with_len}
 use Rattle.dwp_base.specs.Sections.{name_of}
 use Rattle.dwp_base.specs.declared.section.SectionKind.{SectionKind}
-use Rattle.dwp_base.specs.declared.section.SectionKind.TheVariants.{Abbrev}
+use Rattle.dwp_base.specs.declared.section.SectionKind.TheVariants.{Abbrev, Str, StrOffsets}
 use Rattle.dwp_bytes.specs.declared.error.ReadError.{ReadError}
-use Rattle.dwp_index.specs.Index.{range_in}
+use Rattle.dwp_index.specs.Index.{Index, range_in}
 use Rattle.dwp_index.specs.Package.{Package, FoundUnit, found}
 use Rattle.dwp_index.specs.declared.error.PackageError.{PackageError}
 use Rattle.dwp_index.specs.declared.error.PackageError.TheVariants.{Range}
 use Rattle.dwp_index.specs.declared.units.UnitEntry.{UnitEntry}
 use Rattle.dwp_table.specs.declared.object.DwarfObject.{DwarfObject}
+use Rattle.dwp_table.specs.declared.object.DwarfObject.TheVariants.{Compilation, TypeUnit}
 use Rattle.thorin_executable.specs.Skeletons.{Named, Listed}
 use Rattle.thorin_errors.specs.Errors.{ErrorValue}
 use Rattle.thorin_find.specs.Finding.{string_count, string_of}
 use Rattle.thorin_check.specs.Overlaps.{IsClash, overlap_text}
-use Rattle.thorin_print.specs.Shown.{shown}
+use Rattle.thorin_print.specs.Shown.{shown, shown_briefly}
 use Rattle.thorin_print.specs.Answers.{Outcome, Grows}
 use Rattle.thorin_check.specs.Rendering.{FaultValue, of_unit, of_package, of_executable}
 use Rattle.thorin_check.specs.Telling.{Progress, Is, IsNone, IsFault, ForEach}
@@ -111,6 +113,20 @@ TellsItself pack object unit faults = TellsOverlap pack object unit faults ⊎ T
 abbrev pub has_abbreviations : Package → Bool
 has_abbreviations pack = not (length (content pack.contents Abbrev) == 0)
 
+-- a package that has units has no section of abbreviations, or an empty one. Every unit needs
+-- abbreviations (DWARF 5, 7.5.3), and packing refuses a package without them
+abbrev pub lacks_abbreviations : Package → List UnitEntry → Bool
+lacks_abbreviations pack entries =
+    not (length entries == 0) && (length (content pack.contents Abbrev) == 0)
+
+-- a package that has string offsets (DWARF 5, 7.26) has no section of strings, or an empty one. The
+-- standard allows it where no offset names a string; but packing refuses such a package, or the one
+-- that it makes of it
+abbrev pub lacks_strings : Package → Bool
+lacks_strings pack =
+    not (length (content pack.contents StrOffsets) == 0) &&
+    (length (content pack.contents Str) == 0)
+
 -- the row of a unit has no abbreviations, though the package has some: every unit's header names
 -- some (DWARF 5, 7.5.1.1)
 abbrev pub is_bare : Package → FoundUnit → Bool
@@ -176,16 +192,53 @@ TellsStringsOf object _ faults = IsNone faults
 unfoldable pub row_text : (kind : List ℕ) → ℕ → List ℕ
 row_text kind row = kind ++ (codes " row " ++ (decimal row ++ codes ": no slot names it"))
 
--- faults of rows
-abbrev pub AreRows : (kind : List ℕ) → List FaultValue → Type 0
-AreRows kind faults = (rows : List ℕ) × (faults ≡ map (λ row. of_package (row_text kind row)) rows)
+-- the fault of a row that no slot names
+abbrev pub row_fault : (kind : List ℕ) → ℕ → FaultValue
+row_fault kind row = of_package (row_text kind row)
+
+-- those of the rows from one up to another
+abbrev pub row_faults : (kind : List ℕ) → (first end : ℕ) → List FaultValue
+row_faults kind first end = map (row_fault kind) (range_with_len first (end - first))
+
+-- an object is a type unit, or a compilation unit
+abbrev pub is_of : (is_types : Bool) → DwarfObject → Bool
+is_of false (Compilation id) = true
+is_of false (TypeUnit signature) = false
+is_of true (Compilation id) = false
+is_of true (TypeUnit signature) = true
+
+-- one of the slots names a row of an index
+pub record IsNamed (slots : List UnitEntry) (is_types : Bool) (row : ℕ) : Type 0 where
+  pub slot : UnitEntry
+  pub is_slot : Contains slots slot
+  pub is_kind : is_of is_types slot.object ≡ true
+  pub is_row : slot.row ≡ row
+
+-- a row is one of those before an end, and no slot names it
+abbrev pub IsUnnamed : List UnitEntry → (is_types : Bool) → (end row : ℕ) → Type 0
+IsUnnamed slots is_types end row =
+    (0 < row) × (row < end) × (IsNamed slots is_types row → ⊥)
+
+-- faults of rows of an index: of each row that no slot names, and of no other
+pub record TellsRowsOf (kind : List ℕ) (is_types : Bool) (end : ℕ) (slots : List UnitEntry)
+    (faults : List FaultValue) : Type 0 where
+  pub rows : List ℕ
+  pub are : faults ≡ map (row_fault kind) rows
+  pub unnamed : All (IsUnnamed slots is_types end) rows
+  pub others : (row : ℕ) → 0 < row → row < end → Contains rows row ⊎ IsNamed slots is_types row
+
+-- the number behind that of the last row of an index; rows count from 1
+abbrev pub row_end : Option Index → ℕ
+row_end None = 1
+row_end (Some index) = length index.offsets + 1
 
 -- ---- executables
 
 -- what is told of a unit that an executable names and the package lacks
 abbrev pub missing_text : (executable path : List ℕ) → List ℕ
 missing_text executable path =
-    codes "not in the package, " ++ (shown executable ++ (codes " names " ++ shown path))
+    codes "not in the package, "
+    ++ (shown_briefly executable ++ (codes " names " ++ shown_briefly path))
 
 abbrev pub missing_faults : (executable : List ℕ) → Named → Result (Option FoundUnit) PackageError
     → List FaultValue
@@ -208,6 +261,15 @@ pub record TellsListed (pack : Package) (executable : List ℕ) (listed : Listed
   pub end : TellsEnd executable listed.1 ended
   pub all : faults ≡ flat_map (λ named. missing_faults executable named (found pack named.0))
       listed.0 ++ ended
+
+-- an executable that can be read names no split unit: nothing of it was split, or it was stripped
+abbrev pub bare_fault : (executable : List ℕ) → FaultValue
+bare_fault executable = of_executable (shown executable) (codes "no split units")
+
+-- what is told of an executable: the same, or what is told of the units that it names
+abbrev pub TellsNamed : Package → (executable : List ℕ) → Listed → List FaultValue → Type 0
+TellsNamed pack executable ([], None) faults = IsFault (bare_fault executable) faults
+TellsNamed pack executable listed faults = TellsListed pack executable listed faults
 
 -- the first of the units that are left was told of
 pub record TellsFirst (pack : Package) (executable : List ℕ) (before after : Listed)

@@ -1,6 +1,9 @@
 pub mod Checking
 pub mod Ends
+pub mod Executables
 pub mod Faults
 pub mod Overlaps
 pub mod Rendering
+pub mod Rows
+pub mod Sound
 pub mod Telling

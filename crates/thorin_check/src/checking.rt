@@ -6,7 +6,7 @@ ghost use Rattle.thorin_check.specs.Checking.{status_of};
 ghost use Rattle.thorin_find.specs.Listing.{has_no_index};
 ghost use Rattle.thorin_check.specs.Checking.{TellsPackage, IsOfChecking, Finishes, PrintsLast};
 ghost use Rattle.thorin_check.specs.Checking.{ChecksIndexed, ChecksPackage, ChecksBytes, Checks};
-ghost use Rattle.thorin_check.specs.Checking.{executables_of};
+ghost use Rattle.thorin_check.specs.Executables.{executables_of};
 ghost use Rattle.thorin_find.specs.Listing.{AreByRow};
 ghost use Rattle.thorin_check.specs.Telling.{progress, TellsOr};
 ghost use Rattle.thorin_print.specs.Answers.{Grows};
@@ -142,6 +142,7 @@ fn check_all<F: FileReader, O: Write>(
     faults: &mut Faults,
     out: &mut O,
 ) -> Result<(), Failure>
+    requires { AreByRow opened.pack.now opened.entries.now }
     ensures { TellsOr (IsOfChecking (F.offer files.now) named.entry.executables.now)
         (TellsPackage (F.offer files.now) (executables_of named.entry) opened.entry.pack.now
         opened.entry.entries.now)

@@ -5,12 +5,12 @@ ghost use Rattle.dwp_index.specs.Package.{found};
 ghost use Rattle.thorin_executable.specs.Skeletons.{skeletons_by};
 ghost use Rattle.thorin_errors.specs.declared.error.Error.TheVariants.{Memory};
 ghost use Rattle.thorin_check.specs.Checking.{IsOfChecking, IsOfReading, TellsExecutables};
-ghost use Rattle.thorin_check.specs.Checking.{TellsExecutable, TellsTaken};
-ghost use Rattle.thorin_check.specs.Faults.{TellsListed, missing_text, missing_faults, IsTextOf};
-ghost use Rattle.thorin_check.specs.Faults.{IsBroken, TellsNext, answering};
+ghost use Rattle.thorin_check.specs.Checking.{TellsExecutable};
+ghost use Rattle.thorin_check.specs.Faults.{TellsNamed, TellsListed, missing_text, missing_faults};
+ghost use Rattle.thorin_check.specs.Faults.{IsTextOf, IsBroken, TellsNext, answering, bare_fault};
 ghost use Rattle.thorin_print.specs.Shown.{shown};
 ghost use Rattle.thorin_words.specs.Printed.{printed};
-ghost use Rattle.thorin_check.specs.Telling.{progress, Tells, TellsOr, Is};
+ghost use Rattle.thorin_check.specs.Telling.{progress, Tells, TellsOr, Is, IsFault};
 
 use crate::faults::{Faults, some, tell, tell_fault};
 use crate::rendering::Fault;
@@ -23,8 +23,7 @@ use std::io::Write;
 use thorin_errors::Error;
 use thorin_executable::{NamedUnits, NamelessUnits};
 use thorin_find::{FileReader, read_named};
-use thorin_inputs::plain_of;
-use thorin_print::{Failure, Form, shown};
+use thorin_print::{Failure, Form, shown, shown_briefly};
 use thorin_sessions::{ArenaSession, Session};
 use thorin_words::printed;
 
@@ -33,8 +32,6 @@ use thorin_words::printed;
 pub struct Reading {
     /// How faults are printed.
     pub form: Form,
-    /// Whether their compressed sections are decompressed.
-    pub decompresses: bool,
     /// What becomes of their units that name no object.
     pub nameless: NamelessUnits,
 }
@@ -85,7 +82,7 @@ pub(crate) fn check_executables<F: FileReader, O: Write>(
     Ok(())
 }
 
-/// Each split unit that an executable names is in the package.
+/// Each split unit that an executable names is in the package, and it names one.
 #[tactic(auto, using(crate::proofs::Checked::executable_read, crate::proofs::Checked::executable_unread))]
 fn check_executable<F: FileReader, O: Write>(
     rt: &HostRuntime,
@@ -101,39 +98,13 @@ fn check_executable<F: FileReader, O: Write>(
         result }
 {
     match read_named(files, naming.executable) {
-        Ok(bytes) => check_read(rt, naming, bytes.as_slice(), reading, faults, out),
+        Ok(bytes) => check_read(rt, naming, bytes.as_slice(), reading.nameless, faults, out),
         Err(failure) => Err(failure),
     }
 }
 
-/// The same of the bytes of an executable, decompressed where that is asked for.
-#[tactic(auto, using(crate::proofs::Checked::taken_as_it_is, crate::proofs::Checked::taken_plain))]
+/// The same of the bytes of an executable.
 fn check_read<O: Write>(
-    rt: &HostRuntime,
-    naming: Naming<'_, '_>,
-    bytes: &[u8],
-    reading: Reading,
-    faults: &mut Faults,
-    out: &mut O,
-) -> Result<(), Failure>
-    ensures { Tells (TellsTaken reading naming.entry.pack.now naming.entry.executable.now bytes.now)
-        (progress (O.contents out.old) faults.old) (progress (O.contents out.new) faults.new)
-        result }
-{
-    if !reading.decompresses {
-        return check_taken(rt, naming, bytes, reading.nameless, faults, out);
-    }
-    match plain_of(rt.alloc(), bytes, false) {
-        Ok(Some(plain)) => {
-            check_taken(rt, naming, plain.as_slice(), reading.nameless, faults, out)
-        }
-        Ok(None) => check_taken(rt, naming, bytes, reading.nameless, faults, out),
-        Err(_) => Err(Failure::Memory),
-    }
-}
-
-/// The same of the bytes that are taken for it.
-fn check_taken<O: Write>(
     rt: &HostRuntime,
     naming: Naming<'_, '_>,
     bytes: &[u8],
@@ -141,7 +112,7 @@ fn check_taken<O: Write>(
     faults: &mut Faults,
     out: &mut O,
 ) -> Result<(), Failure>
-    ensures { Tells (TellsListed naming.entry.pack.now naming.entry.executable.now
+    ensures { Tells (TellsNamed naming.entry.pack.now naming.entry.executable.now
         (skeletons_by nameless bytes.now)) (progress (O.contents out.old) faults.old)
         (progress (O.contents out.new) faults.new) result }
 {
@@ -159,13 +130,36 @@ fn check_named<'s, Sess: Session<RelocationEntry>, O: Write>(
     faults: &mut Faults,
     out: &mut O,
 ) -> Result<(), Failure>
-    ensures { Tells (TellsListed naming.entry.pack.now naming.entry.executable.now
+    ensures { Tells (TellsNamed naming.entry.pack.now naming.entry.executable.now
         (skeletons_by nameless bytes.now)) (progress (O.contents out.old) faults.old)
         (progress (O.contents out.new) faults.new) result }
 {
     let alloc = *faults.waiting.allocator();
     match NamedUnits::read_by(alloc, session, bytes, nameless) {
-        Ok(mut units) => check_skeletons(naming, &mut units, faults, out),
+        Ok(mut units) => check_listed(naming, &mut units, faults, out),
+        Err(error) => tell_error(naming.executable, &error, faults, out),
+    }
+}
+
+/// The same of the units that an executable names.
+fn check_listed<O: Write>(
+    naming: Naming<'_, '_>,
+    units: &mut NamedUnits<'_>,
+    faults: &mut Faults,
+    out: &mut O,
+) -> Result<(), Failure>
+    ensures { Tells (TellsNamed naming.entry.pack.now naming.entry.executable.now units.old.listed)
+        (progress (O.contents out.old) faults.old) (progress (O.contents out.new) faults.new)
+        result }
+{
+    match units.next() {
+        Ok(Some(unit)) => {
+            match check_skeleton(naming, unit.target, units.path(), faults, out) {
+                Ok(()) => check_skeletons(naming, units, faults, out),
+                Err(failure) => Err(failure),
+            }
+        }
+        Ok(None) => tell_bare(naming.executable, faults, out),
         Err(error) => tell_error(naming.executable, &error, faults, out),
     }
 }
@@ -267,11 +261,26 @@ fn skeleton_text(
 fn missing_text(alloc: Global, executable: &str, path: &str) -> Result<String, AllocError>
     ensures { IfOk result (λ text. string_bytes text ≡ missing_text executable.now path.now) }
 {
-    let executable = shown(alloc, executable)?;
+    let executable = shown_briefly(alloc, executable)?;
     let executable = executable.as_str();
-    let path = shown(alloc, path)?;
+    let path = shown_briefly(alloc, path)?;
     let path = path.as_str();
     format!(in alloc; "not in the package, {executable} names {path}")
+}
+
+/// Tells that an executable names no split unit.
+fn tell_bare<O: Write>(executable: &str, faults: &mut Faults, out: &mut O) -> Result<(), Failure>
+    ensures { Tells (IsFault (bare_fault executable.now))
+        (progress (O.contents out.old) faults.old) (progress (O.contents out.new) faults.new)
+        result }
+{
+    match shown(*faults.waiting.allocator(), executable) {
+        Ok(name) => {
+            let fault = Fault::Executable(name.as_str(), "no split units");
+            tell_fault(fault, faults, out)
+        }
+        Err(_) => Err(Failure::Memory),
+    }
 }
 
 /// Tells why an executable can't be read to its end.

@@ -1,9 +1,13 @@
 //! The rows of a package that no slot names, in `thorin check`.
 
-ghost use Rattle.std.specs.Prelude.{◌≡◌, codes, IfOk, string_bytes};
+ghost use Rattle.std.specs.Prelude.{◌≡◌, ◌<◌, ◌≤◌, codes, false, true, option_copied, IfOk, string_bytes};
+ghost use Rattle.std.specs.List.Sorted.{IsSortedByKey};
+ghost use Rattle.std.specs.Ordering.{nat_cmp};
 ghost use Rattle.thorin_check.specs.Checking.{TellsRows};
-ghost use Rattle.thorin_check.specs.Faults.{row_text, AreRows};
-ghost use Rattle.thorin_check.specs.Telling.{progress, Tells};
+ghost use Rattle.thorin_check.specs.Faults.{is_of, row_text, row_faults, row_end, TellsRowsOf};
+ghost use Rattle.thorin_check.specs.Rows.{is_next};
+ghost use Rattle.thorin_check.specs.Telling.{progress, Tells, Is};
+ghost use Rattle.thorin_find.specs.Listing.{AreByRow, place_of_line};
 
 use crate::faults::{Faults, tell_of_package};
 use dwp_index::{PackageFile, UnitEntry, UnitIndex};
@@ -26,7 +30,10 @@ struct Rows {
 impl Rows {
     /// Those of the index of compilation units.
     fn of_compilations(pack: &PackageFile<'_>) -> Rows
-        ensures { result.kind.now ≡ codes "cu" }
+        ensures kind { result.kind.now ≡ codes "cu" }
+        ensures is_types { result.is_types ≡ false }
+        ensures end { result.end ≡ row_end pack.now.compilations }
+        ensures some { 0 < result.end }
     {
         Rows {
             kind: "cu",
@@ -37,7 +44,10 @@ impl Rows {
 
     /// Those of the index of type units.
     fn of_types(pack: &PackageFile<'_>) -> Rows
-        ensures { result.kind.now ≡ codes "tu" }
+        ensures kind { result.kind.now ≡ codes "tu" }
+        ensures is_types { result.is_types ≡ true }
+        ensures end { result.end ≡ row_end pack.now.types }
+        ensures some { 0 < result.end }
     {
         Rows {
             kind: "tu",
@@ -45,10 +55,31 @@ impl Rows {
             end: end_of(pack.type_index()),
         }
     }
+
+    /// Whether a slot names one of these rows, and none before this one.
+    fn is_next(self, slot: UnitEntry, next: u64) -> bool
+        ensures { result ≡ is_next self.is_types self.end slot next }
+    {
+        let row = u64::from(slot.row);
+        is_of(self.is_types, slot.object) && next <= row && row < self.end
+    }
+}
+
+/// Whether an object is a type unit, or a compilation unit.
+fn is_of(is_types: bool, object: DwarfObject) -> bool
+    ensures { result ≡ is_of is_types object }
+{
+    match object {
+        DwarfObject::Compilation(_) => !is_types,
+        DwarfObject::TypeUnit(_) => is_types,
+    }
 }
 
 /// The number behind that of the last row of an index; 1 where there is no index.
-fn end_of(index: Option<&UnitIndex<'_>>) -> u64 {
+fn end_of(index: Option<&UnitIndex<'_>>) -> u64
+    ensures end { result ≡ row_end (option_copied index.entry) }
+    ensures some { 0 < result }
+{
     match index {
         Some(index) => u64::from(index.unit_count()) + 1,
         None => 1,
@@ -56,18 +87,20 @@ fn end_of(index: Option<&UnitIndex<'_>>) -> u64 {
 }
 
 /// A slot names each row of both indexes; `entries` are in the order of rows.
-#[tactic(auto, using(crate::proofs::Told::in_turn_or))]
 pub(crate) fn check_indexes<O: Write>(
     pack: &PackageFile<'_>,
     entries: &[UnitEntry],
     faults: &mut Faults,
     out: &mut O,
 ) -> Result<(), Failure>
-    ensures { Tells TellsRows (progress (O.contents out.old) faults.old)
+    requires { AreByRow pack.now entries.now }
+    ensures { Tells (TellsRows pack.now entries.now) (progress (O.contents out.old) faults.old)
         (progress (O.contents out.new) faults.new) result }
 {
-    match check_rows(Rows::of_compilations(pack), entries, faults, out) {
-        Ok(()) => check_rows(Rows::of_types(pack), entries, faults, out),
+    let compilations = Rows::of_compilations(pack);
+    let types = Rows::of_types(pack);
+    match check_rows(compilations, entries, faults, out) {
+        Ok(()) => check_rows(types, entries, faults, out),
         Err(failure) => Err(failure),
     }
 }
@@ -75,23 +108,25 @@ pub(crate) fn check_indexes<O: Write>(
 /// A slot names each row of an index: tells each row before that of a slot of its kind, and then
 /// each row behind the last. A slot whose row isn't behind those of the slots before is passed
 /// over, as one whose row is past the rows.
-#[tactic(auto, using(crate::proofs::Faulted::no_rows))]
+#[tactic(auto, using(crate::proofs::NamedRows::covers_skipped))]
 fn check_rows<O: Write>(
     rows: Rows,
     entries: &[UnitEntry],
     faults: &mut Faults,
     out: &mut O,
 ) -> Result<(), Failure>
-    ensures { Tells (AreRows rows.kind.now) (progress (O.contents out.old) faults.old)
-        (progress (O.contents out.new) faults.new) result }
+    requires sorted { IsSortedByKey place_of_line nat_cmp entries.now }
+    requires some { 0 < rows.end }
+    ensures { Tells (TellsRowsOf rows.kind.now rows.is_types rows.end entries.now)
+        (progress (O.contents out.old) faults.old) (progress (O.contents out.new) faults.new)
+        result }
 {
     let mut next = 1u64;
     for i in 0..entries.len() {
-        let row = u64::from(entries[i].row);
-        let is_type = matches!(entries[i].object, DwarfObject::TypeUnit(_));
-        if is_type != rows.is_types || row < next || rows.end <= row {
+        if !rows.is_next(entries[i], next) {
             continue;
         }
+        let row = u64::from(entries[i].row);
         match tell_rows(rows.kind, next, row, faults, out) {
             Ok(()) => next = row + 1,
             Err(failure) => return Err(failure),
@@ -101,7 +136,7 @@ fn check_rows<O: Write>(
 }
 
 /// Tells that no slot names a row, of each row from one up to another, which isn't among them.
-#[tactic(auto, using(crate::proofs::Faulted::no_rows))]
+#[tactic(auto, using(crate::proofs::NamedRows::rows_none))]
 fn tell_rows<O: Write>(
     kind: &str,
     first: u64,
@@ -109,7 +144,8 @@ fn tell_rows<O: Write>(
     faults: &mut Faults,
     out: &mut O,
 ) -> Result<(), Failure>
-    ensures { Tells (AreRows kind.now) (progress (O.contents out.old) faults.old)
+    requires { first ≤ end }
+    ensures { Tells (Is (row_faults kind.now first end)) (progress (O.contents out.old) faults.old)
         (progress (O.contents out.new) faults.new) result }
 {
     for row in first..end {

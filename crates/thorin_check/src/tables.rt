@@ -1,10 +1,10 @@
 //! The sections of abbreviations and of strings, and the rows of a package, in `thorin check`.
 
 ghost use Rattle.std.specs.Prelude.{◌≡◌, IfOk, string_bytes};
-ghost use Rattle.thorin_check.specs.Checking.{lacks_abbreviations, lacks_strings, lacking_text};
-ghost use Rattle.thorin_check.specs.Checking.{lacking_faults, TellsTables};
-ghost use Rattle.thorin_check.specs.Faults.{has_abbreviations};
+ghost use Rattle.thorin_check.specs.Checking.{lacking_text, lacking_faults, TellsTables};
+ghost use Rattle.thorin_check.specs.Faults.{has_abbreviations, lacks_abbreviations, lacks_strings};
 ghost use Rattle.thorin_check.specs.Telling.{progress, Tells, Is};
+ghost use Rattle.thorin_find.specs.Listing.{AreByRow};
 
 use crate::checking::Opened;
 use crate::faults::{Faults, tell_of_package};
@@ -46,9 +46,10 @@ pub(crate) fn check_tables<O: Write>(
     faults: &mut Faults,
     out: &mut O,
 ) -> Result<(), Failure>
-    ensures { Tells (TellsTables (lacks_abbreviations opened.entry.pack.now opened.entry.entries.now)
-        (lacks_strings opened.entry.pack.now)) (progress (O.contents out.old) faults.old)
-        (progress (O.contents out.new) faults.new) result }
+    requires { AreByRow opened.pack.now opened.entries.now }
+    ensures { Tells (TellsTables opened.entry.pack.now opened.entry.entries.now)
+        (progress (O.contents out.old) faults.old) (progress (O.contents out.new) faults.new)
+        result }
 {
     let no_abbreviations = lacks_abbreviations(opened.pack, opened.entries);
     let no_strings = lacks_strings(opened.pack);

@@ -10,7 +10,8 @@ warnings is_peer on_terminal =
     if is_peer then Never else if on_terminal then Once else Each
 
 -- the peers don't compare type units, keep an object's last macros, open archives, pass over units
--- that name no object, and make an empty package where nothing is split
+-- that name no object, make an empty package where nothing is split, and look in the working folder
+-- for an object that isn't at its path
 unfoldable pub manner : (is_peer on_terminal : Bool) → Manner
 manner is_peer on_terminal = record {
   warnings = warnings is_peer on_terminal;
@@ -18,5 +19,6 @@ manner is_peer on_terminal = record {
   lets_empty = is_peer;
   opens_archives = is_peer;
   skips_nameless = is_peer;
+  seeks_objects = is_peer;
   on_terminal = on_terminal;
 }

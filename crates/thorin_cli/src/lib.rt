@@ -7,7 +7,9 @@ mod settings;
 
 pub use crate::manner::Facts;
 use crate::manner::Manner;
-use crate::notes::{Given, note_no_index, note_packing, note_reading, note_unread};
+use crate::notes::{
+    Given, Read, note_no_index, note_packing, note_reading, note_refused, note_unread,
+};
 use crate::settings::{file_count, form_of, nameless_units, packing_of};
 use std::convert::AsStr;
 use std::fmt;
@@ -16,11 +18,14 @@ use thorin_arguments::{
     CheckArguments, Commands, FindArguments, ListArguments, PackArguments, is_peer,
 };
 use thorin_check::{Reading, check_by};
-use thorin_commands::{FileSystem, HostFiles, Packing, list_missing, pack};
+use thorin_commands::{FileSystem, Packing, list_missing, pack};
 use thorin_find::{FindForm, FindWords, HostReader, ListForm, find_by, lacks_index, list_by};
 pub use thorin_print::Failure;
 use thorin_print::{Form, report, show};
-use thorin_terminal::{Console, CountedFiles, HostResponses, Lines, Watched};
+use thorin_reading::PlainReader;
+use thorin_terminal::{
+    Console, CountedFiles, HostInputs, HostResponses, Lines, NamedFile, Watched,
+};
 use thorin_words::{ResponseError, expanded, printed};
 
 /// Does what a command line asks for: `words` are the program's name and its arguments, where
@@ -36,10 +41,7 @@ pub fn run<S: AsStr, O: Write, E: Write>(
     out: &mut O,
     err: &mut E,
 ) -> u8 {
-    let (program, line) = match words.split_first() {
-        Some((program, line)) => (program.as_str(), line),
-        None => ("thorin", words),
-    };
+    let (program, line) = named_program(words);
     let manner = Manner::of(is_peer(program), facts.on_terminal);
     let files = HostResponses::new(rt);
     match expanded(rt.alloc(), &files, program, line) {
@@ -61,16 +63,36 @@ pub fn run<S: AsStr, O: Write, E: Write>(
     }
 }
 
+/// The name that a command line is of, and the words behind it: a peer's name that stands where a
+/// command does takes the place of the program's own.
+fn named_program<S: AsStr>(words: &[S]) -> (&str, &[S]) {
+    let Some((program, line)) = words.split_first() else {
+        return ("thorin", words);
+    };
+    match line.split_first() {
+        Some((name, rest)) if is_peer_name(name.as_str()) && !is_peer(program.as_str()) => {
+            (name.as_str(), rest)
+        }
+        _ => (program.as_str(), line),
+    }
+}
+
+/// Whether a word is the name of a peer, without folders.
+fn is_peer_name(word: &str) -> bool {
+    !word.contains('/') && is_peer(word)
+}
+
 /// Prints why the words of a command line can't be told, and answers the status.
 fn refuse_response<E: Write>(rt: &HostRuntime, err: &mut E, error: &ResponseError) -> u8 {
     match error {
         ResponseError::Inside(name) => refuse_inside(rt, err, name.as_str()),
+        ResponseError::TooDeep(name) => refuse_deep(rt, err, name.as_str()),
         ResponseError::TooLong => {
             let _ = show(err, &"error: Response files are too long\n");
             1
         }
         ResponseError::Unreadable | ResponseError::TooMany => report(err, &Failure::Response),
-        ResponseError::NotUtf8 => report(err, &Failure::BadCommand),
+        ResponseError::NotUtf8 => refuse_encoding(err, "a response file isn't UTF-8"),
         ResponseError::Memory => report(err, &Failure::Memory),
     }
 }
@@ -93,13 +115,40 @@ fn refuse_inside<E: Write>(rt: &HostRuntime, err: &mut E, name: &str) -> u8 {
     }
 }
 
+/// Prints that a response file is inside too many others, and answers the status.
+fn refuse_deep<E: Write>(rt: &HostRuntime, err: &mut E, name: &str) -> u8 {
+    match printed(rt.alloc(), name) {
+        Ok(name) => {
+            let _ = writeln!(err, "error: Response file {name} is inside 64 others");
+            1
+        }
+        Err(_) => report(err, &Failure::Memory),
+    }
+}
+
 /// What the program answers where its command line can't be taken: a word isn't UTF-8, or memory
 /// ran out.
 pub fn refuse_words<E: Write>(err: &mut E, cause: &io::Error) -> u8 {
     match cause.kind() {
         io::ErrorKind::OutOfMemory => report(err, &Failure::Memory),
-        _ => report(err, &Failure::BadCommand),
+        _ => refuse_encoding(err, "a word isn't UTF-8, as names of files have to be"),
     }
+}
+
+/// Prints that a command line isn't text, and what of it, and answers the status.
+fn refuse_encoding<E: Write>(err: &mut E, what: &str) -> u8 {
+    let status = report(err, &Failure::BadCommand);
+    let _ = writeln!(err, "note: {what}");
+    status
+}
+
+/// What is known of the files of a packing.
+#[derive(Drop)]
+struct PackedFiles {
+    /// Why the package's file couldn't be written, if it couldn't.
+    cause: Option<io::Error>,
+    /// The last input or executable that was read.
+    named: Option<NamedFile>,
 }
 
 /// The program: what it uses of the system, and where it prints.
@@ -113,18 +162,13 @@ struct Program<'r, 'o, 'e, O, E> {
 }
 
 impl<O: Write, E: Write> Program<'_, '_, '_, O, E> {
-    /// The status of a command that reads these files. Where it was refused, that is printed.
-    fn status(
-        &mut self,
-        answer: Result<u8, Failure>,
-        given: Given<'_>,
-        files: &HostReader<'_>,
-    ) -> u8 {
+    /// The status of a command that read these files. Where it was refused, that is printed.
+    fn status(&mut self, answer: Result<u8, Failure>, given: Given<'_>, read: Read) -> u8 {
         match answer {
             Ok(status) => status,
             Err(failure) => {
                 let status = self.report(&failure);
-                note_reading(self.rt, &failure, given, files.unread(), self.err);
+                note_reading(self.rt, &failure, given, read, self.err);
                 status
             }
         }
@@ -141,27 +185,32 @@ impl<O: Write, E: Write> Program<'_, '_, '_, O, E> {
 
     /// Packs.
     fn pack_as(&mut self, packing: &Packing<'_, '_>) -> u8 {
-        let (answer, cause) = self.pack_told(packing);
+        let (answer, read) = self.pack_told(packing);
         match answer {
-            Ok(status) => status,
+            Ok(0) => 0,
+            Ok(status) => {
+                note_refused(self.rt, packing, &read.named, self.err);
+                status
+            }
             Err(failure) => {
                 let status = self.report(&failure);
-                note_packing(self.rt, &failure, packing, cause, self.err);
+                note_packing(self.rt, &failure, packing, read.cause, self.err);
                 status
             }
         }
     }
 
-    /// Packs, and tells meanwhile how far that is. Answers beside the status why the package's file
-    /// couldn't be written, if it couldn't.
-    fn pack_told(&mut self, packing: &Packing<'_, '_>) -> (Result<u8, Failure>, Option<io::Error>) {
+    /// Packs, and tells meanwhile how far that is. Answers beside the status what is known of the
+    /// files.
+    fn pack_told(&mut self, packing: &Packing<'_, '_>) -> (Result<u8, Failure>, PackedFiles) {
         let patience = if self.manner.on_terminal && !packing.verbose {
             Some(self.patience)
         } else {
             None
         };
         let console = Console::new(self.rt, self.err, patience, file_count(packing));
-        let mut files = CountedFiles::new(self.rt, &console);
+        let inputs = HostInputs::new(self.rt, self.manner.seeks_objects);
+        let mut files = CountedFiles::new(inputs, &console, packing.verbose);
         let mut err = Lines(&console);
         let answer = pack(
             self.rt.alloc(),
@@ -171,12 +220,16 @@ impl<O: Write, E: Write> Program<'_, '_, '_, O, E> {
             &mut err,
         );
         console.clear();
-        (answer, files.write_failure())
+        let read = PackedFiles {
+            cause: files.write_failure(),
+            named: files.last_named(),
+        };
+        (answer, read)
     }
 
     /// Lists the objects that are missing.
     fn list_as(&mut self, packing: &Packing<'_, '_>) -> u8 {
-        let files = HostFiles::new(self.rt);
+        let files = HostInputs::new(self.rt, self.manner.seeks_objects);
         match list_missing(self.rt.alloc(), &files, packing, &mut self.out, self.err) {
             Ok(status) => status,
             Err(failure) => self.report(&failure),
@@ -187,23 +240,30 @@ impl<O: Write, E: Write> Program<'_, '_, '_, O, E> {
     fn verify_as(&mut self, packing: &Packing<'_, '_>) -> u8 {
         let reading = Reading {
             form: Form::Lines,
-            decompresses: packing.decompresses,
             nameless: packing.nameless,
         };
         match packing.output_name(self.rt.alloc()) {
             Ok(output) => {
                 let executables = packing.executables.unwrap_or(&[]);
-                self.check_as(output.as_str(), executables, reading)
+                let decompresses = packing.decompresses;
+                self.check_as(output.as_str(), executables, decompresses, reading)
             }
             Err(failure) => report(self.err, &failure),
         }
     }
 
-    /// Checks a package.
-    fn check_as(&mut self, file: &str, executables: &[&str], reading: Reading) -> u8 {
-        let files = HostReader::new(self.rt);
+    /// Checks a package, for executables that are decompressed as it is.
+    fn check_as(
+        &mut self,
+        file: &str,
+        executables: &[&str],
+        decompresses: bool,
+        reading: Reading,
+    ) -> u8 {
+        let host = HostReader::new(self.rt);
+        let files = PlainReader::new(self.rt.alloc(), &host, decompresses);
         let answer = check_by(self.rt, &files, file, executables, reading, &mut self.out);
-        self.status(answer, Given::file(file), &files)
+        self.status(answer, Given::file(file), Read::by(&host, &files))
     }
 }
 
@@ -226,6 +286,7 @@ impl<O: Write, E: Write> Commands for Program<'_, '_, '_, O, E> {
             id,
             string,
             section,
+            decompresses,
             json,
         } = arguments;
         let form = FindForm {
@@ -233,7 +294,8 @@ impl<O: Write, E: Write> Commands for Program<'_, '_, '_, O, E> {
             section,
             form: form_of(json),
         };
-        let files = HostReader::new(self.rt);
+        let host = HostReader::new(self.rt);
+        let files = PlainReader::new(self.rt.alloc(), &host, decompresses);
         let asked = FindWords { kind, id, form };
         let answer = find_by(self.rt.alloc(), &files, file, asked, &mut self.out);
         let given = Given {
@@ -242,7 +304,7 @@ impl<O: Write, E: Write> Commands for Program<'_, '_, '_, O, E> {
             wanted: string.or(section).unwrap_or(""),
             ..Given::file(file)
         };
-        self.status(answer, given, &files)
+        self.status(answer, given, Read::by(&host, &files))
     }
 
     fn list(&mut self, file: &str, arguments: ListArguments) -> u8 {
@@ -252,12 +314,13 @@ impl<O: Write, E: Write> Commands for Program<'_, '_, '_, O, E> {
             columns: arguments.columns,
             form: form_of(arguments.json),
         };
-        let files = HostReader::new(self.rt);
+        let host = HostReader::new(self.rt);
+        let files = PlainReader::new(self.rt.alloc(), &host, arguments.decompresses);
         let answer = list_by(self.rt.alloc(), &files, file, form, &mut self.out);
         if answer.is_ok() && self.manner.on_terminal && lacks_index(self.rt, file) {
             note_no_index(self.rt, file, self.err);
         }
-        self.status(answer, Given::file(file), &files)
+        self.status(answer, Given::file(file), Read::by(&host, &files))
     }
 
     fn check(&mut self, arguments: CheckArguments<'_, '_>) -> u8 {
@@ -270,10 +333,9 @@ impl<O: Write, E: Write> Commands for Program<'_, '_, '_, O, E> {
         } = arguments;
         let reading = Reading {
             form: form_of(json),
-            decompresses,
             nameless: nameless_units(skips_nameless),
         };
-        self.check_as(file, executables, reading)
+        self.check_as(file, executables, decompresses, reading)
     }
 
     fn show<D: fmt::Display>(&mut self, text: &D) -> u8 {

@@ -30,6 +30,8 @@ pub(crate) struct Manner {
     pub(crate) opens_archives: bool,
     /// Whether units of an executable that name no object are passed over, without being told.
     pub(crate) skips_nameless: bool,
+    /// Whether an object that isn't at its path is sought in the working folder.
+    pub(crate) seeks_objects: bool,
     /// Whether a terminal is told more: how far packing is, while it lasts, and of a file that is
     /// listed that it has no index.
     pub(crate) on_terminal: bool,
@@ -53,6 +55,7 @@ impl Manner {
             lets_empty: is_peer,
             opens_archives: is_peer,
             skips_nameless: is_peer,
+            seeks_objects: is_peer,
             on_terminal,
         }
     }

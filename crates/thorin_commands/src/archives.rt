@@ -20,7 +20,7 @@ use std::io::Write;
 use std::path::{AsPath, Path};
 use thorin::{DwarfPackage, Input, take_input};
 use thorin_errors::Error;
-use thorin_inputs::{note_alone, note_reason, place_of_member};
+use thorin_inputs::{MEMBER_NAME_READ, note_alone, note_reason, place_of_member};
 use thorin_print::{Failure, shown, tell_taken};
 use thorin_sessions::Session;
 
@@ -164,7 +164,8 @@ fn take_listed<'o, 's: 'o, Sess: Session<RelocationEntry>, I: Inputs, E: Write>(
     take_each(inputs, builder, members, place, err)?;
     if place.telling.verbose {
         let added = builder.contained_units().len().saturating_sub(before);
-        tell_taken(err, place.path.path_text(), added, None)?;
+        let name = place.path.path_text();
+        tell_taken(place.telling.alloc, name, added, None, err)?;
     }
     Ok(())
 }
@@ -222,7 +223,8 @@ fn take_split<'o, 's: 'o, Sess: Session<RelocationEntry>, I: Inputs, E: Write>(
 
 /// Keeps for notes a member that was taken.
 fn keep_member<I: Inputs>(inputs: &I, count: usize, member: Member<'_>, place: Place<'_>) {
-    let taken = Origin::Member(place.path.path_text(), member.name());
+    let name = member.beginning_of_name(MEMBER_NAME_READ);
+    let taken = Origin::Member(place.path.path_text(), name);
     inputs.keep_taken(taken, count);
 }
 
@@ -285,7 +287,8 @@ fn note_member<I: Inputs, E: Write>(
     err: &mut E,
 ) {
     let alloc = place.telling.alloc;
-    if let Ok(text) = place_of_member(alloc, place.path.path_text(), member.name()) {
+    let name = member.beginning_of_name(MEMBER_NAME_READ);
+    if let Ok(text) = place_of_member(alloc, place.path.path_text(), name) {
         match inputs.found_growth() {
             Some(growth) => note_reason(text.as_str(), growth.note(), err),
             None => note_place(alloc, inputs, error, text.as_str(), before, err),

@@ -411,8 +411,7 @@ impl<F: FileSystem> Inputs for InputFiles<'_, F> {
     }
 
     fn unreadable(&self, path: &str) -> Result<Option<String>, AllocError> {
-        let mut room = Vec::new(self.alloc);
-        match self.files.read_regular_over(Path::new(path), &mut room) {
+        match self.files.try_regular(Path::new(path)) {
             Ok(()) => Ok(None),
             Err(InputError::Io(cause)) => Ok(Some(reason(self.alloc, &cause)?)),
             Err(InputError::Memory) => Err(AllocError),

@@ -38,7 +38,8 @@ pub(crate) fn told<I: Inputs, E: Write>(
 ) -> Result<(), Failure> {
     match path_of(taken.input) {
         Some(path) if telling.verbose => {
-            tell_taken(err, path.path_text(), added, units_of(inputs, taken))
+            let all = units_of(inputs, taken);
+            tell_taken(telling.alloc, path.path_text(), added, all, err)
         }
         _ => Ok(()),
     }

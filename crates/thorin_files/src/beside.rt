@@ -1,26 +1,100 @@
-//! The file beside OUT that is to become OUT. Its name has the number of the process that makes it,
-//! so that one that an interrupted run left is told from one that is being written.
+//! The file beside OUT that is to become OUT. Each run makes one of its own, under a name that none
+//! had, and holds a lock on it until it is renamed. So one that no run holds was left by a run that
+//! was interrupted.
 
 use crate::reading::is_there;
 use std::alloc::AllocError;
-use std::fs::{self, DirEntry, File};
-use std::os::unix::fs::OpenOptionsExt;
+use std::fs::{self, DirEntry, File, Metadata, TryLockError};
+use std::os::unix::fs::{MetadataExt, OpenOptionsExt};
 use std::process;
 
-/// The name beside OUT.
-pub(crate) fn name(rt: &HostRuntime, output: &str) -> Result<String, AllocError> {
-    let process = process::id(rt.process());
-    format!(in rt.alloc(); "{output}.{process}.tmp")
+/// How many names are tried.
+const MOST_NAMES: u32 = 1000;
+
+/// A file beside OUT.
+#[derive(Drop)]
+pub(crate) struct Beside {
+    pub(crate) name: String,
+    pub(crate) file: File,
+    /// The same file, by which the lock is held until this is dropped.
+    pub(crate) lock: Option<File>,
 }
 
-/// A new file of that name; a private one is for its owner alone. None where there can't be one.
-pub(crate) fn create(rt: &HostRuntime, name: &str, is_private: bool) -> Option<File> {
-    // What has the name is left of an earlier process of the same number.
-    let _ = fs::remove_file(rt, name);
+/// What came of making a file under a name.
+enum Made {
+    /// A new file, which this run alone holds.
+    File(File),
+    /// Another run has the name.
+    Taken,
+    /// There can't be a file of that name.
+    Refused,
+}
+
+/// Makes a new file beside OUT; a private one is for its owner alone. None where there can't be one.
+pub(crate) fn create(
+    rt: &HostRuntime,
+    output: &str,
+    is_private: bool,
+) -> Result<Option<Beside>, AllocError> {
+    for number in 0..MOST_NAMES {
+        let name = name(rt, output, number)?;
+        match make(rt, name.as_str(), is_private) {
+            Made::File(file) => {
+                let lock = file.try_clone().ok();
+                return Ok(Some(Beside { name, file, lock }));
+            }
+            Made::Taken => {}
+            Made::Refused => return Ok(None),
+        }
+    }
+    Ok(None)
+}
+
+/// A name beside OUT: it has the number of the process, so that one which an interrupted run left
+/// is told from one that is being written. Processes of one number can be several, as in containers:
+/// then names are counted.
+fn name(rt: &HostRuntime, output: &str, number: u32) -> Result<String, AllocError> {
+    let process = process::id(rt.process());
+    match number {
+        0 => format!(in rt.alloc(); "{output}.{process}.tmp"),
+        _ => format!(in rt.alloc(); "{output}.{process}.{number}.tmp"),
+    }
+}
+
+/// Makes a new file under a name, and takes its lock.
+fn make(rt: &HostRuntime, name: &str, is_private: bool) -> Made {
     let mode = if is_private { 0o600 } else { 0o666 };
     let mut options = File::options();
     options.write(true).create_new(true).mode(mode);
-    options.open(rt, name).ok()
+    match options.open(rt, name) {
+        Ok(file) if is_held(rt, name, &file) => Made::File(file),
+        Ok(_) => Made::Taken,
+        Err(_) if fs::symlink_metadata(rt, name).is_ok() => Made::Taken,
+        Err(_) => Made::Refused,
+    }
+}
+
+/// Whether this run holds a new file: another may take it for one that was left, and remove it,
+/// before it is locked. Where files can't be locked, none is removed.
+fn is_held(rt: &HostRuntime, name: &str, file: &File) -> bool {
+    match file.try_lock() {
+        Ok(()) => is_named(rt, name, file),
+        Err(TryLockError::WouldBlock) => false,
+        Err(TryLockError::Error(_)) => true,
+    }
+}
+
+/// Whether a name is that of an open file.
+fn is_named(rt: &HostRuntime, name: &str, file: &File) -> bool {
+    match (fs::symlink_metadata(rt, name), file.metadata()) {
+        (Ok(named), Ok(opened)) => is_same(&named, &opened),
+        _ => false,
+    }
+}
+
+/// Whether both are of one file.
+fn is_same(one: &Metadata, other: &Metadata) -> bool {
+    one.dev() == other.dev() && one.ino() == other.ino()
 }
 
 /// Removes the files beside OUT that runs left which were interrupted.
@@ -48,18 +122,34 @@ pub(crate) fn remove_left(rt: &HostRuntime, output: &str) {
 fn remove_if_left(rt: &HostRuntime, entry: &DirEntry, own: &str) {
     if let Some(process) = process_of(entry.file_name(), own) {
         if !is_running(rt, process) && is_file(entry) {
-            let _ = fs::remove_file(rt, entry.path());
+            remove_unheld(rt, entry.path().as_str());
         }
+    }
+}
+
+/// Removes a file that no run holds, not even one whose process can't be seen from here.
+fn remove_unheld(rt: &HostRuntime, name: &str) {
+    let Ok(file) = File::options().write(true).open(rt, name) else {
+        return;
+    };
+    if file.try_lock().is_ok() && is_named(rt, name, &file) {
+        let _ = fs::remove_file(rt, name);
     }
 }
 
 /// The process that makes a file of that name beside `own`; none where it isn't such a name.
 fn process_of(name: &str, own: &str) -> Option<u32> {
-    let number = name
+    let numbers = name
         .strip_prefix(own)?
         .strip_prefix(".")?
         .strip_suffix(".tmp")?;
-    number.parse::<u32>().ok()
+    match numbers.split_once('.') {
+        Some((process, number)) => {
+            number.parse::<u32>().ok()?;
+            process.parse::<u32>().ok()
+        }
+        None => numbers.parse::<u32>().ok(),
+    }
 }
 
 /// Whether a process runs, true where that can't be told.

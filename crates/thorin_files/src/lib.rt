@@ -5,5 +5,7 @@ mod beside;
 mod reading;
 mod writing;
 
-pub use reading::{identity, is_file, is_there, read, read_over, read_regular_over, read_within};
+pub use reading::{
+    identity, is_file, is_there, read, read_over, read_regular_over, read_within, try_regular,
+};
 pub use writing::{Contents, WriteError, write};

@@ -48,6 +48,20 @@ pub fn read_regular_over(rt: &HostRuntime, path: Path<'_>, room: &mut Vec<u8>) -
     Ok(())
 }
 
+/// Tries whether a regular file can be read: a byte of it is, where it has one.
+///
+/// # Errors
+/// As those of `read_regular_over`.
+pub fn try_regular(rt: &HostRuntime, path: Path<'_>) -> io::Result<()> {
+    let len = regular_length(rt, path)?;
+    let mut file = File::open(rt, path)?;
+    if len > 0 {
+        let mut byte = [0];
+        read_once(&mut file, &mut byte)?;
+    }
+    Ok(())
+}
+
 /// Reads a file whole that has at most `limit` bytes, whatever length the system tells; none where
 /// it has more. No more than one byte past the limit is read.
 ///

@@ -1,10 +1,11 @@
 //! Writing a file in another's place.
 
-use crate::beside;
+use crate::beside::{self, Beside};
 use std::alloc::{AllocError, Global};
-use std::fs::{self, File, Permissions};
+use std::fs::{self, File, Metadata, Permissions};
 use std::io::{self, BufWriter, Write};
 use std::os::unix::fs::{MetadataExt, PermissionsExt, fchown};
+use std::path::PathBuf;
 
 /// What a file is to hold.
 pub trait Contents {
@@ -50,14 +51,16 @@ enum Place {
     Free,
     /// A regular file that may be written.
     File(Access),
+    /// A symbolic link to one.
+    Link(Access),
     /// What no other file may take the place of.
     Other,
 }
 
 /// Writes a file OUT. Where OUT is a regular file, or isn't there, the contents are written under a
-/// name beside it that then becomes OUT: a write that fails leaves OUT as it was. Anything else, as
-/// a device, a pipe or a symbolic link, is written as it stands, and so is OUT where no file can be
-/// made beside it, or where that can't become OUT.
+/// name beside it that then becomes OUT: a write that fails leaves OUT as it was. So is the file that
+/// a symbolic link OUT leads to. Anything else, as a device, a pipe or a link to nothing, is written
+/// as it stands, and so is OUT where no file can be made beside it, or where that can't become OUT.
 ///
 /// # Errors
 /// `Output` where OUT can't be written, `Memory`.
@@ -65,6 +68,7 @@ pub fn write<C: Contents>(rt: &HostRuntime, contents: &C, output: &str) -> Resul
     let is_done = match place_of(rt, output)? {
         Place::Free => is_replaced(rt, contents, output, None)?,
         Place::File(access) => is_replaced(rt, contents, output, Some(access))?,
+        Place::Link(access) => is_target_replaced(rt, contents, output, access)?,
         Place::Other => false,
     };
     if is_done {
@@ -74,20 +78,60 @@ pub fn write<C: Contents>(rt: &HostRuntime, contents: &C, output: &str) -> Resul
     }
 }
 
-/// What stands at OUT; a regular file there must be one that may be written.
+/// What stands at OUT; a regular file there, or behind a link, must be one that may be written.
 fn place_of(rt: &HostRuntime, output: &str) -> Result<Place, WriteError> {
     let Ok(metadata) = fs::symlink_metadata(rt, output) else {
         return Ok(Place::Free);
     };
-    if !metadata.is_file() {
-        return Ok(Place::Other);
+    if metadata.is_file() {
+        let access = access_to(rt, output, &metadata)?;
+        return Ok(Place::File(access));
     }
-    let access = Access {
+    match fs::metadata(rt, output) {
+        Ok(target) if metadata.is_symlink() && target.is_file() => {
+            let access = access_to(rt, output, &target)?;
+            Ok(Place::Link(access))
+        }
+        _ => Ok(Place::Other),
+    }
+}
+
+/// Who may read and write a regular file, which must be one that may be written.
+fn access_to(rt: &HostRuntime, path: &str, metadata: &Metadata) -> Result<Access, WriteError> {
+    File::options().write(true).open(rt, path)?;
+    Ok(Access {
         mode: metadata.mode() & 0o777,
         group: metadata.gid(),
-    };
-    File::options().write(true).open(rt, output)?;
-    Ok(Place::File(access))
+    })
+}
+
+/// Writes the contents in place of the file that a link leads to. False where that can't be, as for
+/// a link that the system made of an open file.
+fn is_target_replaced<C: Contents>(
+    rt: &HostRuntime,
+    contents: &C,
+    link: &str,
+    access: Access,
+) -> Result<bool, WriteError> {
+    match target_of(rt, link) {
+        Some(path) => is_replaced(rt, contents, path.as_str(), Some(access)),
+        None => Ok(false),
+    }
+}
+
+/// The path of the file that a symbolic link leads to; none where it is of the system, as
+/// /dev/stdout is, which stands for an open file and not for a name.
+fn target_of(rt: &HostRuntime, link: &str) -> Option<PathBuf> {
+    let next = fs::read_link(rt, link).ok()?;
+    if is_of_system(link) || is_of_system(next.as_str()) {
+        return None;
+    }
+    fs::canonicalize(rt, link).ok()
+}
+
+/// Whether a path is that of a link which the system makes.
+fn is_of_system(path: &str) -> bool {
+    path.starts_with("/dev/") || path.starts_with("/proc/")
 }
 
 /// Writes the contents to a file beside OUT, which then becomes OUT. False where that can't be, and
@@ -99,10 +143,15 @@ fn is_replaced<C: Contents>(
     access: Option<Access>,
 ) -> Result<bool, WriteError> {
     beside::remove_left(rt, output);
-    let name = beside::name(rt, output)?;
-    let Some(file) = beside::create(rt, name.as_str(), access.is_some()) else {
+    let Some(made) = beside::create(rt, output, access.is_some())? else {
         return Ok(false);
     };
+    // The lock is held until the file has its name.
+    let Beside {
+        name,
+        file,
+        lock: _lock,
+    } = made;
     let outcome = write_beside(rt.alloc(), contents, file, access);
     if outcome.is_ok() && fs::rename(rt, name.as_str(), output).is_ok() {
         return Ok(true);

@@ -1,10 +1,9 @@
 //! Units that executables name and that a package lacked once their objects were taken, and why:
 //! kept for what is told of them.
 
-use crate::notes::place_of;
 use std::alloc::{AllocError, Global};
 use std::collections::BTreeMap;
-use thorin_print::shown;
+use thorin_print::shown_briefly;
 
 /// How many bytes the reasons may have that are kept. Behind them units are kept without one.
 const MOST: usize = 1 << 24;
@@ -129,12 +128,12 @@ fn reason_of(
     object: &str,
     unread: Option<String>,
 ) -> Result<String, AllocError> {
-    let place = place_of(alloc, executable, Some(object))?;
+    let linked = shown_briefly(alloc, executable)?;
+    let object = shown_briefly(alloc, object)?;
     match unread {
-        Some(why) => format!(in alloc; "{place}: {why}"),
-        None => {
-            let linked = shown(alloc, executable)?;
-            format!(in alloc; "{place}: lacks the unit (rebuilt since {linked} was linked?)")
-        }
+        Some(why) => format!(in alloc; "{object}, named by {linked}: {why}"),
+        None => format!(in alloc;
+            "{object}, named by {linked}: lacks the unit (rebuilt since {linked} was linked?)"
+        ),
     }
 }

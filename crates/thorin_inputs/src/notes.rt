@@ -5,11 +5,14 @@ use std::alloc::{AllocError, Global};
 use std::fmt;
 use std::io::{self, Write};
 use thorin_errors::Error;
-use thorin_print::shown;
+use thorin_print::{shown, shown_briefly};
 
-/// How many bytes of a long name are read from its beginning and from its end: of each end `shown`
-/// prints half as many.
-const END_READ: usize = 4096;
+/// How many bytes of a member's name are read: one byte more than are shown, by which a longer name
+/// is known. Many members may have the same long name.
+pub const MEMBER_NAME_READ: usize = 769;
+
+/// How many bytes of a longer one are shown.
+const BEGINNING_SHOWN: usize = 383;
 
 /// An input, or an object that it names, as it is printed.
 pub fn place_of(alloc: Global, input: &str, named: Option<&str>) -> Result<String, AllocError> {
@@ -23,27 +26,21 @@ pub fn place_of(alloc: Global, input: &str, named: Option<&str>) -> Result<Strin
     }
 }
 
-/// A member of an archive, as it is printed.
+/// A member of an archive, as it is printed. Of its name no more than `MEMBER_NAME_READ` bytes are
+/// given: of one that has as many the beginning is shown, and two dots.
 pub fn place_of_member(alloc: Global, archive: &str, name: &[u8]) -> Result<String, AllocError> {
-    let archive = shown(alloc, archive)?;
-    let name = shown_bytes(alloc, name)?;
-    format!(in alloc; "{archive}({name})")
-}
-
-/// A name of bytes, as it is printed. No more of a long one is read than may be printed.
-fn shown_bytes(alloc: Global, name: &[u8]) -> Result<String, AllocError> {
-    if name.len() <= 2 * END_READ {
-        return shown_text(alloc, name);
+    let archive = shown_briefly(alloc, archive)?;
+    if name.len() < MEMBER_NAME_READ {
+        let name = shown_text(alloc, name)?;
+        return format!(in alloc; "{archive}({name})");
     }
-    let mut ends = Vec::with_capacity(alloc, 2 * END_READ)?;
-    ends.extend_from_slice(name.split_at(END_READ).0)?;
-    ends.extend_from_slice(name.split_at(name.len() - END_READ).1)?;
-    shown_text(alloc, &ends)
+    let name = shown_text(alloc, name.split_at(BEGINNING_SHOWN).0)?;
+    format!(in alloc; "{archive}({name}..)")
 }
 
 fn shown_text(alloc: Global, name: &[u8]) -> Result<String, AllocError> {
     let name = String::from_utf8_lossy(alloc, name)?;
-    shown(alloc, name.as_str())
+    shown_briefly(alloc, name.as_str())
 }
 
 /// Why a file can't be read or written, in the system's words without its number for them.

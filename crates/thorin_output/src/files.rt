@@ -42,6 +42,12 @@ pub trait FileSystem {
             result }
         ensures memory { IfErr result IsNoWantOfMemory };
 
+    /// Tries whether a regular file can be read, by a byte of it.
+    ///
+    /// # Errors
+    /// As those of `read_regular_over`.
+    fn try_regular(&self, path: Path<'_>) -> Result<(), InputError>;
+
     /// The device and the number of the file at a path, by which two names of one file are known.
     /// None where there is no file.
     fn identity(&self, name: &str) -> Option<(u64, u64)>;
@@ -90,6 +96,11 @@ impl FileSystem for HostFiles<'_> {
 
     fn read_regular_over(&self, path: Path<'_>, room: &mut Vec<u8>) -> Result<(), InputError> {
         thorin_files::read_regular_over(self.rt, path, room)?;
+        Ok(())
+    }
+
+    fn try_regular(&self, path: Path<'_>) -> Result<(), InputError> {
+        thorin_files::try_regular(self.rt, path)?;
         Ok(())
     }
 

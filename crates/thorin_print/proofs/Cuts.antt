@@ -1,5 +1,6 @@
 -- Names that are cut.
-use Rattle.std.proofs.Common.{◌≡◌, ℕ, zero, suc, ◌-◌, ◌<◌, ◌≤◌, List, [], ◌++◌, codes, length, drop}
+use Rattle.std.proofs.Common.{◌≡◌, ℕ, zero, suc, ◌+◌, ◌*◌, ◌-◌, ◌<◌, ◌≤◌, List, [], ◌++◌, codes}
+use Rattle.std.proofs.Common.{length, drop}
 use Rattle.std.proofs.Common.{slice_range, IsCharBoundary, arith, append-nil}
 use Rattle.std.proofs.lemmas.Bool.Decides.{nat_tests}
 use Rattle.std.proofs.Math.Nat.{sub-zero}
@@ -14,22 +15,23 @@ floor_is bs zero kept within low boundary nearest = omega arith
 floor_is bs (suc i) kept within low boundary nearest =
     grind (arith, nat_tests, nearest (suc i), floor_is bs i kept)
 
-pub is_whole : (name text : List ℕ) → length name ≤ 4096 → text ≡ name ++ ([] ++ [])
-    → text ≡ cut name
+pub is_whole : (end : ℕ) (name text : List ℕ) → length name ≤ 2 * end + 2
+    → text ≡ name ++ ([] ++ []) → text ≡ cut end name
 unfolding cut
-is_whole name text h e = grind (arith, nat_tests, append-nil)
+is_whole end name text h e = grind (arith, nat_tests, append-nil)
 
-module _ (name front back : List ℕ) (first last : ℕ) (long : 4096 < length name)
-    (bound : first ≤ 2047) (boundary : IsCharBoundary name first)
-    (nearest : (j : ℕ) → first < j → j ≤ 2047 → ¬ (IsCharBoundary name j))
-    (bound-2 : last ≤ length name - 2047) (boundary-2 : IsCharBoundary name last)
-    (nearest-2 : (j : ℕ) → last < j → j ≤ length name - 2047 → ¬ (IsCharBoundary name j))
+module _ (end : ℕ) (some : 0 < end) (name front back : List ℕ) (first last : ℕ)
+    (long : 2 * end + 2 < length name)
+    (bound : first ≤ end) (boundary : IsCharBoundary name first)
+    (nearest : (j : ℕ) → first < j → j ≤ end → ¬ (IsCharBoundary name j))
+    (bound-2 : last ≤ length name - end) (boundary-2 : IsCharBoundary name last)
+    (nearest-2 : (j : ℕ) → last < j → j ≤ length name - end → ¬ (IsCharBoundary name j))
   where
     pub is_cut : front ≡ slice_range name 0 first → back ≡ drop last name
-        → front ++ (codes ".." ++ back) ≡ cut name
+        → front ++ (codes ".." ++ back) ≡ cut end name
     unfolding cut
     is_cut f b =
-        let begins = floor_is name 2047 first (omega arith) bound boundary nearest in
-        let ends = floor_is name (length name - 2047) last (omega arith) bound-2 boundary-2
+        let begins = floor_is name end first (omega arith) bound boundary nearest in
+        let ends = floor_is name (length name - end) last (omega arith) bound-2 boundary-2
         nearest-2 in
         grind (arith, nat_tests, sub-zero first)

@@ -1,5 +1,5 @@
 -- What a command prints, and what it answers.
-use Rattle.std.specs.Prelude.{◌≡◌, ℕ, List, [], take, Option, Result, Ok, Err}
+use Rattle.std.specs.Prelude.{◌≡◌, ℕ, List, [], ◌++◌, take, Option, Result, Ok, Err}
 use Rattle.std.specs.Io.KnownBytes.{Appends}
 use Rattle.thorin_print.specs.declared.output.Failure.{Failure}
 use Rattle.thorin_print.specs.declared.output.Failure.TheVariants as failures
@@ -42,6 +42,12 @@ Outcome = Result (Unit {0}) Failure
 -- where a writer's bytes are known, some were added
 abbrev pub Grows : Option (List ℕ) → Option (List ℕ) → Type 0
 Grows old new = (text : List ℕ) × Appends old new text
+
+-- where a writer's bytes are known, the front of a text was added, and a rest is left
+pub record PrintsFront (old new : Option (List ℕ)) (all rest : List ℕ) : Type 0 where
+  pub front : List ℕ
+  pub split : all ≡ front ++ rest
+  pub printed : Appends old new front
 
 -- a line can't be written, or memory ran out
 abbrev pub IsOfPrinting : Failure → Type 0

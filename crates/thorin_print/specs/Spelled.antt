@@ -1,10 +1,10 @@
 -- A text out of a file as a line has it, plain or in JSON (RFC 8259, 7).
-use Rattle.std.specs.Prelude.{ℕ, ◌/◌, ◌%◌, ◌==◌, ◌||◌, nat_lt, Bool, false, List, ◌∷◌, [], ◌++◌}
+use Rattle.std.specs.Prelude.{ℕ, ◌==◌, ◌||◌, nat_lt, Bool, false, List, ◌∷◌, [], ◌++◌}
 use Rattle.std.specs.Prelude.{codes, if◌then◌else◌, Option, Some, None}
 use Rattle.std.specs.Char.{encode_utf8}
 use Rattle.std.specs.List.{flat_map}
 use Rattle.std.specs.Str.{chars, is_utf8}
-use Rattle.thorin_words.specs.Printed.{hex_digit}
+use Rattle.thorin_words.specs.Printed.{two_digits, is_control, control}
 use Rattle.thorin_print.specs.declared.form.Form.{Form}
 use Rattle.thorin_print.specs.declared.form.Form.TheVariants.{Lines, Json}
 
@@ -14,17 +14,17 @@ escape_in Lines = 92 ∷ 120 ∷ []
 escape_in Json = 92 ∷ 117 ∷ 48 ∷ 48 ∷ []
 
 abbrev pub escape : Form → ℕ → List ℕ
-escape form n = escape_in form ++ hex_digit (n / 16) ∷ hex_digit (n % 16) ∷ []
+escape form n = escape_in form ++ two_digits n
 
 -- characters that a JSON string has a backslash in front of: the quotation mark and the backslash
 abbrev pub is_marked : Form → ℕ → Bool
 is_marked Lines c = false
 is_marked Json c = (c == 34) || (c == 92)
 
--- a character: one below a blank, and the one that deletes, by its number
+-- a character: a control by its number
 abbrev pub spelled_character : Form → ℕ → List ℕ
 spelled_character form c =
-    if nat_lt c 32 || (c == 127) then escape form c else
+    if is_control c then control (escape_in form) c else
     (if is_marked form c then 92 ∷ c ∷ [] else encode_utf8 c)
 
 -- a byte of a text that isn't UTF-8: one above ASCII by its number

@@ -1,18 +1,19 @@
 //! Texts out of a file as a line has them, plain or in JSON (RFC 8259, 7).
 
-ghost use Rattle.std.specs.Prelude.{◌≡◌, ◌++◌, ◌∷◌, [], ◌<◌, ◌||◌, ◌==◌, OnOk, string_bytes};
+ghost use Rattle.std.specs.Prelude.{◌≡◌, ◌++◌, ◌<◌, OnOk, string_bytes};
 ghost use Rattle.std.specs.List.{flat_map};
 ghost use Rattle.std.specs.Option.{option_copied};
 ghost use Rattle.std.specs.Str.{chars};
-ghost use Rattle.thorin_words.specs.Printed.{hex_digit};
 ghost use Rattle.thorin_print.specs.Spelled as spec;
 ghost use Rattle.thorin_print.specs.Spelled.{escape, is_marked, spelled_character, spelled_byte};
 
 use crate::form::Form;
 use std::alloc::AllocError;
+use thorin_words::{is_control, push_control, push_digits};
 
-/// Adds a text: `-` for none, in JSON a string or `null`. A character below a blank, and the one
-/// that deletes, is spelled by its number, as is each byte above ASCII of a text that isn't UTF-8.
+/// Adds a text: `-` for none, in JSON a string or `null`. A control, a separator of lines and a mark
+/// that turns the direction of a text are spelled by their numbers, as is each byte above ASCII of a
+/// text that isn't UTF-8.
 pub fn put_spelled_or(bytes: Option<&[u8]>, form: Form, text: &mut String) -> Result<(), AllocError>
     ensures { OnOk result (string_bytes text.new ≡ string_bytes text.old
         ++ spec.spelled_or form (option_copied bytes.entry)) }
@@ -100,11 +101,10 @@ fn put_character(c: char, form: Form, text: &mut String) -> Result<(), AllocErro
     ensures { OnOk result (string_bytes text.new ≡ string_bytes text.old
         ++ spelled_character form c) }
 {
-    let number = u32::from(c);
-    if number < 32 || number == 127 {
-        return put_escape(number, form, text);
+    if is_control(c) {
+        return push_control(text, escape_in(form), c);
     }
-    if is_marked(number, form) {
+    if is_marked(u32::from(c), form) {
         text.push_str("\\")?;
     }
     text.push(c)
@@ -127,8 +127,7 @@ fn put_escape(number: u32, form: Form, text: &mut String) -> Result<(), AllocErr
         ++ escape form number) }
 {
     text.push_str(escape_in(form))?;
-    put_digit(number / 16, text)?;
-    put_digit(number % 16, text)
+    push_digits(text, number)
 }
 
 /// What the two digits of such a number stand behind.
@@ -139,19 +138,4 @@ fn escape_in(form: Form) -> &'static str
         Form::Lines => "\\x",
         Form::Json => "\\u00",
     }
-}
-
-/// Adds a hexadecimal digit.
-fn put_digit(digit: u32, text: &mut String) -> Result<(), AllocError>
-    requires { digit < 16 }
-    ensures { OnOk result (string_bytes text.new ≡ string_bytes text.old
-        ++ hex_digit digit ∷ []) }
-{
-    let digit = digit as u8;
-    let byte = if digit < 10 {
-        b'0' + digit
-    } else {
-        b'a' - 10 + digit
-    };
-    text.push(char::from(byte))
 }

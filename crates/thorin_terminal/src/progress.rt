@@ -2,13 +2,15 @@
 
 ghost use Rattle.thorin_output.specs.Reads.{anything};
 
+use crate::inputs::{HostInputs, NamedFile};
 use dwp_elf::WritableObject;
 use std::cell::Cell;
 use std::io::{self, Write};
-use std::path::Path;
+use std::path::{AsPath, Path};
 use std::time::Instant;
 use thorin_errors::InputError;
-use thorin_output::{FileSystem, HostFiles};
+use thorin_inputs::count_units;
+use thorin_output::FileSystem;
 use thorin_print::Failure;
 
 /// Standard error, with a line that tells how far packing is.
@@ -129,19 +131,40 @@ impl<E: Write> Write for Lines<'_, '_, '_, E> {
 /// The files of the system, of which is counted what is read.
 #[derive(Drop)]
 pub struct CountedFiles<'c, 'r, 'e, E> {
-    files: HostFiles<'r>,
+    files: HostInputs<'r>,
     console: &'c Console<'r, 'e, E>,
+    /// Whether a line tells of each object that a file names.
+    names_objects: bool,
 }
 
 impl<'c, 'r, 'e, E: Write> CountedFiles<'c, 'r, 'e, E> {
-    /// The files of the runtime.
+    /// Those files, with a line for each object that one of them names, or without.
     pub fn new(
-        rt: &'r HostRuntime,
+        files: HostInputs<'r>,
         console: &'c Console<'r, 'e, E>,
+        names_objects: bool,
     ) -> CountedFiles<'c, 'r, 'e, E> {
         CountedFiles {
-            files: HostFiles::new(rt),
+            files,
             console,
+            names_objects,
+        }
+    }
+
+    /// The last file that the command line names and that was read. Asked for once.
+    pub fn last_named(&self) -> Option<NamedFile> {
+        self.files.last_named()
+    }
+
+    /// Tells of an object that a file names.
+    fn tell_object(&self, path: &str, object: &[u8]) {
+        if let Some(place) = self.files.place(path) {
+            let mut err = Lines(self.console);
+            let _ = match count_units(object) {
+                Some(1) => writeln!(err, "{place}: 1 unit"),
+                Some(units) => writeln!(err, "{place}: {units} units"),
+                None => writeln!(err, "{place}"),
+            };
         }
     }
 }
@@ -158,7 +181,14 @@ impl<E: Write> FileSystem for CountedFiles<'_, '_, '_, E> {
     fn read_regular_over(&self, path: Path<'_>, room: &mut Vec<u8>) -> Result<(), InputError> {
         self.files.read_regular_over(path, room)?;
         self.console.count(room.len());
+        if self.names_objects {
+            self.tell_object(path.path_text(), room);
+        }
         Ok(())
+    }
+
+    fn try_regular(&self, path: Path<'_>) -> Result<(), InputError> {
+        self.files.try_regular(path)
     }
 
     fn identity(&self, name: &str) -> Option<(u64, u64)> {

@@ -1,7 +1,7 @@
 //! Response files of the system.
 
 ghost use Rattle.std.specs.Prelude.{◌≡◌, None};
-ghost use Rattle.thorin_words.specs.Responses.{is_inside_of};
+ghost use Rattle.thorin_words.specs.Responses.{refusal_of};
 
 use std::cell::Cell;
 use std::io;
@@ -54,7 +54,7 @@ impl ResponseFiles for HostResponses<'_> {
 
 /// What a failed read of a file is.
 fn read_error(e: &io::Error) -> ResponseError
-    ensures { is_inside_of result ≡ None }
+    ensures { refusal_of result ≡ None }
 {
     if e.kind() == io::ErrorKind::OutOfMemory {
         ResponseError::Memory

@@ -1,12 +1,13 @@
 -- What words stand for, while they are read one after another.
 use Rattle.std.proofs.Common.{◌≡◌, ℕ, List, [], ◌∷◌, ◌++◌, map, length, take, Option, Some, Ok, Err}
 use Rattle.std.proofs.Common.{IfSome, Vec, String, string_bytes, refl, sym, append_assoc, false}
-use Rattle.std.proofs.Common.{true, ◌<◌, ◌+◌, get_or, drop, append-nil, Global}
+use Rattle.std.proofs.Common.{true, ◌<◌, ◌≤◌, ◌+◌, get_or, drop, append-nil, Global}
 use Rattle.std.proofs.Math.Seq.{take-append_seam}
 use Rattle.std.proofs.lemmas.List.{map-append, take-map, length-map, drop_more}
 use Rattle.std.proofs.lemmas.Option.{IfSome_then}
 use Rattle.thorin_words.specs.Responses.{Outcome, after, is_among, IsPlain, Stands, End, Plain}
-use Rattle.thorin_words.specs.Responses.{File, Inner, Itself, is_inside_of, words_in}
+use Rattle.thorin_words.specs.Responses.{File, Inner, Itself, Deep, refusal_of, words_in, Refusal}
+use Rattle.thorin_words.specs.Responses.{inside_itself, too_deep, most_deep, IsRefused}
 use Rattle.thorin_words.specs.Words.{words_of}
 use Rattle.thorin_words.specs.declared.responses.ResponseError.{ResponseError}
 
@@ -32,6 +33,15 @@ pub restored : (old all : List (String Global)) (name : List ℕ) (n : ℕ) → 
 restored old all name n count more =
     rw (← take-map, more, count, ← length-map old string_bytes, take-append_seam) refl
 
+-- as many names as there are texts of names
+pub flat_texts : (names : List (String Global)) → length names < 64
+    → length (map string_bytes names) < most_deep
+flat_texts names h = rw (length-map names string_bytes) h
+
+pub deep_texts : (names : List (String Global)) → 64 ≤ length names
+    → most_deep ≤ length (map string_bytes names)
+deep_texts names h = rw (length-map names string_bytes) h
+
 -- ---- a word
 
 -- a word inside the files of these names: its words stand behind those that were there
@@ -47,15 +57,20 @@ module _ (offer : List ℕ → Option (List ℕ) → Type 0) (names : List (List
       → IsIn offer names word old new
   itself old new is more = (word ∷ [], more, λ rest out stands. Plain names rest word out is stands)
 
-  -- one whose file is among those that were begun
-  pub refused : (e : ResponseError) → IfSome (is_inside_of e) (λ name. (word ≡ 64 ∷ name)
-      × (is_among names name ≡ true)) → IfSome (is_inside_of e) (λ name. (rest : List (List ℕ))
-      → Stands offer names (word ∷ rest) (Err name))
-  refused e h = IfSome_then (is_inside_of e) h (λ name k rest. rw k.0 (Itself names rest name k.1))
+  -- one whose file is among those that were begun, or too deep
+  stands_refused : (refusal : Refusal) → IsRefused offer names word refusal
+      → (rest : List (List ℕ)) → Stands offer names (word ∷ rest) (Err refusal)
+  stands_refused (inside_itself name) k rest = rw k.0 (Itself names rest name k.1)
+  stands_refused (too_deep name) k rest = rw k.0 (Deep names rest name k.3.0 k.1 k.3.1 k.2)
+
+  pub refused : (e : ResponseError) → IfSome (refusal_of e) (IsRefused offer names word)
+      → IfSome (refusal_of e) (λ refusal. (rest : List (List ℕ))
+      → Stands offer names (word ∷ rest) (Err refusal))
+  refused e h = IfSome_then (refusal_of e) h stands_refused
 
   -- one that names a file
   module _ {name text : List ℕ} (is : word ≡ 64 ∷ name) (fresh : is_among names name ≡ false)
-      (offered : offer name (Some text)) where
+      (offered : offer name (Some text)) (flat : length names < most_deep) where
     pub filed : (old new : List (List ℕ))
         → (own : List (List ℕ)) × (new ≡ old ++ own)
         × Stands offer (names ++ name ∷ []) (words_of text) (Ok own)
@@ -63,16 +78,17 @@ module _ (offer : List ℕ → Option (List ℕ) → Type 0) (names : List (List
     filed old new added = (
       added.0,
       added.1,
-      λ rest out stands. rw is (File names rest name text added.0 out fresh offered added.2 stands),
+      λ rest out stands. rw is (File names rest name text added.0 out fresh offered flat
+          added.2 stands),
     )
 
     -- one whose file has a file inside itself
-    pub inner : (e : ResponseError) → IfSome (is_inside_of e) (λ other.
+    pub inner : (e : ResponseError) → IfSome (refusal_of e) (λ other.
         Stands offer (names ++ name ∷ []) (words_of text) (Err other))
-        → IfSome (is_inside_of e) (λ other. (rest : List (List ℕ))
+        → IfSome (refusal_of e) (λ other. (rest : List (List ℕ))
         → Stands offer names (word ∷ rest) (Err other))
-    inner e h = IfSome_then (is_inside_of e) h (λ other k rest.
-        rw is (Inner names rest name text other fresh offered k))
+    inner e h = IfSome_then (refusal_of e) h (λ other k rest.
+        rw is (Inner names rest name text other fresh offered flat k))
 
 -- ---- words one after another
 
@@ -121,10 +137,10 @@ module _ {offer : List ℕ → Option (List ℕ) → Type 0} {names all words ol
           (so_far.continues _ (rw (split, ← same) (added.2 rest out (rw same stands))));
     }
 
-    pub stopped : (e : ResponseError) → IfSome (is_inside_of e) (λ name. (more : List (List ℕ))
+    pub stopped : (e : ResponseError) → IfSome (refusal_of e) (λ name. (more : List (List ℕ))
         → Stands offer now (word ∷ more) (Err name))
-        → IfSome (is_inside_of e) (λ name. Stands offer names all (Err name))
-    stopped e h = IfSome_then (is_inside_of e) h (λ name stop.
+        → IfSome (refusal_of e) (λ name. Stands offer names all (Err name))
+    stopped e h = IfSome_then (refusal_of e) h (λ name stop.
         so_far.continues (Err name) (rw (split, ← same) (stop rest)))
 
 -- ---- the words of a line

@@ -23,12 +23,18 @@ abbrev pub is_long_control : ℕ → Bool
 is_long_control c = (c == 0x61c) || (c == 0x200e) || (c == 0x200f)
     || (nat_lt 0x2027 c && nat_lt c 0x202f) || (nat_lt 0x2065 c && nat_lt c 0x206a)
 
+abbrev pub is_control : ℕ → Bool
+is_control c = is_short_control c || is_long_control c
+
+-- a control by its number: two digits behind what stands in front of a short one, as `\x`, or `\u`
+-- and four
+abbrev pub control : List ℕ → ℕ → List ℕ
+control short c = if is_short_control c then short ++ two_digits c else
+    92 ∷ 117 ∷ two_digits (c / 256) ++ two_digits (c % 256)
+
 -- a character: a control by its number, as `\x` and two digits, or `\u` and four
 abbrev pub printed_character : ℕ → List ℕ
-printed_character c =
-    if is_short_control c then 92 ∷ 120 ∷ two_digits c else
-    (if is_long_control c then 92 ∷ 117 ∷ two_digits (c / 256) ++ two_digits (c % 256)
-    else encode_utf8 c)
+printed_character c = if is_control c then control (92 ∷ 120 ∷ []) c else encode_utf8 c
 
 -- a text: each character that it spells
 unfoldable pub printed : List ℕ → List ℕ

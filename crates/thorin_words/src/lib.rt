@@ -8,6 +8,6 @@ mod responses;
 mod words;
 
 pub use identifier::hexadecimal;
-pub use printing::printed;
+pub use printing::{is_control, printed, push_control, push_digits};
 pub use responses::{ResponseError, ResponseFiles, expanded};
 pub use words::split_words;

@@ -4,7 +4,7 @@ ghost use Rattle.std.specs.Prelude.{◌≡◌, ◌++◌, ◌∷◌, [], ◌<◌,
 ghost use Rattle.std.specs.Prelude.{IfOk, OnOk};
 ghost use Rattle.thorin_words.specs.Printed as spec;
 ghost use Rattle.thorin_words.specs.Printed.{hex_digit, two_digits, printed_character};
-ghost use Rattle.thorin_words.specs.Printed.{is_short_control, is_long_control};
+ghost use Rattle.thorin_words.specs.Printed.{is_short_control, is_long_control, control};
 
 use std::alloc::{AllocError, Global};
 
@@ -29,17 +29,39 @@ fn push_printed(printed: &mut String, c: char) -> Result<(), AllocError>
     ensures { OnOk result (string_bytes printed.new ≡ string_bytes printed.old
         ++ printed_character c) }
 {
-    let number = u32::from(c);
-    if is_short_control(number) {
-        printed.push_str("\\x")?;
-        return push_digits(printed, number);
-    }
-    if is_long_control(number) {
-        printed.push_str("\\u")?;
-        push_digits(printed, number / 256)?;
-        return push_digits(printed, number % 256);
+    if is_control(c) {
+        return push_control(printed, "\\x", c);
     }
     printed.push(c)
+}
+
+/// Whether a character is a control, a separator of lines or a mark that turns the direction of a
+/// text: none is printed as it is.
+pub fn is_control(c: char) -> bool
+    ensures { result ≡ spec.is_control c }
+{
+    let number = u32::from(c);
+    is_short_control(number) || is_long_control(number)
+}
+
+/// Adds such a character by its number: the two digits of a short one behind `short`, or `\u` and
+/// four.
+///
+/// # Errors
+/// Want of memory.
+pub fn push_control(text: &mut String, short: &str, c: char) -> Result<(), AllocError>
+    requires { IsTrue (spec.is_control c) }
+    ensures { OnOk result (string_bytes text.new ≡ string_bytes text.old
+        ++ control short.now c) }
+{
+    let number = u32::from(c);
+    if is_short_control(number) {
+        text.push_str(short)?;
+        return push_digits(text, number);
+    }
+    text.push_str("\\u")?;
+    push_digits(text, number / 256)?;
+    push_digits(text, number % 256)
 }
 
 /// Whether the character of a number is a control character.
@@ -51,8 +73,7 @@ fn is_short_control(number: u32) -> bool
 
 /// Whether it separates lines, or turns the direction of a text.
 fn is_long_control(number: u32) -> bool
-    ensures is { result ≡ is_long_control number }
-    ensures bound { IsTrue result → number < 65536 }
+    ensures { result ≡ is_long_control number }
 {
     number == 0x61c
         || number == 0x200e
@@ -62,19 +83,22 @@ fn is_long_control(number: u32) -> bool
 }
 
 /// Adds the two digits of a number.
-fn push_digits(printed: &mut String, number: u32) -> Result<(), AllocError>
+///
+/// # Errors
+/// Want of memory.
+pub fn push_digits(text: &mut String, number: u32) -> Result<(), AllocError>
     requires { number < 256 }
-    ensures { OnOk result (string_bytes printed.new ≡ string_bytes printed.old
+    ensures { OnOk result (string_bytes text.new ≡ string_bytes text.old
         ++ two_digits number) }
 {
-    push_digit(printed, number / 16)?;
-    push_digit(printed, number % 16)
+    push_digit(text, number / 16)?;
+    push_digit(text, number % 16)
 }
 
 /// Adds a hexadecimal digit.
-fn push_digit(printed: &mut String, digit: u32) -> Result<(), AllocError>
+fn push_digit(text: &mut String, digit: u32) -> Result<(), AllocError>
     requires { digit < 16 }
-    ensures { OnOk result (string_bytes printed.new ≡ string_bytes printed.old
+    ensures { OnOk result (string_bytes text.new ≡ string_bytes text.old
         ++ hex_digit digit ∷ []) }
 {
     let digit = digit as u8;
@@ -83,5 +107,5 @@ fn push_digit(printed: &mut String, digit: u32) -> Result<(), AllocError>
     } else {
         b'a' - 10 + digit
     };
-    printed.push(char::from(byte))
+    text.push(char::from(byte))
 }

@@ -4,7 +4,7 @@ ghost use Rattle.std.specs.Prelude.{◌≡◌, ◌≤◌, ◌+◌, ◌++◌, ◌
 ghost use Rattle.std.specs.Prelude.{length, IfOk, IfErr, OnOk, IfSome, MatchOption, option_map};
 ghost use Rattle.std.specs.Prelude.{string_bytes};
 ghost use Rattle.thorin_words.specs.Responses.{is_among, Answers, IsAdded, AreAdded, Opens};
-ghost use Rattle.thorin_words.specs.Responses.{is_inside_of, words_in, name_in};
+ghost use Rattle.thorin_words.specs.Responses.{refusal_of, words_in, name_in};
 ghost use Rattle.std.specs.List.{list_any};
 ghost use Rattle.std.specs.Str.{bytes_eq};
 ghost use Rattle.thorin_words.specs.Words.{words_of};
@@ -22,6 +22,9 @@ const MOST_FILES: u32 = 2000;
 /// words cost beside.
 const MOST_BYTES: u32 = 1 << 26;
 
+/// How many of them may be inside one another.
+const MOST_DEEP: usize = 64;
+
 /// What a word costs beside its bytes.
 const BYTES_OF_A_WORD: usize = 32;
 
@@ -38,7 +41,7 @@ pub trait ResponseFiles {
         ensures offered { IfOk result (λ text. offer self.now name.now
             (option_map (λ bytes. bytes.items) text)) }
         ensures within { IfOk result (λ text. IfSome text (λ bytes. length bytes.items ≤ most)) }
-        ensures outside { IfErr result (λ e. is_inside_of e ≡ None) };
+        ensures outside { IfErr result (λ e. refusal_of e ≡ None) };
 }
 
 /// Why the words of a command line can't be told.
@@ -46,6 +49,8 @@ pub trait ResponseFiles {
 pub enum ResponseError {
     /// A response file is inside itself, over any number of steps; its name.
     Inside(String),
+    /// A response file is inside as many others as may be inside one another; its name.
+    TooDeep(String),
     /// A response file can't be read.
     Unreadable,
     /// There are too many response files.
@@ -95,7 +100,8 @@ enum Opened<'w> {
 /// word.
 ///
 /// # Errors
-/// `Inside` where a file is inside itself; `Unreadable`, `TooMany`, `TooLong`, `NotUtf8`, `Memory`.
+/// `Inside` where a file is inside itself, `TooDeep` where one is inside 64 others; `Unreadable`,
+/// `TooMany`, `TooLong`, `NotUtf8`, `Memory`.
 pub fn expanded<S: AsStr, F: ResponseFiles>(
     alloc: Global,
     files: &F,
@@ -118,7 +124,7 @@ pub fn expanded<S: AsStr, F: ResponseFiles>(
 #[tactic(auto, using(crate::proofs::Standing::alone))]
 fn begun(alloc: Global, program: &str) -> Result<Vec<String>, ResponseError>
     ensures words { IfOk result (λ all. words_in all ≡ program.now ∷ []) }
-    ensures outside { IfErr result (λ e. is_inside_of e ≡ None) }
+    ensures outside { IfErr result (λ e. refusal_of e ≡ None) }
 {
     let mut all = Vec::new(alloc);
     all.push(String::from_str(alloc, program)?)?;
@@ -222,7 +228,7 @@ fn add_text<F: ResponseFiles>(
 fn push_name(names: &mut Vec<String>, name: String) -> Result<(), ResponseError>
     ensures names { OnOk result (words_in names.new
         ≡ words_in names.old ++ string_bytes name ∷ []) }
-    ensures outside { IfErr result (λ e. is_inside_of e ≡ None) }
+    ensures outside { IfErr result (λ e. refusal_of e ≡ None) }
 {
     names.push(name)?;
     Ok(())
@@ -233,7 +239,7 @@ fn push_name(names: &mut Vec<String>, name: String) -> Result<(), ResponseError>
 fn add_plain(word: &str, left: Left, all: &mut Vec<String>) -> Result<Left, ResponseError>
     ensures added { OnOk result (words_in all.new ≡ words_in all.old ++ word.now ∷ []) }
     ensures files { IfOk result (λ now. now.files ≡ left.files) }
-    ensures outside { IfErr result (λ e. is_inside_of e ≡ None) }
+    ensures outside { IfErr result (λ e. refusal_of e ≡ None) }
 {
     let left = left_after(left, BYTES_OF_A_WORD)?;
     all.push(String::from_str(*all.allocator(), word)?)?;
@@ -243,7 +249,7 @@ fn add_plain(word: &str, left: Left, all: &mut Vec<String>) -> Result<Left, Resp
 /// A word is UTF-8.
 fn text_of(word: &[u8]) -> Result<&str, ResponseError>
     ensures text { IfOk result (λ text. text.now ≡ word.now) }
-    ensures outside { IfErr result (λ e. is_inside_of e ≡ None) }
+    ensures outside { IfErr result (λ e. refusal_of e ≡ None) }
 {
     match str::from_utf8(word) {
         Ok(text) => Ok(text),
@@ -252,6 +258,7 @@ fn text_of(word: &[u8]) -> Result<&str, ResponseError>
 }
 
 /// What a word is inside the files of these names.
+#[tactic(auto, using(crate::proofs::Standing::flat_texts, crate::proofs::Standing::deep_texts))]
 fn open_word<'w, F: ResponseFiles>(
     files: &F,
     alloc: Global,
@@ -271,6 +278,9 @@ fn open_word<'w, F: ResponseFiles>(
     match files.text(name, left.bytes)? {
         None => Ok(Opened::Word(word)),
         Some(text) => {
+            if MOST_DEEP <= names.len() {
+                return Err(ResponseError::TooDeep(String::from_str(alloc, name)?));
+            }
             let left = left_after(with_file_less(left)?, text.len())?;
             Ok(Opened::File(String::from_str(alloc, name)?, text, left))
         }
@@ -288,7 +298,7 @@ fn file_name(word: &str) -> Option<&str>
 /// What is left where one file more is named.
 fn with_file_less(left: Left) -> Result<Left, ResponseError>
     ensures files { IfOk result (λ now. now.files + 1 ≡ left.files) }
-    ensures outside { IfErr result (λ e. is_inside_of e ≡ None) }
+    ensures outside { IfErr result (λ e. refusal_of e ≡ None) }
 {
     if left.files == 0 {
         return Err(ResponseError::TooMany);
@@ -303,7 +313,7 @@ fn with_file_less(left: Left) -> Result<Left, ResponseError>
 fn left_after(left: Left, count: usize) -> Result<Left, ResponseError>
     ensures files { IfOk result (λ now. now.files ≡ left.files) }
     ensures bytes { IfOk result (λ now. now.bytes + count ≡ left.bytes) }
-    ensures outside { IfErr result (λ e. is_inside_of e ≡ None) }
+    ensures outside { IfErr result (λ e. refusal_of e ≡ None) }
 {
     if count > left.bytes as usize {
         return Err(ResponseError::TooLong);

@@ -1,4 +1,4 @@
-use Rattle.thorin_check.specs.Checking.{executables_of}
+use Rattle.thorin_check.specs.Executables.{executables_of}
 use Rattle.thorin_check.proofs.Checked.{checked}
 use Rattle.thorin_print.proofs.Printed.{grown}
 use Rattle.thorin_check.proofs.checking.check_entries.Goals as goal

@@ -1,15 +1,20 @@
-use Rattle.thorin_check.proofs.Faulted.{rows_then}
-use Rattle.thorin_check.proofs.Told.{told_then, then_or, stopped_behind}
+use Rattle.std.proofs.Common.{◌∙◌, sym}
+use Rattle.thorin_check.proofs.NamedRows.{covers_none, covers_told, covers_all}
+use Rattle.thorin_check.proofs.Told.{none_told, then_or, stopped_behind}
 use Rattle.thorin_check.proofs.rows.check_rows.Goals as goal
 
+pub loop-i-init : goal.loop-i-init
+loop-i-init g c = none_told _ (covers_none _ _ _ _ c.requires.some) _
+
 pub loop-i-preserved : goal.loop-i-preserved
-loop-i-preserved g c =
-    told_then (rows_then c.args.rows.kind.now) c.loop-i.invariant c.in-Ok.ensures
+loop-i-preserved g c = covers_told _ _ _ _ c.requires.sorted c.loop-i.i _ _ _ c.loop-i-test.true
+    (sym c.is_next.ensures ∙ c.if-not-is_next.false) c.from-row.ensures c.loop-i.invariant
+    c.in-Ok.ensures
 
 pub returns-in-Err : goal.returns-in-Err
 returns-in-Err g c = stopped_behind _ c.loop-i.invariant c.in-Err.ensures
 
 pub returns : goal.returns
 returns g c =
-    then_or _ _ _ _ _ _ _ (rows_then c.args.rows.kind.now) c.tell_rows-2.result
-    c.loop-i.invariant c.tell_rows-2.ensures
+    then_or _ _ _ _ _ _ _ (λ ls ms. covers_all _ _ _ _ _ _ ls ms c.loop-i-test.false)
+    c.tell_rows-2.result c.loop-i.invariant c.tell_rows-2.ensures

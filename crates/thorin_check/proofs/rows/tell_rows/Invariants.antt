@@ -1,9 +1,9 @@
-use Rattle.thorin_check.specs.Faults.{AreRows}
-use Rattle.thorin_check.specs.Telling.{progress, Told}
+use Rattle.thorin_check.specs.Faults.{row_faults}
+use Rattle.thorin_check.specs.Telling.{progress, Told, Is}
 use Rattle.thorin_check.proofs.rows.tell_rows.Given as goal
 
--- the lines so far
+-- the faults so far
 abbrev pub invariant-loop-row : goal.invariant-loop-row
-invariant-loop-row g l = Told (AreRows l.kind)
+invariant-loop-row g l = Told (Is (row_faults l.kind l.first l.row))
     (progress (g.O.Write.contents l.initial.out) l.initial.faults)
     (progress (g.O.Write.contents l.out) l.faults)

@@ -5,6 +5,7 @@ pub returns : goal.returns
 returns c =
     let f = c.floor_char_boundary-first.ensures in
     let l = c.floor_char_boundary-last.ensures in
-    rw (← is_cut c.args.name.now _ _ _ _ c.if-name-le-MOST.false f.bound f.boundary f.nearest
+    rw (← is_cut c.args.end c.requires.some c.args.text.now _ _ _ _ c.if-text-most.false f.bound
+    f.boundary f.nearest
     l.bound l.boundary l.nearest c.range.ensures.value c.range_from.ensures.value)
     c.with_dots-2.ensures

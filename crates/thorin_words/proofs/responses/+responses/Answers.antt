@@ -43,7 +43,7 @@ pub add_word-returns-in_err-left-in-File-clause-added :
 add_word-returns-in_err-left-in-File-clause-added g t c =
     let opens = rw (c.in-File.is, c.as_slice.ensures.value) at c.in_ok-word.ensures in
     let stop = inner (g.F.ResponseFiles.offer c.args.files.now) (words_in c.args.names.now)
-    c.args.word.now opens.0 opens.1 opens.2 c.in_err-left-in-File.field-0.0
+    c.args.word.now opens.0 opens.1 opens.2 opens.4 c.in_err-left-in-File.field-0.0
     c.in_err-left-in-File.ensures.added in
     search rules
 
@@ -51,7 +51,7 @@ pub add_word-returns-in_ok-left-in-File-clause-added :
     goal.add_word-returns-in_ok-left-in-File-clause-added
 add_word-returns-in_ok-left-in-File-clause-added g t c =
     let opens = rw (c.in-File.is, c.as_slice.ensures.value) at c.in_ok-word.ensures in
-    filed _ _ _ opens.0 opens.1 opens.2 _ _ c.in_ok-left-in-File.ensures.added
+    filed _ _ _ opens.0 opens.1 opens.2 opens.4 _ _ c.in_ok-left-in-File.ensures.added
 
 pub add_word-returns-in_ok-left-in-Word-clause-added :
     goal.add_word-returns-in_ok-left-in-Word-clause-added
