@@ -1,7 +1,9 @@
 pub mod Terms
 pub mod HighBits
+pub mod Loops
 pub mod LowBits
 pub mod Rounds
 pub mod States
 pub mod Stripes
 pub mod Values
+pub mod Widths
