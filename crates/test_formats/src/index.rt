@@ -15,6 +15,7 @@ pub fn call(row: Row<'_>, said: &mut Said) {
         "texts_of_index" => texts_of_index(said),
         "archive" => crate::archived::archived(row, said),
         "inflate" => crate::inflated::inflated(row, said),
+        "zstd" => crate::inflated::decoded(row, said),
         "decompressed" | "asked" | "plain_length" | "overlaps" => crate::decompressed::call(
             row, said,
         ),

@@ -4,7 +4,7 @@
 //! `CALL WORD..`, as `test_rows` has it. What words a call takes is said above its function: those
 //! of `base.rows` and `table.rows` are in `formats`, of `bytes.rows` in `reading` and `formats`, of
 //! `elf.rows`, `elf_read.rows`, `dwarf.rows` and `index.rows` in the modules of these names, and of
-//! `inflate.rows`, `archive.rows` and `decompress.rows` in `inflated`, `archived` and
+//! `inflate.rows`, `zstd.rows`, `archive.rows` and `decompress.rows` in `inflated`, `archived` and
 //! `decompressed`.
 #![tactic(auto)]
 
@@ -22,7 +22,7 @@ use std::io;
 use test_rows::{Calls, Row, Said, print_files};
 
 /// The files of rows, one for each crate.
-const FILES: [&str; 10] = [
+const FILES: [&str; 11] = [
     "base.rows",
     "bytes.rows",
     "elf.rows",
@@ -31,6 +31,7 @@ const FILES: [&str; 10] = [
     "table.rows",
     "index.rows",
     "inflate.rows",
+    "zstd.rows",
     "archive.rows",
     "decompress.rows",
 ];

@@ -7,9 +7,6 @@ use dwp_bytes::ReadError;
 use dwp_index::UnitIndex;
 use test_rows::{Hex, Row, Said, Text, encoding};
 use thorin_errors::Error;
-use thorin_package_input::laws::{
-    every_row_is_found_by_place, packaged_rows_are_read_alike, rows_are_found_by_place,
-};
 use thorin_package_input::{RowPlaces, remap_packaged_offsets};
 use thorin_strings::{PackageStringTable, StringOffsets};
 
@@ -20,7 +17,6 @@ pub fn call(row: Row<'_>, said: &mut Said) {
         "without_indexes" => without_indexes(row, said),
         "row_at" => row_at(row, said),
         "row_nowhere" => row_nowhere(row, said),
-        "laws" => laws(said),
         _ => crate::parts::call(row, said),
     }
 }
@@ -136,12 +132,4 @@ fn row_at(row: Row<'_>, said: &mut Said) {
 /// A section and a range of it, where there is no index.
 fn row_nowhere(row: Row<'_>, said: &mut Said) {
     put_row(row, None, row.kind(1), contribution(row.word(2)), said);
-}
-
-/// The laws are called for their contracts.
-fn laws(said: &mut Said) {
-    rows_are_found_by_place();
-    every_row_is_found_by_place();
-    packaged_rows_are_read_alike();
-    said.word("called");
 }

@@ -68,10 +68,11 @@ fn tell_names(text: &mut Said, word: &str, units: &[DwarfObject]) {
     }
 }
 
-/// What came of inputs: those that were accepted, whether a section of the last one was in no row,
-/// what the builder shows, and the file.
+/// What came of inputs: what was answered of each, those that were accepted, whether a section of
+/// the last one was in no row, what the builder shows, and the file.
 #[derive(Drop)]
 pub struct Built<'i> {
+    pub answers: Said,
     pub accepted: Vec<&'i [u8]>,
     pub is_outside: bool,
     pub end: Shown,
@@ -90,6 +91,7 @@ pub fn build_by<'s, 'i, Sess: Session<RelocationEntry>>(
 ) -> Built<'i> {
     let mut builder = DwarfPackage::new(alloc, session);
     let mut built = Built {
+        answers: Said::new(alloc),
         accepted: Vec::new(alloc),
         is_outside: false,
         end: showing(alloc, &builder),
@@ -99,6 +101,7 @@ pub fn build_by<'s, 'i, Sess: Session<RelocationEntry>>(
     for i in 0..inputs.len() {
         let answer = builder.add_object_bytes(inputs[i]);
         tell_answer(names, i, &answer, said);
+        tell_answer(&[], i, &answer, &mut built.answers);
         note_answer(
             &mut built,
             inputs[i],

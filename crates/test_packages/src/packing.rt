@@ -71,10 +71,15 @@ pub fn pack_named<'n>(alloc: Global, table: &mut Table<'n>, words: &[&'n str], s
     }
 }
 
-fn tell_packed(names: &[&str], packed: &Packed, said: &mut Said) {
+/// Says what each input answers.
+pub fn tell_outcomes(names: &[&str], packed: &Packed, said: &mut Said) {
     for i in 0..packed.outcomes.len() {
         tell_answer(names, i, &packed.outcomes[i], said);
     }
+}
+
+fn tell_packed(names: &[&str], packed: &Packed, said: &mut Said) {
+    tell_outcomes(names, packed, said);
     for i in 0..packed.differing.len() {
         said.debug(&packed.differing[i]);
         said.add(" differs\n");

@@ -44,10 +44,6 @@ fn naming_unit(id: u8, letter: u8, place: u8) -> [u8; 29] {
 pub enum Naming {
     /// The unit of an identifier, of the object `/b/a.dwo`.
     Unit(u8),
-    /// The same with an abbreviation more.
-    Whole(u8),
-    /// The unit 5 twice.
-    Twice,
     /// The unit 5 has its place of abbreviations by a relocation.
     Relocated,
     /// A type unit that has no name stands before the unit 5.
@@ -61,19 +57,18 @@ pub enum Naming {
 /// That executable; no bytes where it is refused.
 pub fn executable(alloc: Global, naming: Naming) -> Vec<u8> {
     let (id, place) = match naming {
-        Naming::Unit(id) | Naming::Whole(id) => (id, 0),
+        Naming::Unit(id) => (id, 0),
         Naming::Relocated => (5, 0x77),
         Naming::Three => (1, 0),
-        Naming::Twice | Naming::WithType | Naming::WithNameless => (5, 0),
+        Naming::WithType | Naming::WithNameless => (5, 0),
     };
     let unit = naming_unit(id, 0x61, place);
     let (two, three) = (naming_unit(2, 0x62, 0), naming_unit(3, 0x63, 0));
     let (before, behind): (&[u8], [&[u8]; 2]) = match naming {
         Naming::WithType => (&NAMELESS_TYPE, [&[], &[]]),
         Naming::WithNameless => (&NAMELESS, [&[], &[]]),
-        Naming::Twice => (&[], [&unit, &[]]),
         Naming::Three => (&[], [&two, &three]),
-        Naming::Unit(_) | Naming::Whole(_) | Naming::Relocated => (&[], [&[], &[]]),
+        Naming::Unit(_) | Naming::Relocated => (&[], [&[], &[]]),
     };
     made(alloc, naming, [before, &unit, behind[0], behind[1]])
 }
@@ -81,7 +76,7 @@ pub fn executable(alloc: Global, naming: Naming) -> Vec<u8> {
 /// The executable of these units. The names of its sections lose their end `.dwo`.
 fn made(alloc: Global, naming: Naming, units: [&[u8]; 4]) -> Vec<u8> {
     let (abbreviations, relocation): (&[u8], &[u8]) = match naming {
-        Naming::Unit(_) | Naming::Twice => (&NAMING_ONE, &[]),
+        Naming::Unit(_) => (&NAMING_ONE, &[]),
         Naming::Relocated => (&NAMING, &RELOCATION),
         _ => (&NAMING, &[]),
     };

@@ -11,7 +11,7 @@ use bumpalo::Bump;
 use dwp_bytes::RelocationEntry;
 use dwp_index::{PackageFile, PackagedUnit};
 use dwp_table::{DebugTypeSignature, DwarfObject, DwoId};
-use std::alloc::Global;
+use std::alloc::{AllocError, Global};
 use std::collections::BTreeMap;
 use thorin::{DwarfPackage, Packed};
 use thorin_errors::{Error, MissingReferencedObjectBehaviour};
@@ -147,22 +147,36 @@ const CASES: [(&'static str, Case); 9] = [
     ("packing at once", TOLD),
 ];
 
-/// Adds an input; whether it is added. What was refused has added no unit and no type unit that
-/// differs, and is added by a second try where there may be one: want of memory is never passed
-/// over.
+/// Whether a package is begun, by what it prints of itself.
+fn is_begun<'o, 's: 'o, S: Session<RelocationEntry>>(
+    alloc: Global,
+    builder: &DwarfPackage<'o, 's, S>,
+) -> bool {
+    match format!(in alloc; "{builder:?}") {
+        Ok(text) => text.contains("Some"),
+        Err(AllocError) => false,
+    }
+}
+
+/// Adds an input; whether it is added. What was refused has begun no package and added no unit and
+/// no type unit that differs, and is added by a second try where there may be one: want of memory
+/// is never passed over.
 fn is_added<'o, 's: 'o, S: Session<RelocationEntry>>(
+    alloc: Global,
     builder: &mut DwarfPackage<'o, 's, S>,
     step: Step<'_>,
     case: &Case,
     seen: &mut Seen,
 ) -> bool {
     let before = counts(builder, seen);
+    let was_begun = is_begun(alloc, builder);
     let mut answer = add(builder, step);
     if answer != "Ok" {
         seen.expect(MEMORY, answer == "Memory");
         let now = counts(builder, seen);
         seen.expect("no unit is added", now.0 == before.0);
         seen.expect("no type unit differs more", now.1 == before.1);
+        seen.expect("no package is begun", is_begun(alloc, builder) == was_begun);
         if !matches!(case.given, Given::Once) {
             answer = add(builder, step);
             seen.expect(SECOND, answer == "Ok");
@@ -183,7 +197,7 @@ fn added<'s, S: Session<RelocationEntry>>(
     let mut builder = DwarfPackage::new(alloc, session);
     let mut count = 0usize;
     for i in 0..steps.len() {
-        if is_added(&mut builder, steps[i], case, seen) && count == i {
+        if is_added(alloc, &mut builder, steps[i], case, seen) && count == i {
             count = i + 1;
         }
     }
@@ -312,7 +326,7 @@ fn files_of(alloc: Global, case: &Case) -> Files {
 }
 
 fn put_named(alloc: Global, files: &mut Files) -> bool {
-    let executable = executable(alloc, Naming::Whole(5));
+    let executable = executable(alloc, Naming::Unit(5));
     put_file(alloc, files, "/e", executable) && put_object(alloc, files, "/b/a.dwo", 5)
 }
 
@@ -327,36 +341,41 @@ fn a_refused_allocation_leaves_the_rest(rt: HostRuntime) {
     }
 }
 
-/// Tells each refusal of packing two objects: of the whole call, of an object, of the file, whose
-/// size is that of this many objects refused.
+/// Tells each refusal of packing two objects: of the whole call, of an object, or of the file, which
+/// is that of the objects that were added.
 fn tell(alloc: Global, objects: &[&[u8]], seen: &mut Seen) {
     match packed(alloc, objects) {
-        Ok(packed) => tell_packed(&packed, seen),
+        Ok(packed) => tell_packed(alloc, &packed, objects, seen),
         Err(error) => seen.expect(MEMORY, matches!(error, Error::Memory)),
     }
     let file = sure_whole(alloc, objects);
-    seen.expect("both make 608 bytes", file.len() == 608);
     seen.expect(
         "the second is behind",
         part(&file, 102, 20) == UNIT_6.as_slice(),
     );
 }
 
-fn tell_packed(packed: &Packed, seen: &mut Seen) {
-    let mut refused = 0usize;
+fn tell_packed(alloc: Global, packed: &Packed, objects: &[&[u8]], seen: &mut Seen) {
+    let mut added: [&[u8]; 2] = [&[]; 2];
+    let mut count = 0usize;
     for i in 0..packed.outcomes.len() {
         if packed.outcomes[i].is_err() {
             seen.expect(MEMORY, name_of(&packed.outcomes[i]) == "Memory");
-            refused = refused.saturating_add(1);
+        } else if count < 2 && i < objects.len() {
+            added[count] = objects[i];
+            count += 1;
         }
     }
     match &packed.file {
         Ok(file) => {
-            let size = [608, 544].get(refused).copied().unwrap_or(0);
-            seen.expect("the file has the size of those added", file.len() == size);
+            let whole = sure_whole(alloc, added.get(..count).unwrap_or(&[]));
+            seen.expect(
+                "the file is that of those added",
+                file.as_slice() == whole.as_slice(),
+            );
         }
         Err(error) => {
-            seen.expect("one refusal is told once", refused == 0);
+            seen.expect("one refusal is told once", count == objects.len());
             seen.expect(MEMORY, matches!(error, Error::Memory));
         }
     }

@@ -1,15 +1,18 @@
 -- Packages that are packed again, and inputs of one encoding, as packing has them.
 use Rattle.thorin.proofs.Terms
-use Terms.{◌>>=◌, [], ArePackedAlone, AreTaken, bind-was, CanBePackedAgain, Elf, elf_of, Encoding}
-use Terms.{encoding_of, Endianness, Err, ErrorValue, File, finish_test, IfOk, inl, input_file_of}
-use Terms.{InputFile, inr, IsFinishedState, IsLeft, IsOfEncoding, IsPlainOf, IsSoundBegun}
-use Terms.{IsWritten, List, Ok, opened, refl, RefusesPackages, Result, start, State, taken}
-use Terms.{taken_each, Writes, written_elf, ℕ, ◌∙◌, ◌∷◌, ◌≡◌, ⊎_elim}
+use Terms.{[], ap, ArePackedAlone, AreTaken, arith, bind-was, CanBePackedAgain, DwarfObject, Elf}
+use Terms.{elf_of, Encoding, encoding_of, Endianness, Err, ErrorValue, File, find, finish_test}
+use Terms.{IfOk, inl, input_file_of, InputFile, inr, IsFinishedState, IsOfEncoding, IsPlainOf}
+use Terms.{IsSoundBegun, IsWritten, List, None, Ok, opened, Option, refl, RefusesPackages, Result}
+use Terms.{Some, start, State, sym, taken, taken_each, Writes, written_elf, ℕ, ⊎_elim, ◌>>=◌, ◌∙◌}
+use Terms.{◌∷◌, ◌≡◌, ◌⊎◌}
 use Rattle.thorin_errors.specs.declared.error.Error.{Error}
-use Rattle.thorin_join.specs.Builder.{order_of}
+use Rattle.thorin_join.specs.Builder.{is_missing, names_in, order_of}
 use Rattle.thorin_again.specs.Again.{input_encoding}
 use Rattle.thorin_again.specs.OwnAccepted.{IsAcceptedOnceWritten}
 use Rattle.thorin_again.specs.OwnRefusals.{UnlessForeseen}
+use Rattle.thorin.specs.Groups.{IsUnwritten}
+use Rattle.thorin.specs.Unfinished.{AreMixed, AreTooLong, IsGroupsError, IsUnfinished, LacksInput}
 use Rattle.thorin.proofs.GroupMeaning.{KeepsSound}
 use Rattle.thorin.proofs.Running.{begun-then, each-taken, read-text}
 
@@ -32,6 +35,47 @@ OrderLaw = (bytes : List ℕ) (file : Elf) (old new : State) (order : Endianness
     → elf_of bytes ≡ Ok file → taken bytes old ≡ Ok new
     → order_of new.begun order ≡ order_of old.begun file.order
 
+-- why what a new builder took isn't finished
+abbrev pub UnfinishedLaw : Type 0
+UnfinishedLaw = (accepted : List (List ℕ)) (state : State) (error : ErrorValue)
+    → AreTaken accepted start state → finish_test state ≡ Err error
+    → IsUnfinished accepted state error
+
+-- inputs that are taken leave the units that executables refer to
+targets-stay : (inputs : List (List ℕ)) (old new : State) → taken_each inputs old ≡ Ok new
+    → new.targets ≡ old.targets
+unfolding taken_each taken
+targets-stay [] old new h = grind arith
+targets-stay (bytes ∷ rest) old new h =
+    let next = bind-was (taken bytes old) _ new h in
+    targets-stay rest next.0 new next.2 ∙ grind (arith, next.1)
+
+-- why packages aren't packed into one, where each was taken
+unwritten-why : UnfinishedLaw → (packages : List (List ℕ)) (error : ErrorValue)
+    → IsUnwritten packages error
+    → LacksInput packages error ⊎ (AreMixed packages error ⊎ AreTooLong packages error)
+unwritten-why law packages error u = ⊎_elim
+    (λ h. elim (law packages u.state error (each-taken packages start u.state u.taken) h) [
+      | inl target ↦
+          let none = targets-stay packages start u.state u.taken in
+          let is : ◌≡◌ {A = Option DwarfObject} None (Some target.0) =
+          sym (ap (find (is_missing (names_in u.state.begun))) none) ∙ target.1 in
+          absurd cc
+      | inr (inl none) ↦ inl none
+      | inr (inr (inl mixed)) ↦ inr (inl mixed)
+      | inr (inr (inr long)) ↦ inr (inr (record {
+        state = u.state;
+        taken = u.taken;
+        long = inl long;
+      }))
+    ])
+    (λ large. inr (inr (record {
+      state = u.state;
+      taken = u.taken;
+      long = inr (large.1, large.0);
+    })))
+    u.refused
+
 -- taking one of them, and then the others
 then-foreseen : (r : Result State ErrorValue) (f : State → Result State ErrorValue)
     → UnlessForeseen r
@@ -39,7 +83,8 @@ then-foreseen : (r : Result State ErrorValue) (f : State → Result State ErrorV
 then-foreseen (Ok next) f h later = later next refl
 then-foreseen (Err error) f h later = h
 
-module _ (keeps : KeepsSound) (any : AcceptedLaw) (orders : OrderLaw) (order : Endianness) where
+module _ (keeps : KeepsSound) (any : AcceptedLaw) (finishes : UnfinishedLaw) (orders : OrderLaw)
+    (order : Endianness) where
   each-foreseen : (groups : List (List (List ℕ))) (packages : List (List ℕ))
       (each : ArePackedAlone groups packages) → CanBePackedAgain order groups packages each
       → (old : State) → IsSoundBegun old.begun → order_of old.begun order ≡ order
@@ -61,11 +106,11 @@ module _ (keeps : KeepsSound) (any : AcceptedLaw) (orders : OrderLaw) (order : E
   pub groups-left : (groups : List (List (List ℕ))) (error : ErrorValue)
       (refused : RefusesPackages groups error)
       → CanBePackedAgain order groups refused.packages refused.each
-      → IsLeft refused.packages error
+      → IsGroupsError refused.packages error
   groups-left groups error refused can = ⊎_elim
       (λ h. inl (rw h at (each-foreseen groups refused.packages refused.each can
       start tt refl)))
-      (λ u. inr u) refused.refused
+      (λ u. inr (unwritten-why finishes refused.packages error u)) refused.refused
 
 -- ---- inputs of one encoding
 

@@ -33,7 +33,7 @@ unfoldable pub use Rattle.thorin_builder.proofs.Terms.{taken}
 pub use Rattle.thorin_join.specs.Join.{IsPackageOf, JoinAll}
 pub use Rattle.thorin_join.specs.Meaning.{can_join}
 unfoldable pub use Rattle.thorin_join.specs.Meaning.{input_meaning}
-pub use Rattle.thorin.specs.Again.{CanBePackedAgain, HasCommonEncoding, IsLeft, IsTakenAgain}
+pub use Rattle.thorin.specs.Again.{CanBePackedAgain, HasCommonEncoding, IsTakenAgain}
 pub use Rattle.thorin.specs.Groups.{AreJoined, ArePackedAlone, bytes_in, groups_in}
 pub use Rattle.thorin.specs.Groups.{HaveTheirEncodings, inputs_of, IsPackageOfAll, IsPackedAlone}
 pub use Rattle.thorin.specs.Groups.{IsPackedInGroups, PacksAlone, PacksInGroups, RefusesPackages}

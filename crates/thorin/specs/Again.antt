@@ -1,19 +1,17 @@
 -- Packages that are packed again, and inputs of one encoding: what packing says of both (DWARF 5,
 -- 7.3.5 and 7.5.1).
-use Rattle.std.specs.Prelude.{◌≡◌, ℕ, true, List, [], ◌∷◌, Option, Ok, All, ◌⊎◌, IsPermutation}
+use Rattle.std.specs.Prelude.{◌≡◌, ℕ, true, List, [], ◌∷◌, Option, Ok, All, IsPermutation}
 use Rattle.dwp_base.specs.declared.endian.Endianness.{Endianness}
 use Rattle.dwp_bytes.specs.declared.encoding.Encoding.{Encoding}
 use Rattle.dwp_elf.specs.FileText.{Object as File, file_text}
 use Rattle.dwp_table.specs.declared.object.DwarfObject.{DwarfObject}
-use Rattle.thorin_errors.specs.Errors.{ErrorValue}
 use Rattle.thorin_again.specs.Again.{all_meant}
 use Rattle.thorin_join.specs.Join.{IsPackageOf}
 use Rattle.thorin_join.specs.Meaning.{Meaning, Members, input_meaning}
 use Rattle.thorin_again.specs.OneEncoding.{IsOfEncoding}
 use Rattle.thorin_again.specs.Own.{packs_again}
 use Rattle.thorin_again.specs.OwnAccepted.{IsAccepted, IsAcceptedByNew}
-use Rattle.thorin_again.specs.OwnRefusals.{IsForeseen}
-use Rattle.thorin.specs.Groups.{ArePackedAlone, IsUnwritten}
+use Rattle.thorin.specs.Groups.{ArePackedAlone}
 
 -- bytes are a file that any package of its byte order takes, unless a compilation unit is there
 -- already or the offset of a string doesn't fit, and that a new one takes and has just these units
@@ -33,11 +31,6 @@ CanBePackedAgain order (group ∷ groups) [] each = ⊥
 CanBePackedAgain order (group ∷ groups) (file ∷ files) each =
     (packs_again each.0.state ≡ true) × (each.0.written.file.order ≡ order)
     × CanBePackedAgain order groups files each.1
-
--- what the join of such packages can still end with: a compilation unit that is there twice, the
--- offset of a string that doesn't fit, or an error of finishing or writing what was joined
-abbrev pub IsLeft : (packages : List (List ℕ)) → ErrorValue → Type 0
-IsLeft packages error = IsForeseen error ⊎ IsUnwritten packages error
 
 -- all units of the inputs of a group have one encoding
 abbrev pub HasCommonEncoding : List (List ℕ) → Type 0

@@ -1,12 +1,12 @@
 //! What packing says of packages that are packed again, and of inputs of one encoding, as laws.
 
-ghost use Rattle.std.specs.Prelude.{◌≡◌, ℕ, true, List, [], Option, Ok, All, IfOk, ◌⊎◌};
+ghost use Rattle.std.specs.Prelude.{◌≡◌, ℕ, true, List, [], Option, Ok, Err, All, IfOk, ◌⊎◌};
 ghost use Rattle.dwp_base.specs.declared.endian.Endianness.{Endianness};
 ghost use Rattle.dwp_index.specs.Package.{Package, package_of};
 ghost use Rattle.dwp_table.specs.declared.object.DwarfObject.{DwarfObject};
 ghost use Rattle.thorin_errors.specs.Errors.{ErrorValue};
 ghost use Rattle.thorin_again.specs.Again.{HaveEncodingOf};
-ghost use Rattle.thorin_join.specs.Builder.{State, start, taken};
+ghost use Rattle.thorin_join.specs.Builder.{State, finish_test, start, taken};
 ghost use Rattle.thorin_join.specs.Meaning.{Meaning, input_meaning};
 ghost use Rattle.thorin_again.specs.OneEncoding.{IsOfOneEncoding, AnswersAs};
 ghost use Rattle.thorin_again.specs.Own.{packs_again};
@@ -15,7 +15,7 @@ ghost use Rattle.thorin_join.specs.Represents.{IsSoundBegun, units_in};
 ghost use Rattle.thorin_builder.specs.Taking.{Outcome};
 ghost use Rattle.thorin.specs.declared.packing.Input.{Input};
 ghost use Rattle.thorin.specs.declared.packing.Packed.{Packed};
-ghost use Rattle.thorin.specs.Again.{IsTakenAgain, CanBePackedAgain, IsLeft, HasCommonEncoding};
+ghost use Rattle.thorin.specs.Again.{IsTakenAgain, CanBePackedAgain, HasCommonEncoding};
 ghost use Rattle.thorin.specs.Again.{MeansAsRead};
 ghost use Rattle.thorin.specs.Groups.{ArePackedAlone, HaveTheirEncodings, IsPackageOfAll};
 ghost use Rattle.thorin.specs.Groups.{IsPackedAlone, IsPackedInGroups, RefusesPackages, inputs_of};
@@ -23,13 +23,14 @@ ghost use Rattle.thorin.specs.Groups.{taken_each};
 ghost use Rattle.thorin.specs.MeaningRead.{has_index, MeansByReader};
 ghost use Rattle.thorin.specs.Packed.{IsPacked};
 ghost use Rattle.thorin.specs.Run.{Ran, IsWritten};
+ghost use Rattle.thorin.specs.Unfinished.{IsGroupsError, IsUnfinished};
 
 use crate::laws::groups_are_packed_alike;
 use dwp_bytes::RelocationEntry;
 use thorin_again::{
     inputs_of_one_encoding_keep_their_strings, packages_have_the_encoding_of_their_inputs,
-    packages_that_pack_again_are_accepted, plain_objects_pack_again, the_first_byte_order_stays,
-    written_packages_mean_their_units,
+    packages_that_pack_again_are_accepted, plain_objects_pack_again, taken_rows_are_in_the_format,
+    the_first_byte_order_stays, written_packages_mean_their_units,
 };
 use thorin_builder::InputReader;
 use thorin_join::{finished_packages_are_read, inputs_are_joined};
@@ -83,11 +84,25 @@ pub fn packed_files_are_taken_again<Sess: Session<RelocationEntry>>(session: &Se
     let _ = session;
 }
 
+/// The law of finishing: once a new builder took some inputs, its package is finished unless a unit
+/// that an executable refers to isn't there, there was no input, two inputs have different
+/// encodings, or a section is past the 32 bits of an index's numbers. No contribution is outside
+/// the format. It does nothing.
+pub fn taken_inputs_are_finished()
+    ensures { (accepted : List (List ℕ)) (state : State) (error : ErrorValue)
+        → AreTaken accepted start state
+        → finish_test state ≡ Err error
+        → IsUnfinished accepted state error }
+{
+    inputs_are_joined();
+    taken_rows_are_in_the_format();
+}
+
 /// The package of each group can be an input again where `packs_again` is true of the state after
 /// the group's inputs. And where this is so for every group, and the packages have one byte order,
-/// only three things can still end `pack_groups`, memory aside: a compilation unit that stands in
-/// two packages, the offset of a string that doesn't fit, and an error of finishing or writing what
-/// was joined. It does nothing.
+/// these alone can still end `pack_groups`, memory aside: a compilation unit that stands in two
+/// packages; the offset of a string past 32 bits; that there is no group; two packages of different
+/// encodings; and a section past 32 bits, or a file past what its class can number. It does nothing.
 pub fn packages_of_groups_are_taken_again()
     ensures alone { (inputs : List (List ℕ)) (bytes : List ℕ) (is : IsPackedAlone inputs bytes)
         → packs_again is.state ≡ true
@@ -95,11 +110,12 @@ pub fn packages_of_groups_are_taken_again()
     ensures left { (order : Endianness) (groups : List (List (List ℕ))) (error : ErrorValue)
         (refused : RefusesPackages groups error)
         → CanBePackedAgain order groups refused.packages refused.each
-        → IsLeft refused.packages error }
+        → IsGroupsError refused.packages error }
 {
     inputs_are_joined();
     packages_that_pack_again_are_accepted();
     written_packages_are_taken_again();
+    taken_inputs_are_finished();
     the_first_byte_order_stays();
 }
 

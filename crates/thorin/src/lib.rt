@@ -23,7 +23,7 @@ pub use dwp_table::{Bucketable, DebugTypeSignature, DwarfObject, DwoId};
 pub use groups::pack_groups;
 pub use packing::{Input, Packed, pack, take_input};
 pub use thorin_builder::{
-    DwarfPackage, InProgressDwarfPackage, InputReader, MissingTargets, Repetition,
+    DwarfPackage, InProgressDwarfPackage, InputReader, MissingTargets, NotTaken, Repetition,
 };
 pub use thorin_errors::{Error, InputError, MissingReferencedObjectBehaviour, Result};
 pub use thorin_executable::{

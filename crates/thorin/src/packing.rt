@@ -4,6 +4,7 @@ ghost use Rattle.std.specs.Prelude.{◌≡◌, ℕ, List, map, IfOk, IfErr};
 ghost use Rattle.thorin_join.specs.Builder.{differing_in};
 ghost use Rattle.thorin_join.specs.Join.{IsPackageOf};
 ghost use Rattle.thorin.specs.Packed.{IsPacked};
+ghost use Rattle.thorin_builder.specs.Reading.{DeclinesSome, OnDeclined, outcome_of};
 ghost use Rattle.thorin_join.specs.Represents.{units_in};
 ghost use Rattle.thorin.specs.Run.{Ran, Took, Writes};
 
@@ -11,7 +12,7 @@ use dwp_bytes::RelocationEntry;
 use dwp_table::DebugTypeSignature;
 use std::alloc::Global;
 use std::path::Path;
-use thorin_builder::{DwarfPackage, InputReader};
+use thorin_builder::{DwarfPackage, InputReader, NotTaken, tried, undeclined};
 use thorin_errors::{Error, MissingReferencedObjectBehaviour};
 use thorin_sessions::Session;
 
@@ -86,7 +87,7 @@ fn take_inputs<'o, 's: 'o, Sess: Session<RelocationEntry>>(
     let mut outcomes = Vec::with_capacity(alloc, inputs.len())?;
     let mut room = Vec::new(alloc);
     for input in inputs {
-        let outcome = take_input(builder, session, &mut room, *input);
+        let outcome = undeclined(take_input(builder, session, &mut room, *input));
         outcomes.push(outcome)?;
     }
     Ok(outcomes)
@@ -97,20 +98,21 @@ fn take_inputs<'o, 's: 'o, Sess: Session<RelocationEntry>>(
 ///
 /// # Errors
 /// Those of `DwarfPackage::add_input_by`, `add_object_bytes`, `add_executable_by` or
-/// `add_executable_skipping_nameless_by`, by the input.
+/// `add_executable_skipping_nameless_by`, by the input; `Declined` where the reader declines a file.
 pub fn take_input<'o, 's: 'o, Sess: Session<RelocationEntry>, R: InputReader>(
     builder: &mut DwarfPackage<'o, 's, Sess>,
     reader: &R,
     room: &mut Vec<u8>,
     input: Input<'_>,
-) -> Result<(), Error>
-    ensures taken { Took (R.offer reader.now) input.entry builder.old.state result
+) -> Result<(), NotTaken<Error, R::Refusal>>
+    ensures taken { Took (R.offer reader.now) input.entry builder.old.state (outcome_of result)
         builder.new.state }
+    ensures declined { OnDeclined result (DeclinesSome (R.declines reader.now)) }
     ensures session { builder.new.session ≡ builder.old.session }
 {
     match input {
         Input::Object(path) => builder.add_input_by(reader, room, path),
-        Input::Bytes(bytes) => builder.add_object_bytes(bytes),
+        Input::Bytes(bytes) => tried(builder.add_object_bytes(bytes)),
         Input::Executable(path, missing) => builder.add_executable_by(reader, room, path, missing),
         Input::ExecutableSkippingNameless(path, missing) => {
             builder.add_executable_skipping_nameless_by(reader, room, path, missing)

@@ -2,3 +2,4 @@
 pub mod EachUnit
 pub mod OneEncoding
 pub mod Names
+pub mod InFormat

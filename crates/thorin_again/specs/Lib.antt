@@ -8,3 +8,4 @@ pub mod OwnRefusals
 pub mod OwnTaken
 pub mod OwnAccepted
 pub mod PlainInputs
+pub mod InFormat

@@ -1,10 +1,11 @@
 -- What an own package can still be refused with (DWARF 5, 7.26 and 7.3.5).
-use Rattle.std.specs.Prelude.{◌≡◌, ◌⊎◌, ℕ, codes, Result, Ok, Err}
+use Rattle.std.specs.Prelude.{◌≡◌, ◌≤◌, ◌^◌, ◌⊎◌, ℕ, codes, Result, Ok, Err}
 use Rattle.thorin_errors.specs.Errors.{ErrorValue, NumberTooLarge, DuplicateUnit}
 
--- the offset of a string doesn't fit the format
+-- the offset of a string, past 32 bits, doesn't fit the format
 abbrev pub IsStringOffset : ErrorValue → Type 0
-IsStringOffset error = (offset : ℕ) × (error ≡ NumberTooLarge (codes "string offset") offset)
+IsStringOffset error = (offset : ℕ) × (2 ^ 32 ≤ offset)
+    × (error ≡ NumberTooLarge (codes "string offset") offset)
 
 -- an answer, or that refusal
 abbrev pub UnlessStringOffset : {X : Type 0} → Result X ErrorValue → Type 0

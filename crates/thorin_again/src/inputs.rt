@@ -10,6 +10,7 @@ ghost use Rattle.thorin_join.specs.Builder.{State, IsFinishedState, start, finis
 ghost use Rattle.thorin_join.specs.Builder.{taken};
 ghost use Rattle.thorin_again.specs.OneEncoding.{IsOfOneEncoding, IsOfEncoding, AnswersOnceWritten};
 ghost use Rattle.thorin_again.specs.OneEncoding.{HaveEncodingOnceWritten};
+ghost use Rattle.thorin_again.specs.InFormat.{AreInFormat, HaveEncodingsOf};
 ghost use Rattle.thorin_again.specs.Own.{packs_again};
 ghost use Rattle.thorin_again.specs.OwnAccepted.{IsAcceptedByNewOnceWritten, IsAcceptedOnceWritten};
 ghost use Rattle.thorin_again.specs.PlainInputs.{AreTaken, IsOfPlainObjects};
@@ -44,6 +45,16 @@ pub fn packages_have_the_encoding_of_their_inputs()
         → All (IsOfEncoding encoding) accepted
         → (file : Object) → IsFinishedState state file
         → HaveEncodingOnceWritten (units_in state) file }
+{}
+
+/// The law of rows: once a new builder took some inputs, an index of a row's version has a column
+/// for each section that the row has a contribution to (DWARF 5, 7.3.5.3), and the row has the
+/// encoding of one of the inputs. It does nothing.
+pub fn taken_rows_are_in_the_format()
+    ensures format { (accepted : List (List ℕ)) (state : State) → AreTaken accepted start state
+        → AreInFormat state.begun }
+    ensures encodings { (accepted : List (List ℕ)) (state : State) → AreTaken accepted start state
+        → HaveEncodingsOf accepted state.begun }
 {}
 
 /// The law of byte order: an input leaves a package the byte order that it has, and begins one with

@@ -10,7 +10,8 @@ mod plain;
 pub use again::written_packages_mean_their_units;
 pub use inputs::{
     inputs_of_one_encoding_keep_their_strings, packages_have_the_encoding_of_their_inputs,
-    packages_that_pack_again_are_accepted, plain_objects_pack_again, the_first_byte_order_stays,
+    packages_that_pack_again_are_accepted, plain_objects_pack_again, taken_rows_are_in_the_format,
+    the_first_byte_order_stays,
 };
 pub use own::{
     identities_stay_in_longer_abbreviations, one_encoding_is_kept,

@@ -4,6 +4,7 @@
 mod command;
 mod peers;
 mod reading;
+mod texts;
 
 pub use peers::is_peer;
 pub use reading::{CheckArguments, Commands, FindArguments, ListArguments, PackArguments, run};

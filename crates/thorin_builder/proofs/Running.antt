@@ -4,15 +4,20 @@ use Terms.{◌++◌, [], ap, append_assoc, DwarfObject, Err, Error, error_of, Er
 use Terms.{List, MemoryAside, names_in, None, Ok, Option, refl, Result, rules, Some, State, subst}
 use Terms.{sym, take, take-append-add, take-length, units_in, ℕ, ◌∙◌, ◌∷◌, ◌≡◌, ◌≢◌}
 use Rattle.std.proofs.lemmas.List.{length-append}
+use Rattle.std.specs.Prelude.{OnOk}
 use Rattle.std.specs.declared.io.Error.{Error as IoError}
 use Rattle.thorin_errors.specs.Errors.{Memory}
 use Rattle.thorin_errors.specs.declared.error.InputError.{InputError}
 use Rattle.thorin_errors.specs.declared.error.InputError.TheVariants as input
 use Rattle.thorin_errors.specs.declared.error.MissingReferencedObjectBehaviour.{MissingReferencedObjectBehaviour}
 use Rattle.thorin_executable.specs.Skeletons.{Listed}
-use Rattle.thorin_sessions.specs.Sessions.{IsOffered}
 use Rattle.thorin_builder.specs.Taking.{came, MayRead, Outcome, TakesNamed, TakesSkeleton}
 use Rattle.thorin_builder.specs.Taking.{TakesSkeletons}
+use Rattle.thorin_builder.specs.Reading.{DeclinesSome, error_in, input_error_in, IsRead, OnDeclined}
+use Rattle.thorin_builder.specs.Reading.{outcome_of, unread}
+use Rattle.thorin_builder.specs.declared.reader.NotTaken.{NotTaken}
+use Rattle.thorin_builder.specs.declared.reader.NotTaken.TheVariants.{Failed, Declined}
+use Rattle.thorin_errors.specs.Inputs.{input_error}
 use Rattle.thorin_join.proofs.Units.InRows.{keys-units}
 
 abbrev pub Offer : Type 1
@@ -107,8 +112,42 @@ module _ (offer : Offer) (missing : MissingReferencedObjectBehaviour) (all : Lis
 pub names-begun : (state : State) → keys (units_in state) ≡ names_in state.begun
 names-begun state = grind (rules, keys-units)
 
--- what a read may answer where it failed
-pub may-read : (offered : Result (List ℕ) IoError → Type 0) (e : InputError)
-    → IsOffered offered (Err e) → MayRead offered (Err e)
-may-read offered (input.Io cause) is = is
-may-read offered input.Memory is = tt
+-- ---- an input that wasn't read
+
+module _ {D : Type 0} (offered : Result (List ℕ) IoError → Type 0) (declines : D → Type 0)
+  where
+    -- what its read may answer
+    pub may-read : (why : NotTaken InputError D) → IsRead offered declines (Err why)
+        → MayRead offered (Err (input_error_in why))
+    may-read (Failed (input.Io cause)) is = is
+    may-read (Failed input.Memory) is = tt
+    may-read (Declined why) is = tt
+
+    -- the reason for which it is declined
+    pub unread-declined : (why : NotTaken InputError D) → IsRead offered declines (Err why)
+        → OnDeclined {X = Unit {0}} (Err (unread why)) declines
+    unread-declined (Failed e) is = tt
+    unread-declined (Declined why) is = is
+
+-- its error
+pub unread-error : {D : Type 0} (why : NotTaken InputError D)
+    → error_in (unread why) ≡ input_error (input_error_in why)
+unread-error (Failed e) = refl
+unread-error (Declined why) = refl
+
+-- ---- an input that is declined
+
+module _ {D : Type 0} where
+  -- what is said of a call that took an input
+  pub on-ok-taken : (result : Result (Unit {0}) (NotTaken Error D)) (outcome : Outcome)
+      → outcome_of result ≡ outcome → (P : Type 0) → OnOk outcome P → OnOk result P
+  on-ok-taken (Ok x) outcome is P h = rw (← is) at h
+  on-ok-taken (Err why) outcome is P h = tt
+
+  -- at a path
+  pub declined-some : (result : Result (Unit {0}) (NotTaken Error D))
+      (declines : List ℕ → D → Type 0) (path : List ℕ) → OnDeclined result (declines path)
+      → OnDeclined result (DeclinesSome declines)
+  declined-some (Ok x) declines path h = tt
+  declined-some (Err (Failed e)) declines path h = tt
+  declined-some (Err (Declined why)) declines path h = (path, h)

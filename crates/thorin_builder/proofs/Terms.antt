@@ -45,6 +45,7 @@ pub use Rattle.thorin_input.specs.Held.{unit_bytes}
 pub use Rattle.thorin_join.specs.State.{Extends, held_units}
 unfoldable pub use Rattle.thorin_join.specs.State.{with_all}
 pub use Rattle.thorin_builder.specs.BuilderView.{building}
+pub use Rattle.thorin_builder.specs.Reading.{outcome_of}
 pub use Rattle.thorin_builder.specs.Repeated.{AreTaken, IsLater, IsTaken, Remembers, with_more}
 pub use Rattle.thorin_builder.specs.StateView.{begun_of, in_progress_of}
 pub use Rattle.thorin_builder.specs.Taking.{Outcome, TakesReferredFile, TakesSkeleton, accepted_of}

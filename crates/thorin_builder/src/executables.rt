@@ -6,12 +6,13 @@ ghost use Rattle.std.specs.Path.{path_bytes};
 ghost use Rattle.thorin_builder.specs.Taking.{TakesExecutable, TakesExecutableSkippingNameless};
 ghost use Rattle.thorin_builder.specs.Taking.{TakesExecutableBy, TakesNamed, TakesSkeleton};
 ghost use Rattle.thorin_builder.specs.Taking.{TakesReferredFile, Takes, IsUnread, came, is_there};
+ghost use Rattle.thorin_builder.specs.Reading.{DeclinesSome, OnDeclined, outcome_of};
 ghost use Rattle.thorin_builder.specs.Repeated.{AddsAgainTo, AreTaken, IsLaterBegun, Remembers};
 ghost use Rattle.thorin_join.specs.State.{InProgress};
 ghost use Rattle.thorin_executable.specs.Skeletons.{skeletons_by};
 
 use crate::package::DwarfPackage;
-use crate::reader::InputReader;
+use crate::reader::{InputReader, NotTaken, tried, undeclined};
 use crate::repeated::Repeated;
 use dwp_bytes::RelocationEntry;
 use dwp_table::DwarfObject;
@@ -72,7 +73,7 @@ impl<'output, 'session: 'output, Sess: Session<RelocationEntry>> DwarfPackage<
     {
         let session = self.session();
         let mut room = Vec::new(self.allocator());
-        self.add_executable_by(session, &mut room, path, missing)
+        undeclined(self.add_executable_by(session, &mut room, path, missing))
     }
 
     /// Adds the objects that the executable at a path names, as `add_executable` does, but passes
@@ -93,7 +94,7 @@ impl<'output, 'session: 'output, Sess: Session<RelocationEntry>> DwarfPackage<
     {
         let session = self.session();
         let mut room = Vec::new(self.allocator());
-        self.add_executable_skipping_nameless_by(session, &mut room, path, missing)
+        undeclined(self.add_executable_skipping_nameless_by(session, &mut room, path, missing))
     }
 
     /// Adds the objects that an executable names, as `add_executable` does, but a reader reads the
@@ -103,16 +104,17 @@ impl<'output, 'session: 'output, Sess: Session<RelocationEntry>> DwarfPackage<
     /// executable's relocations are placed in the session.
     ///
     /// # Errors
-    /// Those of `add_executable`.
+    /// `Failed` by those of `add_executable`; `Declined` where the reader declines a file.
     pub fn add_executable_by<R: InputReader>(
         &mut self,
         reader: &R,
         room: &mut Vec<u8>,
         path: Path<'_>,
         missing: MissingReferencedObjectBehaviour,
-    ) -> Result<(), Error>
+    ) -> Result<(), NotTaken<Error, R::Refusal>>
         ensures taken { TakesExecutable (R.offer reader.now) (path_bytes path.entry) missing
-            self.old.state result self.new.state }
+            self.old.state (outcome_of result) self.new.state }
+        ensures declined { OnDeclined result (DeclinesSome (R.declines reader.now)) }
         ensures session { self.new.session ≡ self.old.session }
     {
         self.add_executable_as(reader, room, path, missing, NamelessUnits::Refused)
@@ -122,16 +124,18 @@ impl<'output, 'session: 'output, Sess: Session<RelocationEntry>> DwarfPackage<
     /// `add_executable_by`.
     ///
     /// # Errors
-    /// Those of `add_executable_skipping_nameless`.
+    /// `Failed` by those of `add_executable_skipping_nameless`; `Declined` where the reader
+    /// declines a file.
     pub fn add_executable_skipping_nameless_by<R: InputReader>(
         &mut self,
         reader: &R,
         room: &mut Vec<u8>,
         path: Path<'_>,
         missing: MissingReferencedObjectBehaviour,
-    ) -> Result<(), Error>
+    ) -> Result<(), NotTaken<Error, R::Refusal>>
         ensures taken { TakesExecutableSkippingNameless (R.offer reader.now)
-            (path_bytes path.entry) missing self.old.state result self.new.state }
+            (path_bytes path.entry) missing self.old.state (outcome_of result) self.new.state }
+        ensures declined { OnDeclined result (DeclinesSome (R.declines reader.now)) }
         ensures session { self.new.session ≡ self.old.session }
     {
         self.add_executable_as(reader, room, path, missing, NamelessUnits::PassedOver)
@@ -145,10 +149,11 @@ impl<'output, 'session: 'output, Sess: Session<RelocationEntry>> DwarfPackage<
         path: Path<'_>,
         missing: MissingReferencedObjectBehaviour,
         nameless: NamelessUnits,
-    ) -> Result<(), Error>
+    ) -> Result<(), NotTaken<Error, R::Refusal>>
         ensures taken { TakesExecutableBy
             (record { names = skeletons_by nameless; missing = missing }) (R.offer reader.now)
-            (path_bytes path.entry) self.old.state result self.new.state }
+            (path_bytes path.entry) self.old.state (outcome_of result) self.new.state }
+        ensures declined { OnDeclined result (DeclinesSome (R.declines reader.now)) }
         ensures session { self.new.session ≡ self.old.session }
     {
         let mut executable = Vec::new(self.allocator());
@@ -164,10 +169,11 @@ impl<'output, 'session: 'output, Sess: Session<RelocationEntry>> DwarfPackage<
         bytes: &[u8],
         missing: MissingReferencedObjectBehaviour,
         nameless: NamelessUnits,
-    ) -> Result<(), Error>
+    ) -> Result<(), NotTaken<Error, R::Refusal>>
         ensures taken { (accepted : List (List ℕ)) × TakesNamed (R.offer reader.now) missing
             (skeletons_by nameless bytes.now) self.old.state
-            (came result self.new.state accepted) }
+            (came (outcome_of result) self.new.state accepted) }
+        ensures declined { OnDeclined result (DeclinesSome (R.declines reader.now)) }
         ensures session { self.new.session ≡ self.old.session }
     {
         let session = self.session();
@@ -186,9 +192,10 @@ impl<'output, 'session: 'output, Sess: Session<RelocationEntry>> DwarfPackage<
         room: &mut Vec<u8>,
         units: &mut NamedUnits<'_>,
         missing: MissingReferencedObjectBehaviour,
-    ) -> Result<(), Error>
+    ) -> Result<(), NotTaken<Error, R::Refusal>>
         ensures taken { (accepted : List (List ℕ)) × TakesNamed (R.offer reader.now) missing
-            units.old.listed self.old.state (came result self.new.state accepted) }
+            units.old.listed self.old.state (came (outcome_of result) self.new.state accepted) }
+        ensures declined { OnDeclined result (DeclinesSome (R.declines reader.now)) }
         ensures session { self.new.session ≡ self.old.session }
     {
         let mut known = Known {
@@ -207,6 +214,7 @@ impl<'output, 'session: 'output, Sess: Session<RelocationEntry>> DwarfPackage<
                 unit.target,
                 contained.contains(&unit.target),
                 contained.len(),
+                self.differing_types(),
             );
         }
         Ok(())
@@ -222,13 +230,14 @@ impl<'output, 'session: 'output, Sess: Session<RelocationEntry>> DwarfPackage<
         named: Named<'_>,
         missing: MissingReferencedObjectBehaviour,
         known: &mut Known,
-    ) -> Result<(), Error>
+    ) -> Result<(), NotTaken<Error, R::Refusal>>
         requires unread { IsUnread (R.offer reader.now named.path.now) missing known.old.is_unread }
         requires known { AreTaken (R.offer reader.now) known.old.taken.entries
             self.old.state.begun }
         ensures taken { (accepted : List (List ℕ)) × TakesSkeleton (R.offer reader.now) missing
             (named.entry.target, named.entry.path.now) self.old.state
-            (came result self.new.state accepted) }
+            (came (outcome_of result) self.new.state accepted) }
+        ensures declined { OnDeclined result (R.declines reader.now named.entry.path.now) }
         ensures unread { IsUnread (R.offer reader.now named.entry.path.now) missing
             known.new.is_unread }
         ensures known { OnOk result (AreTaken (R.offer reader.now) known.new.taken.entries
@@ -245,10 +254,10 @@ impl<'output, 'session: 'output, Sess: Session<RelocationEntry>> DwarfPackage<
         }
         match known.taken.get(named.path) {
             Some(again) => {
-                if !reader.admits(again.repetition(Path::new(named.path))) {
-                    return Err(Error::Memory);
+                match reader.admit(again.repetition(Path::new(named.path))) {
+                    Ok(()) => tried(self.add_again(again)),
+                    Err(why) => Err(NotTaken::Declined(why)),
                 }
-                self.add_again(again)
             }
             None => self.add_referred(reader, room, named, missing, known),
         }
@@ -273,12 +282,13 @@ impl<'output, 'session: 'output, Sess: Session<RelocationEntry>> DwarfPackage<
         named: Named<'_>,
         missing: MissingReferencedObjectBehaviour,
         known: &mut Known,
-    ) -> Result<(), Error>
+    ) -> Result<(), NotTaken<Error, R::Refusal>>
         requires unread { IsUnread (R.offer reader.now named.path.now) missing known.old.is_unread }
         requires known { AreTaken (R.offer reader.now) known.old.taken.entries
             self.old.state.begun }
         ensures taken { TakesReferredFile (R.offer reader.now named.entry.path.now) missing
-            self.old.state result self.new.state }
+            self.old.state (outcome_of result) self.new.state }
+        ensures declined { OnDeclined result (R.declines reader.now named.entry.path.now) }
         ensures unread { IsUnread (R.offer reader.now named.entry.path.now) missing
             known.new.is_unread }
         ensures known { OnOk result (AreTaken (R.offer reader.now) known.new.taken.entries
@@ -286,15 +296,18 @@ impl<'output, 'session: 'output, Sess: Session<RelocationEntry>> DwarfPackage<
         ensures session { self.new.session ≡ self.old.session }
     {
         match reader.read_into(Path::new(named.path), room) {
-            Ok(bytes) => self.add_and_remember(bytes, named, &mut known.taken),
-            Err(InputError::Io(e)) => match missing {
+            Ok(bytes) => tried(self.add_and_remember(bytes, named, &mut known.taken)),
+            Err(NotTaken::Failed(InputError::Io(e))) => match missing {
                 MissingReferencedObjectBehaviour::Skip => {
                     known.is_unread = true;
                     Ok(())
                 }
-                MissingReferencedObjectBehaviour::Error => Err(Error::ReadInput(e)),
+                MissingReferencedObjectBehaviour::Error => {
+                    Err(NotTaken::Failed(Error::ReadInput(e)))
+                }
             },
-            Err(InputError::Memory) => Err(Error::Memory),
+            Err(NotTaken::Failed(InputError::Memory)) => Err(NotTaken::Failed(Error::Memory)),
+            Err(NotTaken::Declined(why)) => Err(NotTaken::Declined(why)),
         }
     }
 

@@ -15,6 +15,7 @@ ghost use Rattle.thorin_builder.specs.Missing.{missing_left, without_targets};
 ghost use Rattle.thorin_again.specs.Own.{packs_again};
 ghost use Rattle.thorin_again.specs.OwnAccepted.{IsAcceptedByNewOnceWritten, IsAcceptedOnceWritten};
 ghost use Rattle.thorin_again.specs.OwnUnits.{HasOneEncoding};
+ghost use Rattle.thorin_builder.specs.Reading.{OnDeclined, outcome_of};
 ghost use Rattle.thorin_builder.specs.Repeated.{AddsAgainTo, IsLaterBegun};
 ghost use Rattle.thorin_builder.specs.StateView.{begun_of};
 ghost use Rattle.thorin_builder.specs.Taking.{Takes, TakesFile, with_target};
@@ -22,7 +23,7 @@ ghost use Rattle.thorin_builder.specs.Taking.{Takes, TakesFile, with_target};
 use crate::adding::add_input;
 use crate::in_progress::InProgressDwarfPackage;
 use crate::missing::MissingTargets;
-use crate::reader::InputReader;
+use crate::reader::{InputReader, NotTaken, tried, undeclined};
 use crate::repeated::Repeated;
 use dwp_bytes::RelocationEntry;
 use dwp_dwarf::Encoding;
@@ -118,25 +119,26 @@ impl<'output, 'session: 'output, Sess: Session<RelocationEntry>> DwarfPackage<
     {
         let session = self.session;
         let mut room = Vec::new(self.alloc);
-        self.add_input_by(session, &mut room, path)
+        undeclined(self.add_input_by(session, &mut room, path))
     }
 
     /// Adds the object that a reader reads at a path, into room that is free again afterwards.
     ///
     /// # Errors
-    /// Those of `add_input_object`.
+    /// `Failed` by those of `add_input_object`; `Declined` where the reader declines the file.
     pub fn add_input_by<R: InputReader>(
         &mut self,
         reader: &R,
         room: &mut Vec<u8>,
         path: Path<'_>,
-    ) -> Result<(), Error>
-        ensures taken { TakesFile (R.offer reader.now (path_bytes path.entry)) self.old.state result
-            self.new.state }
+    ) -> Result<(), NotTaken<Error, R::Refusal>>
+        ensures taken { TakesFile (R.offer reader.now (path_bytes path.entry)) self.old.state
+            (outcome_of result) self.new.state }
+        ensures declined { OnDeclined result (R.declines reader.now (path_bytes path.entry)) }
         ensures session { self.new.session ≡ self.old.session }
     {
         let bytes = reader.read_into(path, room)?;
-        self.add_object_bytes(bytes)
+        tried(self.add_object_bytes(bytes))
     }
 
     /// Adds an object or a finished package: its units that aren't contained, with all that belongs

@@ -30,7 +30,9 @@ pub(crate) struct Repeated {
 
 impl Repeated {
     /// What is added once more of the object at a path.
-    pub fn repetition<'p>(&self, path: Path<'p>) -> Repetition<'p> {
+    pub fn repetition<'p>(&self, path: Path<'p>) -> Repetition<'p>
+        ensures { result.path ≡ path.entry }
+    {
         let mut bytes: usize = 0;
         for part in &self.parts {
             bytes = bytes.saturating_add(part.bytes().len());

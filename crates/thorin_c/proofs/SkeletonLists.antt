@@ -1,20 +1,50 @@
 -- Lists of the units that an executable names.
-use Rattle.std.proofs.Common.{◌≡◌, ◌∙◌, ℕ, ◌+◌, ◌<◌, List, [], ◌∷◌, ◌++◌, refl, sym, ap, map, take}
-use Rattle.std.proofs.Common.{get_or, length, Option, Some, None}
-use Rattle.std.specs.Prelude.{string_bytes}
-use Rattle.std.proofs.lemmas.List.{append_assoc, map_more, length-map}
-use Rattle.std.proofs.lemmas.Simd.{map-map}
-use Rattle.thorin_executable.specs.Skeletons.{Named}
-use Rattle.thorin_executable.specs.View.{named, listed, UnlessMemory}
-use Rattle.thorin_executable.specs.declared.listing.Skeleton.{Skeleton}
-use Rattle.thorin_executable.specs.declared.listing.SkeletonList.{SkeletonList}
-use Rattle.thorin_errors.specs.declared.error.Error.{Error}
-use Rattle.thorin_c.specs.Skeletons.{paths_of, skeleton_of, skeleton_named, ListsUnits, TellsOfEnd}
-use Rattle.thorin_c.specs.Skeletons.{IsNoWantOfMemory}
+use Rattle.std.proofs.Common.{◌≡◌, ◌∙◌, ℕ, zero, suc, ◌+◌, ◌-◌, ◌<◌, List, [], ◌∷◌, ◌++◌, refl, sym}
+use Rattle.std.proofs.Common.{ap, arith, map, min, take, length, Option, Some, None}
+use native.Mathlib.Numerals.{unary_clauses}
+use Rattle.std.proofs.lemmas.List.{append_assoc, append-nil, length-append, map-append}
+use Rattle.thorin_executable.specs.Skeletons.{Named, Listed}
+use Rattle.thorin_errors.specs.Errors.{ErrorValue}
+use Rattle.thorin_c.specs.Skeletons.{paths_of, skeleton_named, IsFirst, AddsFirst, ListsUnits}
+use Rattle.thorin_c.specs.Skeletons.{room_of, TellsOfEnd}
 use Rattle.thorin_c.specs.Packing.{TellsOfError}
 use Rattle.thorin_c.specs.Listing.{written_over}
 use Rattle.thorin_c.specs.declared.types.ThorinReport.{ThorinReport}
 use Rattle.thorin_c.specs.declared.types.ThorinSkeleton.{ThorinSkeleton}
+use Rattle.thorin_c.specs.declared.units.FirstUnits.{FirstUnits}
+use Rattle.thorin_c.specs.declared.units.Room.{Room}
+
+-- ---- the first of a list, as far as there is room
+
+module _ {A : Type 0} where
+  over_front : (old list : List A)
+      → written_over old (take (length old) list) ≡ written_over old list
+  over_front [] [] = refl
+  over_front [] (x ∷ list) = refl
+  over_front (y ∷ old) [] = refl
+  over_front (y ∷ old) (x ∷ list) = ap (λ l. x ∷ l) (over_front old list)
+
+  -- the front of a list goes on with the front of what comes behind it
+  front_next : (room : ℕ) (xs ys : List A)
+      → take room xs ++ take (room - length (take room xs)) ys ≡ take room (xs ++ ys)
+  front_next zero xs ys = refl
+  front_next (suc room) [] ys = simp unary_clauses refl
+  front_next (suc room) (x ∷ xs) ys =
+      simp unary_clauses (ap (λ l. x ∷ l) (front_next room xs ys))
+
+  front_min : (n : ℕ) (ys : List A) → take (min n (length ys)) ys ≡ take n ys
+  front_min zero ys = simp unary_clauses refl
+  front_min (suc n) [] = simp unary_clauses refl
+  front_min (suc n) (y ∷ ys) = simp unary_clauses (ap (λ l. y ∷ l) (front_min n ys))
+
+  pub front_more : (room n m : ℕ) (old new all more : List A) → old ≡ take room all
+      → n ≡ room - length old → m ≡ min n (length more) → new ≡ old ++ take m more
+      → new ≡ take room (all ++ more)
+  front_more room n m old new all more is left taken put =
+      put ∙ rw (taken, left, is) (ap (λ l. take room all ++ l) (front_min _ more)
+      ∙ front_next room all more)
+
+-- ---- units that are read one after another
 
 paths-append : (units : List Named) (unit : Named)
     → paths_of (units ++ unit ∷ []) ≡ paths_of units ++ (unit.1 ++ 0 ∷ [])
@@ -23,40 +53,60 @@ paths-append (first ∷ units) unit =
     ap (λ l. first.1 ++ 0 ∷ l) (paths-append units unit)
     ∙ sym (append_assoc first.1 (0 ∷ paths_of units) (unit.1 ++ 0 ∷ []))
 
--- one more path
-pub paths-next : (units : List Skeleton) (i : ℕ) (d : Skeleton) → i < length units
-    → (paths_of (map named (take i units)) ++ (named (get_or units i d)).1) ++ 0 ∷ []
-    ≡ paths_of (map named (take (i + 1) units))
-paths-next units i d h =
-    let before = map named (take i units) in
-    let unit = named (get_or units i d) in
-    append_assoc (paths_of before) unit.1 (0 ∷ []) ∙ sym (paths-append before unit)
-    ∙ ap paths_of (sym (map_more named units i d h))
-
--- what is written next
-pub name_next : (units : List Skeleton) (i : ℕ) (unit : Skeleton) (size : ℕ)
-    (name : ThorinSkeleton) → unit ≡ get_or units i unit → size ≡ length (string_bytes unit.path)
-    → name ≡ skeleton_of unit.target size → name ≡ skeleton_named (named (get_or units i unit))
-name_next units i unit size name is count said =
-    said ∙ ap (λ n. skeleton_of unit.target n) count ∙ ap (λ s. skeleton_named (named s)) is
-
-pub lists : (l : SkeletonList) (old new : List ThorinSkeleton) (before after text : List ℕ)
-    (count : ℕ) (report : ThorinReport) → new ≡ written_over old
-    (map (λ s. skeleton_named (named s)) l.units.items) → after ≡ written_over before text
-    → text ≡ paths_of (listed l).0 → count ≡ length l.units.items → report.size ≡ length text
-    → ListsUnits (listed l).0 old new before after count report
-lists l old new before after text count report names paths is number size = record {
-  names = names ∙ ap (written_over old) (sym (map-map skeleton_named named l.units.items));
-  paths = paths ∙ ap (written_over before) is;
-  number = number ∙ sym (length-map l.units.items named);
-  size = size ∙ ap length is;
+pub first_more : (room : Room) (units : List Named) (unit : Named) (old new : FirstUnits)
+    → IsFirst room units old
+    → new.names.items ≡ take room.names (map skeleton_named units ++ skeleton_named unit ∷ [])
+    → new.paths.items ≡ take room.paths ((paths_of units ++ unit.1) ++ 0 ∷ [])
+    → new.count ≡ old.count + 1 → new.size ≡ old.size + length unit.1 + 1
+    → IsFirst room (units ++ unit ∷ []) new
+first_more room units unit old new h names paths count size = record {
+  names = names ∙ ap (take room.names) (sym (map-append skeleton_named units (unit ∷ [])));
+  paths = paths ∙ ap (take room.paths) (append_assoc (paths_of units) unit.1 (0 ∷ [])
+      ∙ sym (paths-append units unit));
+  count = grind (arith, count, h.count, length-append);
+  size = grind (arith, size, h.size, paths-append, length-append);
 }
 
--- what holds unless memory ran out
-pub unless_memory : (error : Option Error) (P : Type 0) → UnlessMemory error P
-    → IsNoWantOfMemory error → P
-unless_memory None P h k = h
-unless_memory (Some e) P h k = h k
+-- of some units those before the ones that are left were read
+pub record GoesOn (room : Room) (all left : Listed) (first : FirstUnits) : Type 0 where
+  pub done : List Named
+  pub is : all ≡ (done ++ left.0, left.1)
+  pub are_read : IsFirst room done first
+
+pub none_read : (room : Room) (all : Listed) (first : FirstUnits) → IsFirst room [] first
+    → GoesOn room all all first
+none_read room all first h = record { done = []; is = refl; are_read = h }
+
+module _ (room : Room) (all left after : Listed) (old new : FirstUnits)
+    (h : GoesOn room all left old) where
+  pub goes_on : AddsFirst room left after old new → GoesOn room all after new
+  goes_on a = record {
+    done = h.done ++ a.unit ∷ [];
+    is = h.is ∙ rw a.is (ap (λ l. (l, after.1)) (sym (append_assoc h.done (a.unit ∷ []) after.0)));
+    are_read = a.adds h.done h.are_read;
+  }
+
+  pub ends : (end : Option ErrorValue) → left ≡ ([], end) → new ≡ old
+      → (all.1 ≡ end) × IsFirst room all.0 new
+  ends end e same = rw (same, h.is, e, append-nil h.done) (refl, h.are_read)
+
+pub shorter : (room : Room) (left after : Listed) (old new : FirstUnits)
+    → AddsFirst room left after old new → length after.0 < length left.0
+shorter room left after old new a = rw a.is (omega arith)
+
+-- ---- what is told
+
+pub lists : (list : List Named) (first : FirstUnits) (old new : List ThorinSkeleton)
+    (before after : List ℕ) (count : ℕ) (report : ThorinReport)
+    → IsFirst (room_of old before) list first → new ≡ written_over old first.names.items
+    → after ≡ written_over before first.paths.items → count ≡ first.count
+    → report.size ≡ first.size → ListsUnits list old new before after count report
+lists list first old new before after count report h names paths number size = record {
+  names = names ∙ ap (written_over old) h.names ∙ over_front old (map skeleton_named list);
+  paths = paths ∙ ap (written_over before) h.paths ∙ over_front before (paths_of list);
+  number = number ∙ h.count;
+  size = size ∙ h.size;
+}
 
 -- the fields that are told of an error, behind the size
 pub end_alone : (old new : ThorinReport) (n : ℕ) → TellsOfError (record old { size = n }) new

@@ -1,15 +1,18 @@
 -- What the export that lists the objects of an executable answers.
-use Rattle.std.specs.Prelude.{◌≡◌, ◌≢◌, ℕ, List, [], ◌∷◌, ◌++◌, length, map, Option, Some, None}
+use Rattle.std.specs.Prelude.{◌≡◌, ℕ, Bool, true, false, List, [], ◌∷◌, ◌++◌, length, map, take}
+use Rattle.std.specs.Prelude.{Option, Some, None, Result, Ok, Err}
 use Rattle.dwp_table.specs.declared.object.DwarfObject.{DwarfObject}
 use Rattle.dwp_table.specs.declared.object.DwarfObject.TheVariants.{Compilation, TypeUnit}
-use Rattle.thorin_errors.specs.Errors.{ErrorValue}
+use Rattle.thorin_errors.specs.Answers.{MemoryAside}
+use Rattle.thorin_errors.specs.Errors.{ErrorValue, error_of}
 use Rattle.thorin_errors.specs.declared.error.Error.{Error}
-use Rattle.thorin_errors.specs.declared.error.Error.TheVariants as errors
-use Rattle.thorin_executable.specs.Skeletons.{Named}
+use Rattle.thorin_executable.specs.Skeletons.{Named, Listed}
 use Rattle.thorin_c.specs.Errors.{Tells}
 use Rattle.thorin_c.specs.Listing.{written_over}
 use Rattle.thorin_c.specs.declared.types.ThorinReport.{ThorinReport}
 use Rattle.thorin_c.specs.declared.types.ThorinSkeleton.{ThorinSkeleton}
+use Rattle.thorin_c.specs.declared.units.FirstUnits.{FirstUnits}
+use Rattle.thorin_c.specs.declared.units.Room.{Room}
 
 -- a unit by its kind and identifier, and how long the path of its object is
 abbrev pub skeleton_of : DwarfObject → ℕ → ThorinSkeleton
@@ -50,7 +53,27 @@ TellsOfEnd old new = new ≡ record old {
   text = new.text;
 }
 
--- nothing was lacking
-abbrev pub IsNoWantOfMemory : Option Error → Type 0
-IsNoWantOfMemory None = Unit {0}
-IsNoWantOfMemory (Some error) = error ≢ errors.Memory
+-- the first of some units and of their paths, as far as there is room, and how many there are
+pub record IsFirst (room : Room) (units : List Named) (first : FirstUnits) : Type 0 where
+  pub names : first.names.items ≡ take room.names (map skeleton_named units)
+  pub paths : first.paths.items ≡ take room.paths (paths_of units)
+  pub count : first.count ≡ length units
+  pub size : first.size ≡ length (paths_of units)
+
+-- the room that a caller has
+abbrev pub room_of : List ThorinSkeleton → List ℕ → Room
+room_of names paths = record { names = length names; paths = length paths }
+
+-- what is read next of a list, and what is left of it: its first unit, which comes to those that
+-- were read before; or its end; or the error that ends it
+pub record AddsFirst (room : Room) (listed left : Listed) (old new : FirstUnits) : Type 0 where
+  pub unit : Named
+  pub is : listed ≡ (unit ∷ left.0, left.1)
+  pub adds : (units : List Named) → IsFirst room units old → IsFirst room (units ++ unit ∷ []) new
+
+abbrev pub IsNextFirst : Room → (listed left : Listed) → (old new : FirstUnits)
+    → Result Bool Error → Type 0
+IsNextFirst room listed left old new (Ok true) = AddsFirst room listed left old new
+IsNextFirst room listed left old new (Ok false) = (listed ≡ ([], None)) × (new ≡ old)
+IsNextFirst room listed left old new (Err e) =
+    MemoryAside e ((listed ≡ ([], Some (error_of e))) × (new ≡ old))

@@ -17,6 +17,7 @@ mod skeletons;
 mod status;
 mod types;
 mod unit;
+mod units;
 mod version;
 
 pub use finding::{thorin_content, thorin_find, thorin_find_each, thorin_string};

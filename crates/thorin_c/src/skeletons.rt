@@ -1,26 +1,24 @@
 //! The objects that an executable names.
 
-ghost use Rattle.std.specs.Prelude.{◌≡◌, ◌⊎◌, pos, false, map, None, IfOk};
-ghost use Rattle.thorin_executable.specs.Skeletons.{skeletons_of};
-ghost use Rattle.thorin_executable.specs.View.{named, listed};
+ghost use Rattle.std.specs.Prelude.{◌≡◌, ◌⊎◌, pos, List, None, option_map};
+ghost use Rattle.thorin_errors.specs.Errors.{error_of};
+ghost use Rattle.thorin_executable.specs.Skeletons.{Named, skeletons_of};
 ghost use Rattle.thorin_c.specs.Listing.{written_over};
-ghost use Rattle.thorin_c.specs.Skeletons.{skeleton_of, skeleton_named, paths_of, ListsUnits};
-ghost use Rattle.thorin_c.specs.Skeletons.{TellsEnd, TellsOfList, TellsOfEnd, IsNoWantOfMemory};
+ghost use Rattle.thorin_c.specs.Skeletons.{IsFirst, ListsUnits, room_of};
+ghost use Rattle.thorin_c.specs.Skeletons.{TellsEnd, TellsOfList, TellsOfEnd};
 
 use crate::error::tell;
 use crate::status::{DONE, NO_MEMORY, REFUSED};
 use crate::types::{ThorinReport, ThorinSkeleton};
-use dwp_table::DwarfObject;
-use std::alloc::{AllocError, Global};
-use thorin::{Bump, BytesSession, skeletons};
+use crate::units::{FirstUnits, Room};
+use std::alloc::Global;
+use thorin::{Bump, BytesSession};
 use thorin_errors::Error;
-use thorin_executable::{Skeleton, SkeletonList};
 
 /// Lists the split units that an executable names, and the paths of their objects, each with a zero
 /// byte behind it, as far as there is room: 0, how many units there are in `count`, and how many
 /// bytes all paths have in `report.size`. 11 where an error ends the list: the same of the units
 /// before it, and the error in `report`. 13 where memory ran out, and then all is left as it is.
-#[tactic(auto, using(crate::proofs::SkeletonLists::unless_memory))]
 #[unsafe(no_mangle)]
 pub extern "C" fn thorin_skeletons(
     alloc: Global,
@@ -42,50 +40,39 @@ pub extern "C" fn thorin_skeletons(
 {
     let arena = Bump::new(alloc);
     let session = BytesSession::new(&arena);
-    let list = skeletons(alloc, &session, bytes);
-    if lacks_memory(&list.fault) {
-        return NO_MEMORY;
-    }
-    match text_of(alloc, &list.units) {
-        Ok(text) => told(list, &text, names, paths, count, report),
+    let room = Room {
+        names: names.len(),
+        paths: paths.len(),
+    };
+    let mut units = FirstUnits::new(alloc);
+    match units.read(alloc, &session, bytes, room) {
+        Ok(error) => told(&units, error, names, paths, count, report),
         Err(_) => NO_MEMORY,
     }
 }
 
-/// Whether memory ran out.
-fn lacks_memory(error: &Option<Error>) -> bool
-    ensures { result ≡ false → IsNoWantOfMemory error.now }
-{
-    matches!(error, Some(Error::Memory))
-}
-
-/// Tells of a list whose paths are this text.
+/// Tells of the units that were read, and of the error that ends them.
 #[tactic(auto, using(crate::proofs::SkeletonLists::lists, crate::proofs::SkeletonLists::end_alone))]
 fn told(
-    list: SkeletonList,
-    text: &[u8],
+    units: &FirstUnits,
+    error: Option<Error>,
     names: &mut [ThorinSkeleton],
     paths: &mut [u8],
     count: &mut u64,
     report: &mut ThorinReport,
 ) -> i32
-    requires { text.now ≡ paths_of (listed list).0 }
-    ensures whole { result ≡ pos 0 → (listed list).1 ≡ None }
-    ensures ended { result ≡ pos 11 → TellsEnd (listed list).1 report.new }
-    ensures lists { ListsUnits (listed list).0 names.old names.new paths.old paths.new count.new
-        report.new }
+    ensures whole { result ≡ pos 0 → error ≡ None }
+    ensures ended { result ≡ pos 11 → TellsEnd (option_map error_of error) report.new }
+    ensures lists { (list : List Named) → IsFirst (room_of names.old paths.old) list units.now
+        → ListsUnits list names.old names.new paths.old paths.new count.new report.new }
     ensures whole_alone { result ≡ pos 0 → TellsOfList report.old report.new }
     ensures ended_alone { result ≡ pos 11 → TellsOfEnd report.old report.new }
     ensures status { (result ≡ pos 0) ⊎ (result ≡ pos 11) }
 {
-    let SkeletonList {
-        units,
-        fault: error,
-    } = list;
-    write_names(&units, names);
-    write_paths(text, paths);
-    *count = units.len() as u64;
-    report.size = text.len() as u64;
+    write_over(&units.names, names);
+    write_over(&units.paths, paths);
+    *count = units.count;
+    report.size = units.size;
     match error {
         None => DONE,
         Some(error) => {
@@ -95,51 +82,10 @@ fn told(
     }
 }
 
-/// The paths of the units' objects, each with a zero byte behind it.
-fn text_of(alloc: Global, units: &[Skeleton]) -> Result<Vec<u8>, AllocError>
-    ensures { IfOk result (λ text. text.items ≡ paths_of (map named units.now)) }
+/// Writes a list over another, as far as there is room.
+fn write_over<T: Copy>(list: &[T], over: &mut [T])
+    ensures { over.new ≡ written_over over.old list.now }
 {
-    let mut text = Vec::new(alloc);
-    for i in 0..units.len() {
-        text.extend_from_slice(units[i].path.as_bytes())?;
-        text.push(0)?;
-    }
-    Ok(text)
-}
-
-/// Writes the units, as many as there is room for.
-fn write_names(units: &[Skeleton], names: &mut [ThorinSkeleton])
-    ensures { names.new
-        ≡ written_over names.old (map (λ s. skeleton_named (named s)) units.now) }
-{
-    for (i, unit) in units.iter().enumerate() {
-        if i < names.len() {
-            names[i] = skeleton_of(unit.target, unit.path.as_bytes().len() as u64);
-        }
-    }
-}
-
-fn skeleton_of(target: DwarfObject, path_size: u64) -> ThorinSkeleton
-    ensures { result ≡ skeleton_of target path_size }
-{
-    match target {
-        DwarfObject::Compilation(id) => ThorinSkeleton {
-            id: id.0,
-            path_size,
-            kind: 1,
-        },
-        DwarfObject::TypeUnit(signature) => ThorinSkeleton {
-            id: signature.0,
-            path_size,
-            kind: 2,
-        },
-    }
-}
-
-/// Writes the paths, as far as there is room.
-fn write_paths(text: &[u8], paths: &mut [u8])
-    ensures { paths.new ≡ written_over paths.old text.now }
-{
-    let len = text.len().min(paths.len());
-    paths[..len].copy_from_slice(&text[..len]);
+    let len = list.len().min(over.len());
+    over[..len].copy_from_slice(&list[..len]);
 }

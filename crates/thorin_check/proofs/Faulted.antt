@@ -1,7 +1,7 @@
 -- Faults that were told.
-use Rattle.std.proofs.Common.{◌≡◌, ◌≢◌, ℕ, Bool, true, false, ◌&&◌, List, [], ◌∷◌, ◌++◌, codes, map}
+use Rattle.std.proofs.Common.{◌≡◌, ◌≢◌, ℕ, Bool, true, false, ◌&&◌, List, [], ◌∷◌, ◌++◌, codes}
 use Rattle.std.proofs.Common.{Option, Some, None, is_none, Result, Ok, Err, IfOk, String}
-use Rattle.std.proofs.Common.{string_bytes, Global, decimal, refl, sym, inl, inr, arith}
+use Rattle.std.proofs.Common.{string_bytes, Global, decimal, refl, inl, arith}
 use Rattle.std.specs.Result.{result_err}
 use Rattle.std.proofs.KnownBytes.{Appends-trans}
 use Rattle.dwp_base.specs.declared.section.SectionKind.{SectionKind}
@@ -12,17 +12,17 @@ use Rattle.dwp_index.specs.Package.{Package, FoundUnit, found}
 use Rattle.dwp_index.specs.declared.error.PackageError.{PackageError}
 use Rattle.dwp_index.specs.declared.units.UnitEntry.{UnitEntry}
 use Rattle.dwp_table.specs.declared.object.DwarfObject.{DwarfObject}
-use Rattle.thorin_check.specs.Checking.{TellsSomeStrings}
 use Rattle.thorin_check.specs.Faults.{TellsText, IsTextOf, IsSomeText, IsUnreadText}
-use Rattle.thorin_check.specs.Faults.{IsOwnText, TellsOwn, TellsItself, TellsFound, TellsUnit}
+use Rattle.thorin_check.specs.Faults.{TellsOwn, TellsItself, TellsFound, TellsUnit}
 use Rattle.thorin_check.specs.Faults.{has_abbreviations, string_text, TellsString, TellsStrings}
 use Rattle.thorin_check.specs.Faults.{TellsStringsOf, TellsWhat, IsBroken}
 use Rattle.thorin_check.specs.Overlaps.{IsClash, overlap_text}
+use Rattle.thorin_check.specs.Own.{own_of}
 use Rattle.thorin_print.specs.Answers.{Outcome}
 use Rattle.thorin_print.specs.Shown.{shown}
 use Rattle.thorin_words.specs.Printed.{printed}
 use Rattle.thorin_check.specs.Rendering.{FaultValue, of_unit, of_package, of_executable}
-use Rattle.thorin_check.specs.Telling.{Progress, Told, Tells, IsFault, ForEach}
+use Rattle.thorin_check.specs.Telling.{Progress, Told, Tells, IsFault}
 use Rattle.thorin_print.specs.Answers.{IsOfPrinting, Grows}
 use Rattle.thorin_print.specs.declared.output.Failure.{Failure}
 use Rattle.thorin_check.proofs.Told.{tells_as}
@@ -105,19 +105,9 @@ module _ (pack : Package) (object : DwarfObject) (unit : FoundUnit) where
       inl (record { kind = kind; other = other; clash = clash; is = rw is refl })
 
   pub of_its_own : {E : Type 0} (text : Result (Option (String Global)) E)
-      → IsTextOf (TellsOwn object) object text → IsTextOf (TellsItself pack object unit) object text
+      → IsTextOf (TellsOwn object (own_of object unit)) object text
+      → IsTextOf (TellsItself pack object unit) object text
   of_its_own text h = grind (arith)
-
-pub own_fault : (object : DwarfObject) (text : List ℕ) → IsOwnText text
-    → TellsOwn object (of_unit object text ∷ [])
-own_fault object text is = inr (record { text = text; is_text = is; is = refl })
-
--- what is said of an identifier of its own
-pub is_own_text : {E : Type 0} (text : Result (String Global) E) (rest : List ℕ)
-    → IfOk text (λ t. string_bytes t ≡ codes "its own identifier " ++ rest)
-    → IfOk text (λ t. IsOwnText (string_bytes t))
-is_own_text (Ok t) rest e = inr (rest, e)
-is_own_text (Err cause) rest e = tt
 
 -- ---- executables
 
@@ -144,20 +134,3 @@ pub strings_some : (object : DwarfObject) (looked : Result (Option FoundUnit) Pa
     (a b : Progress) (result : Outcome) (unit : FoundUnit) → looked ≡ Ok (Some unit)
     → Tells (TellsStrings object unit) a b result → Tells (TellsStringsOf object looked) a b result
 strings_some object looked a b result unit e h = rw e h
-
-for_each_of : {X Y : Type 0} (P : Y → List FaultValue → Type 0) (f : X → Y) (xs : List X)
-    (faults : List FaultValue) → ForEach (λ x. P (f x)) xs faults → ForEach P (map f xs) faults
-for_each_of P f [] faults h = h
-for_each_of P f (x ∷ xs) faults h =
-    grind (arith, for_each_of P f xs h.rest h.is_rest)
-
-pub some_strings : {R : Type 0} (pack : Package) (strings : List (R × DwarfObject))
-    (a b : Progress) (result : Outcome)
-    → Tells (ForEach (λ s. TellsStringsOf s.1 (found pack s.1)) strings) a b result
-    → Tells (TellsSomeStrings pack) a b result
-some_strings pack strings a b result = tells_as a b result
-    (λ faults l. (
-      _,
-      for_each_of (λ o. TellsStringsOf o (found pack o)) (λ s. s.1)
-          strings faults l,
-    ))

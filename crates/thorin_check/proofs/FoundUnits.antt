@@ -1,5 +1,5 @@
 -- The unit that a look-up finds is that of a row, whose ranges lie inside their sections.
-use Rattle.std.proofs.Common.{◌≡◌, ◌∙◌, ℕ, ◌+◌, ◌≤◌, Bool, true, false, List, [], ◌∷◌, length}
+use Rattle.std.proofs.Common.{◌≡◌, ◌∙◌, ℕ, ◌+◌, ◌≤◌, Bool, false, List, [], ◌∷◌, length}
 use Rattle.std.proofs.Common.{Option}
 use Rattle.std.proofs.Common.{Some, None, Result, Ok, Err, refl, sym, ap, arith, find, nat_eq}
 use Rattle.std.proofs.lemmas.Bool.Decides.{nat_tests}
@@ -12,16 +12,15 @@ use Rattle.dwp_base.specs.declared.section.SectionKind.{SectionKind}
 use Rattle.dwp_base.specs.declared.section.SectionKind.TheVariants as kinds
 use Rattle.dwp_bytes.specs.declared.error.ReadError.{ReadError}
 use Rattle.dwp_index.specs.Contents.{Sections, content}
-use Rattle.dwp_index.specs.Finding.{LiesInside}
+use Rattle.dwp_index.specs.Finding.{LiesInside, own_bytes}
 use Rattle.dwp_index.specs.Index.{Index, Ranges, row_in, range_in, column_place}
 use Rattle.dwp_index.specs.Package.{Package, FoundUnit, found, found_counted, found_by, unit_found}
 use Rattle.dwp_index.specs.Package.{unit_at_row, unit_in, first_outside, all_inside, is_outside}
 use Rattle.dwp_index.specs.Package.{index_for, as_error, encoding_in}
-use Rattle.dwp_index.specs.declared.error.PackageError.{PackageError}
 use Rattle.dwp_index.specs.declared.error.PackageError.TheVariants as errors
 use Rattle.dwp_table.specs.Columns.{column_of, contribution_kinds}
 use Rattle.dwp_table.specs.Objects.{identifier_of}
-use Rattle.dwp_table.specs.Probing.{found_row, look_count}
+use Rattle.dwp_table.specs.Probing.{found_row}
 use Rattle.dwp_table.specs.declared.object.DwarfObject.{DwarfObject}
 
 -- ---- its ranges
@@ -119,6 +118,7 @@ pub record IsRowOf (pack : Package) (object : DwarfObject) (unit : FoundUnit) : 
   pub inside : LiesInside pack.contents unit.row
   pub contents : unit.contents ≡ pack.contents
   pub order : unit.order ≡ pack.order
+  pub bytes : unit.bytes ≡ own_bytes pack.contents object unit.row
 
 module _ (pack : Package) (object : DwarfObject) (unit : FoundUnit) where
   pub record IsReadIn (number : ℕ) (row : Ranges) : Type 0 where
@@ -127,6 +127,7 @@ module _ (pack : Package) (object : DwarfObject) (unit : FoundUnit) where
     pub inside : first_outside pack.contents row ≡ None
     pub contents : unit.contents ≡ pack.contents
     pub order : unit.order ≡ pack.order
+    pub bytes : unit.bytes ≡ own_bytes pack.contents object row
 
   read_ok : (read : Result Ranges ReadError) (row : Ranges) → as_error errors.Index read ≡ Ok row
       → read ≡ Ok row
@@ -147,6 +148,7 @@ module _ (pack : Package) (object : DwarfObject) (unit : FoundUnit) where
         inside = outside;
         contents = sym (ap (λ (u : FoundUnit). u.contents) same);
         order = sym (ap (λ (u : FoundUnit). u.order) same);
+        bytes = sym (ap (λ (u : FoundUnit). u.bytes) same);
       }
 
   at_row : (index : Index) (number count : ℕ) (x : Option FoundUnit × ℕ) → x.0 ≡ Some unit
@@ -176,6 +178,7 @@ module _ (pack : Package) (object : DwarfObject) (unit : FoundUnit) where
         inside = rw read.row_is (all_inside_of pack.contents row.0 read.inside);
         contents = read.contents;
         order = read.order;
+        bytes = rw read.row_is read.bytes;
       }
 
   by_index : (index : Option Index) (x : Option FoundUnit × ℕ) → index_for pack object ≡ index

@@ -1,11 +1,11 @@
 -- The rows that no slot names.
-use Rattle.std.proofs.Common.{◌≡◌, ◌⊎◌, ℕ, zero, suc, ◌+◌, ◌-◌, ◌<◌, ◌≤◌, ◌^◌, Bool, true, false}
+use Rattle.std.proofs.Common.{◌≡◌, ◌⊎◌, ℕ, ◌+◌, ◌-◌, ◌<◌, ◌≤◌, Bool, true, false}
 use Rattle.std.proofs.Common.{List, [], ◌∷◌}
-use Rattle.std.proofs.Common.{◌++◌, ◌&&◌, length, map, get_or, Result, Ok, Err, IfOk, String}
+use Rattle.std.proofs.Common.{◌++◌, length, map, get_or, Result, IfOk, String}
 use Rattle.std.proofs.Common.{Global, string_bytes}
-use Rattle.std.proofs.Common.{refl, sym, ◌∙◌, inl, inr, arith, nat_le, nat_lt, below_more, codes}
+use Rattle.std.proofs.Common.{refl, sym, ◌∙◌, inl, inr, arith, below_more}
 use Rattle.std.specs.List.{All, Contains, range_with_len}
-use Rattle.std.specs.List.Sorted.{IsSortedByKey, IsNonDecreasingBy}
+use Rattle.std.specs.List.Sorted.{IsSortedByKey}
 use Rattle.std.specs.Ordering.{nat_cmp}
 use Rattle.std.proofs.lemmas.Bool.Decides.{nat_tests}
 use Rattle.std.proofs.lemmas.List.{get_or_default}

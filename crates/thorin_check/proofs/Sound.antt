@@ -4,12 +4,19 @@ use Rattle.std.proofs.Common.{get_or, Option, Some, None, Result, Ok, Err, Bor, 
 use Rattle.std.proofs.Common.{inl, inr}
 use Rattle.std.proofs.Common.{arith, length, min, nat_eq, ◌<◌, ◌^◌, ◌-◌, lit<}
 use Rattle.std.proofs.lemmas.Bool.Decides.{nat_tests}
+use Rattle.std.proofs.Common.{◌⊎◌, ◌≤◌}
 use Rattle.std.specs.List.{All, Contains, flat_map}
+use Rattle.std.specs.Result.{result_err}
+use Rattle.std.proofs.lemmas.Option.{same_Some}
 use Rattle.std.proofs.lemmas.List.Elements.{All-nil, All-cons, All-weaker}
+use Rattle.std.proofs.lemmas.List.Elements.{All-contains}
+use Rattle.std.proofs.lemmas.List.FromFn.{get_or-map-range_with_len, length-map-range_with_len}
 use Rattle.std.proofs.lemmas.List.Sorted.{IsPermutation-sym, All-permutation, length_permutation}
 use Rattle.std.proofs.lemmas.List.Sorted.{Contains-permutation}
 use Rattle.dwp_base.specs.declared.section.SectionKind.{SectionKind}
 use Rattle.dwp_base.specs.declared.section.SectionKind.TheVariants as kinds
+use Rattle.dwp_bytes.specs.StringOffsets.{string_in, entry_in}
+use Rattle.dwp_bytes.specs.declared.error.ReadError.{ReadError}
 use Rattle.dwp_index.specs.Index.{Index}
 use Rattle.dwp_index.specs.Package.{Package, FoundUnit, found}
 use Rattle.dwp_index.specs.declared.error.PackageError.{PackageError}
@@ -19,16 +26,28 @@ use Rattle.dwp_table.specs.declared.object.DwarfObject.{DwarfObject}
 use Rattle.thorin_errors.specs.Errors.{ErrorValue}
 use Rattle.thorin_executable.specs.Skeletons.{Named, Listed, skeletons_by}
 use Rattle.thorin_find.specs.Files.{Offer}
+use Rattle.thorin_find.specs.Finding.{string_count, string_of}
 use Rattle.thorin_find.specs.Listing.{AreByRow}
+use Rattle.thorin_check.specs.Apart.{AreApartIn, AreApart}
+use Rattle.thorin_check.specs.Checking.{TellsSlot, TellsSlots, TellsStringsOfAll}
 use Rattle.thorin_check.specs.Checking.{TellsPackage, TellsExecutable, TellsExecutables}
 use Rattle.thorin_check.specs.Checking.{lacking_faults, status_of}
 use Rattle.thorin_check.specs.Executables.{Executables}
 use Rattle.thorin_check.specs.Faults.{IsUnread, TellsItself, is_bare, TellsInRow, TellsFound}
 use Rattle.thorin_check.specs.Faults.{TellsLooked, TellsUnit, missing_faults, TellsEnd, TellsListed}
-use Rattle.thorin_check.specs.Faults.{TellsNamed}
+use Rattle.thorin_check.specs.Faults.{TellsNamed, TellsOwn, TellsString, TellsNumbered}
+use Rattle.thorin_check.specs.Faults.{strings_of, TellsStrings, TellsStringsOf}
+use Rattle.thorin_check.specs.Ends.{AllEnd}
+use Rattle.thorin_check.specs.Indexes.{versions_faults, mixed_versions, column_faults}
+use Rattle.thorin_check.specs.Indexes.{lacks_column}
+use Rattle.dwp_table.specs.Columns.{contribution_kinds}
+use Rattle.thorin_check.specs.Own.{own_of}
+use Rattle.thorin_check.specs.Strings.{HasStringsOf}
+use Rattle.thorin_check.proofs.SharedStrings.{range_ends, all_ends}
 use Rattle.thorin_check.specs.Faults.{row_fault, row_end, TellsRowsOf}
 use Rattle.thorin_check.specs.Rendering.{FaultValue}
-use Rattle.thorin_check.specs.Sound.{slots, IsSoundUnit, AreNamed, HasUnitsOf, IsSound}
+use Rattle.thorin_check.specs.Sound.{slots, IsSoundUnit, AreNamed, NameOnce, HasUnitsOf, IsSound}
+use Rattle.thorin_check.proofs.Own.{own_once}
 use Rattle.thorin_check.specs.Telling.{InTurn, ForEach, Is, fault_count}
 use Rattle.thorin_check.specs.declared.executables.Reading.{Reading}
 use Rattle.thorin_check.proofs.FoundUnits.{row_of_found}
@@ -77,23 +96,103 @@ module _ (pack : Package) (entry : UnitEntry) where
   whole_row unit true h = absurd (some_told _ _ h)
   whole_row unit false h = (refl, h)
 
+  by_own : (own : Option (Option DwarfObject)) → TellsOwn entry.object own []
+      → own ≡ Some (Some entry.object)
+  by_own None h = absurd (some_told _ _ h.1)
+  by_own (Some None) h = absurd (some_told _ _ h)
+  by_own (Some (Some own)) (inl h) = rw h.0 refl
+  by_own (Some (Some own)) (inr h) = absurd (some_told _ _ h.1)
+
+  its_own : (unit : FoundUnit) → TellsItself pack entry.object unit []
+      → own_of entry.object unit ≡ Some (Some entry.object)
+  its_own unit (inl h) = absurd (some_told _ _ h.is)
+  its_own unit (inr h) = by_own (own_of entry.object unit) h
+
+-- ---- strings
+
+module _ (unit : FoundUnit) where
+  read_whole : (object : DwarfObject) (i : ℕ) (read : Result (Option (List ℕ)) ReadError)
+      → TellsString object i read [] → result_err read ≡ None
+  read_whole object i (Ok string) h = refl
+  read_whole object i (Err cause) h = absurd (some_told _ _ h.1)
+
+  past_all : (i : ℕ) → string_count unit ≤ i → result_err (string_of unit i) ≡ None
+  unfolding string_count string_in entry_in
+  past_all i le = grind (arith, nat_tests)
+
+  count_or : (i : ℕ) → (i < string_count unit) ⊎ (string_count unit ≤ i)
+  count_or i = grind arith
+
+  one_read : (object : DwarfObject) → TellsStrings object unit [] → (i : ℕ)
+      → i < string_count unit → result_err (string_of unit i) ≡ None
+  one_read object h i lt =
+      let size : length (strings_of unit) ≡ string_count unit =
+      length-map-range_with_len (λ k. (k, string_of unit k)) 0 (string_count unit) in
+      let within : i < length (strings_of unit) = subst (λ n. i < n) (sym size) lt in
+      let each = none_for_each (TellsNumbered object) (strings_of unit) h in
+      let is : get_or (strings_of unit) i (i, string_of unit i) ≡ (i, string_of unit i) =
+      get_or-map-range_with_len (λ k. (k, string_of unit k)) 0 (string_count unit) i i
+      (i, string_of unit i) lt (omega arith) in
+      read_whole object i (string_of unit i)
+      (subst (λ s. TellsNumbered object s []) is (each i (i, string_of unit i) within))
+
+  all_read_of : (object : DwarfObject) → TellsStrings object unit [] → AllEnd unit
+  all_read_of object h i = elim (count_or i) [
+    | inl lt ↦ one_read object h i lt
+    | inr le ↦ past_all i le
+  ]
+
+module _ (pack : Package) (objects : List DwarfObject)
+    (none : TellsStringsOfAll pack objects []) where
+  one_ends : (object : DwarfObject) → Contains objects object → (unit : FoundUnit)
+      → found pack object ≡ Ok (Some unit) → AllEnd unit
+  one_ends object is unit found_is =
+      let told = All-contains (λ object. TellsStringsOf object (found pack object) []) objects
+      object (none_for_each (λ object. TellsStringsOf object (found pack object)) objects none)
+      is in
+      all_read_of unit object (rw found_is at told)
+
+  strings_end : (object : DwarfObject) (unit : FoundUnit) → found pack object ≡ Ok (Some unit)
+      → HasStringsOf pack objects unit → AllEnd unit
+  strings_end object unit is (inl all) = all
+  strings_end object unit is (inr (range, has, one)) =
+      let all = one_ends one.object one.is_one one.unit one.is_found in
+      let ends = range_ends pack one.object one.unit one.is_found range one.is_range all in
+      all_ends pack object unit is
+      (λ other e. rw (← same_Some range other (sym has ∙ e)) ends)
+
 -- ---- a sound unit
 
-pub sound_unit : (pack : Package) (entry : UnitEntry) → TellsUnit pack entry []
+pub sound_unit : (pack : Package) (objects : List DwarfObject)
+    → TellsStringsOfAll pack objects [] → (entry : UnitEntry) → TellsSlot pack objects entry []
     → IsSoundUnit pack entry
 unfolding TellsUnit
-sound_unit pack entry h =
-    let looked = looked_up pack entry (found pack entry.object) h in
+sound_unit pack objects none entry h =
+    let looked = looked_up pack entry (found pack entry.object) h.0 in
     let row = in_its_row pack entry looked.0 looked.2 in
     let whole = whole_row pack entry looked.0 (is_bare pack looked.0) row.1 in
     let place = row_of_found pack entry.object looked.0 looked.1 in
+    let has = rw looked.1 at (h.1 refl) in
     record {
       unit = looked.0;
       is_found = looked.1;
       in_row = row.0;
       inside = place.inside;
       has_abbreviations = whole.0;
+      own = its_own pack entry looked.0 whole.1;
+      strings = strings_end pack objects none entry.object looked.0 looked.1 has;
     }
+
+-- slots of one row
+named_once : (pack : Package) → All (IsSoundUnit pack) (slots pack) → (is_types : Bool)
+    → NameOnce pack is_types
+named_once pack all is_types a b here there is so row =
+    let one = All-contains (IsSoundUnit pack) (slots pack) a all here in
+    let other = All-contains (IsSoundUnit pack) (slots pack) b all there in
+    let same = own_once pack is_types a.object b.object one.unit other.unit is so one.is_found
+    other.is_found (one.in_row ∙ row ∙ sym other.in_row) in
+    same_Some a.object b.object (same_Some (Some a.object) (Some b.object)
+    (sym one.own ∙ same ∙ other.own))
 
 -- ---- executables
 
@@ -166,6 +265,15 @@ lacks_none : (kind : SectionKind) (lacks : Bool) → Is (lacking_faults kind lac
 lacks_none kind true h = absurd (some_told _ _ h)
 lacks_none kind false h = refl
 
+one_version : (versions : Option (ℕ × ℕ)) → Is (versions_faults versions) [] → versions ≡ None
+one_version None h = refl
+one_version (Some versions) h = absurd (some_told _ _ h)
+
+has_column_of : (kind : SectionKind) (lacks : Bool) → Is (column_faults kind lacks) []
+    → lacks ≡ false
+has_column_of kind true h = absurd (some_told _ _ h)
+has_column_of kind false h = refl
+
 map_none : {X Y : Type 0} (f : X → Y) (xs : List X) → [] ≡ map f xs → xs ≡ []
 map_none f [] e = refl
 map_none f (x ∷ xs) e = absurd cc
@@ -179,6 +287,14 @@ module _ (pack : Package) (entries : List UnitEntry) (by_row : AreByRow pack ent
   among_slots : (entry : UnitEntry) → Contains entries entry → Contains (slots pack) entry
   among_slots entry = Contains-permutation entries (slots pack) entry
       (IsPermutation-sym (slots pack) entries by_row.all)
+
+  in_entries : (slot : UnitEntry) → Contains (slots pack) slot → Contains entries slot
+  in_entries slot = Contains-permutation (slots pack) entries slot by_row.all
+
+  apart_in : (kinds : List SectionKind) → AreApart pack entries kinds
+      → AreApart pack (slots pack) kinds
+  apart_in kinds apart = All-weaker (AreApartIn pack entries) (AreApartIn pack (slots pack))
+      (λ kind h a b is_a is_b. h a b (in_entries a is_a) (in_entries b is_b)) kinds apart
 
   rows_named : (kind : List ℕ) (is_types : Bool) (index : Option Index)
       → TellsRowsOf kind is_types (row_end index) entries [] → AreNamed pack is_types index
@@ -199,23 +315,36 @@ pub no_fault_told : (offer : Offer) (executables : Executables) (pack : Package)
     → TellsPackage offer executables pack entries [] → IsSound offer executables pack
 no_fault_told offer executables pack entries by_row t =
     let parts = none_in_turn _ _ t in
-    let units = none_in_turn _ _ parts.0 in
+    let units = none_in_turn (TellsSlots pack parts.0.0 entries)
+    (TellsStringsOfAll pack parts.0.0) parts.0.1 in
     let others = none_in_turn _ _ parts.1 in
     let tables = none_in_turn _ _ others.0 in
     let sections = none_in_turn _ _ tables.0 in
-    let rows = none_in_turn _ _ tables.1 in
+    let behind = none_in_turn _ _ tables.1 in
+    let indexes = none_in_turn _ _ behind.0 in
+    let rows = none_in_turn _ _ behind.1 in
     let sound = of_slots pack entries by_row
-    (All-weaker (λ entry. TellsUnit pack entry []) (IsSoundUnit pack) (sound_unit pack) entries
-    (none_for_each _ entries units.0)) in
+    (All-weaker (λ entry. TellsSlot pack parts.0.0 entry []) (IsSoundUnit pack)
+    (sound_unit pack parts.0.0 units.1) entries
+    (none_for_each (TellsSlot pack parts.0.0) entries units.0.0)) in
     let as_many = length_permutation (slots pack) entries by_row.all in
     record {
       sound = record {
         units = sound;
+        apart = apart_in pack entries by_row contribution_kinds (units.0.1 refl);
         compilations_named = rows_named pack entries by_row (codes "cu") false
             pack.compilations rows.0;
         types_named = rows_named pack entries by_row (codes "tu") true pack.types rows.1;
+        compilations_once = named_once pack sound false;
+        types_once = named_once pack sound true;
         has_abbreviations = rw as_many at (lacks_none kinds.Abbrev _ sections.0);
         has_strings = lacks_none kinds.Str _ sections.1;
+        one_version = one_version (mixed_versions pack) indexes.0;
+        has_columns = All-weaker (λ kind. Is (column_faults kind (lacks_column pack kind)) [])
+            (λ kind. lacks_column pack kind ≡ false)
+            (λ kind. has_column_of kind (lacks_column pack kind)) contribution_kinds
+            (none_for_each (λ kind. Is (column_faults kind (lacks_column pack kind)))
+            contribution_kinds indexes.1);
       };
       named = all_units offer executables.reading pack executables.paths others.1;
     }

@@ -100,7 +100,7 @@ passed fault form written held more count new put result e p = grind (arith, app
 -- ---- faults for each of a list
 
 module _ {X : Type 0} (P : X → List FaultValue → Type 0) where
-  for_each_more : (xs : List X) (x : X) (faults more : List FaultValue) → ForEach P xs faults
+  pub for_each_more : (xs : List X) (x : X) (faults more : List FaultValue) → ForEach P xs faults
       → P x more → ForEach P (xs ++ (x ∷ [])) (faults ++ more)
   for_each_more [] x faults more h p = grind (arith, append-nil)
   for_each_more (y ∷ ys) x faults more h p =

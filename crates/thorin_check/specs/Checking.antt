@@ -21,8 +21,13 @@ use Rattle.thorin_check.specs.Faults.{lacks_abbreviations, lacks_strings}
 use Rattle.thorin_find.specs.Listing.{AreByRow, has_no_index}
 use Rattle.thorin_print.specs.Answers.{Grows, IsOfPrinting}
 use Rattle.thorin_check.specs.Telling.{InTurn, ForEach, Is, fault_count}
+use Rattle.dwp_table.specs.Columns.{contribution_kinds}
+use Rattle.thorin_check.specs.Apart.{AreApart}
 use Rattle.thorin_check.specs.Executables.{Executables}
+use Rattle.thorin_check.specs.Indexes.{TellsIndexes}
 use Rattle.thorin_check.specs.Sound.{IsSound}
+use Rattle.thorin_check.specs.Strings.{Listed, Lists, IsRangeOfOne, HasStringsIn}
+use Rattle.thorin_check.specs.declared.strings.StringRange.{StringRange}
 use Rattle.thorin_check.specs.declared.executables.Reading.{Reading}
 use Rattle.thorin_print.specs.declared.output.Failure.{Failure}
 use Rattle.thorin_print.specs.declared.output.Failure.TheVariants as failures
@@ -33,15 +38,33 @@ status_of faults = if faults == 0 then 0 else 1
 
 -- ---- what is told
 
--- what is told of the strings of some units
-abbrev pub TellsSomeStrings : Package → List FaultValue → Type 0
-TellsSomeStrings pack faults = (objects : List DwarfObject)
-    × ForEach (λ object. TellsStringsOf object (found pack object)) objects faults
+-- what is told of a unit that a slot names; where that is nothing, its strings can all be read, or
+-- are those of one of these units
+abbrev pub TellsSlot : Package → List DwarfObject → UnitEntry → List FaultValue → Type 0
+TellsSlot pack objects entry faults = TellsUnit pack entry faults
+    × (faults ≡ [] → HasStringsIn pack objects (found pack entry.object))
 
--- what is told of the units that slots name, and then of their strings
+-- the same of all such units; where that is nothing, none of their ranges overlap
+abbrev pub TellsSlots : Package → List DwarfObject → List UnitEntry → List FaultValue → Type 0
+TellsSlots pack objects entries faults = ForEach (TellsSlot pack objects) entries faults
+    × (faults ≡ [] → AreApart pack entries contribution_kinds)
+
+-- what is told of the strings of these units
+abbrev pub TellsStringsOfAll : Package → List DwarfObject → List FaultValue → Type 0
+TellsStringsOfAll pack objects = ForEach (λ object. TellsStringsOf object (found pack object))
+    objects
+
+-- what is told of the units that slots name, and then of the strings of some of them, which are all
+-- whose strings can't all be read
 abbrev pub TellsUnits : Package → List UnitEntry → List FaultValue → Type 0
-TellsUnits pack entries =
-    InTurn (ForEach (TellsUnit pack) entries) (TellsSomeStrings pack)
+TellsUnits pack entries faults = (objects : List DwarfObject)
+    × InTurn (TellsSlots pack objects entries) (TellsStringsOfAll pack objects) faults
+
+-- the same of a list of string offsets and units that have them
+pub record TellsListed (pack : Package) (listed : Listed) (faults : List FaultValue) : Type 0 where
+  pub objects : List DwarfObject
+  pub told : TellsStringsOfAll pack objects faults
+  pub others : (range : StringRange) → Lists listed range → IsRangeOfOne pack objects range
 
 -- what is told of the rows of both indexes
 abbrev pub TellsRows : Package → List UnitEntry → List FaultValue → Type 0
@@ -61,11 +84,11 @@ abbrev pub TellsSections : (no_abbreviations no_strings : Bool) → List FaultVa
 TellsSections no_abbreviations no_strings =
     InTurn (Is (lacking_faults Abbrev no_abbreviations)) (Is (lacking_faults Str no_strings))
 
--- the same, and what is told of the rows
+-- the same, and what is told of the indexes and of their rows
 abbrev pub TellsTables : Package → List UnitEntry → List FaultValue → Type 0
 TellsTables pack entries =
     InTurn (TellsSections (lacks_abbreviations pack entries) (lacks_strings pack))
-    (TellsRows pack entries)
+    (InTurn (TellsIndexes pack) (TellsRows pack entries))
 
 -- what is told of the executable at a path
 pub record TellsExecutable (offer : Offer) (reading : Reading) (pack : Package)

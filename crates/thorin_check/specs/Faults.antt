@@ -21,6 +21,10 @@ use Rattle.thorin_executable.specs.Skeletons.{Named, Listed}
 use Rattle.thorin_errors.specs.Errors.{ErrorValue}
 use Rattle.thorin_find.specs.Finding.{string_count, string_of}
 use Rattle.thorin_check.specs.Overlaps.{IsClash, overlap_text}
+use Rattle.thorin_check.specs.Own.{own_of}
+use Rattle.thorin_find.specs.Lines.{short_kind}
+use Rattle.thorin_print.specs.Lines.{hex16}
+use Rattle.dwp_table.specs.Objects.{identifier_of}
 use Rattle.thorin_print.specs.Shown.{shown, shown_briefly}
 use Rattle.thorin_print.specs.Answers.{Outcome, Grows}
 use Rattle.thorin_check.specs.Rendering.{FaultValue, of_unit, of_package, of_executable}
@@ -81,20 +85,24 @@ IsUnreadText (Range kind) text =
     text ≡ codes "its range of " ++ (name_of kind ++ codes " is outside the section")
 IsUnreadText _ text = Unit {0}
 
--- what may be wrong with the identifier that a unit's own bytes give: there is none, or it is
--- another, or can't be read
-abbrev pub IsOwnText : List ℕ → Type 0
-IsOwnText text = (text ≡ codes "it has no identifier of its own")
-    ⊎ ((rest : List ℕ) × (text ≡ codes "its own identifier " ++ rest))
+-- what is told of a unit whose own bytes give another identifier, or of one whose own identifier
+-- can't be read
+abbrev pub own_text : DwarfObject → List ℕ
+own_text own = codes "its own identifier is " ++ (short_kind own
+    ++ (codes " 0x" ++ hex16 (identifier_of own)))
 
-pub record IsOwnFault (object : DwarfObject) (faults : List FaultValue) : Type 0 where
-  pub text : List ℕ
-  pub is_text : IsOwnText text
-  pub is : IsFault (of_unit object text) faults
+abbrev pub unread_own_text : (cause : List ℕ) → List ℕ
+unread_own_text cause = codes "its own identifier can't be read: " ++ cause
 
--- what is told of a unit by the identifier that its own bytes give: nothing, or a fault
-abbrev pub TellsOwn : DwarfObject → List FaultValue → Type 0
-TellsOwn object faults = IsNone faults ⊎ IsOwnFault object faults
+-- what is told of a unit by the identifier that its own bytes give: nothing where that is its own,
+-- and else a fault, as where it has none, or none that can be read
+abbrev pub TellsOwn : DwarfObject → Option (Option DwarfObject) → List FaultValue → Type 0
+TellsOwn object (Some (Some own)) faults = ((own ≡ object) × IsNone faults)
+    ⊎ ((own ≢ object) × IsFault (of_unit object (own_text own)) faults)
+TellsOwn object (Some None) faults =
+    IsFault (of_unit object (codes "it has no identifier of its own")) faults
+TellsOwn object None faults =
+    (cause : List ℕ) × IsFault (of_unit object (unread_own_text cause)) faults
 
 -- what is told of a unit whose range of a section overlaps that of another
 pub record TellsOverlap (pack : Package) (object : DwarfObject) (unit : FoundUnit)
@@ -107,7 +115,8 @@ pub record TellsOverlap (pack : Package) (object : DwarfObject) (unit : FoundUni
 -- what is told of a unit by its ranges and its own bytes: an overlap, or what its own identifier
 -- gives
 abbrev pub TellsItself : Package → DwarfObject → FoundUnit → List FaultValue → Type 0
-TellsItself pack object unit faults = TellsOverlap pack object unit faults ⊎ TellsOwn object faults
+TellsItself pack object unit faults = TellsOverlap pack object unit faults
+    ⊎ TellsOwn object (own_of object unit) faults
 
 -- a package has abbreviations
 abbrev pub has_abbreviations : Package → Bool

@@ -1,9 +1,14 @@
+pub mod Apart
 pub mod Checking
 pub mod Ends
 pub mod Executables
 pub mod Faults
+pub mod Indexes
 pub mod Overlaps
+pub mod Own
 pub mod Rendering
 pub mod Rows
+pub mod Seen
 pub mod Sound
+pub mod Strings
 pub mod Telling

@@ -1,12 +1,14 @@
 -- Ranges of units that overlap: each byte of a section belongs to one contribution, which several
 -- units may share (DWARF 5, 7.3.5).
 use Rattle.std.specs.Prelude.{◌≡◌, ℕ, ◌+◌, Bool, true, false, ◌&&◌, ◌||◌, ◌==◌, not, List, ◌++◌}
-use Rattle.std.specs.Prelude.{codes, nat_lt, nat_le, Option, Some, Ok}
+use Rattle.std.specs.Prelude.{codes, nat_lt, nat_le, Option, Some, None, Result, Ok, Err}
 use Rattle.dwp_base.specs.Sections.{name_of}
 use Rattle.dwp_base.specs.declared.section.Contribution.{Contribution}
 use Rattle.dwp_base.specs.declared.section.SectionKind.{SectionKind}
-use Rattle.dwp_index.specs.Index.{range_in}
-use Rattle.dwp_index.specs.Package.{Package, FoundUnit, found}
+use Rattle.dwp_bytes.specs.declared.error.ReadError.{ReadError}
+use Rattle.dwp_index.specs.Index.{Index, Ranges, row_in, range_in}
+use Rattle.dwp_index.specs.Package.{Package, FoundUnit, found, index_for}
+use Rattle.dwp_index.specs.declared.units.UnitEntry.{UnitEntry}
 use Rattle.dwp_table.specs.Objects.{identifier_of}
 use Rattle.dwp_table.specs.declared.object.DwarfObject.{DwarfObject}
 use Rattle.thorin_print.specs.Lines.{hex16}
@@ -22,6 +24,18 @@ abbrev pub overlap : Option Contribution → Option Contribution → Bool
 overlap (Some a) (Some b) =
     not (a.offset.0 == b.offset.0 && a.size == b.size) && (begins_inside a b || begins_inside b a)
 overlap _ _ = false
+
+-- the range that the row which a slot names has of a section
+abbrev pub row_range : Result Ranges ReadError → SectionKind → Option Contribution
+row_range (Ok row) kind = range_in row kind
+row_range (Err cause) kind = None
+
+abbrev pub range_by_index : Option Index → (row : ℕ) → SectionKind → Option Contribution
+range_by_index None row kind = None
+range_by_index (Some index) row kind = row_range (row_in index row) kind
+
+abbrev pub slot_range : Package → UnitEntry → SectionKind → Option Contribution
+slot_range pack slot kind = range_by_index (index_for pack slot.object) slot.row kind
 
 -- a look-up in a package finds a unit under an identifier whose range of a section overlaps
 pub record IsClash (pack : Package) (unit : FoundUnit) (kind : SectionKind) (other : DwarfObject)

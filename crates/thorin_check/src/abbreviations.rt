@@ -1,15 +1,30 @@
 //! The identifiers that units' own bytes give. What was read is remembered: the abbreviations from
 //! unit to unit, and what units that share their bytes have.
 
-use dwp_base::{Contribution, Endianness, SectionKind};
-use dwp_dwarf::{SliceReader, UnitHeader, UnitSection};
-use dwp_index::{PackagedUnit, place_of};
-use dwp_table::DwarfObject;
+ghost use Rattle.std.specs.Prelude.{◌≡◌, ◌≢◌, ◌+◌, ◌≤◌, true, false, length, Option, Some, None, Ok};
+ghost use Rattle.std.specs.Prelude.{IfOk, string_bytes};
+ghost use Rattle.dwp_base.specs.declared.section.Contribution.{Contribution};
+ghost use Rattle.std.specs.Result.{result_ok};
+ghost use Rattle.dwp_bytes.specs.Input.{section};
+ghost use Rattle.dwp_index.specs.Contents.{content};
+ghost use Rattle.dwp_index.specs.Index.{range_in};
+ghost use Rattle.dwp_index.specs.Package.{found};
+ghost use Rattle.dwp_units.specs.Units.{unit_of};
+ghost use Rattle.thorin_identity.specs.Identity.{identity};
+ghost use Rattle.thorin_check.specs.Faults.{TellsOwn, IsTextOf, own_text, unread_own_text};
+ghost use Rattle.thorin_check.specs.Own.{own_of, said_of, numbers_of, bytes_at, place_in};
+ghost use Rattle.thorin_check.specs.Own.{Knows};
+
+use crate::faults::some;
+use crate::turns::TablesByTurns;
+use dwp_base::{Contribution, SectionKind};
+use dwp_dwarf::{Reader, SliceReader, UnitHeader, UnitSection};
+use dwp_index::{PackageFile, PackagedUnit, place_of};
+use dwp_table::{Bucketable, DwarfObject};
 use std::alloc::{AllocError, Global};
 use std::collections::BTreeMap;
 use std::fmt;
-use thorin_find::header_of;
-use thorin_identity::RangeTables;
+use thorin_find::{header_of, short_kind};
 
 /// What a unit's own bytes say of its identifier.
 #[derive(Drop)]
@@ -22,111 +37,234 @@ pub(crate) enum Own {
     Unread(String),
 }
 
-/// Whether a unit's own bytes are in types, where they begin and their size, and the same two numbers
-/// of its abbreviations: what its bytes say depends on nothing else.
-type Place = [u64; 5];
+/// Where a unit's own bytes and its abbreviations stand: what its bytes say depends on nothing else.
+#[derive(Clone, Copy)]
+pub(crate) struct Place {
+    /// Whether its own bytes are in types.
+    is_in_types: bool,
+    /// Where these begin, and their size.
+    own: (u64, u64),
+    /// The same of its abbreviations.
+    abbreviations: (u64, u64),
+}
+
+impl Place {
+    /// That of a unit.
+    fn of(unit: &PackagedUnit<'_>, object: DwarfObject) -> Place
+        ensures { result ≡ place_in object unit.now }
+    {
+        let (is_in_types, kind) = match place_of(object, unit.range(SectionKind::Types)) {
+            UnitSection::Info => (false, SectionKind::Info),
+            UnitSection::Types => (true, SectionKind::Types),
+        };
+        Place {
+            is_in_types,
+            own: numbers_of(unit.range(kind)),
+            abbreviations: numbers_of(unit.range(SectionKind::Abbrev)),
+        }
+    }
+
+    /// Whether it is that one.
+    fn is(self, other: Place) -> bool
+        ensures { result ≡ true → self ≡ other }
+    {
+        self.is_in_types == other.is_in_types
+            && self.own.0 == other.own.0
+            && self.own.1 == other.own.1
+            && self.abbreviations.0 == other.abbreviations.0
+            && self.abbreviations.1 == other.abbreviations.1
+    }
+
+    /// The numbers that it is found by.
+    fn key(self) -> [u64; 5] {
+        [
+            u64::from(self.is_in_types),
+            self.own.0,
+            self.own.1,
+            self.abbreviations.0,
+            self.abbreviations.1,
+        ]
+    }
+}
+
+/// What was read at a place.
+#[derive(Drop)]
+pub(crate) struct PlaceRead {
+    place: Place,
+    own: Own,
+}
 
 /// What was read of the abbreviations of the units before. And what units say that share their
 /// bytes: these are read once.
 #[derive(Drop)]
 pub(crate) struct Remembered<'a> {
     alloc: Global,
-    order: Endianness,
-    tables: RangeTables<'a>,
-    // What the unit before says.
-    last: Own,
-    shared: BTreeMap<Place, Own>,
+    tables: TablesByTurns<'a>,
+    shared: BTreeMap<[u64; 5], PlaceRead>,
 }
 
 impl<'a> Remembered<'a> {
-    /// Of a package of this byte order, with this section of abbreviations. Nothing is read yet.
-    pub(crate) fn new(alloc: Global, order: Endianness, abbreviations: &'a [u8]) -> Remembered<'a> {
+    /// Of a package. Nothing is read yet.
+    pub(crate) fn new(alloc: Global, pack: &PackageFile<'a>) -> Remembered<'a>
+        ensures { Knows pack.now result }
+    {
+        let abbreviations = pack.content(SectionKind::Abbrev);
         Remembered {
             alloc,
-            order,
-            tables: RangeTables::new(alloc, abbreviations, order),
-            last: Own::Nameless,
+            tables: TablesByTurns::new(alloc, abbreviations, pack.order()),
             shared: BTreeMap::new(alloc),
         }
     }
 
-    /// What a unit's own bytes say of its identifier. Where another unit has the same ones that is
-    /// read once.
-    pub(crate) fn own(
+    /// What is told of a unit by the identifier that its own bytes give. Where another unit has the
+    /// same ones that is read once.
+    pub(crate) fn text_of(
         &mut self,
-        unit: &PackagedUnit<'a>,
+        pack: &PackageFile<'a>,
         object: DwarfObject,
+        unit: &PackagedUnit<'a>,
         has_twin: bool,
-    ) -> Result<&Own, AllocError> {
+    ) -> Result<Option<String>, AllocError>
+        requires knows { Knows pack.now self.old }
+        requires is_found { found pack.now object ≡ Ok (Some unit.now) }
+        ensures text { IsTextOf (TellsOwn object (own_of object unit.now)) object result }
+        ensures knows { Knows pack.now self.new }
+    {
         if has_twin {
-            return self.own_once(unit, object);
+            return self.text_once(pack, object, unit);
         }
-        self.last = self.read(unit, object)?;
-        Ok(&self.last)
+        let own = read(self.alloc, &mut self.tables, pack, object, unit)?;
+        own_fault(self.alloc, &own, object)
     }
 
     /// The same, remembered.
-    fn own_once(
+    fn text_once(
         &mut self,
-        unit: &PackagedUnit<'a>,
+        pack: &PackageFile<'a>,
         object: DwarfObject,
-    ) -> Result<&Own, AllocError> {
-        let place = place_in(unit, object);
-        if !self.shared.contains_key(&place) {
-            let own = self.read(unit, object)?;
-            self.shared.insert(place, own)?;
-        }
-        match self.shared.get(&place) {
-            Some(own) => Ok(own),
-            None => Err(AllocError),
-        }
-    }
-
-    /// Reads what a unit's own bytes say of its identifier.
-    fn read(&mut self, unit: &PackagedUnit<'a>, object: DwarfObject) -> Result<Own, AllocError> {
-        match header_of(unit, object, self.order) {
-            Ok(header) => self.read_behind(unit, &header),
-            Err(error) => unread(self.alloc, &error),
-        }
-    }
-
-    /// The same of a unit with this header, by its abbreviations.
-    fn read_behind(
-        &mut self,
         unit: &PackagedUnit<'a>,
-        header: &UnitHeader<SliceReader<'a>>,
-    ) -> Result<Own, AllocError> {
-        let (start, size) = numbers_of(unit.range(SectionKind::Abbrev));
-        let end = start.saturating_add(size);
-        match self.tables.identifier(start as usize, end as usize, header) {
-            Ok(Some(own)) => Ok(Own::Is(own)),
-            Ok(None) => Ok(Own::Nameless),
-            Err(error) => unread(self.alloc, &error),
+    ) -> Result<Option<String>, AllocError>
+        requires knows { Knows pack.now self.old }
+        requires is_found { found pack.now object ≡ Ok (Some unit.now) }
+        ensures text { IsTextOf (TellsOwn object (own_of object unit.now)) object result }
+        ensures knows { Knows pack.now self.new }
+    {
+        let place = Place::of(unit, object);
+        if let Some(read) = self.shared.get(&place.key()) {
+            if read.place.is(place) {
+                return own_fault(self.alloc, &read.own, object);
+            }
         }
+        let own = read(self.alloc, &mut self.tables, pack, object, unit)?;
+        let text = own_fault(self.alloc, &own, object)?;
+        self.shared.insert(place.key(), PlaceRead { place, own })?;
+        Ok(text)
+    }
+}
+
+/// Reads what a unit's own bytes say of its identifier.
+fn read<'a>(
+    alloc: Global,
+    tables: &mut TablesByTurns<'a>,
+    pack: &PackageFile<'a>,
+    object: DwarfObject,
+    unit: &PackagedUnit<'a>,
+) -> Result<Own, AllocError>
+    requires tables { tables.old ≡ (pack.now.order, content pack.now.contents SectionKind.Abbrev) }
+    requires is_found { found pack.now object ≡ Ok (Some unit.now) }
+    ensures own { IfOk result (λ own. said_of own ≡ own_of object unit.now) }
+    ensures kept { tables.new ≡ tables.old }
+{
+    match header_of(unit, object, pack.order()) {
+        Ok(header) => read_behind(alloc, tables, unit, &header),
+        Err(error) => unread(alloc, &error),
+    }
+}
+
+/// The same of a unit with this header, by its abbreviations.
+fn read_behind<'a>(
+    alloc: Global,
+    tables: &mut TablesByTurns<'a>,
+    unit: &PackagedUnit<'a>,
+    header: &UnitHeader<SliceReader<'a>>,
+) -> Result<Own, AllocError>
+    requires inside { (range : Contribution) → range_in unit.now.row SectionKind.Abbrev ≡ Some range
+        → range.offset.0 + range.size ≤ length tables.old.1 }
+    ensures own { IfOk result (λ own. said_of own ≡ result_ok (identity (section tables.old.0
+        (bytes_at tables.old.1 (numbers_of (range_in unit.now.row SectionKind.Abbrev))))
+        (unit_of ⟦<SliceReader<'a> as Reader>⟧.input header.now))) }
+    ensures kept { tables.new ≡ tables.old }
+{
+    let (start, size) = numbers_of(unit.range(SectionKind::Abbrev));
+    let end = start.saturating_add(size).min(tables.bytes().len() as u64);
+    match tables.identifier(start as usize, end as usize, header) {
+        Ok(Some(own)) => Ok(Own::Is(own)),
+        Ok(None) => Ok(Own::Nameless),
+        Err(error) => unread(alloc, &error),
     }
 }
 
 /// What is said of a unit's own identifier that can't be read.
-fn unread<D: fmt::Display>(alloc: Global, error: &D) -> Result<Own, AllocError> {
+fn unread<D: fmt::Display>(alloc: Global, error: &D) -> Result<Own, AllocError>
+    ensures { IfOk result (λ own. said_of own ≡ None) }
+{
     let cause = format!(in alloc; "{error}")?;
     Ok(Own::Unread(cause))
 }
 
-/// Where a unit's own bytes and its abbreviations stand.
-fn place_in(unit: &PackagedUnit<'_>, object: DwarfObject) -> Place {
-    let (in_types, kind) = match place_of(object, unit.range(SectionKind::Types)) {
-        UnitSection::Info => (0, SectionKind::Info),
-        UnitSection::Types => (1, SectionKind::Types),
-    };
-    let own = numbers_of(unit.range(kind));
-    let abbreviations = numbers_of(unit.range(SectionKind::Abbrev));
-    [in_types, own.0, own.1, abbreviations.0, abbreviations.1]
-}
-
 /// Where a range begins, and its size; an absent one has no bytes.
-fn numbers_of(range: Option<Contribution>) -> (u64, u64) {
+fn numbers_of(range: Option<Contribution>) -> (u64, u64)
+    ensures { result ≡ numbers_of range }
+{
     match range {
         Some(range) => (range.offset.0, range.size),
         None => (0, 0),
     }
+}
+
+/// What is told of a unit whose own bytes say this of its identifier, if anything.
+#[tactic(auto, using(crate::proofs::Faulted::made))]
+fn own_fault(alloc: Global, own: &Own, object: DwarfObject) -> Result<Option<String>, AllocError>
+    ensures { IsTextOf (TellsOwn object (said_of own.now)) object result }
+{
+    match own {
+        Own::Is(own) => {
+            if is_same(*own, object) {
+                Ok(None)
+            } else {
+                some(own_text(alloc, *own))
+            }
+        }
+        Own::Nameless => some(format!(in alloc; "it has no identifier of its own")),
+        Own::Unread(cause) => some(unread_text(alloc, cause.as_str())),
+    }
+}
+
+/// Whether two units have one name.
+fn is_same(a: DwarfObject, b: DwarfObject) -> bool
+    ensures same { result ≡ true → a ≡ b }
+    ensures other { result ≡ false → a ≢ b }
+{
+    match (a, b) {
+        (DwarfObject::Compilation(a), DwarfObject::Compilation(b)) => a.0 == b.0,
+        (DwarfObject::TypeUnit(a), DwarfObject::TypeUnit(b)) => a.0 == b.0,
+        _ => false,
+    }
+}
+
+/// What is told of a unit whose own identifier is another.
+#[tactic(auto, using(thorin_print::proofs::Hex::hex16_written))]
+fn own_text(alloc: Global, own: DwarfObject) -> Result<String, AllocError>
+    ensures { IfOk result (λ text. string_bytes text ≡ own_text own) }
+{
+    let kind = short_kind(own);
+    let id = own.index();
+    format!(in alloc; "its own identifier is {kind} 0x{id:016x}")
+}
+
+/// What is told of a unit whose own identifier can't be read.
+fn unread_text(alloc: Global, cause: &str) -> Result<String, AllocError>
+    ensures { IfOk result (λ text. string_bytes text ≡ unread_own_text cause.now) }
+{
+    format!(in alloc; "its own identifier can't be read: {cause}")
 }

@@ -6,11 +6,13 @@ mod checking;
 mod ends;
 mod executables;
 mod faults;
+mod indexes;
 mod overlaps;
 mod rendering;
 mod rows;
 mod strings;
 mod tables;
+mod turns;
 mod units;
 
 pub use checking::check_by;

@@ -1,8 +1,13 @@
 //! Ranges of units that overlap those of others, in `thorin check`.
 
-ghost use Rattle.std.specs.Prelude.{◌≡◌};
-ghost use Rattle.thorin_check.specs.Overlaps.{begins_inside, overlap};
+ghost use Rattle.std.specs.Prelude.{◌≡◌, ◌⊎◌, ◌≤◌, ◌<◌, ◌+◌, ◌-◌, ◌^◌, min, true, false, IfOk, OnOk};
+ghost use Rattle.std.specs.List.{AllPairs};
+ghost use Rattle.std.specs.List.Sorted.{IsPermutation};
+ghost use Rattle.dwp_table.specs.Columns.{contribution_kinds};
+ghost use Rattle.thorin_check.specs.Apart.{IsApart, IsLast, HasRanges, AreApart};
+ghost use Rattle.thorin_check.specs.Overlaps.{begins_inside, overlap, slot_range};
 
+use crate::indexes::has_column;
 use dwp_base::{Contribution, SectionKind};
 use dwp_index::{PackageFile, Row, UnitEntry, UnitIndex};
 use dwp_table::{CONTRIBUTION_KINDS, DwarfObject};
@@ -42,6 +47,8 @@ pub(crate) struct Overlaps {
     twins: Vec<bool>,
     // For each entry a range that seems to overlap that of another; nothing where no row has one.
     clashes: Vec<Option<Clash>>,
+    /// Whether ranges of rows overlap without being the same.
+    pub overlap: bool,
 }
 
 impl Overlaps {
@@ -53,14 +60,20 @@ impl Overlaps {
         alloc: Global,
         pack: &PackageFile<'_>,
         entries: &[UnitEntry],
-    ) -> Result<Overlaps, AllocError> {
+    ) -> Result<Overlaps, AllocError>
+        ensures { IfOk result (λ overlaps. overlaps.overlap ≡ false
+            → AreApart pack.now entries.now contribution_kinds) }
+    {
         let mut overlaps = Overlaps {
             twins: Vec::from_elem(alloc, false, entries.len())?,
             clashes: Vec::new(alloc),
+            overlap: false,
         };
-        if overlaps.find_twins(alloc, pack, entries)? {
+        let overlap = overlaps.find_twins(alloc, pack, entries)?;
+        if overlap {
             overlaps.find_clashes(alloc, pack, entries)?;
         }
+        overlaps.overlap = overlap;
         Ok(overlaps)
     }
 
@@ -85,46 +98,53 @@ impl Overlaps {
         alloc: Global,
         pack: &PackageFile<'_>,
         entries: &[UnitEntry],
-    ) -> Result<bool, AllocError> {
-        let mut columns = columns_of(alloc, pack)?;
-        gather_rows(pack, entries, &mut columns)?;
+    ) -> Result<bool, AllocError>
+        ensures { IfOk result (λ overlap. overlap ≡ false
+            → AreApart pack.now entries.now contribution_kinds) }
+    {
         let mut overlap = false;
-        for i in 0..columns.len() {
-            if let Some(column) = columns.get_mut(i) {
-                sort(&mut column.ranges)?;
-                overlap |= self.mark_twins(column.kind, column.ranges.as_slice());
-            }
+        for kind in &CONTRIBUTION_KINDS {
+            let ranges = sorted_ranges(alloc, pack, entries, *kind)?;
+            overlap |= self.mark_twins(*kind, ranges.as_slice());
         }
         Ok(overlap)
     }
 
     /// The same of the ranges of one section, sorted by their places.
-    fn mark_twins(&mut self, kind: SectionKind, ranges: &[Placed]) -> bool {
+    fn mark_twins(&mut self, kind: SectionKind, ranges: &[Placed]) -> bool
+        ensures { result ≡ false → AllPairs IsApart ranges.now }
+    {
         let mut overlap = false;
         let mut farthest = 0u64;
         let mut before: Option<Placed> = None;
         for range in ranges {
-            match before {
-                Some(last) => {
-                    if is_same(last, *range) {
-                        self.mark_twin(kind, last.entry);
-                        self.mark_twin(kind, range.entry);
-                    } else if range.offset < farthest {
-                        overlap = true;
-                    }
-                }
-                None => {}
-            }
-            farthest = farthest.max(end(*range));
+            let is_twin = is_last(before, *range);
+            self.mark_both(is_twin, kind, before, *range);
+            overlap |= !is_behind(is_twin, farthest, *range);
+            farthest = further(farthest, *range);
             before = Some(*range);
         }
         overlap
     }
 
+    /// Marks two units that have the same bytes.
+    fn mark_both(
+        &mut self,
+        are_twins: bool,
+        kind: SectionKind,
+        first: Option<Placed>,
+        second: Placed,
+    ) {
+        if are_twins {
+            self.mark_twin(kind, first);
+            self.mark_twin(kind, Some(second));
+        }
+    }
+
     /// Marks a unit that has the bytes of another, where the range is that of its own bytes.
-    fn mark_twin(&mut self, kind: SectionKind, entry: usize) {
-        if matches!(kind, SectionKind::Info | SectionKind::Types) {
-            if let Some(has_twin) = self.twins.get_mut(entry) {
+    fn mark_twin(&mut self, kind: SectionKind, range: Option<Placed>) {
+        if let (SectionKind::Info | SectionKind::Types, Some(range)) = (kind, range) {
+            if let Some(has_twin) = self.twins.get_mut(range.entry) {
                 *has_twin = true;
             }
         }
@@ -230,46 +250,41 @@ fn columns_of(alloc: Global, pack: &PackageFile<'_>) -> Result<Vec<Column>, Allo
     Ok(columns)
 }
 
-/// Whether an index has a column for a section.
-fn has_column(index: Option<&UnitIndex<'_>>, kind: SectionKind) -> bool {
-    match index {
-        Some(index) => index.has_column(kind),
-        None => false,
-    }
-}
-
-/// Gathers the ranges of the rows that these entries name, of the sections of these columns.
-fn gather_rows(
+/// The ranges that the rows which these entries name have of a section, sorted by their places.
+fn sorted_ranges(
+    alloc: Global,
     pack: &PackageFile<'_>,
     entries: &[UnitEntry],
-    columns: &mut Vec<Column>,
-) -> Result<(), AllocError> {
-    let compilations = pack.compilation_index();
-    let types = pack.type_index();
+    kind: SectionKind,
+) -> Result<Vec<Placed>, AllocError>
+    ensures { IfOk result (λ ranges. HasRanges pack.now entries.now kind ranges.items) }
+{
+    let mut ranges = Vec::new(alloc);
     for entry in 0..entries.len() {
-        let slot = entries[entry];
-        let index = match slot.object {
-            DwarfObject::Compilation(_) => compilations,
-            DwarfObject::TypeUnit(_) => types,
-        };
-        gather_row(index, slot, entry, columns)?;
-    }
-    Ok(())
-}
-
-/// Gathers the ranges of the row that a slot of an index names.
-fn gather_row(
-    index: Option<&UnitIndex<'_>>,
-    slot: UnitEntry,
-    entry: usize,
-    columns: &mut Vec<Column>,
-) -> Result<(), AllocError> {
-    if let Some(index) = index {
-        if let Ok(row) = index.row(slot.row) {
-            return gather_of(&row, entry, columns);
+        if let Some(range) = slot_range(pack, entries[entry], kind) {
+            ranges.push(Placed {
+                offset: range.offset.0,
+                size: range.size,
+                entry,
+            })?;
         }
     }
-    Ok(())
+    sort(&mut ranges)?;
+    Ok(ranges)
+}
+
+/// The range that the row which a slot names has of a section.
+fn slot_range(pack: &PackageFile<'_>, slot: UnitEntry, kind: SectionKind) -> Option<Contribution>
+    ensures { result ≡ slot_range pack.now slot kind }
+{
+    let index = match slot.object {
+        DwarfObject::Compilation(_) => pack.compilation_index()?,
+        DwarfObject::TypeUnit(_) => pack.type_index()?,
+    };
+    match index.row(slot.row) {
+        Ok(row) => row.range(kind),
+        Err(_) => None,
+    }
 }
 
 /// Gathers the ranges of the unit that a slot names, where its identifier leads to the slot's row
@@ -309,7 +324,9 @@ fn gather_of(row: &Row<'_>, entry: usize, columns: &mut Vec<Column>) -> Result<(
 }
 
 /// Sorts ranges by their places, unless they are sorted: mostly rows have the order of their ranges.
-fn sort(ranges: &mut Vec<Placed>) -> Result<(), AllocError> {
+fn sort(ranges: &mut Vec<Placed>) -> Result<(), AllocError>
+    ensures { OnOk result (IsPermutation ranges.old.items ranges.new.items) }
+{
     if is_sorted(ranges.as_slice()) {
         return Ok(());
     }
@@ -331,12 +348,43 @@ fn is_sorted(ranges: &[Placed]) -> bool {
 }
 
 /// Whether two ranges are the same.
-fn is_same(a: Placed, b: Placed) -> bool {
+fn is_same(a: Placed, b: Placed) -> bool
+    ensures { result ≡ true → (a.offset ≡ b.offset) × (a.size ≡ b.size) }
+{
     a.offset == b.offset && a.size == b.size
 }
 
-/// Where a range ends.
-fn end(range: Placed) -> u64 {
+/// Whether a range is the same as the one before, where there is one.
+fn is_last(before: Option<Placed>, range: Placed) -> bool
+    ensures { result ≡ true → IsLast before range }
+{
+    match before {
+        Some(last) => is_same(last, range),
+        None => false,
+    }
+}
+
+/// Whether a range begins behind those before, which end there at the farthest, or is the same as
+/// the one before.
+fn is_behind(is_twin: bool, farthest: u64, range: Placed) -> bool
+    ensures { result ≡ true
+        → (is_twin ≡ true) ⊎ ((farthest ≤ range.offset) × (farthest < 2 ^ 64 - 1)) }
+{
+    is_twin || (farthest <= range.offset && farthest < u64::MAX)
+}
+
+/// How far ranges reach, with one more.
+fn further(farthest: u64, range: Placed) -> u64
+    ensures from { farthest ≤ result }
+    ensures end { min (range.offset + range.size) (2 ^ 64 - 1) ≤ result }
+{
+    farthest.max(end(range))
+}
+
+/// Where a range ends, as far as 64 bits go.
+fn end(range: Placed) -> u64
+    ensures { result ≡ min (range.offset + range.size) (2 ^ 64 - 1) }
+{
     range.offset.saturating_add(range.size)
 }
 

@@ -87,7 +87,7 @@ fn end_of(index: Option<&UnitIndex<'_>>) -> u64
 }
 
 /// A slot names each row of both indexes; `entries` are in the order of rows.
-pub(crate) fn check_indexes<O: Write>(
+pub(crate) fn check_all_rows<O: Write>(
     pack: &PackageFile<'_>,
     entries: &[UnitEntry],
     faults: &mut Faults,

@@ -1,13 +1,15 @@
 //! The strings of a package's units, in `thorin check`.
 
-ghost use Rattle.std.specs.Prelude.{◌≡◌, ℕ, List, IfOk, string_bytes, true};
-ghost use Rattle.dwp_index.specs.Package.{found};
-ghost use Rattle.thorin_check.specs.Checking.{TellsSomeStrings};
+ghost use Rattle.std.specs.Prelude.{◌≡◌, ℕ, List, [], None, Some, Ok, IfOk, OnOk, string_bytes, true};
+ghost use Rattle.std.specs.List.{All};
+ghost use Rattle.dwp_index.specs.Package.{Package, found};
+ghost use Rattle.thorin_check.specs.Strings.{range_of, is_wide, IsOfUnit, Gathers, Adds};
+ghost use Rattle.thorin_check.specs.Checking.{TellsListed};
 ghost use Rattle.thorin_check.specs.Ends.{HasEnds, AllEnd};
 ghost use Rattle.thorin_check.specs.Faults.{TellsStringsOf, TellsStrings, TellsString, string_text};
 ghost use Rattle.thorin_check.specs.Faults.{IsTextOf};
 ghost use Rattle.thorin_find.specs.Finding.{string_of};
-ghost use Rattle.thorin_check.specs.Telling.{progress, Tells, ForEach};
+ghost use Rattle.thorin_check.specs.Telling.{progress, Tells};
 ghost use Rattle.dwp_table.specs.declared.object.DwarfObject.{DwarfObject};
 ghost use Rattle.dwp_index.specs.Contents.{content};
 
@@ -22,9 +24,61 @@ use std::io::Write;
 use thorin_find::string_count;
 use thorin_print::Failure;
 
-/// The string offsets of a unit: where they begin, their size, the unit's version, and whether they
-/// have 64 bits. Units that have the same ones have the same strings.
-type StringRange = (u64, u64, u16, bool);
+/// The string offsets of a unit, and how they are read. Units that have the same ones have the same
+/// strings.
+#[derive(Clone, Copy)]
+pub(crate) struct StringRange {
+    /// Where they begin.
+    offset: u64,
+    /// How many bytes they have.
+    size: u64,
+    /// The unit's version.
+    version: u16,
+    /// The unit's format.
+    format: Format,
+}
+
+impl StringRange {
+    /// Those of a unit.
+    fn of(unit: &PackagedUnit<'_>) -> Option<StringRange>
+        ensures { result ≡ range_of unit.now }
+    {
+        let range = unit.range(SectionKind::StrOffsets)?;
+        let encoding = unit.encoding();
+        Some(StringRange {
+            offset: range.offset.0,
+            size: range.size,
+            version: encoding.version,
+            format: encoding.format,
+        })
+    }
+
+    /// Whether they are those.
+    #[tactic(auto, using(crate::proofs::SharedStrings::same_range))]
+    fn is(self, other: StringRange) -> bool
+        ensures { result ≡ true → self ≡ other }
+    {
+        self.offset == other.offset
+            && self.size == other.size
+            && self.version == other.version
+            && is_wide(self.format) == is_wide(other.format)
+    }
+
+    /// The numbers that they are sorted by.
+    fn key(self) -> (u64, u64, u16, bool) {
+        (self.offset, self.size, self.version, is_wide(self.format))
+    }
+}
+
+/// Whether offsets of a format have 64 bits.
+fn is_wide(format: Format) -> bool
+    ensures { result ≡ is_wide format }
+{
+    match format {
+        Format::Dwarf32 => false,
+        Format::Dwarf64 => true,
+    }
+}
 
 /// The units whose strings are still to be checked. Most units' are while the unit is at hand.
 #[derive(Drop)]
@@ -40,7 +94,11 @@ pub(crate) struct Strings {
 
 impl Strings {
     /// Of a package whose strings end so, and whose string offsets have so many bytes.
-    pub(crate) fn new(alloc: Global, ends: Ends, size: usize) -> Strings {
+    pub(crate) fn new(alloc: Global, ends: Ends, size: usize) -> Strings
+        ensures ends { result.ends ≡ ends }
+        ensures last { result.last ≡ None }
+        ensures unread { result.unread.items ≡ [] }
+    {
         Strings {
             ends,
             left: (size as u64).saturating_mul(2),
@@ -51,30 +109,48 @@ impl Strings {
 
     /// Adds a unit, unless it has the string offsets of the one before, or all its strings can be
     /// read.
+    #[tactic(auto, using(crate::proofs::SharedStrings::none_added))]
     pub(crate) fn add(
         &mut self,
         unit: &PackagedUnit<'_>,
         object: DwarfObject,
-    ) -> Result<(), AllocError> {
-        let Some(range) = string_range(unit) else {
+    ) -> Result<(), AllocError>
+        ensures { (pack : Package) → Gathers pack self.old → found pack object ≡ Ok (Some unit.now)
+            → OnOk result (Adds pack self.old self.new unit.now) }
+    {
+        let Some(range) = StringRange::of(unit) else {
             return Ok(());
         };
-        if self.last == Some(range) {
+        if self.is_last(range) {
             return Ok(());
         }
-        self.last = Some(range);
-        if self.reads_all(unit, range.1) {
+        if self.reads_all(unit, range.size) {
+            self.last = Some(range);
             return Ok(());
         }
         self.unread.push((range, object))?;
+        self.last = Some(range);
         Ok(())
+    }
+
+    /// Whether these are the string offsets of the unit before.
+    fn is_last(&self, range: StringRange) -> bool
+        ensures { result ≡ true → self.now.last ≡ Some range }
+    {
+        match self.last {
+            Some(last) => last.is(range),
+            None => false,
+        }
     }
 
     /// Whether a unit's strings can all be read; false where it would take too long to tell.
     fn reads_all(&mut self, unit: &PackagedUnit<'_>, size: u64) -> bool
-        ensures { result ≡ true
+        ensures all { result ≡ true
             → HasEnds self.old.ends unit.now.order (content unit.now.contents SectionKind.Str)
             → AllEnd unit.now }
+        ensures ends { self.new.ends ≡ self.old.ends }
+        ensures last { self.new.last ≡ self.old.last }
+        ensures unread { self.new.unread ≡ self.old.unread }
     {
         if self.left < size {
             return false;
@@ -82,17 +158,6 @@ impl Strings {
         self.left -= size;
         self.ends.all_end(unit)
     }
-}
-
-fn string_range(unit: &PackagedUnit<'_>) -> Option<StringRange> {
-    let range = unit.range(SectionKind::StrOffsets)?;
-    let encoding = unit.encoding();
-    Some((
-        range.offset.0,
-        range.size,
-        encoding.version,
-        encoding.format == Format::Dwarf64,
-    ))
 }
 
 /// Checks the strings of a unit of each range.
@@ -104,20 +169,20 @@ pub(crate) fn check_strings<O: Write>(
     faults: &mut Faults,
     out: &mut O,
 ) -> Result<(), Failure>
-    requires { HasEnds ends pack.now.order (content pack.now.contents SectionKind.Str) }
-    ensures { Tells (TellsSomeStrings pack.now) (progress (O.contents out.old) faults.old)
-        (progress (O.contents out.new) faults.new) result }
+    requires ends { HasEnds ends pack.now.order (content pack.now.contents SectionKind.Str) }
+    requires are { All (IsOfUnit pack.now) strings.old.items }
+    ensures { Tells (TellsListed pack.now strings.old.items)
+        (progress (O.contents out.old) faults.old) (progress (O.contents out.new) faults.new)
+        result }
 {
-    match strings.sort_by_key(|(range, _)| *range) {
-        Ok(()) => {}
-        Err(_) => return Err(Failure::Memory),
+    match strings.sort_by_key(|(range, _)| range.key()) {
+        Ok(()) => check_distinct(pack, ends, strings.as_slice(), faults, out),
+        Err(_) => Err(Failure::Memory),
     }
-    strings.dedup_by_key(|(range, _)| *range);
-    check_distinct(pack, ends, strings.as_slice(), faults, out)
 }
 
-/// Checks the strings of these units.
-#[tactic(auto, using(crate::proofs::Told::none_told, crate::proofs::Told::told_all))]
+/// Checks the strings of these units, but for those that have the string offsets of the one before.
+#[tactic(auto, using(crate::proofs::Told::none_told))]
 fn check_distinct<O: Write>(
     pack: &PackageFile<'_>,
     ends: Ends,
@@ -125,12 +190,16 @@ fn check_distinct<O: Write>(
     faults: &mut Faults,
     out: &mut O,
 ) -> Result<(), Failure>
-    requires { HasEnds ends pack.now.order (content pack.now.contents SectionKind.Str) }
-    ensures { Tells (ForEach (λ s. TellsStringsOf s.1 (found pack.now s.1)) strings.now)
+    requires ends { HasEnds ends pack.now.order (content pack.now.contents SectionKind.Str) }
+    requires are { All (IsOfUnit pack.now) strings.now }
+    ensures { Tells (TellsListed pack.now strings.now)
         (progress (O.contents out.old) faults.old) (progress (O.contents out.new) faults.new)
         result }
 {
     for i in 0..strings.len() {
+        if 0 < i && strings[i - 1].0.is(strings[i].0) {
+            continue;
+        }
         match check_strings_of(pack, ends, strings[i].1, faults, out) {
             Ok(()) => {}
             Err(failure) => return Err(failure),

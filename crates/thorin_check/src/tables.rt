@@ -1,14 +1,16 @@
 //! The sections of abbreviations and of strings, and the rows of a package, in `thorin check`.
 
 ghost use Rattle.std.specs.Prelude.{◌≡◌, IfOk, string_bytes};
-ghost use Rattle.thorin_check.specs.Checking.{lacking_text, lacking_faults, TellsTables};
+ghost use Rattle.thorin_check.specs.Checking.{lacking_text, lacking_faults, TellsRows, TellsTables};
 ghost use Rattle.thorin_check.specs.Faults.{has_abbreviations, lacks_abbreviations, lacks_strings};
-ghost use Rattle.thorin_check.specs.Telling.{progress, Tells, Is};
+ghost use Rattle.thorin_check.specs.Indexes.{TellsIndexes};
+ghost use Rattle.thorin_check.specs.Telling.{progress, Tells, Is, InTurn};
 ghost use Rattle.thorin_find.specs.Listing.{AreByRow};
 
 use crate::checking::Opened;
 use crate::faults::{Faults, tell_of_package};
-use crate::rows::check_indexes;
+use crate::indexes::check_indexes;
+use crate::rows::check_all_rows;
 use dwp_base::SectionKind;
 use dwp_index::{PackageFile, UnitEntry};
 use std::alloc::{AllocError, Global};
@@ -39,8 +41,8 @@ fn lacks_strings(pack: &PackageFile<'_>) -> bool
     pack.content(SectionKind::Str).is_empty()
 }
 
-/// The sections of abbreviations and of strings aren't lacking, and a slot names each row of both
-/// indexes.
+/// The sections of abbreviations and of strings aren't lacking, both indexes have one version and a
+/// column for each section that has bytes, and a slot names each row of both.
 pub(crate) fn check_tables<O: Write>(
     opened: Opened<'_, '_>,
     faults: &mut Faults,
@@ -55,9 +57,28 @@ pub(crate) fn check_tables<O: Write>(
     let no_strings = lacks_strings(opened.pack);
     match check_section(SectionKind::Abbrev, no_abbreviations, faults, out) {
         Ok(()) => match check_section(SectionKind::Str, no_strings, faults, out) {
-            Ok(()) => check_indexes(opened.pack, opened.entries, faults, out),
+            Ok(()) => check_behind(opened, faults, out),
             Err(failure) => Err(failure),
         },
+        Err(failure) => Err(failure),
+    }
+}
+
+/// Both indexes have one version, and a column for each section that has bytes, and a slot names each
+/// row of both.
+fn check_behind<O: Write>(
+    opened: Opened<'_, '_>,
+    faults: &mut Faults,
+    out: &mut O,
+) -> Result<(), Failure>
+    requires { AreByRow opened.pack.now opened.entries.now }
+    ensures { Tells (InTurn (TellsIndexes opened.entry.pack.now)
+        (TellsRows opened.entry.pack.now opened.entry.entries.now))
+        (progress (O.contents out.old) faults.old) (progress (O.contents out.new) faults.new)
+        result }
+{
+    match check_indexes(opened.pack, faults, out) {
+        Ok(()) => check_all_rows(opened.pack, opened.entries, faults, out),
         Err(failure) => Err(failure),
     }
 }

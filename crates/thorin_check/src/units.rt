@@ -1,15 +1,23 @@
 //! The units of a package, in `thorin check`.
 
-ghost use Rattle.std.specs.Prelude.{◌≡◌, ◌++◌, ◌&&◌, codes, IfOk, IfSome, is_none, string_bytes};
+ghost use Rattle.std.specs.Prelude.{◌≡◌, ◌++◌, ◌&&◌, ◌==◌, false, None, Some, Ok, codes, is_none};
+ghost use Rattle.std.specs.Prelude.{IfOk, IfSome, OnOk, string_bytes};
 ghost use Rattle.std.specs.Fmt.{decimal};
+ghost use Rattle.dwp_index.specs.Contents.{content};
 ghost use Rattle.dwp_index.specs.Index.{range_in};
+ghost use Rattle.dwp_index.specs.Package.{found};
 ghost use Rattle.thorin_check.specs.Checking.{TellsUnits};
 ghost use Rattle.thorin_check.specs.Faults.{TellsUnit, TellsFound, TellsOwn, TellsItself};
-ghost use Rattle.thorin_check.specs.Faults.{IsOwnText, IsUnreadText, IsTextOf, has_abbreviations};
+ghost use Rattle.thorin_check.specs.Faults.{IsUnreadText, IsTextOf, has_abbreviations};
+ghost use Rattle.dwp_table.specs.Columns.{contribution_kinds};
+ghost use Rattle.thorin_check.specs.Apart.{AreApart};
+ghost use Rattle.thorin_check.specs.Ends.{HasEnds};
 ghost use Rattle.thorin_check.specs.Overlaps.{IsClash, overlap_text};
+ghost use Rattle.thorin_check.specs.Own.{own_of};
+ghost use Rattle.thorin_check.specs.Seen.{IsSeen, GoesOn, Gathered, IsGatheredIn, TellsSeen};
 ghost use Rattle.thorin_check.specs.Telling.{progress, Tells, ForEach};
 
-use crate::abbreviations::{Own, Remembered};
+use crate::abbreviations::Remembered;
 use crate::checking::Opened;
 use crate::ends::Ends;
 use crate::faults::{Faults, some, tell};
@@ -44,12 +52,15 @@ struct Seen<'a> {
 
 impl<'a> Seen<'a> {
     /// Nothing, of a package whose strings end so.
-    fn nothing(alloc: Global, pack: &PackageFile<'a>, ends: Ends) -> Seen<'a> {
-        let section = pack.content(SectionKind::Abbrev);
+    #[tactic(auto, using(crate::proofs::SharedStrings::nothing_gathered))]
+    fn nothing(alloc: Global, pack: &PackageFile<'a>, ends: Ends) -> Seen<'a>
+        requires { HasEnds ends pack.now.order (content pack.now.contents SectionKind.Str) }
+        ensures { IsSeen pack.now result }
+    {
         let size = pack.content(SectionKind::StrOffsets).len();
         Seen {
             alloc,
-            abbreviations: Remembered::new(alloc, pack.order(), section),
+            abbreviations: Remembered::new(alloc, pack),
             strings: Strings::new(alloc, ends, size),
         }
     }
@@ -72,13 +83,16 @@ pub(crate) fn check_units<O: Write>(
     }
 }
 
-/// The same with what is known of overlaps.
+/// The same with what is known of overlaps. That there is one and nothing is told can't be; then this
+/// tells of want of memory.
 fn check_all<O: Write>(
     opened: Opened<'_, '_>,
     overlaps: &Overlaps,
     faults: &mut Faults,
     out: &mut O,
 ) -> Result<(), Failure>
+    requires { overlaps.now.overlap ≡ false
+        → AreApart opened.pack.now opened.entries.now contribution_kinds }
     ensures { Tells (TellsUnits opened.entry.pack.now opened.entry.entries.now)
         (progress (O.contents out.old) faults.old) (progress (O.contents out.new) faults.new)
         result }
@@ -89,14 +103,26 @@ fn check_all<O: Write>(
         pack: opened.pack,
         has_abbreviations: has_abbreviations(opened.pack),
     };
+    let count = faults.count;
     match check_each(units, opened.entries, overlaps, &mut seen, faults, out) {
-        Ok(()) => check_strings(opened.pack, ends, &mut seen.strings.unread, faults, out),
+        Ok(()) => {
+            if is_untold(overlaps.overlap, count, faults.count) {
+                return Err(Failure::Memory);
+            }
+            check_strings(opened.pack, ends, &mut seen.strings.unread, faults, out)
+        }
         Err(failure) => Err(failure),
     }
 }
 
+/// Whether ranges overlap, and the number of faults stayed.
+fn is_untold(overlap: bool, before: u64, after: u64) -> bool
+    ensures { result ≡ (overlap && after == before) }
+{
+    overlap && after == before
+}
+
 /// Checks each unit that a slot names, and gathers those whose strings are still to be checked.
-#[tactic(auto, using(crate::proofs::Told::none_told, crate::proofs::Told::told_all))]
 fn check_each<'a, O: Write>(
     units: Units<'_, 'a>,
     entries: &[UnitEntry],
@@ -105,10 +131,12 @@ fn check_each<'a, O: Write>(
     faults: &mut Faults,
     out: &mut O,
 ) -> Result<(), Failure>
-    requires { units.has_abbreviations ≡ has_abbreviations units.pack.now }
-    ensures { Tells (ForEach (TellsUnit units.entry.pack.now) entries.now)
-        (progress (O.contents out.old) faults.old) (progress (O.contents out.new) faults.new)
-        result }
+    requires abbreviations { units.has_abbreviations ≡ has_abbreviations units.pack.now }
+    requires seen { IsSeen units.pack.now seen.old }
+    ensures told { Tells (ForEach (TellsSeen units.entry.pack.now seen.new.strings.unread.items)
+        entries.now) (progress (O.contents out.old) faults.old)
+        (progress (O.contents out.new) faults.new) result }
+    ensures seen { OnOk result (IsSeen units.entry.pack.now seen.new) }
 {
     for i in 0..entries.len() {
         let text = text_of(units, entries[i], overlaps.of(i), seen);
@@ -121,15 +149,19 @@ fn check_each<'a, O: Write>(
 }
 
 /// What is told of the unit that a slot names, if anything.
-#[tactic(auto, using(crate::proofs::Faulted::unit_none, crate::proofs::Faulted::unit_some, crate::proofs::Faulted::unit_unread, crate::proofs::Faulted::made))]
+#[tactic(auto, using(crate::proofs::Faulted::unit_none, crate::proofs::Faulted::unit_some, crate::proofs::Faulted::unit_unread, crate::proofs::Faulted::made, crate::proofs::Distinct::stays_seen))]
 fn text_of<'a>(
     units: Units<'_, 'a>,
     entry: UnitEntry,
     shares: Shares,
     seen: &mut Seen<'a>,
 ) -> Result<Option<String>, AllocError>
-    requires { units.has_abbreviations ≡ has_abbreviations units.pack.now }
-    ensures { IsTextOf (TellsUnit units.entry.pack.now entry) entry.object result }
+    requires abbreviations { units.has_abbreviations ≡ has_abbreviations units.pack.now }
+    requires seen { IsSeen units.pack.now seen.old }
+    ensures text { IsTextOf (TellsUnit units.entry.pack.now entry) entry.object result }
+    ensures on { OnOk result (GoesOn units.entry.pack.now seen.old seen.new) }
+    ensures gathered { IfOk result (λ text. text ≡ None → IsGatheredIn units.entry.pack.now
+        seen.new.strings.unread.items (found units.entry.pack.now entry.object)) }
 {
     match units.pack.find(entry.object) {
         Ok(Some(unit)) => text_of_found(units, entry, &unit, shares, seen),
@@ -140,7 +172,7 @@ fn text_of<'a>(
 
 /// What is told of the unit that is found under the identifier of a slot, if anything: it is to be
 /// that of the slot's row, and this row is to have abbreviations where the package has some.
-#[tactic(auto, using(crate::proofs::Faulted::other_row, crate::proofs::Faulted::in_bare_row, crate::proofs::Faulted::in_whole_row, crate::proofs::Faulted::made))]
+#[tactic(auto, using(crate::proofs::Faulted::other_row, crate::proofs::Faulted::in_bare_row, crate::proofs::Faulted::in_whole_row, crate::proofs::Faulted::made, crate::proofs::Distinct::stays_seen))]
 fn text_of_found<'a>(
     units: Units<'_, 'a>,
     entry: UnitEntry,
@@ -148,8 +180,13 @@ fn text_of_found<'a>(
     shares: Shares,
     seen: &mut Seen<'a>,
 ) -> Result<Option<String>, AllocError>
-    requires { units.has_abbreviations ≡ has_abbreviations units.pack.now }
-    ensures { IsTextOf (TellsFound units.entry.pack.now entry unit.now) entry.object result }
+    requires abbreviations { units.has_abbreviations ≡ has_abbreviations units.pack.now }
+    requires seen { IsSeen units.pack.now seen.old }
+    requires is_found { found units.pack.now entry.object ≡ Ok (Some unit.now) }
+    ensures text { IsTextOf (TellsFound units.entry.pack.now entry unit.now) entry.object result }
+    ensures on { OnOk result (GoesOn units.entry.pack.now seen.old seen.new) }
+    ensures gathered { IfOk result (λ text. text ≡ None
+        → Gathered units.entry.pack.now seen.new.strings.unread.items unit.now) }
 {
     let row = unit.row();
     if row != entry.row {
@@ -170,7 +207,7 @@ fn is_bare(has_any: bool, unit: &PackagedUnit<'_>) -> bool
 
 /// What is told of a unit by its ranges and its own bytes, if anything: none of its ranges is to
 /// overlap that of another, and its own identifier is to be that of the slot.
-#[tactic(auto, using(crate::proofs::Faulted::overlapped, crate::proofs::Faulted::of_its_own, crate::proofs::Faulted::made))]
+#[tactic(auto, using(crate::proofs::Faulted::overlapped, crate::proofs::Faulted::of_its_own, crate::proofs::Faulted::made, crate::proofs::Distinct::stays_seen))]
 fn text_of_itself<'a>(
     pack: &PackageFile<'a>,
     object: DwarfObject,
@@ -178,11 +215,16 @@ fn text_of_itself<'a>(
     shares: Shares,
     seen: &mut Seen<'a>,
 ) -> Result<Option<String>, AllocError>
-    ensures { IsTextOf (TellsItself pack.now object unit.now) object result }
+    requires seen { IsSeen pack.now seen.old }
+    requires is_found { found pack.now object ≡ Ok (Some unit.now) }
+    ensures text { IsTextOf (TellsItself pack.now object unit.now) object result }
+    ensures on { OnOk result (GoesOn pack.now seen.old seen.new) }
+    ensures gathered { IfOk result (λ text. text ≡ None
+        → Gathered pack.now seen.new.strings.unread.items unit.now) }
 {
     match clash_of(pack, unit, shares.clash) {
         Some((kind, other)) => some(overlap_text(seen.alloc, kind, other)),
-        None => text_of_own(object, unit, shares.has_twin, seen),
+        None => text_of_own(pack, object, unit, shares.has_twin, seen),
     }
 }
 
@@ -206,28 +248,26 @@ fn clash_of(pack: &PackageFile<'_>, unit: &PackagedUnit<'_>, clash: Option<Clash
 
 /// What is told of a unit by the identifier that its own bytes give. Where that is its own, the unit
 /// is gathered for the check of its strings.
-#[tactic(auto, using(crate::proofs::Faulted::own_fault, crate::proofs::Faulted::made))]
 fn text_of_own<'a>(
+    pack: &PackageFile<'a>,
     object: DwarfObject,
     unit: &PackagedUnit<'a>,
     has_twin: bool,
     seen: &mut Seen<'a>,
 ) -> Result<Option<String>, AllocError>
-    ensures { IsTextOf (TellsOwn object) object result }
+    requires seen { IsSeen pack.now seen.old }
+    requires is_found { found pack.now object ≡ Ok (Some unit.now) }
+    ensures text { IsTextOf (TellsOwn object (own_of object unit.now)) object result }
+    ensures on { OnOk result (GoesOn pack.now seen.old seen.new) }
+    ensures gathered { IfOk result (λ text. text ≡ None
+        → Gathered pack.now seen.new.strings.unread.items unit.now) }
 {
-    let own = seen.abbreviations.own(unit, object, has_twin)?;
-    if !is_own(own, object) {
-        return some(own_text(seen.alloc, own));
-    }
-    seen.strings.add(unit, object)?;
-    Ok(None)
-}
-
-/// Whether a unit's own identifier is this one.
-fn is_own(own: &Own, object: DwarfObject) -> bool {
-    match own {
-        Own::Is(own) => *own == object,
-        _ => false,
+    match seen.abbreviations.text_of(pack, object, unit, has_twin)? {
+        Some(text) => Ok(Some(text)),
+        None => {
+            seen.strings.add(unit, object)?;
+            Ok(None)
+        }
     }
 }
 
@@ -247,21 +287,6 @@ fn overlap_text(alloc: Global, kind: SectionKind, other: DwarfObject) -> Result<
     let other_kind = short_kind(other);
     let id = other.index();
     format!(in alloc; "its range of {name} overlaps that of {other_kind} 0x{id:016x}")
-}
-
-/// What is told of a unit whose own identifier isn't the one that it is found under.
-fn own_text(alloc: Global, own: &Own) -> Result<String, AllocError>
-    ensures { IfOk result (λ text. IsOwnText (string_bytes text)) }
-{
-    match own {
-        Own::Is(own) => {
-            let kind = short_kind(*own);
-            let id = own.index();
-            format!(in alloc; "its own identifier is {kind} 0x{id:016x}")
-        }
-        Own::Nameless => format!(in alloc; "it has no identifier of its own"),
-        Own::Unread(cause) => format!(in alloc; "its own identifier can't be read: {cause}"),
-    }
 }
 
 /// What is told where what the index says of a unit can't be read.

@@ -17,7 +17,7 @@ pub(crate) fn packing_of<'m, 'a>(
     } else {
         MissingReferencedObjectBehaviour::Error
     };
-    let warnings = warnings_of(arguments.warnings, manner.warnings);
+    let warnings = warnings_of(arguments, manner);
     let macros = macros_of(arguments, manner);
     Packing {
         output: arguments.output,
@@ -66,9 +66,14 @@ pub(crate) fn form_of(as_json: bool) -> Form {
     if as_json { Form::Json } else { Form::Lines }
 }
 
-/// The warnings that a word asks for, where there is one.
-fn warnings_of(word: Option<&str>, default: Warnings) -> Warnings {
-    match word {
+/// The warnings that a word asks for, where there is one. Who asks for more than the errors has
+/// each, also on a terminal.
+fn warnings_of(arguments: PackArguments<'_, '_>, manner: Manner) -> Warnings {
+    let default = match manner.warnings {
+        Warnings::Once if arguments.verbose => Warnings::Each,
+        warnings => warnings,
+    };
+    match arguments.warnings {
         Some(word) => Warnings::of(word).unwrap_or(default),
         None => default,
     }

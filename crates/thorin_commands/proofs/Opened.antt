@@ -1,5 +1,6 @@
 -- Inputs that stand for others, taken one after the other.
-use Rattle.std.proofs.Common.{◌≡◌, ℕ, Bool, true, List, [], ◌∷◌, ◌++◌, refl, sym, Ok, inl, inr}
+use Rattle.std.proofs.Common.{◌≡◌, ℕ, Bool, true, false, List, [], ◌∷◌, ◌++◌, refl, sym, Ok, inl}
+use Rattle.std.proofs.Common.{inr}
 use Rattle.std.specs.Path.{path_bytes}
 use Rattle.std.specs.declared.path.Path.{Path}
 use Rattle.std.proofs.lemmas.List.{append_assoc, append-nil}
@@ -7,10 +8,10 @@ use Rattle.thorin_join.specs.Builder.{State}
 use Rattle.thorin.specs.declared.packing.Input.{Input}
 use Rattle.thorin.specs.declared.packing.Input.TheVariants as inputs
 use Rattle.thorin.specs.Run.{Took}
-use Rattle.thorin_commands.specs.Archives.{IsTakenFor, AreTakenFor, StandsFor, StandFor}
+use Rattle.thorin_commands.specs.Archives.{AreTakenFor, StandsFor, StandFor, is_archive}
 use Rattle.thorin_commands.specs.Opened.{TookAll, TookInputs, TookEach, TookMembers, TookBytes}
 use Rattle.thorin_commands.specs.Packing.{AreAllAccepted}
-use Rattle.thorin_commands.specs.Plain.{Offer}
+use Rattle.thorin_commands.specs.Taken.{IsTakenFor, Manner, Offer}
 
 -- a run, and one behind it
 ran_append : (offer : Offer) (xs ys : List Input) (a b c : State) (before here : List (List ℕ))
@@ -36,68 +37,63 @@ ran_one offer input old new took = (
 )
 
 -- what stands for inputs, and for one behind them
-stand_append : (opens decompresses : Bool) (offer : Offer) (all : List Input) (input : Input)
-    (list front : List Input) → StandFor opens decompresses offer all list
-    → StandsFor opens decompresses offer input front
-    → StandFor opens decompresses offer (all ++ input ∷ []) (list ++ front)
-stand_append opens decompresses offer [] input list front so stands =
+stand_append : (opens : Bool) (manner : Manner) (offer : Offer) (all : List Input) (input : Input)
+    (list front : List Input) → StandFor opens manner offer all list
+    → StandsFor opens manner offer input front
+    → StandFor opens manner offer (all ++ input ∷ []) (list ++ front)
+stand_append opens manner offer [] input list front so stands =
     (front, [], stands, refl, rw (so, append-nil front) refl)
-stand_append opens decompresses offer (x ∷ xs) input list front so stands = (
+stand_append opens manner offer (x ∷ xs) input list front so stands = (
   so.0,
   so.1 ++ front,
   so.2,
-  stand_append opens decompresses offer xs input so.1 front so.3 stands,
+  stand_append opens manner offer xs input so.1 front so.3 stands,
   rw (so.4, append_assoc) refl,
 )
 
 -- what is taken for contents, and for more behind them
-taken_append : (decompresses : Bool) (xs ys : List (List ℕ)) (list more : List Input)
-    → AreTakenFor decompresses xs list → AreTakenFor decompresses ys more
-    → AreTakenFor decompresses (xs ++ ys) (list ++ more)
-taken_append decompresses [] ys [] more h k = k
-taken_append decompresses [] ys (input ∷ list) more h k = absurd h
-taken_append decompresses (x ∷ xs) ys [] more h k = absurd h
-taken_append decompresses (x ∷ xs) ys (inputs.Bytes b ∷ list) more h k =
-    (h.0, taken_append decompresses xs ys list more h.1 k)
-taken_append decompresses (x ∷ xs) ys (input ∷ list) more h k = absurd h
+taken_append : (manner : Manner) (xs ys : List (List ℕ)) (list more : List Input)
+    → AreTakenFor manner xs list → AreTakenFor manner ys more
+    → AreTakenFor manner (xs ++ ys) (list ++ more)
+taken_append manner [] ys [] more h k = k
+taken_append manner [] ys (input ∷ list) more h k = absurd h
+taken_append manner (x ∷ xs) ys [] more h k = absurd h
+taken_append manner (x ∷ xs) ys (inputs.Bytes b ∷ list) more h k =
+    (h.0, taken_append manner xs ys list more h.1 k)
+taken_append manner (x ∷ xs) ys (input ∷ list) more h k = absurd h
 
-module _ {opens decompresses : Bool} {offer : Offer} where
+module _ {opens : Bool} {manner : Manner} {offer : Offer} where
   -- an input that stands for itself
-  pub took_alone : {input : Input} {old new : State} → Took offer input old (Ok tt) new
-      → TookAll opens decompresses offer input old new
-  took_alone {input} {old} {new} took = record {
+  pub took_alone : {input : Input} {old new : State} → StandsFor opens manner offer
+      input (input ∷ [])
+      → Took offer input old (Ok tt) new → TookAll opens manner offer input old new
+  took_alone {input} {old} {new} alone took = record {
     list = input ∷ [];
-    stands = alone opens input;
+    stands = alone;
     accepted = took.accepted;
     ran = ran_one offer input old new took;
   }
-    where
-      alone : (opens : Bool) (input : Input)
-          → StandsFor opens decompresses offer input (input ∷ [])
-      alone true (inputs.Object path) = inl refl
-      alone opens input = refl
 
   -- the object at a path, by its bytes
-  pub took_object : {path : Path} {bytes : List ℕ} {old new : State}
-      → offer (path_bytes path) (Ok bytes) → TookBytes offer bytes old new
-      → TookAll opens decompresses offer (inputs.Object path) old new
-  took_object offered by = took_alone (record {
+  pub took_object : {path : Path} {bytes : List ℕ} {old new : State} → opens ≡ true
+      → offer (path_bytes path) (Ok bytes) → is_archive bytes ≡ false
+      → TookBytes offer bytes old new → TookAll opens manner offer (inputs.Object path) old new
+  took_object {old = old} {new = new} opened offered none by = record {
+    list = inputs.Bytes by.bytes ∷ [];
+    stands = rw opened (inl (record {
+      file = by.bytes;
+      offered = rw by.is offered;
+      begins = rw by.is none;
+      list_is = refl;
+    }));
     accepted = by.took.accepted;
-    takes = (
-      record {
-        read = Ok by.bytes.now;
-        within = rw by.is offered;
-        accepted = by.took.accepted;
-        taken = by.took.takes;
-      },
-      refl,
-    );
-  })
+    ran = ran_one offer (inputs.Bytes by.bytes) old new by.took;
+  }
 
   -- the archive at a path
   pub took_archive : {path : Path} {bytes : List ℕ} {old new : State} → opens ≡ true
-      → offer (path_bytes path) (Ok bytes) → TookMembers decompresses offer bytes old new
-      → TookAll opens decompresses offer (inputs.Object path) old new
+      → offer (path_bytes path) (Ok bytes) → TookMembers manner offer bytes old new
+      → TookAll opens manner offer (inputs.Object path) old new
   took_archive {bytes = bytes} opened offered by = record {
     list = by.each.list;
     stands = rw opened (inr (record {
@@ -113,24 +109,24 @@ module _ {opens decompresses : Bool} {offer : Offer} where
 
   -- inputs in order, and one more
   pub took_more : {all : List Input} {input : Input} {old middle new : State}
-      → TookInputs opens decompresses offer all old middle
-      → TookAll opens decompresses offer input middle new
-      → TookInputs opens decompresses offer (all ++ input ∷ []) old new
+      → TookInputs opens manner offer all old middle
+      → TookAll opens manner offer input middle new
+      → TookInputs opens manner offer (all ++ input ∷ []) old new
   took_more {all} {input} {old} {middle} {new} so one = record {
     list = so.list ++ one.list;
-    stand = stand_append opens decompresses offer all input so.list one.list so.stand one.stands;
+    stand = stand_append opens manner offer all input so.list one.list so.stand one.stands;
     accepted = so.accepted ++ one.accepted;
     ran = ran_append offer so.list one.list old middle new so.accepted one.accepted so.ran one.ran;
   }
 
-module _ {decompresses : Bool} {offer : Offer} where
-  pub each_none : {state : State} → TookEach decompresses offer [] state state
+module _ {manner : Manner} {offer : Offer} where
+  pub each_none : {state : State} → TookEach manner offer [] state state
   each_none = record { list = []; taken = tt; accepted = []; ran = (refl, refl) }
 
   -- what is taken for one content
   pub each_one : {content taken : List ℕ} {old new : State}
-      → IsTakenFor decompresses content taken → TookBytes offer taken old new
-      → TookEach decompresses offer (content ∷ []) old new
+      → IsTakenFor manner content taken → TookBytes offer taken old new
+      → TookEach manner offer (content ∷ []) old new
   each_one {old = old} {new = new} is by = record {
     list = inputs.Bytes by.bytes ∷ [];
     taken = (rw by.is is, tt);
@@ -140,11 +136,11 @@ module _ {decompresses : Bool} {offer : Offer} where
 
   -- what is taken for contents, and for more behind them
   pub each_append : {xs ys : List (List ℕ)} {old middle new : State}
-      → TookEach decompresses offer xs old middle → TookEach decompresses offer ys middle new
-      → TookEach decompresses offer (xs ++ ys) old new
+      → TookEach manner offer xs old middle → TookEach manner offer ys middle new
+      → TookEach manner offer (xs ++ ys) old new
   each_append {xs} {ys} {old} {middle} {new} so one = record {
     list = so.list ++ one.list;
-    taken = taken_append decompresses xs ys so.list one.list so.taken one.taken;
+    taken = taken_append manner xs ys so.list one.list so.taken one.taken;
     accepted = so.accepted ++ one.accepted;
     ran = ran_append offer so.list one.list old middle new so.accepted one.accepted so.ran one.ran;
   }

@@ -8,7 +8,8 @@ use Rattle.thorin.specs.declared.packing.Input.{Input}
 use Rattle.thorin_print.specs.declared.output.Failure.{Failure}
 use Rattle.thorin_output.specs.Files.{IsOfWriting}
 use Rattle.thorin_commands.specs.Packing.{asked, asks, out_of, IsPackedFrom, IsPackageFor, Packs}
-use Rattle.thorin_commands.specs.Packing.{paths_in, reads, Comes, Fails}
+use Rattle.thorin_commands.specs.Packing.{manner_of, paths_in, reads, Comes, Fails}
+use Rattle.thorin_commands.specs.Taken.{Manner}
 use Rattle.thorin_commands.specs.declared.refusal.Refusal.{Refusal}
 use Rattle.thorin_commands.specs.declared.refusal.Refusal.TheVariants as refusals
 use Rattle.thorin_commands.specs.declared.packing.Packing.{Packing}
@@ -17,7 +18,7 @@ module _ {X : Type 0} (offers : X → List ℕ → Result (List ℕ) IoError →
     (reading packing : Packing) where
   pub for_packing : (list : List Input) (object : File) → x ≡ y → reading ≡ packing
       → map asked list ≡ asks packing
-      → IsPackedFrom packing.partial reading.opens_archives reading.decompresses
+      → IsPackedFrom packing.partial reading.opens_archives (manner_of reading)
       (reads reading (offers x)) list object
       → IsPackageFor (reads packing (offers y)) packing object
   for_packing list object f p are packed =
@@ -31,14 +32,14 @@ module _ {X : Type 0} (offers : X → List ℕ → Result (List ℕ) IoError →
 
 -- the same with the first executable as an object behind them
 pub for_unsplit : (offer : List ℕ → Result (List ℕ) IoError → Type 0) (packing : Packing)
-    (opens decompresses : Bool) (more : List Input) (path : Bor (List ℕ)) (object : File)
+    (opens : Bool) (manner : Manner) (more : List Input) (path : Bor (List ℕ)) (object : File)
     → packing.lets_empty ≡ true
-    → opens ≡ packing.opens_archives → decompresses ≡ packing.decompresses
+    → opens ≡ packing.opens_archives → manner ≡ manner_of packing
     → map asked more ≡ asks packing ++ Some (path.now, None) ∷ []
     → take 1 (paths_in packing.executables) ≡ path ∷ []
-    → IsPackedFrom packing.partial opens decompresses offer more object
+    → IsPackedFrom packing.partial opens manner offer more object
     → IsPackageFor offer packing object
-for_unsplit offer packing opens decompresses more path object lets o d are first packed =
+for_unsplit offer packing opens manner more path object lets o d are first packed =
     record {
       list = more;
       are = inr (lets, rw first are);

@@ -1,4 +1,4 @@
 pub mod Archives
 pub mod Opened
 pub mod Packing
-pub mod Plain
+pub mod Taken

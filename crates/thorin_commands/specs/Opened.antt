@@ -9,45 +9,46 @@ use Rattle.thorin.specs.declared.packing.Input.TheVariants as inputs
 use Rattle.thorin.specs.Run.{Took}
 use Rattle.thorin_commands.specs.Archives.{AreTakenFor, StandsFor, StandFor, split_contents}
 use Rattle.thorin_commands.specs.Packing.{AreAllAccepted, left}
-use Rattle.thorin_commands.specs.Plain.{Offer}
+use Rattle.thorin_commands.specs.Taken.{Manner, Offer}
 
 -- what an input stands for was taken, and none of it refused
-pub record TookAll (opens decompresses : Bool) (offer : Offer) (input : Input) (old new : State)
+pub record TookAll (opens : Bool) (manner : Manner) (offer : Offer) (input : Input)
+    (old new : State)
     : Type 0 where
   pub list : List Input
-  pub stands : StandsFor opens decompresses offer input list
+  pub stands : StandsFor opens manner offer input list
   pub accepted : List (List ℕ)
   pub ran : AreAllAccepted offer list old new accepted
 
 -- the same of inputs, in order
-pub record TookInputs (opens decompresses : Bool) (offer : Offer) (all : List Input)
+pub record TookInputs (opens : Bool) (manner : Manner) (offer : Offer) (all : List Input)
     (old new : State) : Type 0 where
   pub list : List Input
-  pub stand : StandFor opens decompresses offer all list
+  pub stand : StandFor opens manner offer all list
   pub accepted : List (List ℕ)
   pub ran : AreAllAccepted offer list old new accepted
 
 -- what a builder has once the inputs were taken, and what isn't there was left out
-pub record Fills (partial opens decompresses : Bool) (offer : Offer) (list : List Input)
+pub record Fills (partial opens : Bool) (manner : Manner) (offer : Offer) (list : List Input)
     (old new : State) : Type 0 where
   pub state : State
-  pub took : TookInputs opens decompresses offer list old state
+  pub took : TookInputs opens manner offer list old state
   pub rest : new ≡ left partial state
 
 -- what is taken for contents was taken, in order
-pub record TookEach (decompresses : Bool) (offer : Offer) (contents : List (List ℕ))
+pub record TookEach (manner : Manner) (offer : Offer) (contents : List (List ℕ))
     (old new : State) : Type 0 where
   pub list : List Input
-  pub taken : AreTakenFor decompresses contents list
+  pub taken : AreTakenFor manner contents list
   pub accepted : List (List ℕ)
   pub ran : AreAllAccepted offer list old new accepted
 
 -- the members of an archive's file that have split units were taken
-pub record TookMembers (decompresses : Bool) (offer : Offer) (file : List ℕ) (old new : State)
+pub record TookMembers (manner : Manner) (offer : Offer) (file : List ℕ) (old new : State)
     : Type 0 where
   pub members : List Member
   pub are : members_of file ≡ Ok members
-  pub each : TookEach decompresses offer (split_contents members) old new
+  pub each : TookEach manner offer (split_contents members) old new
 
 -- bytes were taken
 pub record TookBytes (offer : Offer) (taken : List ℕ) (old new : State) : Type 0 where

@@ -1,6 +1,6 @@
 -- What the program packs, and what comes of it.
 use Rattle.std.specs.Prelude.{◌≡◌, ℕ, List, [], ◌∷◌, ◌++◌, map, codes, Option, Some, None, Result}
-use Rattle.std.specs.Prelude.{Ok, Err, ◌⊎◌, Bool, true, false, take}
+use Rattle.std.specs.Prelude.{Ok, Err, ◌⊎◌, ◌≢◌, All, Bool, true, false, take}
 use Rattle.std.specs.Borrow.{Bor}
 use Rattle.std.specs.Path.{path_bytes}
 use Rattle.std.specs.declared.io.Error.{Error as IoError}
@@ -18,10 +18,12 @@ use Rattle.thorin.specs.declared.packing.Input.TheVariants as inputs
 use Rattle.thorin.specs.Run.{Ran}
 use Rattle.thorin_print.specs.declared.output.Failure.{Failure}
 use Rattle.thorin_inputs.specs.Given.{StandsAt}
+use Rattle.thorin_inputs.specs.declared.growth.Growth.{Growth}
 use Rattle.thorin_inputs.specs.Prefixes.{mapped}
 use Rattle.thorin_output.specs.Files.{IsOfWriting}
+use Rattle.thorin_output.specs.Reads.{Identity}
 use Rattle.thorin_commands.specs.Archives.{StandFor}
-use Rattle.thorin_commands.specs.Plain.{Offer, taken_from, OffersKept}
+use Rattle.thorin_commands.specs.Taken.{Manner, Offer, OffersTaken, Declines}
 use Rattle.thorin_commands.specs.declared.packing.Packing.{Packing}
 use Rattle.thorin_commands.specs.declared.refusal.Refusal.{Refusal}
 use Rattle.thorin_commands.specs.declared.refusal.Refusal.TheVariants as refusals
@@ -85,13 +87,46 @@ through (word ∷ words) objects executables offer = λ path answer.
     offer (mapped (word ∷ words) path) answer
     ⊎ ((IsAmong objects path ⊎ IsAmong executables path) × offer path answer)
 
--- what is taken for the file at a path that a command asks for, or that an executable names:
--- decompressed where that is asked for, and with the macros that are kept
+-- how a command takes inputs
+abbrev pub manner_of : Packing → Manner
+manner_of packing = record {
+  decompresses = packing.decompresses;
+  allows_overlap = packing.allows_overlap;
+  macros = packing.macros;
+}
+
+-- where a path is read that a command asks for, or that an executable names
+abbrev pub read_through : Packing → Offer → Offer
+read_through packing offer = through (paths_in packing.prefix_maps) (paths_in packing.inputs)
+    (paths_in packing.executables) offer
+
+-- what is taken for the file there: decompressed where that is asked for, and with the macros that
+-- are kept
 abbrev pub reads : Packing → Offer → Offer
-reads packing offer =
-    OffersKept packing.macros (taken_from packing.decompresses
-    (through (paths_in packing.prefix_maps) (paths_in packing.inputs)
-    (paths_in packing.executables) offer))
+reads packing offer = OffersTaken (manner_of packing) (read_through packing offer)
+
+-- and why it is declined
+abbrev pub declines : Packing → Offer → (path : List ℕ) → Growth → Type 0
+declines packing offer = Declines (manner_of packing) (read_through packing offer)
+
+-- ---- where it is written
+
+-- a name isn't that of the file at a path: no file has it, or another one
+abbrev pub AreApart : (known : List ℕ → Identity → Type 0) → (name path : List ℕ) → Type 0
+AreApart known name path = known name None
+    ⊎ ((own : Identity) × (other : Identity) × known name own × known path other × (own ≢ other))
+
+-- nor that of a file at one of these paths
+abbrev pub AllApart : (known : List ℕ → Identity → Type 0) → (name : List ℕ)
+    → (paths : List (Bor (List ℕ))) → Type 0
+AllApart known name paths = All (λ path. AreApart known name path.now) paths
+
+-- OUT is none of the inputs that a command names
+pub record IsNoInput (known : List ℕ → Identity → Type 0) (packing : Packing) : Type 0 where
+  pub name : List ℕ
+  pub named : out_of packing ≡ Some name
+  pub objects : AllApart known name (paths_in packing.inputs)
+  pub executables : AllApart known name (paths_in packing.executables)
 
 -- ---- what is made of that
 
@@ -120,10 +155,10 @@ pub record IsPackedOf (partial : Bool) (offer : List ℕ → Result (List ℕ) I
   pub package_of : IsPackageOf (units_in state) (file_text object)
 
 -- the same of what inputs stand for
-pub record IsPackedFrom (partial opens decompresses : Bool) (offer : Offer) (list : List Input)
-    (object : File) : Type 0 where
+pub record IsPackedFrom (partial opens : Bool) (manner : Manner) (offer : Offer)
+    (list : List Input) (object : File) : Type 0 where
   pub taken : List Input
-  pub stand : StandFor opens decompresses offer list taken
+  pub stand : StandFor opens manner offer list taken
   pub packed : IsPackedOf partial offer taken object
 
 -- just the inputs that were asked for; where an empty package may come of it, behind them the first
@@ -138,7 +173,7 @@ pub record IsPackageFor (offer : List ℕ → Result (List ℕ) IoError
     → Type 0) (packing : Packing) (object : File) : Type 0 where
   pub list : List Input
   pub are : AreAsked packing list
-  pub packed : IsPackedFrom packing.partial packing.opens_archives packing.decompresses offer list
+  pub packed : IsPackedFrom packing.partial packing.opens_archives (manner_of packing) offer list
       object
 
 -- the file of such a package was put under the name of OUT

@@ -4,32 +4,35 @@ ghost use Rattle.std.specs.Prelude.{◌≡◌, ◌∷◌, [], map, Ok, OnOk, tru
 ghost use Rattle.std.specs.Path.{path_bytes};
 ghost use Rattle.thorin.specs.declared.packing.Input.TheVariants.{Object};
 ghost use Rattle.dwp_archive.specs.View as view;
-ghost use Rattle.thorin_commands.specs.Archives.{is_split, split_contents};
+ghost use Rattle.thorin_commands.specs.Archives.{is_archive, is_split, split_contents};
 ghost use Rattle.thorin_commands.specs.Opened.{TookAll, TookEach, TookMembers, TookBytes};
 
-use crate::origins::{Origin, place_of_unit};
+use crate::origins::{Holding, Origin, now_in, place_of_refused};
 use crate::reading::Inputs;
 use crate::refusal::Refusal;
 use crate::taking::{Tried, settle};
-use crate::telling::{Refused, Telling, note_place, tell_error, tell_refused};
+use crate::telling::{Refused, Telling, note_why, tell_error, tell_refused};
 use dwp_archive::{ArchiveError, Member, members};
 use dwp_bytes::RelocationEntry;
 use dwp_elf::ElfFile;
-use std::alloc::{AllocError, Global};
+use std::alloc::Global;
 use std::io::Write;
 use std::path::{AsPath, Path};
-use thorin::{DwarfPackage, Input, take_input};
+use thorin::{DwarfPackage, Input, NotTaken, take_input};
 use thorin_errors::Error;
-use thorin_inputs::{MEMBER_NAME_READ, note_alone, note_reason, place_of_member};
+use thorin_inputs::{Growth, MEMBER_NAME_READ, note_alone, place_of_member};
 use thorin_print::{Failure, shown, tell_taken};
 use thorin_sessions::Session;
 
 /// Whether bytes are those of an archive, plain or thin.
-fn is_archive(bytes: &[u8]) -> bool {
+#[tactic(auto, unfolding(crate::specs::Archives::is_archive))]
+fn is_archive(bytes: &[u8]) -> bool
+    ensures { result ≡ is_archive bytes.now }
+{
     bytes.starts_with(b"!<arch>\n") || bytes.starts_with(b"!<thin>\n")
 }
 
-/// Whether bytes are ELF, with a section of split units.
+/// Whether bytes are ELF, with a section of split units, or can't be read.
 #[tactic(auto, unfolding(crate::specs::Archives::is_split))]
 fn is_split(bytes: &[u8]) -> bool
     ensures { result ≡ is_split bytes.now }
@@ -39,7 +42,7 @@ fn is_split(bytes: &[u8]) -> bool
             file.section_by_name(".debug_info.dwo").is_some()
                 || file.section_by_name(".zdebug_info.dwo").is_some()
         }
-        Err(_) => false,
+        Err(_) => bytes.starts_with(b"\x7fELF"),
     }
 }
 
@@ -54,7 +57,7 @@ pub(crate) fn take_opened<'o, 's: 'o, Sess: Session<RelocationEntry>, I: Inputs,
     err: &mut E,
 ) -> Result<(), Refusal>
     requires { I.opens inputs.now ≡ true }
-    ensures { OnOk result (TookAll (I.opens inputs.now) (I.plain inputs.now) (I.offer inputs.now)
+    ensures { OnOk result (TookAll (I.opens inputs.now) (I.manner inputs.now) (I.offer inputs.now)
         (Object path.entry) builder.old.state builder.new.state) }
 {
     inputs.begin(Input::Object(path));
@@ -63,12 +66,12 @@ pub(crate) fn take_opened<'o, 's: 'o, Sess: Session<RelocationEntry>, I: Inputs,
             let place = Place { path, telling };
             take_read(inputs, builder, bytes, place, err)
         }
-        Err(e) => {
-            let error = Error::from(e);
+        Err(why) => {
+            let why = NotTaken::from(why);
             let refused = Refused {
                 input: Input::Object(path),
                 before: None,
-                error: &error,
+                why: &why,
             };
             tell_refused(telling.alloc, inputs, refused, err);
             Err(Refusal::Told)
@@ -86,7 +89,7 @@ fn take_read<'o, 's: 'o, Sess: Session<RelocationEntry>, I: Inputs, E: Write>(
 ) -> Result<(), Refusal>
     requires opens { I.opens inputs.now ≡ true }
     requires offered { I.offer inputs.now (path_bytes place.path) (Ok bytes.now) }
-    ensures { OnOk result (TookAll (I.opens inputs.now) (I.plain inputs.now) (I.offer inputs.now)
+    ensures { OnOk result (TookAll (I.opens inputs.now) (I.manner inputs.now) (I.offer inputs.now)
         (Object place.entry.path) builder.old.state builder.new.state) }
 {
     if is_archive(bytes) {
@@ -123,7 +126,7 @@ fn take_bytes<'o, 's: 'o, Sess: Session<RelocationEntry>, I: Inputs>(
     inputs: &I,
     builder: &mut DwarfPackage<'o, 's, Sess>,
     bytes: &[u8],
-) -> Result<(), Error>
+) -> Result<(), NotTaken<Error, Growth>>
     ensures { OnOk result
         (TookBytes (I.offer inputs.now) bytes.now builder.old.state builder.new.state) }
 {
@@ -139,7 +142,7 @@ fn take_members<'o, 's: 'o, Sess: Session<RelocationEntry>, I: Inputs, E: Write>
     place: Place<'_>,
     err: &mut E,
 ) -> Result<(), Refusal>
-    ensures { OnOk result (TookMembers (I.plain inputs.now) (I.offer inputs.now) bytes.now
+    ensures { OnOk result (TookMembers (I.manner inputs.now) (I.offer inputs.now) bytes.now
         builder.old.state builder.new.state) }
 {
     match members(place.telling.alloc, bytes) {
@@ -157,7 +160,7 @@ fn take_listed<'o, 's: 'o, Sess: Session<RelocationEntry>, I: Inputs, E: Write>(
     place: Place<'_>,
     err: &mut E,
 ) -> Result<(), Refusal>
-    ensures { OnOk result (TookEach (I.plain inputs.now) (I.offer inputs.now)
+    ensures { OnOk result (TookEach (I.manner inputs.now) (I.offer inputs.now)
         (split_contents (map view.member members.now)) builder.old.state builder.new.state) }
 {
     let before = builder.contained_units().len();
@@ -185,7 +188,7 @@ fn take_each<'o, 's: 'o, Sess: Session<RelocationEntry>, I: Inputs, E: Write>(
     place: Place<'_>,
     err: &mut E,
 ) -> Result<(), Refusal>
-    ensures { OnOk result (TookEach (I.plain inputs.now) (I.offer inputs.now)
+    ensures { OnOk result (TookEach (I.manner inputs.now) (I.offer inputs.now)
         (split_contents (map view.member members.now)) builder.old.state builder.new.state) }
 {
     for member in members {
@@ -202,7 +205,7 @@ fn take_split<'o, 's: 'o, Sess: Session<RelocationEntry>, I: Inputs, E: Write>(
     place: Place<'_>,
     err: &mut E,
 ) -> Result<(), Refusal>
-    ensures { OnOk result (TookEach (I.plain inputs.now) (I.offer inputs.now)
+    ensures { OnOk result (TookEach (I.manner inputs.now) (I.offer inputs.now)
         (split_contents (view.member member.entry ∷ [])) builder.old.state builder.new.state) }
 {
     let content = member.content();
@@ -211,21 +214,21 @@ fn take_split<'o, 's: 'o, Sess: Session<RelocationEntry>, I: Inputs, E: Write>(
     }
     match take_content(place.telling.alloc, inputs, builder, content) {
         Ok(()) => {
-            keep_member(inputs, builder.contained_units().len(), member, place);
+            keep_member(inputs, now_in(builder), member, place);
             Ok(())
         }
-        Err(error) => {
-            refuse_member(inputs, builder, &error, member, place, err);
+        Err(why) => {
+            refuse_member(inputs, builder, &why, member, place, err);
             Err(Refusal::Told)
         }
     }
 }
 
 /// Keeps for notes a member that was taken.
-fn keep_member<I: Inputs>(inputs: &I, count: usize, member: Member<'_>, place: Place<'_>) {
+fn keep_member<I: Inputs>(inputs: &I, now: Holding<'_>, member: Member<'_>, place: Place<'_>) {
     let name = member.beginning_of_name(MEMBER_NAME_READ);
     let taken = Origin::Member(place.path.path_text(), name);
-    inputs.keep_taken(taken, count);
+    inputs.keep_taken(taken, now);
 }
 
 /// Takes what is taken for the content of a member.
@@ -234,14 +237,14 @@ fn take_content<'o, 's: 'o, Sess: Session<RelocationEntry>, I: Inputs>(
     inputs: &I,
     builder: &mut DwarfPackage<'o, 's, Sess>,
     content: &[u8],
-) -> Result<(), Error>
-    ensures { OnOk result (TookEach (I.plain inputs.now) (I.offer inputs.now) (content.now ∷ [])
+) -> Result<(), NotTaken<Error, Growth>>
+    ensures { OnOk result (TookEach (I.manner inputs.now) (I.offer inputs.now) (content.now ∷ [])
         builder.old.state builder.new.state) }
 {
-    match inputs.plain_member(content) {
-        Ok(Some(plain)) => take_bytes(alloc, inputs, builder, plain.as_slice()),
+    match inputs.member(content) {
+        Ok(Some(taken)) => take_bytes(alloc, inputs, builder, taken.as_slice()),
         Ok(None) => take_bytes(alloc, inputs, builder, content),
-        Err(AllocError) => Err(Error::Memory),
+        Err(why) => Err(NotTaken::from(why)),
     }
 }
 
@@ -261,37 +264,22 @@ fn malformed<E: Write>(place: Place<'_>, error: ArchiveError, err: &mut E) -> Re
 fn refuse_member<'o, 's: 'o, Sess: Session<RelocationEntry>, I: Inputs, E: Write>(
     inputs: &I,
     builder: &DwarfPackage<'o, 's, Sess>,
-    error: &Error,
+    why: &NotTaken<Error, Growth>,
     member: Member<'_>,
-    place: Place<'_>,
-    err: &mut E,
-) {
-    tell_error(place.telling.alloc, error, inputs.found_growth(), err);
-    note_member(
-        inputs,
-        error,
-        member,
-        place_of_unit(builder, error),
-        place,
-        err,
-    );
-}
-
-/// Prints the note on a member that was refused.
-fn note_member<I: Inputs, E: Write>(
-    inputs: &I,
-    error: &Error,
-    member: Member<'_>,
-    before: Option<usize>,
     place: Place<'_>,
     err: &mut E,
 ) {
     let alloc = place.telling.alloc;
+    tell_error(alloc, why, err);
     let name = member.beginning_of_name(MEMBER_NAME_READ);
     if let Ok(text) = place_of_member(alloc, place.path.path_text(), name) {
-        match inputs.found_growth() {
-            Some(growth) => note_reason(text.as_str(), growth.note(), err),
-            None => note_place(alloc, inputs, error, text.as_str(), before, err),
-        }
+        note_why(
+            alloc,
+            inputs,
+            why,
+            text.as_str(),
+            place_of_refused(builder, why),
+            err,
+        );
     }
 }

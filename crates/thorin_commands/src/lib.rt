@@ -4,12 +4,14 @@
 
 mod archives;
 mod asked;
+mod differences;
 mod missing;
 mod origins;
 mod packing;
 mod plain;
 mod reading;
 mod refusal;
+mod room;
 mod taking;
 mod telling;
 
@@ -18,4 +20,4 @@ pub use missing::list_missing;
 pub use packing::{Packing, pack};
 pub use thorin::NamelessUnits;
 pub use thorin_inputs::reason;
-pub use thorin_output::{FileSystem, HostFiles, Warnings};
+pub use thorin_output::{FileSystem, Warnings};

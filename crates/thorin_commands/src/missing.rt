@@ -8,7 +8,7 @@ use crate::packing::{Packing, paths_in};
 use crate::plain::InputFiles;
 use crate::reading::Inputs;
 use crate::refusal::Refusal;
-use crate::telling::{Telling, print_error};
+use crate::telling::{Telling, tell_error};
 use bumpalo::Bump;
 use dwp_bytes::RelocationEntry;
 use dwp_table::Bucketable;
@@ -16,10 +16,10 @@ use std::alloc::{AllocError, Global};
 use std::collections::HashSet;
 use std::io::Write;
 use std::path::Path;
-use thorin::{BytesSession, DwarfPackage, Input, NamelessUnits};
+use thorin::{BytesSession, DwarfPackage, Input, NamelessUnits, NotTaken};
 use thorin_errors::{Error, MissingReferencedObjectBehaviour};
 use thorin_executable::NamedUnits;
-use thorin_inputs::AbsentUnits;
+use thorin_inputs::{AbsentUnits, Growth};
 use thorin_output::{FileSystem, flush};
 use thorin_print::{Failure, buffer, shown};
 use thorin_sessions::Session;
@@ -77,7 +77,7 @@ pub fn list_missing<F: FileSystem, O: Write, E: Write>(
     if executables.is_empty() {
         return Err(Failure::BadCommand);
     }
-    let inputs = InputFiles::new(alloc, files, packing);
+    let inputs = InputFiles::new(alloc, files, packing)?;
     let listed = list_over(alloc, &inputs, executables, packing.nameless, out);
     status_of(alloc, listed, err)
 }
@@ -107,8 +107,8 @@ fn status_of<E: Write>(
     match listed {
         Ok(false) => Ok(0),
         Ok(true) => Ok(1),
-        Err(Unlisted::Refused(error)) => {
-            print_error(alloc, &error, err);
+        Err(Unlisted::Refused(why)) => {
+            tell_error(alloc, &why, err);
             Ok(1)
         }
         Err(Unlisted::Failed(failure)) => Err(failure),
@@ -119,14 +119,14 @@ fn status_of<E: Write>(
 #[derive(Drop)]
 enum Unlisted {
     /// An executable is refused.
-    Refused(Error),
+    Refused(NotTaken<Error, Growth>),
     /// What the command was given can't be done.
     Failed(Failure),
 }
 
 impl From<Error> for Unlisted {
     fn from(error: Error) -> Unlisted {
-        Unlisted::Refused(error)
+        Unlisted::Refused(NotTaken::Failed(error))
     }
 }
 
@@ -168,7 +168,7 @@ fn list_of<I: Inputs, W: Write>(
     inputs.begin(Input::Executable(path, MissingReferencedObjectBehaviour::Skip));
     match inputs.read_into(path, &mut room) {
         Ok(bytes) => list_read(alloc, inputs, bytes, nameless, seen, lines),
-        Err(e) => Err(Unlisted::Refused(Error::from(e))),
+        Err(why) => Err(Unlisted::Refused(NotTaken::from(why))),
     }
 }
 
@@ -189,7 +189,7 @@ fn list_read<I: Inputs, W: Write>(
             drop(units);
             listed
         }
-        Err(error) => Err(Unlisted::Refused(error)),
+        Err(error) => Err(Unlisted::from(error)),
     }
 }
 

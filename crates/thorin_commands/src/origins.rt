@@ -1,12 +1,12 @@
 //! Which input brought a unit of the package.
 
 use dwp_bytes::RelocationEntry;
-use dwp_table::{DwarfObject, DwoId};
+use dwp_table::{DebugTypeSignature, DwarfObject, DwoId};
 use std::alloc::{AllocError, Global};
 use std::cell::Cell;
-use thorin::DwarfPackage;
+use thorin::{DwarfPackage, NotTaken};
 use thorin_errors::Error;
-use thorin_inputs::{place_of, place_of_member};
+use thorin_inputs::{Growth, place_of, place_of_member};
 use thorin_sessions::Session;
 
 /// What was taken, by its path.
@@ -18,6 +18,25 @@ pub(crate) enum Origin<'a> {
     Named(&'a str, &'a str),
     /// A member of the archive at a path, by its name.
     Member(&'a str, &'a [u8]),
+}
+
+/// What the package has once something was taken.
+#[derive(Clone, Copy)]
+pub(crate) struct Holding<'a> {
+    /// How many units.
+    pub(crate) units: usize,
+    /// The signatures of type units that were passed over and differ from the ones kept.
+    pub(crate) differing: &'a [DebugTypeSignature],
+}
+
+/// What a package has now.
+pub(crate) fn now_in<'b, 'o, 's: 'o, Sess: Session<RelocationEntry>>(
+    builder: &'b DwarfPackage<'o, 's, Sess>,
+) -> Holding<'b> {
+    Holding {
+        units: builder.contained_units().len(),
+        differing: builder.differing_types(),
+    }
 }
 
 /// What brought units, in order, as it is printed, each with the number of units that the package
@@ -59,6 +78,50 @@ impl Origins {
         }
         None
     }
+
+    /// Adds words and what brought the unit at a place to a line, where that is known.
+    ///
+    /// # Errors
+    /// Want of memory.
+    pub(crate) fn put(
+        &self,
+        words: &str,
+        place: usize,
+        line: &mut String,
+    ) -> Result<(), AllocError> {
+        let taken = self.taken.replace(None);
+        let put = match &taken {
+            Some(taken) => put_origin(words, origin_at(taken.as_slice(), place), line),
+            None => Ok(()),
+        };
+        self.taken.set(taken);
+        put
+    }
+}
+
+/// Adds words and what brought a unit to a line, where that is known.
+fn put_origin(words: &str, origin: Option<&str>, line: &mut String) -> Result<(), AllocError> {
+    match origin {
+        Some(origin) => write!(line, "{words}{origin}"),
+        None => Ok(()),
+    }
+}
+
+/// What brought the unit at a place: the first behind which the package has more units than stand
+/// before it. Their numbers grow, so half of those that are left are put aside in turn.
+fn origin_at(taken: &[(usize, String)], place: usize) -> Option<&str> {
+    let mut rest = taken;
+    for _ in 0..usize::BITS {
+        let (front, back) = rest.split_at(rest.len() / 2);
+        rest = match front.last() {
+            Some((count, _)) if place < *count => front,
+            _ => back,
+        };
+    }
+    match rest.first() {
+        Some((count, origin)) if place < *count => Some(origin.as_str()),
+        _ => None,
+    }
 }
 
 /// Adds what is taken now to what was taken, where the package has more units than before.
@@ -80,7 +143,7 @@ fn add_origin(
 }
 
 /// What was taken, as it is printed.
-fn printed_origin(alloc: Global, origin: Origin<'_>) -> Result<String, AllocError> {
+pub(crate) fn printed_origin(alloc: Global, origin: Origin<'_>) -> Result<String, AllocError> {
     match origin {
         Origin::Object(path) => place_of(alloc, path, None),
         Origin::Named(executable, path) => place_of(alloc, executable, Some(path)),
@@ -89,12 +152,12 @@ fn printed_origin(alloc: Global, origin: Origin<'_>) -> Result<String, AllocErro
 }
 
 /// Where among the package's units the one stands that an input has too, of which an error tells.
-pub(crate) fn place_of_unit<'o, 's: 'o, Sess: Session<RelocationEntry>>(
+pub(crate) fn place_of_refused<'o, 's: 'o, Sess: Session<RelocationEntry>>(
     builder: &DwarfPackage<'o, 's, Sess>,
-    error: &Error,
+    why: &NotTaken<Error, Growth>,
 ) -> Option<usize> {
-    match error {
-        Error::DuplicateUnit(id) => {
+    match why {
+        NotTaken::Failed(Error::DuplicateUnit(id)) => {
             let unit = DwarfObject::Compilation(DwoId(*id));
             builder.contained_units().get_index_of(&unit)
         }

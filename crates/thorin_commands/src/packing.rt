@@ -1,6 +1,7 @@
 //! `thorin pack`.
 
-ghost use Rattle.std.specs.Prelude.{◌≡◌, ◌≤◌, Ok, Some, OnOk, IfOk, IfErr, map, string_bytes, true};
+ghost use Rattle.std.specs.Prelude.{◌≡◌, ◌⊎◌, ◌≤◌, Ok, Some, OnOk, IfOk, IfErr, map, string_bytes};
+ghost use Rattle.std.specs.Prelude.{true, false};
 ghost use Rattle.dwp_elf.specs.FileText.{file_text};
 ghost use Rattle.thorin_join.specs.Builder.{IsFinishedState, finish_test};
 ghost use Rattle.thorin_join.specs.Join.{IsPackageOf, IsPackageOnceWritten};
@@ -8,10 +9,12 @@ ghost use Rattle.thorin_join.specs.Meaning.{Members};
 ghost use Rattle.thorin_join.specs.Represents.{units_in};
 ghost use Rattle.thorin_output.specs.Files.{Put, Begins};
 ghost use Rattle.thorin_commands.specs.Packing.{out_of, Packs, Comes, IsPackageFor, IsPackedFrom};
-ghost use Rattle.thorin_commands.specs.Packing.{Fails, asked, asks, paths_in, reads};
+ghost use Rattle.thorin_commands.specs.Packing.{AllApart, Fails, IsNoInput, asked, asks};
+ghost use Rattle.thorin_commands.specs.Packing.{manner_of, paths_in, reads};
 ghost use Rattle.thorin_commands.specs.Opened.{Fills};
 
 use crate::asked::{inputs_of, inputs_with};
+use crate::differences::tell_differing;
 use crate::missing::leave_out;
 use crate::plain::InputFiles;
 use crate::reading::Inputs;
@@ -88,8 +91,27 @@ impl Packing<'_, '_> {
         }
     }
 
+    /// Whether each type unit that differs is told of with the inputs that brought it and the one
+    /// kept.
+    pub(crate) fn tells_differences(&self) -> bool {
+        self.verbose && matches!(self.warnings, Warnings::Each)
+    }
+
+    /// Which warnings of type units that differ are printed behind those.
+    fn warnings_left(&self) -> Warnings {
+        if self.tells_differences() {
+            Warnings::Never
+        } else {
+            self.warnings
+        }
+    }
+
     /// Whether the package would take the place of an input, where that isn't asked for.
-    fn overwrites<F: FileSystem>(&self, files: &F, output: &str) -> bool {
+    fn overwrites<F: FileSystem>(&self, files: &F, output: &str) -> bool
+        ensures { result ≡ false → self.now.force ≡ false
+            → AllApart (F.known files.now) output.now (paths_in self.now.inputs)
+            × AllApart (F.known files.now) output.now (paths_in self.now.executables) }
+    {
         !self.force
             && (has_file(files, paths_in(self.inputs), output)
                 || has_file(files, paths_in(self.executables), output))
@@ -97,7 +119,9 @@ impl Packing<'_, '_> {
 }
 
 /// Whether one of these names is another name of a file.
-fn has_file<F: FileSystem>(files: &F, names: &[&str], file: &str) -> bool {
+fn has_file<F: FileSystem>(files: &F, names: &[&str], file: &str) -> bool
+    ensures { result ≡ false → AllApart (F.known files.now) file.now names.now }
+{
     let own = files.identity(file);
     if own.is_none() {
         return false;
@@ -134,6 +158,8 @@ pub fn pack<F: FileSystem, O: Write, E: Write>(
         ((files.new ≡ files.old) × (out.new ≡ out.old))
         (Packs (reads packing.now (F.offer files.old)) packing.now
         (Begins F.begun O.contents files.old files.new out.old out.new))) }
+    ensures apart { packing.now.force ≡ false
+        → (files.new ≡ files.old) ⊎ IsNoInput (F.known files.old) packing.now }
 {
     match pack_all(alloc, files, packing, out, err) {
         Ok(()) => Ok(0),
@@ -155,7 +181,9 @@ fn pack_all<F: FileSystem, O: Write, E: Write>(
     out: &mut O,
     err: &mut E,
 ) -> Result<(), Refusal>
-    ensures { Comes result ((files.new ≡ files.old) × (out.new ≡ out.old))
+    ensures apart { packing.now.force ≡ false
+        → (files.new ≡ files.old) ⊎ IsNoInput (F.known files.old) packing.now }
+    ensures comes { Comes result ((files.new ≡ files.old) × (out.new ≡ out.old))
         (Packs (reads packing.now (F.offer files.old)) packing.now
         (Begins F.begun O.contents files.old files.new out.old out.new))
         (Packs (reads packing.now (F.offer files.old)) packing.now
@@ -176,7 +204,9 @@ fn pack_under<F: FileSystem, O: Write, E: Write>(
     err: &mut E,
 ) -> Result<(), Refusal>
     requires { out_of packing.now ≡ Some output.now }
-    ensures { Comes result ((files.new ≡ files.old) × (out.new ≡ out.old))
+    ensures apart { packing.now.force ≡ false
+        → (files.new ≡ files.old) ⊎ IsNoInput (F.known files.old) packing.now }
+    ensures comes { Comes result ((files.new ≡ files.old) × (out.new ≡ out.old))
         (Packs (reads packing.now (F.offer files.old)) packing.now
         (Begins F.begun O.contents files.old files.new out.old out.new))
         (Packs (reads packing.now (F.offer files.old)) packing.now
@@ -191,7 +221,7 @@ fn pack_under<F: FileSystem, O: Write, E: Write>(
                 alloc,
                 lines: lines.as_str(),
                 differing: differing.as_slice(),
-                warnings: packing.warnings,
+                warnings: packing.warnings_left(),
             };
             match write_and_warn(files, &object, warned, output, out, err) {
                 Ok(()) => Ok(()),
@@ -265,11 +295,11 @@ fn packed_from<F: FileSystem, E: Write>(
     ensures { IfOk result (λ made. IsPackageFor
         (reads packing.now (F.offer files.now)) packing.now made.0) }
 {
-    let inputs = InputFiles::new(alloc, files, packing);
+    let inputs = InputFiles::new(alloc, files, packing)?;
     match packed_by(alloc, &inputs, packing, list, err) {
         Ok((object, differing, is_split)) => {
             let warnings = if is_split {
-                inputs.warnings()
+                inputs.warnings()?
             } else {
                 String::new(alloc)
             };
@@ -290,7 +320,7 @@ fn packed_by<I: Inputs, E: Write>(
 ) -> Result<(WritableObject, Vec<DebugTypeSignature>, bool), Refusal>
     requires asked { map asked list.now ≡ asks packing.now }
     requires opens { I.opens inputs.now ≡ packing.now.opens_archives }
-    requires plain { I.plain inputs.now ≡ packing.now.decompresses }
+    requires manner { I.manner inputs.now ≡ manner_of packing.now }
     ensures { IfOk result (λ made. IsPackageFor (I.offer inputs.now) packing.now made.0) }
 {
     let telling = Telling {
@@ -320,7 +350,7 @@ fn packed_unsplit<I: Inputs, E: Write>(
 ) -> Result<(WritableObject, Vec<DebugTypeSignature>), Refusal>
     requires allowed { packing.now.lets_empty ≡ true }
     requires opens { I.opens inputs.now ≡ packing.now.opens_archives }
-    requires plain { I.plain inputs.now ≡ packing.now.decompresses }
+    requires manner { I.manner inputs.now ≡ manner_of packing.now }
     ensures { IfOk result (λ made. IsPackageFor (I.offer inputs.now) packing.now made.0) }
 {
     let objects = paths_in(packing.inputs);
@@ -366,7 +396,7 @@ fn packed_inputs<I: Inputs, E: Write>(
     err: &mut E,
 ) -> Result<(WritableObject, Vec<DebugTypeSignature>), Refusal>
     ensures { IfOk result (λ made. IsPackedFrom telling.partial (I.opens inputs.now)
-        (I.plain inputs.now) (I.offer inputs.now) list.now made.0) }
+        (I.manner inputs.now) (I.offer inputs.now) list.now made.0) }
 {
     let bump = Bump::new(telling.alloc);
     let session = BytesSession::new(&bump);
@@ -382,7 +412,7 @@ fn packed_over<'s, Sess: Session<RelocationEntry>, I: Inputs, E: Write>(
     err: &mut E,
 ) -> Result<(WritableObject, Vec<DebugTypeSignature>), Refusal>
     ensures { IfOk result (λ made. IsPackedFrom telling.partial (I.opens inputs.now)
-        (I.plain inputs.now) (I.offer inputs.now) list.now made.0) }
+        (I.manner inputs.now) (I.offer inputs.now) list.now made.0) }
 {
     runs_go_on(inputs);
     let mut builder = DwarfPackage::new(telling.alloc, session);
@@ -395,8 +425,8 @@ fn packed_over<'s, Sess: Session<RelocationEntry>, I: Inputs, E: Write>(
     }
 }
 
-/// Takes these inputs, warns of them where none has split units, and leaves out what isn't there,
-/// where that is asked for.
+/// Takes these inputs, warns of those without split units, and leaves out what isn't there, where
+/// that is asked for.
 fn fill<'o, 's: 'o, Sess: Session<RelocationEntry>, I: Inputs, E: Write>(
     inputs: &I,
     builder: &mut DwarfPackage<'o, 's, Sess>,
@@ -404,11 +434,12 @@ fn fill<'o, 's: 'o, Sess: Session<RelocationEntry>, I: Inputs, E: Write>(
     telling: Telling,
     err: &mut E,
 ) -> Result<(), Refusal>
-    ensures { OnOk result (Fills telling.partial (I.opens inputs.now) (I.plain inputs.now)
+    ensures { OnOk result (Fills telling.partial (I.opens inputs.now) (I.manner inputs.now)
         (I.offer inputs.now) list.now builder.old.state builder.new.state) }
 {
-    take_all(inputs, builder, list, telling, err)?;
-    warn_unsplit(builder, list, telling, err)?;
+    let types_alone = take_all(inputs, builder, list, telling, err)?;
+    warn_unsplit(builder, list, types_alone.as_slice(), telling, err)?;
+    tell_differing(inputs, builder)?;
     leave_out(inputs, builder, telling, err)
 }
 

@@ -2,31 +2,38 @@
 //! that are kept, and tested for strings and sections that overlap; what can't be read is
 //! kept for notes.
 
-ghost use Rattle.std.specs.Prelude.{◌≡◌, ◌⊎◌, IsTrue, IfOk, IfErr, OnOk, string_bytes};
+ghost use Rattle.std.specs.Prelude.{◌≡◌, ◌⊎◌, false, Err, IsTrue, IfOk, IfErr, OnErr, string_bytes};
 ghost use Rattle.std.specs.Path.{path_bytes};
+ghost use Rattle.thorin_builder.specs.Reading.{OnDeclined, OnFailed};
+ghost use Rattle.thorin_builder.specs.declared.reader.NotTaken.TheVariants.{Declined};
 ghost use Rattle.thorin_sessions.specs.Sessions.{IsNoWantOfMemory};
 ghost use Rattle.thorin_errors.specs.declared.error.InputError.TheVariants.{Memory};
 ghost use Rattle.thorin_inputs.specs.Macros.{IsKeptOf};
+ghost use Rattle.thorin_inputs.specs.Plain as spec;
 ghost use Rattle.thorin_inputs.specs.Prefixes.{mapped as mapped_path};
-ghost use Rattle.thorin_output.specs.Reads.{IsReadOver};
-ghost use Rattle.thorin_commands.specs.Packing.{IsAmong, paths_in, through, reads};
-ghost use Rattle.thorin_commands.specs.Plain.{taken_from};
+ghost use Rattle.thorin_inputs.specs.declared.growth.Growth.TheVariants as growth;
+ghost use Rattle.thorin_commands.specs.Packing.{IsAmong, declines, manner_of, paths_in};
+ghost use Rattle.thorin_commands.specs.Packing.{read_through, reads};
+ghost use Rattle.thorin_commands.specs.Taken.{DeclinesBytes, DeclinesPlain, HasOverlap, IsPlainFor};
+ghost use Rattle.thorin_commands.specs.Taken.{IsReadInto};
 
 use crate::asked::executable_of;
-use crate::origins::{Origin, Origins};
+use crate::differences::{Difference, Differences};
+use crate::origins::{Holding, Origin, Origins};
 use crate::packing::{Packing, paths_in};
 use crate::reading::Inputs;
-use dwp_macros::MacrosError;
-use dwp_table::{DwarfObject, DwoId};
+use crate::room::{or_content, put_over, read_file};
+use dwp_macros::{MacrosError, with_macros};
+use dwp_table::{DebugTypeSignature, DwarfObject, DwoId};
 use std::alloc::{AllocError, Global};
 use std::cell::Cell;
 use std::path::{AsPath, Path};
-use thorin::{Input, InputReader, Repetition};
+use thorin::{Input, InputReader, NotTaken, Repetition};
 use thorin_errors::InputError;
 use thorin_inputs::{
-    AbsentUnits, Encodings, Growth, MacroWarnings, Repetitions, count_units, decompress,
-    has_compressed_overlap, has_inner_strings, has_overlap, keep_macros, mapped, place_among,
-    plain_of, reason,
+    AbsentUnits, Encodings, Growth, MacroWarnings, Places, PlainError, Prefixes, Repetitions,
+    count_units, decompress, has_compressed_overlap, has_inner_strings, has_overlap, plain_of,
+    reason,
 };
 use thorin_output::FileSystem;
 use thorin_print::Failure;
@@ -38,8 +45,10 @@ pub(crate) struct InputFiles<'f, F> {
     files: &'f F,
     /// How they are read.
     packing: &'f Packing<'f, 'f>,
-    /// The place among the objects of the command line at which the next path is looked for.
-    next: Cell<usize>,
+    /// The prefixes that others take the place of, and where the paths stand that the command line
+    /// names, if there are any.
+    prefixes: Prefixes<'f>,
+    places: Places<'f>,
     /// What is warned of where several of an object's sections of macros count.
     macros: MacroWarnings,
     /// Whether the next read is that of an input's own path.
@@ -49,17 +58,17 @@ pub(crate) struct InputFiles<'f, F> {
     own: Cell<Option<String>>,
     named: Cell<Option<String>>,
     failure: Cell<Option<String>>,
-    /// What is kept for notes: what was taken so far, the encodings of what was read, and the units
-    /// that weren't there once their objects were taken.
+    /// What is kept for notes: what was taken so far, the type units that differ, the encodings of
+    /// what was read, and the units that weren't there once their objects were taken.
     origins: Origins,
+    differences: Differences,
     encodings: Encodings,
     absent: Cell<AbsentUnits>,
     /// Whether the input is an executable.
     is_executable: Cell<bool>,
-    /// What objects of the input add once more, and why the input was refused that would make the
-    /// package larger than its files.
+    /// What objects of the input add once more.
     repetitions: Repetitions,
-    growth: Cell<Option<Growth>>,
+    ghost maps: { prefixes.words.now ≡ paths_in packing.now.prefix_maps },
 }
 
 impl<'f, F: FileSystem> InputFiles<'f, F> {
@@ -68,53 +77,59 @@ impl<'f, F: FileSystem> InputFiles<'f, F> {
         alloc: Global,
         files: &'f F,
         packing: &'f Packing<'f, 'f>,
-    ) -> InputFiles<'f, F>
-        ensures files { result.files.now ≡ files.now }
-        ensures packing { result.packing.now ≡ packing.now }
+    ) -> Result<InputFiles<'f, F>, AllocError>
+        ensures files { IfOk result (λ inputs. inputs.files.now ≡ files.now) }
+        ensures packing { IfOk result (λ inputs. inputs.packing.now ≡ packing.now) }
     {
-        InputFiles {
+        let prefixes = Prefixes::new(alloc, paths_in(packing.prefix_maps))?;
+        let places = given_places(alloc, packing)?;
+        Ok(InputFiles {
             alloc,
             files,
             packing,
-            next: Cell::new(0),
+            prefixes,
+            places,
             macros: MacroWarnings::new(alloc, packing.warns_of_macros),
             begins: Cell::new(false),
             own: Cell::new(None),
             named: Cell::new(None),
             failure: Cell::new(None),
             origins: Origins::new(alloc),
+            differences: Differences::new(alloc, packing.tells_differences()),
             encodings: Encodings::new(alloc),
             absent: Cell::new(AbsentUnits::new(alloc)),
             is_executable: Cell::new(false),
             repetitions: Repetitions::new(alloc),
-            growth: Cell::new(None),
-        }
+        })
     }
 
-    /// Whether the command line names a path; the next one is looked for behind it.
+    /// Whether the command line names a path.
     fn is_given(&self, path: &str) -> bool
         ensures { IsTrue result → IsAmong (paths_in self.now.packing.now.inputs) path.now
             ⊎ IsAmong (paths_in self.now.packing.now.executables) path.now }
     {
-        match place_among(paths_in(self.packing.inputs), self.next.get(), path) {
-            Some(place) => {
-                self.next.set(place.saturating_add(1));
-                true
-            }
-            None => match place_among(paths_in(self.packing.executables), 0, path) {
-                Some(_place) => true,
-                None => false,
-            },
+        let inputs = paths_in(self.packing.inputs);
+        if let Some(_place) = self.places.place_among(inputs, path) {
+            return true;
         }
+        let executables = paths_in(self.packing.executables);
+        if let Some(_place) = self.places.place_among(executables, path) {
+            return true;
+        }
+        false
     }
 
     /// Reads the file of a path that the input has, or that it names.
     #[tactic(auto, using(crate::proofs::Taken::through_none, crate::proofs::Taken::through_given, crate::proofs::Taken::through_mapped))]
-    fn read(&self, is_own: bool, path: Path<'_>, room: &mut Vec<u8>) -> Result<(), InputError>
-        ensures offered { IsReadOver (through (paths_in self.now.packing.now.prefix_maps)
-            (paths_in self.now.packing.now.inputs) (paths_in self.now.packing.now.executables)
-            (F.offer self.now.files.now) (path_bytes path.entry)) room.new.items result }
-        ensures memory { IfErr result IsNoWantOfMemory }
+    fn read(
+        &self,
+        is_own: bool,
+        path: Path<'_>,
+        room: &mut Vec<u8>,
+    ) -> Result<(), NotTaken<InputError, Growth>>
+        ensures offered { IsReadInto (read_through self.now.packing.now (F.offer self.now.files.now)
+            (path_bytes path.entry)) self.now.packing.now.allows_overlap room.new.items result }
+        ensures memory { OnFailed result IsNoWantOfMemory }
     {
         if paths_in(self.packing.prefix_maps).is_empty() {
             return self.read_at(is_own, path, room);
@@ -127,36 +142,54 @@ impl<'f, F: FileSystem> InputFiles<'f, F> {
     }
 
     /// Reads the file at a path, and keeps for notes what becomes of that.
-    fn read_at(&self, is_own: bool, path: Path<'_>, room: &mut Vec<u8>) -> Result<(), InputError>
-        ensures offered { IsReadOver (F.offer self.now.files.now (path_bytes path.entry))
-            room.new.items result }
-        ensures memory { IfErr result IsNoWantOfMemory }
+    fn read_at(
+        &self,
+        is_own: bool,
+        path: Path<'_>,
+        room: &mut Vec<u8>,
+    ) -> Result<(), NotTaken<InputError, Growth>>
+        ensures offered { IsReadInto (F.offer self.now.files.now (path_bytes path.entry))
+            self.now.packing.now.allows_overlap room.new.items result }
+        ensures memory { OnFailed result IsNoWantOfMemory }
     {
         self.keep_path(is_own, path.path_text());
         match read_file(self.files, is_own, path, room) {
-            Ok(()) if self.admits_file(is_own, path.path_text(), room) => Ok(()),
-            Ok(()) => Err(InputError::Memory),
+            Ok(()) => self.admit_file(is_own, path.path_text(), room),
             Err(InputError::Io(cause)) => {
                 self.failure.set(reason(self.alloc, &cause).ok());
-                Err(InputError::Io(cause))
+                Err(NotTaken::Failed(InputError::Io(cause)))
             }
-            Err(InputError::Memory) => Err(InputError::Memory),
+            Err(InputError::Memory) => Err(NotTaken::Failed(InputError::Memory)),
         }
     }
 
     /// Whether a file that was read may be added: an object of an executable may be one that was
     /// read before by another path.
-    fn admits_file(&self, is_own: bool, path: &str, file: &[u8]) -> bool {
-        if is_own || self.packing.allows_overlap {
-            self.repetitions.count_read(file.len());
-            return true;
+    ///
+    /// # Errors
+    /// `Declined` where it may not.
+    fn admit_file(
+        &self,
+        is_own: bool,
+        path: &str,
+        file: &[u8],
+    ) -> Result<(), NotTaken<InputError, Growth>>
+        ensures { OnErr result ((result ≡ Err (Declined growth.Repetition))
+            × (self.now.packing.now.allows_overlap ≡ false)) }
+    {
+        if self.packing.allows_overlap {
+            return Ok(());
         }
-        let identity = self.files.identity(path);
-        if self.repetitions.admits_object(identity, file) {
-            return true;
+        let repetitions = &self.repetitions;
+        if is_own {
+            repetitions.count_own(self.files.identity(path), file.len());
+            return Ok(());
         }
-        self.growth.set(Some(Growth::Repetition));
-        false
+        let identity = self.files.object_identity(path);
+        if repetitions.admits_object(identity, file.len()) {
+            return Ok(());
+        }
+        Err(NotTaken::Declined(Growth::Repetition))
     }
 
     /// A path that an executable names, with its prefix replaced.
@@ -165,38 +198,91 @@ impl<'f, F: FileSystem> InputFiles<'f, F> {
             string_bytes mapped
             ≡ mapped_path (paths_in self.now.packing.now.prefix_maps) path.now) }
     {
-        mapped(self.alloc, paths_in(self.packing.prefix_maps), path)
+        self.prefixes.mapped(path)
     }
 
-    /// Whether a file that was read is refused since its sections overlap, which is kept: those that
-    /// are used, and those that would be decompressed. Of an executable only these count: of each
-    /// name it uses one section alone.
-    fn overlaps(&self, is_own: bool, file: &[u8]) -> bool {
-        if self.packing.allows_overlap {
-            return false;
-        }
-        let is_executable = is_own && self.is_executable.get();
-        let found = !is_executable && has_overlap(file)
-            || self.packing.decompresses && has_compressed_overlap(file);
-        if found {
-            self.growth.set(Some(Growth::Sections));
-        }
-        found
+    /// Whether the sections of a file overlap that are used, or those that would be decompressed. Of
+    /// an executable only these count: of each name it uses one section alone.
+    fn overlaps(&self, is_executable: bool, file: &[u8]) -> bool
+        ensures { IsTrue result → HasOverlap (manner_of self.now.packing.now) file.now }
+    {
+        !is_executable && has_overlap(file)
+            || self.packing.decompresses && has_compressed_overlap(file)
     }
 
-    /// Refuses a file of plain bytes since its strings overlap, which is kept.
+    /// The bytes of an input with plain sections, where that is asked for; none where they stay as
+    /// they are.
     ///
     /// # Errors
-    /// `Memory`, also where they overlap.
-    fn test_strings(&self, is_own: bool, file: &[u8]) -> Result<(), AllocError> {
-        if self.packing.allows_overlap || is_own && self.is_executable.get() {
+    /// `Memory`; `Declined` where sections overlap, or no file has the plain ones.
+    #[tactic(auto, unfolding(crate::specs::Taken::IsPlainFor))]
+    fn plain(
+        &self,
+        is_executable: bool,
+        bytes: &[u8],
+    ) -> Result<Option<Vec<u8>>, NotTaken<InputError, Growth>>
+        ensures plain { IfOk result (λ plain. IsPlainFor self.now.packing.now.decompresses bytes.now
+            (spec.or_content bytes.now plain)) }
+        ensures declined { OnDeclined result
+            (DeclinesBytes (manner_of self.now.packing.now) bytes.now) }
+        ensures memory { OnFailed result (λ e. e ≡ Memory) }
+    {
+        // (of a file that is declined nothing is decompressed)
+        if !self.packing.allows_overlap && self.overlaps(is_executable, bytes) {
+            return Err(NotTaken::Declined(Growth::Sections));
+        }
+        if !self.packing.decompresses {
+            return Ok(None);
+        }
+        match plain_of(self.alloc, bytes) {
+            Ok(plain) => Ok(plain),
+            Err(PlainError::TooLarge) => Err(NotTaken::Declined(Growth::Plain)),
+            Err(PlainError::Memory) => Err(NotTaken::Failed(InputError::Memory)),
+        }
+    }
+
+    /// Tests whether the strings of plain bytes overlap, where that isn't allowed. An executable has
+    /// none that are packed.
+    ///
+    /// # Errors
+    /// `Memory`; `Declined` where they do.
+    fn test_strings(
+        &self,
+        is_executable: bool,
+        plain: &[u8],
+    ) -> Result<(), NotTaken<InputError, Growth>>
+        ensures declined { OnDeclined result
+            (DeclinesPlain (manner_of self.now.packing.now) plain.now) }
+        ensures memory { OnFailed result (λ e. e ≡ Memory) }
+    {
+        if self.packing.allows_overlap || is_executable {
             return Ok(());
         }
-        if has_inner_strings(self.alloc, file)? {
-            self.growth.set(Some(Growth::Strings));
-            return Err(AllocError);
+        match has_inner_strings(self.alloc, plain) {
+            Ok(false) => Ok(()),
+            Ok(true) => Err(NotTaken::Declined(Growth::Strings)),
+            Err(AllocError) => Err(NotTaken::Failed(InputError::Memory)),
         }
-        Ok(())
+    }
+
+    /// Plain bytes of which only the macros that are kept are left; none where they stay as they
+    /// are.
+    ///
+    /// # Errors
+    /// `Memory`; `Declined` where the others can't be left out.
+    #[tactic(auto, unfolding(thorin_inputs::specs::Macros::IsKeptOf))]
+    fn kept(&self, plain: &[u8]) -> Result<Option<Vec<u8>>, NotTaken<InputError, Growth>>
+        ensures kept { IfOk result (λ kept. IsKeptOf self.now.packing.now.macros plain.now
+            (spec.or_content plain.now kept)) }
+        ensures declined { OnDeclined result
+            (DeclinesPlain (manner_of self.now.packing.now) plain.now) }
+        ensures memory { OnFailed result (λ e. e ≡ Memory) }
+    {
+        match with_macros(self.alloc, plain, self.packing.macros) {
+            Ok(kept) => Ok(kept),
+            Err(MacrosError::Memory) => Err(NotTaken::Failed(InputError::Memory)),
+            Err(MacrosError::Unrepresentable) => Err(NotTaken::Declined(Growth::Macros)),
+        }
     }
 
     /// Keeps a path that is read, for notes: where there is no memory for it, they do without.
@@ -219,44 +305,6 @@ impl<'f, F: FileSystem> InputFiles<'f, F> {
 }
 
 impl<F: FileSystem> InputFiles<'_, F> {
-    /// Reads a file, decompressed where that is asked for.
-    #[tactic(auto, using(crate::proofs::Taken::taken_plain, crate::proofs::Taken::taken_as_it_is, crate::proofs::Taken::taken_failed))]
-    fn read_plain(&self, path: Path<'_>, room: &mut Vec<u8>) -> Result<(), InputError>
-        ensures offered { IsReadOver (taken_from self.now.packing.now.decompresses (through
-            (paths_in self.now.packing.now.prefix_maps) (paths_in self.now.packing.now.inputs)
-            (paths_in self.now.packing.now.executables) (F.offer self.now.files.now))
-            (path_bytes path.entry)) room.new.items result }
-        ensures memory { IfErr result IsNoWantOfMemory }
-    {
-        let is_own = self.begins.replace(false);
-        self.read(is_own, path, room)?;
-        // No behaviour passes over want of memory: for such a file none is spent.
-        if self.overlaps(is_own, room) {
-            return Err(InputError::Memory);
-        }
-        if !self.packing.decompresses {
-            return Ok(());
-        }
-        decompress(self.alloc, room, self.packing.allows_overlap)?;
-        Ok(())
-    }
-
-    /// Leaves only the macros that are kept in a file: where others can't be left out, it is refused.
-    fn keep_macros(&self, room: &mut Vec<u8>) -> Result<(), InputError>
-        ensures kept { OnOk result (IsKeptOf self.now.packing.now.macros room.old.items
-            room.new.items) }
-        ensures memory { IfErr result (λ e. e ≡ Memory) }
-    {
-        match keep_macros(self.alloc, self.packing.macros, room) {
-            Ok(()) => Ok(()),
-            Err(MacrosError::Memory) => Err(InputError::Memory),
-            Err(MacrosError::Unrepresentable) => {
-                self.growth.set(Some(Growth::Macros));
-                Err(InputError::Memory)
-            }
-        }
-    }
-
     /// Looks at the file at a path: at its encoding, for notes, and for several sections of macros,
     /// where that is to be warned of.
     fn inspect(&self, path: &str, file: &[u8]) -> Result<(), AllocError> {
@@ -272,48 +320,80 @@ impl<F: FileSystem> InputFiles<'_, F> {
     /// The same of a file of an input, which may be named by another.
     fn inspect_for(&self, own: &str, named: Option<&str>, file: &[u8]) -> Result<(), AllocError> {
         self.encodings.keep_new(file, own, named);
+        self.differences.look_at(file);
         self.macros.look_for_several(file, own, named)
     }
 
-    /// Looks at the encoding of a member of the input, which is told of by the input's path.
+    /// The same of a member of the input, which is told of by the input's path.
     fn inspect_member(&self, content: &[u8]) {
         let own = self.own.replace(None);
         if let Some(own) = &own {
             self.encodings.keep_new(content, own.as_str(), None);
         }
+        self.differences.look_at(content);
         self.own.set(own);
     }
 
-    /// The warnings of sections of macros.
-    pub(crate) fn warnings(&self) -> String {
-        self.macros.take()
+    /// The warnings of sections of macros, and behind them those of type units that differ.
+    ///
+    /// # Errors
+    /// Want of memory.
+    pub(crate) fn warnings(&self) -> Result<String, AllocError> {
+        let mut lines = self.macros.take();
+        if let Some(more) = self.differences.take() {
+            lines.push_str(more.as_str())?;
+        }
+        Ok(lines)
     }
 }
 
 impl<F: FileSystem> InputReader for InputFiles<'_, F> {
+    type Refusal = Growth;
+
     ghost offer = { λ inputs. reads inputs.packing.now (F.offer inputs.files.now) };
 
-    #[tactic(auto, using(crate::proofs::Taken::with_kept, crate::proofs::Taken::with_none))]
+    ghost declines = { λ inputs. declines inputs.packing.now (F.offer inputs.files.now) };
+
     fn read_into<'b>(
         &'b self,
         path: Path<'_>,
         room: &'b mut Vec<u8>,
-    ) -> Result<&'b [u8], InputError> {
-        let is_own = self.begins.get();
-        self.read_plain(path, room)?;
-        self.test_strings(is_own, room)?;
+    ) -> Result<&'b [u8], NotTaken<InputError, Growth>> {
+        let is_own = self.begins.replace(false);
+        let is_executable = is_own && self.is_executable.get();
+        self.read(is_own, path, room)?;
+        let plain = self.plain(is_executable, room)?;
+        put_over(room, plain);
+        self.test_strings(is_executable, room)?;
         self.inspect(path.path_text(), room)?;
-        self.keep_macros(room)?;
+        let kept = self.kept(room)?;
+        put_over(room, kept);
         Ok(room.as_slice())
     }
 
-    fn after_unit(&self, unit: DwarfObject, is_there: bool, unit_count: usize) {
+    fn admit(&self, repetition: Repetition<'_>) -> Result<(), Growth> {
+        self.named.set(self.with_prefix_replaced(repetition.path.path_text()).ok());
+        let (bytes, differing) = (repetition.bytes, repetition.differing);
+        if self.packing.allows_overlap || self.repetitions.admits(bytes, differing) {
+            return Ok(());
+        }
+        Err(Growth::Repetition)
+    }
+
+    fn after_unit(
+        &self,
+        unit: DwarfObject,
+        is_there: bool,
+        unit_count: usize,
+        differing: &[DebugTypeSignature],
+    ) {
         let object = self.last_named();
         let own = self.own.replace(None);
         if let Some(executable) = &own {
             if let Some(object) = &object {
                 let origin = Origin::Named(executable.as_str(), object.as_str());
                 self.origins.keep(origin, unit_count);
+                self.differences.keep(origin, differing);
             }
             match unit {
                 DwarfObject::Compilation(unit) if !is_there => {
@@ -325,44 +405,26 @@ impl<F: FileSystem> InputReader for InputFiles<'_, F> {
         self.own.set(own);
         self.failure.set(None);
     }
-
-    fn admits(&self, repetition: Repetition<'_>) -> bool {
-        self.named.set(self.with_prefix_replaced(repetition.path.path_text()).ok());
-        let (bytes, differing) = (repetition.bytes, repetition.differing);
-        if self.packing.allows_overlap || self.repetitions.admits(bytes, differing) {
-            return true;
-        }
-        self.growth.set(Some(Growth::Repetition));
-        false
-    }
 }
 
 impl<F: FileSystem> Inputs for InputFiles<'_, F> {
     ghost opens = { λ inputs. inputs.packing.now.opens_archives };
 
-    ghost plain = { λ inputs. inputs.packing.now.decompresses };
+    ghost manner = { λ inputs. manner_of inputs.packing.now };
 
     fn opens_archives(&self) -> bool {
         self.packing.opens_archives
     }
 
-    #[tactic(auto, unfolding(crate::specs::Archives::IsTakenFor, thorin_inputs::specs::Plain::IsPlainOf))]
-    fn plain_member(&self, content: &[u8]) -> Result<Option<Vec<u8>>, AllocError> {
-        if self.overlaps(false, content) {
-            return Err(AllocError);
+    fn member(&self, content: &[u8]) -> Result<Option<Vec<u8>>, NotTaken<InputError, Growth>> {
+        let plain = self.plain(false, content)?;
+        let bytes = or_content(content, &plain);
+        self.test_strings(false, bytes)?;
+        self.inspect_member(bytes);
+        match self.kept(bytes)? {
+            Some(kept) => Ok(Some(kept)),
+            None => Ok(plain),
         }
-        self.inspect_member(content);
-        let plain = if self.packing.decompresses {
-            plain_of(self.alloc, content, self.packing.allows_overlap)?
-        } else {
-            None
-        };
-        let taken = match &plain {
-            Some(plain) => plain.as_slice(),
-            None => content,
-        };
-        self.test_strings(false, taken)?;
-        Ok(plain)
     }
 
     fn begin(&self, input: Input<'_>) {
@@ -373,7 +435,6 @@ impl<F: FileSystem> Inputs for InputFiles<'_, F> {
         absent.begin();
         self.absent.set(absent);
         self.macros.begin();
-        self.growth.set(None);
         self.repetitions.begin();
         self.is_executable.set(executable_of(input).is_some());
     }
@@ -426,12 +487,13 @@ impl<F: FileSystem> Inputs for InputFiles<'_, F> {
         self.absent.replace(AbsentUnits::new(self.alloc))
     }
 
-    fn found_growth(&self) -> Option<Growth> {
-        self.growth.get()
+    fn keep_taken(&self, taken: Origin<'_>, now: Holding<'_>) {
+        self.origins.keep(taken, now.units);
+        self.differences.keep(taken, now.differing);
     }
 
-    fn keep_taken(&self, taken: Origin<'_>, count: usize) {
-        self.origins.keep(taken, count);
+    fn tell_difference(&self, it: Difference) -> Result<(), AllocError> {
+        self.differences.tell(it, &self.origins)
     }
 
     fn origin_of(&self, place: usize) -> Option<String> {
@@ -443,19 +505,12 @@ impl<F: FileSystem> Inputs for InputFiles<'_, F> {
     }
 }
 
-/// Reads the file at a path: any where that may be, as an input's own path, else a regular one.
-fn read_file<F: FileSystem>(
-    files: &F,
-    is_any: bool,
-    path: Path<'_>,
-    room: &mut Vec<u8>,
-) -> Result<(), InputError>
-    ensures offered { IsReadOver (F.offer files.now (path_bytes path.entry)) room.new.items result }
-    ensures memory { IfErr result IsNoWantOfMemory }
-{
-    if is_any {
-        files.read_over(path, room)
-    } else {
-        files.read_regular_over(path, room)
+/// Where the paths stand that a command line names, if it maps others.
+fn given_places<'f>(alloc: Global, packing: &Packing<'f, 'f>) -> Result<Places<'f>, AllocError> {
+    let mut places = Places::new(alloc);
+    if !paths_in(packing.prefix_maps).is_empty() {
+        places.add(paths_in(packing.executables))?;
+        places.add(paths_in(packing.inputs))?;
     }
+    Ok(places)
 }

@@ -1,38 +1,43 @@
 //! What `pack` asks of the reader of its inputs, as a trait: `plain` has the reader.
 
 ghost use Rattle.std.specs.Prelude.{◌≡◌, Bool, IfOk};
+ghost use Rattle.thorin_builder.specs.Reading.{OnDeclined};
 ghost use Rattle.thorin_inputs.specs.Plain.{or_content};
-ghost use Rattle.thorin_commands.specs.Archives.{IsTakenFor};
+ghost use Rattle.thorin_commands.specs.Taken.{DeclinesBytes, IsTakenFor, Manner};
 
-use crate::origins::Origin;
+use crate::differences::Difference;
+use crate::origins::{Holding, Origin};
 use std::alloc::AllocError;
-use thorin::{Input, InputReader};
+use thorin::{Input, InputReader, NotTaken};
+use thorin_errors::InputError;
 use thorin_inputs::{AbsentUnits, Growth};
 use thorin_print::Failure;
 
-/// What reads inputs, and tells of them.
-pub(crate) trait Inputs: InputReader {
+/// What reads inputs, and tells of them. It declines those that would make the package larger than
+/// its files.
+pub(crate) trait Inputs: InputReader<Refusal = Growth> {
     /// Begins an input: the next read is that of its own path. Those behind it are of objects that
     /// the input names, and these must be regular files: a read of another may wait for ever.
     fn begin(&self, input: Input<'_>);
 
-    // Whether archives are opened, and whether what is read is decompressed.
+    // Whether archives are opened, and how inputs are taken.
     ghost opens: { Self → Bool };
 
-    ghost plain: { Self → Bool };
+    ghost manner: { Self → Manner };
 
     /// Whether archives are opened.
     fn opens_archives(&self) -> bool
         ensures { result ≡ opens self.now };
 
-    /// The plain bytes that are taken for the content of an archive's member; none where it is
+    /// What is taken for the content of an archive's member, as for a file; none where that is
     /// taken as it is.
     ///
     /// # Errors
-    /// `Memory`, also where the sections of the content overlap.
-    fn plain_member(&self, content: &[u8]) -> Result<Option<Vec<u8>>, AllocError>
-        ensures { IfOk result (λ taken. IsTakenFor (plain self.now) content.now
-            (or_content content.now taken)) };
+    /// `Memory`; `Declined` as for a file.
+    fn member(&self, content: &[u8]) -> Result<Option<Vec<u8>>, NotTaken<InputError, Growth>>
+        ensures taken { IfOk result (λ taken. IsTakenFor (manner self.now) content.now
+            (or_content content.now taken)) }
+        ensures declined { OnDeclined result (DeclinesBytes (manner self.now) content.now) };
 
     /// Whether compressed sections are decompressed.
     fn decompresses(&self) -> bool;
@@ -64,11 +69,14 @@ pub(crate) trait Inputs: InputReader {
     /// for once.
     fn absent_units(&self) -> AbsentUnits;
 
-    /// How the input would make the package larger than its files, where it was refused for that.
-    fn found_growth(&self) -> Option<Growth>;
+    /// Keeps for notes what was taken, and what the package has now.
+    fn keep_taken(&self, taken: Origin<'_>, now: Holding<'_>);
 
-    /// Keeps for notes what was taken, and how many units the package has now.
-    fn keep_taken(&self, taken: Origin<'_>, count: usize);
+    /// Tells of a type unit that differs from the one kept, where that is asked for.
+    ///
+    /// # Errors
+    /// Want of memory.
+    fn tell_difference(&self, it: Difference) -> Result<(), AllocError>;
 
     /// What brought the unit at a place among the package's, as it is printed; none where that
     /// isn't known. Asked for once.

@@ -6,33 +6,47 @@ ghost use Rattle.thorin.specs.Run.{Took};
 ghost use Rattle.thorin_commands.specs.Opened.{TookAll, TookInputs};
 
 use crate::archives::take_opened;
-use crate::origins::{Origin, place_of_unit};
+use crate::origins::{Holding, Origin, now_in, place_of_refused};
 use crate::reading::Inputs;
 use crate::refusal::Refusal;
-use crate::telling::{Refused, Telling, tell_refused, told};
+use crate::telling::{Refused, Telling, has_types_alone, tell_refused, told};
 use dwp_bytes::RelocationEntry;
+use std::alloc::AllocError;
 use std::io::Write;
 use std::path::AsPath;
-use thorin::{DwarfPackage, Input, take_input};
+use thorin::{DwarfPackage, Input, NotTaken, take_input};
 use thorin_errors::Error;
+use thorin_inputs::Growth;
 use thorin_print::Failure;
 use thorin_sessions::Session;
 
-/// Takes the inputs in order, up to the first that is refused.
+/// Takes the inputs in order, up to the first that is refused. Answers of each whether its type
+/// units were passed over for want of a section of info.
 pub(crate) fn take_all<'o, 's: 'o, Sess: Session<RelocationEntry>, I: Inputs, E: Write>(
     inputs: &I,
     builder: &mut DwarfPackage<'o, 's, Sess>,
     list: &[Input<'_>],
     telling: Telling,
     err: &mut E,
-) -> Result<(), Refusal>
-    ensures { OnOk result (TookInputs (I.opens inputs.now) (I.plain inputs.now)
+) -> Result<Vec<bool>, Refusal>
+    ensures { OnOk result (TookInputs (I.opens inputs.now) (I.manner inputs.now)
         (I.offer inputs.now) list.now builder.old.state builder.new.state) }
 {
     let mut room = Vec::new(telling.alloc);
+    let mut types_alone = Vec::new(telling.alloc);
     for input in list {
+        let before = builder.contained_units().len();
         take(inputs, builder, &mut room, *input, telling, err)?;
+        let adds_none = builder.contained_units().len() == before;
+        let is_alone = adds_none && has_types_alone(inputs, *input, room.as_slice());
+        mark(&mut types_alone, is_alone)?;
     }
+    Ok(types_alone)
+}
+
+/// Marks the next input.
+fn mark(marks: &mut Vec<bool>, mark: bool) -> Result<(), AllocError> {
+    marks.push(mark)?;
     Ok(())
 }
 
@@ -45,7 +59,7 @@ fn take<'o, 's: 'o, Sess: Session<RelocationEntry>, I: Inputs, E: Write>(
     telling: Telling,
     err: &mut E,
 ) -> Result<(), Refusal>
-    ensures { OnOk result (TookAll (I.opens inputs.now) (I.plain inputs.now)
+    ensures { OnOk result (TookAll (I.opens inputs.now) (I.manner inputs.now)
         (I.offer inputs.now) input.entry builder.old.state builder.new.state) }
 {
     match input {
@@ -95,7 +109,7 @@ pub(crate) fn settle<'o, 's: 'o, Sess: Session<RelocationEntry>, I: Inputs, E: W
     inputs: &I,
     builder: &DwarfPackage<'o, 's, Sess>,
     tried: Tried<'_>,
-    outcome: Result<(), Error>,
+    outcome: Result<(), NotTaken<Error, Growth>>,
     telling: Telling,
     err: &mut E,
 ) -> Result<(), Refusal>
@@ -103,14 +117,14 @@ pub(crate) fn settle<'o, 's: 'o, Sess: Session<RelocationEntry>, I: Inputs, E: W
 {
     match outcome {
         Ok(()) => {
-            accept(inputs, builder.contained_units().len(), tried, telling, err)?;
+            accept(inputs, now_in(builder), tried, telling, err)?;
             Ok(())
         }
-        Err(error) => {
+        Err(why) => {
             let refused = Refused {
                 input: tried.input,
-                before: place_of_unit(builder, &error),
-                error: &error,
+                before: place_of_refused(builder, &why),
+                why: &why,
             };
             tell_refused(telling.alloc, inputs, refused, err);
             Err(Refusal::Told)
@@ -118,23 +132,22 @@ pub(crate) fn settle<'o, 's: 'o, Sess: Session<RelocationEntry>, I: Inputs, E: W
     }
 }
 
-/// Keeps and tells, where that is asked for, that an input was taken, and how many units the
-/// package has now.
+/// Keeps and tells, where that is asked for, that an input was taken, and what the package has now.
 fn accept<I: Inputs, E: Write>(
     inputs: &I,
-    count: usize,
+    now: Holding<'_>,
     tried: Tried<'_>,
     telling: Telling,
     err: &mut E,
 ) -> Result<(), Failure> {
-    keep_input(inputs, tried.input, count);
-    let added = count.saturating_sub(tried.before);
+    keep_input(inputs, tried.input, now);
+    let added = now.units.saturating_sub(tried.before);
     told(inputs, tried, added, telling, err)
 }
 
 /// Keeps for notes an object that was taken: those of executables are kept as they are read.
-fn keep_input<I: Inputs>(inputs: &I, input: Input<'_>, count: usize) {
+fn keep_input<I: Inputs>(inputs: &I, input: Input<'_>, now: Holding<'_>) {
     if let Input::Object(path) = input {
-        inputs.keep_taken(Origin::Object(path.path_text()), count);
+        inputs.keep_taken(Origin::Object(path.path_text()), now);
     }
 }

@@ -6,7 +6,7 @@ use dwp_bytes::RelocationEntry;
 use std::alloc::{AllocError, Global};
 use std::io::Write;
 use std::path::{AsPath, Path};
-use thorin::{DwarfPackage, Input};
+use thorin::{DwarfPackage, Input, NotTaken};
 use thorin_errors::Error;
 use thorin_inputs::{
     Growth, count_units, note_absent, note_alone, note_before, note_reason, note_refused,
@@ -64,34 +64,64 @@ fn path_of(input: Input<'_>) -> Option<Path<'_>> {
     }
 }
 
-/// Warns of each input, where the package has no units and nothing is missing: none of them has
-/// split units. Where something is missing, of objects alone: some executable has split units.
+/// Whether type units of an object that was taken were passed over, by the bytes that were read: it
+/// has no section of info. Of what is no regular file that isn't told.
+pub(crate) fn has_types_alone<I: Inputs>(inputs: &I, input: Input<'_>, room: &[u8]) -> bool {
+    match input {
+        Input::Object(path) => {
+            thorin_inputs::has_types_alone(room) && inputs.is_regular(path.path_text())
+        }
+        _ => false,
+    }
+}
+
+/// Warns of each object whose type units were passed over. Where the package has no units and
+/// nothing is missing, of each other input too: none of them has split units. Where something is
+/// missing, of objects alone: some executable has split units.
 pub(crate) fn warn_unsplit<'o, 's: 'o, Sess: Session<RelocationEntry>, E: Write>(
     builder: &DwarfPackage<'o, 's, Sess>,
     list: &[Input<'_>],
+    types_alone: &[bool],
     telling: Telling,
     err: &mut E,
 ) -> Result<(), Failure> {
-    if !telling.warns || !builder.contained_units().is_empty() {
+    if !telling.warns {
         return Ok(());
     }
-    let is_one_split = builder.missing_targets().next().is_some();
-    for input in list {
-        match *input {
-            Input::Executable(_, _) | Input::ExecutableSkippingNameless(_, _) if is_one_split => {}
-            input => warn_of(telling.alloc, input, err)?,
+    let is_empty = builder.contained_units().is_empty();
+    let is_one_split = is_empty && builder.missing_targets().next().is_some();
+    for i in 0..list.len() {
+        let has_types = matches!(types_alone.get(i), Some(true));
+        let is_warned = match list[i] {
+            Input::Executable(_, _) | Input::ExecutableSkippingNameless(_, _) => {
+                is_empty && !is_one_split
+            }
+            _ => is_empty || has_types,
+        };
+        if is_warned {
+            warn_of(telling.alloc, list[i], has_types, err)?;
         }
     }
     Ok(())
 }
 
-/// Warns of an input that has nothing that is split.
-fn warn_of<E: Write>(alloc: Global, input: Input<'_>, err: &mut E) -> Result<(), Failure> {
+/// Warns of an input that has nothing that is split, but for type units that were passed over.
+fn warn_of<E: Write>(
+    alloc: Global,
+    input: Input<'_>,
+    has_types: bool,
+    err: &mut E,
+) -> Result<(), Failure> {
     let Some(path) = path_of(input) else {
         return Ok(());
     };
     let name = shown(alloc, path.path_text())?;
-    match writeln!(err, "warning: {name}: no split units") {
+    let passed = if has_types {
+        ": .debug_types.dwo is passed over without .debug_info.dwo"
+    } else {
+        ""
+    };
+    match writeln!(err, "warning: {name}: no split units{passed}") {
         Ok(()) => Ok(()),
         Err(_) => Err(Failure::Line),
     }
@@ -103,7 +133,7 @@ pub(crate) struct Refused<'a> {
     pub(crate) input: Input<'a>,
     /// Where among the package's units the one stands that the input has too, if that is the error.
     pub(crate) before: Option<usize>,
-    pub(crate) error: &'a Error,
+    pub(crate) why: &'a NotTaken<Error, Growth>,
 }
 
 /// Prints why an input was refused, and what that is about.
@@ -113,34 +143,45 @@ pub(crate) fn tell_refused<I: Inputs, E: Write>(
     refused: Refused<'_>,
     err: &mut E,
 ) {
-    let growth = inputs.found_growth();
-    tell_error(alloc, refused.error, growth, err);
+    tell_error(alloc, refused.why, err);
     if let Ok(Some(place)) = place_in(alloc, refused.input, inputs.last_named()) {
-        let place = place.as_str();
-        match growth {
-            Some(growth) => note_reason(place, growth.note(), err),
-            None => note_place(alloc, inputs, refused.error, place, refused.before, err),
-        }
+        note_why(
+            alloc,
+            inputs,
+            refused.why,
+            place.as_str(),
+            refused.before,
+            err,
+        );
     }
 }
 
-/// Prints why an input or a member of one was refused: by its error, or since it would make the
-/// package larger than its files.
-pub(crate) fn tell_error<E: Write>(
-    alloc: Global,
-    error: &Error,
-    growth: Option<Growth>,
-    err: &mut E,
-) {
-    match growth {
-        Some(growth) => put_error(growth.error(), err),
-        None => print_error(alloc, error, err),
+/// Prints why an input or a member of one was refused: its error, or why it is declined.
+pub(crate) fn tell_error<E: Write>(alloc: Global, why: &NotTaken<Error, Growth>, err: &mut E) {
+    match why {
+        NotTaken::Failed(error) => print_error(alloc, error, err),
+        NotTaken::Declined(growth) => put_error(growth.error(), err),
     }
 }
 
 /// Prints the note on what was refused, an input, an object that it names or a member of it:
 /// `before` is where among the package's units the one stands that it has too.
-pub(crate) fn note_place<I: Inputs, E: Write>(
+pub(crate) fn note_why<I: Inputs, E: Write>(
+    alloc: Global,
+    inputs: &I,
+    why: &NotTaken<Error, Growth>,
+    place: &str,
+    before: Option<usize>,
+    err: &mut E,
+) {
+    match why {
+        NotTaken::Failed(error) => note_place(alloc, inputs, error, place, before, err),
+        NotTaken::Declined(growth) => note_reason(place, growth.note(), err),
+    }
+}
+
+/// The same of its error.
+fn note_place<I: Inputs, E: Write>(
     alloc: Global,
     inputs: &I,
     error: &Error,

@@ -1,3 +1,5 @@
+mod Folding
+mod Marking
 mod Prefixing
 mod Sizes
 mod Standing

@@ -7,16 +7,18 @@ use Rattle.dwp_decompress.specs.declared.error.DecompressError.{DecompressError}
 use Rattle.dwp_decompress.specs.Result.{decompressed_of}
 use Rattle.dwp_decompress.specs.declared.asked.Asked.TheVariants.{OfUnits}
 
--- what is taken for a file, by what its plain sections are: a file with these, unless none can be
--- written; else the file as it is, also where a compressed section can't be read
-abbrev pub IsPlain : (file taken : List ℕ)
+-- bytes with plain sections, by what these are. Bytes of which no section that is asked for is
+-- compressed stay as they are, and so do those of which one can't be read: who uses it refuses it
+abbrev pub IsPlain : (bytes plain : List ℕ)
     → Result (Option (Result Elf ReadError)) DecompressError → Type 0
-IsPlain file taken (Ok (Some plain)) = (elf_of taken ≡ plain) ⊎ (taken ≡ file)
-IsPlain file taken (Ok None) = taken ≡ file
-IsPlain file taken (Err e) = taken ≡ file
+IsPlain bytes plain (Ok (Some meaning)) = elf_of plain ≡ meaning
+IsPlain bytes plain (Ok None) = plain ≡ bytes
+IsPlain bytes plain (Err e) = plain ≡ bytes
 
+-- what a command that reads takes for a file: it has plain sections, or stays as it is, also where
+-- no file can have these
 unfoldable pub IsPlainOf : (file taken : List ℕ) → Type 0
-IsPlainOf file taken = IsPlain file taken (decompressed_of OfUnits file)
+IsPlainOf file taken = IsPlain file taken (decompressed_of OfUnits file) ⊎ (taken ≡ file)
 
 -- the plain bytes where there are any, else the content
 abbrev pub or_content : List ℕ → Option (Vec ℕ) → List ℕ

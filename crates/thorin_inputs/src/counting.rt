@@ -15,6 +15,25 @@ pub fn count_units(bytes: &[u8]) -> Option<usize> {
     Some(units)
 }
 
+/// Whether these bytes are an ELF file that has type units in a section of types, and no section of
+/// info: `DwarfPackage` takes such a file, and passes all of it over.
+pub fn has_types_alone(bytes: &[u8]) -> bool {
+    let Ok(file) = ElfFile::parse(bytes) else {
+        return false;
+    };
+    let mut has_types = false;
+    for section in file.sections() {
+        match section.section_kind() {
+            Some(SectionKind::Info) => return false,
+            Some(SectionKind::Types) => {
+                has_types = has_types || count_in_section(&section, file.endianness()) > 0;
+            }
+            _ => {}
+        }
+    }
+    has_types
+}
+
 /// How many units a section has: none where it isn't one of units, or can't be read.
 fn count_in_section(section: &Section<'_>, order: Endianness) -> usize {
     let kind = match section.section_kind() {

@@ -1,17 +1,37 @@
 //! Files with plain sections in place of compressed ones.
 
-ghost use Rattle.std.specs.Prelude.{OnOk};
+ghost use Rattle.std.specs.Prelude.{◌≡◌, false, true, OnOk};
+ghost use Rattle.dwp_decompress.specs.Sizes.{overlaps};
+ghost use Rattle.dwp_decompress.specs.declared.asked.Asked.TheVariants.{OfUnits};
+ghost use Rattle.dwp_elf_read.specs.Elf.{elf_of};
 ghost use Rattle.thorin_inputs.specs.Plain.{IsPlainOf};
 
-use crate::plain::plain_of;
+use crate::overlaps::has_compressed_overlap;
+use crate::plain::{PlainError, plain_of};
 use std::alloc::{AllocError, Global};
 
-/// Puts plain sections in place of a file's compressed ones, where that is done (`plain_of`).
+/// Puts plain sections in place of a file's compressed ones, where that is done (`plain_of`). It
+/// stays as it is where no file can have these, and where the compressed ones overlap, unless that
+/// is allowed.
+///
+/// # Errors
+/// Want of memory.
+#[tactic(auto, unfolding(crate::specs::Plain::IsPlainOf))]
 pub fn decompress(alloc: Global, file: &mut Vec<u8>, allows_overlap: bool) -> Result<(), AllocError>
-    ensures { OnOk result (IsPlainOf file.old.items file.new.items) }
+    ensures plain { OnOk result (IsPlainOf file.old.items file.new.items) }
+    ensures apart { allows_overlap ≡ false
+        → overlaps OfUnits file.old.items (elf_of file.old.items) ≡ true
+        → file.new.items ≡ file.old.items }
 {
-    if let Some(plain) = plain_of(alloc, file, allows_overlap)? {
-        *file = plain;
+    if !allows_overlap && has_compressed_overlap(file) {
+        return Ok(());
     }
-    Ok(())
+    match plain_of(alloc, file) {
+        Ok(Some(plain)) => {
+            *file = plain;
+            Ok(())
+        }
+        Ok(None) | Err(PlainError::TooLarge) => Ok(()),
+        Err(PlainError::Memory) => Err(AllocError),
+    }
 }

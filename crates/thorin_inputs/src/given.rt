@@ -3,23 +3,41 @@
 ghost use Rattle.std.specs.Prelude.{IsTrue, IfSome};
 ghost use Rattle.thorin_inputs.specs.Given.{StandsAt};
 
-/// The place of a path among others, where it is there: it is looked for at a place, at the one
-/// before, and then at all.
-pub fn place_among(paths: &[&str], next: usize, path: &str) -> Option<usize>
-    ensures { IfSome result (StandsAt paths.now path.now) }
-{
-    if is_at(paths, next, path) {
-        return Some(next);
+use std::alloc::{AllocError, Global};
+use std::collections::BTreeMap;
+
+/// Where paths stand in their lists, by their texts: of equal ones that of the last that was added.
+#[derive(Drop)]
+pub struct Places<'a>(BTreeMap<&'a str, usize>);
+
+impl<'a> Places<'a> {
+    /// Of no path yet.
+    pub fn new(alloc: Global) -> Places<'a> {
+        Places(BTreeMap::new(alloc))
     }
-    if is_at(paths, next.saturating_sub(1), path) {
-        return Some(next.saturating_sub(1));
+
+    /// Adds the paths of a list.
+    ///
+    /// # Errors
+    /// Want of memory.
+    pub fn add(&mut self, paths: &[&'a str]) -> Result<(), AllocError> {
+        for place in 0..paths.len() {
+            self.0.insert(paths[place], place)?;
+        }
+        Ok(())
     }
-    for place in 0..paths.len() {
+
+    /// The place of a path in a list that was added, where it is there and in no list behind it.
+    pub fn place_among(&self, paths: &[&str], path: &str) -> Option<usize>
+        ensures { IfSome result (StandsAt paths.now path.now) }
+    {
+        let place = *self.0.get(path)?;
         if is_at(paths, place, path) {
-            return Some(place);
+            Some(place)
+        } else {
+            None
         }
     }
-    None
 }
 
 /// Whether a path stands at a place among others.

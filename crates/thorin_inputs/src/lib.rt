@@ -14,20 +14,22 @@ mod notes;
 mod overlaps;
 mod plain;
 mod prefixes;
+mod types;
 mod used;
 
 pub use absent::AbsentUnits;
-pub use counting::count_units;
+pub use counting::{count_units, has_types_alone};
 pub use decompressing::decompress;
 pub use encodings::Encodings;
-pub use given::place_among;
+pub use given::Places;
 pub use growth::{Growth, Repetitions};
 pub use inner::has_inner_strings;
-pub use macros::{MacroWarnings, keep_macros};
+pub use macros::MacroWarnings;
 pub use notes::{
     MEMBER_NAME_READ, note_absent, note_alone, note_before, note_reason, note_refused,
     note_twice_in, place_of, place_of_member, reason,
 };
 pub use overlaps::{has_compressed_overlap, has_overlap};
-pub use plain::plain_of;
-pub use prefixes::mapped;
+pub use plain::{PlainError, plain_of};
+pub use prefixes::Prefixes;
+pub use types::type_names;

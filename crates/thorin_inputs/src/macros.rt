@@ -1,28 +1,10 @@
-//! Objects with several sections of macros: which of them count, and a warning where more than one
-//! does.
-
-ghost use Rattle.std.specs.Prelude.{OnOk};
-ghost use Rattle.thorin_inputs.specs.Macros.{IsKeptOf};
+//! Objects with several sections of macros: a warning where more than one of them counts.
 
 use crate::encodings::encoding_of;
 use crate::notes::place_of;
-use dwp_macros::{KeptMacros, MacrosError, loses_macros, with_macros};
+use dwp_macros::{KeptMacros, loses_macros};
 use std::alloc::{AllocError, Global};
 use std::cell::Cell;
-
-/// Leaves only the sections of a file's macros that are kept their bytes.
-///
-/// # Errors
-/// `Unrepresentable` where that can't be written, and `Memory`: the file stays as it is.
-#[tactic(auto, unfolding(crate::specs::Macros::IsKeptOf))]
-pub fn keep_macros(alloc: Global, kept: KeptMacros, file: &mut Vec<u8>) -> Result<(), MacrosError>
-    ensures { OnOk result (IsKeptOf kept file.old.items file.new.items) }
-{
-    if let Some(changed) = with_macros(alloc, file, kept)? {
-        *file = changed;
-    }
-    Ok(())
-}
 
 /// Warnings of objects with several sections of macros, one for each input.
 #[derive(Drop)]

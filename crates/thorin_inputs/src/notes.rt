@@ -38,7 +38,8 @@ pub fn place_of_member(alloc: Global, archive: &str, name: &[u8]) -> Result<Stri
     format!(in alloc; "{archive}({name}..)")
 }
 
-fn shown_text(alloc: Global, name: &[u8]) -> Result<String, AllocError> {
+/// A name out of a file, in a line that many units may have.
+pub(crate) fn shown_text(alloc: Global, name: &[u8]) -> Result<String, AllocError> {
     let name = String::from_utf8_lossy(alloc, name)?;
     shown_briefly(alloc, name.as_str())
 }

@@ -1,36 +1,36 @@
 //! Files with plain sections in place of compressed ones.
 
-ghost use Rattle.std.specs.Prelude.{◌≡◌, false, true, None, IfOk};
-ghost use Rattle.dwp_elf_read.specs.Elf.{elf_of};
-ghost use Rattle.dwp_decompress.specs.Sizes.{overlaps};
+ghost use Rattle.std.specs.Prelude.{◌≡◌, IfOk};
+ghost use Rattle.dwp_decompress.specs.Result.{decompressed_of};
 ghost use Rattle.dwp_decompress.specs.declared.asked.Asked.TheVariants.{OfUnits};
-ghost use Rattle.thorin_inputs.specs.Plain.{IsPlainOf, or_content};
+ghost use Rattle.thorin_inputs.specs.Plain.{IsPlain, or_content};
 
-use dwp_decompress::{Asked, DecompressError, decompressed, overlaps};
-use std::alloc::{AllocError, Global};
+use dwp_decompress::{Asked, DecompressError, decompressed};
+use std::alloc::Global;
+
+/// Why plain sections can't be put in place of compressed ones that can be read.
+#[derive(Clone, Copy)]
+pub enum PlainError {
+    /// No file has them, or it has too many bytes (`dwp_decompress::decompressed`).
+    TooLarge,
+    /// Memory ran out.
+    Memory,
+}
 
 /// A file with plain sections in place of its compressed ones that readers of units ask for; none
-/// where it stays as it is, also where one of them can't be read, or where they overlap, unless that
-/// is allowed: who uses such a section refuses it.
+/// where it stays as it is: no such section is compressed, or one of them can't be read, and who
+/// uses that refuses it.
 ///
 /// # Errors
-/// Want of memory.
-#[tactic(auto, unfolding(crate::specs::Plain::IsPlainOf))]
-pub fn plain_of(
-    alloc: Global,
-    file: &[u8],
-    allows_overlap: bool,
-) -> Result<Option<Vec<u8>>, AllocError>
-    ensures plain { IfOk result (λ taken. IsPlainOf file.now (or_content file.now taken)) }
-    ensures apart { allows_overlap ≡ false → overlaps OfUnits file.now (elf_of file.now) ≡ true
-        → IfOk result (λ taken. taken ≡ None) }
+/// `TooLarge` or `Memory`.
+pub fn plain_of(alloc: Global, file: &[u8]) -> Result<Option<Vec<u8>>, PlainError>
+    ensures { IfOk result (λ taken. IsPlain file.now (or_content file.now taken)
+        (decompressed_of OfUnits file.now)) }
 {
-    if !allows_overlap && overlaps(file, Asked::OfUnits) {
-        return Ok(None);
-    }
     match decompressed(alloc, file, Asked::OfUnits) {
         Ok(plain) => Ok(plain),
-        Err(DecompressError::Memory) => Err(AllocError),
+        Err(DecompressError::Memory) => Err(PlainError::Memory),
+        Err(DecompressError::Unrepresentable) => Err(PlainError::TooLarge),
         Err(_) => Ok(None),
     }
 }

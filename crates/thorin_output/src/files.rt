@@ -6,7 +6,7 @@ ghost use Rattle.std.specs.declared.io.Error.{Error as IoError};
 ghost use Rattle.dwp_elf.specs.FileText.{file_text};
 ghost use Rattle.thorin_sessions.specs.Sessions.{IsNoWantOfMemory};
 ghost use Rattle.thorin_output.specs.Files.{Begun, Adds, IsOfWriting};
-ghost use Rattle.thorin_output.specs.Reads.{anything, IsReadOver};
+ghost use Rattle.thorin_output.specs.Reads.{Identity, any_identity, anything, IsReadOver};
 
 use dwp_elf::{WritableObject, WriteError as ObjectError};
 use std::io::{self, Write};
@@ -19,6 +19,9 @@ use thorin_print::Failure;
 pub trait FileSystem {
     // What a read of the file at a path may answer.
     ghost offer: { Self → List ℕ → Result (List ℕ) IoError → Type 0 };
+
+    // By what the file at a path may be known.
+    ghost known: { Self → List ℕ → Identity → Type 0 };
 
     // The files that were begun, in order, where that is known: the name of each, with all its
     // bytes where it was written to its end.
@@ -50,7 +53,13 @@ pub trait FileSystem {
 
     /// The device and the number of the file at a path, by which two names of one file are known.
     /// None where there is no file.
-    fn identity(&self, name: &str) -> Option<(u64, u64)>;
+    fn identity(&self, name: &str) -> Option<(u64, u64)>
+        ensures { known self.now name.now result };
+
+    /// The same of the file that `read_regular_over` reads for a path.
+    fn object_identity(&self, name: &str) -> Option<(u64, u64)> {
+        self.identity(name)
+    }
 
     /// Whether there is a regular file at a path.
     fn is_regular(&self, name: &str) -> bool;
@@ -88,6 +97,8 @@ impl<'a> HostFiles<'a> {
 
 impl FileSystem for HostFiles<'_> {
     ghost offer = { λ _. anything };
+
+    ghost known = { λ _. any_identity };
 
     fn read_over(&self, path: Path<'_>, room: &mut Vec<u8>) -> Result<(), InputError> {
         thorin_files::read_over(self.rt, path, room)?;

@@ -1,13 +1,11 @@
 -- What was printed, or begun.
-use Rattle.std.proofs.Common.{◌≡◌, ◌∙◌, ℕ, List, [], length, take, drop, Option, Result, Ok, Err}
-use Rattle.std.proofs.Common.{arith, take_all, ◌++◌, append-nil, Some, None, append_assoc, sym}
-use Rattle.std.proofs.Common.{refl, take-append-drop}
+use Rattle.std.proofs.Common.{◌≡◌, ℕ, List, [], length, take, Option, Result, Ok, Err, arith}
+use Rattle.std.proofs.Common.{take_all, ◌++◌, append-nil, Some, None, append_assoc, sym}
 use Rattle.std.specs.Io.KnownBytes.{Appends, Keeps}
 pub use Rattle.std.proofs.KnownBytes.{Appends-kept as flushed}
 use Rattle.std.proofs.KnownBytes.{Appends-kept, Appends-nil, Appends-trans}
 use Rattle.std.proofs.Math.Seq.{take-append_seam}
-use Rattle.thorin_print.specs.Answers.{HasBeginning, Comes, Grows, PrintsFront, Answer}
-use Rattle.thorin_print.specs.Answers.{IsOfPrinting}
+use Rattle.thorin_print.specs.Answers.{HasBeginning, Comes, Grows}
 use Rattle.thorin_print.specs.declared.output.Failure.{Failure}
 use Rattle.thorin_print.specs.declared.output.Failure.TheVariants as failures
 
@@ -89,55 +87,3 @@ appended a b text h = (text, h)
 pub not_flushed : (a b c : Option (List ℕ)) (text : List ℕ) → Appends a b text → Keeps b c
     → Grows a c
 not_flushed a b c text h k = (text, Appends-kept a b c text h k)
-
--- ---- a text that waits
-
-pub none_waits : (a : Option (List ℕ)) (text : List ℕ) → PrintsFront a a text text
-none_waits a text = record { front = []; split = refl; printed = Appends-nil a }
-
-pub all_waits : (old new : Option (List ℕ)) (text rest : List ℕ) → rest ≡ []
-    → Appends old new text → PrintsFront old new text rest
-all_waits old new text rest none h =
-    record { front = text; split = rw none (sym (append-nil text)); printed = h }
-
--- ---- what was printed before, and what came of the rest
-
--- why printing failed
-pub begun_comes : (failure : Failure) (meant : Answer) (old new : Option (List ℕ))
-    → IsOfPrinting failure → HasBeginning old new meant.printed → Comes (Err failure) meant old new
-begun_comes failures.Line meant old new cause h = h
-begun_comes failures.Memory meant old new cause h = h
-begun_comes _ meant old new cause h = absurd cause
-
--- a beginning of a text, and then one of what is left of it
-pub begun_behind : (old middle new : Option (List ℕ)) (all front rest : List ℕ)
-    → all ≡ front ++ rest → Appends old middle front → HasBeginning middle new rest
-    → HasBeginning old new all
-unfolding HasBeginning
-begun_behind old middle new all front rest split printed h =
-    let more = Appends-trans old middle new front (take h.0 rest) printed h.1 in
-    let whole : all ≡ (front ++ take h.0 rest) ++ drop h.0 rest =
-    split ∙ rw (append_assoc, take-append-drop) refl in
-    (length (front ++ take h.0 rest), rw (whole, take-append_seam) more)
-
--- a beginning of a text is one of a longer one
-pub longer : (old new : Option (List ℕ)) (text more : List ℕ) → HasBeginning old new text
-    → HasBeginning old new (text ++ more)
-unfolding HasBeginning
-longer old new text more h =
-    let whole : text ++ more ≡ take h.0 text ++ (drop h.0 text ++ more) =
-    rw (← append_assoc, take-append-drop) refl in
-    (length (take h.0 text), rw (whole, take-append_seam) h.1)
-
-pub comes_behind : (result given : Result ℕ Failure) (front rest : List ℕ)
-    (old middle new : Option (List ℕ)) → Appends old middle front
-    → Comes result (record { printed = rest; answer = given }) middle new
-    → Comes result (record { printed = front ++ rest; answer = given }) old new
-comes_behind (Ok status) given front rest old middle new printed h =
-    (h.0, Appends-trans old middle new front rest printed h.1)
-comes_behind (Err failures.Line) given front rest old middle new printed h =
-    begun_behind old middle new (front ++ rest) front rest refl printed h
-comes_behind (Err failures.Memory) given front rest old middle new printed h =
-    begun_behind old middle new (front ++ rest) front rest refl printed h
-comes_behind (Err _) given front rest old middle new printed h =
-    (h.0, Appends-trans old middle new front rest printed h.1)

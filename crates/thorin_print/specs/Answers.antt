@@ -43,12 +43,6 @@ Outcome = Result (Unit {0}) Failure
 abbrev pub Grows : Option (List ℕ) → Option (List ℕ) → Type 0
 Grows old new = (text : List ℕ) × Appends old new text
 
--- where a writer's bytes are known, the front of a text was added, and a rest is left
-pub record PrintsFront (old new : Option (List ℕ)) (all rest : List ℕ) : Type 0 where
-  pub front : List ℕ
-  pub split : all ≡ front ++ rest
-  pub printed : Appends old new front
-
 -- a line can't be written, or memory ran out
 abbrev pub IsOfPrinting : Failure → Type 0
 IsOfPrinting failures.Line = Unit {0}

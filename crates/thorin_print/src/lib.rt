@@ -9,7 +9,7 @@ mod spelled;
 mod telling;
 
 pub use form::Form;
-pub use output::{Failure, answer, answer_bytes, buffer, flush, print, print_much, report, show};
+pub use output::{Failure, answer, answer_bytes, buffer, flush, print, report, show};
 pub use showing::{shown, shown_briefly};
 pub use spelled::{put_spelled, put_spelled_or};
 pub use telling::tell_taken;

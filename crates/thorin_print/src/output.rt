@@ -1,18 +1,14 @@
 //! What the program prints of failures, and how it prints a text.
 
 ghost use Rattle.std.specs.Prelude.{◌≡◌, ◌⊎◌, ◌≤◌, length, take, IfOk, IfErr, OnOk, OnErr};
-ghost use Rattle.std.specs.Prelude.{string_bytes};
 ghost use Rattle.std.specs.Io.KnownBytes.{Appends, Keeps};
 ghost use Rattle.thorin_print.specs.Answers.{HasBeginning, Comes, exit_status};
-ghost use Rattle.thorin_print.specs.Answers.{IsOfPrinting, Prints, PrintsFront};
+ghost use Rattle.thorin_print.specs.Answers.{IsOfPrinting, Prints};
 
 use dwp_base::SectionKind;
 use std::alloc::{AllocError, AllocFailed, Global};
 use std::fmt;
 use std::io::{self, BufWriter, Write};
-
-/// How many bytes of a text wait at most before they are printed.
-const MUCH: usize = 8192;
 
 /// Why a command was refused.
 #[derive(Clone, Copy)]
@@ -202,30 +198,6 @@ pub fn print<O: Write>(text: &str, out: &mut O) -> Result<(), Failure>
     let bytes = text.as_bytes();
     match put(bytes, out) {
         Ok(()) => Ok(()),
-        Err(_) => Err(Failure::Line),
-    }
-}
-
-/// Prints what waits in a text, where it is much: then nothing waits.
-///
-/// # Errors
-/// `Line` where the writer doesn't take all.
-#[tactic(auto, using(crate::proofs::Printed::all_waits, crate::proofs::Printed::none_waits))]
-pub fn print_much<O: Write>(waiting: &mut String, out: &mut O) -> Result<(), Failure>
-    ensures whole { OnOk result (PrintsFront (O.contents out.old) (O.contents out.new)
-        (string_bytes waiting.old) (string_bytes waiting.new)) }
-    ensures part { OnErr result (HasBeginning (O.contents out.old) (O.contents out.new)
-        (string_bytes waiting.old)) }
-    ensures cause { IfErr result IsOfPrinting }
-{
-    if waiting.len() < MUCH {
-        return Ok(());
-    }
-    match put(waiting.as_bytes(), out) {
-        Ok(()) => {
-            waiting.clear();
-            Ok(())
-        }
         Err(_) => Err(Failure::Line),
     }
 }

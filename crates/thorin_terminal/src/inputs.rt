@@ -1,7 +1,7 @@
 //! The files of the system that `pack` reads: what is known of the last that was named, and objects
 //! that are sought in the working folder.
 
-ghost use Rattle.thorin_output.specs.Reads.{anything};
+ghost use Rattle.thorin_output.specs.Reads.{any_identity, anything};
 
 use dwp_elf::{ElfFile, WritableObject};
 use std::alloc::Global;
@@ -19,6 +19,9 @@ const EM_386: u16 = 3;
 const EM_X86_64: u16 = 62;
 
 const EM_AARCH64: u16 = 183;
+
+/// At how many ends of a path an object is sought: each is a call of the system.
+const MOST_ENDS: usize = 64;
 
 /// What a file is that packing may refuse for it.
 #[derive(Clone, Copy)]
@@ -75,10 +78,10 @@ impl<'r> HostInputs<'r> {
         place
     }
 
-    /// The longest end of a path, behind a slash, at which there is a regular file.
+    /// The longest end of a path, behind one of its first slashes, at which there is a regular file.
     fn end_of<'p>(&self, path: &'p str) -> Option<&'p str> {
         let mut rest = path;
-        for _ in 0..path.len() {
+        for _ in 0..MOST_ENDS {
             let (_front, end) = rest.split_once('/')?;
             if thorin_files::is_file(self.rt, end) {
                 return Some(end);
@@ -130,6 +133,8 @@ fn is_relocatable(bytes: &[u8]) -> bool {
 impl FileSystem for HostInputs<'_> {
     ghost offer = { λ _. anything };
 
+    ghost known = { λ _. any_identity };
+
     fn read_over(&self, path: Path<'_>, room: &mut Vec<u8>) -> Result<(), InputError> {
         self.named.set(None);
         self.files.read_over(path, room)?;
@@ -162,6 +167,13 @@ impl FileSystem for HostInputs<'_> {
 
     fn identity(&self, name: &str) -> Option<(u64, u64)> {
         self.files.identity(name)
+    }
+
+    fn object_identity(&self, name: &str) -> Option<(u64, u64)> {
+        match self.files.identity(name) {
+            None if self.seeks => self.files.identity(self.end_of(name)?),
+            identity => identity,
+        }
     }
 
     fn is_regular(&self, name: &str) -> bool {

@@ -1,6 +1,6 @@
 //! How far packing is, in a line on a terminal that is gone again before anything else is printed.
 
-ghost use Rattle.thorin_output.specs.Reads.{anything};
+ghost use Rattle.thorin_output.specs.Reads.{any_identity, anything};
 
 use crate::inputs::{HostInputs, NamedFile};
 use dwp_elf::WritableObject;
@@ -172,6 +172,8 @@ impl<'c, 'r, 'e, E: Write> CountedFiles<'c, 'r, 'e, E> {
 impl<E: Write> FileSystem for CountedFiles<'_, '_, '_, E> {
     ghost offer = { λ _. anything };
 
+    ghost known = { λ _. any_identity };
+
     fn read_over(&self, path: Path<'_>, room: &mut Vec<u8>) -> Result<(), InputError> {
         self.files.read_over(path, room)?;
         self.console.count(room.len());
@@ -193,6 +195,10 @@ impl<E: Write> FileSystem for CountedFiles<'_, '_, '_, E> {
 
     fn identity(&self, name: &str) -> Option<(u64, u64)> {
         self.files.identity(name)
+    }
+
+    fn object_identity(&self, name: &str) -> Option<(u64, u64)> {
+        self.files.object_identity(name)
     }
 
     fn is_regular(&self, name: &str) -> bool {

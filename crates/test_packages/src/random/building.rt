@@ -1,12 +1,12 @@
 //! Damaged inputs for the builder: objects and packages.
 
 use crate::builders::{Built, build_bytes};
-use crate::packing::{accepted, grouped, packed};
+use crate::packing::{accepted, grouped, packed, tell_outcomes};
 use crate::random::reading::read_packaged;
 use crate::tally::{self, Tally};
 use std::alloc::Global;
 use test_rows::{Generator, Said};
-use thorin::{DwarfObject, Error, PackageFile};
+use thorin::{DwarfObject, Error, PackageFile, Packed};
 
 /// Gives a few samples, some of them damaged, to the builder, to `pack` and to `pack_groups`, and
 /// holds what they answer against one another.
@@ -25,8 +25,14 @@ pub fn build(alloc: Global, generator: &mut Generator, samples: &[&[u8]], tally:
 
 fn compare(alloc: Global, inputs: &[&[u8]], tally: &mut Tally) {
     let built = build_each(alloc, inputs, tally);
-    pack_all(alloc, inputs, &built, tally);
-    pack_all(alloc, &built.accepted, &built, tally);
+    let whole = packed(alloc, inputs);
+    let mut answers = Said::new(alloc);
+    tell_outcomes(&[], &whole, &mut answers);
+    tally.expect(answers.as_str() == built.answers.as_str());
+    hold_packed(alloc, &whole, &built, tally);
+    let again = packed(alloc, &built.accepted);
+    tally.expect(accepted(&again) == again.outcomes.len());
+    hold_packed(alloc, &again, &built, tally);
     if let Ok(file) = &built.file {
         read_back(file, &built.end.units, tally);
         if built.end.again {
@@ -40,24 +46,27 @@ fn build_each<'i>(alloc: Global, inputs: &[&'i [u8]], tally: &mut Tally) -> Buil
     build_bytes(alloc, (&[], inputs), tally, &mut Said::new(alloc))
 }
 
-/// Packs inputs at once: as many are accepted as the builder accepts, and the file is that of the
-/// builder.
-fn pack_all(alloc: Global, inputs: &[&[u8]], built: &Built<'_>, tally: &mut Tally) {
-    let packed = packed(alloc, inputs);
-    let accepted = accepted(&packed);
+/// What was packed at once: as many inputs are accepted as the builder accepts, and the file is
+/// that of the builder.
+fn hold_packed(alloc: Global, packed: &Packed, built: &Built<'_>, tally: &mut Tally) {
+    let accepted = accepted(packed);
     for i in 0..packed.outcomes.len() {
         tally.note(tally::PACKED, i < accepted);
     }
-    tally.expect(packed.outcomes.len() == inputs.len());
     tally.expect(accepted == built.accepted.len());
-    tally.expect(is_file(&packed.file, &built.file));
+    tally.expect(is_file(alloc, &packed.file, &built.file));
 }
 
-/// Whether the packed file is this one, or there is none.
-fn is_file(packed: &Result<Vec<u8>, Error>, file: &Result<Vec<u8>, Error>) -> bool {
+/// Whether the packed file is this one, or there is none for the same error.
+fn is_file(alloc: Global, packed: &Result<Vec<u8>, Error>, file: &Result<Vec<u8>, Error>) -> bool {
     match (packed, file) {
         (Ok(packed), Ok(file)) => packed.as_slice() == file.as_slice(),
-        (Err(_), Err(_)) => true,
+        (Err(packed), Err(error)) => {
+            let (mut one, mut other) = (Said::new(alloc), Said::new(alloc));
+            one.debug(packed);
+            other.debug(error);
+            one.as_str() == other.as_str()
+        }
         _ => false,
     }
 }

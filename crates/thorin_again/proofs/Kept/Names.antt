@@ -267,10 +267,10 @@ module _ (source : Source) (encoding : Encoding) where
 -- ---- where units of that name go
 
 -- a section of this place is in the format
-abbrev InFormat : Source → UnitSection → Header → Type 0
+abbrev pub InFormat : Source → UnitSection → Header → Type 0
 InFormat source place unit = is_in_format source.encoding (kind_of place) ≡ true
 
-each-format : (source : Source) (sections : List Used) (before after : Parts)
+pub each-format : (source : Source) (sections : List Used) (before after : Parts)
     → with_each_part source before sections ≡ Ok after
     → Each (AllSo source (InFormat source)) sections
 unfolding with_each_part with_part

@@ -13,7 +13,9 @@ use Terms.{range-front, range_bytes, range_with_len, recursion_from_All, refl, r
 use Terms.{slice_get_cases, slice_get_read, slice_get_within, Some, string_at, string_in}
 use Terms.{StrOffsets, subst, sym, Tile, true, UnlessStringOffset, zero, ℕ, ⊎_elim, ◌*◌, ◌<◌, ◌>>=◌}
 use Terms.{◌∙◌, ◌∷◌, ◌≡◌}
-use Rattle.std.proofs.Common.{drop, length-append, slice_get, slice_range, suc, ◌++◌, ◌+◌, ◌≤◌, ◌⊎◌}
+use Rattle.std.proofs.Common.{drop, length-append, slice_get, slice_range, suc, ◌++◌, ◌+◌, ◌^◌, ◌≤◌}
+use Rattle.std.proofs.Common.{◌⊎◌}
+use Rattle.dwp_bytes.specs.declared.encoding.Format.{Format}
 use Rattle.std.specs.BTreeSet.{insert_key}
 use Rattle.std.proofs.lemmas.List.FromFn.{get_or-map-range_with_len, length-map-range_with_len}
 use Rattle.std.proofs.lemmas.List.Sorted.{IsPermutation-filter_both, list_any-IsPermutation}
@@ -24,8 +26,8 @@ use Rattle.thorin_package_input.proofs.FirstRow.{range_is, range_of_found}
 use Rattle.thorin_package_input.proofs.RowRanges.{compilation_there, type_there}
 use Rattle.std.proofs.lemmas.Nat.{row_fits}
 use Rattle.dwp_base.specs.Numbers.{number}
-use Rattle.thorin_strings.specs.StringOffsets.{entry_bytes, fitting_offset, offset_at, remapped}
-use Rattle.thorin_strings.specs.StringOffsets.{remapped_entries, remapped_entry}
+use Rattle.thorin_strings.specs.StringOffsets.{entry_bytes, fitting_offset, offset_at, offset_limit}
+use Rattle.thorin_strings.specs.StringOffsets.{remapped, remapped_entries, remapped_entry}
 
 -- ---- the rows of compilation units and those of type units
 
@@ -209,13 +211,16 @@ module _ (order : Endianness) (encoding : Encoding) where
     AreNamed n = (k : ℕ) → k < n → (string : List ℕ)
         × (named_at order encoding section bytes k ≡ Ok string)
 
+    past-limit : (format : Format) (offset : ℕ) → offset_limit format < offset → 2 ^ 32 ≤ offset
+    past-limit format offset h = grind arith
+
     entries-rewritten : (n : ℕ) (strings : List (List ℕ)) → AreNamed n
         → UnlessStringOffset (remapped_entries order encoding section bytes n strings)
     unfolding remapped_entries remapped_entry fitting_offset
     entries-rewritten zero strings named = tt
     entries-rewritten (suc n) strings named =
         let rest = entries-rewritten n strings (λ k less. named k (omega (arith, less))) in
-        grind (arith, rest, named n (omega arith))
+        grind (arith, nat_tests, rest, named n (omega arith), past-limit encoding.format)
 
     -- entries of all the bytes that a reader of packages reads
     pub are-named : (size : ℕ) → size ≡ length bytes → (whole : IsWholeRange order encoding size)

@@ -10,5 +10,5 @@ returns-clause-alone c inputs bytes is packs =
 
 pub returns-clause-left : goal.returns-clause-left
 returns-clause-left c order = groups-left c.inputs_are_joined.ensures.sound
-    c.packages_that_pack_again_are_accepted.ensures.accepted c.the_first_byte_order_stays.ensures
-    order
+    c.packages_that_pack_again_are_accepted.ensures.accepted
+    c.taken_inputs_are_finished.ensures c.the_first_byte_order_stays.ensures order

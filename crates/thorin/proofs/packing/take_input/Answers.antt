@@ -8,7 +8,7 @@ returns-in-Object-clause-taken g c =
 pub returns-in-Bytes-clause-taken : goal.returns-in-Bytes-clause-taken
 returns-in-Bytes-clause-taken g c =
     let e = c.add_object_bytes.ensures in
-    rw c.in-Bytes.is (record {
+    rw (c.in-Bytes.is, c.tried.ensures.outcome) (record {
       accepted = accepted_of c.add_object_bytes.result c.in-Bytes.bytes.now;
       takes = (record { meaning = e.meaning; joins = e.joins; unchanged = e.err }, refl);
     })

@@ -10,12 +10,12 @@ loop-input-preserved g c =
     let none : Input = Object (record { text = record { ref_ptr = (0, 0); now = [] } }) in
     let input = get_or c.args.inputs.now c.loop-input.input-index none in
     let more = take_more c.args.inputs.now c.loop-input.input-index none c.loop-input-test.true in
-    let took = c.take_input-outcome.ensures.taken in
-    let pushed : c.push.new.self.items ≡ c.loop-input.outcomes.items ++ c.take_input-outcome.result
+    let took = rw (← c.undeclined-outcome.ensures) at c.take_input.ensures.taken in
+    let pushed : c.push.new.self.items ≡ c.loop-input.outcomes.items ++ c.undeclined-outcome.result
     ∷ [] = search (rules, c.in_ok-push.ensures.items) in
     let ran = ran-next offer (take c.loop-input.input-index c.args.inputs.now) input
-    c.args.builder.now.state c.loop-input.builder.state c.take_input-outcome.new.builder.state
-    c.loop-input.outcomes.items c.take_input-outcome.result c.loop-input.invariant.0
+    c.args.builder.now.state c.loop-input.builder.state c.take_input.new.builder.state
+    c.loop-input.outcomes.items c.undeclined-outcome.result c.loop-input.invariant.0
     took.accepted c.loop-input.invariant.1 took.takes in
     (c.loop-input.invariant.0 ++ took.accepted, rw (more, pushed) ran)
 

@@ -1,11 +1,19 @@
-use Rattle.std.proofs.Common.{Ok}
-use Rattle.thorin_check.proofs.Faulted.{text_told, text_stopped}
-use Rattle.thorin_check.proofs.Told.{told_next}
+use Rattle.thorin_check.proofs.Distinct.{text_made, text_seen, seen_next}
+use Rattle.thorin_check.proofs.Faulted.{text_stopped}
 use Rattle.thorin_check.proofs.units.check_each.Goals as goal
 
 pub loop-i-preserved : goal.loop-i-preserved
-loop-i-preserved g c = told_next _ _ c.loop-i.i _ c.loop-i-test.true c.loop-i.invariant
-    (text_told _ _ _ _ _ (Ok tt) c.text_of-text.ensures c.in-Ok.ensures)
+loop-i-preserved g c =
+    let text = c.text_of-text.ensures in
+    let on = text_made _ _ _ _ text.on c.in-Ok.ensures in
+    record {
+      told = seen_next _ _ _ on.kept _ c.loop-i.i _ c.loop-i-test.true c.loop-i.invariant.told
+          (text_seen _ _ _ _ _ _ text.text text.gathered c.in-Ok.ensures);
+      seen = on.seen;
+    }
 
 pub returns-in-Err : goal.returns-in-Err
-returns-in-Err g c = text_stopped _ _ _ _ c.loop-i.invariant c.in-Err.ensures
+returns-in-Err g c = record {
+  told = text_stopped _ _ _ _ c.loop-i.invariant.told c.in-Err.ensures;
+  seen = tt;
+}

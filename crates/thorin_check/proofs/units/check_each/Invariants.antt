@@ -1,10 +1,14 @@
 use Rattle.std.proofs.Common.{take}
-use Rattle.thorin_check.specs.Faults.{TellsUnit}
+use Rattle.thorin_check.specs.Seen.{IsSeen, TellsSeen}
 use Rattle.thorin_check.specs.Telling.{progress, Told, ForEach}
 use Rattle.thorin_check.proofs.units.check_each.Given as goal
 
 -- the faults of the entries so far
 abbrev pub invariant-loop-i : goal.invariant-loop-i
-invariant-loop-i g l = Told (ForEach (TellsUnit l.units.pack.now) (take l.i l.entries))
-    (progress (g.O.Write.contents l.initial.out) l.initial.faults)
-    (progress (g.O.Write.contents l.out) l.faults)
+invariant-loop-i g l = record {
+  told : Told
+      (ForEach (TellsSeen l.units.pack.now l.seen.strings.unread.items) (take l.i l.entries))
+      (progress (g.O.Write.contents l.initial.out) l.initial.faults)
+      (progress (g.O.Write.contents l.out) l.faults);
+  seen : IsSeen l.units.pack.now l.seen;
+}

@@ -6,5 +6,5 @@ use Rattle.thorin_commands.proofs.archives.take_each.Given as goal
 
 -- the members so far were taken
 abbrev pub invariant-loop-member : goal.invariant-loop-member
-invariant-loop-member g l = TookEach (g.I.Inputs.plain l.inputs) (g.I.InputReader.offer l.inputs)
+invariant-loop-member g l = TookEach (g.I.Inputs.manner l.inputs) (g.I.InputReader.offer l.inputs)
     (split_contents (map member (take l.member-index l.members))) l.fn.builder.state l.builder.state

@@ -34,7 +34,7 @@ returns-in-Ok g c =
     made_by (λ o. (finish_test done ≡ Ok tt) × IsFinishedState done o) (λ o.
     IsPackageOf (units_in done) (file_text o))
     (IsPackedFrom partial (g.I.Inputs.opens c.args.inputs.now)
-    (g.I.Inputs.plain c.args.inputs.now) (g.I.InputReader.offer c.args.inputs.now)
+    (g.I.Inputs.manner c.args.inputs.now) (g.I.InputReader.offer c.args.inputs.now)
     c.args.list.now) c.finished.result
     (λ object finished packaged. record {
       taken = took.list;

@@ -1,23 +1,36 @@
 use Rattle.thorin_builder.proofs.Terms.{[], Err, err_from_is_err_and, Ok, refl}
 use Rattle.std.specs.Path.{path_bytes}
-use Rattle.thorin_builder.proofs.Running.{may-read}
+use Rattle.thorin_builder.proofs.Running.{declined-some, may-read, unread-declined, unread-error}
+use Rattle.thorin_builder.specs.Reading.{input_error_in, unread}
 use Rattle.thorin_builder.proofs.package.DwarfPackage.add_executable_as.Goals as goal
 
 pub returns-in_err-bytes-clause-taken : goal.returns-in_err-bytes-clause-taken
 returns-in_err-bytes-clause-taken g c =
+    let path = path_bytes c.args.path in
+    let why = c.in_err-bytes.field-0.0 in
     let p = err_from_is_err_and c.from_residual.result c.from_residual.ensures.1 in
-    rw (p.1, p.2) (record {
-      read = Err c.in_err-bytes.field-0.0;
-      within = may-read (g.R.InputReader.offer c.args.reader.now (path_bytes c.args.path))
-          c.in_err-bytes.field-0.0 c.in_err-bytes.ensures.offered;
+    rw (p.1, p.2, unread-error why) (record {
+      read = Err (input_error_in why);
+      within = may-read (g.R.InputReader.offer c.args.reader.now path)
+          (g.R.InputReader.declines c.args.reader.now path) why c.in_err-bytes.ensures.read;
       accepted = [];
       taken = (refl, (refl, refl));
     })
 
+pub returns-in_err-bytes-clause-declined : goal.returns-in_err-bytes-clause-declined
+returns-in_err-bytes-clause-declined g c =
+    let path = path_bytes c.args.path in
+    let why = c.in_err-bytes.field-0.0 in
+    let declines = g.R.InputReader.declines c.args.reader.now in
+    let p = err_from_is_err_and c.from_residual.result c.from_residual.ensures.1 in
+    rw (p.1, p.2) (declined-some (Err (unread why)) declines path
+    (unread-declined (g.R.InputReader.offer c.args.reader.now path) (declines path) why
+    c.in_err-bytes.ensures.read))
+
 pub returns-clause-taken : goal.returns-clause-taken
 returns-clause-taken g c = record {
   read = Ok c.in_ok-bytes.bytes.now;
-  within = c.in_ok-bytes.ensures.offered;
+  within = c.in_ok-bytes.ensures.read;
   accepted = c.add_named.ensures.taken.0;
   taken = c.add_named.ensures.taken.1;
 }

@@ -1,8 +1,9 @@
 use Rattle.thorin_builder.proofs.Terms
-use Terms.{[], accepted_of, came, Err, inl, inr, Io, IsTaken, List, Memory, Ok, on_ok_weaker}
-use Terms.{Outcome}
+use Terms.{[], accepted_of, AreTaken, came, Err, err_from_is_err_and, inl, inr, Io, IsTaken, List}
+use Terms.{Memory, Ok, on_ok_weaker, Outcome}
 use Terms.{refl, rules, State, TakesReferredFile, TakesSkeleton, ℕ}
 use Rattle.thorin_builder.proofs.AddedAgain.{are-taken-later, target-kept, taken-found}
+use Rattle.thorin_builder.proofs.Running.{on-ok-taken}
 use Rattle.thorin_builder.proofs.package.DwarfPackage.add_skeleton.Given.{Over}
 use Rattle.thorin_builder.proofs.package.DwarfPackage.add_skeleton.Goals.{In_ok-add_target, In-Some}
 use Rattle.thorin_builder.proofs.package.DwarfPackage.add_skeleton.Goals as goal
@@ -10,7 +11,8 @@ use Rattle.thorin_builder.proofs.package.DwarfPackage.add_skeleton.Goals as goal
 pub returns-in_err-add_target-clause-taken : goal.returns-in_err-add_target-clause-taken
 returns-in_err-add_target-clause-taken g c =
     let refused = c.in_err-add_target.ensures.refused in
-    ([], inr (inr (search (rules, c.from_residual.ensures, refused), (refused.1, refl))))
+    let p = err_from_is_err_and c.from_residual.result c.from_residual.ensures.1 in
+    ([], inr (inr (rw (p.1, p.2, refused.0) refl, (refused.1, refl))))
 
 -- what comes of the object, once the unit is among the targets
 took : (g : Over) (c : goal.In_ok-add_target g) (outcome : Outcome) (new : State)
@@ -54,29 +56,37 @@ add_again-requires g c =
     let found = found g (goal.at.add_again-requires g c).In-Some in
     record { known = (found.bytes, found.adds) }
 
-pub returns-then-not-admits-clause-taken : goal.returns-then-not-admits-clause-taken
-returns-then-not-admits-clause-taken g c =
-    took g (goal.at.returns-then-not-admits-clause-taken g c).In_ok-add_target _ _
+pub returns-in-Err-clause-taken : goal.returns-in-Err-clause-taken
+returns-in-Err-clause-taken g c =
+    took g (goal.at.returns-in-Err-clause-taken g c).In_ok-add_target _ _
     (record { read = Err Memory; within = tt; accepted = []; taken = (refl, (refl, refl)) })
 
-pub returns-else-not-admits-clause-taken : goal.returns-else-not-admits-clause-taken
-returns-else-not-admits-clause-taken g c =
-    let found = found g (goal.at.returns-else-not-admits-clause-taken g c).In-Some in
-    took g (goal.at.returns-else-not-admits-clause-taken g c).In_ok-add_target _ _ (record {
+pub returns-in-Ok-clause-taken : goal.returns-in-Ok-clause-taken
+returns-in-Ok-clause-taken g c =
+    let found = found g (goal.at.returns-in-Ok-clause-taken g c).In-Some in
+    rw c.tried.ensures.outcome
+    (took g (goal.at.returns-in-Ok-clause-taken g c).In_ok-add_target _ _ (record {
       read = Ok found.bytes;
       within = found.may;
       accepted = accepted_of c.add_again.result found.bytes;
       taken = (c.add_again.ensures.takes found.bytes found.adds, refl);
-    })
+    }))
 
-pub returns-else-not-admits-clause-known : goal.returns-else-not-admits-clause-known
-returns-else-not-admits-clause-known g c =
-    on_ok_weaker c.add_again.result (λ later. are-taken-later
-    (g.R.InputReader.offer c.args.reader.now) c.args.known.now.taken.entries
+pub returns-in-Ok-clause-known : goal.returns-in-Ok-clause-known
+returns-in-Ok-clause-known g c =
+    let offer = g.R.InputReader.offer c.args.reader.now in
+    let entries = c.args.known.now.taken.entries in
+    on-ok-taken c.tried.result c.add_again.result c.tried.ensures.outcome
+    (AreTaken offer entries c.add_again.new.self.state.begun)
+    (on_ok_weaker c.add_again.result (λ later. are-taken-later offer entries
     c.add_target.new.self.state.begun c.add_again.new.self.state.begun later
     (rw (← target-kept c.args.named.target c.args.self.now.state c.add_target.new.self.state
     c.in_ok-add_target.ensures.target) c.requires.known))
-    c.add_again.ensures.later
+    c.add_again.ensures.later)
+
+pub returns-in-Err-clause-declined : goal.returns-in-Err-clause-declined
+returns-in-Err-clause-declined g c =
+    rw (c.repetition.ensures, c.new.ensures) at c.in-Err.ensures
 
 pub returns-in-None-clause-taken : goal.returns-in-None-clause-taken
 returns-in-None-clause-taken g c =

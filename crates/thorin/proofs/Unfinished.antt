@@ -1,0 +1,300 @@
+-- Why inputs that were taken aren't finished: their rows are in the format, so that an index is
+-- refused for two encodings alone, or for a number of a long section.
+use Rattle.thorin.proofs.Terms
+use Terms.{[], ap, AreTaken, arith, bind-was, Bool, cond, DwarfObject, Err, ErrorValue, false}
+use Terms.{filter, inl, InProgress, inr, is_some, IsSoundBegun, length, List, None, Ok, Option}
+use Terms.{refl, Result, Some, start, State, subst, sym, taken, true, ℕ, ◌>>=◌, ◌∙◌, ◌∷◌, ◌≡◌, ◌⊎◌}
+use Rattle.std.proofs.ByRecursion.{all_kept_by}
+use Rattle.std.proofs.Common.{codes, find, not, ◌*◌, ◌^◌, ◌≤◌}
+use Rattle.std.proofs.lemmas.Bool.Decides.{nat_tests}
+use Rattle.std.proofs.lemmas.List.Filters.{length-filter_both}
+use Rattle.std.specs.List.{AllByRecursion as Each}
+use Rattle.std.specs.Option.{ok_or}
+use Rattle.dwp_base.specs.declared.section.Contribution.{Contribution}
+use Rattle.dwp_base.specs.declared.section.SectionKind.{SectionKind}
+use Rattle.dwp_bytes.specs.Encoding.{index_version_of}
+use Rattle.dwp_bytes.specs.declared.encoding.Encoding.{Encoding}
+use Rattle.dwp_elf.specs.Contents.{content_of}
+use Rattle.dwp_elf.specs.Growing.{Contents}
+use Rattle.dwp_table.specs.Columns.{column_of, contribution_kinds}
+use Rattle.thorin_errors.specs.Errors.{MixedInputEncodings, NoOutputObjectCreated, NumberTooLarge}
+use Rattle.thorin_index.specs.Entries.{contribution_to, offset_or_0, size_or_0}
+use Rattle.thorin_index.specs.EntryTests.{contributions_test, count_test, each, encoding_test}
+use Rattle.thorin_index.specs.EntryTests.{format_test, index_tests, number_test, same_encoding}
+use Rattle.thorin_index.specs.EntryTests.{tests_under}
+use Rattle.thorin_index.specs.declared.entry.IndexEntry.{IndexEntry}
+use Rattle.thorin_input.specs.Names.{is_compilation}
+use Rattle.thorin_join.specs.Builder.{compilations, finish_test, indexes_test, is_missing, names_in}
+use Rattle.thorin_join.specs.Builder.{none_missing, targets_test, type_units}
+use Rattle.thorin_join.specs.Represents.{IsSound, LieInside}
+use Rattle.thorin_join.specs.StandApart.{contents_begun, EachRow}
+use Rattle.thorin_join.proofs.Joined.Taken.{takes}
+use Rattle.thorin_join.proofs.Rows.StandApart.{sound-inside}
+use Rattle.thorin_join.proofs.Units.HeadersRead.{each-all}
+use Rattle.thorin_again.specs.InFormat.{AreInFormat, HasEncodingOfOne, HaveEncodingsOf, IsInFormat}
+use Rattle.thorin.specs.Unfinished.{AreMixed, HasLongSection, IsIndexNumber, IsUnfinished}
+use Rattle.thorin.specs.Unfinished.{LacksInput, LacksTarget}
+use Rattle.thorin.proofs.LongSections.{many-long}
+use Rattle.thorin.proofs.Running.{begun-then}
+
+-- ---- tests of which one failed
+
+-- the first step failed, or what follows it
+step-failed : {A B : Type 0} (r : Result A ErrorValue) (f : A → Result B ErrorValue)
+    (error : ErrorValue) → (r >>= f) ≡ Err error
+    → (r ≡ Err error) ⊎ ((x : A) × (r ≡ Ok x) × (f x ≡ Err error))
+step-failed (Ok x) f error h = inr (x, refl, h)
+step-failed (Err e) f error h = inl cc
+
+module _ {X : Type 0} (P : X → Type 0) (test : X → Result (Unit {0}) ErrorValue) where
+  each-failed : (error : ErrorValue) (xs : List X) → Each P xs → each test xs ≡ Err error
+      → (x : X) × P x × (test x ≡ Err error)
+  each-failed error [] all h = absurd cc
+  each-failed error (x ∷ xs) all h = elim (step-failed (test x) (λ _. each test xs) error h) [
+    | inl here ↦ (x, all.0, here)
+    | inr later ↦ each-failed error xs all.1 later.2
+  ]
+
+  each-passed : ((x : X) → test x ≡ Ok tt → P x) → (xs : List X) → each test xs ≡ Ok tt
+      → Each P xs
+  each-passed says [] h = tt
+  each-passed says (x ∷ xs) h =
+      let s = bind-was (test x) (λ _. each test xs) tt h in
+      (says x s.1, each-passed says xs s.2)
+
+-- ---- the tests of one row
+
+number-failed : (what : List ℕ) (n : ℕ) (error : ErrorValue) → number_test what n ≡ Err error
+    → (2 ^ 32 ≤ n) × (error ≡ NumberTooLarge what n)
+number-failed what n error h = grind (arith, nat_tests)
+
+-- a number of a range that lies inside a section is no larger than that
+range-long : (c : Contents) (row : IndexEntry) → LieInside c row → (kind : SectionKind)
+    → (offset_or_0 (contribution_to kind row) ≤ length (content_of kind c))
+    × (size_or_0 (contribution_to kind row) ≤ length (content_of kind c))
+range-long c row lie kind = by (contribution_to kind row) refl
+  where
+    by : (range : Option Contribution) → contribution_to kind row ≡ range
+        → (offset_or_0 range ≤ length (content_of kind c))
+        × (size_or_0 range ≤ length (content_of kind c))
+    by None is = (omega arith, omega arith)
+    by (Some range) is =
+        let inside = lie.inside kind range is in
+        (omega (arith, inside), omega (arith, inside))
+
+-- a row of an encoding of the version, in the format
+abbrev IsOfVersion : Encoding → IndexEntry → Type 0
+IsOfVersion encoding row = row.encoding.version ≡ encoding.version
+
+passes : (b : Bool) (e error : ErrorValue) → b ≡ true
+    → ◌≡◌ {A = Result (Unit {0}) ErrorValue} (cond b (Ok tt) (Err e)) (Err error) → ⊥
+passes true e error is h = absurd cc
+passes false e error is h = absurd cc
+
+no-column : (version : ℕ) (kind : SectionKind) (range : Option Contribution) (error : ErrorValue)
+    → (is_some range ≡ true → is_some (column_of version kind) ≡ true)
+    → format_test version kind range ≡ Err error → ⊥
+no-column version kind None error has h = absurd cc
+no-column version kind (Some range) error has h = passes _ _ error (has refl) h
+
+same-version : (encoding : Encoding) (row : IndexEntry) → encoding_test encoding row ≡ Ok tt
+    → IsOfVersion encoding row
+same-version encoding row h = grind (arith, nat_tests)
+
+same-self : (encoding : Encoding) → same_encoding encoding encoding ≡ true
+same-self encoding = grind (arith, nat_tests)
+
+other-encoding : (encoding : Encoding) (row : IndexEntry) (error : ErrorValue)
+    → encoding_test encoding row ≡ Err error
+    → (error ≡ MixedInputEncodings) × (encoding ≡ row.encoding → ⊥)
+other-encoding encoding row error h = grind (arith, same-self row.encoding)
+
+-- ---- the tests of an index
+
+-- what is known of rows of a package of some inputs
+record RowsKnown (inputs : List (List ℕ)) (state : State) (rows : List IndexEntry) : Type 0 where
+  inside : EachRow (LieInside (contents_begun state.begun)) rows
+  format : EachRow IsInFormat rows
+  encodings : EachRow (HasEncodingOfOne inputs) rows
+  many : 2 ^ 32 ≤ 3 * length rows → HasLongSection state
+
+-- why their index is refused
+abbrev IsRefused : List (List ℕ) → State → ErrorValue → Type 0
+IsRefused inputs state error = AreMixed inputs error ⊎ (HasLongSection state × IsIndexNumber error)
+
+module _ (inputs : List (List ℕ)) (state : State) (error : ErrorValue) where
+  abbrev contents : Contents
+  contents = contents_begun state.begun
+
+  -- a number of a range failed, which is no larger than its section
+  number-long : (what : List ℕ) (measure : Option Contribution → ℕ)
+      → ((row : IndexEntry) → LieInside contents row → (kind : SectionKind)
+      → measure (contribution_to kind row) ≤ length (content_of kind contents))
+      → (rows : List IndexEntry) → EachRow (LieInside contents) rows
+      → each (contributions_test (λ kind range. number_test what (measure range))) rows ≡ Err error
+      → HasLongSection state × ((value : ℕ) × (error ≡ NumberTooLarge what value))
+  number-long what measure most rows inside h =
+      let test = λ (kind : SectionKind) (range : Option Contribution).
+      number_test what (measure range) in
+      let r = each-failed (LieInside contents) (contributions_test test) error rows inside h in
+      let k = each-failed (λ kind. Unit {0}) (λ kind. test kind (contribution_to kind r.0)) error
+      contribution_kinds (each-all (λ kind. Unit {0}) (λ kind. tt) contribution_kinds) r.2 in
+      let n = number-failed what _ error k.2 in
+      ((k.0, omega (arith, n.0, most r.0 r.1 k.0)), (_, n.1))
+
+  format-failed : (encoding : Encoding) (rows : List IndexEntry) → EachRow IsInFormat rows
+      → EachRow (IsOfVersion encoding) rows
+      → each (contributions_test (format_test (index_version_of encoding.version))) rows ≡ Err error
+      → ⊥
+  format-failed encoding [] format of h = absurd cc
+  format-failed encoding (row ∷ rows) format of h =
+      let version = index_version_of encoding.version in
+      let test = contributions_test (format_test version) in
+      elim (step-failed (test row) (λ _. each test rows) error h) [
+        | inl here ↦
+            let k = each-failed (λ kind. Unit {0})
+            (λ kind. format_test version kind (contribution_to kind row)) error contribution_kinds
+            (each-all (λ kind. Unit {0}) (λ kind. tt) contribution_kinds) here in
+            no-column version k.0 (contribution_to k.0 row) error (λ some.
+            subst (λ v. is_some (column_of (index_version_of v) k.0) ≡ true) of.0
+            (format.0 k.0 some)) k.2
+        | inr later ↦ format-failed encoding rows format.1 of.1 later.2
+      ]
+
+  mixed : (row : IndexEntry) (rows : List IndexEntry)
+      → EachRow (HasEncodingOfOne inputs) (row ∷ rows)
+      → each (encoding_test row.encoding) (row ∷ rows) ≡ Err error → AreMixed inputs error
+  mixed row rows encodings h =
+      let r = each-failed (HasEncodingOfOne inputs) (encoding_test row.encoding) error (row ∷ rows)
+      encodings h in
+      let other = other-encoding row.encoding r.0 error r.2 in (
+        record {
+          one = encodings.0.0;
+          one_among = encodings.0.1;
+          first = row.encoding;
+          one_has = encodings.0.2;
+          other = r.1.0;
+          other_among = r.1.1;
+          second = r.0.encoding;
+          other_has = r.1.2;
+          differ = other.1;
+        },
+        other.0,
+      )
+
+  count-failed : (n : ℕ) → count_test n ≡ Err error
+      → (2 ^ 32 ≤ 3 * n) × (error ≡ NumberTooLarge (codes "unit count") n)
+  count-failed n h = grind (arith, nat_tests)
+
+  index-failed : (rows : List IndexEntry) → RowsKnown inputs state rows
+      → index_tests rows ≡ Err error → IsRefused inputs state error
+  unfolding tests_under
+  index-failed [] known h = absurd cc
+  index-failed (row ∷ rows) known h =
+      let all = row ∷ rows in
+      let encoding = row.encoding in
+      elim (step-failed (count_test (length all)) _ error h) [
+        | inl many ↦
+            let count = count-failed (length all) many in
+            inr (known.many count.0, (length all, inl count.1))
+        | inr counted ↦ elim (step-failed (each (encoding_test encoding) all) _ error counted.2) [
+          | inl other ↦ inl (mixed row rows known.encodings other)
+          | inr same ↦ elim (step-failed _ _ error same.2) [
+            | inl outside ↦ absurd (format-failed encoding all known.format
+                (each-passed (IsOfVersion encoding) (encoding_test encoding)
+                (same-version encoding) all same.1) outside)
+            | inr inside ↦ elim (step-failed _ _ error inside.2) [
+              | inl far ↦
+                  let long = number-long (codes "contribution offset") offset_or_0
+                  (λ row lie kind. (range-long contents row lie kind).0) all known.inside far in
+                  inr (long.0, (long.1.0, inr (inl long.1.1)))
+              | inr near ↦
+                  let long = number-long (codes "contribution size") size_or_0
+                  (λ row lie kind. (range-long contents row lie kind).1) all known.inside near.2 in
+                  inr (long.0, (long.1.0, inr (inr long.1.1)))
+            ]
+          ]
+        ]
+      ]
+
+-- ---- a state
+
+-- what is known of rows is known of those that are chosen
+module _ (inputs : List (List ℕ)) (state : State) (made : InProgress)
+    (begun : state.begun ≡ Some made) (sound : IsSound made) (format : AreInFormat state.begun)
+    (encodings : HaveEncodingsOf inputs state.begun) where
+  chosen-known : (test : IndexEntry → Bool)
+      → length (filter test made.rows) ≤ length made.rows
+      → RowsKnown inputs state (filter test made.rows)
+  chosen-known test few = record {
+    inside = rw begun (all_kept_by test _ made.rows (sound-inside made sound));
+    format = all_kept_by test _ made.rows (rw begun at format);
+    encodings = all_kept_by test _ made.rows (rw begun at encodings);
+    many = λ many. rw begun (many-long made sound.laid (omega (arith, many, few)));
+  }
+
+  either-known : RowsKnown inputs state (compilations made.rows)
+      × RowsKnown inputs state (type_units made.rows)
+  either-known =
+      let is = λ (row : IndexEntry). is_compilation row.id in
+      let isnt = λ (row : IndexEntry). not (is_compilation row.id) in
+      let all = length-filter_both is isnt (λ row. refl) made.rows in
+      (chosen-known is (omega (arith, all)), chosen-known isnt (omega (arith, all)))
+
+-- a state that has taken an input has begun a package
+some-is : {X : Type 0} (x : X) → ◌≡◌ {A = Option X} (Some x) None → ⊥
+some-is x h = absurd cc
+
+taken-begins : (bytes : List ℕ) (old next : State) → taken bytes old ≡ Ok next
+    → next.begun ≡ None → ⊥
+taken-begins bytes old next took none =
+    elim (takes bytes old.begun next.begun (begun-then bytes old next took)).does [
+      | inl units ↦ some-is _ (units.1.is ∙ none)
+      | inr nothing ↦ some-is _ (nothing.1 ∙ none)
+    ]
+
+begun-stays : (inputs : List (List ℕ)) (old new : State) → AreTaken inputs old new
+    → new.begun ≡ None → old.begun ≡ None
+begun-stays [] old new are none = sym (ap (λ (s : State). s.begun) are.1) ∙ none
+begun-stays (bytes ∷ rest) old new are none = absurd (taken-begins bytes
+    (record old { targets = are.0 }) are.1 are.2 (begun-stays rest are.1 new are.3 none))
+
+none-taken : (inputs : List (List ℕ)) (old new : State) → AreTaken inputs old new
+    → new.begun ≡ None → inputs ≡ []
+none-taken [] old new are none = refl
+none-taken (bytes ∷ rest) old new are none = absurd (taken-begins bytes
+    (record old { targets = are.0 }) are.1 are.2 (begun-stays rest are.1 new are.3 none))
+
+target-failed : (state : State) (error : ErrorValue)
+    → targets_test (names_in state.begun) state.targets ≡ Err error → LacksTarget state error
+unfolding targets_test
+target-failed state error h =
+    by (find (is_missing (names_in state.begun)) state.targets) refl h
+  where
+    by : (found : Option DwarfObject)
+        → find (is_missing (names_in state.begun)) state.targets ≡ found
+        → none_missing found ≡ Err error → LacksTarget state error
+    by None is k = absurd cc
+    by (Some name) is k = (name, is, cc)
+
+pub unfinished : (inputs : List (List ℕ)) (state : State) (error : ErrorValue)
+    → AreTaken inputs start state → IsSoundBegun state.begun → AreInFormat state.begun
+    → HaveEncodingsOf inputs state.begun → finish_test state ≡ Err error
+    → IsUnfinished inputs state error
+unfolding finish_test indexes_test
+unfinished inputs state error are sound format encodings h =
+    elim (step-failed (targets_test (names_in state.begun) state.targets) _ error h) [
+      | inl missing ↦ inl (target-failed state error missing)
+      | inr passed ↦ inr (by state.begun refl passed.2)
+    ]
+  where
+    by : (begun : Option InProgress) → state.begun ≡ begun
+        → (ok_or begun NoOutputObjectCreated >>= indexes_test) ≡ Err error
+        → LacksInput inputs error ⊎ IsRefused inputs state error
+    by None is k = inl (none-taken inputs start state are is, cc)
+    by (Some made) is k =
+        let known = either-known inputs state made is (rw is at sound) format encodings in
+        inr (elim (step-failed (index_tests (compilations made.rows)) _ error k) [
+          | inl first ↦ index-failed inputs state error (compilations made.rows) known.0 first
+          | inr second ↦ index-failed inputs state error (type_units made.rows) known.1 second.2
+        ])

@@ -1,0 +1,19 @@
+use Rattle.std.proofs.Common.{◌∙◌, ◌+◌, ◌++◌, ◌∷◌, [], length, map, take, ap}
+use Rattle.thorin_c.specs.Skeletons.{paths_of, skeleton_named, skeleton_of}
+use Rattle.thorin_c.proofs.SkeletonLists.{first_more}
+use Rattle.thorin_c.proofs.units.FirstUnits.add.Goals as goal
+
+pub returns : goal.returns
+returns c = λ units h.
+    let room = c.args.room in
+    let bytes = c.as_bytes-bytes.ensures.value in
+    let named = map skeleton_named units in
+    let names = c.in_ok-put.ensures named h.names
+    ∙ ap (λ s. take room.names (named ++ s ∷ [])) (c.skeleton_of.ensures
+    ∙ ap (λ b. skeleton_of c.args.target (length b)) bytes) in
+    let paths = c.in_ok-put-3.ensures _ (c.in_ok-put-2.ensures (paths_of units) h.paths)
+    ∙ ap (λ b. take room.paths ((paths_of units ++ b) ++ 0 ∷ [])) bytes in
+    let size = c.in_ok-self-2.ensures ∙ ap (λ n. n + 1) (c.in_ok-sum.ensures
+    ∙ ap (λ b. c.args.self.now.size + length b) bytes) in
+    first_more room units (c.args.target, c.args.path.now) c.args.self.now _ h names paths
+    c.in_ok-self.ensures size

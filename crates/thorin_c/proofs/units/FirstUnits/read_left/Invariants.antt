@@ -1,0 +1,10 @@
+use Rattle.std.proofs.Common.{length}
+use Rattle.thorin_c.proofs.SkeletonLists.{GoesOn}
+use Rattle.thorin_c.proofs.units.FirstUnits.read_left.Given as goal
+
+abbrev pub decreases-loop-error : goal.decreases-loop-error
+decreases-loop-error l = length l.units.listed.0
+
+-- the units so far were read, and the others are left
+abbrev pub invariant-loop-error : goal.invariant-loop-error
+invariant-loop-error l = GoesOn l.room l.initial.units.listed l.units.listed l.self

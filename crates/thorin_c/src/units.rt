@@ -1,0 +1,167 @@
+//! The units that an executable names, read as far as there is room for them.
+
+ghost use Rattle.std.specs.Prelude.{◌≡◌, ◌≢◌, ◌+◌, ◌++◌, ◌∷◌, [], List, take, Some, option_map};
+ghost use Rattle.std.specs.Prelude.{IfOk, OnOk};
+ghost use Rattle.thorin_errors.specs.Errors.{error_of};
+ghost use Rattle.thorin_executable.specs.Skeletons.{Named, skeletons_of};
+ghost use Rattle.thorin_c.specs.Skeletons.{skeleton_of, IsFirst, IsNextFirst};
+
+use crate::types::ThorinSkeleton;
+use dwp_table::DwarfObject;
+use std::alloc::{AllocError, Global};
+use thorin::BytesSession;
+use thorin_errors::Error;
+use thorin_executable::{NamedUnits, NamelessUnits};
+
+/// How many units there is room for, and how many bytes of their paths.
+#[derive(Clone, Copy)]
+pub(crate) struct Room {
+    pub(crate) names: usize,
+    pub(crate) paths: usize,
+}
+
+/// The units that were read, as far as there is room.
+#[derive(Drop)]
+pub(crate) struct FirstUnits {
+    /// The units.
+    pub(crate) names: Vec<ThorinSkeleton>,
+    /// Their paths, each with a zero byte behind it.
+    pub(crate) paths: Vec<u8>,
+    /// How many units were read, and how many bytes their paths have.
+    pub(crate) count: u64,
+    pub(crate) size: u64,
+}
+
+impl FirstUnits {
+    /// No unit was read yet.
+    pub(crate) fn new(alloc: Global) -> FirstUnits
+        ensures { (room : Room) → IsFirst room [] result }
+    {
+        FirstUnits {
+            names: Vec::new(alloc),
+            paths: Vec::new(alloc),
+            count: 0,
+            size: 0,
+        }
+    }
+
+    /// Reads the units that an executable names. Answers the error that ends them.
+    pub(crate) fn read<'s>(
+        &mut self,
+        alloc: Global,
+        session: &'s BytesSession<'_>,
+        bytes: &'s [u8],
+        room: Room,
+    ) -> Result<Option<Error>, AllocError>
+        requires { IsFirst room [] self.old }
+        ensures end { IfOk result (λ e. (skeletons_of bytes.now).1 ≡ option_map error_of e) }
+        ensures first { OnOk result (IsFirst room (skeletons_of bytes.now).0 self.new) }
+    {
+        match NamedUnits::read_by(alloc, session, bytes, NamelessUnits::Refused) {
+            Ok(mut units) => self.read_left(&mut units, room),
+            Err(error) => ended(error),
+        }
+    }
+
+    /// Reads those that are left.
+    #[tactic(auto, using(crate::proofs::SkeletonLists::none_read, crate::proofs::SkeletonLists::goes_on, crate::proofs::SkeletonLists::shorter, crate::proofs::SkeletonLists::ends))]
+    fn read_left(
+        &mut self,
+        units: &mut NamedUnits<'_>,
+        room: Room,
+    ) -> Result<Option<Error>, AllocError>
+        requires { IsFirst room [] self.old }
+        ensures end { IfOk result (λ e. units.old.listed.1 ≡ option_map error_of e) }
+        ensures first { OnOk result (IsFirst room units.old.listed.0 self.new) }
+    {
+        loop {
+            match self.read_next(units, room) {
+                Ok(true) => {}
+                Ok(false) => return Ok(None),
+                Err(error) => return ended(error),
+            }
+        }
+    }
+
+    /// Reads the next of them. Answers whether there was one.
+    fn read_next(&mut self, units: &mut NamedUnits<'_>, room: Room) -> Result<bool, Error>
+        ensures { IsNextFirst room units.old.listed units.new.listed self.old self.new result }
+    {
+        match units.next() {
+            Ok(Some(unit)) => match self.add(room, unit.target, units.path()) {
+                Ok(()) => Ok(true),
+                Err(AllocError) => Err(Error::Memory),
+            },
+            Ok(None) => Ok(false),
+            Err(error) => Err(error),
+        }
+    }
+
+    /// Adds a unit that was read, and the path of its object.
+    #[tactic(auto, using(crate::proofs::SkeletonLists::first_more))]
+    fn add(&mut self, room: Room, target: DwarfObject, path: &str) -> Result<(), AllocError>
+        ensures { OnOk result ((units : List Named) → IsFirst room units self.old
+            → IsFirst room (units ++ (target, path.now) ∷ []) self.new) }
+    {
+        let bytes = path.as_bytes();
+        let path_size = bytes.len() as u64;
+        put(
+            &mut self.names,
+            room.names,
+            &[skeleton_of(target, path_size)],
+        )?;
+        put(&mut self.paths, room.paths, bytes)?;
+        put(&mut self.paths, room.paths, &[0])?;
+        self.count = sum(self.count, 1)?;
+        self.size = sum(sum(self.size, path_size)?, 1)?;
+        Ok(())
+    }
+}
+
+/// The error that ends a list, unless memory ran out.
+fn ended(error: Error) -> Result<Option<Error>, AllocError>
+    ensures end { IfOk result (λ e. e ≡ Some error) }
+    ensures memory { OnOk result (error ≢ Error.Memory) }
+{
+    match error {
+        Error::Memory => Err(AllocError),
+        error => Ok(Some(error)),
+    }
+}
+
+/// A sum that 64 bits hold: more bytes are in no memory.
+fn sum(a: u64, b: u64) -> Result<u64, AllocError>
+    ensures { IfOk result (λ c. c ≡ a + b) }
+{
+    match a.checked_add(b) {
+        Some(c) => Ok(c),
+        None => Err(AllocError),
+    }
+}
+
+/// Puts as much behind the first of a list as there is room for.
+#[tactic(auto, using(crate::proofs::SkeletonLists::front_more))]
+fn put<T: Copy>(first: &mut Vec<T>, room: usize, more: &[T]) -> Result<(), AllocError>
+    ensures { OnOk result ((all : List T) → first.old.items ≡ take room all
+        → first.new.items ≡ take room (all ++ more.now)) }
+{
+    let left = room.saturating_sub(first.len());
+    first.extend_from_slice(&more[..left.min(more.len())])
+}
+
+fn skeleton_of(target: DwarfObject, path_size: u64) -> ThorinSkeleton
+    ensures { result ≡ skeleton_of target path_size }
+{
+    match target {
+        DwarfObject::Compilation(id) => ThorinSkeleton {
+            id: id.0,
+            path_size,
+            kind: 1,
+        },
+        DwarfObject::TypeUnit(signature) => ThorinSkeleton {
+            id: signature.0,
+            path_size,
+            kind: 2,
+        },
+    }
+}

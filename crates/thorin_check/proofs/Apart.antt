@@ -1,0 +1,261 @@
+-- Ranges that don't overlap, unless they are the same.
+use Rattle.std.proofs.Common.{◌≡◌, ◌⊎◌, ◌∙◌, ℕ, ◌+◌, ◌-◌, ◌^◌, ◌<◌, ◌≤◌, min, true, false, List, []}
+use Rattle.std.proofs.Common.{◌∷◌, ◌++◌, length, get_or, take, Option, Some, None, Result, Ok, Err}
+use Rattle.std.proofs.Common.{Bool, ◌||◌, not, refl, sym, inl, inr, arith, below_more, nat_eq}
+use Rattle.std.specs.List.{AllPairs, Contains}
+use Rattle.std.specs.List.Sorted.{IsPermutation}
+use Rattle.std.proofs.lemmas.Bool.Decides.{nat_tests}
+use Rattle.std.proofs.lemmas.Option.{same_Some}
+use Rattle.std.proofs.lemmas.List.{get_or_default, take_more}
+use Rattle.std.proofs.lemmas.List.Elements.{All-nil, All-cons, All-append}
+use Rattle.std.proofs.lemmas.List.Elements.{Contains-append_left, Contains-push}
+use Rattle.std.proofs.lemmas.List.Sorted.{Contains-permutation}
+use Rattle.dwp_base.proofs.Bools.{by-bool}
+use Rattle.dwp_base.specs.declared.section.Contribution.{Contribution}
+use Rattle.dwp_base.specs.declared.section.SectionKind.{SectionKind}
+use Rattle.dwp_bytes.specs.declared.error.ReadError.{ReadError}
+use Rattle.dwp_index.specs.Index.{Index, Ranges, row_in, range_in, contribution, column_place}
+use Rattle.dwp_index.specs.Package.{Package, index_for}
+use Rattle.dwp_index.specs.declared.units.UnitEntry.{UnitEntry}
+use Rattle.thorin_check.specs.Apart.{IsSame, IsApart, IsLast, HasRange, HasRanges, AreApartIn}
+use Rattle.thorin_check.specs.Apart.{AreApart}
+use Rattle.thorin_check.specs.Overlaps.{overlap, row_range, range_by_index, slot_range}
+use Rattle.thorin_check.specs.declared.overlaps.Placed.{Placed}
+
+before_or : (j k : ℕ) → j < k + 1 → (j < k) ⊎ (j ≡ k)
+before_or j k lt = grind arith
+
+-- ---- sorted ranges, gone through
+
+-- how far ranges were gone through
+pub record GoneThrough (ranges : List Placed) (i farthest : ℕ)
+    (before : Option Placed) : Type 0 where
+  pub apart : (j k : ℕ) (d : Placed) → j < k → k < i → IsApart (get_or ranges j d)
+      (get_or ranges k d)
+  pub ends : (k : ℕ) (d : Placed) → k < i
+      → min ((get_or ranges k d).offset + (get_or ranges k d).size) (2 ^ 64 - 1) ≤ farthest
+  pub last : (range : Placed) → IsLast before range → (k : ℕ) × (k + 1 ≡ i)
+      × ((d : Placed) → IsSame (get_or ranges k d) range)
+
+pub gone_none : (ranges : List Placed) → GoneThrough ranges 0 0 None
+gone_none ranges = record {
+  apart = λ j k d lt below. absurd (omega arith);
+  ends = λ k d lt. absurd (omega arith);
+  last = λ range is. absurd is;
+}
+
+module _ (ranges : List Placed) (i farthest : ℕ) (before : Option Placed)
+    (g : GoneThrough ranges i farthest before) (x : Placed) where
+  abbrev pub IsHere : Type 0
+  IsHere = (j : ℕ) (d : Placed) → j < i → IsApart (get_or ranges j d) x
+
+  -- the next range is the same as the last
+  pub same_here : IsLast before x → IsHere
+  same_here is j d lt =
+      let last = g.last x is in
+      let same = last.2 d in
+      let next = last.1 in
+      elim (before_or j last.0 (omega arith)) [
+        | inl less ↦ elim (g.apart j last.0 d less (omega arith)) [
+          | inl alike ↦ inl (alike.0 ∙ same.0, alike.1 ∙ same.1)
+          | inr behind ↦ inr (rw same.0 at behind)
+        ]
+        | inr this ↦ rw this (inl same)
+      ]
+
+  -- it begins behind all
+  pub behind_here : farthest ≤ x.offset → farthest < 2 ^ 64 - 1 → IsHere
+  behind_here le some j d lt =
+      let end = g.ends j d lt in
+      inr (omega arith)
+
+-- one more range was gone through
+pub gone_more : (ranges : List Placed) (i : ℕ) (e : Placed) → i < length ranges
+    → (farthest further : ℕ) (before : Option Placed) → GoneThrough ranges i farthest before
+    → ((j : ℕ) (d : Placed) → j < i → IsApart (get_or ranges j d) (get_or ranges i e))
+    → farthest ≤ further
+    → min ((get_or ranges i e).offset + (get_or ranges i e).size) (2 ^ 64 - 1) ≤ further
+    → GoneThrough ranges (i + 1) further (Some (get_or ranges i e))
+gone_more ranges i e lt farthest further before g here more end = record {
+  apart = λ j k d less below. below_more
+      (λ k. j < k → IsApart (get_or ranges j d) (get_or ranges k d)) i
+      (λ k below less. g.apart j k d less below)
+      (λ less. rw (get_or_default ranges i d e lt) (here j d less)) k below less;
+  ends = λ k d below. below_more
+      (λ k. min ((get_or ranges k d).offset + (get_or ranges k d).size) (2 ^ 64 - 1) ≤ further) i
+      (λ k below. let one = g.ends k d below in omega arith)
+      (rw (get_or_default ranges i d e lt) end) k below;
+  last = λ range is. (i, refl, λ d. rw (get_or_default ranges i d e lt) is);
+}
+
+pub gone_on : (ranges : List Placed) (i : ℕ) (e : Placed) → i < length ranges
+    → (farthest further : ℕ) (before : Option Placed) (any twin behind : Bool)
+    → (any ≡ false → GoneThrough ranges i farthest before)
+    → (twin ≡ true → IsLast before (get_or ranges i e))
+    → (behind ≡ true → (twin ≡ true)
+    ⊎ ((farthest ≤ (get_or ranges i e).offset) × (farthest < 2 ^ 64 - 1)))
+    → farthest ≤ further
+    → min ((get_or ranges i e).offset + (get_or ranges i e).size) (2 ^ 64 - 1) ≤ further
+    → (any || not behind) ≡ false → GoneThrough ranges (i + 1) further (Some (get_or ranges i e))
+gone_on ranges i e lt farthest further before false twin true g last goes more end none =
+    gone_more ranges i e lt farthest further before (g refl)
+    (here (goes refl)) more end
+  where
+    here : (twin ≡ true) ⊎ ((farthest ≤ (get_or ranges i e).offset) × (farthest < 2 ^ 64 - 1))
+        → (j : ℕ) (d : Placed) → j < i → IsApart (get_or ranges j d) (get_or ranges i e)
+    here (inl is) = same_here ranges i farthest before (g refl) (get_or ranges i e) (last is)
+    here (inr le) =
+        behind_here ranges i farthest before (g refl) (get_or ranges i e) le.0 le.1
+gone_on ranges i e lt farthest further before false twin false g last goes more end none =
+    absurd cc
+gone_on ranges i e lt farthest further before true twin behind g last goes more end none = absurd cc
+
+pub gone_all : (ranges : List Placed) (i farthest : ℕ) (before : Option Placed)
+    → length ranges ≤ i → GoneThrough ranges i farthest before → AllPairs IsApart ranges
+gone_all ranges i farthest before le g j k d less lt = g.apart j k d less (omega arith)
+
+-- ---- ranges of slots
+
+begun : (range : Option Contribution) (offset size : ℕ) → contribution offset size ≡ range
+    → (c : Contribution) → range ≡ Some c → 0 < c.size
+begun range offset size e c is = by-bool _ (nat_eq size 0)
+    (λ none. let absent = rw none at e in absurd (let some = absent ∙ is in cc))
+    (λ some. let there = rw some at e in
+    let same = same_Some (record { offset = record { 0 = offset }; size = size }) c (there ∙ is) in
+    rw (← same) (grind (arith, nat_tests)))
+
+range_has : (row : Ranges) (kind : SectionKind) (place : Option ℕ)
+    → column_place row.version row.columns kind ≡ place → (c : Contribution)
+    → range_in row kind ≡ Some c → 0 < c.size
+unfolding range_in
+range_has row kind None column c is = let none = rw column at is in absurd cc
+range_has row kind (Some i) column c is = begun (Some c) _ _ (rw column at is) c refl
+
+row_has : (row : Result Ranges ReadError) (kind : SectionKind) (c : Contribution)
+    → row_range row kind ≡ Some c → 0 < c.size
+row_has (Ok row) kind c is = range_has row kind (column_place row.version row.columns kind) refl c
+    is
+row_has (Err cause) kind c is = absurd cc
+
+index_has : (index : Option Index) (row : ℕ) (kind : SectionKind) (c : Contribution)
+    → range_by_index index row kind ≡ Some c → 0 < c.size
+index_has None row kind c is = absurd cc
+index_has (Some index) row kind c is = row_has (row_in index row) kind c is
+
+-- two ranges are the same, or one ends where the other begins, or before
+abbrev AreTwoApart : Contribution → Contribution → Type 0
+AreTwoApart a b = ((a.offset.0 ≡ b.offset.0) × (a.size ≡ b.size))
+    ⊎ ((a.offset.0 + a.size ≤ b.offset.0) ⊎ (b.offset.0 + b.size ≤ a.offset.0))
+
+not_overlap : (a b : Contribution) → 0 < a.size → 0 < b.size → AreTwoApart a b
+    → overlap (Some a) (Some b) ≡ false
+not_overlap a b some more (inl same) =
+    let offset = same.0 in let size = same.1 in grind (arith, nat_tests)
+not_overlap a b some more (inr (inl le)) = grind (arith, nat_tests)
+not_overlap a b some more (inr (inr le)) = grind (arith, nat_tests)
+
+module _ (p q : Placed) (a b : Contribution) (p_at : p.offset ≡ a.offset.0) (p_of : p.size ≡ a.size)
+    (q_at : q.offset ≡ b.offset.0) (q_of : q.size ≡ b.size) where
+  two_apart : IsApart p q → AreTwoApart a b
+  two_apart (inl same) = inl (sym p_at ∙ same.0 ∙ q_at, sym p_of ∙ same.1 ∙ q_of)
+  two_apart (inr le) = inr (inl (rw (← p_at, ← p_of, ← q_at) le))
+
+  two_behind : IsApart q p → AreTwoApart a b
+  two_behind (inl same) = inl (sym p_at ∙ sym same.0 ∙ q_at, sym p_of ∙ sym same.1 ∙ q_of)
+  two_behind (inr le) = inr (inr (rw (← p_at, ← q_of, ← q_at) le))
+
+module _ (pack : Package) (slots : List UnitEntry) (kind : SectionKind) (ranges : List Placed)
+    (has : HasRanges pack slots kind ranges) (apart : AllPairs IsApart ranges) where
+  order : (j k : ℕ) → (j < k) ⊎ ((j ≡ k) ⊎ (k < j))
+  order j k = grind arith
+
+  both_apart : (a b : Contribution) → HasRange ranges a → HasRange ranges b → AreTwoApart a b
+  both_apart a b one other =
+      let is : get_or ranges one.1.0 one.0 ≡ one.0 = one.1.2 in
+      let so : get_or ranges other.1.0 one.0 ≡ other.0 =
+      get_or_default ranges other.1.0 one.0 other.0 other.1.1 ∙ other.1.2 in
+      elim (order one.1.0 other.1.0) [
+        | inl less ↦ two_apart one.0 other.0 a b one.2 one.3 other.2 other.3
+            (rw (is, so) at (apart one.1.0 other.1.0 one.0 less other.1.1))
+        | inr (inl this) ↦ (let alike : one.0 ≡ other.0 = rw (← this, is) at so in
+            two_apart one.0 other.0 a b one.2 one.3 other.2 other.3
+            (rw alike (inl (refl, refl))))
+        | inr (inr more) ↦ two_behind one.0 other.0 a b one.2 one.3 other.2 other.3
+            (rw (is, so) at (apart other.1.0 one.1.0 one.0 more one.1.1))
+      ]
+
+  slots_by : (a b : UnitEntry) → Contains slots a → Contains slots b → (r s : Option Contribution)
+      → slot_range pack a kind ≡ r → slot_range pack b kind ≡ s → overlap r s ≡ false
+  slots_by a b is so None s here there = refl
+  slots_by a b is so (Some r) None here there = refl
+  slots_by a b is so (Some r) (Some s) here there =
+      not_overlap r s (index_has (index_for pack a.object) a.row kind r here)
+      (index_has (index_for pack b.object) b.row kind s there)
+      (both_apart r s (has a is r here) (has b so s there))
+
+  pub slots_apart : (a b : UnitEntry) → Contains slots a → Contains slots b
+      → overlap (slot_range pack a kind) (slot_range pack b kind) ≡ false
+  slots_apart a b is so =
+      slots_by a b is so (slot_range pack a kind) (slot_range pack b kind) refl refl
+
+-- one section more
+module _ (pack : Package) (slots : List UnitEntry) (kinds : List SectionKind) (i : ℕ)
+    (d : SectionKind) (lt : i < length kinds) where
+  apart_more : AreApart pack slots (take i kinds) → AreApartIn pack slots (get_or kinds i d)
+      → AreApart pack slots (take (i + 1) kinds)
+  apart_more before here =
+      rw (take_more kinds i d lt) (All-append (AreApartIn pack slots) (take i kinds)
+      (get_or kinds i d ∷ []) before (All-cons (AreApartIn pack slots) (get_or kinds i d) [] here
+      (All-nil (AreApartIn pack slots))))
+
+  pub apart_on : (any more : Bool) (ranges lent : List Placed) → lent ≡ ranges
+      → (any ≡ false → AreApart pack slots (take i kinds))
+      → HasRanges pack slots (get_or kinds i d) ranges → (more ≡ false → AllPairs IsApart lent)
+      → (any || more) ≡ false → AreApart pack slots (take (i + 1) kinds)
+  apart_on false false ranges lent same before has apart e = apart_more (before refl)
+      (slots_apart pack slots (get_or kinds i d) ranges has (rw same at (apart refl)))
+  apart_on false true ranges lent same before has apart e = absurd cc
+  apart_on true more ranges lent same before has apart e = absurd cc
+
+-- ranges in another order
+pub ranges_sorted : (pack : Package) (slots : List UnitEntry) (kind : SectionKind)
+    (old new : List Placed) → IsPermutation old new → HasRanges pack slots kind old
+    → HasRanges pack slots kind new
+ranges_sorted pack slots kind old new same has slot is range here =
+    let there = has slot is range here in
+    (there.0, Contains-permutation old new there.0 same there.1, there.2, there.3)
+
+-- ---- ranges that are gathered
+
+-- those of the first slots
+abbrev pub HasFirst : Package → List UnitEntry → SectionKind → ℕ → List Placed → Type 0
+HasFirst pack slots kind i ranges = (k : ℕ) (d : UnitEntry) → k < i → (range : Contribution)
+    → slot_range pack (get_or slots k d) kind ≡ Some range → HasRange ranges range
+
+module _ (pack : Package) (slots : List UnitEntry) (kind : SectionKind) (i : ℕ) where
+  pub first_all : (ranges : List Placed) → length slots ≤ i → HasFirst pack slots kind i ranges
+      → HasRanges pack slots kind ranges
+  first_all ranges le has slot is range here =
+      let lt = is.1 in has is.0 slot (omega arith) range (rw is.2 here)
+
+  module _ (e : UnitEntry) (lt : i < length slots) (ranges : List Placed)
+      (has : HasFirst pack slots kind i ranges) where
+    pub first_none : None ≡ slot_range pack (get_or slots i e) kind
+        → HasFirst pack slots kind (i + 1) ranges
+    first_none none k d below = below_more
+        (λ k. (range : Contribution) → slot_range pack (get_or slots k d) kind ≡ Some range
+        → HasRange ranges range) i (λ k h. has k d h)
+        (λ range. rw (get_or_default slots i d e lt)
+        (λ here. absurd (let some = none ∙ here in cc))) k below
+
+    pub first_some : (placed : Placed) (c : Contribution)
+        → Some c ≡ slot_range pack (get_or slots i e) kind → placed.offset ≡ c.offset.0
+        → placed.size ≡ c.size → HasFirst pack slots kind (i + 1) (ranges ++ (placed ∷ []))
+    first_some placed c some offset size k d below = below_more
+        (λ k. (range : Contribution) → slot_range pack (get_or slots k d) kind ≡ Some range
+        → HasRange (ranges ++ (placed ∷ [])) range) i
+        (λ k h range here. let there = has k d h range here in
+        (there.0, Contains-append_left ranges _ there.0 there.1, there.2, there.3))
+        (λ range. rw (get_or_default slots i d e lt) (λ here.
+        let same = same_Some c range (some ∙ here) in
+        (placed, Contains-push ranges placed, rw (← same) offset, rw (← same) size))) k below

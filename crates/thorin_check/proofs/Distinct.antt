@@ -1,0 +1,221 @@
+-- Units that are told of, one of each range of string offsets.
+use Rattle.std.proofs.Common.{◌≡◌, ℕ, ◌+◌, ◌<◌, ◌≤◌, List, [], ◌∷◌, ◌++◌, length, take}
+use Rattle.std.proofs.Common.{get_or, Option, Some, None, Result, Ok, Err, refl, arith, below_more}
+use Rattle.std.proofs.Common.{Bool, false, ◌&&◌, nat_eq, IfOk, OnOk, String, Global}
+use Rattle.std.proofs.lemmas.Bool.Decides.{nat_tests}
+use Rattle.std.specs.List.{All}
+use Rattle.std.specs.List.Sorted.{IsPermutation}
+use Rattle.std.proofs.lemmas.List.{get_or_default}
+use Rattle.std.proofs.lemmas.List.Elements.{All-get_or, Contains-append_left, Contains-push}
+use Rattle.std.proofs.lemmas.List.Sorted.{Contains-permutation}
+use Rattle.dwp_index.specs.Package.{Package, FoundUnit, found}
+use Rattle.dwp_index.specs.declared.error.PackageError.{PackageError}
+use Rattle.dwp_index.specs.declared.units.UnitEntry.{UnitEntry}
+use Rattle.dwp_table.specs.declared.object.DwarfObject.{DwarfObject}
+use Rattle.thorin_print.specs.Answers.{Outcome}
+use Rattle.dwp_table.specs.Columns.{contribution_kinds}
+use Rattle.thorin_check.specs.Apart.{AreApart}
+use Rattle.thorin_check.specs.Checking.{TellsStringsOfAll, TellsListed, TellsSlot, TellsSlots}
+use Rattle.thorin_check.specs.Checking.{TellsUnits}
+use Rattle.thorin_check.specs.Faults.{TellsStringsOf, TellsText, TellsUnit, IsTextOf}
+use Rattle.thorin_check.specs.Rendering.{FaultValue}
+use Rattle.thorin_check.specs.Seen.{IsSeen, GoesOn, IsGatheredIn, TellsSeen}
+use Rattle.thorin_check.specs.Strings.{IsRangeOfOne, Listed, IsOfUnit, IsGathered}
+use Rattle.thorin_check.specs.declared.units.Seen.{Seen}
+use Rattle.thorin_check.specs.Telling.{Progress, Told, Tells, TellsOr, ForEach}
+use Rattle.thorin_check.specs.declared.strings.StringRange.{StringRange}
+use Rattle.thorin_print.specs.declared.output.Failure.{Failure}
+use Rattle.thorin_check.proofs.SharedStrings.{has_strings}
+use Rattle.thorin_check.proofs.Told.{told_as, tells_as, then_or, in_turn, for_each_more}
+use Rattle.thorin_check.proofs.Told.{told_next}
+
+among_more : (pack : Package) (objects more : List DwarfObject) (range : StringRange)
+    → IsRangeOfOne pack objects range → IsRangeOfOne pack (objects ++ more) range
+among_more pack objects more range one = record {
+  object = one.object;
+  is_one = Contains-append_left objects more one.object one.is_one;
+  unit = one.unit;
+  is_found = one.is_found;
+  is_range = one.is_range;
+}
+
+module _ (pack : Package) (listed : Listed) where
+  -- what was told of the strings of the first so many, each range's once
+  pub record TellsFirst (i : ℕ) (faults : List FaultValue) : Type 0 where
+    pub objects : List DwarfObject
+    pub told : TellsStringsOfAll pack objects faults
+    pub others : (k : ℕ) (d : StringRange × DwarfObject) → k < i
+        → IsRangeOfOne pack objects (get_or listed k d).0
+
+  pub first_none : TellsFirst 0 []
+  first_none = record { objects = []; told = refl; others = λ k d lt. absurd (omega arith) }
+
+  module _ (i : ℕ) (e : StringRange × DwarfObject) (lt : i < length listed) where
+    -- those of the next one have the range of one before
+    pub first_again : (j : ℕ) (c : StringRange × DwarfObject) → j < i
+        → (get_or listed j c).0 ≡ (get_or listed i e).0 → (faults : List FaultValue)
+        → TellsFirst i faults → TellsFirst (i + 1) faults
+    first_again j c before same faults t = record {
+      objects = t.objects;
+      told = t.told;
+      others = λ k d below. below_more
+          (λ k. (d : StringRange × DwarfObject) → IsRangeOfOne pack t.objects (get_or listed k d).0)
+          i (λ k h d. t.others k d h)
+          (λ d. rw (get_or_default listed i d e lt, ← same) (t.others j c before)) k below d;
+    }
+
+    -- those of the next one were told of
+    pub first_more : (are : All (IsOfUnit pack) listed) → (faults more : List FaultValue)
+        → TellsFirst i faults
+        → TellsStringsOf (get_or listed i e).1 (found pack (get_or listed i e).1) more
+        → TellsFirst (i + 1) (faults ++ more)
+    first_more are faults more t told =
+        let object = (get_or listed i e).1 in
+        let is = All-get_or (IsOfUnit pack) listed i e lt are in
+        record {
+          objects = t.objects ++ ((get_or listed i e).1 ∷ []);
+          told = for_each_more (λ object. TellsStringsOf object (found pack object)) t.objects
+              (get_or listed i e).1 faults more t.told told;
+          others = λ k d below. below_more
+              (λ k. (d : StringRange × DwarfObject)
+              → IsRangeOfOne pack (t.objects ++ ((get_or listed i e).1 ∷ [])) (get_or listed k d).0)
+              i (λ k h d. among_more pack t.objects _ (get_or listed k d).0 (t.others k d h))
+              (λ d. rw (get_or_default listed i d e lt) (record {
+                object = (get_or listed i e).1;
+                is_one = Contains-push t.objects (get_or listed i e).1;
+                unit = is.0;
+                is_found = is.1;
+                is_range = is.2;
+              })) k below d;
+        }
+
+  pub first_all : (i : ℕ) → length listed ≤ i → (faults : List FaultValue) → TellsFirst i faults
+      → TellsListed pack listed faults
+  first_all i le faults t = record {
+    objects = t.objects;
+    told = t.told;
+    others = λ range there.
+        let lt = there.1.1 in
+        let one = t.others there.1.0 (range, there.0) (omega arith) in
+        rw there.1.2 at one;
+  }
+
+-- the same of those in another order
+pub listed_before : (pack : Package) (old new : Listed) → IsPermutation old new
+    → (a b : Progress) (result : Outcome) → Tells (TellsListed pack new) a b result
+    → Tells (TellsListed pack old) a b result
+listed_before pack old new same a b result = tells_as a b result (λ faults t. record {
+  objects = t.objects;
+  told = t.told;
+  others = λ range there.
+      t.others range (there.0, Contains-permutation old new (range, there.0) same there.1);
+})
+
+-- ---- units, and their strings behind
+
+for_each_weaker : {X : Type 0} (P Q : X → List FaultValue → Type 0)
+    → ((x : X) (faults : List FaultValue) → P x faults → Q x faults) → (xs : List X)
+    → (faults : List FaultValue) → ForEach P xs faults → ForEach Q xs faults
+for_each_weaker P Q goes [] faults h = h
+for_each_weaker P Q goes (x ∷ xs) faults h = record {
+  first = h.first;
+  rest = h.rest;
+  is_first = goes x h.first h.is_first;
+  is_rest = for_each_weaker P Q goes xs h.rest h.is_rest;
+  all = h.all;
+}
+
+-- what is told of the units of slots; where that is nothing, none of their ranges overlap
+abbrev pub TellsUnitsOnly : Package → Listed → List UnitEntry → List FaultValue → Type 0
+TellsUnitsOnly pack listed entries faults = ForEach (TellsSeen pack listed) entries faults
+    × (faults ≡ [] → AreApart pack entries contribution_kinds)
+
+units_then : (pack : Package) (entries : List UnitEntry) (listed : Listed)
+    (faults more : List FaultValue) → TellsUnitsOnly pack listed entries faults
+    → TellsListed pack listed more → TellsUnits pack entries (faults ++ more)
+units_then pack entries listed faults more units strings = (
+  strings.objects,
+  in_turn {P = TellsSlots pack strings.objects entries}
+      {Q = TellsStringsOfAll pack strings.objects} faults more (
+        for_each_weaker (TellsSeen pack listed) (TellsSlot pack strings.objects)
+            (λ entry faults t. (
+              t.0,
+              λ none. has_strings pack strings.objects listed strings.others entry.object
+                  (found pack entry.object) refl (t.1 none),
+            )) entries faults units.0,
+        units.1,
+      )
+      strings.told,
+)
+
+by_count : (any : Bool) (m n : ℕ) → (any && nat_eq n m) ≡ false → n ≡ m → any ≡ false
+by_count any m n e same = grind (arith, nat_tests)
+
+-- nothing was told of units, so the number of faults stayed
+module _ (pack : Package) (entries : List UnitEntry) (listed : Listed) (any : Bool) where
+  pub units_apart : {a b : Progress}
+      → (any ≡ false → AreApart pack entries contribution_kinds)
+      → (any && nat_eq b.count a.count) ≡ false → Told (ForEach (TellsSeen pack listed) entries) a b
+      → Told (TellsUnitsOnly pack listed entries) a b
+  units_apart {a} {b} apart not_all t = record {
+    faults = t.faults;
+    are = (t.are, λ none. apart (by_count any a.count b.count not_all (rw none at t.counted)));
+    handed = t.handed;
+    added = t.added;
+    split = t.split;
+    counted = t.counted;
+    formed = t.formed;
+  }
+
+pub units_or : (Stops : Failure → Type 0) (pack : Package) (entries : List UnitEntry)
+    (listed : Listed) {a b : Progress} (c : Progress) (result : Outcome)
+    → Told (TellsUnitsOnly pack listed entries) a b
+    → TellsOr Stops (TellsListed pack listed) b c result
+    → TellsOr Stops (TellsUnits pack entries) a c result
+units_or Stops pack entries listed {a} {b} c result units strings =
+    then_or (TellsUnitsOnly pack listed entries) (TellsListed pack listed) Stops a b c
+    (TellsUnits pack entries) (units_then pack entries listed) result units strings
+
+-- ---- units that are gone through
+
+-- nothing was remembered
+pub stays_seen : (pack : Package) (seen : Seen) → IsSeen pack seen → GoesOn pack seen seen
+stays_seen pack seen is = record { seen = is; kept = λ range there. there }
+
+-- a text was made, as nothing was told else
+pub text_made : {E : Type 0} {P : Type 0} (object : DwarfObject)
+    (text : Result (Option (String Global)) E) (a b : Progress) → OnOk text P
+    → TellsText object text a b (Ok tt) → P
+text_made object (Ok text) a b is h = is
+text_made object (Err cause) a b is h = absurd (let e = h.0 in cc)
+
+module _ (pack : Package) where
+  pub text_seen : {E : Type 0} (listed : Listed) (entry : UnitEntry)
+      (text : Result (Option (String Global)) E) (a b : Progress)
+      → IsTextOf (TellsUnit pack entry) entry.object text
+      → IfOk text (λ t. t ≡ None → IsGatheredIn pack listed (found pack entry.object))
+      → TellsText entry.object text a b (Ok tt) → Told (TellsSeen pack listed entry) a b
+  text_seen listed entry (Ok None) a b is gathered h =
+      told_as h (λ faults e. (rw e is, λ none. gathered refl))
+  text_seen listed entry (Ok (Some text)) a b is gathered h =
+      told_as h (λ faults e. (rw e is, λ none. absurd (let some = rw e at none in cc)))
+  text_seen listed entry (Err cause) a b is gathered h = absurd (let e = h.0 in cc)
+
+  module _ (old new : Listed)
+      (kept : (range : StringRange) → IsGathered pack old range → IsGathered pack new range) where
+    kept_in : (looked : Result (Option FoundUnit) PackageError) → IsGatheredIn pack old looked
+        → IsGatheredIn pack new looked
+    kept_in (Err cause) g = tt
+    kept_in (Ok None) g = tt
+    kept_in (Ok (Some unit)) g = λ range has. kept range (g range has)
+
+    -- one more unit was told of, and more may be gathered
+    pub seen_next : (entries : List UnitEntry) (i : ℕ) (d : UnitEntry) {a b c : Progress}
+        → i < length entries → Told (ForEach (TellsSeen pack old) (take i entries)) a b
+        → Told (TellsSeen pack new (get_or entries i d)) b c
+        → Told (ForEach (TellsSeen pack new) (take (i + 1) entries)) a c
+    seen_next entries i d lt p q =
+        told_next (TellsSeen pack new) entries i d lt
+        (told_as p (for_each_weaker (TellsSeen pack old) (TellsSeen pack new)
+        (λ entry faults t. (t.0, λ none. kept_in (found pack entry.object) (t.1 none)))
+        (take i entries))) q

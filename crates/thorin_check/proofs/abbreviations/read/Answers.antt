@@ -1,0 +1,18 @@
+use Rattle.thorin_check.proofs.Own.{abbreviations_inside, own_read, own_unread}
+use Rattle.thorin_check.proofs.abbreviations.read.Goals as goal
+
+pub read_behind-requires : goal.read_behind-requires
+read_behind-requires c = record {
+  inside = abbreviations_inside c.args.pack.now c.args.object c.args.unit.now c.requires.is_found _
+      c.requires.tables;
+}
+
+pub returns-in-Ok-clause-own : goal.returns-in-Ok-clause-own
+returns-in-Ok-clause-own c =
+    rw (own_read c.args.pack.now c.args.object c.args.unit.now c.requires.is_found _ _ _
+    c.requires.tables c.order.ensures.order c.in-Ok.ensures) at c.read_behind.ensures.own
+
+pub returns-in-Err-clause-own : goal.returns-in-Err-clause-own
+returns-in-Err-clause-own c =
+    rw (own_unread c.args.pack.now c.args.object c.args.unit.now c.requires.is_found _
+    c.order.ensures.order c.in-Err.ensures) c.unread.ensures

@@ -1,0 +1,47 @@
+//! The room into which files are read, and what is taken for them.
+
+ghost use Rattle.std.specs.Prelude.{◌≡◌, IfErr};
+ghost use Rattle.std.specs.Path.{path_bytes};
+ghost use Rattle.thorin_inputs.specs.Plain as spec;
+ghost use Rattle.thorin_output.specs.Reads.{IsReadOver};
+ghost use Rattle.thorin_sessions.specs.Sessions.{IsNoWantOfMemory};
+
+use std::path::Path;
+use thorin_errors::InputError;
+use thorin_output::FileSystem;
+
+/// Puts what is taken in place of a file, where it doesn't stay as it is.
+pub(crate) fn put_over(room: &mut Vec<u8>, taken: Option<Vec<u8>>)
+    ensures { room.new.items ≡ spec.or_content room.old.items taken }
+{
+    if let Some(taken) = taken {
+        *room = taken;
+    }
+}
+
+/// What is taken for a content.
+pub(crate) fn or_content<'a>(content: &'a [u8], taken: &'a Option<Vec<u8>>) -> &'a [u8]
+    ensures { result.now ≡ spec.or_content content.now taken.now }
+{
+    match taken {
+        Some(taken) => taken.as_slice(),
+        None => content,
+    }
+}
+
+/// Reads the file at a path: any where that may be, as an input's own path, else a regular one.
+pub(crate) fn read_file<F: FileSystem>(
+    files: &F,
+    is_any: bool,
+    path: Path<'_>,
+    room: &mut Vec<u8>,
+) -> Result<(), InputError>
+    ensures offered { IsReadOver (F.offer files.now (path_bytes path.entry)) room.new.items result }
+    ensures memory { IfErr result IsNoWantOfMemory }
+{
+    if is_any {
+        files.read_over(path, room)
+    } else {
+        files.read_regular_over(path, room)
+    }
+}
