@@ -83,7 +83,7 @@ class Change:
     def __init__(self, crate, file, line, column, old, new, function):
         self.crate, self.file, self.line, self.column, self.old, self.new = crate, file, line, column, old, new
         self.name = f"{file}:{line + 1}:{column + 1} {old} -> {new}"
-        self.functions, self.meant, self.is_alone = {function}, function, False
+        self.functions, self.meant, self.is_alone, self.is_bare = {function}, function, False, False
         self.pairs = [(file, old, new)]
 
     def applied(self, texts):

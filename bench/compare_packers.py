@@ -1,13 +1,14 @@
 #!/usr/bin/env python3
 """Packs the same real and damaged inputs by thorin, llvm-dwp, binutils' dwp and the Rust crate, and writes what came of each.
 
-    bench/compare_packers.py THORIN [--crate PROGRAM] [--rounds N] [--note TEXT] [--debugger COMMAND].. > docs/COMPARISON.md
+    bench/compare_packers.py THORIN [--dwp PROGRAM] [--crate PROGRAM] [--rounds N] [--note TEXT] [--debugger COMMAND].. >
+        docs/COMPARISON.md
 
 It needs gcc, g++, clang, clang++, ar, objcopy, llvm-dwarfdump and the packers in PATH, and rustc, clang-19, lld and
-llvm-dwp-19 if they are there; PROGRAM is bench/crate_program.source, built. Nothing of this is part of the gate. Each run
-has 20 seconds and 4 GiB of memory. packer_inputs.py makes the inputs; N (200 without it) is how many files are damaged at
-random. TEXT is put at the end of the head. COMMAND is a gdb or an lldb, as 'gdb' or 'chroot DIR gdb'; DIR needs /proc, and
-/tmp of outside (mount --bind /tmp DIR/tmp)."""
+llvm-dwp-19 if they are there. The PROGRAM of --dwp is another dwp of binutils, that of --crate bench/crate_program.source,
+built. Nothing of this is part of the gate. Each run has 20 seconds and 4 GiB of memory. packer_inputs.py makes the inputs; N
+(200 without it) is how many files are damaged at random. TEXT is put at the end of the head. COMMAND is a gdb or an lldb, as
+'gdb' or 'chroot DIR gdb'; DIR needs /proc, and /tmp of outside (mount --bind /tmp DIR/tmp)."""
 import collections
 import contextlib
 import random
@@ -23,7 +24,7 @@ import textwrap
 from pathlib import Path
 
 sys.dont_write_bytecode = True
-from packer_inputs import damaged, groups, section, ways  # noqa: E402
+from packer_inputs import compile_again, damaged, groups, section, ways  # noqa: E402
 
 SECONDS = 20
 
@@ -104,6 +105,9 @@ def lengths_are_right(path):
 class Packer:
     def __init__(self, title, command, program, takes_options=False):
         self.title, self.command, self.program, self.takes_options = title, command, program, takes_options
+
+    def version(self):
+        return self.title.split()[-1]
 
     def kept(self, program, option):
         """Where the package of a program is kept for the debuggers."""
@@ -293,17 +297,41 @@ def briefly(text, with_sizes):
     return said + leaves
 
 
+def in_one(packers, cells):
+    """Cells with those of another version of a packer in the column of the first: what came of it where that isn't the same."""
+    kept = list(cells)
+    first = len(cells) - len(packers)
+    for place in range(len(packers) - 1, 0, -1):
+        before, it = packers[place - 1], packers[place]
+        if before.command == it.command:
+            said = kept.pop(first + place)
+            if said != kept[first + place - 1]:
+                kept[first + place - 1] += f"; {it.version()}: {said}"
+    return tuple(kept)
+
+
+def columns(packers):
+    """The titles of packers, those of versions of one as one."""
+    found = []
+    for before, it in zip([None, *packers], packers):
+        if before and before.command == it.command:
+            found[-1] += f" and {it.version()}"
+        else:
+            found.append(it.title)
+    return found
+
+
 def table(title, packers, rows, about="", before=(), counts=False):
     """Prints the rows that differ, those of the same cells as one, and behind them a line for all others."""
     print(f"\n## {title}\n" + (f"\n{wrapped(about)}\n" if about else ""))
-    titles = ["input", *before, *(it.title for it in packers)]
+    titles = ["input", *before, *columns(packers)]
     print(f"| {' | '.join(titles)} |")
     print("|---" * len(titles) + "|")
     kinds = collections.defaultdict(list)
     for name, cells in rows:
         sizes = [int(size.replace(",", "")) for text in cells for size in re.findall(r"all \d+, ([\d,]+) bytes", text)]
         with_sizes = bool(sizes) and max(sizes) - min(sizes) > 500
-        kinds[tuple(briefly(text, with_sizes) for text in cells)].append(re.sub(r": \d+ objects?$", "", name))
+        kinds[in_one(packers, [briefly(text, with_sizes) for text in cells])].append(re.sub(r": \d+ objects?$", "", name))
     alike = {cells: names for cells, names in kinds.items() if len(set(cells)) == 1 and not counts}
     for cells, names in kinds.items():
         if cells not in alike:
@@ -311,6 +339,12 @@ def table(title, packers, rows, about="", before=(), counts=False):
     for cells, names in alike.items():
         print("\n" + wrapped(f"The same in each column, {cells[0]}: {'; '.join(names)}."))
     sys.stdout.flush()
+
+
+def said_of_stale(packer, where, linked):
+    """What came of an executable that was linked with other units than its objects have."""
+    said, is_there = packer.pack(where, [], "app")
+    return "packed without the unit" if is_there and not linked.keys() <= units(where / "OUT").keys() else said
 
 
 def at_random(packer, where, files, rounds):
@@ -349,6 +383,10 @@ def main():
         word = words.pop(0)
         if word == "--crate":
             packers.append(Packer("the Rust crate 0.10.0", "PROGRAM -o OUT INPUT..", [str(Path(words.pop(0)).resolve())]))
+        elif word == "--dwp":
+            program = words.pop(0)
+            title = f"`dwp` of binutils {version(program, '([0-9]+[.][0-9.]+)')}"
+            packers.append(Packer(title, "dwp -o OUT INPUT..", [program]))
         elif word == "--debugger":
             debuggers.append(Debugger(words.pop(0)))
         elif word == "--note":
@@ -388,7 +426,7 @@ def head(commands, compilers, note):
                     "7.26).", "- "),
             wrapped("**With** an option of `thorin`'s that is for such an input, and **without** it: what came of each.", "- "),
             wrapped("**Refused**: it ended with another status than 0 and a message. **Leaves a file**: one that was begun and is "
-                    "no package.", "- "),
+                    "no package. **Packed without the unit**: that which the executable names is lost without a word.", "- "),
             wrapped("Inputs of which the same came stand in one row, and those of which the same came of each packer in a line "
                     "below.", "- ")])])
 
@@ -396,7 +434,7 @@ def head(commands, compilers, note):
 def compare(folder, packers, debuggers, rounds, note):
     numbers = r"([0-9]+[.][0-9]+[.][0-9]+)"
     compilers = ", ".join(f"{c.partition('-')[0]} {version(c, numbers)}" for c in ("gcc", "clang", "clang-19", "rustc") if shutil.which(c))
-    print(head([p.command for p in packers], compilers, note))
+    print(head(list(dict.fromkeys(p.command for p in packers)), compilers, note))
     split, objects = list(groups(folder)), {}
     rows, again, linked = [], [], []
     for it in split:
@@ -435,8 +473,11 @@ def compare(folder, packers, debuggers, rounds, note):
             cells.append(said + ("" if is_there or not (wrong / "OUT").exists() else "; leaves a file"))
         rows.append((title, cells))
     lost = objects["4"]
+    linked = units(lost / "part.dwo")
     (lost / "part.dwo").unlink()
     rows.append(("an executable, an object of which is gone", [p.pack(lost, [], "app")[0] for p in packers]))
+    compile_again(lost)
+    rows.append(("an executable, an object of which was compiled again", [said_of_stale(p, lost, linked) for p in packers]))
     table("Damaged inputs", packers, rows)
     files = [(it.where / "main.dwo").read_bytes() for it in split if "main.dwo" in it.units_in]
     files += [(where / "made.dwp").read_bytes() for where in objects.values()]

@@ -233,6 +233,12 @@ def ways(folder):
         yield rlibs(where)
 
 
+def compile_again(where):
+    """Compiles an object of a program once more, by gcc in DWARF 4, with one function more, and doesn't link it."""
+    (where / "part.c").write_text(C_PART + "int more(void) { return 1; }\n")
+    must(["gcc", "-g", "-gdwarf-4", "-gsplit-dwarf", "-c", "part.c"], where)
+
+
 def section(data, name):
     """Place and size of a section of a 64-bit little-endian ELF file, and the place of its header."""
     headers, = struct.unpack_from("<Q", data, 40)

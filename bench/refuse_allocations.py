@@ -1,15 +1,18 @@
 #!/usr/bin/env python3
 """Runs tests, or the program, with one allocation refused, for each in turn.
 
-    bench/refuse_allocations.py CRATE..     the tests of refused allocations of a crate
-    bench/refuse_allocations.py --program   pack, pack -e, find, list and check
+    bench/refuse_allocations.py CRATE..      the tests of refused allocations of a crate, or all files of a program of rows
+    bench/refuse_allocations.py CRATE/FILE   one of these files
+    bench/refuse_allocations.py --program    pack, pack -e, find, list and check
 
-`rt ci` has built the tests and the program before. Each test whose name begins with `a_refused` or `refused`, and each command,
-is run with its first allocation refused, then with its second, and so on until a run meets no refusal. A test that
-fails is told with the number of the allocation; a command has to tell `error: Out of memory`, with at most one note of
-the file behind it, and end with status 1, or to give all that it gives without a refusal. Wants a C compiler that splits
-DWARF, and glibc.
+`rt ci` has built the tests and the programs before. Each test whose name begins with `a_refused` or `refused`, each file of
+rows and each command is run with its first allocation refused, then with its second, and so on until a run meets no refusal. A
+test that fails is told with the number of the allocation; a row has to give what it gives without a refusal, or to say
+`Memory`, unless memory is refused for what is printed, so that nothing is; a command has to tell `error: Out of memory`, with at
+most one note of the file behind it, and end with status 1, or to give all that it gives without a refusal. Wants a C compiler
+that splits DWARF, and glibc.
 """
+import glob
 import os
 import re
 import subprocess
@@ -18,6 +21,8 @@ import tempfile
 
 HERE = os.path.dirname(os.path.abspath(__file__))
 CRATES = os.path.join(HERE, "..", "crates")
+# Calls of rows that say whether something is there, and not why it isn't: of these only that they answer.
+OF_YES_AND_NO = {"crowded", "written"}
 
 
 def tests_of(program):
@@ -27,12 +32,13 @@ def tests_of(program):
     return [name for name in names if name.split("::")[-1].startswith(("a_refused", "refused"))]
 
 
-def refuse_in_turn(name, words, shim, why_wrong):
+def refuse_in_turn(name, words, shim, why_wrong, at=None):
     """Runs the words with each allocation refused in turn; how many runs went wrong, by what a run printed and ended with."""
     failed, number, refused = 0, 0, True
     while refused:
         number += 1
-        done = subprocess.run(words, env=dict(os.environ, LD_PRELOAD=shim, REFUSED=str(number)), capture_output=True, text=True, timeout=60)
+        environment = dict(os.environ, LD_PRELOAD=shim, REFUSED=str(number))
+        done = subprocess.run(words, cwd=at, env=environment, capture_output=True, text=True, timeout=60)
         refused = "refused\n" in done.stderr
         why = why_wrong(done.returncode, done.stdout, done.stderr.replace("refused\n", ""), refused)
         if why:
@@ -46,6 +52,41 @@ def refuse_in_tests(crate, shim):
     program = os.path.join(CRATES, crate, "out", crate + "_tests")
     why_wrong = lambda status, printed, _told, _refused: printed.strip() or f"status {status}" if status else ""
     return sum(refuse_in_turn(f"{crate} {test}", [program, test], shim, why_wrong) for test in tests_of(program))
+
+
+def files_of(asked):
+    """The files of rows that a word asks for; none where it names a crate of tests."""
+    if "/" in asked:
+        return [asked]
+    return [f"{asked}/{os.path.basename(it)}" for it in sorted(glob.glob(os.path.join(CRATES, asked, "data", "*.rows")))]
+
+
+def rows_of(printed):
+    """The rows that were printed, each with its answer."""
+    rows = []
+    for line in printed.splitlines():
+        if line.startswith("    ") and rows:
+            rows[-1] += f"\n{line}"
+        else:
+            rows.append(line)
+    return rows
+
+
+def refuse_in_rows(file, shim):
+    """A file of rows, each of which answers as without a refusal or that memory was refused."""
+    crate, name = file.split("/")
+    words, at = [os.path.join(CRATES, crate, "out", crate), name], os.path.join(CRATES, crate, "data")
+    whole = rows_of(subprocess.run(words, cwd=at, capture_output=True, text=True, check=True).stdout)
+
+    def why_wrong(status, printed, told, refused):
+        if status:
+            return "" if refused and status == 1 and not printed and "emory" in told else f"status {status}, {told!r}"
+        rows = rows_of(printed)
+        named = (it for it in zip(rows, whole) if it[1].split(" ")[0] not in OF_YES_AND_NO)
+        wrong = [it for it, wanted in named if it != wanted and "Memory" not in it]
+        return wrong[0] if wrong else "" if len(rows) == len(whole) else f"{len(rows)} rows"
+
+    return refuse_in_turn(file, words, shim, why_wrong, at)
 
 
 def refuse_in_program(folder, shim):
@@ -99,7 +140,12 @@ def main(asked):
         source = os.path.join(HERE, "refuse_allocation.c")
         subprocess.run(["cc", "-O1", "-shared", "-fPIC", "-o", shim, source], check=True)
         for it in asked:
-            failed += refuse_in_program(folder, shim) if it == "--program" else refuse_in_tests(it, shim)
+            if it == "--program":
+                failed += refuse_in_program(folder, shim)
+            elif files := files_of(it):
+                failed += sum(refuse_in_rows(file, shim) for file in files)
+            else:
+                failed += refuse_in_tests(it, shim)
     print(f"{failed} runs failed")
     return 1 if failed else 0
 

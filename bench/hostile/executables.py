@@ -112,13 +112,44 @@ def skeletons_of_two_objects_without_units(n, folder):
     return skeletons_of(names, n, False)
 
 
+def many_paths(n, folder, name):
+    """Paths of a file in a folder, each spelled in a way of its own."""
+    folder = os.path.abspath(folder)
+    steps = max(n - 1, 1).bit_length()
+    return [folder + "".join("/." if id >> bit & 1 else "/" for bit in range(steps)) + "/" + name for id in range(n)]
+
+
 def skeletons_of_one_object_by_many_paths(n, folder):
     """The same, where each unit spells the object's path in a way of its own."""
-    folder = os.path.abspath(folder)
     object_of_types(os.path.join(folder, "object.dwo"), [1], bytes(n))
-    spelled = (("/." if id >> bit & 1 else "/") for id in range(n) for bit in range(max(n - 1, 1).bit_length()))
-    steps = max(n - 1, 1).bit_length()
-    return skeletons_of([folder + "".join(next(spelled) for _ in range(steps)) + "/object.dwo" for _ in range(n)], n, True)
+    return skeletons_of(many_paths(n, folder, "object.dwo"), n, True)
+
+
+def skeletons_of_one_library_by_many_paths(n, folder):
+    """The same of a file of n sections, none of which is used."""
+    write(os.path.join(folder, "library.so"), library(n))
+    return skeletons_of(many_paths(n, folder, "library.so"), n, True)
+
+
+def library(n):
+    return elf([(".text", bytes(16))] * min(n, 60_000))
+
+
+def executables_of_one_library(n, folder):
+    """A response file that names an executable n times, which names such a file."""
+    names = [os.path.abspath(os.path.join(folder, name)) for name in ("library.so", "app")]
+    write(names[0], library(n))
+    write(names[1], skeletons_of(names[:1], 1, True))
+    return b"--skip-missing\n" + f"-e {names[1]}\n".encode() * n
+
+
+def inputs_and_executables(n, folder):
+    """A response file of a prefix, n inputs and n executables, in which nothing is split."""
+    write(os.path.join(folder, "lines.dwo"), elf([(".debug_line.dwo", bytes(12))]))
+    write(os.path.join(folder, "app"), elf([(".text", bytes(16))]))
+    words = ["--prefix-map /from=/to", *many_paths(n, folder, "lines.dwo")]
+    words += [f"-e {path}" for path in many_paths(n, folder, "app")]
+    return "".join(word + "\n" for word in words).encode()
 
 
 def attributes_of_an_executable(n):
