@@ -3,10 +3,12 @@
 ghost use Rattle.std.specs.Prelude.{◌≡◌, ◌++◌, ◌∷◌, [], Some, None, map, IfOk};
 ghost use Rattle.thorin_commands.specs.Packing.{asked, object_asked, executable_asked};
 
+use crate::packing::{Packing, paths_in};
 use std::alloc::{AllocError, Global};
 use std::path::Path;
 use thorin::{Input, NamelessUnits};
 use thorin_errors::MissingReferencedObjectBehaviour;
+use thorin_inputs::Places;
 
 /// The executable at a path as an input.
 fn executable_input(
@@ -68,4 +70,17 @@ pub(crate) fn inputs_with<'a>(
     let mut inputs = inputs_of(alloc, objects, executables, missing, nameless)?;
     inputs.push(Input::Object(Path::new(last)))?;
     Ok(inputs)
+}
+
+/// Where the paths stand that a command line names, if it maps others.
+pub(crate) fn given_places<'f>(
+    alloc: Global,
+    packing: &Packing<'f, 'f>,
+) -> Result<Places<'f>, AllocError> {
+    let mut places = Places::new(alloc);
+    if !paths_in(packing.prefix_maps).is_empty() {
+        places.add(paths_in(packing.executables))?;
+        places.add(paths_in(packing.inputs))?;
+    }
+    Ok(places)
 }

@@ -17,12 +17,12 @@ ghost use Rattle.thorin_commands.specs.Packing.{read_through, reads};
 ghost use Rattle.thorin_commands.specs.Taken.{DeclinesBytes, DeclinesPlain, HasOverlap, IsPlainFor};
 ghost use Rattle.thorin_commands.specs.Taken.{IsReadInto};
 
-use crate::asked::executable_of;
+use crate::asked::{executable_of, given_places};
 use crate::differences::{Difference, Differences};
 use crate::origins::{Holding, Origin, Origins};
-use crate::packing::{Packing, paths_in};
+use crate::packing::Packing;
 use crate::reading::Inputs;
-use crate::room::{or_content, put_over, read_file};
+use crate::room::{or_content, put_over, read_file, unit_count_of};
 use dwp_macros::{MacrosError, with_macros};
 use dwp_table::{DebugTypeSignature, DwarfObject, DwoId};
 use std::alloc::{AllocError, Global};
@@ -32,8 +32,7 @@ use thorin::{Input, InputReader, NotTaken, Repetition};
 use thorin_errors::InputError;
 use thorin_inputs::{
     AbsentUnits, Encodings, Growth, MacroWarnings, Places, PlainError, Prefixes, Repetitions,
-    count_units, decompress, has_compressed_overlap, has_inner_strings, has_overlap, plain_of,
-    reason,
+    has_compressed_overlap, has_inner_strings, has_overlap, plain_of, reason,
 };
 use thorin_output::FileSystem;
 use thorin_print::Failure;
@@ -448,19 +447,7 @@ impl<F: FileSystem> Inputs for InputFiles<'_, F> {
     }
 
     fn unit_count(&self, path: &str) -> Result<Option<usize>, Failure> {
-        if !self.files.is_regular(path) {
-            return Ok(None);
-        }
-        let mut room = Vec::new(self.alloc);
-        match self.files.read_over(Path::new(path), &mut room) {
-            Ok(()) => {}
-            Err(InputError::Io(_)) => return Err(Failure::Input),
-            Err(InputError::Memory) => return Err(Failure::Memory),
-        }
-        if self.packing.decompresses {
-            decompress(self.alloc, &mut room, self.packing.allows_overlap)?;
-        }
-        Ok(count_units(room.as_slice()))
+        unit_count_of(self.alloc, self.files, self.packing, path)
     }
 
     fn last_named(&self) -> Option<String> {
@@ -503,14 +490,4 @@ impl<F: FileSystem> Inputs for InputFiles<'_, F> {
     fn encoding_notes(&self) -> Result<Option<String>, AllocError> {
         self.encodings.notes()
     }
-}
-
-/// Where the paths stand that a command line names, if it maps others.
-fn given_places<'f>(alloc: Global, packing: &Packing<'f, 'f>) -> Result<Places<'f>, AllocError> {
-    let mut places = Places::new(alloc);
-    if !paths_in(packing.prefix_maps).is_empty() {
-        places.add(paths_in(packing.executables))?;
-        places.add(paths_in(packing.inputs))?;
-    }
-    Ok(places)
 }

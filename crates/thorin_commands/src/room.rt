@@ -6,9 +6,13 @@ ghost use Rattle.thorin_inputs.specs.Plain as spec;
 ghost use Rattle.thorin_output.specs.Reads.{IsReadOver};
 ghost use Rattle.thorin_sessions.specs.Sessions.{IsNoWantOfMemory};
 
+use crate::packing::Packing;
+use std::alloc::Global;
 use std::path::Path;
 use thorin_errors::InputError;
+use thorin_inputs::{count_units, decompress};
 use thorin_output::FileSystem;
+use thorin_print::Failure;
 
 /// Puts what is taken in place of a file, where it doesn't stay as it is.
 pub(crate) fn put_over(room: &mut Vec<u8>, taken: Option<Vec<u8>>)
@@ -44,4 +48,26 @@ pub(crate) fn read_file<F: FileSystem>(
     } else {
         files.read_regular_over(path, room)
     }
+}
+
+/// How many units the file at a path has; none where it is no regular file or no ELF file.
+pub(crate) fn unit_count_of<F: FileSystem>(
+    alloc: Global,
+    files: &F,
+    packing: &Packing<'_, '_>,
+    path: &str,
+) -> Result<Option<usize>, Failure> {
+    if !files.is_regular(path) {
+        return Ok(None);
+    }
+    let mut room = Vec::new(alloc);
+    match files.read_over(Path::new(path), &mut room) {
+        Ok(()) => {}
+        Err(InputError::Io(_)) => return Err(Failure::Input),
+        Err(InputError::Memory) => return Err(Failure::Memory),
+    }
+    if packing.decompresses {
+        decompress(alloc, &mut room, packing.allows_overlap)?;
+    }
+    Ok(count_units(room.as_slice()))
 }
