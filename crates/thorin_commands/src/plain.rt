@@ -20,7 +20,7 @@ ghost use Rattle.thorin_commands.specs.Taken.{IsReadInto};
 use crate::asked::{executable_of, given_places};
 use crate::differences::{Difference, Differences};
 use crate::origins::{Holding, Origin, Origins};
-use crate::packing::Packing;
+use crate::packing::{Packing, paths_in};
 use crate::reading::Inputs;
 use crate::room::{or_content, put_over, read_file, unit_count_of};
 use dwp_macros::{MacrosError, with_macros};
