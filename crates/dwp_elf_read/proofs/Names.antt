@@ -20,7 +20,7 @@ text_of_result view F bytes (Err e) h =
     rw (false_from_ne_true (is_utf8 bytes) (λ e. h.0 (IsUtf8-from_is_utf8 bytes e))) refl
 
 -- the first zero byte, as `memchr` says it and as `position` does
-position_first : (bytes : List ℕ) (r : Option ℕ) → IsFirstByte (is_byte 0) bytes r
+pub position_first : (bytes : List ℕ) (r : Option ℕ) → IsFirstByte (is_byte 0) bytes r
     → position (λ b. b == 0) bytes ≡ r
 position_first bytes None h =
     let far = position_or_len_is (λ b. b == 0) bytes (length bytes) 0 (omega arith)

@@ -1,18 +1,24 @@
 -- Whether a text of a string table is one that is given, by as much of it as that is long.
-use Rattle.std.proofs.Common.{◌≡◌, ℕ, zero, suc, ◌+◌, ◌<◌, ◌≤◌, ◌==◌, nat_lt, Bool, false, List, []}
-use Rattle.std.proofs.Common.{◌∷◌, Option, None, Some, length, take, drop, position, refl, ap, sym}
-use Rattle.std.proofs.Common.{min, find, get_or, arith}
+use Rattle.std.proofs.Common.{◌≡◌, ℕ, zero, suc, ◌<◌, ◌==◌, nat_lt, Bool, false, List, []}
+use Rattle.std.proofs.Common.{◌∷◌, ◌∙◌, true, not, is_some, Option, None, Some, length, take, drop}
+use Rattle.std.proofs.Common.{position, refl, ap, sym}
+use Rattle.std.proofs.Common.{find, get_or, arith}
 use Rattle.std.proofs.lemmas.Bool.{eqb-true}
 use Rattle.std.proofs.lemmas.List.Quantifiers.{position-Some}
 use Rattle.std.specs.List.{position_or_len}
 use Rattle.std.specs.Option.{option_and_then}
 use Rattle.std.specs.Str.{is_utf8, bytes_eq}
-use Rattle.std.proofs.lemmas.Bool.{lt-ltb, le-ltb, ltb-true, ltb-false, false_from_ne_true}
-use Rattle.std.proofs.lemmas.List.{drop_all, length-take-le, take-take}
+use Rattle.std.proofs.lemmas.Bool.{lt-ltb, ltb-false, false_from_ne_true}
+use Rattle.std.proofs.lemmas.List.{drop_all, get_or-take, length-take-le}
+use Rattle.std.proofs.lemmas.List.Sums.{position_or_len_is}
 use Rattle.std.proofs.lemmas.Slice.Eq.{bytes_eq-Decides}
-use Rattle.dwp_base.specs.Sections.{all_kinds, kind_named}
+use Rattle.dwp_base.specs.Sections.{all_kinds, compressed_name_of, kind_named, name_of}
+use Rattle.dwp_base.specs.declared.section.SectionKind.{SectionKind}
+use Rattle.memchr.specs.Find.{IsFirstByte, is_byte}
+use Rattle.dwp_elf_read.proofs.Names.{position_first}
 use Rattle.dwp_elf_read.specs.Elf.{text_of, text_at, name_is, has_name}
 use Rattle.dwp_base.proofs.Bools.{by-bool}
+use Rattle.dwp_base.proofs.EveryKind.{each}
 
 abbrev zero_byte : ℕ → Bool
 zero_byte b = b == 0
@@ -21,13 +27,26 @@ zero_byte b = b == 0
 abbrev first_text : List ℕ → Option ℕ → Option (List ℕ)
 first_text bytes end = option_and_then (λ n. text_of (take n bytes)) end
 
--- the first zero byte of a beginning
-first_before : (m : ℕ) (bytes : List ℕ) → m ≤ length bytes
-    → position_or_len zero_byte (take m bytes) ≡ min m (position_or_len zero_byte bytes)
-first_before zero bytes h = omega arith
-first_before (suc m) [] h = absurd (omega arith)
-first_before (suc m) (b ∷ bytes) h = by-bool _ (zero_byte b) (λ e. rw e (omega arith))
-    (λ e. rw e (omega (arith, first_before m bytes (omega arith))))
+-- before the first zero byte there is none
+none_before : (text : List ℕ) (k : ℕ) → k < position_or_len zero_byte text
+    → zero_byte (get_or text k 0) ≡ false
+none_before [] k = λ below. absurd (omega (arith, below))
+none_before (b ∷ text) zero =
+    by-bool (0 < position_or_len zero_byte (b ∷ text) → zero_byte b ≡ false) (zero_byte b)
+    (λ e. rw e (λ below. absurd (omega (arith, below)))) (λ e below. e)
+none_before (b ∷ text) (suc k) =
+    by-bool (suc k < position_or_len zero_byte (b ∷ text) → zero_byte (get_or text k 0) ≡ false)
+    (zero_byte b) (λ e. rw e (λ below. absurd (omega (arith, below))))
+    (λ e. rw e (λ below. none_before text k (omega (arith, below))))
+
+-- a text without one has none at a place
+none_at : (text : List ℕ) (k : ℕ) → position zero_byte text ≡ None → k < length text
+    → zero_byte (get_or text k 0) ≡ false
+none_at text k =
+    by-bool (position zero_byte text ≡ None → k < length text → zero_byte (get_or text k 0) ≡ false)
+    (nat_lt (position_or_len zero_byte text) (length text))
+    (λ yes. rw yes (λ whole below. absurd cc))
+    (λ no whole below. none_before text k (omega (arith, below, ltb-false _ _ no)))
 
 -- a text of another length is another
 other_text : (own text : List ℕ) → (length own ≡ length text → ⊥) → name_is text (text_of own)
@@ -56,47 +75,203 @@ pub no_end : (table rest text : List ℕ) (place : ℕ) → rest ≡ drop place 
 unfolding text_at
 no_end table rest text place here other = rw (← here) (unended_text rest text _ refl other)
 
--- whether the text that begins the bytes is one that is given, by a beginning that is a byte longer
--- or all there is
-short_text : (m : ℕ) (bytes text : List ℕ) → m ≤ length bytes
-    → (m < length bytes → m ≡ length text + 1)
-    → name_is text (first_text (take m bytes) (position zero_byte (take m bytes))) ≡ name_is text
-    (first_text bytes (position zero_byte bytes))
-short_text m bytes text fits long =
-    let first = position_or_len zero_byte bytes in
-    let part = position_or_len zero_byte (take m bytes) in
-    let least = first_before m bytes fits in
-    let size = length-take-le m bytes fits in
-    by-bool _ (nat_lt first m)
-    (λ yes.
-    let below = ltb-true first m yes in
-    let same : part ≡ first = omega arith in
-    let inside = lt-ltb first (length bytes) (omega arith) in
-    rw (same, size, yes, inside, take-take first m bytes (omega arith)) refl)
-    (λ no.
-    let behind = ltb-false first m no in
-    let none : part ≡ m = omega arith in
-    rw (none, size, le-ltb m m (omega arith)) (by-bool _ (nat_lt first (length bytes))
-    (λ inside.
-    let within = ltb-true first (length bytes) inside in
-    let taken = length-take-le first bytes (omega arith) in
-    let whole = long (omega arith) in
-    rw inside (sym (other_text (take first bytes) text (λ same. omega (arith, same)))))
-    (λ past. rw past refl)))
+-- nor one that isn't what stands before it
+unlike_text : (bytes text : List ℕ) (end : Option ℕ) → position zero_byte bytes ≡ end
+    → (take (length text) bytes ≡ text → ⊥) → name_is text (first_text bytes end) ≡ false
+unfolding text_of
+unlike_text bytes text None is other = refl
+unlike_text bytes text (Some n) is other =
+    let found = position-Some zero_byte bytes n 0 is in
+    by-bool _ (is_utf8 (take n bytes))
+    (λ yes. rw yes (false_from_ne_true (bytes_eq (take n bytes) text) (λ same.
+    let own : take n bytes ≡ text = (bytes_eq-Decides (take n bytes) text).0 same in
+    let size : n ≡ length text = omega (
+      arith,
+      length-take-le n bytes (omega (arith, found.0)),
+      ap
+          length own,
+    ) in
+    other (rw (← size) own))))
+    (λ no. rw no refl)
 
--- the same by what a look at the table gives
-pub is_text : (table rest window text : List ℕ) (place m : ℕ) → rest ≡ drop place table
-    → window ≡ take m rest → m ≡ min (length rest) (length text + 1)
-    → name_is text (text_at window 0) ≡ name_is text (text_at table place)
+-- where bytes begin with a text without a zero byte, and one behind it, that is the first
+position_at : (bytes text : List ℕ) → position zero_byte text ≡ None → length text < length bytes
+    → get_or bytes (length text) 0 ≡ 0 → take (length text) bytes ≡ text
+    → position zero_byte bytes ≡ Some (length text)
+position_at bytes text whole within nul same =
+    let n = length text in
+    let first = position_or_len_is zero_byte bytes n 0 (omega (arith, within))
+    (λ k below. ap zero_byte (sym (get_or-take n bytes k 0 below) ∙ ap (λ own. get_or own k 0) same)
+    ∙ none_at text k whole below) (λ _. ap zero_byte nul) in
+    rw (first, lt-ltb n (length bytes) within) refl
+
+-- one that is, up to the first zero byte
+ended_text : (bytes text : List ℕ) → position zero_byte text ≡ None → is_utf8 text ≡ true
+    → length text < length bytes → get_or bytes (length text) 0 ≡ 0
+    → take (length text) bytes ≡ text
+    → name_is text (first_text bytes (position zero_byte bytes)) ≡ true
+unfolding text_of
+ended_text bytes text whole valid within nul same =
+    let end = position_at bytes text whole within nul same in
+    rw (end, same, valid) ((bytes_eq-Decides text text).1 refl)
+
+-- what a look at the table gives, where a zero byte stands behind as many bytes as the text has
+pub by_bytes : (table rest front own text : List ℕ) (place : ℕ) (same : Bool)
+    → rest ≡ drop place table → front ≡ take (length text) rest → own ≡ text
+    → same ≡ bytes_eq front own → length text < length rest → get_or rest (length text) 0 ≡ 0
+    → is_utf8 text ≡ true
+    → (position zero_byte text ≡ None → same ≡ name_is text (text_at table place))
+    × (same ≡ false → name_is text (text_at table place) ≡ false)
 unfolding text_at
-is_text table rest window text place m here start size =
-    rw (start, ← here) (short_text m rest text (omega arith) (λ less. omega arith))
+by_bytes table rest front own text place same here begins given eq within nul valid =
+    let decides = bytes_eq-Decides (take (length text) rest) text in
+    let told : same ≡ bytes_eq (take (length text) rest) text = rw (← begins, ← given) eq in
+    by-bool _ (bytes_eq (take (length text) rest) text)
+    (λ e.
+    let yes : same ≡ true = told ∙ e in (
+      λ whole. rw (yes, ← here) (sym (ended_text rest text whole valid within nul (decides.0 e))),
+      λ f. let bad : true ≡ false = sym yes ∙ f in absurd cc,
+    ))
+    (λ e.
+    let differs : name_is text (text_at table place) ≡ false = rw (← here) (unlike_text rest text _
+    refl (λ it. let bad : true ≡ false = sym (decides.1 it) ∙ e in absurd cc)) in
+    (λ _. told ∙ e ∙ sym differs, λ _. differs))
+
+-- the text before a zero byte has none
+whole_text : (bytes text : List ℕ) (end : Option ℕ) → position zero_byte bytes ≡ end
+    → name_is text (first_text bytes end) ≡ true → (k : ℕ) → k < length text
+    → zero_byte (get_or text k 0) ≡ false
+unfolding text_of
+whole_text bytes text None is = λ named k below. absurd cc
+whole_text bytes text (Some n) is =
+    let found = position-Some zero_byte bytes n 0 is in
+    by-bool (name_is text (text_of (take n bytes)) ≡ true → (k : ℕ) → k < length text
+    → zero_byte (get_or text k 0) ≡ false) (is_utf8 (take n bytes))
+    (λ yes. rw yes (λ named k below.
+    let own : take n bytes ≡ text = (bytes_eq-Decides (take n bytes) text).0 named in
+    let size : length text ≡ n = omega (
+      arith,
+      length-take-le n bytes (omega (arith, found.0)),
+      ap
+          length own,
+    ) in
+    ap zero_byte (ap (λ it. get_or it k 0) (sym own) ∙ get_or-take n bytes k 0 (omega (
+      arith,
+      below,
+      size,
+    ))) ∙ found.2 k (omega (arith, below, size))))
+    (λ no. rw no (λ named. absurd cc))
+
+pub with_zero : (table text : List ℕ) (place k : ℕ) → k < length text
+    → zero_byte (get_or text k 0) ≡ true → false ≡ name_is text (text_at table place)
+unfolding text_at
+with_zero table text place k below nul =
+    let none = whole_text (drop place table) text _ refl in
+    sym (false_from_ne_true (name_is text (text_at table place)) (λ named.
+    let bad : true ≡ false = sym nul ∙ none named k below in absurd cc))
+
+-- so a text without one that stands there is the name
+pub without_zero : (table text own : List ℕ) (place : ℕ) (found : Option ℕ) (stands none : Bool)
+    → own ≡ text → IsFirstByte (is_byte 0) own found → is_some found ≡ not none → stands ≡ true
+    → (position zero_byte text ≡ None → stands ≡ name_is text (text_at table place))
+    → none ≡ name_is text (text_at table place)
+without_zero table text own place None stands true same first is given exact =
+    sym given ∙ exact (ap (position zero_byte) (sym same) ∙ position_first own None first)
+without_zero table text own place None stands false same first is given exact = absurd cc
+without_zero table text own place (Some i) stands true same first is given exact = absurd cc
+without_zero table text own place (Some i) stands false same first is given exact =
+    with_zero table text place i (rw (← same) first.0.high) (rw (← same) first.1)
 
 -- past the end of the table there is no text
 pub no_text : (table text : List ℕ) (place : ℕ) → length table < place → false ≡ name_is text
     (text_at table place)
 unfolding text_at
 no_text table text place past = rw (drop_all place table (omega arith)) refl
+
+-- no name of a kind has a zero byte
+pub no_zero : (kind : SectionKind) → position zero_byte (name_of kind) ≡ None
+no_zero = each (λ kind. position zero_byte (name_of kind) ≡ None) (
+  refl,
+  (
+    refl,
+    (
+      refl,
+      (
+        refl,
+        (
+          refl,
+          (
+            refl,
+            (
+              refl,
+              (
+                refl,
+                (
+                  refl,
+                  (
+                    refl,
+                    (
+                      refl,
+                      (
+                        refl,
+                        (
+                          refl,
+                          tt,
+                        ),
+                      ),
+                    ),
+                  ),
+                ),
+              ),
+            ),
+          ),
+        ),
+      ),
+    ),
+  ),
+)
+
+pub no_zero_older : (kind : SectionKind) → position zero_byte (compressed_name_of kind) ≡ None
+no_zero_older = each (λ kind. position zero_byte (compressed_name_of kind) ≡ None) (
+  refl,
+  (
+    refl,
+    (
+      refl,
+      (
+        refl,
+        (
+          refl,
+          (
+            refl,
+            (
+              refl,
+              (
+                refl,
+                (
+                  refl,
+                  (
+                    refl,
+                    (
+                      refl,
+                      (
+                        refl,
+                        (
+                          refl,
+                          tt,
+                        ),
+                      ),
+                    ),
+                  ),
+                ),
+              ),
+            ),
+          ),
+        ),
+      ),
+    ),
+  ),
+)
 
 -- the kind that a name belongs to is the first that has it
 pub kinds_are : (name : Option (List ℕ))

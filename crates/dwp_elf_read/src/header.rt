@@ -7,6 +7,7 @@ ghost use Rattle.dwp_elf_read.specs.Layout.{section_header_of};
 ghost use Rattle.dwp_elf_read.specs.Elf.{section_header_at, section_content};
 
 use crate::image::{Image, entry_size_of, word_size_of};
+use dwp_base::{Class, Endianness};
 
 /// The type of a section that has no bytes in the file (`SHT_NOBITS`).
 pub(crate) const SHT_NOBITS: u32 = 8;
@@ -66,6 +67,7 @@ impl<'a> Image<'a> {
     }
 
     /// The section header that the bytes begin with.
+    #[inline(always)]
     #[tactic(auto, unfolding(crate::specs::Layout::section_header_of))]
     fn section_header(&self) -> SectionHeader
         requires { entry_size self.now.class ≤ length self.now.bytes.now }
@@ -93,8 +95,17 @@ impl<'a> Image<'a> {
             ≡ section_header_at self.now.class self.now.order self.now.bytes.now table i }
     {
         let place = table + i * entry_size_of(self.class);
-        self.with_bytes(self.bytes.split_at(place).1)
-            .section_header()
+        let bytes = self.bytes.split_at(place).1;
+        // (what nearly all files have is known to the compiler: each number is one load)
+        match (self.class, self.order) {
+            (Class::Elf64, Endianness::Little) => Image {
+                class: Class::Elf64,
+                order: Endianness::Little,
+                bytes,
+            }
+            .section_header(),
+            _ => self.with_bytes(bytes).section_header(),
+        }
     }
 
     /// Where the content of a section begins and how many bytes it has, if it lies in the file.

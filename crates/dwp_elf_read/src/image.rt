@@ -14,6 +14,7 @@ pub(crate) struct Image<'a> {
 }
 
 /// The bytes of an address, an offset or a size.
+#[inline(always)]
 pub(crate) fn word_size_of(class: Class) -> usize
     ensures { result ≡ word_size class }
 {
@@ -24,6 +25,7 @@ pub(crate) fn word_size_of(class: Class) -> usize
 }
 
 /// The bytes of a section header.
+#[inline(always)]
 pub(crate) fn entry_size_of(class: Class) -> usize
     ensures { result ≡ entry_size class }
 {
@@ -58,6 +60,7 @@ impl<'a> Image<'a> {
     }
 
     /// The number in the four bytes at a place.
+    #[inline(always)]
     pub fn u32_at(&self, place: usize) -> u32
         requires { place + 4 ≤ length self.now.bytes.now }
         ensures { result ≡ number_at self.now.order 4 self.now.bytes.now place }
@@ -66,6 +69,7 @@ impl<'a> Image<'a> {
     }
 
     /// The number in the word at a place: an address, an offset or a size.
+    #[inline(always)]
     pub fn word_at(&self, place: usize) -> u64
         requires { place + word_size self.now.class ≤ length self.now.bytes.now }
         ensures value { result

@@ -1,6 +1,6 @@
 //! Texts of string tables (ELF gABI, "String Table").
 
-ghost use Rattle.std.specs.Prelude.{◌≡◌, option_map};
+ghost use Rattle.std.specs.Prelude.{◌≡◌, ◌==◌, None, false, option_map, position};
 ghost use Rattle.dwp_elf_read.specs.Elf.{text_of, text_at, name_is};
 
 use memchr::memchr;
@@ -27,11 +27,14 @@ pub(crate) fn text_in(table: &[u8], place: u32) -> Option<&str>
     text(rest.split_at(end).0)
 }
 
-/// Whether the text at a place of a string table is this one. No more of the table is looked at
-/// than the text is long, and its end.
+/// Whether this text stands at a place of a string table, and a zero byte behind it. No more of the
+/// table is looked at.
+#[inline(always)]
 #[tactic(auto, using(crate::proofs::ShortNames::no_text))]
-pub(crate) fn is_text_at(table: &[u8], place: u32, text: &str) -> bool
-    ensures { result ≡ name_is text.now (text_at table.now place) }
+pub(crate) fn stands_at(table: &[u8], place: u32, text: &str) -> bool
+    ensures exact { position (λ b. b == 0) text.now ≡ None
+        → result ≡ name_is text.now (text_at table.now place) }
+    ensures other { result ≡ false → name_is text.now (text_at table.now place) ≡ false }
 {
     let place = place as usize;
     if place > table.len() {
@@ -42,8 +45,12 @@ pub(crate) fn is_text_at(table: &[u8], place: u32, text: &str) -> bool
     if text.len() >= rest.len() || rest[text.len()] != 0 {
         return false;
     }
-    match text_in(rest.split_at(text.len() + 1).0, 0) {
-        Some(own) => own == text,
-        None => false,
-    }
+    rest.split_at(text.len()).0 == text.as_bytes()
+}
+
+/// Whether the text at a place of a string table is this one.
+pub(crate) fn is_text_at(table: &[u8], place: u32, text: &str) -> bool
+    ensures { result ≡ name_is text.now (text_at table.now place) }
+{
+    stands_at(table, place, text) && memchr(0, text.as_bytes()).is_none()
 }

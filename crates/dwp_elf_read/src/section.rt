@@ -3,7 +3,7 @@
 use crate::error::ReadError;
 use crate::file::ElfFile;
 use crate::header::{SHT_NOBITS, SectionHeader};
-use crate::name::{is_text_at, text_in};
+use crate::name::{is_text_at, stands_at, text_in};
 use crate::relocations::Relocations;
 use dwp_base::SectionKind;
 
@@ -22,8 +22,8 @@ pub struct Section<'a> {
 impl<'a> Section<'a> {
     ghost use Rattle.dwp_elf_read.specs.declared.error.ReadError.TheVariants.{NameRange};
     ghost use Rattle.dwp_elf_read.specs.declared.error.ReadError.TheVariants.{SectionRange};
-    ghost use Rattle.std.specs.Prelude.{◌≡◌, ◌≤◌, ◌+◌, IfSome, find, length, option_map};
-    ghost use Rattle.std.specs.Prelude.{slice_range};
+    ghost use Rattle.std.specs.Prelude.{◌≡◌, ◌≤◌, ◌+◌, ◌==◌, IfSome, None, find, length};
+    ghost use Rattle.std.specs.Prelude.{option_map, position, slice_range};
     ghost use Rattle.std.specs.Option.{ok_or, option_and_then};
     ghost use Rattle.dwp_base.specs.Sections.{all_kinds, kind_named};
     ghost use Rattle.dwp_base.specs.Reading.{Answers};
@@ -121,20 +121,35 @@ impl<'a> Section<'a> {
         }
     }
 
+    /// Whether this text is where the section's name stands, and a zero byte behind it: so it is the
+    /// name, where it has no zero byte itself.
+    #[inline(always)]
+    fn stands(&self, name: &str) -> bool
+        ensures { position (λ b. b == 0) name.now ≡ None
+            → result ≡ is_named name.now (section self.now) }
+    {
+        match self.file.names {
+            Some(table) => stands_at(table, self.header.name, name),
+            None => false,
+        }
+    }
+
     /// Whether the section has a name that can be read, and it is one of the two spellings of the
     /// kind's. No more of a long name is looked at than these are long.
+    #[tactic(auto, unfolding(crate::specs::View::section, crate::specs::Elf::section_of), using(crate::proofs::ShortNames::no_zero))]
     pub fn is_of(&self, kind: SectionKind) -> bool
         ensures named { result ≡ is_of kind (section self.now) }
     {
-        self.is_called(kind.name()) || self.has_older_name(kind)
+        self.stands(kind.name()) || self.has_older_name(kind)
     }
 
     /// Whether the section has a name that can be read, and it is the older spelling of the kind's,
     /// of compressed sections (`.zdebug_..`).
+    #[tactic(auto, unfolding(crate::specs::View::section, crate::specs::Elf::section_of), using(crate::proofs::ShortNames::no_zero_older))]
     pub fn has_older_name(&self, kind: SectionKind) -> bool
         ensures older { result ≡ has_older_name kind (section self.now).name }
     {
-        self.is_called(kind.compressed_name())
+        self.stands(kind.compressed_name())
     }
 
     /// Whether the section has bytes, and is of the kind, in either spelling.
