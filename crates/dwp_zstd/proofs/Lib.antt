@@ -1,4 +1,5 @@
 pub mod Terms
+pub mod Copies
 pub mod HighBits
 pub mod Loops
 pub mod LowBits
