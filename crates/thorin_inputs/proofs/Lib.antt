@@ -1,5 +1,6 @@
 mod Folding
 mod Marking
+mod Narrowing
 mod Prefixing
 mod Sizes
 mod Standing

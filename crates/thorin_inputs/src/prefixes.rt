@@ -1,11 +1,13 @@
 //! Prefixes of paths that others take the place of.
 
-ghost use Rattle.std.specs.Prelude.{◌≡◌, ℕ, List, [], ◌∷◌, ◌++◌, ◌+◌, ◌<◌, ◌^◌, ◌==◌, true, false};
-ghost use Rattle.std.specs.Prelude.{if◌then◌else◌, IfOk, OnOk, MatchOption, option_map, length, take};
-ghost use Rattle.std.specs.Prelude.{slice_index_or, string_bytes};
+ghost use Rattle.std.specs.Prelude.{◌≡◌, true, false, ℕ, List, [], ◌∷◌, ◌++◌, ◌+◌, ◌<◌, ◌≤◌, IfOk, OnOk};
+ghost use Rattle.std.specs.Prelude.{◌-◌, MatchOption, option_map, length, take, drop, string_bytes};
 ghost use Rattle.std.specs.Borrow.{Bor};
+ghost use Rattle.std.specs.List.Sorted.{IsNonDecreasingBy, IsPartitionPoint};
+ghost use Rattle.std.specs.List.Sorted.{IsStrictlySortedBy-prop};
 ghost use Rattle.thorin_inputs.specs.Prefixes as spec;
-ghost use Rattle.thorin_inputs.specs.Mapped.{AreOf, Counts, last_word};
+ghost use Rattle.thorin_inputs.specs.Mapped.{AreOf, IsOrdered, Counts, last_word};
+ghost use Rattle.thorin_inputs.specs.Mapped.{beginning, key_at};
 
 use std::alloc::{AllocError, Global};
 use std::collections::BTreeMap;
@@ -16,10 +18,10 @@ pub struct Prefixes<'a> {
     alloc: Global,
     /// The words.
     pub words: &'a [&'a str],
-    /// The last word of each FROM, and which lengths a FROM has.
-    last: BTreeMap<&'a [u8], &'a str>,
-    lengths: Vec<bool>,
-    ghost are: { AreOf words.now last lengths.items },
+    /// Each FROM and the last word that has it, in the order of the FROMs.
+    last: Vec<(&'a [u8], &'a str)>,
+    ghost are: { AreOf words.now last.items },
+    ghost ordered: { IsOrdered last.items } by { IsStrictlySortedBy-prop _ _ },
 }
 
 impl<'a> Prefixes<'a> {
@@ -31,16 +33,11 @@ impl<'a> Prefixes<'a> {
         ensures { IfOk result (λ prefixes. prefixes.words.now ≡ words.now) }
     {
         let mut last = BTreeMap::new(alloc);
-        let mut lengths = Vec::new(alloc);
         for word in words {
-            keep(&mut last, &mut lengths, *word)?;
+            keep(&mut last, *word)?;
         }
-        Ok(Prefixes {
-            alloc,
-            words,
-            last,
-            lengths,
-        })
+        let last = last.into_iter().collect(alloc)?;
+        Ok(Prefixes { alloc, words, last })
     }
 
     /// A path in which the longest FROM of the words that it begins with is replaced by its TO; of
@@ -75,29 +72,94 @@ impl<'a> Prefixes<'a> {
         }
     }
 
-    /// The last word of the longest FROM that a path begins with.
+    /// The last word of the longest FROM that a path begins with: of those that go on as the path
+    /// does, fewer are left with each byte.
     fn counted(&self, path: &[u8]) -> Option<&'a str>
         ensures { Counts self.now.words.now path.now (length path.now + 1) result }
     {
         let mut best = None;
+        let mut left = self.last.as_slice();
         for length in 0..path.len() + 1 {
-            best = further(best, self.word_of(&path[..length]));
+            best = further(best, self.word_of(left, path, length));
+            left = self.narrowed(left, path, length);
         }
         best
     }
 
-    /// The last word that has a FROM.
-    #[tactic(auto, using(crate::proofs::Marking::unmarked, crate::proofs::Marking::marked, crate::proofs::Marking::unknown))]
-    fn word_of(&self, from: &[u8]) -> Option<&'a str>
-        ensures { option_map (λ word. word.now) result ≡ last_word self.now.words.now from.now }
+    /// The last word whose FROM is the beginning of a path up to a place, of those that begin so.
+    #[tactic(auto, using(crate::proofs::Narrowing::none_left, crate::proofs::Narrowing::first_is, crate::proofs::Narrowing::first_longer))]
+    fn word_of(&self, left: &[(&'a [u8], &'a str)], path: &[u8], place: usize) -> Option<&'a str>
+        requires inside { place ≤ length path.now }
+        requires left { left.now ≡ beginning (take place path.now) self.now.last.items }
+        ensures { option_map (λ word. word.now) result
+            ≡ last_word self.now.words.now (take place path.now) }
     {
-        if !is_marked(&self.lengths, from.len()) {
-            return None;
-        }
-        match self.last.get(from) {
-            Some(word) => Some(*word),
+        match left.first() {
+            Some(entry) => {
+                if entry.0.len() == place {
+                    Some(entry.1)
+                } else {
+                    None
+                }
+            }
             None => None,
         }
+    }
+
+    /// Those that also have the next byte of the path.
+    #[tactic(auto, using(crate::proofs::Narrowing::at_end))]
+    fn narrowed<'l>(
+        &self,
+        left: &'l [(&'a [u8], &'a str)],
+        path: &[u8],
+        place: usize,
+    ) -> &'l [(&'a [u8], &'a str)]
+        requires inside { place ≤ length path.now }
+        requires left { left.now ≡ beginning (take place path.now) self.now.last.items }
+        ensures { result.now ≡ beginning (take (place + 1) path.now) self.now.last.items }
+    {
+        match path.get(place) {
+            Some(byte) => {
+                let key = u16::from(*byte) + 1;
+                let first = count_below(left, place, key);
+                let end = count_below(left, place, key + 1);
+                between(left, first, end)
+            }
+            None => left,
+        }
+    }
+}
+
+/// Those from a place to another.
+fn between<'l, 'a>(
+    left: &'l [(&'a [u8], &'a str)],
+    first: usize,
+    end: usize,
+) -> &'l [(&'a [u8], &'a str)]
+    requires order { first ≤ end }
+    requires inside { end ≤ length left.now }
+    ensures { result.now ≡ take (end - first) (drop first left.now) }
+{
+    &left[first..end]
+}
+
+/// How many FROMs have less than a key at a place, of some that rise there.
+fn count_below(left: &[(&[u8], &str)], place: usize, key: u16) -> usize
+    ensures bound { result ≤ length left.now }
+    ensures point { IsNonDecreasingBy (λ entry. key_at place entry.0.now) left.now
+        → IsPartitionPoint (λ entry. key_at place entry.0.now < key)
+        (λ entry. key ≤ key_at place entry.0.now) left.now result }
+{
+    left.partition_point(|entry| key_of(entry.0, place) < key)
+}
+
+/// What stands at a place of a text: 0 behind its end, else a number above that of each lower byte.
+fn key_of(text: &[u8], place: usize) -> u16
+    ensures { result ≡ key_at place text.now }
+{
+    match text.get(place) {
+        Some(byte) => u16::from(*byte) + 1,
+        None => 0,
     }
 }
 
@@ -114,45 +176,16 @@ fn further<'a>(best: Option<&'a str>, found: Option<&'a str>) -> Option<&'a str>
     }
 }
 
-/// Whether a length is marked.
-fn is_marked(lengths: &[bool], length: usize) -> bool
-    ensures { result ≡ slice_index_or lengths.now length false }
-{
-    match lengths.get(length) {
-        Some(mark) => *mark,
-        None => false,
-    }
-}
-
 /// Keeps a word by its FROM, if it has one.
 #[tactic(auto, using(crate::proofs::Marking::passed, crate::proofs::Marking::put))]
-fn keep<'a>(
-    last: &mut BTreeMap<&'a [u8], &'a str>,
-    lengths: &mut Vec<bool>,
-    word: &'a str,
-) -> Result<(), AllocError>
+fn keep<'a>(last: &mut BTreeMap<&'a [u8], &'a str>, word: &'a str) -> Result<(), AllocError>
     ensures { OnOk result ((words : List (Bor (List ℕ))) (held : Bor (List ℕ)) → held.now ≡ word.now
-        → AreOf words last.old lengths.old.items
-        → AreOf (words ++ held ∷ []) last.new lengths.new.items) }
+        → AreOf words last.old.entries → AreOf (words ++ held ∷ []) last.new.entries) }
 {
     let Some((from, _to)) = parts(word) else {
         return Ok(());
     };
-    mark(lengths, from.len())?;
     last.insert(from.as_bytes(), word)?;
-    Ok(())
-}
-
-/// Marks a length.
-fn mark(lengths: &mut Vec<bool>, length: usize) -> Result<(), AllocError>
-    requires { length + 1 < 2 ^ 64 }
-    ensures { OnOk result ((k : ℕ) → slice_index_or lengths.new.items k false
-        ≡ (if k == length then true else slice_index_or lengths.old.items k false)) }
-{
-    if lengths.len() <= length {
-        lengths.resize(length + 1, false)?;
-    }
-    lengths[length] = true;
     Ok(())
 }
 
