@@ -11,7 +11,7 @@
 #include <sys/mman.h>
 #include <unistd.h>
 
-#define STATUSES (THORIN_UNWRITABLE + 1)
+#define STATUSES (THORIN_DAMAGED_ZSTD + 1)
 static uint64_t state, started, calls[STATUSES];
 static int is_heap;
 

@@ -288,7 +288,8 @@ static void decompress(const uint8_t *bytes, size_t size) {
     uint8_t *plain = box(plain_size);
     int32_t whole = decompress_into(bytes, size, plain, plain_size, again);
     if (whole != THORIN_DONE) {
-      if (status == THORIN_DONE || (whole != THORIN_DAMAGED && whole != THORIN_UNWRITABLE)) fail("another file", whole);
+      if (status == THORIN_DONE || (whole != THORIN_DAMAGED && whole != THORIN_DAMAGED_ZSTD && whole != THORIN_UNWRITABLE))
+        fail("another file", whole);
       unbox(mark);
       return;
     }

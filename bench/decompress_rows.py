@@ -1,13 +1,13 @@
 #!/usr/bin/env python3
-"""Makes the rows of test_formats for dwp_decompress and what they are to print, without thorin: by Python's zlib, objcopy
-and gcc.
+"""Makes the rows of test_formats for dwp_decompress and what they are to print, without thorin: by Python's zlib, the zstd
+tool (1.5.4), objcopy and gcc.
 
 decompress_rows.py FOLDER: the rows, FOLDER/decompress.rows, and what must be printed for them, FOLDER/told, which is the end
-of crates/test_formats/stdout. Files of both classes and byte orders are put together here, their streams by zlib; two are
-gcc's, and what objcopy --decompress-debug-sections makes of these is what must be printed.
+of crates/test_formats/stdout. Files of both classes and byte orders are put together here, their streams by zlib and zstd;
+three are gcc's, and what objcopy --decompress-debug-sections makes of these is what must be printed.
 
-decompress_rows.py compress FILE OUT [TYPE]: an ELF file of 64 bits, little endian, with its debug sections compressed by
-zlib, and said to be of a type of compression (1 is zlib, 2 zstd); TYPE older gives them the older names and headers.
+decompress_rows.py compress FILE OUT [TYPE]: an ELF file of 64 bits, little endian, with its debug sections compressed, of a
+type of compression: 2 is zstd, and of others the streams are zlib's; TYPE older gives them the older names and headers.
 """
 import pathlib
 import struct
@@ -29,11 +29,11 @@ class Elf:
         self.sections.append((name, kind, flags, link, content, size, place))
         return self
 
-    def chdr(self, content, kind=1, size=None, level=9):
+    def chdr(self, content, kind=1, size=None, level=9, stream=None):
         size = len(content) if size is None else size
         head = struct.pack(self.order + ("IIQQ" if self.bits == 64 else "III"),
                            *([kind, 0, size, 1] if self.bits == 64 else [kind, size, 1]))
-        return head + zlib.compress(content, level)
+        return head + (stream or (by_zstd(content) if kind == 2 else zlib.compress(content, level)))
 
     def names(self):
         return [it[0] for it in self.sections] + [".shstrtab"]
@@ -60,6 +60,11 @@ class Elf:
         out[:head] = b"\x7fELF" + bytes([2 if wide else 1, 1 if self.order == "<" else 2, 1]) + bytes(9) + struct.pack(
             shape, 1, 62, 1, 0, 0, len(out), 0, head, 0, 0, len(headers[0]), count, count - 1)
         return bytes(out) + b"".join(headers)
+
+
+def by_zstd(content, *flags):
+    """A stream of the zstd tool's."""
+    return subprocess.run(["zstd", "-q", "-c", *flags], input=content, stdout=subprocess.PIPE, check=True).stdout
 
 
 def read(data):
@@ -101,11 +106,13 @@ def tool(*words, cwd):
     subprocess.run(words, cwd=cwd, check=True)
 
 
-def made_by_gcc(folder, *flags):
+def made_by_gcc(folder, *flags, compress=()):
     """An object of gcc, and what objcopy makes of its compressed sections; what stays is the object's own."""
     functions = "".join(f"int f{i}(int a, long b) {{ return a; }}\n" for i in range(12))
     (folder / "a.c").write_text(functions)
     tool("gcc", "-gdwarf-5", "-gsplit-dwarf", "-c", f"-fdebug-prefix-map={folder}=/", *flags, "a.c", "-o", "a.o", cwd=folder)
+    if compress:
+        tool("objcopy", *compress, "a.dwo", cwd=folder)
     tool("objcopy", "--decompress-debug-sections", "a.dwo", "plain", cwd=folder)
     data, told = (folder / "a.dwo").read_bytes(), []
     made = {it[0]: it for it in read((folder / "plain").read_bytes())}
@@ -147,6 +154,15 @@ def taken():
         elf = Elf()
         elf.add(".debug_info", elf.chdr(text, level=level) + b"behind", flags=COMPRESSED)
         yield f"level_{level}_and_bytes_behind", elf.file(), plain(elf, {".debug_info": text})
+    for bits, order, kind in ((64, "<", "little"), (64, ">", "big"), (32, "<", "little"), (32, ">", "big")):
+        elf = Elf(bits, order).add(".text", b"\x90\xc3", flags=6)
+        elf.add(".debug_info.dwo", elf.chdr(info, kind=2), flags=0x80000000 | COMPRESSED)
+        elf.add(".debug_line.dwo", elf.chdr(text), flags=COMPRESSED).add(".debug_str.dwo", elf.chdr(b"", kind=2), flags=0x830)
+        yield f"zstd_{bits}_{kind}", elf.file(), plain(elf, {".debug_info.dwo": info, ".debug_line.dwo": text, ".debug_str.dwo": b""})
+    elf = Elf().add(".zdebug_info", b"")
+    parts = by_zstd(text[:50], "--no-check", "-19") + by_zstd(text[50:], "--ultra", "-22")
+    elf.add(".zdebug_line", elf.chdr(text, kind=2, stream=parts), flags=COMPRESSED).add(".zdebug_str", older(info))
+    yield "zstd_of_two_frames", elf.file(), plain(elf, {".zdebug_line": text, ".zdebug_str": info})
 
 
 def one(content, name=".debug_info", flags=COMPRESSED, bits=64, **more):
@@ -169,18 +185,30 @@ def refused():
     yield "shorter_than_its_header_32", one(bytes(11), bits=32), "Header: Bad header of a compressed section"
     yield "no_older_header", one(b"zlib" + older(text)[4:], ".zdebug_info", 0), "Header: Bad header of a compressed section"
     yield "shorter_than_an_older_header", one(older(text)[:11], ".zdebug_str", 0), "Header: Bad header of a compressed section"
-    yield "zstd", one(elf.chdr(text, kind=2)), "Zstd: Section is compressed by zstd"
     yield "type_3", one(elf.chdr(text, kind=3)), "UnknownType(3): Unknown type of compression"
     yield "type_0", one(elf.chdr(text, kind=0)), "UnknownType(0): Unknown type of compression"
-    stream = "Compressed section can't be read"
-    yield "check_sum", one(damaged(elf.chdr(text))), f"Stream(CheckSum): {stream}"
-    yield "a_byte_more_said", one(elf.chdr(text, size=23)), f"Stream(TooShort): {stream}"
-    yield "a_byte_less_said", one(elf.chdr(text, size=21)), f"Stream(TooLong): {stream}"
-    yield "out_of_reach", one(elf.chdr(text, size=2 ** 63)), f"Stream(Unreachable): {stream}"
-    yield "ends_early", one(elf.chdr(text)[:-5]), f"Stream(EndOfInput): {stream}"
-    first = Elf().add(".debug_a", elf.chdr(text), flags=COMPRESSED).add(".debug_b", elf.chdr(text, kind=2), flags=COMPRESSED)
+    stream = "Section compressed by zlib can't be read"
+    yield "check_sum", one(damaged(elf.chdr(text))), f"Zlib(CheckSum): {stream}"
+    yield "a_byte_more_said", one(elf.chdr(text, size=23)), f"Zlib(TooShort): {stream}"
+    yield "a_byte_less_said", one(elf.chdr(text, size=21)), f"Zlib(TooLong): {stream}"
+    yield "out_of_reach", one(elf.chdr(text, size=2 ** 63)), f"Zlib(Unreachable): {stream}"
+    yield "ends_early", one(elf.chdr(text)[:-5]), f"Zlib(EndOfInput): {stream}"
+    first = Elf().add(".debug_a", elf.chdr(text), flags=COMPRESSED).add(".debug_b", elf.chdr(text, kind=3), flags=COMPRESSED)
     first.add(".debug_c", bytes(9), flags=COMPRESSED)
-    yield "the_first_that_has_a_fault", first.file(), "Zstd: Section is compressed by zstd"
+    yield "the_first_that_has_a_fault", first.file(), "UnknownType(3): Unknown type of compression"
+    stream, zstd = "Section compressed by zstd can't be read", elf.chdr(text, kind=2)
+    yield "zstd_no_frame", one(elf.chdr(text, kind=2, stream=zlib.compress(text))), f"Zstd(Magic): {stream}"
+    yield "zstd_check_sum", one(damaged(zstd)), f"Zstd(CheckSum): {stream}"
+    yield "zstd_a_byte_more_said", one(elf.chdr(text, kind=2, size=23)), f"Zstd(TooShort): {stream}"
+    yield "zstd_a_byte_less_said", one(elf.chdr(text, kind=2, size=21)), f"Zstd(TooLong): {stream}"
+    yield "zstd_out_of_reach", one(elf.chdr(text, kind=2, size=2 ** 63)), f"Zstd(Unreachable): {stream}"
+    yield "zstd_ends_early", one(zstd[:-5]), f"Zstd(EndOfInput): {stream}"
+    yield "zstd_by_the_older_name", one(b"ZLIB" + struct.pack(">Q", 22) + by_zstd(text), ".zdebug_info", 0), \
+        "Zlib(Header): Section compressed by zlib can't be read"
+    yield "zstd_first_and_damaged_zlib", Elf().add(".debug_a", damaged(zstd), flags=COMPRESSED).add(
+        ".debug_b", damaged(elf.chdr(text)), flags=COMPRESSED).file(), f"Zstd(CheckSum): {stream}"
+    yield "zstd_of_more_than_zlib_could_write", one(elf.chdr(bytes(1 << 21), kind=2)), \
+        "Unrepresentable: Decompressed file can't be written"
     data = Elf().file(elf.chdr(b"other names"))
     yield "compressed_names_by_which_names_change", data, "Unrepresentable: Decompressed file can't be written"
 
@@ -205,7 +233,12 @@ def sized():
     yield "plain_length", "of_all", elf.file(), f"Ok(Some({length_of(elf.file(), [info, *[text] * 5], added)}))"
     yield "plain_length", "of_a_damaged_stream", one(damaged(elf.chdr(info))), f"Ok(Some({length_of(one(elf.chdr(info)), [info])}))"
     yield "plain_length", "no_compressed_section", one(info, flags=0), "Ok(None)"
-    yield "plain_length", "out_of_reach", one(elf.chdr(text, size=2 ** 63)), "Err(Stream(Unreachable))"
+    yield "plain_length", "out_of_reach", one(elf.chdr(text, size=2 ** 63)), "Err(Zlib(Unreachable))"
+    yield "plain_length", "zstd_out_of_reach", one(elf.chdr(text, kind=2, size=2 ** 63)), "Err(Zstd(Unreachable))"
+    most = 1032 * len(one(elf.chdr(text, kind=2)))
+    data = one(elf.chdr(text, kind=2, size=most))
+    yield "plain_length", "zstd_as_many_as_zlib_could_write", data, f"Ok(Some({length_of(data, [bytes(most)])}))"
+    yield "plain_length", "zstd_more_than_zlib_could_write", one(elf.chdr(text, kind=2, size=most + 1)), "Err(Unrepresentable)"
     yield "overlaps", "nothing", elf.file(), "false"
     stream = elf.chdr(bytes(1 << 16)) + bytes(400)
     elf = Elf().add(".debug_info.dwo", stream, flags=COMPRESSED)
@@ -239,10 +272,11 @@ def main():
     if len(sys.argv) != 2:
         sys.exit(__doc__)
     folder = pathlib.Path(sys.argv[1]).resolve()
-    rows, told = ["# a name and a file's bytes, made by bench/decompress_rows.py: each section of the file that is made, or its fault"], []
+    rows, told = ["# a name and a file's bytes, made by bench/decompress_rows.py: each section of the file that is made, or its error"], []
     with tempfile.TemporaryDirectory() as place:
         made = [("gcc_gz", *made_by_gcc(pathlib.Path(place), "-gz")),
-                ("gcc_gz_gnu", *made_by_gcc(pathlib.Path(place), "-gz=zlib-gnu"))]
+                ("gcc_gz_gnu", *made_by_gcc(pathlib.Path(place), "-gz=zlib-gnu")),
+                ("gcc_and_objcopy_zstd", *made_by_gcc(pathlib.Path(place), compress=["--compress-debug-sections=zstd"]))]
     for name, data, lines in [*taken(), *made, *refused()]:
         rows.append(f"decompressed {name} {data.hex()}")
         told += [rows[-1], "    " + (lines if isinstance(lines, str) else "; ".join(lines))]

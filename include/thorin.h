@@ -45,7 +45,7 @@ extern "C" {
 /** The first number of the version. */
 #define THORIN_VERSION_MAJOR 1
 /** The second. */
-#define THORIN_VERSION_MINOR 1
+#define THORIN_VERSION_MINOR 2
 /** The third. */
 #define THORIN_VERSION_PATCH 0
 /** The version of this header as one number. */
@@ -78,8 +78,9 @@ enum thorin_status {
   THORIN_NO_MEMORY = 13,       /**< memory ran out */
   THORIN_NOT_COMPRESSED = 14,  /**< no section is compressed */
   THORIN_DAMAGED = 15,         /**< a compressed section is damaged, or its size is another */
-  THORIN_NOT_ZLIB = 16,        /**< a section is compressed by something else than zlib, as zstd */
-  THORIN_UNWRITABLE = 17       /**< the decompressed file can't be written, as it is too large */
+  THORIN_NOT_ZLIB = 16,        /**< a section is compressed by neither zlib nor zstd */
+  THORIN_UNWRITABLE = 17,      /**< the decompressed file can't be written, as it is too large */
+  THORIN_DAMAGED_ZSTD = 18     /**< as THORIN_DAMAGED, of a section that zstd compressed */
 };
 
 /**
@@ -494,10 +495,10 @@ int32_t thorin_differing_types(const thorin_bytes *inputs, size_t count, uint64_
                                size_t room, thorin_report *report);
 
 /**
- * Decompresses an object, a package or an executable whose sections zlib compressed (-gz): the file
- * that it writes can be given to thorin_pack() and thorin_skeletons(), which refuse compressed
- * sections that they need. Each compressed section gets its plain content, and the name .debug_X
- * where it had .zdebug_X; other sections stay as they are.
+ * Decompresses an object, a package or an executable whose sections zlib or zstd compressed (-gz,
+ * -gz=zstd): the file that it writes can be given to thorin_pack() and thorin_skeletons(), which
+ * refuse compressed sections that they need. Each compressed section gets its plain content, and
+ * the name .debug_X where it had .zdebug_X; other sections stay as they are.
  * @param bytes The file.
  * @param size How many bytes it has.
  * @param[out] out Where the decompressed file is written. At THORIN_DONE it stands at the beginning
@@ -507,9 +508,9 @@ int32_t thorin_differing_types(const thorin_bytes *inputs, size_t count, uint64_
  *   has, by what the headers of compressed sections say; else as it was.
  * @return THORIN_DONE; THORIN_NOT_COMPRESSED: take the file as it is; THORIN_TOO_SMALL: ask again
  *   with as much room as length says (no section was read and no memory taken: a damaged one is found
- *   only where there is room); THORIN_MALFORMED_FILE, THORIN_DAMAGED or THORIN_NOT_ZLIB, by the first
- *   section whose header has a fault, else by the first that is damaged; THORIN_UNWRITABLE;
- *   THORIN_NO_MEMORY.
+ *   only where there is room); THORIN_MALFORMED_FILE, THORIN_DAMAGED, THORIN_DAMAGED_ZSTD or
+ *   THORIN_NOT_ZLIB, by the first section whose header has a fault, else by the first that is
+ *   damaged; THORIN_UNWRITABLE; THORIN_NO_MEMORY.
  */
 int32_t thorin_decompress(const uint8_t *bytes, size_t size, uint8_t *out, size_t room,
                           uint64_t *length);

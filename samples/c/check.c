@@ -227,10 +227,11 @@ static void a_split_object_names_no_other(void) {
   SAME(path[0], 7);
 }
 
-/* The same object with its abbreviations compressed: behind a header of 24 bytes a stream of one stored block, and the check
- * sum that Python's zlib gives (RFC 1950 and 1951; ELF gABI, "Section Compression"). */
+/* The same object with its abbreviations compressed: behind a header of 24 bytes a stream of one stored block, zlib's with the
+ * check sum that Python's zlib gives, or zstd's (RFC 1950, 1951 and 8878; ELF gABI, "Section Compression"). */
 static void a_compressed_object_becomes_plain(void) {
   static const uint8_t begins[7] = {0x78, 1, 1, 9, 0, 0xf6, 0xff}, ends[4] = {0x06, 0x26, 0x01, 0x0d};
+  static const uint8_t begins_zstd[9] = {0x28, 0xb5, 0x2f, 0xfd, 0x20, 9, 0x49, 0, 0};
   static uint8_t packed[sizeof object + 44], plain[2 * sizeof packed], package[1024], wanted[1024];
   uint8_t *content = packed + sizeof object, *header = packed + HEADERS + 2 * 64;
   thorin_report report = {0}, other = {0};
@@ -255,6 +256,8 @@ static void a_compressed_object_becomes_plain(void) {
   CALL(thorin_decompress(packed, sizeof packed, plain, sizeof plain, &length), THORIN_DAMAGED);
   packed[sizeof packed - 1] ^= 1;
   content[0] = 2;
+  CALL(thorin_decompress(packed, sizeof packed, plain, sizeof plain, &length), THORIN_DAMAGED_ZSTD);
+  content[0] = 3;
   CALL(thorin_decompress(packed, sizeof packed, plain, sizeof plain, &length), THORIN_NOT_ZLIB);
   content[0] = 1;
   SAME(length, 7);
@@ -266,6 +269,16 @@ static void a_compressed_object_becomes_plain(void) {
   SAME(length, input.size);
   CALL(thorin_pack(&input, 1, package, sizeof package, &report), THORIN_DONE);
   CALL(thorin_pack(&before, 1, wanted, sizeof wanted, &other), THORIN_DONE);
+  SAME(report.size == other.size && memcmp(package, wanted, report.size) == 0, 1);
+
+  content[0] = 2;
+  memcpy(content + 24, begins_zstd, sizeof begins_zstd);
+  memcpy(content + 33, abbreviations, sizeof abbreviations);
+  put_in(header + 32, 42, 8);
+  memset(plain, 0, sizeof plain);
+  CALL(thorin_decompress(packed, sizeof packed, plain, sizeof plain, &length), THORIN_DONE);
+  SAME(length, input.size);
+  CALL(thorin_pack(&input, 1, package, sizeof package, &report), THORIN_DONE);
   SAME(report.size == other.size && memcmp(package, wanted, report.size) == 0, 1);
 }
 

@@ -3,11 +3,14 @@ use Rattle.std.specs.Prelude.{◌≡◌, ◌≢◌, Result, Ok, Err}
 use Rattle.dwp_elf_read.specs.declared.error.ReadError.{ReadError}
 use Rattle.dwp_inflate.specs.declared.error.InflateError.{InflateError}
 use Rattle.dwp_inflate.specs.declared.error.InflateError.TheVariants as inflating
+use Rattle.dwp_zstd.specs.declared.error.ZstdError.{ZstdError}
+use Rattle.dwp_zstd.specs.declared.error.ZstdError.TheVariants as decoding
 use Rattle.dwp_decompress.specs.declared.error.DecompressError.{DecompressError}
 use Rattle.dwp_decompress.specs.declared.error.Refusal.{Refusal}
 use Rattle.dwp_decompress.specs.declared.error.Refusal.TheVariants as refusing
-use Rattle.dwp_decompress.specs.declared.error.DecompressError.TheVariants.{Read, Stream, Memory}
+use Rattle.dwp_decompress.specs.declared.error.DecompressError.TheVariants.{Read, Zlib, Zstd}
 use Rattle.dwp_decompress.specs.declared.error.DecompressError.TheVariants.{Unrepresentable}
+use Rattle.dwp_decompress.specs.declared.error.DecompressError.TheVariants.{Memory}
 
 -- what a call answered, seen by view, is what the definition says; memory may run out besides
 abbrev pub Gives : {X Y : Type 0} → (X → Y) → Result X DecompressError → Result Y DecompressError
@@ -26,15 +29,25 @@ abbrev pub reading : {X : Type 0} → Result X ReadError → Result X Decompress
 reading (Ok x) = Ok x
 reading (Err e) = Err (Read e)
 
--- the error of a stream as ours
-abbrev pub stream_error : InflateError → DecompressError
-stream_error inflating.Memory = Memory
-stream_error e = Stream e
+-- the error of a stream of zlib's as ours
+abbrev pub inflate_error : InflateError → DecompressError
+inflate_error inflating.Memory = Memory
+inflate_error e = Zlib e
 
--- what a stream writes, with its error as ours
-abbrev pub writing : {X : Type 0} → Result X InflateError → Result X DecompressError
-writing (Ok x) = Ok x
-writing (Err e) = Err (stream_error e)
+-- what it writes, with its error as ours
+abbrev pub inflated_as : {X : Type 0} → Result X InflateError → Result X DecompressError
+inflated_as (Ok x) = Ok x
+inflated_as (Err e) = Err (inflate_error e)
+
+-- the error of a stream of zstd's as ours
+abbrev pub zstd_error : ZstdError → DecompressError
+zstd_error decoding.Memory = Memory
+zstd_error e = Zstd e
+
+-- what it writes, with its error as ours
+abbrev pub decoded_as : {X : Type 0} → Result X ZstdError → Result X DecompressError
+decoded_as (Ok x) = Ok x
+decoded_as (Err e) = Err (zstd_error e)
 
 -- a file that can't be written
 abbrev pub refusal : Refusal → DecompressError

@@ -12,43 +12,50 @@ use Rattle.dwp_elf_read.specs.declared.error.ReadError.TheVariants.{SectionRange
 use Rattle.dwp_elf_read.specs.Layout.{word_size, number_at}
 use Rattle.dwp_elf_read.specs.Elf.{SectionMeaning, has_compressed_flag}
 use Rattle.dwp_inflate.specs.Streams.{inflated}
-use Rattle.dwp_inflate.specs.declared.error.InflateError.TheVariants.{Unreachable}
+use Rattle.dwp_inflate.specs.declared.error.InflateError.TheVariants as inflating
+use Rattle.dwp_zstd.specs.Frames as zstd
+use Rattle.dwp_zstd.specs.declared.error.ZstdError.TheVariants as decoding
 use Rattle.dwp_decompress.specs.declared.error.DecompressError.{DecompressError}
-use Rattle.dwp_decompress.specs.declared.error.DecompressError.TheVariants.{Header, Zstd, Stream}
-use Rattle.dwp_decompress.specs.declared.error.DecompressError.TheVariants.{UnknownType}
+use Rattle.dwp_decompress.specs.declared.error.DecompressError.TheVariants as errors
+use Rattle.dwp_decompress.specs.declared.error.DecompressError.TheVariants.{Header, UnknownType}
 use Rattle.dwp_decompress.specs.declared.asked.Asked.{Asked}
+use Rattle.dwp_decompress.specs.declared.stream.Kind.{Kind}
+use Rattle.dwp_decompress.specs.declared.stream.Kind.TheVariants.{Zlib, Zstd}
 use Rattle.dwp_decompress.specs.declared.stream.Packed as declared
-use Rattle.dwp_decompress.specs.Answers.{reading, writing}
+use Rattle.dwp_decompress.specs.Answers.{reading, inflated_as, decoded_as}
 use Rattle.dwp_decompress.specs.Compressed.{is_compressed}
 
--- a stream of zlib's, and the size of what it writes
+-- a stream of a kind, and the size of what it writes
 pub record Packed : Type 0 where
+  pub kind : Kind
   pub size : ℕ
   pub bytes : List ℕ
 
 abbrev pub packed : declared.Packed → Packed
-packed stream = record { size = stream.size; bytes = stream.bytes.now }
+packed stream = record { kind = stream.kind; size = stream.size; bytes = stream.bytes.now }
 
--- the type is ELFCOMPRESS_ZLIB; ELFCOMPRESS_ZSTD isn't read
-unfoldable pub with_type : ℕ → Packed → Result Packed DecompressError
-with_type type packed =
-    if type == 1 then Ok packed else (if type == 2 then Err Zstd else Err (UnknownType type))
+-- the kind of a type: ELFCOMPRESS_ZLIB is 1, ELFCOMPRESS_ZSTD 2
+unfoldable pub kind_of : ℕ → Result Kind DecompressError
+kind_of type =
+    if type == 1 then Ok Zlib else (if type == 2 then Ok Zstd else Err (UnknownType type))
 
 -- behind a header of three words: a type of four bytes, and in the second word the size
 unfoldable pub headed : Class → Endianness → List ℕ → Result Packed DecompressError
 headed class order content =
-    if nat_lt (length content) (3 * word_size class) then Err Header
-    else with_type (number_at order 4 content 0) (record {
-      size = number_at order (word_size class) content (word_size class);
-      bytes = drop (3 * word_size class) content;
-    })
+    if nat_lt (length content) (3 * word_size class) then Err Header else (do
+      kind ← kind_of (number_at order 4 content 0)
+      Ok (record {
+        kind = kind;
+        size = number_at order (word_size class) content (word_size class);
+        bytes = drop (3 * word_size class) content;
+      }))
 
--- by the older convention: behind `ZLIB` and eight bytes of size, the highest first
+-- by the older convention zlib's: behind `ZLIB` and eight bytes of size, the highest first
 unfoldable pub older : List ℕ → Result Packed DecompressError
 older content =
     if nat_lt (length content) 12 then Err Header
     else (if starts_with nat_eq content (codes "ZLIB")
-    then Ok (record { size = number_at Big 8 content 4; bytes = drop 12 content })
+    then Ok (record { kind = Zlib; size = number_at Big 8 content 4; bytes = drop 12 content })
     else Err Header)
 
 -- the stream of a section with that content; where both forms are said, the flag counts
@@ -57,11 +64,26 @@ unfoldable pub packed_in : Class → Endianness → SectionMeaning → List ℕ
 packed_in class order section content =
     if has_compressed_flag section then headed class order content else older content
 
--- how many bytes a stream is said to write, unless so few bytes cannot write so many
+-- how many bytes one byte of a stream writes at most
+abbrev pub reach_of : Kind → ℕ
+reach_of Zlib = 1032
+reach_of Zstd = 32768
+
+-- the error where so few bytes cannot write so many
+abbrev pub unreachable : Kind → DecompressError
+unreachable Zlib = errors.Zlib inflating.Unreachable
+unreachable Zstd = errors.Zstd decoding.Unreachable
+
+-- how many bytes a stream is said to write, if so few bytes can write so many
 unfoldable pub told_by : Packed → Result ℕ DecompressError
 told_by packed =
-    if nat_lt (1032 * length packed.bytes) packed.size then Err (Stream Unreachable)
-    else Ok packed.size
+    if nat_lt (reach_of packed.kind * length packed.bytes) packed.size
+    then Err (unreachable packed.kind) else Ok packed.size
+
+-- what a stream of a kind writes, if it has that size
+unfoldable pub written_by : Kind → List ℕ → ℕ → Result (List ℕ) DecompressError
+written_by Zlib bytes size = inflated_as (inflated bytes size)
+written_by Zstd bytes size = decoded_as (zstd.decompressed bytes size)
 
 -- how many bytes the plain content of a section is said to have; 0 where it isn't compressed
 unfoldable pub told_size : Asked → Class → Endianness → SectionMeaning → Result ℕ DecompressError
@@ -86,7 +108,7 @@ unfoldable pub plain_of : Class → Endianness → SectionMeaning → Result (Li
 plain_of class order section = do
   content ← reading (ok_or section.content SectionRange)
   packed ← packed_in class order section content
-  writing (inflated packed.bytes packed.size)
+  written_by packed.kind packed.bytes packed.size
 
 -- that of any section, if it is compressed
 unfoldable pub content_of : Asked → Class → Endianness → SectionMeaning

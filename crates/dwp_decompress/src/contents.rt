@@ -4,17 +4,35 @@ ghost use Rattle.std.specs.Prelude.{option_map};
 ghost use Rattle.dwp_elf_read.specs.View as view;
 ghost use Rattle.dwp_elf_read.specs.View.{elf};
 ghost use Rattle.dwp_decompress.specs.Answers.{Gives};
-ghost use Rattle.dwp_decompress.specs.Headers.{plain_of, content_of};
+ghost use Rattle.dwp_decompress.specs.Headers.{written_by, plain_of, content_of};
 ghost use Rattle.dwp_decompress.specs.Result.{contents_of, plain_contents};
 
 use crate::asked::Asked;
 use crate::compressed::is_compressed;
 use crate::error::DecompressError;
-use crate::stream::packed_in;
+use crate::stream::{Kind, packed_in};
 use dwp_base::{Class, Endianness};
 use dwp_elf_read::{ElfFile, Section};
 use dwp_inflate::inflate;
+use dwp_zstd::decompress;
 use std::alloc::Global;
+
+/// What a stream of a kind writes, if it has that size.
+#[tactic(auto, unfolding(crate::specs::Headers::written_by))]
+fn written(alloc: Global, kind: Kind, bytes: &[u8], size: usize) -> Result<Vec<u8>, DecompressError>
+    ensures { Gives (λ plain. plain.items) result (written_by kind bytes.now size) }
+{
+    match kind {
+        Kind::Zlib => {
+            let plain = inflate(alloc, bytes, size)?;
+            Ok(plain)
+        }
+        Kind::Zstd => {
+            let plain = decompress(alloc, bytes, size)?;
+            Ok(plain)
+        }
+    }
+}
 
 /// What a compressed section's stream writes.
 #[tactic(auto, unfolding(crate::specs::Headers::plain_of))]
@@ -29,8 +47,7 @@ fn plain(
 {
     let content = section.data()?;
     let packed = packed_in(class, order, section, content)?;
-    let plain = inflate(alloc, packed.bytes, packed.size as usize)?;
-    Ok(plain)
+    written(alloc, packed.kind, packed.bytes, packed.size as usize)
 }
 
 /// The plain content of a section, if that is asked for and compressed.

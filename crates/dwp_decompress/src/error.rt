@@ -7,6 +7,7 @@ ghost use Rattle.dwp_decompress.specs.declared.error.Refusal.TheVariants as refu
 
 use dwp_elf_read::ReadError;
 use dwp_inflate::InflateError;
+use dwp_zstd::ZstdError;
 use std::alloc::{AllocError, AllocFailed};
 use std::fmt;
 
@@ -17,12 +18,12 @@ pub enum DecompressError {
     Read(ReadError),
     /// A compressed section is shorter than its header, or lacks the older header's `ZLIB`.
     Header,
-    /// A section is compressed by zstd.
-    Zstd,
     /// A section is compressed in a way that isn't known.
     UnknownType(u32),
-    /// A section's stream is damaged, or isn't of the size that was said.
-    Stream(InflateError),
+    /// A section's stream of zlib's is damaged, or isn't of the size that was said.
+    Zlib(InflateError),
+    /// A section's stream of zstd's is damaged, or isn't of the size that was said.
+    Zstd(ZstdError),
     /// No file of the class has this content: it is too large, or the section with the sections'
     /// names is itself compressed.
     Unrepresentable,
@@ -35,9 +36,9 @@ impl fmt::Display for DecompressError {
         f.write_str(match self {
             DecompressError::Read(_) => "File can't be read",
             DecompressError::Header => "Bad header of a compressed section",
-            DecompressError::Zstd => "Section is compressed by zstd",
             DecompressError::UnknownType(_) => "Unknown type of compression",
-            DecompressError::Stream(_) => "Compressed section can't be read",
+            DecompressError::Zlib(_) => "Section compressed by zlib can't be read",
+            DecompressError::Zstd(_) => "Section compressed by zstd can't be read",
             DecompressError::Unrepresentable => "Decompressed file can't be written",
             DecompressError::Memory => "Out of memory",
         })
@@ -99,12 +100,23 @@ impl From<ReadError> for DecompressError {
 }
 
 impl From<InflateError> for DecompressError {
-    ghost from_gives = { λ e error. error ≡ spec.stream_error e };
+    ghost from_gives = { λ e error. error ≡ spec.inflate_error e };
 
     fn from(e: InflateError) -> DecompressError {
         match e {
             InflateError::Memory => DecompressError::Memory,
-            _ => DecompressError::Stream(e),
+            _ => DecompressError::Zlib(e),
+        }
+    }
+}
+
+impl From<ZstdError> for DecompressError {
+    ghost from_gives = { λ e error. error ≡ spec.zstd_error e };
+
+    fn from(e: ZstdError) -> DecompressError {
+        match e {
+            ZstdError::Memory => DecompressError::Memory,
+            _ => DecompressError::Zstd(e),
         }
     }
 }

@@ -26,6 +26,10 @@ use dwp_elf_read::{ElfFile, Section};
 /// is read, and compared with what is written.
 const MOST_TIMES: u64 = 16;
 
+/// How many bytes a byte of a file, or of its compressed sections, may bring: as many as zlib writes
+/// at most.
+const MOST_WRITTEN: u64 = 1032;
+
 /// How many bytes a section and its name have. A name that can't be read has as many as the table of
 /// names.
 fn read_size(section: &Section<'_>, table: u64) -> u64 {
@@ -172,6 +176,15 @@ fn headers_size(file: &ElfFile<'_>) -> Option<u64>
     (file.section_count() as u64).checked_mul(size)
 }
 
+/// Whether the plain contents are said to have more bytes than zlib could write of as many bytes as
+/// the file has, or its compressed sections.
+fn tells_more(asked: Asked, bytes: &[u8], file: &ElfFile<'_>, told: u64) -> bool {
+    if told <= (bytes.len() as u64).saturating_mul(MOST_WRITTEN) {
+        return false;
+    }
+    !have_more(asked, file, (told - 1) / MOST_WRITTEN)
+}
+
 /// How many bytes the file has once there are so many plain ones.
 #[tactic(auto, unfolding(crate::specs::Sizes::length_with))]
 fn length_with(asked: Asked, bytes: &[u8], file: &ElfFile<'_>, told: u64) -> Option<u64>
@@ -179,6 +192,9 @@ fn length_with(asked: Asked, bytes: &[u8], file: &ElfFile<'_>, told: u64) -> Opt
 {
     let table = size_of(file, names_number(bytes, file)?);
     if reads_more(file, table, (bytes.len() as u64).saturating_mul(MOST_TIMES)) {
+        return None;
+    }
+    if tells_more(asked, bytes, file, told) {
         return None;
     }
     let names = names_size(table, added_sizes(asked, file)?)?;
@@ -202,8 +218,10 @@ pub(crate) fn length(asked: Asked, bytes: &[u8], file: &ElfFile<'_>) -> Result<u
 /// is taken. `None` where no section that is asked for is compressed.
 ///
 /// # Errors
-/// `Read`, `Header`, `Zstd`, `UnknownType`, `Stream` where a stream cannot write as many bytes as
-/// are told, and `Unrepresentable`, as of `decompressed`.
+/// `Read`, `Header`, `UnknownType`, `Zlib` or `Zstd` where a stream cannot write as many bytes as are
+/// told, and `Unrepresentable`, as of `decompressed`: so where more than 1,032 bytes are told for
+/// each byte of the file, or of its compressed sections if these have more. Streams of zstd could
+/// write 32 times as many.
 #[tactic(auto, unfolding(crate::specs::Result::plain_length_of))]
 pub fn plain_length(bytes: &[u8], asked: Asked) -> Result<Option<u64>, DecompressError>
     ensures length { GivesFile (λ size. size) result (plain_length_of asked bytes.now) }
@@ -247,7 +265,8 @@ fn have_more(asked: Asked, file: &ElfFile<'_>, room: u64) -> bool
 
 /// Whether the compressed sections that are asked for have more bytes than their file: then some of
 /// them overlap, which sections of a file may not (ELF gABI, "Sections"). Of a file for which this
-/// is false the streams that are asked for write at most 1,032 times as many bytes as it has.
+/// is false the streams that are asked for write at most 1,032 times as many bytes as it has, or
+/// aren't read (`plain_length`).
 pub fn overlaps(bytes: &[u8], asked: Asked) -> bool
     ensures exact { result ≡ overlaps asked bytes.now (elf_of bytes.now) }
 {

@@ -4,17 +4,28 @@ ghost use Rattle.std.specs.Prelude.{◌≡◌, ◌+◌, ◌≤◌, length};
 ghost use Rattle.dwp_base.specs.Reading.{Answers};
 ghost use Rattle.dwp_elf_read.specs.Layout.{word_size, number_at};
 ghost use Rattle.dwp_elf_read.specs.View as view;
-ghost use Rattle.dwp_decompress.specs.Headers.{packed, with_type, headed, older, packed_in};
+ghost use Rattle.dwp_decompress.specs.Headers.{packed, kind_of, headed, older, packed_in};
 ghost use Rattle.dwp_decompress.specs.Headers.{told_by};
 
 use crate::error::DecompressError;
 use dwp_base::{Class, Endianness};
 use dwp_elf_read::Section;
 use dwp_inflate::InflateError;
+use dwp_zstd::ZstdError;
 
-/// A stream of zlib's, and the size of what it writes.
+/// What wrote a stream.
+#[derive(Clone, Copy)]
+pub enum Kind {
+    /// zlib (ELFCOMPRESS_ZLIB, and by the older convention).
+    Zlib,
+    /// zstd (ELFCOMPRESS_ZSTD).
+    Zstd,
+}
+
+/// A stream of a kind, and the size of what it writes.
 #[derive(Clone, Copy)]
 pub struct Packed<'a> {
+    pub kind: Kind,
     pub size: u64,
     pub bytes: &'a [u8],
 }
@@ -41,15 +52,15 @@ pub fn word_at(class: Class, order: Endianness, bytes: &[u8], place: usize) -> u
     }
 }
 
-/// The stream, where its type is that of zlib.
-#[tactic(auto, unfolding(crate::specs::Headers::with_type))]
-fn with_type(kind: u32, stream: Packed<'_>) -> Result<Packed<'_>, DecompressError>
-    ensures { Answers packed result (with_type kind (packed stream.entry)) }
+/// The kind of a type.
+#[tactic(auto, unfolding(crate::specs::Headers::kind_of))]
+fn kind_of(number: u32) -> Result<Kind, DecompressError>
+    ensures { Answers (λ kind. kind) result (kind_of number) }
 {
-    match kind {
-        1 => Ok(stream),
-        2 => Err(DecompressError::Zstd),
-        _ => Err(DecompressError::UnknownType(kind)),
+    match number {
+        1 => Ok(Kind::Zlib),
+        2 => Ok(Kind::Zstd),
+        _ => Err(DecompressError::UnknownType(number)),
     }
 }
 
@@ -62,10 +73,10 @@ fn headed(class: Class, order: Endianness, content: &[u8]) -> Result<Packed<'_>,
     if content.len() < 3 * word {
         return Err(DecompressError::Header);
     }
-    let kind = order.read_u32(content.split_at(0).1);
+    let kind = kind_of(order.read_u32(content.split_at(0).1))?;
     let size = word_at(class, order, content, word);
     let bytes = content.split_at(3 * word).1;
-    with_type(kind, Packed { size, bytes })
+    Ok(Packed { kind, size, bytes })
 }
 
 /// The stream behind the older header.
@@ -79,7 +90,11 @@ fn older(content: &[u8]) -> Result<Packed<'_>, DecompressError>
     if content.starts_with(b"ZLIB") {
         let size = Endianness::Big.read_u64(content.split_at(4).1);
         let bytes = content.split_at(12).1;
-        return Ok(Packed { size, bytes });
+        return Ok(Packed {
+            kind: Kind::Zlib,
+            size,
+            bytes,
+        });
     }
     Err(DecompressError::Header)
 }
@@ -106,14 +121,25 @@ impl Packed<'_> {
     /// How many bytes the stream is said to write.
     ///
     /// # Errors
-    /// `Stream` where so few bytes cannot write so many.
+    /// `Zlib` or `Zstd` where so few bytes cannot write so many.
     #[tactic(auto, unfolding(crate::specs::Headers::told_by))]
     pub fn told(&self) -> Result<u64, DecompressError>
         ensures { Answers (λ size. size) result (told_by (packed self.now)) }
     {
-        if self.size > (self.bytes.len() as u64).saturating_mul(1032) {
-            return Err(DecompressError::Stream(InflateError::Unreachable));
+        let n = self.bytes.len() as u64;
+        match self.kind {
+            Kind::Zlib => {
+                if self.size > n.saturating_mul(1032) {
+                    return Err(DecompressError::Zlib(InflateError::Unreachable));
+                }
+                Ok(self.size)
+            }
+            Kind::Zstd => {
+                if self.size > n.saturating_mul(32768) {
+                    return Err(DecompressError::Zstd(ZstdError::Unreachable));
+                }
+                Ok(self.size)
+            }
         }
-        Ok(self.size)
     }
 }

@@ -20,13 +20,14 @@ pub record NeedsRoom (bytes : List ℕ) (size room : ℕ) : Type 0 where
   pub told : plain_length_of All bytes ≡ Ok (Some size)
   pub past : room < size
 
--- the status of a file that isn't decompressed: it can't be read; one of its compressed sections is
--- damaged, or of a type that isn't read; it can't be written, or memory ran out
+-- the status of a file that isn't decompressed: it can't be read; one of its compressed sections
+-- has a damaged header, a damaged stream of zlib's or of zstd's, or a type that isn't read; it
+-- can't be written, or memory ran out
 abbrev pub status_of : DecompressError → ℤ
 status_of (errors.Read e) = pos 3
 status_of errors.Header = pos 15
-status_of (errors.Stream e) = pos 15
-status_of errors.Zstd = pos 16
+status_of (errors.Zlib e) = pos 15
+status_of (errors.Zstd e) = pos 18
 status_of (errors.UnknownType type) = pos 16
 status_of errors.Unrepresentable = pos 17
 status_of errors.Memory = pos 13
@@ -39,7 +40,8 @@ pub record IsError (bytes : List ℕ) (status : ℤ) : Type 0 where
 
 -- the statuses under which an error is told
 abbrev pub TellsError : ℤ → Type 0
-TellsError status = (status ≡ pos 3) ⊎ ((status ≡ pos 15) ⊎ (status ≡ pos 16))
+TellsError status = (status ≡ pos 3) ⊎ ((status ≡ pos 15) ⊎ ((status ≡ pos 16)
+    ⊎ (status ≡ pos 18)))
 
 abbrev pub IsPlainStatus : ℤ → Type 0
 IsPlainStatus status = (status ≡ pos 0) ⊎ ((status ≡ pos 10) ⊎ ((status ≡ pos 14)

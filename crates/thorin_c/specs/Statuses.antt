@@ -19,9 +19,10 @@ text_of n =
     else (if n == 13 then codes "Out of memory"
     else (if n == 14 then codes "No section is compressed"
     else (if n == 15 then codes "A compressed section is damaged"
-    else (if n == 16 then codes "A section isn't compressed by zlib"
+    else (if n == 16 then codes "A section isn't compressed by zlib or zstd"
     else (if n == 17 then codes "The plain file can't be written"
-    else codes "No such status")))))))))))))))))
+    else (if n == 18 then codes "A section compressed by zstd is damaged"
+    else codes "No such status"))))))))))))))))))
 
 abbrev pub status_text : ℤ → List ℕ
 status_text (pos n) = text_of n

@@ -10,8 +10,8 @@ ghost use Rattle.thorin_c.specs.Plain.{Decompresses, NeedsRoom, IsError, TellsEr
 ghost use Rattle.thorin_c.specs.Plain.{status_of};
 
 use crate::status::{
-    DAMAGED, DONE, MALFORMED_FILE, NO_MEMORY, NOT_COMPRESSED, TOO_SMALL, UNKNOWN_COMPRESSION,
-    UNWRITABLE,
+    DAMAGED, DAMAGED_ZSTD, DONE, MALFORMED_FILE, NO_MEMORY, NOT_COMPRESSED, TOO_SMALL,
+    UNKNOWN_COMPRESSION, UNWRITABLE,
 };
 use dwp_decompress::{Asked, DecompressError, decompressed, plain_length};
 use std::alloc::Global;
@@ -20,9 +20,9 @@ use std::alloc::Global;
 /// answers 0; its length is in `size`. 14 where no section is compressed: the file is to be used as
 /// it is. 10 where `out` is too small, and `size` is the length that is needed by what the headers
 /// of compressed sections say: no stream is read then, and no memory taken. 3 where the file can't be
-/// read, 15 where a compressed section is damaged, 16 where it is compressed in another way than
-/// zlib's, 17 where the plain file can't be written, 13 where memory ran out. `out` is left as it is
-/// but at 0, and `size` but at 0 and 10.
+/// read, 15 where a compressed section's header is damaged or its stream of zlib's, 18 where that of
+/// zstd's is, 16 where it is compressed in another way, 17 where the plain file can't be written, 13
+/// where memory ran out. `out` is left as it is but at 0, and `size` but at 0 and 10.
 #[tactic(auto, using(crate::proofs::PlainFiles::told_early, crate::proofs::PlainFiles::tells_none))]
 #[unsafe(no_mangle)]
 pub extern "C" fn thorin_decompress(
@@ -90,8 +90,9 @@ fn status_of(error: DecompressError) -> i32
 {
     match error {
         DecompressError::Read(_) => MALFORMED_FILE,
-        DecompressError::Header | DecompressError::Stream(_) => DAMAGED,
-        DecompressError::Zstd | DecompressError::UnknownType(_) => UNKNOWN_COMPRESSION,
+        DecompressError::Header | DecompressError::Zlib(_) => DAMAGED,
+        DecompressError::Zstd(_) => DAMAGED_ZSTD,
+        DecompressError::UnknownType(_) => UNKNOWN_COMPRESSION,
         DecompressError::Unrepresentable => UNWRITABLE,
         DecompressError::Memory => NO_MEMORY,
     }

@@ -50,7 +50,7 @@ pub(crate) const NO_MEMORY: i32 = 13;
 /// No section is compressed.
 pub(crate) const NOT_COMPRESSED: i32 = 14;
 
-/// A compressed section is damaged.
+/// A compressed section's header is damaged, or its stream of zlib's.
 pub(crate) const DAMAGED: i32 = 15;
 
 /// A section is compressed in a way that isn't read.
@@ -58,6 +58,9 @@ pub(crate) const UNKNOWN_COMPRESSION: i32 = 16;
 
 /// The file can't be written once its sections are plain.
 pub(crate) const UNWRITABLE: i32 = 17;
+
+/// A compressed section's stream of zstd's is damaged.
+pub(crate) const DAMAGED_ZSTD: i32 = 18;
 
 /// The status of a package, or of one of its units, that can't be read.
 pub(crate) fn status_of(error: PackageError) -> i32

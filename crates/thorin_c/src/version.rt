@@ -5,17 +5,17 @@ ghost use Rattle.thorin_c.specs.Listing.{written_over};
 ghost use Rattle.thorin_c.specs.Statuses.{status_text};
 
 use crate::status::{
-    ABSENT, DAMAGED, DONE, MALFORMED_FILE, MALFORMED_INDEX, MALFORMED_STRING, MALFORMED_UNIT,
-    NO_MEMORY, NO_SUCH_KIND, NO_SUCH_SECTION, NO_SUCH_STRING, NOT_COMPRESSED, RANGE_OUTSIDE,
-    REFUSED, TOO_SMALL, UNFINISHED, UNKNOWN_COMPRESSION, UNWRITABLE,
+    ABSENT, DAMAGED, DAMAGED_ZSTD, DONE, MALFORMED_FILE, MALFORMED_INDEX, MALFORMED_STRING,
+    MALFORMED_UNIT, NO_MEMORY, NO_SUCH_KIND, NO_SUCH_SECTION, NO_SUCH_STRING, NOT_COMPRESSED,
+    RANGE_OUTSIDE, REFUSED, TOO_SMALL, UNFINISHED, UNKNOWN_COMPRESSION, UNWRITABLE,
 };
 
-/// The version, 1.1.0: 65,536 times its first number, 256 times its second, and its third.
+/// The version, 1.2.0: 65,536 times its first number, 256 times its second, and its third.
 #[unsafe(no_mangle)]
 pub extern "C" fn thorin_version() -> u32
-    ensures { result ≡ 65792 }
+    ensures { result ≡ 66048 }
 {
-    65792
+    66048
 }
 
 /// What a status means: its text, as far as there is room in `text`. Answers how many bytes the
@@ -51,8 +51,9 @@ fn status_text(status: i32) -> &'static str
         NO_MEMORY => "Out of memory",
         NOT_COMPRESSED => "No section is compressed",
         DAMAGED => "A compressed section is damaged",
-        UNKNOWN_COMPRESSION => "A section isn't compressed by zlib",
+        UNKNOWN_COMPRESSION => "A section isn't compressed by zlib or zstd",
         UNWRITABLE => "The plain file can't be written",
+        DAMAGED_ZSTD => "A section compressed by zstd is damaged",
         _ => "No such status",
     }
 }

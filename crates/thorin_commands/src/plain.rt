@@ -1,6 +1,5 @@
-//! The reader of the inputs of `pack`: files are read, decompressed, left with the macros
-//! that are kept, and tested for strings and sections that overlap; what can't be read is
-//! kept for notes.
+//! The reader of the inputs of `pack`: files are read, decompressed, left with the macros that are
+//! kept, and tested for strings and sections that overlap; what can't be read is kept for notes.
 
 ghost use Rattle.std.specs.Prelude.{◌≡◌, ◌⊎◌, false, Err, IsTrue, IfOk, IfErr, OnErr, string_bytes};
 ghost use Rattle.std.specs.Path.{path_bytes};
@@ -31,8 +30,8 @@ use std::path::{AsPath, Path};
 use thorin::{Input, InputReader, NotTaken, Repetition};
 use thorin_errors::InputError;
 use thorin_inputs::{
-    AbsentUnits, Encodings, Growth, MacroWarnings, Places, PlainError, Prefixes, Repetitions,
-    has_compressed_overlap, has_inner_strings, has_overlap, plain_of, reason,
+    AbsentUnits, Compression, Encodings, Growth, MacroWarnings, Places, PlainError, Prefixes,
+    Repetitions, has_compressed_overlap, has_inner_strings, has_overlap, plain_of, reason,
 };
 use thorin_output::FileSystem;
 use thorin_print::Failure;
@@ -57,8 +56,9 @@ pub(crate) struct InputFiles<'f, F> {
     own: Cell<Option<String>>,
     named: Cell<Option<String>>,
     failure: Cell<Option<String>>,
-    /// What is kept for notes: what was taken so far, the type units that differ, the encodings of
-    /// what was read, and the units that weren't there once their objects were taken.
+    /// What is left compressed of the file that was read last.
+    compression: Cell<Compression>,
+    /// What notes tell: what was taken, type units that differ, encodings, and absent units.
     origins: Origins,
     differences: Differences,
     encodings: Encodings,
@@ -93,6 +93,7 @@ impl<'f, F: FileSystem> InputFiles<'f, F> {
             own: Cell::new(None),
             named: Cell::new(None),
             failure: Cell::new(None),
+            compression: Cell::new(Compression::None),
             origins: Origins::new(alloc),
             differences: Differences::new(alloc, packing.tells_differences()),
             encodings: Encodings::new(alloc),
@@ -231,10 +232,16 @@ impl<'f, F: FileSystem> InputFiles<'f, F> {
             return Err(NotTaken::Declined(Growth::Sections));
         }
         if !self.packing.decompresses {
+            self.compression.set(Compression::Left);
             return Ok(None);
         }
+        self.compression.set(Compression::None);
         match plain_of(self.alloc, bytes) {
             Ok(plain) => Ok(plain),
+            Err(PlainError::Unread(error)) => {
+                self.compression.set(Compression::after(error));
+                Ok(None)
+            }
             Err(PlainError::TooLarge) => Err(NotTaken::Declined(Growth::Plain)),
             Err(PlainError::Memory) => Err(NotTaken::Failed(InputError::Memory)),
         }
@@ -438,8 +445,8 @@ impl<F: FileSystem> Inputs for InputFiles<'_, F> {
         self.is_executable.set(executable_of(input).is_some());
     }
 
-    fn decompresses(&self) -> bool {
-        self.packing.decompresses
+    fn compression(&self) -> Compression {
+        self.compression.get()
     }
 
     fn is_regular(&self, path: &str) -> bool {

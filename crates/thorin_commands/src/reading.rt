@@ -10,7 +10,7 @@ use crate::origins::{Holding, Origin};
 use std::alloc::AllocError;
 use thorin::{Input, InputReader, NotTaken};
 use thorin_errors::InputError;
-use thorin_inputs::{AbsentUnits, Growth};
+use thorin_inputs::{AbsentUnits, Compression, Growth};
 use thorin_print::Failure;
 
 /// What reads inputs, and tells of them. It declines those that would make the package larger than
@@ -39,8 +39,8 @@ pub(crate) trait Inputs: InputReader<Refusal = Growth> {
             (or_content content.now taken)) }
         ensures declined { OnDeclined result (DeclinesBytes (manner self.now) content.now) };
 
-    /// Whether compressed sections are decompressed.
-    fn decompresses(&self) -> bool;
+    /// What is left compressed of the file that was read last.
+    fn compression(&self) -> Compression;
 
     /// Whether there is a regular file at a path.
     fn is_regular(&self, path: &str) -> bool;

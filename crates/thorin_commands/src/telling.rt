@@ -193,7 +193,7 @@ fn note_place<I: Inputs, E: Write>(
         Error::ReadInput(_) => note_unread(inputs, place, err),
         Error::DuplicateUnit(unit) => note_twice(inputs, *unit, place, before, err),
         Error::MixedInputEncodings => note_encodings(inputs, Some(place), err),
-        _ => note_refused(place, error, inputs.decompresses(), err),
+        _ => note_refused(place, error, inputs.compression(), err),
     }
 }
 

@@ -56,7 +56,10 @@ pub fn has_inner_strings(alloc: Global, bytes: &[u8]) -> Result<bool, AllocError
     } else {
         1
     };
-    for section in file.sections() {
+    for number in used.first_offsets..used.behind_offsets {
+        let Some(section) = file.section(number) else {
+            continue;
+        };
         if let Some(SectionKind::StrOffsets) = section.section_kind() {
             inner.count(content(&section), order, step)?;
         }
@@ -73,15 +76,29 @@ impl InnerStrings<'_> {
     /// Counts those that offsets name which stand at each so many bytes of a section, up to the one
     /// with which they are too large.
     fn count(&mut self, offsets: &[u8], order: Endianness, step: usize) -> Result<(), AllocError> {
-        // (what nearly all files have is known to the compiler in a loop of its own)
         match (order, step) {
-            (Endianness::Little, WORD) => self.count_by(offsets, Endianness::Little, WORD),
+            (Endianness::Little, WORD) => self.count_words(offsets),
             _ => self.count_by(offsets, order, step),
         }
     }
 
-    /// The same for one order and step.
-    #[inline(always)]
+    /// The same of words, the lowest byte first, one after the other: nearly all files have these.
+    fn count_words(&mut self, offsets: &[u8]) -> Result<(), AllocError> {
+        let strings = self.strings;
+        for number in 0..offsets.len() / WORD {
+            let rest = &offsets[number * WORD..];
+            let offset = Endianness::Little.read_u32(rest) as usize;
+            if begins_inside(strings, offset) {
+                self.add(offset)?;
+                if self.is_past() {
+                    return Ok(());
+                }
+            }
+        }
+        Ok(())
+    }
+
+    /// The same for any order and step.
     fn count_by(
         &mut self,
         offsets: &[u8],
@@ -121,7 +138,6 @@ impl InnerStrings<'_> {
 }
 
 /// The word at a place; None where fewer bytes are left.
-#[inline(always)]
 fn word_at(bytes: &[u8], order: Endianness, at: usize) -> Option<usize> {
     if at > bytes.len() || bytes.len() - at < WORD {
         return None;

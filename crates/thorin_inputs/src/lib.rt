@@ -3,6 +3,7 @@
 #![tactic(auto)]
 
 mod absent;
+mod compression;
 mod counting;
 mod decompressing;
 mod encodings;
@@ -18,6 +19,7 @@ mod types;
 mod used;
 
 pub use absent::AbsentUnits;
+pub use compression::Compression;
 pub use counting::{count_units, has_types_alone};
 pub use decompressing::decompress;
 pub use encodings::Encodings;

@@ -77,12 +77,11 @@ impl MacroWarnings {
     }
 }
 
-/// Whether an object has several sections of macros, and is of a version of DWARF of which debuggers
-/// then read no unit: one before 5.
+/// Whether an object is of a version of DWARF before 5, and has several sections of macros: debuggers
+/// then read none of its units. (Of others no section is looked at behind the first of info.)
 fn is_warned_of(file: &[u8]) -> bool {
-    loses_macros(file, KeptMacros::Last)
-        && match encoding_of(file) {
-            Some((encoding, _)) => encoding.version < 5,
-            None => false,
-        }
+    match encoding_of(file) {
+        Some((encoding, _)) => encoding.version < 5 && loses_macros(file, KeptMacros::Last),
+        None => false,
+    }
 }

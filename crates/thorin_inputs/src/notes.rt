@@ -1,6 +1,7 @@
 //! The texts of the `note:` lines behind what `pack` refuses: which file, what is the matter with
 //! it, and which option helps.
 
+use crate::compression::Compression;
 use std::alloc::{AllocError, Global};
 use std::fmt;
 use std::io::{self, Write};
@@ -78,10 +79,17 @@ pub fn note_absent<E: Write>(reason: &str, others: usize, err: &mut E) {
 }
 
 /// Prints the note on an input, or an object that it names, that was read and refused.
-pub fn note_refused<E: Write>(place: &str, error: &Error, decompresses: bool, err: &mut E) {
+pub fn note_refused<E: Write>(place: &str, error: &Error, left: Compression, err: &mut E) {
     let cause = Cause(error);
-    let advice = advice_on(error, decompresses);
-    let _ = writeln!(err, "note: {place}{cause}{advice}");
+    let _ = match (error, left) {
+        (Error::DecompressData(_), Compression::Left) => {
+            writeln!(err, "note: {place}{cause}: --decompress packs it")
+        }
+        (Error::DecompressData(_), Compression::Overlaps | Compression::Unread(_)) => {
+            writeln!(err, "note: {place}{cause}: {left}")
+        }
+        _ => writeln!(err, "note: {place}{cause}"),
+    };
 }
 
 /// Prints the note on an input that has a unit which the package has already, and on what brought
@@ -96,20 +104,6 @@ pub fn note_before<E: Write>(unit: u64, place: &str, before: &str, err: &mut E) 
 /// Prints the note on an input that has a unit twice.
 pub fn note_twice_in<E: Write>(unit: u64, place: &str, err: &mut E) {
     let _ = writeln!(err, "note: unit 0x{unit:08x}: twice in {place}");
-}
-
-/// What can be done about an error, if anything.
-fn advice_on(error: &Error, decompresses: bool) -> &'static str {
-    match error {
-        Error::DecompressData(_) => {
-            if decompresses {
-                ": not by zlib, or damaged"
-            } else {
-                ": --decompress packs it"
-            }
-        }
-        _ => "",
-    }
 }
 
 /// The cause below an error, where there is one: the error itself was told.

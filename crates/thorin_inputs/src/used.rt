@@ -12,6 +12,10 @@ pub(crate) struct Used<'a> {
     compilations: Option<&'a [u8]>,
     types: Option<&'a [u8]>,
     pub(crate) has_units: bool,
+    /// The number of the first section of string offsets that isn't empty, and one more than that of
+    /// the last; the same where there is none.
+    pub(crate) first_offsets: usize,
+    pub(crate) behind_offsets: usize,
 }
 
 impl<'a> Used<'a> {
@@ -22,6 +26,8 @@ impl<'a> Used<'a> {
             compilations: None,
             types: None,
             has_units: false,
+            first_offsets: 0,
+            behind_offsets: 0,
         };
         for section in file.sections() {
             if let Some(kind) = section.section_kind() {
@@ -37,6 +43,10 @@ impl<'a> Used<'a> {
         if section.is_empty() {
             return;
         }
+        if let SectionKind::StrOffsets = kind {
+            self.add_offsets(section.number());
+            return;
+        }
         let first = match kind {
             SectionKind::Str => &mut self.strings,
             SectionKind::CuIndex => &mut self.compilations,
@@ -46,6 +56,14 @@ impl<'a> Used<'a> {
         if first.is_none() {
             *first = Some(content(section));
         }
+    }
+
+    /// Adds a section of string offsets, behind those that were added.
+    fn add_offsets(&mut self, number: usize) {
+        if self.behind_offsets == self.first_offsets {
+            self.first_offsets = number;
+        }
+        self.behind_offsets = number.saturating_add(1);
     }
 
     /// Whether no unit of a package has string offsets that begin between words of their section.

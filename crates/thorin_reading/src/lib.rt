@@ -3,4 +3,4 @@
 
 mod plain;
 
-pub use plain::{Compression, PlainReader};
+pub use plain::PlainReader;

@@ -8,18 +8,7 @@ use std::alloc::Global;
 use std::cell::Cell;
 use std::io;
 use thorin_find::FileReader;
-use thorin_inputs::decompress;
-
-/// Whether a file that was read still has compressed sections that units need.
-#[derive(Clone, Copy)]
-pub enum Compression {
-    /// It has none.
-    None,
-    /// It has some: it wasn't to be decompressed.
-    Left,
-    /// It has some that can't be decompressed.
-    Unread,
-}
+use thorin_inputs::{Compression, decompress};
 
 /// The files of another reader, each decompressed where that is asked for. Of a file whose
 /// compressed sections overlap nothing is decompressed.
@@ -48,7 +37,7 @@ impl<'f, F: FileReader> PlainReader<'f, F> {
         }
     }
 
-    /// Whether the last file that was read is compressed.
+    /// What the last file that was read still has of compressed sections that units may need.
     pub fn compression(&self) -> Compression {
         self.compression.get()
     }
@@ -59,20 +48,24 @@ impl<F: FileReader> FileReader for PlainReader<'_, F> {
 
     fn read(&self, path: &str) -> io::Result<Vec<u8>> {
         let mut bytes = self.files.read(path)?;
-        if self.decompresses && decompress(self.alloc, &mut bytes, false).is_err() {
-            return Err(io::Error::from(io::ErrorKind::OutOfMemory));
+        if !self.decompresses {
+            self.compression.set(compression_of(&bytes));
+            return Ok(bytes);
         }
-        self.compression
-            .set(compression_of(self.decompresses, &bytes));
-        Ok(bytes)
+        match decompress(self.alloc, &mut bytes, false) {
+            Ok(left) => {
+                self.compression.set(left);
+                Ok(bytes)
+            }
+            Err(_) => Err(io::Error::from(io::ErrorKind::OutOfMemory)),
+        }
     }
 }
 
-/// What a file is that was to be decompressed or not.
-fn compression_of(decompresses: bool, bytes: &[u8]) -> Compression {
+/// What a file is that wasn't to be decompressed.
+fn compression_of(bytes: &[u8]) -> Compression {
     match plain_length(bytes, Asked::OfUnits) {
         Ok(None) | Err(DecompressError::Read(_)) => Compression::None,
-        _ if decompresses => Compression::Unread,
         _ => Compression::Left,
     }
 }

@@ -9,7 +9,7 @@ import os
 from pathlib import Path
 from typing import Any, Callable, Iterator, List, NamedTuple, Optional, Sequence, Tuple, Union
 
-__version__ = "1.1.0"
+__version__ = "1.2.0"
 __all__ = ["COMPILATION", "TYPE_UNIT", "SECTIONS", "Error", "Found", "Lookup", "Package", "Packed", "Skeleton", "Skeletons", "Unit",
            "decompress", "differing_types", "pack", "skeletons", "version"]
 

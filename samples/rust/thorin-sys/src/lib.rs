@@ -20,6 +20,7 @@ pub const THORIN_NOT_COMPRESSED: i32 = 14;
 pub const THORIN_DAMAGED: i32 = 15;
 pub const THORIN_NOT_ZLIB: i32 = 16;
 pub const THORIN_UNWRITABLE: i32 = 17;
+pub const THORIN_DAMAGED_ZSTD: i32 = 18;
 
 pub const THORIN_COMPILATION: u8 = 1;
 pub const THORIN_TYPE_UNIT: u8 = 2;

@@ -247,7 +247,7 @@ pub fn differing_types(inputs: &[impl AsRef<[u8]>]) -> Result<Vec<u64>, PackErro
     }
 }
 
-/// A file with plain sections in place of those that zlib compressed: an object, a package or an executable. None where all
+/// A file with plain sections in place of those that zlib or zstd compressed: an object, a package or an executable. None where all
 /// sections are plain.
 pub fn decompress(file: &[u8]) -> Result<Option<Vec<u8>>, Status> {
     let (mut plain, mut size) = (Vec::new(), 0);
