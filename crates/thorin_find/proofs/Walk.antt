@@ -1,42 +1,162 @@
--- The lines of a list, slot by slot.
-use Rattle.std.proofs.Common.{◌≡◌, ℕ, Bool, true, List, ◌∷◌, ◌++◌, Option, Result, Ok, Err, refl}
-use Rattle.std.proofs.Common.{append_assoc, true≢false}
+-- The lines of a list, slot by slot: some are printed, the others wait.
+use Rattle.std.proofs.Common.{◌≡◌, ◌∙◌, ℕ, Bool, true, false, List, [], ◌∷◌, ◌++◌, Option, Result}
+use Rattle.std.proofs.Common.{Ok, Err, refl, sym, ap, append-nil, append_assoc, true≢false}
+use Rattle.std.proofs.Common.{length, take, drop, take-append-drop}
+use Rattle.std.specs.Io.KnownBytes.{Appends}
+use Rattle.std.proofs.KnownBytes.{Appends-nil, Appends-trans}
+use Rattle.std.proofs.Math.Seq.{take-append_seam}
 use Rattle.dwp_index.specs.Package.{Package, FoundUnit, found}
 use Rattle.dwp_index.specs.declared.error.PackageError.{PackageError}
 use Rattle.dwp_index.specs.declared.units.UnitEntry.{UnitEntry}
 use Rattle.thorin_find.specs.Listing.{ListView, UnitLines, lines_of, slot_line, AddsLine}
-use Rattle.thorin_find.specs.Listing.{behind_line}
+use Rattle.thorin_find.specs.Listing.{behind_line, PrintsFront, PrintsLines, Begins}
+use Rattle.thorin_print.specs.Answers.{Comes, HasBeginning, IsOfPrinting}
+use Rattle.thorin_print.specs.declared.output.Failure.{Failure}
+use Rattle.thorin_print.specs.declared.output.Failure.TheVariants as failures
+
+-- ---- a text that waits
+
+pub none_waits : (a : Option (List ℕ)) (text : List ℕ) → PrintsFront a a text text
+none_waits a text = record { front = []; split = refl; printed = Appends-nil a }
+
+pub all_waits : (old new : Option (List ℕ)) (text rest : List ℕ) → rest ≡ []
+    → Appends old new text → PrintsFront old new text rest
+all_waits old new text rest none h =
+    record { front = text; split = rw none (sym (append-nil text)); printed = h }
+
+-- it wasn't printed whole
+pub not_printed : (failure : Failure) (text : List ℕ) (old new : Option (List ℕ))
+    → Comes (Err failure) (record { printed = text; answer = Ok 0 }) old new
+    → Begins failure text old new
+not_printed failures.Line text old new h = record { cause = tt; begun = h }
+not_printed failures.Memory text old new h = record { cause = tt; begun = h }
+not_printed _ text old new h = absurd (cc h.0)
+
+-- more of it waited, of which some was printed
+front_next : (old middle new : Option (List ℕ)) (all waiting more next rest : List ℕ)
+    → PrintsFront old middle all waiting → next ≡ waiting ++ more
+    → PrintsFront middle new next rest → PrintsFront old new (all ++ more) rest
+front_next old middle new all waiting more next rest p added q = record {
+  front = p.front ++ q.front;
+  split = rw (p.split, append_assoc, ← added, q.split, append_assoc) refl;
+  printed = Appends-trans old middle new p.front q.front p.printed q.printed;
+}
+
+-- what was printed, and a beginning of what is left, are a beginning of all
+pub begun_behind : (old middle new : Option (List ℕ)) (front rest more : List ℕ)
+    → Appends old middle front → HasBeginning middle new rest
+    → HasBeginning old new (front ++ (rest ++ more))
+unfolding HasBeginning
+begun_behind old middle new front rest more printed h =
+    let all = Appends-trans old middle new front (take h.0 rest) printed h.1 in
+    let split : front ++ (rest ++ more) ≡ (front ++ take h.0 rest) ++ (drop h.0 rest ++ more) =
+    rw (append_assoc, ← append_assoc (take h.0 rest), take-append-drop) refl in
+    (length (front ++ take h.0 rest), rw (split, take-append_seam) all)
+
+pub nothing_begun : (a : Option (List ℕ)) (text : List ℕ) → HasBeginning a a text
+unfolding HasBeginning
+nothing_begun a text = (0, Appends-nil a)
+
+-- ---- slot by slot
 
 -- some text, and the lines behind it
 abbrev behind : List ℕ → UnitLines → UnitLines
 behind text lines = record { printed = text ++ lines.printed; is_all = lines.is_all }
 
--- of the lines of all slots, those up to the rest were added
-pub record LinesSoFar (view : ListView) (pack : Package) (all rest : List UnitEntry)
-    (old new : List ℕ) : Type 0 where
+-- of the lines of all slots, those up to the rest were added: some are printed, the others wait
+pub record PrintedSoFar (view : ListView) (pack : Package) (all rest : List UnitEntry)
+    (old new : Option (List ℕ)) (waiting : List ℕ) : Type 0 where
   pub done : List ℕ
   pub split : lines_of view pack all ≡ behind done (lines_of view pack rest)
-  pub added : new ≡ old ++ done
+  pub front : PrintsFront old new done waiting
+
+module _ (view : ListView) (pack : Package) (all : List UnitEntry) (old : Option (List ℕ)) where
+  -- what is printed so far is a beginning
+  pub begun : (failure : Failure) (rest : List UnitEntry) (new : Option (List ℕ))
+      (waiting : List ℕ) → IsOfPrinting failure
+      → PrintedSoFar view pack all rest old new waiting
+      → Begins failure (lines_of view pack all).printed old new
+  begun failure rest new waiting cause s =
+      let more = (lines_of view pack rest).printed in
+      let behind_front = begun_behind old new new s.front.front waiting more s.front.printed
+      (nothing_begun new waiting) in
+      record { cause = cause; begun = rw (s.split, s.front.split, append_assoc) behind_front }
+
+  -- no slot is left
+  pub all_found : (rest : List UnitEntry) (new : Option (List ℕ)) (waiting : List ℕ) → rest ≡ []
+      → PrintedSoFar view pack all rest old new waiting
+      → PrintsLines (lines_of view pack all) true old new waiting
+  all_found rest new waiting none s =
+      let so_far = rw none at s in
+      record {
+        all = rw so_far.split refl;
+        front = rw (so_far.split, append-nil) so_far.front;
+      }
 
 module _ (view : ListView) (pack : Package) (all : List UnitEntry) (entry : UnitEntry)
-    (rest : List UnitEntry) (old middle new : List ℕ) where
-  more : (looked : Result (Option FoundUnit) PackageError) (done : List ℕ)
-      → AddsLine view entry looked middle new true
-      → lines_of view pack all ≡ behind done
-      (behind_line view entry looked (lines_of view pack rest))
-      → middle ≡ old ++ done → LinesSoFar view pack all rest old new
-  more (Err cause) done h split added = absurd (true≢false h.0)
-  more (Ok unit) done h split added = record {
+    (rest : List UnitEntry) (old middle : Option (List ℕ)) (waiting next : List ℕ) where
+  -- the lines of all, from a slot on
+  abbrev Left : Result (Option FoundUnit) PackageError → List ℕ → Type 0
+  Left looked done = lines_of view pack all
+      ≡ behind done (behind_line view entry looked (lines_of view pack rest))
+
+  left_of : (left : List UnitEntry) (done : List ℕ) → left ≡ entry ∷ rest
+      → lines_of view pack all ≡ behind done (lines_of view pack left)
+      → Left (found pack entry.object) done
+  left_of left done is split = rw is at split
+
+  more : (looked : Result (Option FoundUnit) PackageError) (done still : List ℕ)
+      (new : Option (List ℕ)) → AddsLine view entry looked waiting next true → Left looked done
+      → PrintsFront old middle done waiting → PrintsFront middle new next still
+      → PrintedSoFar view pack all rest old new still
+  more (Err cause) done still new h split p q = absurd (true≢false h.0)
+  more (Ok unit) done still new h split p q = record {
     done = done ++ slot_line view entry unit;
     split = rw append_assoc split;
-    added = rw (h.1, added, append_assoc) refl;
+    front = front_next old middle new done waiting (slot_line view entry unit) next still p h.1 q;
   }
 
-  -- what is left is said by an equation
-  pub so_far_next : (left : List UnitEntry) (is_found : Bool) → is_found ≡ true
-      → AddsLine view entry (found pack entry.object) middle new is_found
-      → left ≡ entry ∷ rest → LinesSoFar view pack all left old middle
-      → LinesSoFar view pack all rest old new
-  so_far_next left is_found found_it h split s =
-      let so_far = rw split at s in
-      more (found pack entry.object) so_far.done (rw found_it at h) so_far.split so_far.added
+  no_more : (looked : Result (Option FoundUnit) PackageError) (done : List ℕ)
+      → AddsLine view entry looked waiting next false → Left looked done
+      → PrintsFront old middle done waiting
+      → PrintsLines (lines_of view pack all) false old middle next
+  no_more (Err cause) done h split p =
+      record { all = rw split refl; front = rw (split, append-nil, h.1) p }
+  no_more (Ok unit) done h split p = absurd (true≢false (sym h.0))
+
+  begun_there : (looked : Result (Option FoundUnit) PackageError) (done : List ℕ)
+      (new : Option (List ℕ)) → AddsLine view entry looked waiting next true → Left looked done
+      → PrintsFront old middle done waiting → HasBeginning middle new next
+      → HasBeginning old new (lines_of view pack all).printed
+  begun_there (Err cause) done new h split p b = absurd (true≢false h.0)
+  begun_there (Ok unit) done new h split p b =
+      let line = slot_line view entry unit in
+      let more = (lines_of view pack rest).printed in
+      let same : (lines_of view pack all).printed ≡ p.front ++ (next ++ more) =
+      rw (split, p.split, h.1, append_assoc, append_assoc) refl in
+      rw same (begun_behind old middle new p.front next more p.printed b)
+
+  module _ (left : List UnitEntry) (is_found : Bool) (is_left : left ≡ entry ∷ rest)
+      (added : AddsLine view entry (found pack entry.object) waiting next is_found)
+      (s : PrintedSoFar view pack all left old middle waiting) where
+    -- its unit was found, and what waits was printed or not
+    pub printed_next : (still : List ℕ) (new : Option (List ℕ)) → is_found ≡ true
+        → PrintsFront middle new next still → PrintedSoFar view pack all rest old new still
+    printed_next still new is q =
+        more (found pack entry.object) s.done still new (rw is at added)
+        (left_of left s.done is_left s.split) s.front q
+
+    -- it can't be looked up
+    pub not_found : is_found ≡ false → PrintsLines (lines_of view pack all) false old middle next
+    not_found is =
+        no_more (found pack entry.object) s.done (rw is at added)
+        (left_of left s.done is_left s.split) s.front
+
+    -- its line wasn't printed whole
+    pub begun_next : (failure : Failure) (new : Option (List ℕ)) → is_found ≡ true
+        → Begins failure next middle new → Begins failure (lines_of view pack all).printed old new
+    begun_next failure new is b = record {
+      cause = b.cause;
+      begun = begun_there (found pack entry.object) s.done new (rw is at added)
+          (left_of left s.done is_left s.split) s.front b.begun;
+    }

@@ -6,7 +6,7 @@ use Rattle.std.specs.Fmt.{decimal}
 use Rattle.std.specs.List.{flat_map}
 use Rattle.std.specs.List.Sorted.{IsPermutation, IsSortedByKey, IsStableByKey}
 use Rattle.std.specs.Ordering.{nat_cmp}
-use Rattle.std.specs.Io.KnownBytes.{Keeps}
+use Rattle.std.specs.Io.KnownBytes.{Appends, Keeps}
 use Rattle.dwp_base.specs.declared.endian.Endianness.{Endianness}
 use Rattle.dwp_base.specs.Sections.{short_name}
 use Rattle.dwp_base.specs.declared.section.SectionKind.{SectionKind}
@@ -20,7 +20,7 @@ use Rattle.dwp_table.specs.Columns.{contribution_kinds}
 use Rattle.dwp_table.specs.Objects.{identifier_of}
 use Rattle.dwp_table.specs.declared.object.DwarfObject.{DwarfObject}
 use Rattle.dwp_table.specs.declared.object.DwarfObject.TheVariants.{Compilation, TypeUnit}
-use Rattle.thorin_print.specs.Answers.{Answer, refused, Comes}
+use Rattle.thorin_print.specs.Answers.{Answer, refused, Comes, HasBeginning, IsOfPrinting}
 use Rattle.thorin_find.specs.Files.{Offer, RefusesFile}
 use Rattle.thorin_find.specs.Names.{source_name, object_name}
 use Rattle.thorin_print.specs.declared.form.Form.{Form}
@@ -157,6 +157,25 @@ abbrev pub AddsLine : (view : ListView) → UnitEntry → Result (Option FoundUn
 AddsLine view entry (Err cause) old new is_found = (is_found ≡ false) × (new ≡ old)
 AddsLine view entry (Ok unit) old new is_found =
     (is_found ≡ true) × (new ≡ old ++ slot_line view entry unit)
+
+-- ---- printing them in pieces
+
+-- where a writer's bytes are known, the front of a text was added, and the rest of it waits
+pub record PrintsFront (old new : Option (List ℕ)) (all waiting : List ℕ) : Type 0 where
+  pub front : List ℕ
+  pub split : all ≡ front ++ waiting
+  pub printed : Appends old new front
+
+-- the front of such lines was printed, and the rest waits
+pub record PrintsLines (lines : UnitLines) (is_all : Bool) (old new : Option (List ℕ))
+    (waiting : List ℕ) : Type 0 where
+  pub all : is_all ≡ lines.is_all
+  pub front : PrintsFront old new lines.printed waiting
+
+-- a line couldn't be written or memory ran out, and a text was begun
+pub record Begins (failure : Failure) (text : List ℕ) (old new : Option (List ℕ)) : Type 0 where
+  pub cause : IsOfPrinting failure
+  pub begun : HasBeginning old new text
 
 -- ---- what comes of it
 

@@ -1,13 +1,15 @@
 //! `thorin list`.
 
-ghost use Rattle.std.specs.Prelude.{◌≡◌, ◌++◌, [], IfOk, OnOk, string_bytes};
+ghost use Rattle.std.specs.Prelude.{◌≡◌, ℕ, List, [], ◌++◌, Option, IfOk, IfErr, OnOk, string_bytes};
 ghost use Rattle.std.specs.Option.{option_copied};
 ghost use Rattle.dwp_index.specs.Entries.{entries_from};
 ghost use Rattle.dwp_index.specs.Package.{package_of, found};
+ghost use Rattle.dwp_index.specs.declared.units.UnitEntry.{UnitEntry};
 ghost use Rattle.thorin_find.specs.Files.{OrNoMemory};
 ghost use Rattle.thorin_find.specs.Listing.{place_by, AreByRow, range_size, range_sizes};
 ghost use Rattle.thorin_find.specs.Listing.{front_of, named_by, unit_names, end_of, view_of};
 ghost use Rattle.thorin_find.specs.Listing.{unit_line, AddsLine, lines_of, answer_of, IsListedIn};
+ghost use Rattle.thorin_find.specs.Listing.{PrintsFront, PrintsLines, Begins};
 ghost use Rattle.thorin_find.specs.Listing.{ListsPackage, ListsBytes, Lists};
 
 use crate::columns::{put_total_rows, put_unit_rows};
@@ -22,6 +24,9 @@ use dwp_table::{CONTRIBUTION_KINDS, DwarfObject};
 use std::alloc::{AllocError, Global};
 use std::io::Write;
 use thorin_print::{Failure, Form, answer, put_spelled_or};
+
+/// How many bytes of lines wait at most before they are printed.
+const MUCH: usize = 8192;
 
 /// What the lines of a list are to have.
 #[derive(Clone, Copy)]
@@ -39,8 +44,8 @@ pub struct ListForm {
 /// Prints a line for each unit of a package: compilation units by row, then type units by row. A
 /// line goes on with sizes and names where these are asked for; totals follow then. In columns it
 /// is a row, under the names of the sections, and each total has its share of the file. Answers the
-/// status 0. The text is printed once it is whole; where a unit can't be looked up, that is up to
-/// the line before it.
+/// status 0. Lines are printed as soon as there are 8 KB of them; where a unit can't be looked up,
+/// that is up to the line before it. Columns are printed once they are whole.
 ///
 /// # Errors
 /// `Input` where the file can't be read, `Malformed` where it is no package or a unit can't be
@@ -98,7 +103,7 @@ fn list_bytes<O: Write>(
 }
 
 /// Lists a package.
-#[tactic(auto, using(crate::proofs::Listed::same_entries, crate::proofs::Listed::no_memory))]
+#[tactic(auto, using(crate::proofs::Listed::same_entries, crate::proofs::Listed::with_memory, crate::proofs::Listed::no_memory))]
 fn list_package<O: Write>(alloc: Global, listed: Listed<'_, '_>, out: &mut O) -> Result<u8, Failure>
     ensures { OrNoMemory (ListsPackage listed.entry.form listed.entry.pack.now (O.contents out.old)
         (O.contents out.new) result) (O.contents out.old) (O.contents out.new) result }
@@ -110,7 +115,6 @@ fn list_package<O: Write>(alloc: Global, listed: Listed<'_, '_>, out: &mut O) ->
 }
 
 /// Lists the units of a package.
-#[tactic(auto, using(crate::proofs::Listed::no_memory))]
 fn list_entries<O: Write>(
     alloc: Global,
     listed: Listed<'_, '_>,
@@ -118,33 +122,52 @@ fn list_entries<O: Write>(
     out: &mut O,
 ) -> Result<u8, Failure>
     requires { AreByRow listed.pack.now entries.now }
-    ensures { OrNoMemory (ListsPackage listed.entry.form listed.entry.pack.now (O.contents out.old)
-        (O.contents out.new) result) (O.contents out.old) (O.contents out.new) result }
+    ensures { ListsPackage listed.entry.form listed.entry.pack.now (O.contents out.old)
+        (O.contents out.new) result }
 {
-    let mut text = String::new(alloc);
-    match put_listing(listed, entries, &mut text) {
-        Ok(given) => answer(text.as_str(), given, out),
+    let mut waiting = String::new(alloc);
+    let mut sizes = Sizes::new(alloc);
+    match print_lines(listed, entries, &mut sizes, &mut waiting, out) {
+        Ok(is_all) => print_rest(listed, is_all, &mut sizes, &mut waiting, out),
+        Err(failure) => Err(failure),
+    }
+}
+
+/// Prints the lines that wait, and what stands behind them.
+fn print_rest<O: Write>(
+    listed: Listed<'_, '_>,
+    is_all: bool,
+    sizes: &mut Sizes,
+    waiting: &mut String,
+    out: &mut O,
+) -> Result<u8, Failure>
+    ensures { (entries : List UnitEntry) (first : Option (List ℕ))
+        → AreByRow listed.entry.pack.now entries
+        → PrintsLines (lines_of (view_of listed.entry.form listed.entry.pack.now)
+        listed.entry.pack.now entries) is_all first (O.contents out.old) (string_bytes waiting.old)
+        → ListsPackage listed.entry.form listed.entry.pack.now first (O.contents out.new) result }
+{
+    match put_rest(listed, is_all, sizes, waiting) {
+        Ok(given) => answer(waiting.as_str(), given, out),
         Err(_) => Err(Failure::Memory),
     }
 }
 
-/// Makes the text of a list, and of totals where sizes are asked for. Answers what is to be
-/// answered.
-#[tactic(auto, using(crate::proofs::Listed::listed_part, crate::proofs::Listed::listed_plain, crate::proofs::Listed::listed_sized, crate::proofs::Listed::listed_columns))]
-fn put_listing(
+/// Adds what stands behind the lines: totals where sizes are asked for, or columns. Answers what is
+/// to be answered.
+#[tactic(auto, using(crate::proofs::Listed::listed_columns, crate::proofs::Listed::listed_part, crate::proofs::Listed::listed_plain, crate::proofs::Listed::listed_sized))]
+fn put_rest(
     listed: Listed<'_, '_>,
-    entries: &[UnitEntry],
+    is_all: bool,
+    sizes: &mut Sizes,
     text: &mut String,
 ) -> Result<Result<u8, Failure>, AllocError>
-    requires { string_bytes text.old ≡ [] }
     ensures { IfOk result (λ given. IsListedIn listed.entry.form.columns listed.entry.form
-        (lines_of (view_of listed.entry.form listed.entry.pack.now) listed.entry.pack.now entries.now)
+        (record { printed = string_bytes text.old; is_all = is_all })
         (record { printed = string_bytes text.new; answer = given })) }
 {
-    let mut sizes = Sizes::new(*text.allocator());
-    let is_all = put_lines(listed, entries, &mut sizes, text)?;
     if listed.form.columns {
-        put_sheet(listed, is_all, &mut sizes, text)?;
+        put_sheet(listed, is_all, sizes, text)?;
         return Ok(answer_of(is_all));
     }
     if !is_all {
@@ -187,28 +210,62 @@ fn put_sheet(
     put_total_rows(totals.as_slice(), text)
 }
 
-/// Adds the lines of units, up to one that can't be looked up: then it answers false.
-#[tactic(auto, using(crate::proofs::Walk::so_far_next, thorin_print::proofs::Lines::drop_next))]
-fn put_lines(
+/// Prints the lines of units, up to one that can't be looked up: then it answers false. The last
+/// of them are left to be printed.
+///
+/// # Errors
+/// `Line` or `Memory`.
+#[tactic(auto, using(crate::proofs::Walk::printed_next, crate::proofs::Walk::not_found, crate::proofs::Walk::all_found, crate::proofs::Walk::begun, crate::proofs::Walk::begun_next, thorin_print::proofs::Lines::drop_next))]
+fn print_lines<O: Write>(
     listed: Listed<'_, '_>,
     entries: &[UnitEntry],
     sizes: &mut Sizes,
-    text: &mut String,
-) -> Result<bool, AllocError>
-    ensures lines { OnOk result (string_bytes text.new ≡ string_bytes text.old
-        ++ (lines_of (view_of listed.entry.form listed.entry.pack.now) listed.entry.pack.now
-        entries.now).printed) }
-    ensures all { IfOk result (λ is_all. is_all
-        ≡ (lines_of (view_of listed.entry.form listed.entry.pack.now) listed.entry.pack.now
-        entries.now).is_all) }
+    waiting: &mut String,
+    out: &mut O,
+) -> Result<bool, Failure>
+    requires { string_bytes waiting.old ≡ [] }
+    ensures lines { IfOk result (λ is_all. PrintsLines (lines_of
+        (view_of listed.entry.form listed.entry.pack.now) listed.entry.pack.now entries.now)
+        is_all (O.contents out.old) (O.contents out.new) (string_bytes waiting.new)) }
+    ensures part { IfErr result (λ failure. Begins failure (lines_of
+        (view_of listed.entry.form listed.entry.pack.now) listed.entry.pack.now
+        entries.now).printed (O.contents out.old) (O.contents out.new)) }
 {
     for entry in entries {
-        let is_found = put_slot(listed, *entry, sizes, text)?;
-        if !is_found {
-            return Ok(false);
+        match put_slot(listed, *entry, sizes, waiting) {
+            Ok(true) => {
+                if let Err(failure) = print_much(waiting, out) {
+                    return Err(failure);
+                }
+            }
+            Ok(false) => return Ok(false),
+            Err(_) => return Err(Failure::Memory),
         }
     }
     Ok(true)
+}
+
+/// Prints what waits in a text, where it is much: then nothing waits.
+///
+/// # Errors
+/// `Line` where the writer doesn't take all.
+#[tactic(auto, using(crate::proofs::Walk::all_waits, crate::proofs::Walk::none_waits, crate::proofs::Walk::not_printed))]
+fn print_much<O: Write>(waiting: &mut String, out: &mut O) -> Result<(), Failure>
+    ensures whole { OnOk result (PrintsFront (O.contents out.old) (O.contents out.new)
+        (string_bytes waiting.old) (string_bytes waiting.new)) }
+    ensures part { IfErr result (λ failure. Begins failure (string_bytes waiting.old)
+        (O.contents out.old) (O.contents out.new)) }
+{
+    if waiting.len() < MUCH {
+        return Ok(());
+    }
+    match answer(waiting.as_str(), Ok(0), out) {
+        Ok(_) => {
+            waiting.clear();
+            Ok(())
+        }
+        Err(failure) => Err(failure),
+    }
 }
 
 /// Adds the line of the unit that is found for a slot, where it is that of the slot's row. Answers
