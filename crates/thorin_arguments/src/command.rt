@@ -9,7 +9,7 @@ use crate::texts::{
 use clap::{Arg, ArgAction, Command};
 use std::alloc::{AllocError, Global};
 
-const VERSION: &'static str = "1.1.0";
+const VERSION: &'static str = "1.2.0";
 
 /// A word that a command line may have.
 #[derive(Clone, Copy)]
@@ -59,17 +59,17 @@ const FORCE: Word = Word::Flag("force", "Write OUT even if it is an input");
 
 const DECOMPRESS: Word = Word::Flag(
     "decompress",
-    "Read inputs and executables that are compressed by zlib",
+    "Read inputs and executables that are compressed by zlib or zstd",
 );
 
 const DECOMPRESS_PACKAGE: Word = Word::Flag(
     "decompress",
-    "Read a package that is compressed by zlib",
+    "Read a package that is compressed by zlib or zstd",
 );
 
 const DECOMPRESS_ALL: Word = Word::Flag(
     "decompress",
-    "Read a package and executables that are compressed by zlib",
+    "Read a package and executables that are compressed by zlib or zstd",
 );
 
 const ARCHIVES: Word = Word::Flag(

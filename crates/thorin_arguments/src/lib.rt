@@ -1,10 +1,14 @@
 //! The command lines of `thorin`: which command a line asks for, and what it is given.
 #![tactic(auto)]
 
+mod asking;
 mod command;
+mod commands;
 mod peers;
 mod reading;
 mod texts;
 
+pub use asking::{CheckArguments, Commands, FindArguments, ListArguments, PackArguments};
+pub use commands::dispatch;
 pub use peers::is_peer;
-pub use reading::{CheckArguments, Commands, FindArguments, ListArguments, PackArguments, run};
+pub use reading::run;

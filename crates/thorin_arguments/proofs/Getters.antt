@@ -1,0 +1,38 @@
+-- What the getters of the matches give, by their rows.
+use Rattle.std.proofs.Common.{◌≡◌, ◌∙◌, ap, sym, refl, Bool, true, false, Option, Some, None, codes}
+use Rattle.std.specs.Prelude.{unwrap_or}
+use Rattle.std.specs.Option.{option_map_or}
+use Rattle.std.specs.Str.{bytes_eq}
+use Rattle.std.specs.Str.Parse.{ParsesBool}
+use Rattle.std.proofs.lemmas.Slice.Eq.{bytes_eq-Decides}
+use Rattle.clap.specs.Matches.{ReadsOne, one_text}
+use Rattle.clap.specs.Walk.{Text, one_of, rows_of}
+use Rattle.clap.specs.declared.parser.matches.Found.{Found}
+use Rattle.clap.proofs.WalkLemmas.{one_text-rows}
+use Rattle.thorin_arguments.specs.Asked.{is_set}
+
+abbrev is_true : Text → Bool
+is_true text = bytes_eq text (codes "true")
+
+by_text : (E : Type 0) (t : Text) (r : Option Bool) → ReadsOne {T = Bool} {E = E} ParsesBool t r
+    → unwrap_or r false ≡ is_true t
+by_text E t (Some true) h = rw h refl
+by_text E t (Some false) h = rw h refl
+by_text E t None h = go (is_true t) refl
+  where
+    go : (b : Bool) → is_true t ≡ b → false ≡ is_true t
+    go false e = sym e
+    go true e = absurd (h.1.0 ((bytes_eq-Decides t (codes "true")).0 e))
+
+-- a flag, as it is read as a truth value
+pub flag_read : (E : Type 0) (f : Found) (id : Text) (r : Option Bool)
+    → (one_text f id ≡ None → r ≡ None)
+    → ((t : Text) → one_text f id ≡ Some t → ReadsOne {T = Bool} {E = E} ParsesBool t r)
+    → unwrap_or r false ≡ is_set (rows_of f) id
+flag_read E f id r none some = go (one_text f id) refl
+    ∙ ap (λ (o : Option Text). option_map_or is_true o false) (one_text-rows f id)
+  where
+    go : (o : Option Text) → one_text f id ≡ o
+        → unwrap_or r false ≡ option_map_or is_true (one_text f id) false
+    go None e = rw (none e, e) refl
+    go (Some t) e = rw e (by_text E t r (some t e))
