@@ -1,6 +1,9 @@
 //! The program `thorin`, as a function over its words and two writers.
 #![tactic(auto)]
 
+ghost use Rattle.std.specs.Prelude.{◌≡◌, ◌⊎◌, ⊤};
+ghost use Rattle.thorin_print.specs.Answers.{exit_status};
+
 mod manner;
 mod notes;
 mod settings;
@@ -8,7 +11,8 @@ mod settings;
 pub use crate::manner::Facts;
 use crate::manner::Manner;
 use crate::notes::{
-    Given, Read, note_no_index, note_packing, note_reading, note_refused, note_unread,
+    Given, Read, note_no_index, note_not_text, note_output, note_packing, note_reading,
+    note_refused, note_split, note_unread,
 };
 use crate::settings::{file_count, form_of, nameless_units, packing_of};
 use std::convert::AsStr;
@@ -57,7 +61,7 @@ pub fn run<S: AsStr, O: Write, E: Write>(
         }
         Err(error) => {
             let status = refuse_response(rt, err, &error);
-            note_response(rt, &files, err);
+            note_response(rt, &files, &error, err);
             status
         }
     }
@@ -92,15 +96,23 @@ fn refuse_response<E: Write>(rt: &HostRuntime, err: &mut E, error: &ResponseErro
             1
         }
         ResponseError::Unreadable | ResponseError::TooMany => report(err, &Failure::Response),
-        ResponseError::NotUtf8 => refuse_encoding(err, "a response file isn't UTF-8"),
+        ResponseError::NotUtf8 => report(err, &Failure::BadCommand),
         ResponseError::Memory => report(err, &Failure::Memory),
     }
 }
 
-/// Prints the note on a response file that can't be read.
-fn note_response<E: Write>(rt: &HostRuntime, files: &HostResponses<'_>, err: &mut E) {
+/// Prints the note on a response file that can't be read, or isn't text.
+fn note_response<E: Write>(
+    rt: &HostRuntime,
+    files: &HostResponses<'_>,
+    error: &ResponseError,
+    err: &mut E,
+) {
     if let Some((name, cause)) = files.unread() {
         note_unread(rt, name.as_str(), &cause, err);
+    }
+    if matches!(error, ResponseError::NotUtf8) {
+        note_not_text(rt, &files.not_text(), err);
     }
 }
 
@@ -131,15 +143,15 @@ fn refuse_deep<E: Write>(rt: &HostRuntime, err: &mut E, name: &str) -> u8 {
 pub fn refuse_words<E: Write>(err: &mut E, cause: &io::Error) -> u8 {
     match cause.kind() {
         io::ErrorKind::OutOfMemory => report(err, &Failure::Memory),
-        _ => refuse_encoding(err, "a word isn't UTF-8, as names of files have to be"),
+        _ => {
+            let status = report(err, &Failure::BadCommand);
+            let _ = writeln!(
+                err,
+                "note: a word isn't UTF-8, as names of files have to be"
+            );
+            status
+        }
     }
-}
-
-/// Prints that a command line isn't text, and what of it, and answers the status.
-fn refuse_encoding<E: Write>(err: &mut E, what: &str) -> u8 {
-    let status = report(err, &Failure::BadCommand);
-    let _ = writeln!(err, "note: {what}");
-    status
 }
 
 /// What is known of the files of a packing.
@@ -176,9 +188,18 @@ impl<O: Write, E: Write> Program<'_, '_, '_, O, E> {
 
     /// Prints why a command failed, and answers the status. That nobody reads standard output any
     /// more isn't told: whoever closed the pipe has what they wanted.
-    fn report(&mut self, failure: &Failure) -> u8 {
-        match failure {
-            Failure::Line if self.out.is_closed() => 1,
+    fn report(&mut self, failure: &Failure) -> u8
+        ensures { (result ≡ exit_status failure.now) ⊎ (result ≡ 1) }
+    {
+        match self.out.failure() {
+            Some(cause) if matches!(failure, Failure::Line) => {
+                if cause.kind() == io::ErrorKind::BrokenPipe {
+                    return 1;
+                }
+                let status = report(self.err, failure);
+                note_output(self.rt, &cause, self.err);
+                status
+            }
             _ => report(self.err, failure),
         }
     }
@@ -263,11 +284,17 @@ impl<O: Write, E: Write> Program<'_, '_, '_, O, E> {
         let host = HostReader::new(self.rt);
         let files = PlainReader::new(self.rt.alloc(), &host, decompresses);
         let answer = check_by(self.rt, &files, file, executables, reading, &mut self.out);
+        if matches!(answer, Ok(1)) {
+            note_split(self.rt, executables, self.err);
+        }
         self.status(answer, Given::file(file), Read::by(&host, &files))
     }
 }
 
 impl<O: Write, E: Write> Commands for Program<'_, '_, '_, O, E> {
+    // What a command does is said by the contracts of the calls in it; here nothing is.
+    ghost does = { λ _ _ _ _. ⊤ };
+
     fn pack(&mut self, arguments: PackArguments<'_, '_>) -> u8 {
         let packing = packing_of(arguments, self.manner);
         if arguments.verifies_only {

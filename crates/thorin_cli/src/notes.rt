@@ -6,9 +6,10 @@ use std::alloc::{AllocError, Global};
 use std::io::{self, Write};
 use thorin_commands::{Packing, reason};
 use thorin_find::{HostReader, Unread};
+use thorin_inputs::Compression;
 use thorin_print::Failure;
-use thorin_reading::{Compression, PlainReader};
-use thorin_terminal::{NamedFile, Peculiarity};
+use thorin_reading::PlainReader;
+use thorin_terminal::{NamedFile, Peculiarity, has_split_units};
 use thorin_words::printed;
 
 /// What a command that reads was given.
@@ -69,7 +70,10 @@ pub(crate) fn note_reading<E: Write>(
                 note_unread(rt, unread.path.as_str(), &unread.cause, err);
             }
         }
-        Failure::Malformed => note(rt, given.file, advice_on(read.compression), err),
+        Failure::Malformed => {
+            let advice = advice_on(rt.alloc(), read.compression).ok();
+            note(rt, given.file, text_of(&advice), err);
+        }
         Failure::NoIndex | Failure::NoUnit(_) | Failure::NoString(_) | Failure::NoRange(_) => {
             note(rt, given.file, "", err);
         }
@@ -94,12 +98,15 @@ fn section_names(alloc: Global) -> Result<String, AllocError> {
     Ok(text)
 }
 
-/// What can be done about a package that can't be read, if anything.
-fn advice_on(compression: Compression) -> &'static str {
+/// What can be done about a package that can't be read, or why it couldn't be decompressed, if
+/// anything.
+fn advice_on(alloc: Global, compression: Compression) -> Result<String, AllocError> {
     match compression {
-        Compression::None => "",
-        Compression::Left => "compressed: --decompress reads it",
-        Compression::Unread => "compressed: not by zlib, or damaged",
+        Compression::None => Ok(String::new(alloc)),
+        Compression::Left => String::from_str(alloc, "compressed: --decompress reads it"),
+        Compression::Overlaps | Compression::Unread(_) => {
+            format!(in alloc; "compressed: {compression}")
+        }
     }
 }
 
@@ -151,7 +158,22 @@ pub(crate) fn note_refused<E: Write>(
             let why = machine_note(rt.alloc(), machine).ok();
             note(rt, path, text_of(&why), err);
         }
+        None if has_path(packing.executables, path) => note_split(rt, &[path], err),
         _ => {}
+    }
+}
+
+/// Prints a note on each of these executables that is an object or a package.
+pub(crate) fn note_split<E: Write>(rt: &HostRuntime, executables: &[&str], err: &mut E) {
+    for path in executables {
+        if has_split_units(rt, *path) {
+            note(
+                rt,
+                *path,
+                "an object or a package: it is named without -e",
+                err,
+            );
+        }
     }
 }
 
@@ -190,6 +212,22 @@ fn machine_name(machine: u16) -> &'static str {
 /// Prints the note on a file that is listed and has no index.
 pub(crate) fn note_no_index<E: Write>(rt: &HostRuntime, name: &str, err: &mut E) {
     note(rt, name, "no index: not a package", err);
+}
+
+/// Prints the note on a response file that isn't text: its name, where there was memory to keep it.
+pub(crate) fn note_not_text<E: Write>(rt: &HostRuntime, name: &Option<String>, err: &mut E) {
+    match name {
+        Some(name) => note(rt, name.as_str(), "a response file that isn't UTF-8", err),
+        None => {
+            let _ = writeln!(err, "note: a response file isn't UTF-8");
+        }
+    }
+}
+
+/// Prints why standard output took nothing.
+pub(crate) fn note_output<E: Write>(rt: &HostRuntime, cause: &io::Error, err: &mut E) {
+    let why = reason(rt.alloc(), cause).ok();
+    note(rt, "standard output", text_of(&why), err);
 }
 
 /// Prints the note on a file that couldn't be read.

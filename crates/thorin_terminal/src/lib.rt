@@ -1,5 +1,5 @@
 //! How the program shows things on a terminal and reads files of the system: how far packing is,
-//! whether standard output's reader is gone, response files, and inputs.
+//! why standard output takes nothing, response files, and inputs.
 #![tactic(auto)]
 
 mod inputs;
@@ -7,7 +7,7 @@ mod pipes;
 mod progress;
 mod responses;
 
-pub use inputs::{HostInputs, NamedFile, Peculiarity};
+pub use inputs::{HostInputs, NamedFile, Peculiarity, has_split_units};
 pub use pipes::Watched;
 pub use progress::{Console, CountedFiles, Lines};
 pub use responses::HostResponses;

@@ -1,26 +1,23 @@
-//! Standard output, of which is kept whether its reader is gone.
+//! Standard output, of which is kept why it took nothing.
 
 use std::io::{self, Write};
 
-/// A writer, and whether it is a pipe that nobody reads any more.
+/// A writer, and why a write failed.
 #[derive(Drop)]
 pub struct Watched<'o, O> {
     out: &'o mut O,
-    is_closed: bool,
+    failure: Option<io::Error>,
 }
 
 impl<'o, O: Write> Watched<'o, O> {
     /// A writer that took nothing yet.
     pub fn new(out: &'o mut O) -> Watched<'o, O> {
-        Watched {
-            out,
-            is_closed: false,
-        }
+        Watched { out, failure: None }
     }
 
-    /// Whether a write found that nobody reads the pipe any more.
-    pub fn is_closed(&self) -> bool {
-        self.is_closed
+    /// Why a write failed, if one did.
+    pub fn failure(&self) -> Option<io::Error> {
+        self.failure
     }
 }
 
@@ -29,7 +26,7 @@ impl<O: Write> Write for Watched<'_, O> {
         match self.out.write(bytes) {
             Ok(taken) => Ok(taken),
             Err(cause) => {
-                self.is_closed = cause.kind() == io::ErrorKind::BrokenPipe;
+                self.failure = Some(cause);
                 Err(cause)
             }
         }
@@ -39,7 +36,7 @@ impl<O: Write> Write for Watched<'_, O> {
         match self.out.flush() {
             Ok(()) => Ok(()),
             Err(cause) => {
-                self.is_closed = cause.kind() == io::ErrorKind::BrokenPipe;
+                self.failure = Some(cause);
                 Err(cause)
             }
         }

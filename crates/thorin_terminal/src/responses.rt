@@ -4,7 +4,7 @@ ghost use Rattle.std.specs.Prelude.{◌≡◌, None};
 ghost use Rattle.thorin_words.specs.Responses.{refusal_of};
 
 use std::cell::Cell;
-use std::io;
+use std::{io, str};
 use thorin_words::{ResponseError, ResponseFiles};
 
 /// The files of the system. What has no end, as a device, isn't read.
@@ -13,6 +13,8 @@ pub struct HostResponses<'r> {
     rt: &'r HostRuntime,
     /// The name of the file that couldn't be read, and why.
     unread: Cell<Option<(String, io::Error)>>,
+    /// The name of the last file that was read and isn't UTF-8.
+    not_text: Cell<Option<String>>,
 }
 
 impl<'r> HostResponses<'r> {
@@ -21,12 +23,19 @@ impl<'r> HostResponses<'r> {
         HostResponses {
             rt,
             unread: Cell::new(None),
+            not_text: Cell::new(None),
         }
     }
 
     /// The name of the file that couldn't be read, and why.
     pub fn unread(&self) -> Option<(String, io::Error)> {
         self.unread.replace(None)
+    }
+
+    /// The name of the last file that was read and isn't UTF-8, as far as there was memory to keep
+    /// it. Asked for once.
+    pub fn not_text(&self) -> Option<String> {
+        self.not_text.replace(None)
     }
 }
 
@@ -39,7 +48,12 @@ impl ResponseFiles for HostResponses<'_> {
             return Ok(None);
         }
         match thorin_files::read_within(rt, name, most) {
-            Ok(Some(bytes)) => Ok(Some(bytes)),
+            Ok(Some(bytes)) => {
+                if str::from_utf8(bytes.as_slice()).is_err() {
+                    self.not_text.set(String::from_str(rt.alloc(), name).ok());
+                }
+                Ok(Some(bytes))
+            }
             Ok(None) => Err(ResponseError::TooLong),
             Err(cause) => {
                 let error = read_error(&cause);
