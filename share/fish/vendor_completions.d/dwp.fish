@@ -8,7 +8,7 @@ complete -c dwp -l partial -d 'Pack what is there; warn of each unit of EXEC tha
 complete -c dwp -l missing -d 'List the missing objects of EXECs instead of packing'
 complete -c dwp -l prefix-map -x -d 'Look for objects of EXECs below TO where FROM is named'
 complete -c dwp -l force -d 'Write OUT even if it is an input'
-complete -c dwp -l decompress -d 'Read inputs and executables that are compressed by zlib'
+complete -c dwp -l decompress -d 'Read inputs and executables that are compressed by zlib or zstd'
 complete -c dwp -l archives -d 'Pack the split objects that inputs have as archives'
 complete -c dwp -l allow-overlap -d 'Take inputs that make a package larger than they are'
 complete -c dwp -l last-macros -d 'Keep only the last .debug_macro.dwo of each object'

@@ -8,7 +8,7 @@ complete -c llvm-dwp -l partial -d 'Pack what is there; warn of each unit of EXE
 complete -c llvm-dwp -l missing -d 'List the missing objects of EXECs instead of packing'
 complete -c llvm-dwp -l prefix-map -x -d 'Look for objects of EXECs below TO where FROM is named'
 complete -c llvm-dwp -l force -d 'Write OUT even if it is an input'
-complete -c llvm-dwp -l decompress -d 'Read inputs and executables that are compressed by zlib'
+complete -c llvm-dwp -l decompress -d 'Read inputs and executables that are compressed by zlib or zstd'
 complete -c llvm-dwp -l archives -d 'Pack the split objects that inputs have as archives'
 complete -c llvm-dwp -l allow-overlap -d 'Take inputs that make a package larger than they are'
 complete -c llvm-dwp -l last-macros -d 'Keep only the last .debug_macro.dwo of each object'
