@@ -6,6 +6,7 @@
 Places in sections, which differ in a package, are left out; what entries refer to stays, by its place in the unit. Objects of
 -gsplit-dwarf=single are given as `objcopy --extract-dwo` leaves them, without addresses. DWARFDUMP names the program.
 """
+import hashlib
 import os
 import re
 import shlex
@@ -40,16 +41,17 @@ def identified(lines):
 
 
 def units(files):
-    """The texts of the split units in these files, by kind and identifier: one, or where type units differ several."""
-    shown = subprocess.run([*DWARFDUMP, "-v", "--debug-info", "--debug-types", *files], capture_output=True, check=False)
+    """Sums of the texts of the split units in these files, by kind and identifier: one, or where type units differ several."""
+    words = [*DWARFDUMP, "-v", "--debug-info", "--debug-types", *files]
     found, lines, begin, is_split = {}, [], 0, False
 
     def end():
         if lines and (key := identified(lines)):
-            found.setdefault(key, set()).add("\n".join(lines))
+            found.setdefault(key, set()).add(hashlib.sha256("\n".join(lines).encode()).digest())
         lines.clear()
 
-    for line in shown.stdout.decode(errors="replace").splitlines():
+    shown = subprocess.Popen(words, stdout=subprocess.PIPE, stderr=subprocess.DEVNULL, text=True, errors="replace")
+    for line in map(str.rstrip, shown.stdout):
         head = UNIT.match(line)
         if head or "file format" in line or line.endswith("contents:"):
             end()
