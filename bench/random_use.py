@@ -32,6 +32,8 @@ STOPPED = []
 # What `check` says of inputs without abbreviations and without strings, which may be packed, but not again.
 KNOWN = "no abbreviations or strings"
 LACKING = (b".debug_abbrev.dwo is empty or absent", b": its row has no abbreviations", b".debug_str.dwo is empty or absent")
+# And of inputs with a section that none of their units has a range of: the package has its bytes, by the definitions.
+COLUMN = b": no index has a column for it"
 SAMPLES = [f"{TOP}/samples/hello.dwo", *sorted(glob.glob(f"{TOP}/crates/test_packages/data/*.dw[op]")), f"{TOP}/crates/test_packages/data/hello.o"]
 SECTIONS = {4: ["line", "loc", "macinfo", "str_offsets"], 5: ["line", "loclists", "rnglists", "macro"]}
 # Abbreviations 1 to 4: a compile unit with a name before its identifier, one without, one whose attributes have no bytes, a
@@ -300,6 +302,8 @@ class Runs:
             came = "no index" if not said else "overlapping ranges" if not lines else "other faults" if rest else KNOWN
             if rest and all(b": string " in it for it in rest) and len(self.versions()) > 1:
                 came = "strings of units of two versions"
+            elif rest and all(it.endswith(COLUMN) for it in rest):
+                came = "sections of no unit"
             self.counts["packages", came] += 1
             if came == "other faults":
                 self.tell(number, words, f"a package with faults: {rest[:3]}")
