@@ -12,7 +12,7 @@ pub use crate::manner::Facts;
 use crate::manner::Manner;
 use crate::notes::{
     Given, Read, note_no_index, note_not_text, note_output, note_packing, note_reading,
-    note_refused, note_split, note_unread,
+    note_refused, note_unread,
 };
 use crate::settings::{file_count, form_of, nameless_units, packing_of};
 use std::convert::AsStr;
@@ -284,9 +284,6 @@ impl<O: Write, E: Write> Program<'_, '_, '_, O, E> {
         let host = HostReader::new(self.rt);
         let files = PlainReader::new(self.rt.alloc(), &host, decompresses);
         let answer = check_by(self.rt, &files, file, executables, reading, &mut self.out);
-        if matches!(answer, Ok(1)) {
-            note_split(self.rt, executables, self.err);
-        }
         self.status(answer, Given::file(file), Read::by(&host, &files))
     }
 }

@@ -9,7 +9,7 @@ use thorin_find::{HostReader, Unread};
 use thorin_inputs::Compression;
 use thorin_print::Failure;
 use thorin_reading::PlainReader;
-use thorin_terminal::{NamedFile, Peculiarity, has_split_units};
+use thorin_terminal::{NamedFile, Peculiarity};
 use thorin_words::printed;
 
 /// What a command that reads was given.
@@ -158,23 +158,16 @@ pub(crate) fn note_refused<E: Write>(
             let why = machine_note(rt.alloc(), machine).ok();
             note(rt, path, text_of(&why), err);
         }
-        None if has_path(packing.executables, path) => note_split(rt, &[path], err),
+        None if is_split_name(path) && has_path(packing.executables, path) => {
+            note(rt, path, "objects and packages are named without -e", err);
+        }
         _ => {}
     }
 }
 
-/// Prints a note on each of these executables that is an object or a package.
-pub(crate) fn note_split<E: Write>(rt: &HostRuntime, executables: &[&str], err: &mut E) {
-    for path in executables {
-        if has_split_units(rt, *path) {
-            note(
-                rt,
-                *path,
-                "an object or a package: it is named without -e",
-                err,
-            );
-        }
-    }
+/// Whether a path ends as those of objects and packages do.
+fn is_split_name(path: &str) -> bool {
+    path.as_bytes().ends_with(b".dwo") || path.as_bytes().ends_with(b".dwp")
 }
 
 /// Whether a path is one of those that are named.

@@ -9,7 +9,7 @@ use std::cell::Cell;
 use std::io::{self, ErrorKind};
 use std::path::{AsPath, Path};
 use thorin_errors::InputError;
-use thorin_inputs::{count_units, place_of};
+use thorin_inputs::place_of;
 use thorin_output::{FileSystem, HostFiles};
 use thorin_print::Failure;
 
@@ -128,14 +128,6 @@ fn is_relocatable(bytes: &[u8]) -> bool {
         (bytes.get(16), bytes.get(17)),
         (Some(1), Some(0)) | (Some(0), Some(1))
     )
-}
-
-/// Whether the file at a path has split units itself: it is an object or a package.
-pub fn has_split_units(rt: &HostRuntime, path: &str) -> bool {
-    match thorin_files::read(rt, path) {
-        Ok(bytes) => count_units(bytes.as_slice()).unwrap_or(0) > 0,
-        Err(_) => false,
-    }
 }
 
 impl FileSystem for HostInputs<'_> {

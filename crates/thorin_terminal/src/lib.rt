@@ -7,7 +7,7 @@ mod pipes;
 mod progress;
 mod responses;
 
-pub use inputs::{HostInputs, NamedFile, Peculiarity, has_split_units};
+pub use inputs::{HostInputs, NamedFile, Peculiarity};
 pub use pipes::Watched;
 pub use progress::{Console, CountedFiles, Lines};
 pub use responses::HostResponses;
