@@ -1,3 +1,4 @@
 pub mod Lengths
+pub mod Limit
 pub mod Sections
 pub mod Sums

@@ -1,18 +1,19 @@
 -- Sizes that are added up.
-use Rattle.std.proofs.Common.{◌≡◌, ℕ, ◌+◌, ◌-◌, ◌<◌, ◌≤◌, true, false, List, [], ◌∷◌, ◌++◌, length}
-use Rattle.std.proofs.Common.{drop, Some, Ok, Err, Result, ap, ◌∙◌, refl, arith}
+use Rattle.std.proofs.Common.{◌≡◌, ℕ, ◌+◌, ◌-◌, ◌*◌, ◌/◌, ◌<◌, ◌≤◌, Bool, true, false, not, ◌&&◌}
+use Rattle.std.proofs.Common.{List, [], ◌∷◌, ◌++◌, length}
+use Rattle.std.proofs.Common.{drop, Some, Ok, Err, Result, ap, sym, ◌∙◌, refl, arith}
 use Rattle.std.proofs.Common.{slice_get, nat_lt, codes, length-append, length-drop}
 use Rattle.std.proofs.lemmas.List.{drop_all}
 use Rattle.std.proofs.lemmas.List.Sums.{sum_by-cons}
 use Rattle.std.proofs.lemmas.Bool.{lt-ltb, le-ltb, ltb-true, ltb-false}
-use Rattle.dwp_base.proofs.Bools.{by-bool}
+use Rattle.dwp_base.proofs.Bools.{by-bool, neither}
 use Rattle.dwp_base.specs.Reading.{◌>>=◌}
 use Rattle.dwp_base.specs.declared.class.Class.{Class}
 use Rattle.dwp_base.specs.declared.endian.Endianness.{Endianness}
 use Rattle.dwp_elf_read.specs.Elf.{SectionMeaning}
 use Rattle.dwp_decompress.specs.declared.asked.Asked.{Asked}
 use Rattle.dwp_decompress.specs.declared.error.DecompressError.{DecompressError}
-use Rattle.dwp_decompress.specs.Compressed.{is_older}
+use Rattle.dwp_decompress.specs.Compressed.{is_older, is_compressed, has_compressed}
 use Rattle.dwp_decompress.specs.Headers.{told_size, told_sizes}
 use Rattle.dwp_decompress.specs.Names.{plain_name, added_name, added_name_of, added_names}
 use Rattle.dwp_decompress.specs.Sizes.{size_in, compressed_size}
@@ -117,3 +118,27 @@ older_adds name h =
     let behind = length-drop 8 name in
     let all = length-append (codes ".debug_" ++ drop 8 name) (0 ∷ []) in
     rw h (omega (arith, all, behind, long))
+
+-- more is told than so many times the file's bytes: then what it is of the sections' decides
+pub more_told : (file sections told : ℕ) → 1032 * file < told
+    → not (nat_lt ((told - 1) / 1032) sections)
+    ≡ (nat_lt (1032 * file) told && nat_lt (1032 * sections) told)
+more_told file sections told h = rw (lt-ltb (1032 * file) told h) (by-bool _
+    (nat_lt ((told - 1) / 1032) sections)
+    (λ yes. rw yes (sym (le-ltb (1032 * sections) told
+    (omega (arith, h, ltb-true _ _ yes)))))
+    (λ no. rw no (sym (lt-ltb (1032 * sections) told (omega (arith, h, ltb-false _ _ no))))))
+
+pub few_told : (file told : ℕ) (rest : Bool) → told ≤ 1032 * file
+    → false ≡ (nat_lt (1032 * file) told && rest)
+few_told file told rest h = rw (le-ltb (1032 * file) told h) refl
+
+-- nothing is told where nothing is compressed
+pub none_told : (asked : Asked) (class : Class) (order : Endianness)
+    (sections : List SectionMeaning) → has_compressed asked sections ≡ false
+    → told_sizes asked class order sections ≡ Ok 0
+unfolding told_sizes told_size
+none_told asked class order [] h = refl
+none_told asked class order (section ∷ sections) h =
+    let each = neither (is_compressed asked section) _ h in
+    rw (each.0, none_told asked class order sections each.1) refl

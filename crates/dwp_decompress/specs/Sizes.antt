@@ -1,8 +1,8 @@
 -- How many bytes the file has once its compressed sections are plain, by what the headers say, and
 -- how many its compressed sections have before.
 use Rattle.std.specs.Prelude.{ℕ, ◌+◌, ◌*◌, ◌/◌, List, length, sum_by, nat_lt}
-use Rattle.std.specs.Prelude.{Bool, false, ◌==◌, if◌then◌else◌, Option, Some, None, Result, Ok, Err}
-use Rattle.std.specs.Prelude.{slice_get}
+use Rattle.std.specs.Prelude.{Bool, false, ◌==◌, ◌&&◌, if◌then◌else◌, Option, Some, None}
+use Rattle.std.specs.Prelude.{Result, Ok, Err, slice_get}
 use Rattle.dwp_base.specs.Reading.{◌>>=◌}
 use Rattle.dwp_elf_read.specs.declared.error.ReadError.{ReadError}
 use Rattle.dwp_elf_read.specs.Layout.{entry_size}
@@ -53,3 +53,21 @@ compressed_size asked sections =
 abbrev pub overlaps : Asked → List ℕ → Result Elf ReadError → Bool
 overlaps asked bytes (Ok file) = nat_lt (length bytes) (compressed_size asked file.sections)
 overlaps asked bytes (Err e) = false
+
+-- the headers tell of more bytes than zlib writes at most of as many as the file has, and of as
+-- many as its compressed sections: 1,032 of each (RFC 1951, 3.2.5: 258 bytes by two bits)
+unfoldable pub tells_more : Asked → List ℕ → Elf → ℕ → Bool
+tells_more asked bytes file told =
+    nat_lt (1032 * length bytes) told
+    && nat_lt (1032 * compressed_size asked file.sections) told
+
+-- the same of what they tell together, if they can all be read
+abbrev pub sum_tells_more : Asked → List ℕ → Elf → Result ℕ DecompressError → Bool
+sum_tells_more asked bytes file (Ok told) = tells_more asked bytes file told
+sum_tells_more asked bytes file (Err e) = false
+
+-- a file tells of so many
+abbrev pub tells_too_much : Asked → List ℕ → Result Elf ReadError → Bool
+tells_too_much asked bytes (Ok file) =
+    sum_tells_more asked bytes file (told_sizes asked file.class file.order file.sections)
+tells_too_much asked bytes (Err e) = false

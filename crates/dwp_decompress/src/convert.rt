@@ -1,13 +1,15 @@
 //! From a file with compressed sections to one with plain ones.
 
-ghost use Rattle.std.specs.Prelude.{◌≡◌, option_map, Ok, IsTrue, IfOk};
+ghost use Rattle.std.specs.Prelude.{◌≡◌, option_map, Ok, Err, IsTrue, IfOk};
 ghost use Rattle.std.specs.Prelude.{length as length_of_list};
 ghost use Rattle.dwp_elf_read.specs.Elf.{elf_of};
 ghost use Rattle.dwp_elf_read.specs.View.{elf};
 ghost use Rattle.dwp_decompress.specs.Agreement.{expected_file};
 ghost use Rattle.dwp_decompress.specs.Answers.{GivesFile};
 ghost use Rattle.dwp_decompress.specs.Result.{plain_file, decompressed_of, plain_length_of};
-ghost use Rattle.dwp_decompress.specs.Sizes.{length_of};
+ghost use Rattle.dwp_decompress.specs.Headers.{told_sizes};
+ghost use Rattle.dwp_decompress.specs.Sizes.{length_of, sum_tells_more, tells_too_much};
+ghost use Rattle.dwp_decompress.specs.declared.error.DecompressError.TheVariants.{Unrepresentable};
 
 use crate::agree::Expected;
 use crate::asked::Asked;
@@ -63,6 +65,9 @@ fn with_plain(
         (plain_file asked bytes.now (elf file.now)) }
     ensures long { IfOk result (λ out. length_of asked bytes.now (elf file.now)
         ≡ Ok (length_of_list out.items)) }
+    ensures limit { IsTrue (sum_tells_more asked bytes.now (elf file.now)
+        (told_sizes asked (elf file.now).class (elf file.now).order (elf file.now).sections))
+        → result ≡ Err Unrepresentable }
 {
     let length = length(asked, bytes, file)?;
     let contents = contents(alloc, asked, file)?;
@@ -96,7 +101,7 @@ fn with_plain(
 /// file, or where more is told than zlib could write (`plain_length`); and `Memory`. The result is
 /// read again and compared before it is given: where it were to mean anything else, the answer would
 /// be `Unrepresentable` too.
-#[tactic(auto, unfolding(crate::specs::Result::decompressed_of, crate::specs::Result::plain_length_of))]
+#[tactic(auto, unfolding(crate::specs::Result::decompressed_of, crate::specs::Result::plain_length_of), using(crate::proofs::Limit::nothing_more))]
 pub fn decompressed(
     alloc: Global,
     bytes: &[u8],
@@ -106,6 +111,8 @@ pub fn decompressed(
         (decompressed_of asked bytes.now) }
     ensures long { IfOk result (λ plain. plain_length_of asked bytes.now
         ≡ Ok (option_map (λ out. length_of_list out.items) plain)) }
+    ensures limit { IsTrue (tells_too_much asked bytes.now (elf_of bytes.now))
+        → result ≡ Err Unrepresentable }
 {
     let file = ElfFile::parse(bytes)?;
     if has_compressed(asked, &file) {

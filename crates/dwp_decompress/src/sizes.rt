@@ -1,6 +1,7 @@
 //! How many bytes a file has once its sections are plain, and its compressed sections before.
 
-ghost use Rattle.std.specs.Prelude.{◌≡◌, ◌+◌, ◌*◌, length, slice_get, nat_lt, IfSome, IfOk, IfErr};
+ghost use Rattle.std.specs.Prelude.{◌≡◌, ◌+◌, ◌*◌, ℕ, Ok, Err, false, length, slice_get, nat_lt};
+ghost use Rattle.std.specs.Prelude.{IfSome, IfOk, IfErr, IsTrue};
 ghost use Rattle.dwp_base.specs.Reading.{Answers};
 ghost use Rattle.dwp_elf_read.specs.Elf.{elf_of};
 ghost use Rattle.dwp_elf_read.specs.Layout.{entry_size};
@@ -12,7 +13,8 @@ ghost use Rattle.dwp_decompress.specs.Names.{added_name_of, added_names, names_n
 ghost use Rattle.dwp_decompress.specs.Result.{plain_length_of};
 ghost use Rattle.dwp_decompress.specs.declared.error.DecompressError.TheVariants.{Unrepresentable};
 ghost use Rattle.dwp_decompress.specs.Sizes.{size_of, names_size, rounded, length_with, length_of};
-ghost use Rattle.dwp_decompress.specs.Sizes.{compressed_size, size_in, overlaps};
+ghost use Rattle.dwp_decompress.specs.Sizes.{compressed_size, size_in, overlaps, tells_more};
+ghost use Rattle.dwp_decompress.specs.Sizes.{sum_tells_more, tells_too_much};
 
 use crate::asked::Asked;
 use crate::compressed::{has_compressed, is_compressed, is_older};
@@ -91,8 +93,10 @@ fn told_sizes(
     order: Endianness,
     file: &ElfFile<'_>,
 ) -> Result<u64, DecompressError>
-    ensures { GivesFile (λ size. size) result
+    ensures sum { GivesFile (λ size. size) result
         (told_sizes asked class order (elf file.now).sections) }
+    ensures error { (n : ℕ) → told_sizes asked class order (elf file.now).sections ≡ Ok n
+        → IfErr result (λ e. e ≡ Unrepresentable) }
 {
     let mut told = 0u64;
     for i in 0..file.section_count() {
@@ -178,7 +182,10 @@ fn headers_size(file: &ElfFile<'_>) -> Option<u64>
 
 /// Whether the plain contents are said to have more bytes than zlib could write of as many bytes as
 /// the file has, or its compressed sections.
-fn tells_more(asked: Asked, bytes: &[u8], file: &ElfFile<'_>, told: u64) -> bool {
+#[tactic(auto, unfolding(crate::specs::Sizes::tells_more), using(crate::proofs::Sums::more_told, crate::proofs::Sums::few_told))]
+fn tells_more(asked: Asked, bytes: &[u8], file: &ElfFile<'_>, told: u64) -> bool
+    ensures { result ≡ tells_more asked bytes.now (elf file.now) told }
+{
     if told <= (bytes.len() as u64).saturating_mul(MOST_WRITTEN) {
         return false;
     }
@@ -188,7 +195,10 @@ fn tells_more(asked: Asked, bytes: &[u8], file: &ElfFile<'_>, told: u64) -> bool
 /// How many bytes the file has once there are so many plain ones.
 #[tactic(auto, unfolding(crate::specs::Sizes::length_with))]
 fn length_with(asked: Asked, bytes: &[u8], file: &ElfFile<'_>, told: u64) -> Option<u64>
-    ensures { IfSome result (λ size. size ≡ length_with asked bytes.now (elf file.now) told) }
+    ensures size { IfSome result (λ size. size
+        ≡ length_with asked bytes.now (elf file.now) told) }
+    ensures limit { IfSome result (λ _. tells_more asked bytes.now (elf file.now) told
+        ≡ false) }
 {
     let table = size_of(file, names_number(bytes, file)?);
     if reads_more(file, table, (bytes.len() as u64).saturating_mul(MOST_TIMES)) {
@@ -203,9 +213,12 @@ fn length_with(asked: Asked, bytes: &[u8], file: &ElfFile<'_>, told: u64) -> Opt
 }
 
 /// How many bytes a file has once its compressed sections are plain.
-#[tactic(auto, unfolding(crate::specs::Sizes::length_of))]
+#[tactic(auto, unfolding(crate::specs::Sizes::length_of), using(crate::proofs::Limit::limit_error))]
 pub(crate) fn length(asked: Asked, bytes: &[u8], file: &ElfFile<'_>) -> Result<u64, DecompressError>
-    ensures { GivesFile (λ size. size) result (length_of asked bytes.now (elf file.now)) }
+    ensures size { GivesFile (λ size. size) result (length_of asked bytes.now (elf file.now)) }
+    ensures limit { IsTrue (sum_tells_more asked bytes.now (elf file.now)
+        (told_sizes asked (elf file.now).class (elf file.now).order (elf file.now).sections))
+        → result ≡ Err Unrepresentable }
 {
     let told = told_sizes(asked, file.class(), file.endianness(), file)?;
     match length_with(asked, bytes, file, told) {
@@ -222,9 +235,11 @@ pub(crate) fn length(asked: Asked, bytes: &[u8], file: &ElfFile<'_>) -> Result<u
 /// told, and `Unrepresentable`, as of `decompressed`: so where more than 1,032 bytes are told for
 /// each byte of the file, or of its compressed sections if these have more. Streams of zstd could
 /// write 32 times as many.
-#[tactic(auto, unfolding(crate::specs::Result::plain_length_of))]
+#[tactic(auto, unfolding(crate::specs::Result::plain_length_of), using(crate::proofs::Limit::nothing_more))]
 pub fn plain_length(bytes: &[u8], asked: Asked) -> Result<Option<u64>, DecompressError>
     ensures length { GivesFile (λ size. size) result (plain_length_of asked bytes.now) }
+    ensures limit { IsTrue (tells_too_much asked bytes.now (elf_of bytes.now))
+        → result ≡ Err Unrepresentable }
 {
     let file = ElfFile::parse(bytes)?;
     if has_compressed(asked, &file) {

@@ -11,8 +11,8 @@ pub loop-i-init : goal.loop-i-init
 loop-i-init c = none_plus (told_sizes c.args.asked c.args.class c.args.order
     (elf c.args.file.now).sections)
 
-pub returns-in_err-size : goal.returns-in_err-size
-returns-in_err-size c =
+pub returns-in_err-size-clause-sum : goal.returns-in_err-size-clause-sum
+returns-in_err-size-clause-sum c =
     let at = sym c.section.ensures.found ∙ ap (option_map section) c.in-Some.is in
     let p = err_from_is_err_and c.from_residual.result c.from_residual.ensures.1 in
     rw (p.1, p.2) (λ m u. sym c.loop-i.invariant ∙ told_fail c.args.asked c.args.class c.args.order
@@ -31,6 +31,13 @@ loop-i-preserved c =
           (sym c.section.ensures.found ∙ ap (option_map section) w.in_default.is))
     ]
 
-pub returns : goal.returns
-returns c = sym c.loop-i.invariant ∙ told_end c.args.asked c.args.class c.args.order
+pub returns-in_err-size-clause-error : goal.returns-in_err-size-clause-error
+returns-in_err-size-clause-error c =
+    let at = sym c.section.ensures.found ∙ ap (option_map section) c.in-Some.is in
+    let fails = sym c.loop-i.invariant ∙ told_fail c.args.asked c.args.class c.args.order
+    _ c.loop-i.i c.loop-i.told _ _ at c.in_err-size.ensures in
+    λ n is. let never = sym is ∙ fails in absurd cc
+
+pub returns-clause-sum : goal.returns-clause-sum
+returns-clause-sum c = sym c.loop-i.invariant ∙ told_end c.args.asked c.args.class c.args.order
     (elf c.args.file.now).sections c.loop-i.i c.loop-i.told (omega arith)
