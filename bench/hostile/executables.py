@@ -18,8 +18,8 @@ def far_codes_of_an_executable(n):
 
 def paths_of_an_executable(n, long_name, turns=1):
     """An executable of n units that all name one path, which is ten letters a unit long and longer than
-    what is printed of it: the name of the object, or the directory. With two turns they name it and its
-    end by turns."""
+    what is printed of it: the name of the object, or the directory. With more turns they name it and its
+    ends by turns."""
     fields = bytes.fromhex("011100b0420e1b0eb14207000000")
     strings = b"a.dwo\0/" + b"/" + b"x" * max(10 * n, 5000) + b"\0"
     units = bytearray()

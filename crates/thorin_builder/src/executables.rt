@@ -1,7 +1,7 @@
 //! Executables as inputs: the executable is read, then each object that it names is read and added,
 //! passed over, or refused (DWARF 5, 3.1.2; the GNU page DebugFission).
 
-ghost use Rattle.std.specs.Prelude.{◌≡◌, ℕ, List, IsTrue, Option, OnOk};
+ghost use Rattle.std.specs.Prelude.{◌≡◌, ℕ, List, IsTrue, IfErr, Option, OnOk};
 ghost use Rattle.std.specs.Path.{path_bytes};
 ghost use Rattle.thorin_builder.specs.Taking.{TakesExecutable, TakesExecutableSkippingNameless};
 ghost use Rattle.thorin_builder.specs.Taking.{TakesExecutableBy, TakesNamed, TakesSkeleton};
@@ -12,7 +12,7 @@ ghost use Rattle.thorin_join.specs.State.{InProgress};
 ghost use Rattle.thorin_executable.specs.Skeletons.{skeletons_by};
 
 use crate::package::DwarfPackage;
-use crate::reader::{InputReader, NotTaken, tried, undeclined};
+use crate::reader::{InputReader, NotTaken, admit_path, tried, undeclined};
 use crate::repeated::Repeated;
 use dwp_bytes::RelocationEntry;
 use dwp_table::DwarfObject;
@@ -35,6 +35,16 @@ fn is_still(was_known: bool, unit: NamedUnit) -> bool
 struct Named<'u> {
     target: DwarfObject,
     path: &'u str,
+}
+
+/// Whether the path of a unit may be tried: that of the unit before was asked for with it.
+fn admit_named<R: InputReader>(reader: &R, unit: NamedUnit, path: &str) -> Result<(), R::Refusal>
+    ensures { IfErr result (R.declines reader.now path.now) }
+{
+    if unit.is_repeated {
+        return Ok(());
+    }
+    admit_path(reader, path)
 }
 
 /// What is known of the objects of the units so far.
@@ -208,6 +218,9 @@ impl<'output, 'session: 'output, Sess: Session<RelocationEntry>> DwarfPackage<
                 target: unit.target,
                 path: units.path(),
             };
+            if let Err(why) = admit_named(reader, unit, named.path) {
+                return Err(NotTaken::Declined(why));
+            }
             self.add_skeleton(reader, room, named, missing, &mut known)?;
             let contained = self.contained_units();
             reader.after_unit(

@@ -14,6 +14,6 @@ mod state;
 pub use in_progress::InProgressDwarfPackage;
 pub use missing::MissingTargets;
 pub use package::DwarfPackage;
-pub use reader::{InputReader, NotTaken, Repetition, tried, undeclined};
+pub use reader::{InputReader, NotTaken, Repetition, admit_path, tried, undeclined};
 pub use thorin_executable::{NamelessUnits, Skeleton, SkeletonList, SkeletonUnits, skeletons};
 pub use thorin_identity::dwo_identifier_of_unit;

@@ -17,13 +17,17 @@ use std::path::Path;
 use thorin_errors::{Error, InputError};
 use thorin_sessions::Session;
 
+/// The longest path that Linux opens: its PATH_MAX (limits.h) counts a zero byte behind it.
+const LONGEST_PATH: usize = 4095;
+
 /// What an object adds once more, which lacks the units that name it and adds no unit: it is read
-/// once, and added for each of them.
+/// once, and added for each of them. Or what a path has that no system opens: units may name
+/// different ones at a few bytes each.
 #[derive(Clone, Copy, Debug)]
 pub struct Repetition<'p> {
     /// The path of the object, as the executable has it.
     pub path: Path<'p>,
-    /// How many bytes of sections it adds.
+    /// How many bytes of sections it adds, or those of the path.
     pub bytes: usize,
     /// How many type units it has that differ from those kept.
     pub differing: usize,
@@ -100,8 +104,8 @@ pub trait InputReader {
             (declines self.now (path_bytes path.entry)) result }
         ensures memory { OnFailed result IsNoWantOfMemory };
 
-    /// Whether an object may be added once more. A reader may set bounds to what small files ask
-    /// for.
+    /// Whether an object may be added once more, or a path tried that no system opens. A reader may
+    /// set bounds to what small files ask for.
     ///
     /// # Errors
     /// Why it declines the object.
@@ -147,6 +151,24 @@ impl<S: Session<RelocationEntry>> InputReader for S {
     fn admit(&self, _repetition: Repetition<'_>) -> Result<(), Infallible> {
         Ok(())
     }
+}
+
+/// Whether a path may be tried that an executable names: its reader is asked where no system opens
+/// one as long.
+///
+/// # Errors
+/// Why the reader declines it.
+pub fn admit_path<R: InputReader>(reader: &R, path: &str) -> Result<(), R::Refusal>
+    ensures { IfErr result (R.declines reader.now path.now) }
+{
+    if path.len() <= LONGEST_PATH {
+        return Ok(());
+    }
+    reader.admit(Repetition {
+        path: Path::new(path),
+        bytes: path.len(),
+        differing: 0,
+    })
 }
 
 /// What came of an input that was read, as calls answer it whose reader may decline some.

@@ -9,11 +9,12 @@ use Rattle.thorin_errors.specs.Errors.{ErrorValue, error_of}
 use Rattle.thorin_errors.specs.declared.error.Error.{Error}
 use Rattle.thorin_errors.specs.declared.error.Error.TheVariants.{Memory}
 use Rattle.thorin_check.specs.Faults.{missing_text, missing_faults, IsBroken, TellsEnd}
+use Rattle.thorin_check.specs.Faults.{longest_path}
 use Rattle.thorin_check.specs.Faults.{TellsListed, TellsNamed, TellsNext, answering, bare_fault}
 use Rattle.thorin_print.specs.Answers.{Outcome, IsOfPrinting}
 use Rattle.thorin_check.specs.Rendering.{FaultValue, of_unit}
 use Rattle.thorin_check.specs.Telling.{Progress, Told, Tells, Is, IsFault}
-use Rattle.thorin_check.proofs.Told.{none_told, told_then, then_or}
+use Rattle.thorin_check.proofs.Told.{none_told, told_as, told_then, then_or}
 
 module _ (executable : List ℕ) (named : Named)
     (looked : Result (Option FoundUnit) PackageError) where
@@ -33,8 +34,15 @@ module _ (executable : List ℕ) (named : Named)
 module _ (pack : Package) (executable : List ℕ) where
   -- no unit is left, but the end
   at_end : {end : Option ErrorValue} (left : Listed) (faults : List FaultValue) → left ≡ ([], end)
-      → TellsEnd executable end faults → TellsListed pack executable left faults
-  at_end left faults e h = rw e (record { ended = faults; end = h; all = refl })
+      → TellsEnd executable ([], end) faults → TellsListed pack executable left faults
+  at_end left faults e h = rw e (record {
+    first = [];
+    left = [];
+    split = refl;
+    ended = faults;
+    end = h;
+    all = refl;
+  })
 
   -- the error that a list begins with was told
   pub read_broken : (listed : Listed) (a b : Progress) (error : Error) (result : Outcome)
@@ -43,6 +51,20 @@ module _ (pack : Package) (executable : List ℕ) where
       → Tells (TellsListed pack executable listed) a b result
   read_broken listed a b error result aside known h =
       grind (arith, at_end {end = Some (error_of error)} listed)
+
+  -- behind the first of some
+  behind_first : (first : Named) (after : Listed) (ms more : List FaultValue)
+      → Is (missing_faults executable first (found pack first.0)) ms
+      → TellsListed pack executable after more
+      → TellsListed pack executable (first ∷ after.0, after.1) (ms ++ more)
+  behind_first first after ms more k t = record {
+    first = first ∷ t.first;
+    left = t.left;
+    split = rw t.split refl;
+    ended = t.ended;
+    end = t.end;
+    all = rw (t.all, k, append_assoc) refl;
+  }
 
   module _ (all : Listed) where
     -- what is told of those that are left makes, behind these faults, what is told of all
@@ -57,8 +79,8 @@ module _ (pack : Package) (executable : List ℕ) where
         → (ls ms : List FaultValue) → GoesOn before ls
         → Is (missing_faults executable first (found pack first.0)) ms → GoesOn after (ls ++ ms)
     on_next before after first e ls ms h k = record {
-      on = λ more t. rw (append_assoc ls ms more) (h.on (ms ++ more) (rw e
-          (record { ended = t.ended; end = t.end; all = rw (t.all, k, append_assoc) refl })));
+      on = λ more t. rw (append_assoc ls ms more) (h.on (ms ++ more)
+          (rw e (behind_first first after ms more k t)));
     }
 
     -- what was told of the next of them
@@ -82,6 +104,22 @@ module _ (pack : Package) (executable : List ℕ) where
   next_first before after a b first (Ok done) split t =
       record { first = first; split = split; told = t }
   next_first before after a b first (Err failure) split t = t
+
+  -- no more are looked for, since the path of the first of them is too long
+  pub next_long : (before after : Listed) (a b : Progress) (first : Named) (told : Outcome)
+      → before ≡ (first ∷ after.0, after.1) → longest_path < length first.1
+      → Tells (IsBroken executable) a b told
+      → TellsNext pack executable before after a b (answering told false)
+  next_long before after a b first (Ok done) split long t =
+      told_as t (λ faults broken. rw split (record {
+        first = [];
+        left = first ∷ after.0;
+        split = refl;
+        ended = faults;
+        end = (long, broken);
+        all = refl;
+      }))
+  next_long before after a b first (Err failure) split long t = t
 
   pub next_shorter : (before after : Listed) (a b : Progress) (more : Bool) → more ≡ true
       → TellsNext pack executable before after a b (Ok more) → length after.0 < length before.0
@@ -117,7 +155,7 @@ module _ (pack : Package) (executable : List ℕ) where
       then_or (Is (missing_faults executable first (found pack first.0)))
       (TellsListed pack executable after) IsOfPrinting a b c (TellsNamed pack executable listed)
       (λ ls ms k t. named_listed listed after first e (ls ++ ms)
-      (record { ended = t.ended; end = t.end; all = rw (t.all, k, append_assoc) refl }))
+      (behind_first first after ls ms k t))
       result p q
 
   -- the error that they begin with was told
@@ -125,7 +163,9 @@ module _ (pack : Package) (executable : List ℕ) where
       → MemoryAside error (listed ≡ ([], Some (error_of error)))
       → OnOk result (error ≢ Memory) → Tells (IsBroken executable) a b result
       → Tells (TellsNamed pack executable listed) a b result
-  named_broken listed a b error result aside known h = grind (arith, read_broken listed)
+  named_broken listed a b error (Ok done) aside known h = rw (aside known)
+      (read_broken ([], Some (error_of error)) a b error (Ok done) (λ other. refl) known h)
+  named_broken listed a b error (Err failure) aside known h = h
 
   -- there are none
   pub named_none : (listed : Listed) (a b : Progress) (result : Outcome) → listed ≡ ([], None)

@@ -1,7 +1,7 @@
 -- Where no fault was told, the package is sound.
 use Rattle.std.proofs.Common.{◌≡◌, ◌≢◌, ◌∙◌, ℕ, Bool, true, false, List, [], ◌∷◌, ◌++◌, codes, map}
 use Rattle.std.proofs.Common.{get_or, Option, Some, None, Result, Ok, Err, Bor, refl, sym, subst}
-use Rattle.std.proofs.Common.{inl, inr}
+use Rattle.std.proofs.Common.{inl, inr, append-nil}
 use Rattle.std.proofs.Common.{arith, length, min, nat_eq, ◌<◌, ◌^◌, ◌-◌, lit<}
 use Rattle.std.proofs.lemmas.Bool.Decides.{nat_tests}
 use Rattle.std.proofs.Common.{◌⊎◌, ◌≤◌}
@@ -196,9 +196,11 @@ named_once pack all is_types a b here there is so row =
 
 -- ---- executables
 
-end_none : (executable : List ℕ) (end : Option ErrorValue) → TellsEnd executable end [] → end ≡ None
-end_none executable None h = refl
-end_none executable (Some error) h = absurd (some_told _ _ h.1)
+end_none : (executable : List ℕ) (left : Listed) → TellsEnd executable left []
+    → (left.0 ≡ []) × (left.1 ≡ None)
+end_none executable ([], None) h = (refl, refl)
+end_none executable ([], Some error) h = absurd (some_told _ _ h.1)
+end_none executable (named ∷ left, end) h = absurd (some_told _ _ h.1.1)
 
 none_is_some : (error : ErrorValue) → Some error ≡ None → ⊥
 none_is_some error e = cc
@@ -225,10 +227,11 @@ module _ (offer : Offer) (reading : Reading) (pack : Package) where
   listed : (executable : List ℕ) (units : Listed) → TellsListed pack executable units []
       → (units.1 ≡ None) × All (λ named. found pack named.0 ≢ Ok None) units.0
   listed executable units t =
-      let both = none_of_both _ t.ended t.all in (
-        end_none executable units.1 (subst (TellsEnd executable units.1) both.1 t.end),
-        none_missing pack executable units.0 both.0,
-      )
+      let both = none_of_both _ t.ended t.all in
+      let end = end_none executable (t.left, units.1)
+      (subst (TellsEnd executable (t.left, units.1)) both.1 t.end) in
+      let none : t.left ≡ [] = end.0 in
+      (end.1, rw (t.split, none, append-nil) (none_missing pack executable t.first both.0))
 
   of_named : (executable : List ℕ) (units : Listed) → TellsNamed pack executable units []
       → (units.1 ≡ None) × (units.0 ≢ []) × All (λ named. found pack named.0 ≢ Ok None) units.0

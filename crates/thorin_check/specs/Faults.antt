@@ -104,7 +104,7 @@ TellsOwn object (Some None) faults =
 TellsOwn object None faults =
     (cause : List ℕ) × IsFault (of_unit object (unread_own_text cause)) faults
 
--- what is told of a unit whose range of a section overlaps that of another
+-- what is told of a unit whose range of a section clashes with that of another
 pub record TellsOverlap (pack : Package) (object : DwarfObject) (unit : FoundUnit)
     (faults : List FaultValue) : Type 0 where
   pub kind : SectionKind
@@ -259,17 +259,28 @@ abbrev pub IsBroken : (executable : List ℕ) → List FaultValue → Type 0
 IsBroken executable faults =
     (text : List ℕ) × IsFault (of_executable (shown executable) (printed text)) faults
 
-abbrev pub TellsEnd : (executable : List ℕ) → Option ErrorValue → List FaultValue → Type 0
-TellsEnd executable None faults = IsNone faults
-TellsEnd executable (Some error) faults = IsBroken executable faults
+-- the longest path that Linux opens: its PATH_MAX (limits.h) counts a zero byte behind it
+abbrev pub longest_path : ℕ
+longest_path = 4095
 
--- what is told of the units that an executable names, up to its first error
+-- what is told behind the last unit that was looked for: why there are no others, if that is an
+-- error, or that no more are looked for, where the next one has a path that no system opens
+abbrev pub TellsEnd : (executable : List ℕ) → (left : Listed) → List FaultValue → Type 0
+TellsEnd executable ([], None) faults = IsNone faults
+TellsEnd executable ([], Some error) faults = IsBroken executable faults
+TellsEnd executable (named ∷ left, end) faults =
+    (longest_path < length named.1) × IsBroken executable faults
+
+-- what is told of the units that an executable names, up to its first error or such a path
 pub record TellsListed (pack : Package) (executable : List ℕ) (listed : Listed)
     (faults : List FaultValue) : Type 0 where
+  pub first : List Named
+  pub left : List Named
+  pub split : listed.0 ≡ first ++ left
   pub ended : List FaultValue
-  pub end : TellsEnd executable listed.1 ended
+  pub end : TellsEnd executable (left, listed.1) ended
   pub all : faults ≡ flat_map (λ named. missing_faults executable named (found pack named.0))
-      listed.0 ++ ended
+      first ++ ended
 
 -- an executable that can be read names no split unit: nothing of it was split, or it was stripped
 abbrev pub bare_fault : (executable : List ℕ) → FaultValue

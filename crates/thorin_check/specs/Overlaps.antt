@@ -1,10 +1,11 @@
 -- Ranges of units that overlap: each byte of a section belongs to one contribution, which several
 -- units may share (DWARF 5, 7.3.5).
 use Rattle.std.specs.Prelude.{◌≡◌, ℕ, ◌+◌, Bool, true, false, ◌&&◌, ◌||◌, ◌==◌, not, List, ◌++◌}
-use Rattle.std.specs.Prelude.{codes, nat_lt, nat_le, Option, Some, None, Result, Ok, Err}
+use Rattle.std.specs.Prelude.{codes, nat_lt, nat_le, Option, Some, None, is_some, Result, Ok, Err}
 use Rattle.dwp_base.specs.Sections.{name_of}
 use Rattle.dwp_base.specs.declared.section.Contribution.{Contribution}
 use Rattle.dwp_base.specs.declared.section.SectionKind.{SectionKind}
+use Rattle.dwp_base.specs.declared.section.SectionKind.TheVariants.{Abbrev, Info, Types}
 use Rattle.dwp_bytes.specs.declared.error.ReadError.{ReadError}
 use Rattle.dwp_index.specs.Index.{Index, Ranges, row_in, range_in}
 use Rattle.dwp_index.specs.Package.{Package, FoundUnit, found, index_for}
@@ -25,6 +26,29 @@ overlap (Some a) (Some b) =
     not (a.offset.0 == b.offset.0 && a.size == b.size) && (begins_inside a b || begins_inside b a)
 overlap _ _ = false
 
+-- two ranges are the same, or both are absent
+abbrev pub same_range : Option Contribution → Option Contribution → Bool
+same_range (Some a) (Some b) = a.offset.0 == b.offset.0 && a.size == b.size
+same_range None None = true
+same_range _ _ = false
+
+-- a section has the bytes of units
+abbrev pub has_units : SectionKind → Bool
+has_units Info = true
+has_units Types = true
+has_units kind = false
+
+-- two rows have the same bytes of a unit, and other abbreviations: a unit's header names the one
+-- table by which it is read (DWARF 5, 7.5.1.1)
+abbrev pub differ_in_tables : SectionKind → (a b : Ranges) → Bool
+differ_in_tables kind a b = has_units kind && is_some (range_in a kind)
+    && same_range (range_in a kind) (range_in b kind)
+    && not (same_range (range_in a Abbrev) (range_in b Abbrev))
+
+-- their ranges of a section clash: they overlap, or are shared by rows that can't share them
+abbrev pub clash : SectionKind → (a b : Ranges) → Bool
+clash kind a b = overlap (range_in a kind) (range_in b kind) || differ_in_tables kind a b
+
 -- the range that the row which a slot names has of a section
 abbrev pub row_range : Result Ranges ReadError → SectionKind → Option Contribution
 row_range (Ok row) kind = range_in row kind
@@ -37,14 +61,14 @@ range_by_index (Some index) row kind = row_range (row_in index row) kind
 abbrev pub slot_range : Package → UnitEntry → SectionKind → Option Contribution
 slot_range pack slot kind = range_by_index (index_for pack slot.object) slot.row kind
 
--- a look-up in a package finds a unit under an identifier whose range of a section overlaps
+-- a look-up in a package finds a unit under an identifier whose range of a section clashes
 pub record IsClash (pack : Package) (unit : FoundUnit) (kind : SectionKind) (other : DwarfObject)
     : Type 0 where
   pub second : FoundUnit
   pub is_found : found pack other ≡ Ok (Some second)
-  pub is : overlap (range_in unit.row kind) (range_in second.row kind) ≡ true
+  pub is : clash kind unit.row second.row ≡ true
 
--- what is told of a unit whose range of a section overlaps that of another
+-- what is told of a unit whose range of a section clashes with that of another
 abbrev pub overlap_text : SectionKind → DwarfObject → List ℕ
 overlap_text kind other = codes "its range of " ++ (name_of kind ++ (codes " overlaps that of "
     ++ (short_kind other ++ (codes " 0x" ++ hex16 (identifier_of other)))))

@@ -1,6 +1,7 @@
 //! The units that executables name, in `thorin check`.
 
-ghost use Rattle.std.specs.Prelude.{◌≡◌, ◌≢◌, ℕ, List, IfOk, OnOk, string_bytes};
+ghost use Rattle.std.specs.Prelude.{◌≡◌, ◌≢◌, ◌<◌, ℕ, List, false, length, IfOk, OnOk};
+ghost use Rattle.std.specs.Prelude.{string_bytes};
 ghost use Rattle.dwp_index.specs.Package.{found};
 ghost use Rattle.thorin_executable.specs.Skeletons.{skeletons_by};
 ghost use Rattle.thorin_errors.specs.declared.error.Error.TheVariants.{Memory};
@@ -8,6 +9,7 @@ ghost use Rattle.thorin_check.specs.Checking.{IsOfChecking, IsOfReading, TellsEx
 ghost use Rattle.thorin_check.specs.Checking.{TellsExecutable};
 ghost use Rattle.thorin_check.specs.Faults.{TellsNamed, TellsListed, missing_text, missing_faults};
 ghost use Rattle.thorin_check.specs.Faults.{IsTextOf, IsBroken, TellsNext, answering, bare_fault};
+ghost use Rattle.thorin_check.specs.Faults.{longest_path};
 ghost use Rattle.thorin_print.specs.Shown.{shown};
 ghost use Rattle.thorin_words.specs.Printed.{printed};
 ghost use Rattle.thorin_check.specs.Telling.{progress, Tells, TellsOr, Is, IsFault};
@@ -21,11 +23,17 @@ use dwp_table::DwarfObject;
 use std::alloc::{AllocError, Global};
 use std::io::Write;
 use thorin_errors::Error;
-use thorin_executable::{NamedUnits, NamelessUnits};
+use thorin_executable::{NamedUnit, NamedUnits, NamelessUnits};
 use thorin_find::{FileReader, read_named};
 use thorin_print::{Failure, Form, shown, shown_briefly};
 use thorin_sessions::{ArenaSession, Session};
 use thorin_words::printed;
+
+/// The longest path that Linux opens: its PATH_MAX (limits.h) counts a zero byte behind it.
+const LONGEST_PATH: usize = 4095;
+
+/// How many bytes longer paths of an executable may have in any case: else as many as it has.
+const LEAST_ROOM: usize = 1 << 12;
 
 /// How the executables are read whose units are to be in a package, and how faults are printed.
 #[derive(Clone, Copy)]
@@ -136,15 +144,19 @@ fn check_named<'s, Sess: Session<RelocationEntry>, O: Write>(
 {
     let alloc = *faults.waiting.allocator();
     match NamedUnits::read_by(alloc, session, bytes, nameless) {
-        Ok(mut units) => check_listed(naming, &mut units, faults, out),
+        Ok(mut units) => {
+            let room = bytes.len().max(LEAST_ROOM);
+            check_listed(naming, &mut units, room, faults, out)
+        }
         Err(error) => tell_error(naming.executable, &error, faults, out),
     }
 }
 
-/// The same of the units that an executable names.
+/// The same of the units that an executable names, with room for so many bytes of long paths.
 fn check_listed<O: Write>(
     naming: Naming<'_, '_>,
     units: &mut NamedUnits<'_>,
+    room: usize,
     faults: &mut Faults,
     out: &mut O,
 ) -> Result<(), Failure>
@@ -155,7 +167,7 @@ fn check_listed<O: Write>(
     match units.next() {
         Ok(Some(unit)) => {
             match check_skeleton(naming, unit.target, units.path(), faults, out) {
-                Ok(()) => check_skeletons(naming, units, faults, out),
+                Ok(()) => check_skeletons(naming, units, room, faults, out),
                 Err(failure) => Err(failure),
             }
         }
@@ -168,6 +180,7 @@ fn check_listed<O: Write>(
 fn check_skeletons<O: Write>(
     naming: Naming<'_, '_>,
     units: &mut NamedUnits<'_>,
+    room: usize,
     faults: &mut Faults,
     out: &mut O,
 ) -> Result<(), Failure>
@@ -175,8 +188,9 @@ fn check_skeletons<O: Write>(
         (progress (O.contents out.old) faults.old) (progress (O.contents out.new) faults.new)
         result }
 {
+    let mut room = room;
     loop {
-        match check_next(naming, units, faults, out) {
+        match check_next(naming, units, &mut room, faults, out) {
             Ok(more) => {
                 if !more {
                     return Ok(());
@@ -187,10 +201,12 @@ fn check_skeletons<O: Write>(
     }
 }
 
-/// The same of the next of them. Answers whether there was one.
+/// The same of the next of them, if there is room for its path; else this is told. Answers whether
+/// more may follow.
 fn check_next<O: Write>(
     naming: Naming<'_, '_>,
     units: &mut NamedUnits<'_>,
+    room: &mut usize,
     faults: &mut Faults,
     out: &mut O,
 ) -> Result<bool, Failure>
@@ -200,7 +216,11 @@ fn check_next<O: Write>(
 {
     match units.next() {
         Ok(Some(unit)) => {
-            let told = check_skeleton(naming, unit.target, units.path(), faults, out);
+            let path = units.path();
+            if !has_room(room, unit, path) {
+                return answering(tell_long(naming.executable, faults, out), false);
+            }
+            let told = check_skeleton(naming, unit.target, path, faults, out);
             answering(told, true)
         }
         Ok(None) => Ok(false),
@@ -208,6 +228,23 @@ fn check_next<O: Write>(
             let told = tell_error(naming.executable, &error, faults, out);
             answering(told, false)
         }
+    }
+}
+
+/// Whether there is room for the path of a unit, which takes some where no system opens one as long
+/// and it isn't that of the unit before.
+fn has_room(room: &mut usize, unit: NamedUnit, path: &str) -> bool
+    ensures { result ≡ false → longest_path < length path.now }
+{
+    if unit.is_repeated || path.len() <= LONGEST_PATH {
+        return true;
+    }
+    match room.checked_sub(path.len()) {
+        Some(left) => {
+            *room = left;
+            true
+        }
+        None => false,
     }
 }
 
@@ -283,8 +320,15 @@ fn tell_bare<O: Write>(executable: &str, faults: &mut Faults, out: &mut O) -> Re
     }
 }
 
+/// Tells that an executable isn't read to its end, since its paths are too long.
+fn tell_long<O: Write>(executable: &str, faults: &mut Faults, out: &mut O) -> Result<(), Failure>
+    ensures { Tells (IsBroken executable.now) (progress (O.contents out.old) faults.old)
+        (progress (O.contents out.new) faults.new) result }
+{
+    tell_broken(executable, "too many paths past 4095 bytes", faults, out)
+}
+
 /// Tells why an executable can't be read to its end.
-#[tactic(auto, using(crate::proofs::Faulted::broken))]
 fn tell_error<O: Write>(
     executable: &str,
     error: &Error,
@@ -298,7 +342,24 @@ fn tell_error<O: Write>(
     if matches!(error, Error::Memory) {
         return Err(Failure::Memory);
     }
-    match broken(*faults.waiting.allocator(), executable, error) {
+    match error_text(*faults.waiting.allocator(), error) {
+        Ok(text) => tell_broken(executable, text.as_str(), faults, out),
+        Err(_) => Err(Failure::Memory),
+    }
+}
+
+/// Tells why an executable isn't read to its end.
+#[tactic(auto, using(crate::proofs::Faulted::broken))]
+fn tell_broken<O: Write>(
+    executable: &str,
+    cause: &str,
+    faults: &mut Faults,
+    out: &mut O,
+) -> Result<(), Failure>
+    ensures { Tells (IsBroken executable.now) (progress (O.contents out.old) faults.old)
+        (progress (O.contents out.new) faults.new) result }
+{
+    match broken(*faults.waiting.allocator(), executable, cause) {
         Ok((name, text)) => {
             let fault = Fault::Executable(name.as_str(), text.as_str());
             tell_fault(fault, faults, out)
@@ -307,13 +368,12 @@ fn tell_error<O: Write>(
     }
 }
 
-/// The name of an executable that can't be read to its end, and why, as they are told.
-fn broken(alloc: Global, executable: &str, error: &Error) -> Result<(String, String), AllocError>
+/// The name of an executable that isn't read to its end, and why, as they are told.
+fn broken(alloc: Global, executable: &str, cause: &str) -> Result<(String, String), AllocError>
     ensures name { IfOk result (λ told. string_bytes told.0 ≡ shown executable.now) }
     ensures text { IfOk result (λ told. (text : List ℕ) × (string_bytes told.1 ≡ printed text)) }
 {
-    let text = error_text(alloc, error)?;
-    let text = printed(alloc, text.as_str())?;
+    let text = printed(alloc, cause)?;
     Ok((shown(alloc, executable)?, text))
 }
 

@@ -3,6 +3,7 @@
 
 mod abbreviations;
 mod checking;
+mod clashes;
 mod ends;
 mod executables;
 mod faults;

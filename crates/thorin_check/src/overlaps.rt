@@ -5,7 +5,7 @@ ghost use Rattle.std.specs.List.{AllPairs};
 ghost use Rattle.std.specs.List.Sorted.{IsPermutation};
 ghost use Rattle.dwp_table.specs.Columns.{contribution_kinds};
 ghost use Rattle.thorin_check.specs.Apart.{IsApart, IsLast, HasRanges, AreApart};
-ghost use Rattle.thorin_check.specs.Overlaps.{begins_inside, overlap, slot_range};
+ghost use Rattle.thorin_check.specs.Overlaps.{slot_range};
 
 use crate::indexes::has_column;
 use dwp_base::{Contribution, SectionKind};
@@ -400,26 +400,4 @@ fn farther(first: Option<Placed>, second: Placed) -> Option<Placed> {
         }
         None => Some(second),
     }
-}
-
-/// Whether two ranges of a section overlap without being the same.
-pub(crate) fn overlap(a: Option<Contribution>, b: Option<Contribution>) -> bool
-    ensures { result ≡ overlap a b }
-{
-    match (a, b) {
-        (Some(a), Some(b)) => {
-            if a.offset.0 == b.offset.0 && a.size == b.size {
-                return false;
-            }
-            begins_inside(a, b) || begins_inside(b, a)
-        }
-        _ => false,
-    }
-}
-
-/// Whether a range begins inside another.
-fn begins_inside(a: Contribution, b: Contribution) -> bool
-    ensures { result ≡ begins_inside a b }
-{
-    b.offset.0 <= a.offset.0 && a.offset.0 - b.offset.0 < b.size
 }

@@ -1,35 +1,33 @@
 //! The units of a package, in `thorin check`.
 
 ghost use Rattle.std.specs.Prelude.{◌≡◌, ◌++◌, ◌&&◌, ◌==◌, false, None, Some, Ok, codes, is_none};
-ghost use Rattle.std.specs.Prelude.{IfOk, IfSome, OnOk, string_bytes};
+ghost use Rattle.std.specs.Prelude.{IfOk, OnOk, string_bytes};
 ghost use Rattle.std.specs.Fmt.{decimal};
 ghost use Rattle.dwp_index.specs.Contents.{content};
 ghost use Rattle.dwp_index.specs.Index.{range_in};
 ghost use Rattle.dwp_index.specs.Package.{found};
 ghost use Rattle.thorin_check.specs.Checking.{TellsUnits};
-ghost use Rattle.thorin_check.specs.Faults.{TellsUnit, TellsFound, TellsOwn, TellsItself};
+ghost use Rattle.thorin_check.specs.Faults.{TellsUnit, TellsFound, TellsItself};
 ghost use Rattle.thorin_check.specs.Faults.{IsUnreadText, IsTextOf, has_abbreviations};
 ghost use Rattle.dwp_table.specs.Columns.{contribution_kinds};
 ghost use Rattle.thorin_check.specs.Apart.{AreApart};
 ghost use Rattle.thorin_check.specs.Ends.{HasEnds};
-ghost use Rattle.thorin_check.specs.Overlaps.{IsClash, overlap_text};
-ghost use Rattle.thorin_check.specs.Own.{own_of};
 ghost use Rattle.thorin_check.specs.Seen.{IsSeen, GoesOn, Gathered, IsGatheredIn, TellsSeen};
 ghost use Rattle.thorin_check.specs.Telling.{progress, Tells, ForEach};
 
 use crate::abbreviations::Remembered;
 use crate::checking::Opened;
+use crate::clashes::{clash_of, overlap_text};
 use crate::ends::Ends;
 use crate::faults::{Faults, some, tell};
-use crate::overlaps::{Clash, Overlaps, Shares, overlap};
+use crate::overlaps::{Overlaps, Shares};
 use crate::strings::{Strings, check_strings};
 use crate::tables::has_abbreviations;
 use dwp_base::SectionKind;
 use dwp_index::{PackageError, PackageFile, PackagedUnit, UnitEntry};
-use dwp_table::{Bucketable, DwarfObject};
+use dwp_table::DwarfObject;
 use std::alloc::{AllocError, Global};
 use std::io::Write;
-use thorin_find::short_kind;
 use thorin_print::Failure;
 
 /// The package that units are looked up in.
@@ -207,7 +205,7 @@ fn is_bare(has_any: bool, unit: &PackagedUnit<'_>) -> bool
 
 /// What is told of a unit by its ranges and its own bytes, if anything: none of its ranges is to
 /// overlap that of another, and its own identifier is to be that of the slot.
-#[tactic(auto, using(crate::proofs::Faulted::overlapped, crate::proofs::Faulted::of_its_own, crate::proofs::Faulted::made, crate::proofs::Distinct::stays_seen))]
+#[tactic(auto, using(crate::proofs::Faulted::overlapped, crate::proofs::Faulted::made, crate::proofs::Distinct::stays_seen))]
 fn text_of_itself<'a>(
     pack: &PackageFile<'a>,
     object: DwarfObject,
@@ -228,24 +226,6 @@ fn text_of_itself<'a>(
     }
 }
 
-/// A section, and a unit whose range of it overlaps that of this unit: those that are given, where
-/// that is so.
-fn clash_of(pack: &PackageFile<'_>, unit: &PackagedUnit<'_>, clash: Option<Clash>) -> Option<Clash>
-    ensures { IfSome result (λ clash. IsClash pack.now unit.now clash.0 clash.1) }
-{
-    let (kind, other) = clash?;
-    match pack.find(other) {
-        Ok(Some(second)) => {
-            if overlap(unit.range(kind), second.range(kind)) {
-                Some((kind, other))
-            } else {
-                None
-            }
-        }
-        _ => None,
-    }
-}
-
 /// What is told of a unit by the identifier that its own bytes give. Where that is its own, the unit
 /// is gathered for the check of its strings.
 fn text_of_own<'a>(
@@ -257,7 +237,7 @@ fn text_of_own<'a>(
 ) -> Result<Option<String>, AllocError>
     requires seen { IsSeen pack.now seen.old }
     requires is_found { found pack.now object ≡ Ok (Some unit.now) }
-    ensures text { IsTextOf (TellsOwn object (own_of object unit.now)) object result }
+    ensures text { IsTextOf (TellsItself pack.now object unit.now) object result }
     ensures on { OnOk result (GoesOn pack.now seen.old seen.new) }
     ensures gathered { IfOk result (λ text. text ≡ None
         → Gathered pack.now seen.new.strings.unread.items unit.now) }
@@ -276,17 +256,6 @@ fn row_text(alloc: Global, row: u32) -> Result<String, AllocError>
     ensures { IfOk result (λ text. string_bytes text ≡ codes "found in row " ++ decimal row) }
 {
     format!(in alloc; "found in row {row}")
-}
-
-/// What is told of a unit whose range of a section overlaps that of another.
-#[tactic(auto, using(thorin_print::proofs::Hex::hex16_written))]
-fn overlap_text(alloc: Global, kind: SectionKind, other: DwarfObject) -> Result<String, AllocError>
-    ensures { IfOk result (λ text. string_bytes text ≡ overlap_text kind other) }
-{
-    let name = kind.name();
-    let other_kind = short_kind(other);
-    let id = other.index();
-    format!(in alloc; "its range of {name} overlaps that of {other_kind} 0x{id:016x}")
 }
 
 /// What is told where what the index says of a unit can't be read.

@@ -1,4 +1,4 @@
-use Rattle.thorin_builder.proofs.Terms.{err_from_is_err_and, rules, ◌∙◌}
+use Rattle.thorin_builder.proofs.Terms.{err_from_is_err_and, inr, refl, rules, ◌∙◌}
 use Rattle.thorin_builder.proofs.Running.{none-taken, next-taken, next-refused, list-ended}
 use Rattle.thorin_builder.proofs.Running.{list-error}
 use Rattle.thorin_builder.proofs.package.DwarfPackage.add_each.Goals as goal
@@ -16,6 +16,12 @@ add_skeleton-requires-clause-unread g c =
     let after = rw c.in-Some.is at c.in_ok-unit.ensures.path in
     λ t. rw (c.path.ensures ∙ after (c.is_still.ensures t).1)
     (c.loop-known.invariant.2 (c.is_still.ensures t).0)
+
+pub returns-in-Err-clause-taken : goal.returns-in-Err-clause-taken
+returns-in-Err-clause-taken g c =
+    let first = rw c.in-Some.is at c.in_ok-unit.ensures.next in
+    next-refused _ _ _ _ _ _ c.loop-known.invariant.0 _ _ _ _ _ first
+    (inr (inr (refl, (refl, refl))))
 
 pub returns-in_err-add_skeleton-clause-taken : goal.returns-in_err-add_skeleton-clause-taken
 returns-in_err-add_skeleton-clause-taken g c =
