@@ -1,3 +1,5 @@
+mod Causes
+mod Lines
 mod Opened
 mod Puts
 mod Readable

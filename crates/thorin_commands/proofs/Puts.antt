@@ -1,7 +1,8 @@
 -- What came of packing.
 use Rattle.std.proofs.Common.{◌≡◌, ℕ, Bool, true, List, [], ◌∷◌, ◌++◌, take, inl, inr}
-use Rattle.std.specs.Prelude.{Some, None, Result, Ok, Err, map}
+use Rattle.std.specs.Prelude.{Some, None, Result, Ok, Err, IfOk, map}
 use Rattle.std.specs.Borrow.{Bor}
+use Rattle.std.specs.List.{slice_get}
 use Rattle.std.specs.declared.io.Error.{Error as IoError}
 use Rattle.dwp_elf.specs.FileText.{Object as File, file_text}
 use Rattle.thorin.specs.declared.packing.Input.{Input}
@@ -31,7 +32,7 @@ module _ {X : Type 0} (offers : X → List ℕ → Result (List ℕ) IoError →
   packed_alike object f p h = rw (f, p) at h
 
 -- the same with the first executable as an object behind them
-pub for_unsplit : (offer : List ℕ → Result (List ℕ) IoError → Type 0) (packing : Packing)
+for_unsplit : (offer : List ℕ → Result (List ℕ) IoError → Type 0) (packing : Packing)
     (opens : Bool) (manner : Manner) (more : List Input) (path : Bor (List ℕ)) (object : File)
     → packing.lets_empty ≡ true
     → opens ≡ packing.opens_archives → manner ≡ manner_of packing
@@ -45,6 +46,24 @@ for_unsplit offer packing opens manner more path object lets o d are first packe
       are = inr (lets, rw first are);
       packed = rw (o, d) at packed;
     }
+
+-- the first of a list, alone
+pub first_of : {X : Type 0} (xs : List X) (x : X) → Some x ≡ slice_get xs 0 → take 1 xs ≡ x ∷ []
+first_of [] x e = absurd cc
+first_of (y ∷ ys) x e = cc
+
+pub unsplit_made : (offer : List ℕ → Result (List ℕ) IoError → Type 0) (packing : Packing)
+    (opens : Bool) (manner : Manner) (more : List Input) (path : Bor (List ℕ))
+    → packing.lets_empty ≡ true
+    → opens ≡ packing.opens_archives → manner ≡ manner_of packing
+    → map asked more ≡ asks packing ++ Some (path.now, None) ∷ []
+    → take 1 (paths_in packing.executables) ≡ path ∷ [] → {V E : Type 0}
+    (made : Result (File × V) E)
+    → IfOk made (λ it. IsPackedFrom packing.partial opens manner offer more it.0)
+    → IfOk made (λ it. IsPackageFor offer packing it.0)
+unsplit_made offer packing opens manner more path lets o d are first (Ok it) packed =
+    for_unsplit offer packing opens manner more path it.0 lets o d are first packed
+unsplit_made offer packing opens manner more path lets o d are first (Err e) packed = tt
 
 -- nothing was written yet, or the package was begun
 pub early : (N B : Type 0) (failure : Failure) → N → Fails failure N B

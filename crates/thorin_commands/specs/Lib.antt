@@ -1,4 +1,6 @@
 pub mod Archives
+pub mod Cause
+pub mod Naming
 pub mod Opened
 pub mod Packing
 pub mod Taken

@@ -1,17 +1,20 @@
 //! Archives as inputs of `pack`.
 
-ghost use Rattle.std.specs.Prelude.{◌≡◌, ◌∷◌, [], map, Ok, OnOk, true};
+ghost use Rattle.std.specs.Prelude.{◌≡◌, ◌⊎◌, ◌∷◌, [], map, Ok, OnOk, IfErr, true};
 ghost use Rattle.std.specs.Path.{path_bytes};
 ghost use Rattle.thorin.specs.declared.packing.Input.TheVariants.{Object};
 ghost use Rattle.dwp_archive.specs.View as view;
 ghost use Rattle.thorin_commands.specs.Archives.{is_archive, is_split, split_contents};
+ghost use Rattle.thorin_commands.specs.Cause.{AreRefused, IsNotTaken, IsTakenNot, IsUnfit};
+ghost use Rattle.thorin_commands.specs.Cause.{IsMalformed, IsUntaken, Refuses, StopsAmong};
+ghost use Rattle.thorin_commands.specs.Cause.{StopsIn, Tells, refusal_text};
 ghost use Rattle.thorin_commands.specs.Opened.{TookAll, TookEach, TookMembers, TookBytes};
 
 use crate::origins::{Holding, Origin, now_in, place_of_refused};
 use crate::reading::Inputs;
 use crate::refusal::Refusal;
 use crate::taking::{Tried, settle};
-use crate::telling::{Refused, Telling, note_why, tell_error, tell_refused};
+use crate::telling::{Refused, Telling, tell_refused, tell_why, text_in};
 use dwp_archive::{ArchiveError, Member, members};
 use dwp_bytes::RelocationEntry;
 use dwp_elf::ElfFile;
@@ -57,8 +60,11 @@ pub(crate) fn take_opened<'o, 's: 'o, Sess: Session<RelocationEntry>, I: Inputs,
     err: &mut E,
 ) -> Result<(), Refusal>
     requires { I.opens inputs.now ≡ true }
-    ensures { OnOk result (TookAll (I.opens inputs.now) (I.manner inputs.now) (I.offer inputs.now)
-        (Object path.entry) builder.old.state builder.new.state) }
+    ensures took { OnOk result (TookAll (I.opens inputs.now) (I.manner inputs.now)
+        (I.offer inputs.now) (Object path.entry) builder.old.state builder.new.state) }
+    ensures told { IfErr result (Refuses E.contents err.new (IsNotTaken (I.opens inputs.now)
+        (I.manner inputs.now) (I.offer inputs.now) (I.declines inputs.now) (Object path.entry)
+        builder.old.state)) }
 {
     inputs.begin(Input::Object(path));
     match inputs.read_into(path, room) {
@@ -73,7 +79,7 @@ pub(crate) fn take_opened<'o, 's: 'o, Sess: Session<RelocationEntry>, I: Inputs,
                 before: None,
                 why: &why,
             };
-            tell_refused(telling.alloc, inputs, refused, err);
+            tell_refused(telling.alloc, inputs, refused, err)?;
             Err(Refusal::Told)
         }
     }
@@ -89,8 +95,11 @@ fn take_read<'o, 's: 'o, Sess: Session<RelocationEntry>, I: Inputs, E: Write>(
 ) -> Result<(), Refusal>
     requires opens { I.opens inputs.now ≡ true }
     requires offered { I.offer inputs.now (path_bytes place.path) (Ok bytes.now) }
-    ensures { OnOk result (TookAll (I.opens inputs.now) (I.manner inputs.now) (I.offer inputs.now)
-        (Object place.entry.path) builder.old.state builder.new.state) }
+    ensures took { OnOk result (TookAll (I.opens inputs.now) (I.manner inputs.now)
+        (I.offer inputs.now) (Object place.entry.path) builder.old.state builder.new.state) }
+    ensures told { IfErr result (Refuses E.contents err.new (IsNotTaken (I.opens inputs.now)
+        (I.manner inputs.now) (I.offer inputs.now) (I.declines inputs.now) (Object
+        place.entry.path) builder.old.state)) }
 {
     if is_archive(bytes) {
         take_members(inputs, builder, bytes, place, err)
@@ -107,8 +116,10 @@ fn take_object<'o, 's: 'o, Sess: Session<RelocationEntry>, I: Inputs, E: Write>(
     place: Place<'_>,
     err: &mut E,
 ) -> Result<(), Refusal>
-    ensures { OnOk result
+    ensures took { OnOk result
         (TookBytes (I.offer inputs.now) bytes.now builder.old.state builder.new.state) }
+    ensures told { IfErr result (Refuses E.contents err.new (IsUntaken (AreRefused (I.offer
+        inputs.now) (I.declines inputs.now) bytes.now builder.old.state))) }
 {
     let before = builder.contained_units().len();
     let outcome = take_bytes(place.telling.alloc, inputs, builder, bytes);
@@ -127,8 +138,10 @@ fn take_bytes<'o, 's: 'o, Sess: Session<RelocationEntry>, I: Inputs>(
     builder: &mut DwarfPackage<'o, 's, Sess>,
     bytes: &[u8],
 ) -> Result<(), NotTaken<Error, Growth>>
-    ensures { OnOk result
+    ensures took { OnOk result
         (TookBytes (I.offer inputs.now) bytes.now builder.old.state builder.new.state) }
+    ensures refused { IfErr result (AreRefused (I.offer inputs.now) (I.declines inputs.now)
+        bytes.now builder.old.state) }
 {
     let mut room = Vec::new(alloc);
     take_input(builder, inputs, &mut room, Input::Bytes(bytes))
@@ -142,8 +155,10 @@ fn take_members<'o, 's: 'o, Sess: Session<RelocationEntry>, I: Inputs, E: Write>
     place: Place<'_>,
     err: &mut E,
 ) -> Result<(), Refusal>
-    ensures { OnOk result (TookMembers (I.manner inputs.now) (I.offer inputs.now) bytes.now
+    ensures took { OnOk result (TookMembers (I.manner inputs.now) (I.offer inputs.now) bytes.now
         builder.old.state builder.new.state) }
+    ensures told { IfErr result (Refuses E.contents err.new (StopsIn (I.offer inputs.now)
+        (I.declines inputs.now) (I.manner inputs.now) bytes.now builder.old.state)) }
 {
     match members(place.telling.alloc, bytes) {
         Ok(members) => take_listed(inputs, builder, members.as_slice(), place, err),
@@ -160,8 +175,11 @@ fn take_listed<'o, 's: 'o, Sess: Session<RelocationEntry>, I: Inputs, E: Write>(
     place: Place<'_>,
     err: &mut E,
 ) -> Result<(), Refusal>
-    ensures { OnOk result (TookEach (I.manner inputs.now) (I.offer inputs.now)
+    ensures took { OnOk result (TookEach (I.manner inputs.now) (I.offer inputs.now)
         (split_contents (map view.member members.now)) builder.old.state builder.new.state) }
+    ensures told { IfErr result (Refuses E.contents err.new (IsUntaken (StopsAmong (I.offer
+        inputs.now) (I.declines inputs.now) (I.manner inputs.now) (split_contents (map
+        view.member members.now)) builder.old.state))) }
 {
     let before = builder.contained_units().len();
     take_each(inputs, builder, members, place, err)?;
@@ -188,8 +206,11 @@ fn take_each<'o, 's: 'o, Sess: Session<RelocationEntry>, I: Inputs, E: Write>(
     place: Place<'_>,
     err: &mut E,
 ) -> Result<(), Refusal>
-    ensures { OnOk result (TookEach (I.manner inputs.now) (I.offer inputs.now)
+    ensures took { OnOk result (TookEach (I.manner inputs.now) (I.offer inputs.now)
         (split_contents (map view.member members.now)) builder.old.state builder.new.state) }
+    ensures told { IfErr result (Refuses E.contents err.new (IsUntaken (StopsAmong (I.offer
+        inputs.now) (I.declines inputs.now) (I.manner inputs.now) (split_contents (map
+        view.member members.now)) builder.old.state))) }
 {
     for member in members {
         take_split(inputs, builder, *member, place, err)?;
@@ -205,8 +226,11 @@ fn take_split<'o, 's: 'o, Sess: Session<RelocationEntry>, I: Inputs, E: Write>(
     place: Place<'_>,
     err: &mut E,
 ) -> Result<(), Refusal>
-    ensures { OnOk result (TookEach (I.manner inputs.now) (I.offer inputs.now)
+    ensures took { OnOk result (TookEach (I.manner inputs.now) (I.offer inputs.now)
         (split_contents (view.member member.entry ∷ [])) builder.old.state builder.new.state) }
+    ensures told { IfErr result (Refuses E.contents err.new (IsUntaken (StopsAmong (I.offer
+        inputs.now) (I.declines inputs.now) (I.manner inputs.now) (split_contents (view.member
+        member.entry ∷ [])) builder.old.state))) }
 {
     let content = member.content();
     if !is_split(content) {
@@ -218,7 +242,7 @@ fn take_split<'o, 's: 'o, Sess: Session<RelocationEntry>, I: Inputs, E: Write>(
             Ok(())
         }
         Err(why) => {
-            refuse_member(inputs, builder, &why, member, place, err);
+            refuse_member(inputs, builder, &why, member, place, err)?;
             Err(Refusal::Told)
         }
     }
@@ -238,8 +262,11 @@ fn take_content<'o, 's: 'o, Sess: Session<RelocationEntry>, I: Inputs>(
     builder: &mut DwarfPackage<'o, 's, Sess>,
     content: &[u8],
 ) -> Result<(), NotTaken<Error, Growth>>
-    ensures { OnOk result (TookEach (I.manner inputs.now) (I.offer inputs.now) (content.now ∷ [])
-        builder.old.state builder.new.state) }
+    ensures took { OnOk result (TookEach (I.manner inputs.now) (I.offer inputs.now)
+        (content.now ∷ []) builder.old.state builder.new.state) }
+    ensures refused { IfErr result (λ why. IsUnfit (I.manner inputs.now) content.now why
+        ⊎ IsTakenNot (I.offer inputs.now) (I.declines inputs.now) (I.manner inputs.now)
+        content.now builder.old.state why) }
 {
     match inputs.member(content) {
         Ok(Some(taken)) => take_bytes(alloc, inputs, builder, taken.as_slice()),
@@ -249,7 +276,9 @@ fn take_content<'o, 's: 'o, Sess: Session<RelocationEntry>, I: Inputs>(
 }
 
 /// What becomes of an archive whose members can't be told, which is told here.
-fn malformed<E: Write>(place: Place<'_>, error: ArchiveError, err: &mut E) -> Refusal {
+fn malformed<E: Write>(place: Place<'_>, error: ArchiveError, err: &mut E) -> Refusal
+    ensures { Refuses E.contents err.new (IsMalformed error) result }
+{
     if let ArchiveError::Memory = error {
         return Refusal::Command(Failure::Memory);
     }
@@ -261,6 +290,9 @@ fn malformed<E: Write>(place: Place<'_>, error: ArchiveError, err: &mut E) -> Re
 }
 
 /// Tells why a member was refused, and which.
+///
+/// # Errors
+/// `Line` or `Memory`.
 fn refuse_member<'o, 's: 'o, Sess: Session<RelocationEntry>, I: Inputs, E: Write>(
     inputs: &I,
     builder: &DwarfPackage<'o, 's, Sess>,
@@ -268,18 +300,12 @@ fn refuse_member<'o, 's: 'o, Sess: Session<RelocationEntry>, I: Inputs, E: Write
     member: Member<'_>,
     place: Place<'_>,
     err: &mut E,
-) {
+) -> Result<(), Failure>
+    ensures { OnOk result (Tells E.contents err.new (refusal_text why.now)) }
+{
     let alloc = place.telling.alloc;
-    tell_error(alloc, why, err);
     let name = member.beginning_of_name(MEMBER_NAME_READ);
-    if let Ok(text) = place_of_member(alloc, place.path.path_text(), name) {
-        note_why(
-            alloc,
-            inputs,
-            why,
-            text.as_str(),
-            place_of_refused(builder, why),
-            err,
-        );
-    }
+    let text = place_of_member(alloc, place.path.path_text(), name).ok();
+    let before = place_of_refused(builder, why);
+    tell_why(alloc, inputs, why, text_in(&text), before, err)
 }

@@ -5,6 +5,7 @@
 mod archives;
 mod asked;
 mod differences;
+mod making;
 mod missing;
 mod origins;
 mod packing;

@@ -7,7 +7,6 @@ ghost use Rattle.thorin_commands.specs.Packing.{left};
 use crate::packing::{Packing, paths_in};
 use crate::plain::InputFiles;
 use crate::reading::Inputs;
-use crate::refusal::Refusal;
 use crate::telling::{Telling, tell_error};
 use bumpalo::Bump;
 use dwp_bytes::RelocationEntry;
@@ -17,6 +16,7 @@ use std::collections::HashSet;
 use std::io::Write;
 use std::path::Path;
 use thorin::{BytesSession, DwarfPackage, Input, NamelessUnits, NotTaken};
+use thorin_builder::admit_path;
 use thorin_errors::{Error, MissingReferencedObjectBehaviour};
 use thorin_executable::NamedUnits;
 use thorin_inputs::{AbsentUnits, Growth};
@@ -31,7 +31,7 @@ pub(crate) fn leave_out<'o, 's: 'o, Sess: Session<RelocationEntry>, I: Inputs, E
     builder: &mut DwarfPackage<'o, 's, Sess>,
     telling: Telling,
     err: &mut E,
-) -> Result<(), Refusal>
+) -> Result<(), Failure>
     ensures { OnOk result (builder.new.state ≡ left telling.partial builder.old.state) }
 {
     if telling.partial {
@@ -108,7 +108,7 @@ fn status_of<E: Write>(
         Ok(false) => Ok(0),
         Ok(true) => Ok(1),
         Err(Unlisted::Refused(why)) => {
-            tell_error(alloc, &why, err);
+            tell_error(alloc, &why, err)?;
             Ok(1)
         }
         Err(Unlisted::Failed(failure)) => Err(failure),
@@ -203,11 +203,23 @@ fn list_each<I: Inputs, W: Write>(
 ) -> Result<bool, Unlisted> {
     let mut is_one_missing = false;
     while let Some(unit) = units.next()? {
-        if !unit.is_repeated && list_path(alloc, inputs, units.path(), seen, lines)? {
+        if unit.is_repeated {
+            continue;
+        }
+        admit(inputs, units.path())?;
+        if list_path(alloc, inputs, units.path(), seen, lines)? {
             is_one_missing = true;
         }
     }
     Ok(is_one_missing)
+}
+
+/// Whether a path may be tried.
+fn admit<I: Inputs>(inputs: &I, path: &str) -> Result<(), Unlisted> {
+    match admit_path(inputs, path) {
+        Ok(()) => Ok(()),
+        Err(why) => Err(Unlisted::Refused(NotTaken::Declined(why))),
+    }
 }
 
 /// Prints the path of an object that an executable names where it can't be read, unless the path

@@ -3,38 +3,29 @@
 ghost use Rattle.std.specs.Prelude.{◌≡◌, ◌⊎◌, ◌≤◌, Ok, Some, OnOk, IfOk, IfErr, map, string_bytes};
 ghost use Rattle.std.specs.Prelude.{true, false};
 ghost use Rattle.dwp_elf.specs.FileText.{file_text};
-ghost use Rattle.thorin_join.specs.Builder.{IsFinishedState, finish_test};
-ghost use Rattle.thorin_join.specs.Join.{IsPackageOf, IsPackageOnceWritten};
-ghost use Rattle.thorin_join.specs.Meaning.{Members};
-ghost use Rattle.thorin_join.specs.Represents.{units_in};
 ghost use Rattle.thorin_output.specs.Files.{Put, Begins};
-ghost use Rattle.thorin_commands.specs.Packing.{out_of, Packs, Comes, IsPackageFor, IsPackedFrom};
+ghost use Rattle.thorin_commands.specs.Cause.{IsCauseFor, Refuses, Told, Unfinished};
+ghost use Rattle.thorin_errors.specs.declared.error.Error.TheVariants.{NoOutputObjectCreated};
+ghost use Rattle.thorin_commands.specs.Naming.{IsNameless};
+ghost use Rattle.thorin_commands.specs.Packing.{out_of, Packs, Comes, IsPackageFor};
 ghost use Rattle.thorin_commands.specs.Packing.{AllApart, Fails, IsNoInput, asked, asks};
-ghost use Rattle.thorin_commands.specs.Packing.{manner_of, paths_in, reads};
-ghost use Rattle.thorin_commands.specs.Opened.{Fills};
+ghost use Rattle.thorin_commands.specs.Packing.{declines, manner_of, paths_in, reads};
 
 use crate::asked::{inputs_of, inputs_with};
-use crate::differences::tell_differing;
-use crate::missing::leave_out;
+use crate::making::packed_inputs;
 use crate::plain::InputFiles;
 use crate::reading::Inputs;
 use crate::refusal::Refusal;
-use crate::taking::take_all;
-use crate::telling::{Telling, print_error, tell_unfinished, warn_unsplit};
-use bumpalo::Bump;
-use dwp_bytes::RelocationEntry;
+use crate::telling::{Telling, print_error};
 use dwp_elf::WritableObject;
-use dwp_elf::laws::written_contents_are_read_back;
 use dwp_macros::KeptMacros;
 use dwp_table::DebugTypeSignature;
-use std::alloc::Global;
+use std::alloc::{AllocError, Global};
 use std::io::Write;
-use thorin::laws::runs_go_on;
-use thorin::{BytesSession, DwarfPackage, Input, NamelessUnits};
+use thorin::{Input, NamelessUnits};
 use thorin_errors::{Error, MissingReferencedObjectBehaviour};
 use thorin_output::{FileSystem, Warned, Warnings, write_then_warn};
 use thorin_print::{Failure, buffer};
-use thorin_sessions::Session;
 
 /// What is to be packed, and where to.
 #[derive(Drop)]
@@ -82,12 +73,17 @@ impl Packing<'_, '_> {
     /// # Errors
     /// `BadCommand` where there is neither; `Memory`.
     pub fn output_name(&self, alloc: Global) -> Result<String, Failure>
-        ensures { IfOk result (λ name. out_of self.now ≡ Some (string_bytes name)) }
+        ensures named { IfOk result (λ name. out_of self.now ≡ Some (string_bytes name)) }
+        ensures nameless { IfErr result (IsNameless (out_of self.now)) }
     {
-        match (self.output, self.executables) {
-            (Some(output), _) => Ok(String::from_str(alloc, output)?),
-            (None, Some([executable])) => Ok(format!(in alloc; "{executable}.dwp")?),
-            (None, _) => Err(Failure::BadCommand),
+        let name = match (self.output, self.executables) {
+            (Some(output), _) => String::from_str(alloc, output),
+            (None, Some([executable])) => format!(in alloc; "{executable}.dwp"),
+            (None, _) => return Err(Failure::BadCommand),
+        };
+        match name {
+            Ok(name) => Ok(name),
+            Err(AllocError) => Err(Failure::Memory),
         }
     }
 
@@ -142,7 +138,7 @@ fn has_file<F: FileSystem>(files: &F, names: &[&str], file: &str) -> bool
 /// `Output` where the package's file can't be written, `Overwrites` where it is an input;
 /// `BadCommand` where there is no name for it; `Line` or `Memory`; `Input` where nothing is split,
 /// and the executable can't be read a second time.
-#[tactic(auto, using(crate::proofs::Puts::when_done, crate::proofs::Puts::when_empty, crate::proofs::Puts::when_told, crate::proofs::Puts::when_failed))]
+#[tactic(auto, using(crate::proofs::Puts::when_done, crate::proofs::Puts::when_empty, crate::proofs::Puts::when_told, crate::proofs::Puts::when_failed, crate::proofs::Puts::early, crate::proofs::Causes::told_empty))]
 pub fn pack<F: FileSystem, O: Write, E: Write>(
     alloc: Global,
     files: &mut F,
@@ -154,6 +150,9 @@ pub fn pack<F: FileSystem, O: Write, E: Write>(
         (Put F.begun O.contents files.old files.new out.old out.new) }
     ensures status { IfOk result (λ status. status ≤ 1) }
     ensures refused { result ≡ Ok 1 → (files.new ≡ files.old) × (out.new ≡ out.old) }
+    ensures told { result ≡ Ok 1 → Told E.contents err.new (IsCauseFor
+        (reads packing.now (F.offer files.old)) (declines packing.now (F.offer files.old))
+        packing.now) }
     ensures failed { IfErr result (λ failure. Fails failure
         ((files.new ≡ files.old) × (out.new ≡ out.old))
         (Packs (reads packing.now (F.offer files.old)) packing.now
@@ -163,10 +162,10 @@ pub fn pack<F: FileSystem, O: Write, E: Write>(
 {
     match pack_all(alloc, files, packing, out, err) {
         Ok(()) => Ok(0),
-        Err(Refusal::Empty) => {
-            print_error(alloc, &Error::NoOutputObjectCreated, err);
-            Ok(1)
-        }
+        Err(Refusal::Empty) => match print_error(alloc, &Error::NoOutputObjectCreated, err) {
+            Ok(()) => Ok(1),
+            Err(failure) => Err(failure),
+        },
         Err(Refusal::Told) => Ok(1),
         Err(Refusal::Command(failure)) => Err(failure),
     }
@@ -188,6 +187,9 @@ fn pack_all<F: FileSystem, O: Write, E: Write>(
         (Begins F.begun O.contents files.old files.new out.old out.new))
         (Packs (reads packing.now (F.offer files.old)) packing.now
         (Put F.begun O.contents files.old files.new out.old out.new)) }
+    ensures told { IfErr result (Refuses E.contents err.new (IsCauseFor
+        (reads packing.now (F.offer files.old)) (declines packing.now (F.offer files.old))
+        packing.now)) }
 {
     let output = packing.output_name(alloc)?;
     pack_under(alloc, files, packing, output.as_str(), out, err)
@@ -211,6 +213,9 @@ fn pack_under<F: FileSystem, O: Write, E: Write>(
         (Begins F.begun O.contents files.old files.new out.old out.new))
         (Packs (reads packing.now (F.offer files.old)) packing.now
         (Put F.begun O.contents files.old files.new out.old out.new)) }
+    ensures told { IfErr result (Refuses E.contents err.new (IsCauseFor
+        (reads packing.now (F.offer files.old)) (declines packing.now (F.offer files.old))
+        packing.now)) }
 {
     if packing.overwrites(files, output) {
         return Err(Refusal::Command(Failure::Overwrites));
@@ -267,8 +272,11 @@ fn packed<F: FileSystem, E: Write>(
     packing: &Packing<'_, '_>,
     err: &mut E,
 ) -> Result<(WritableObject, Vec<DebugTypeSignature>, String), Refusal>
-    ensures { IfOk result (λ made. IsPackageFor
+    ensures packed { IfOk result (λ made. IsPackageFor
         (reads packing.now (F.offer files.now)) packing.now made.0) }
+    ensures told { IfErr result (Refuses E.contents err.new (IsCauseFor
+        (reads packing.now (F.offer files.now)) (declines packing.now (F.offer files.now))
+        packing.now)) }
 {
     let objects = paths_in(packing.inputs);
     let executables = paths_in(packing.executables);
@@ -283,7 +291,7 @@ fn packed<F: FileSystem, E: Write>(
 }
 
 /// The same of the list of what is asked for.
-#[tactic(auto, using(crate::proofs::Puts::for_packing, crate::proofs::Puts::packed_alike))]
+#[tactic(auto, using(crate::proofs::Puts::for_packing, crate::proofs::Puts::packed_alike, crate::proofs::Causes::told_alike))]
 fn packed_from<F: FileSystem, E: Write>(
     alloc: Global,
     files: &F,
@@ -292,8 +300,11 @@ fn packed_from<F: FileSystem, E: Write>(
     err: &mut E,
 ) -> Result<(WritableObject, Vec<DebugTypeSignature>, String), Refusal>
     requires { map asked list.now ≡ asks packing.now }
-    ensures { IfOk result (λ made. IsPackageFor
+    ensures packed { IfOk result (λ made. IsPackageFor
         (reads packing.now (F.offer files.now)) packing.now made.0) }
+    ensures told { IfErr result (Refuses E.contents err.new (IsCauseFor
+        (reads packing.now (F.offer files.now)) (declines packing.now (F.offer files.now))
+        packing.now)) }
 {
     let inputs = InputFiles::new(alloc, files, packing)?;
     match packed_by(alloc, &inputs, packing, list, err) {
@@ -310,7 +321,7 @@ fn packed_from<F: FileSystem, E: Write>(
 }
 
 /// The same by these inputs, and whether something is split.
-#[tactic(auto, using(crate::proofs::Puts::for_packing))]
+#[tactic(auto, using(crate::proofs::Puts::for_packing, crate::proofs::Causes::told_for, crate::proofs::Causes::empty_for))]
 fn packed_by<I: Inputs, E: Write>(
     alloc: Global,
     inputs: &I,
@@ -321,7 +332,9 @@ fn packed_by<I: Inputs, E: Write>(
     requires asked { map asked list.now ≡ asks packing.now }
     requires opens { I.opens inputs.now ≡ packing.now.opens_archives }
     requires manner { I.manner inputs.now ≡ manner_of packing.now }
-    ensures { IfOk result (λ made. IsPackageFor (I.offer inputs.now) packing.now made.0) }
+    ensures packed { IfOk result (λ made. IsPackageFor (I.offer inputs.now) packing.now made.0) }
+    ensures told { IfErr result (Refuses E.contents err.new (IsCauseFor (I.offer inputs.now)
+        (I.declines inputs.now) packing.now)) }
 {
     let telling = Telling {
         alloc,
@@ -341,7 +354,6 @@ fn packed_by<I: Inputs, E: Write>(
 
 /// The object to be written where nothing is split: an executable is taken as an object too, which
 /// has nothing to be packed.
-#[tactic(auto, using(crate::proofs::Puts::for_unsplit))]
 fn packed_unsplit<I: Inputs, E: Write>(
     alloc: Global,
     inputs: &I,
@@ -351,7 +363,11 @@ fn packed_unsplit<I: Inputs, E: Write>(
     requires allowed { packing.now.lets_empty ≡ true }
     requires opens { I.opens inputs.now ≡ packing.now.opens_archives }
     requires manner { I.manner inputs.now ≡ manner_of packing.now }
-    ensures { IfOk result (λ made. IsPackageFor (I.offer inputs.now) packing.now made.0) }
+    requires empty { IsCauseFor (I.offer inputs.now) (I.declines inputs.now) packing.now
+        (Unfinished NoOutputObjectCreated) }
+    ensures packed { IfOk result (λ made. IsPackageFor (I.offer inputs.now) packing.now made.0) }
+    ensures told { IfErr result (Refuses E.contents err.new (IsCauseFor (I.offer inputs.now)
+        (I.declines inputs.now) packing.now)) }
 {
     let objects = paths_in(packing.inputs);
     let executables = paths_in(packing.executables);
@@ -386,115 +402,4 @@ pub(crate) fn paths_in<'m, 'a>(list: Option<&'m [&'a str]>) -> &'m [&'a str]
         Some(paths) => paths,
         None => &[],
     }
-}
-
-/// The object to be written for these inputs, and those signatures.
-fn packed_inputs<I: Inputs, E: Write>(
-    inputs: &I,
-    list: &[Input<'_>],
-    telling: Telling,
-    err: &mut E,
-) -> Result<(WritableObject, Vec<DebugTypeSignature>), Refusal>
-    ensures { IfOk result (λ made. IsPackedFrom telling.partial (I.opens inputs.now)
-        (I.manner inputs.now) (I.offer inputs.now) list.now made.0) }
-{
-    let bump = Bump::new(telling.alloc);
-    let session = BytesSession::new(&bump);
-    packed_over(&session, inputs, list, telling, err)
-}
-
-/// The same, over a session that holds what is read.
-fn packed_over<'s, Sess: Session<RelocationEntry>, I: Inputs, E: Write>(
-    session: &'s Sess,
-    inputs: &I,
-    list: &[Input<'_>],
-    telling: Telling,
-    err: &mut E,
-) -> Result<(WritableObject, Vec<DebugTypeSignature>), Refusal>
-    ensures { IfOk result (λ made. IsPackedFrom telling.partial (I.opens inputs.now)
-        (I.manner inputs.now) (I.offer inputs.now) list.now made.0) }
-{
-    runs_go_on(inputs);
-    let mut builder = DwarfPackage::new(telling.alloc, session);
-    match fill(inputs, &mut builder, list, telling, err) {
-        Ok(()) => finished(telling.alloc, inputs, builder, err),
-        Err(refusal) => {
-            drop(builder);
-            Err(refusal)
-        }
-    }
-}
-
-/// Takes these inputs, warns of those without split units, and leaves out what isn't there, where
-/// that is asked for.
-fn fill<'o, 's: 'o, Sess: Session<RelocationEntry>, I: Inputs, E: Write>(
-    inputs: &I,
-    builder: &mut DwarfPackage<'o, 's, Sess>,
-    list: &[Input<'_>],
-    telling: Telling,
-    err: &mut E,
-) -> Result<(), Refusal>
-    ensures { OnOk result (Fills telling.partial (I.opens inputs.now) (I.manner inputs.now)
-        (I.offer inputs.now) list.now builder.old.state builder.new.state) }
-{
-    let types_alone = take_all(inputs, builder, list, telling, err)?;
-    warn_unsplit(builder, list, types_alone.as_slice(), telling, err)?;
-    tell_differing(inputs, builder)?;
-    leave_out(inputs, builder, telling, err)
-}
-
-/// The object of the package, which can be written, and those signatures. Where it can't be
-/// finished, that is printed.
-fn finished<'o, 's: 'o, Sess: Session<RelocationEntry>, I: Inputs, E: Write>(
-    alloc: Global,
-    inputs: &I,
-    builder: DwarfPackage<'o, 's, Sess>,
-    err: &mut E,
-) -> Result<(WritableObject, Vec<DebugTypeSignature>), Refusal>
-    ensures finished { IfOk result (λ made. (finish_test builder.entry.state ≡ Ok tt)
-        × IsFinishedState builder.entry.state made.0) }
-    ensures packaged { IfOk result (λ made.
-        IsPackageOf (units_in builder.entry.state) (file_text made.0)) }
-{
-    let (finished, differing) = builder.finish_with_differing();
-    match finished {
-        Ok(object) => match can_be_written(&object) {
-            Ok(()) => Ok((object, differing)),
-            Err(error) => Err(unfinished(alloc, inputs, &error, err)),
-        },
-        Err(error) => Err(unfinished(alloc, inputs, &error, err)),
-    }
-}
-
-/// What becomes of a package that can't be finished: it is told here, unless no input began it.
-fn unfinished<I: Inputs, E: Write>(
-    alloc: Global,
-    inputs: &I,
-    error: &Error,
-    err: &mut E,
-) -> Refusal {
-    match error {
-        Error::NoOutputObjectCreated => Refusal::Empty,
-        _ => {
-            tell_unfinished(alloc, inputs, error, err);
-            Refusal::Told
-        }
-    }
-}
-
-/// Tests the size of an object's file.
-///
-/// # Errors
-/// `ObjectWrite` where it has a number that is too large.
-#[tactic(auto, using(crate::proofs::Readable::readable))]
-fn can_be_written(object: &WritableObject) -> Result<(), Error>
-    ensures { OnOk result ((units : Members) → IsPackageOnceWritten units object.now
-        → IsPackageOf units (file_text object.now)) }
-{
-    written_contents_are_read_back();
-    // By the contracts of these two no two sections are of one kind, and the machine has 16 bits.
-    object.sections();
-    object.machine();
-    object.file_size()?;
-    Ok(())
 }

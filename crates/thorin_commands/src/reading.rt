@@ -1,7 +1,8 @@
 //! What `pack` asks of the reader of its inputs, as a trait: `plain` has the reader.
 
 ghost use Rattle.std.specs.Prelude.{◌≡◌, Bool, IfOk};
-ghost use Rattle.thorin_builder.specs.Reading.{OnDeclined};
+ghost use Rattle.thorin_builder.specs.Reading.{OnDeclined, OnFailed};
+ghost use Rattle.thorin_errors.specs.declared.error.InputError.TheVariants.{Memory};
 ghost use Rattle.thorin_inputs.specs.Plain.{or_content};
 ghost use Rattle.thorin_commands.specs.Taken.{DeclinesBytes, IsTakenFor, Manner};
 
@@ -37,7 +38,8 @@ pub(crate) trait Inputs: InputReader<Refusal = Growth> {
     fn member(&self, content: &[u8]) -> Result<Option<Vec<u8>>, NotTaken<InputError, Growth>>
         ensures taken { IfOk result (λ taken. IsTakenFor (manner self.now) content.now
             (or_content content.now taken)) }
-        ensures declined { OnDeclined result (DeclinesBytes (manner self.now) content.now) };
+        ensures declined { OnDeclined result (DeclinesBytes (manner self.now) content.now) }
+        ensures memory { OnFailed result (λ e. e ≡ Memory) };
 
     /// What is left compressed of the file that was read last.
     fn compression(&self) -> Compression;

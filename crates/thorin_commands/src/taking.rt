@@ -1,8 +1,10 @@
 //! Taking the inputs of `pack` in order: one that is accepted is noted, and told where that is
 //! asked for; and what becomes of one that is refused.
 
-ghost use Rattle.std.specs.Prelude.{◌≡◌, Ok, OnOk};
+ghost use Rattle.std.specs.Prelude.{◌≡◌, Ok, Err, OnOk, IfErr};
 ghost use Rattle.thorin.specs.Run.{Took};
+ghost use Rattle.thorin_commands.specs.Cause.{IsNotTaken, IsRefused, IsUntaken, Refuses};
+ghost use Rattle.thorin_commands.specs.Cause.{StopsAt};
 ghost use Rattle.thorin_commands.specs.Opened.{TookAll, TookInputs};
 
 use crate::archives::take_opened;
@@ -29,8 +31,11 @@ pub(crate) fn take_all<'o, 's: 'o, Sess: Session<RelocationEntry>, I: Inputs, E:
     telling: Telling,
     err: &mut E,
 ) -> Result<Vec<bool>, Refusal>
-    ensures { OnOk result (TookInputs (I.opens inputs.now) (I.manner inputs.now)
+    ensures took { OnOk result (TookInputs (I.opens inputs.now) (I.manner inputs.now)
         (I.offer inputs.now) list.now builder.old.state builder.new.state) }
+    ensures told { IfErr result (Refuses E.contents err.new (StopsAt (I.opens inputs.now)
+        (I.manner inputs.now) (I.offer inputs.now) (I.declines inputs.now) list.now
+        builder.old.state)) }
 {
     let mut room = Vec::new(telling.alloc);
     let mut types_alone = Vec::new(telling.alloc);
@@ -59,8 +64,11 @@ fn take<'o, 's: 'o, Sess: Session<RelocationEntry>, I: Inputs, E: Write>(
     telling: Telling,
     err: &mut E,
 ) -> Result<(), Refusal>
-    ensures { OnOk result (TookAll (I.opens inputs.now) (I.manner inputs.now)
+    ensures took { OnOk result (TookAll (I.opens inputs.now) (I.manner inputs.now)
         (I.offer inputs.now) input.entry builder.old.state builder.new.state) }
+    ensures told { IfErr result (Refuses E.contents err.new (IsNotTaken (I.opens inputs.now)
+        (I.manner inputs.now) (I.offer inputs.now) (I.declines inputs.now) input.entry
+        builder.old.state)) }
 {
     match input {
         Input::Object(path) if inputs.opens_archives() => {
@@ -79,8 +87,10 @@ fn take_alone<'o, 's: 'o, Sess: Session<RelocationEntry>, I: Inputs, E: Write>(
     telling: Telling,
     err: &mut E,
 ) -> Result<(), Refusal>
-    ensures { OnOk result
+    ensures took { OnOk result
         (Took (I.offer inputs.now) input.entry builder.old.state (Ok tt) builder.new.state) }
+    ensures told { IfErr result (Refuses E.contents err.new (IsUntaken (IsRefused (I.offer
+        inputs.now) (I.declines inputs.now) input.entry builder.old.state))) }
 {
     let before = builder.contained_units().len();
     inputs.begin(input);
@@ -113,7 +123,9 @@ pub(crate) fn settle<'o, 's: 'o, Sess: Session<RelocationEntry>, I: Inputs, E: W
     telling: Telling,
     err: &mut E,
 ) -> Result<(), Refusal>
-    ensures { OnOk result (outcome ≡ Ok tt) }
+    ensures took { OnOk result (outcome ≡ Ok tt) }
+    ensures told { IfErr result (Refuses E.contents err.new
+        (IsUntaken (λ why. outcome ≡ Err why))) }
 {
     match outcome {
         Ok(()) => {
@@ -126,7 +138,7 @@ pub(crate) fn settle<'o, 's: 'o, Sess: Session<RelocationEntry>, I: Inputs, E: W
                 before: place_of_refused(builder, &why),
                 why: &why,
             };
-            tell_refused(telling.alloc, inputs, refused, err);
+            tell_refused(telling.alloc, inputs, refused, err)?;
             Err(Refusal::Told)
         }
     }

@@ -1,9 +1,14 @@
 //! What `pack` tells of its inputs: with `--verbose`, and where one is refused.
 
+ghost use Rattle.std.specs.Prelude.{OnOk};
+ghost use Rattle.thorin_errors.specs.Errors.{error_of};
+ghost use Rattle.thorin_print.specs.Answers.{Grows};
+ghost use Rattle.thorin_commands.specs.Cause.{HasLine, Tells, refusal_text, told_text};
+
 use crate::reading::Inputs;
 use crate::taking::Tried;
 use dwp_bytes::RelocationEntry;
-use std::alloc::{AllocError, Global};
+use std::alloc::Global;
 use std::io::Write;
 use std::path::{AsPath, Path};
 use thorin::{DwarfPackage, Input, NotTaken};
@@ -12,7 +17,7 @@ use thorin_inputs::{
     Growth, count_units, note_absent, note_alone, note_before, note_reason, note_refused,
     note_twice_in, place_of,
 };
-use thorin_print::{Failure, shown, tell_taken};
+use thorin_print::{Failure, print, shown, tell_taken};
 use thorin_sessions::Session;
 use thorin_words::printed;
 
@@ -137,27 +142,74 @@ pub(crate) struct Refused<'a> {
 }
 
 /// Prints why an input was refused, and what that is about.
+///
+/// # Errors
+/// `Line` or `Memory`.
 pub(crate) fn tell_refused<I: Inputs, E: Write>(
     alloc: Global,
     inputs: &I,
     refused: Refused<'_>,
     err: &mut E,
-) {
-    tell_error(alloc, refused.why, err);
-    if let Ok(Some(place)) = place_in(alloc, refused.input, inputs.last_named()) {
-        note_why(
-            alloc,
-            inputs,
-            refused.why,
-            place.as_str(),
-            refused.before,
-            err,
-        );
+) -> Result<(), Failure>
+    ensures { OnOk result (Tells E.contents err.new (refusal_text refused.entry.why.now)) }
+{
+    let place = place_in(alloc, refused.input, inputs.last_named());
+    let place = text_in(&place);
+    tell_why(alloc, inputs, refused.why, place, refused.before, err)
+}
+
+/// A text, if there is one.
+pub(crate) fn text_in(text: &Option<String>) -> Option<&str> {
+    match text {
+        Some(text) => Some(text.as_str()),
+        None => None,
+    }
+}
+
+/// Prints why an input or a member of one was refused, and a note on the place.
+///
+/// # Errors
+/// `Line` or `Memory`.
+#[tactic(auto, using(crate::proofs::Lines::followed))]
+pub(crate) fn tell_why<I: Inputs, E: Write>(
+    alloc: Global,
+    inputs: &I,
+    why: &NotTaken<Error, Growth>,
+    place: Option<&str>,
+    before: Option<usize>,
+    err: &mut E,
+) -> Result<(), Failure>
+    ensures { OnOk result (Tells E.contents err.new (refusal_text why.now)) }
+{
+    tell_error(alloc, why, err)?;
+    let mut notes = Vec::new(alloc);
+    if let Some(place) = place {
+        note_why(alloc, inputs, why, place, before, &mut notes);
+    }
+    put_notes(notes.as_slice(), err);
+    Ok(())
+}
+
+/// Prints notes that were put together, as far as they can be.
+fn put_notes<E: Write>(notes: &[u8], err: &mut E)
+    ensures { Grows (E.contents err.old) (E.contents err.new) }
+{
+    if let Ok(text) = str::from_utf8(notes) {
+        let _ = print(text, err);
     }
 }
 
 /// Prints why an input or a member of one was refused: its error, or why it is declined.
-pub(crate) fn tell_error<E: Write>(alloc: Global, why: &NotTaken<Error, Growth>, err: &mut E) {
+///
+/// # Errors
+/// `Line` or `Memory`.
+pub(crate) fn tell_error<E: Write>(
+    alloc: Global,
+    why: &NotTaken<Error, Growth>,
+    err: &mut E,
+) -> Result<(), Failure>
+    ensures { OnOk result (Tells E.contents err.new (refusal_text why.now)) }
+{
     match why {
         NotTaken::Failed(error) => print_error(alloc, error, err),
         NotTaken::Declined(growth) => put_error(growth.error(), err),
@@ -235,36 +287,35 @@ fn note_encodings<I: Inputs, E: Write>(inputs: &I, place: Option<&str>, err: &mu
     }
 }
 
-/// An input, or the object of these that it names; none where no path names it.
-fn place_in(
-    alloc: Global,
-    input: Input<'_>,
-    named: Option<String>,
-) -> Result<Option<String>, AllocError> {
-    let Some(path) = path_of(input) else {
-        return Ok(None);
-    };
-    let place = match &named {
-        Some(named) => place_of(alloc, path.path_text(), Some(named.as_str())),
-        None => place_of(alloc, path.path_text(), None),
-    };
-    Ok(Some(place?))
+/// An input, or the object of these that it names; none where no path names it, or memory ran out.
+fn place_in(alloc: Global, input: Input<'_>, named: Option<String>) -> Option<String> {
+    let path = path_of(input)?;
+    place_of(alloc, path.path_text(), text_in(&named)).ok()
 }
 
 /// Prints why the package can't be finished, and which object lacks the unit or couldn't be read,
 /// or which encodings the inputs have.
+///
+/// # Errors
+/// `Line` or `Memory`.
+#[tactic(auto, using(crate::proofs::Lines::followed))]
 pub(crate) fn tell_unfinished<I: Inputs, E: Write>(
     alloc: Global,
     inputs: &I,
     error: &Error,
     err: &mut E,
-) {
-    print_error(alloc, error, err);
+) -> Result<(), Failure>
+    ensures { OnOk result (Tells E.contents err.new (told_text (error_of error.now))) }
+{
+    print_error(alloc, error, err)?;
+    let mut notes = Vec::new(alloc);
     match error {
-        Error::MissingReferencedUnit(unit) => note_missing(inputs, *unit, err),
-        Error::MixedInputEncodings => note_encodings(inputs, None, err),
+        Error::MissingReferencedUnit(unit) => note_missing(inputs, *unit, &mut notes),
+        Error::MixedInputEncodings => note_encodings(inputs, None, &mut notes),
         _ => {}
     }
+    put_notes(notes.as_slice(), err);
+    Ok(())
 }
 
 /// Prints the note on a unit that an executable names and the package lacks.
@@ -275,28 +326,33 @@ fn note_missing<I: Inputs, E: Write>(inputs: &I, unit: u64, err: &mut E) {
     }
 }
 
-/// Prints why an input was refused.
-pub(crate) fn print_error<E: Write>(alloc: Global, error: &Error, err: &mut E) {
-    match error {
-        Error::RelocationWithInvalidSymbol(_, _)
-        | Error::MultipleRelocations(_, _)
-        | Error::UnsupportedRelocation(_, _) => match printed_error(alloc, error) {
-            Ok(text) => put_error(text.as_str(), err),
-            Err(AllocError) => put_error("Out of memory", err),
-        },
-        _ => {
-            let _ = writeln!(err, "error: {error}");
-        }
-    }
+/// Prints an error, without control characters in names out of a file.
+///
+/// # Errors
+/// `Line` or `Memory`.
+#[tactic(auto, using(crate::proofs::Lines::told))]
+pub(crate) fn print_error<E: Write>(
+    alloc: Global,
+    error: &Error,
+    err: &mut E,
+) -> Result<(), Failure>
+    ensures { OnOk result (Tells E.contents err.new (told_text (error_of error.now))) }
+{
+    let text = format!(in alloc; "{error}")?;
+    let text = printed(alloc, text.as_str())?;
+    put_error(text.as_str(), err)
 }
 
 /// Prints the text of an error.
-fn put_error<E: Write>(text: &str, err: &mut E) {
-    let _ = writeln!(err, "error: {text}");
-}
-
-/// The text of an error that has a name out of a file, without control characters.
-fn printed_error(alloc: Global, error: &Error) -> Result<String, AllocError> {
-    let text = format!(in alloc; "{error}")?;
-    printed(alloc, text.as_str())
+///
+/// # Errors
+/// `Line`.
+#[tactic(auto, using(crate::proofs::Lines::printed))]
+fn put_error<E: Write>(text: &str, err: &mut E) -> Result<(), Failure>
+    ensures { OnOk result (HasLine E.contents err.new text.now) }
+{
+    match writeln!(err, "error: {text}") {
+        Ok(()) => Ok(()),
+        Err(_) => Err(Failure::Line),
+    }
 }

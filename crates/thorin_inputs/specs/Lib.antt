@@ -1,4 +1,5 @@
 pub mod Given
+pub mod Growth
 pub mod Macros
 pub mod Mapped
 pub mod Overlaps

@@ -1,5 +1,8 @@
 //! Small files that could ask for a package of any size.
 
+ghost use Rattle.std.specs.Prelude.{◌≡◌};
+ghost use Rattle.thorin_inputs.specs.Growth.{growth_text};
+
 use std::alloc::Global;
 use std::cell::Cell;
 use std::collections::BTreeMap;
@@ -31,7 +34,9 @@ pub enum Growth {
 
 impl Growth {
     /// What is printed of it.
-    pub fn error(self) -> &'static str {
+    pub fn error(self) -> &'static str
+        ensures { result.now ≡ growth_text self }
+    {
         match self {
             Growth::Sections => "Sections overlap",
             Growth::Strings => "Strings overlap",

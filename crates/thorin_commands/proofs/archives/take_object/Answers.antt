@@ -1,8 +1,14 @@
 use Rattle.std.proofs.Common.{◌≡◌, Ok}
 use Rattle.std.proofs.lemmas.Result.{on_ok_weaker}
+use Rattle.thorin_commands.proofs.Causes.{err_by, reason_by}
 use Rattle.thorin_commands.proofs.archives.take_object.Goals as goal
 
-pub returns : goal.returns
-returns g c =
+pub returns-clause-took : goal.returns-clause-took
+returns-clause-took g c =
     on_ok_weaker c.settle.result (λ (e : c.take_bytes-outcome.result ≡ Ok tt).
-    rw e at c.take_bytes-outcome.ensures) c.settle.ensures
+    rw e at c.take_bytes-outcome.ensures.took) c.settle.ensures.took
+
+pub returns-clause-told : goal.returns-clause-told
+returns-clause-told g c = err_by g.E.Write.contents c.settle.new.err
+    (reason_by c.take_bytes-outcome.result c.take_bytes-outcome.ensures.refused)
+    c.settle.result c.settle.ensures.told

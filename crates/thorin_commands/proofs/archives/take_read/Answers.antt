@@ -1,13 +1,26 @@
 use Rattle.std.proofs.Common.{rules}
 use Rattle.std.proofs.lemmas.Result.{on_ok_weaker}
+use Rattle.thorin_commands.proofs.Causes.{archive, err_by, plain}
 use Rattle.thorin_commands.proofs.Opened.{took_object, took_archive}
 use Rattle.thorin_commands.proofs.archives.take_read.Goals as goal
 
-pub returns-then-is_archive : goal.returns-then-is_archive
-returns-then-is_archive g c = on_ok_weaker c.take_members.result
-    (took_archive c.requires.opens c.requires.offered) c.take_members.ensures
+pub returns-then-is_archive-clause-took : goal.returns-then-is_archive-clause-took
+returns-then-is_archive-clause-took g c = on_ok_weaker c.take_members.result
+    (took_archive c.requires.opens c.requires.offered) c.take_members.ensures.took
 
-pub returns-else-is_archive : goal.returns-else-is_archive
-returns-else-is_archive g c =
+pub returns-then-is_archive-clause-told : goal.returns-then-is_archive-clause-told
+returns-then-is_archive-clause-told g c = err_by g.E.Write.contents c.take_members.new.err
+    (archive c.requires.opens c.requires.offered
+    (search (rules, c.is_archive.ensures, c.if-is_archive)))
+    c.take_members.result c.take_members.ensures.told
+
+pub returns-else-is_archive-clause-took : goal.returns-else-is_archive-clause-took
+returns-else-is_archive-clause-took g c =
     on_ok_weaker c.take_object.result (took_object c.requires.opens c.requires.offered
-    (search (rules, c.is_archive.ensures, c.if-is_archive))) c.take_object.ensures
+    (search (rules, c.is_archive.ensures, c.if-is_archive))) c.take_object.ensures.took
+
+pub returns-else-is_archive-clause-told : goal.returns-else-is_archive-clause-told
+returns-else-is_archive-clause-told g c = err_by g.E.Write.contents c.take_object.new.err
+    (plain c.requires.opens c.requires.offered
+    (search (rules, c.is_archive.ensures, c.if-is_archive)))
+    c.take_object.result c.take_object.ensures.told

@@ -1,16 +1,26 @@
 use Rattle.std.proofs.Common.{◌≡◌, true, false}
 use Rattle.dwp_archive.specs.View.{member}
 use Rattle.thorin_commands.specs.Archives.{is_split}
+use Rattle.thorin_commands.proofs.Causes.{one_stops}
 use Rattle.thorin_commands.proofs.Opened.{each_none}
 use Rattle.thorin_commands.proofs.archives.take_split.Goals as goal
 
-pub returns-then-not-is_split : goal.returns-then-not-is_split
-returns-then-not-is_split g c =
+pub returns-then-not-is_split-clause-took : goal.returns-then-not-is_split-clause-took
+returns-then-not-is_split-clause-took g c =
     let is : is_split (member c.args.member).content ≡ false =
     cc (c.content-content.ensures, c.is_split.ensures) in rw is each_none
 
-pub returns-in-Ok : goal.returns-in-Ok
-returns-in-Ok g c =
+pub returns-in-Ok-clause-took : goal.returns-in-Ok-clause-took
+returns-in-Ok-clause-took g c =
     let is : is_split (member c.args.member).content ≡ true =
     cc (c.content-content.ensures, c.is_split.ensures) in
-    rw is (rw c.content-content.ensures at c.in-Ok.ensures)
+    rw is (rw c.content-content.ensures at c.in-Ok.ensures.took)
+
+pub returns-in_ok-refuse_member-in-Err-clause-told :
+    goal.returns-in_ok-refuse_member-in-Err-clause-told
+returns-in_ok-refuse_member-in-Err-clause-told g c =
+    let is : is_split (member c.args.member).content ≡ true =
+    cc (c.content-content.ensures, c.is_split.ensures) in
+    rw is (one_stops g.E.Write.contents c.refuse_member.new.err c.in-Err.why
+    (rw c.content-content.ensures at c.in-Err.ensures.refused)
+    c.in_ok-refuse_member-in-Err.ensures)

@@ -1,7 +1,9 @@
+use Rattle.std.proofs.lemmas.Result.{err_from_is_err_and}
 use Rattle.std.proofs.Common.{[], refl}
 use Rattle.std.proofs.lemmas.List.{take_all, take_more}
 use Rattle.thorin.specs.declared.packing.Input.{Input}
 use Rattle.thorin.specs.declared.packing.Input.TheVariants.{Object}
+use Rattle.thorin_commands.proofs.Causes.{refuses_by, stops_at}
 use Rattle.thorin_commands.proofs.Opened.{took_more}
 use Rattle.thorin_commands.proofs.taking.take_all.Goals as goal
 
@@ -12,9 +14,17 @@ pub loop-input-preserved : goal.loop-input-preserved
 loop-input-preserved g c =
     let none : Input = Object (record { text = record { ref_ptr = (0, 0); now = [] } }) in
     rw (take_more c.args.list.now c.loop-input.input-index none c.loop-input-test.true)
-    (took_more c.loop-input.invariant c.in_ok-take.ensures)
+    (took_more c.loop-input.invariant c.in_ok-take.ensures.took)
 
-pub returns : goal.returns
-returns g c =
+pub returns-clause-took : goal.returns-clause-took
+returns-clause-took g c =
     rw (take_all c.loop-input.input-index c.args.list.now c.loop-input-test.false) at
     c.loop-input.invariant
+
+pub returns-in_err-take-clause-told : goal.returns-in_err-take-clause-told
+returns-in_err-take-clause-told g c =
+    let none : Input = Object (record { text = record { ref_ptr = (0, 0); now = [] } }) in
+    let p = err_from_is_err_and c.from_residual.result c.from_residual.ensures.1 in
+    rw (p.1, p.2) (refuses_by g.E.Write.contents c.take.new.err (stops_at c.args.list.now
+    c.loop-input.input-index none c.loop-input-test.true c.loop-input.invariant)
+    c.in_err-take.field-0.0 c.in_err-take.ensures.told)

@@ -7,7 +7,8 @@ use Rattle.thorin_join.specs.Represents.{units_in}
 use Rattle.thorin_builder.specs.Taking.{Outcome}
 use Rattle.thorin.specs.declared.packing.Input.{Input}
 use Rattle.thorin_commands.specs.Packing.{IsPackedFrom, left}
-use Rattle.thorin_commands.proofs.packing.packed_over.Goals as goal
+use Rattle.thorin_commands.proofs.Causes.{err_by, finishing, refuses_by, taking}
+use Rattle.thorin_commands.proofs.making.packed_over.Goals as goal
 
 -- a package without the list of units that executables refer to has the same units
 units_left : (partial : Bool) (state : State) → units_in (left partial state) ≡ units_in state
@@ -21,9 +22,9 @@ made_by : {V E : Type 0} (A B C : File → Type 0) (r : Result (File × V) E)
 made_by A B C (Ok made) f a b = f made.0 a b
 made_by A B C (Err e) f a b = tt
 
-pub returns-in-Ok : goal.returns-in-Ok
-returns-in-Ok g c =
-    let filled = rw c.new-builder.ensures.state at c.in-Ok.ensures in
+pub returns-in-Ok-clause-packed : goal.returns-in-Ok-clause-packed
+returns-in-Ok-clause-packed g c =
+    let filled = rw c.new-builder.ensures.state at c.in-Ok.ensures.fills in
     let took = filled.took in
     let state = filled.state in
     let done = c.fill.new.builder.state in
@@ -51,3 +52,15 @@ returns-in-Ok g c =
       };
     })
     c.finished.ensures.finished c.finished.ensures.packaged
+
+pub returns-in-Ok-clause-told : goal.returns-in-Ok-clause-told
+returns-in-Ok-clause-told g c = err_by g.E.Write.contents c.finished.new.err
+    (finishing {declines = g.I.InputReader.declines c.args.inputs.now} c.args.telling.partial
+    c.args.list.now c.fill.new.builder.state
+    (rw c.new-builder.ensures.state at c.in-Ok.ensures.fills))
+    c.finished.result c.finished.ensures.told
+
+pub returns-in-Err-clause-told : goal.returns-in-Err-clause-told
+returns-in-Err-clause-told g c = refuses_by g.E.Write.contents c.fill.new.err
+    (taking c.args.telling.partial c.args.list.now) c.in-Err.refusal
+    (rw c.new-builder.ensures.state at c.in-Err.ensures.told)

@@ -1,0 +1,154 @@
+//! The object of a package, made of the inputs.
+
+ghost use Rattle.std.specs.Prelude.{◌≡◌, Ok, OnOk, IfOk, IfErr};
+ghost use Rattle.dwp_elf.specs.FileText.{file_text};
+ghost use Rattle.dwp_elf.specs.Numbers.{Fits};
+ghost use Rattle.dwp_elf_read.specs.declared.error.WriteError.TheVariants as writer;
+ghost use Rattle.thorin_errors.specs.declared.error.Error.TheVariants.{ObjectWrite};
+ghost use Rattle.thorin_join.specs.Builder.{IsFinishedState, finish_test};
+ghost use Rattle.thorin_join.specs.Join.{IsPackageOf, IsPackageOnceWritten};
+ghost use Rattle.thorin_join.specs.Meaning.{Members};
+ghost use Rattle.thorin_join.specs.Represents.{units_in};
+ghost use Rattle.thorin_commands.specs.Cause.{IsCauseOf, IsUnfinished, Refuses, StopsAt};
+ghost use Rattle.thorin_commands.specs.Cause.{Unfinished};
+ghost use Rattle.thorin_commands.specs.Opened.{Fills};
+ghost use Rattle.thorin_commands.specs.Packing.{IsPackedFrom};
+
+use crate::differences::tell_differing;
+use crate::missing::leave_out;
+use crate::reading::Inputs;
+use crate::refusal::Refusal;
+use crate::taking::take_all;
+use crate::telling::{Telling, tell_unfinished, warn_unsplit};
+use bumpalo::Bump;
+use dwp_bytes::RelocationEntry;
+use dwp_elf::WritableObject;
+use dwp_elf::laws::written_contents_are_read_back;
+use dwp_table::DebugTypeSignature;
+use std::alloc::Global;
+use std::io::Write;
+use thorin::laws::runs_go_on;
+use thorin::{BytesSession, DwarfPackage, Input};
+use thorin_errors::Error;
+use thorin_sessions::Session;
+
+/// The object to be written for these inputs, and those signatures.
+pub(crate) fn packed_inputs<I: Inputs, E: Write>(
+    inputs: &I,
+    list: &[Input<'_>],
+    telling: Telling,
+    err: &mut E,
+) -> Result<(WritableObject, Vec<DebugTypeSignature>), Refusal>
+    ensures packed { IfOk result (λ made. IsPackedFrom telling.partial (I.opens inputs.now)
+        (I.manner inputs.now) (I.offer inputs.now) list.now made.0) }
+    ensures told { IfErr result (Refuses E.contents err.new (IsCauseOf telling.partial
+        (I.opens inputs.now) (I.manner inputs.now) (I.offer inputs.now) (I.declines inputs.now)
+        list.now)) }
+{
+    let bump = Bump::new(telling.alloc);
+    let session = BytesSession::new(&bump);
+    packed_over(&session, inputs, list, telling, err)
+}
+
+/// The same, over a session that holds what is read.
+fn packed_over<'s, Sess: Session<RelocationEntry>, I: Inputs, E: Write>(
+    session: &'s Sess,
+    inputs: &I,
+    list: &[Input<'_>],
+    telling: Telling,
+    err: &mut E,
+) -> Result<(WritableObject, Vec<DebugTypeSignature>), Refusal>
+    ensures packed { IfOk result (λ made. IsPackedFrom telling.partial (I.opens inputs.now)
+        (I.manner inputs.now) (I.offer inputs.now) list.now made.0) }
+    ensures told { IfErr result (Refuses E.contents err.new (IsCauseOf telling.partial
+        (I.opens inputs.now) (I.manner inputs.now) (I.offer inputs.now) (I.declines inputs.now)
+        list.now)) }
+{
+    runs_go_on(inputs);
+    let mut builder = DwarfPackage::new(telling.alloc, session);
+    match fill(inputs, &mut builder, list, telling, err) {
+        Ok(()) => finished(telling.alloc, inputs, builder, err),
+        Err(refusal) => {
+            drop(builder);
+            Err(refusal)
+        }
+    }
+}
+
+/// Takes these inputs, warns of those without split units, and leaves out what isn't there, where
+/// that is asked for.
+fn fill<'o, 's: 'o, Sess: Session<RelocationEntry>, I: Inputs, E: Write>(
+    inputs: &I,
+    builder: &mut DwarfPackage<'o, 's, Sess>,
+    list: &[Input<'_>],
+    telling: Telling,
+    err: &mut E,
+) -> Result<(), Refusal>
+    ensures fills { OnOk result (Fills telling.partial (I.opens inputs.now) (I.manner inputs.now)
+        (I.offer inputs.now) list.now builder.old.state builder.new.state) }
+    ensures told { IfErr result (Refuses E.contents err.new (StopsAt (I.opens inputs.now)
+        (I.manner inputs.now) (I.offer inputs.now) (I.declines inputs.now) list.now
+        builder.old.state)) }
+{
+    let types_alone = take_all(inputs, builder, list, telling, err)?;
+    warn_unsplit(builder, list, types_alone.as_slice(), telling, err)?;
+    tell_differing(inputs, builder)?;
+    leave_out(inputs, builder, telling, err)?;
+    Ok(())
+}
+
+/// The object of the package, which can be written, and those signatures. Where it can't be
+/// finished, that is printed.
+fn finished<'o, 's: 'o, Sess: Session<RelocationEntry>, I: Inputs, E: Write>(
+    alloc: Global,
+    inputs: &I,
+    builder: DwarfPackage<'o, 's, Sess>,
+    err: &mut E,
+) -> Result<(WritableObject, Vec<DebugTypeSignature>), Refusal>
+    ensures finished { IfOk result (λ made. (finish_test builder.entry.state ≡ Ok tt)
+        × IsFinishedState builder.entry.state made.0) }
+    ensures packaged { IfOk result (λ made.
+        IsPackageOf (units_in builder.entry.state) (file_text made.0)) }
+    ensures told { IfErr result (Refuses E.contents err.new (IsUnfinished builder.entry.state)) }
+{
+    let (finished, differing) = builder.finish_with_differing();
+    match finished {
+        Ok(object) => match can_be_written(&object) {
+            Ok(()) => Ok((object, differing)),
+            Err(error) => Err(unfinished(alloc, inputs, &error, err)),
+        },
+        Err(error) => Err(unfinished(alloc, inputs, &error, err)),
+    }
+}
+
+/// What becomes of a package that can't be finished: it is told here, unless no input began it.
+fn unfinished<I: Inputs, E: Write>(alloc: Global, inputs: &I, error: &Error, err: &mut E) -> Refusal
+    ensures { Refuses E.contents err.new (λ cause. cause ≡ Unfinished error.now) result }
+{
+    if let Error::NoOutputObjectCreated = error {
+        return Refusal::Empty;
+    }
+    match tell_unfinished(alloc, inputs, error, err) {
+        Ok(()) => Refusal::Told,
+        Err(failure) => Refusal::Command(failure),
+    }
+}
+
+/// Tests the size of an object's file.
+///
+/// # Errors
+/// `ObjectWrite` where it has a number that is too large.
+#[tactic(auto, using(crate::proofs::Readable::readable))]
+fn can_be_written(object: &WritableObject) -> Result<(), Error>
+    ensures whole { OnOk result ((units : Members) → IsPackageOnceWritten units object.now
+        → IsPackageOf units (file_text object.now)) }
+    ensures refused { IfErr result (λ e. (e ≡ ObjectWrite writer.NumberTooLarge)
+        × ¬ Fits object.now) }
+{
+    written_contents_are_read_back();
+    // By the contracts of these two no two sections are of one kind, and the machine has 16 bits.
+    object.sections();
+    object.machine();
+    object.file_size()?;
+    Ok(())
+}
