@@ -1,1 +1,3 @@
 pub mod Getters
+pub mod Matched
+pub mod Rules

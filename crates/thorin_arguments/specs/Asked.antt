@@ -11,6 +11,7 @@ use Rattle.thorin_arguments.specs.declared.asking.PackArguments.{PackArguments}
 use Rattle.thorin_arguments.specs.declared.asking.FindArguments.{FindArguments}
 use Rattle.thorin_arguments.specs.declared.asking.ListArguments.{ListArguments}
 use Rattle.thorin_arguments.specs.declared.asking.CheckArguments.{CheckArguments}
+use Rattle.thorin_arguments.specs.Grammar.{AreMatchesOf, AreRefused}
 use Rattle.thorin_arguments.specs.Peers.{is_peer}
 
 -- what is called: a command with its inputs and settings; or a text is shown that the words ask
@@ -145,11 +146,28 @@ abbrev pub has_peer : List Text → Bool
 has_peer [] = false
 has_peer (program ∷ line) = is_peer program
 
--- a call that the matches of a line ask for, of a peer's or of one of `thorin`
-abbrev pub IsAsked : (of_peer : Bool) → Call → Type 0
-IsAsked of_peer call =
-    (rows : List Row) × (command : Option (Text × List Row)) × Asks of_peer rows command call
+-- a call that words ask for: by their matches, as the grammar has them; a peer's by some matches
+abbrev pub IsAsked : (of_peer : Bool) → List Text → Call → Type 0
+IsAsked true words call = (rows : List Row) × AsksPeer rows call
+IsAsked false words call = (rows : List Row) × (command : Option (Text × List Row))
+    × AreMatchesOf words rows command × AsksIn command call
 
--- what is done with a line: what its matches ask for, or it is told why that isn't done
-abbrev pub IsCallOf : (of_peer : Bool) → Call → Type 0
-IsCallOf of_peer call = IsTold call ⊎ IsAsked of_peer call
+-- words that may be refused
+abbrev pub MayBeRefused : (of_peer : Bool) → List Text → Type 0
+MayBeRefused true words = ⊤
+MayBeRefused false words = AreRefused words
+
+-- no command is called, and it is told why
+abbrev pub IsToldOf : (of_peer : Bool) → List Text → Call → Type 0
+IsToldOf of_peer words Shows = MayBeRefused of_peer words
+IsToldOf of_peer words Refuses = MayBeRefused of_peer words
+IsToldOf of_peer words LacksMemory = ⊤
+IsToldOf of_peer words _ = ⊥
+
+-- what is done with a line of a peer's, or of one of `thorin`
+abbrev pub IsCallBy : (of_peer : Bool) → List Text → Call → Type 0
+IsCallBy of_peer words call = IsToldOf of_peer words call ⊎ IsAsked of_peer words call
+
+-- the same, by the program's name
+abbrev pub IsCallOf : List Text → Call → Type 0
+IsCallOf words call = IsCallBy (has_peer words) words call

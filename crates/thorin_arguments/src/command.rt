@@ -1,6 +1,9 @@
 //! The command lines.
 
-ghost use Rattle.std.specs.Prelude.{◌≡◌, IfOk, string_bytes};
+ghost use Rattle.std.specs.Prelude.{◌≡◌, IfOk, codes, map, string_bytes};
+ghost use Rattle.clap.specs.Words.{app_of, new_app, rule_of};
+ghost use Rattle.thorin_arguments.specs.Grammar as grammar;
+ghost use Rattle.thorin_arguments.specs.Rules.{made, rule_in, shape_in};
 ghost use Rattle.thorin_arguments.specs.Versions.{version_with};
 
 use crate::texts::{
@@ -33,9 +36,6 @@ enum Word {
     Values(&'static str, &'static str, &'static str),
     /// An option with one of some values: its name, how help shows the value, its help, the values.
     Choice(&'static str, &'static str, &'static str, &'static [&'static str]),
-    /// An option that may have one of some values, behind `=`, and that help leaves out: its name,
-    /// how the value is shown, what it does, the values.
-    MayChoose(&'static str, &'static str, &'static str, &'static [&'static str]),
     /// `INPUT`, as often as one likes.
     Inputs,
     /// One that must be there at its place: its name, how help shows it, its help.
@@ -228,15 +228,6 @@ const PEER: [Word; 17] = [
     Word::Inputs,
 ];
 
-/// What LLVM's alone takes: past 2^32 bytes it would write a package that can't be read, or leave
-/// inputs out, where this program refuses.
-const LLVM: Word = Word::MayChoose(
-    "continue-on-cu-index-overflow",
-    "HOW",
-    "No effect: a package that is too large is refused",
-    &["continue", "soft-stop"],
-);
-
 /// What `--version` prints behind the program's name: the version, and the commit where one is
 /// named.
 pub(crate) fn version_of(alloc: Global, commit: &str) -> Result<String, AllocError> {
@@ -258,11 +249,10 @@ fn version_with(alloc: Global, version: &str, commit: &str) -> Result<String, Al
 }
 
 /// The program's command line: `pack`, `find`, `list` and `check`.
-pub(crate) fn command<'a>(alloc: Global, version: &'a str) -> Result<Command<'a>, AllocError> {
-    let mut commands = Vec::new(alloc);
-    for line in &COMMANDS {
-        commands.push(command_of(alloc, line)?)?;
-    }
+pub(crate) fn command<'a>(alloc: Global, version: &'a str) -> Result<Command<'a>, AllocError>
+    ensures { IfOk result (λ c. grammar.IsThorin (app_of c)) }
+{
+    let commands = commands_of(alloc, &COMMANDS)?;
     titled(
         alloc,
         "thorin",
@@ -294,7 +284,7 @@ pub(crate) fn peer<'a>(
 ) -> Result<Command<'a>, AllocError> {
     let mut args = args_of(alloc, &PEER)?;
     if is_of_llvm(name) {
-        args.push(arg_of(alloc, LLVM)?)?;
+        args.push(overflow(alloc))?;
     }
     titled(
         alloc,
@@ -315,18 +305,35 @@ pub(crate) fn is_of_llvm(name: &str) -> bool {
 }
 
 /// A command with its texts: what it does, and what stands below its options.
-fn titled<'a>(alloc: Global, name: &'a str, about: &'a str, below: &'a str) -> Command<'a> {
+fn titled<'a>(alloc: Global, name: &'a str, about: &'a str, below: &'a str) -> Command<'a>
+    ensures { app_of result ≡ new_app name.entry.now }
+{
     Command::new(alloc, name).about(about).after_help(below)
 }
 
+/// Commands by their lines.
+fn commands_of<'a>(alloc: Global, lines: &[Line]) -> Result<Vec<Command<'a>>, AllocError>
+    ensures { IfOk result (λ commands. map made commands.items ≡ map shape_in lines.now) }
+{
+    let mut commands = Vec::new(alloc);
+    for line in lines {
+        commands.push(command_of(alloc, line)?)?;
+    }
+    Ok(commands)
+}
+
 /// A command by its line.
-fn command_of<'a>(alloc: Global, line: &Line) -> Result<Command<'a>, AllocError> {
+fn command_of<'a>(alloc: Global, line: &Line) -> Result<Command<'a>, AllocError>
+    ensures { IfOk result (λ c. made c ≡ shape_in line.now) }
+{
     let args = args_of(alloc, line.words)?;
     titled(alloc, line.name, line.about, line.below).args(args)
 }
 
 /// Words in clap's terms.
-fn args_of<'a>(alloc: Global, words: &[Word]) -> Result<Vec<Arg<'a>>, AllocError> {
+fn args_of<'a>(alloc: Global, words: &[Word]) -> Result<Vec<Arg<'a>>, AllocError>
+    ensures { IfOk result (λ args. map rule_of args.items ≡ map rule_in words.now) }
+{
     let mut args = Vec::new(alloc);
     for word in words {
         args.push(arg_of(alloc, *word)?)?;
@@ -335,7 +342,9 @@ fn args_of<'a>(alloc: Global, words: &[Word]) -> Result<Vec<Arg<'a>>, AllocError
 }
 
 /// A word in clap's terms.
-fn arg_of<'a>(alloc: Global, word: Word) -> Result<Arg<'a>, AllocError> {
+fn arg_of<'a>(alloc: Global, word: Word) -> Result<Arg<'a>, AllocError>
+    ensures { IfOk result (λ arg. rule_of arg ≡ rule_in word) }
+{
     let arg = match word {
         Word::Output(others) => return output(alloc).required_unless_present_any(others),
         Word::Executables(help) => executables(alloc, help),
@@ -350,21 +359,15 @@ fn arg_of<'a>(alloc: Global, word: Word) -> Result<Arg<'a>, AllocError> {
         }
         Word::Values(name, value, help) => values(alloc, name, value, help),
         Word::Choice(name, value, help, values) => choice(alloc, name, value, help, values),
-        Word::MayChoose(name, value, help, values) => {
-            let first = values.first().unwrap_or(&"");
-            choice(alloc, name, value, help, values)
-                .num_args(0..=1)
-                .require_equals(true)
-                .default_missing_value(*first)
-                .hide(true)
-        }
         Word::Inputs => inputs(alloc),
         Word::Place(name, value, help) => place(alloc, name, value, help),
     };
     Ok(arg)
 }
 
-fn output<'a>(alloc: Global) -> Arg<'a> {
+fn output<'a>(alloc: Global) -> Arg<'a>
+    ensures { rule_of result ≡ grammar.also 111 (grammar.valued (codes "output")) }
+{
     option(
         alloc,
         "output",
@@ -375,11 +378,15 @@ fn output<'a>(alloc: Global) -> Arg<'a> {
     .action(ArgAction::Set)
 }
 
-fn executables<'a>(alloc: Global, help: &'a str) -> Arg<'a> {
+fn executables<'a>(alloc: Global, help: &'a str) -> Arg<'a>
+    ensures { rule_of result ≡ grammar.exec }
+{
     option(alloc, "exec", 'e', "EXEC", help).action(ArgAction::Append)
 }
 
-fn inputs<'a>(alloc: Global) -> Arg<'a> {
+fn inputs<'a>(alloc: Global) -> Arg<'a>
+    ensures { rule_of result ≡ grammar.places (codes "input") }
+{
     Arg::new(alloc, "input")
         .value_name("INPUT")
         .help("Objects to pack, in order")
@@ -388,7 +395,10 @@ fn inputs<'a>(alloc: Global) -> Arg<'a> {
 }
 
 /// An option with a value, under a long name and a short one.
-fn option<'a>(alloc: Global, name: &'a str, short: char, value: &'a str, help: &'a str) -> Arg<'a> {
+fn option<'a>(alloc: Global, name: &'a str, short: char, value: &'a str, help: &'a str) -> Arg<'a>
+    ensures { rule_of result
+        ≡ record (grammar.also short (grammar.valued name.entry.now)) { action = None } }
+{
     Arg::new(alloc, name)
         .short(short)
         .long(name)
@@ -397,7 +407,9 @@ fn option<'a>(alloc: Global, name: &'a str, short: char, value: &'a str, help: &
 }
 
 /// An option with any value.
-fn value_of<'a>(alloc: Global, name: &'a str, value: &'a str, help: &'a str) -> Arg<'a> {
+fn value_of<'a>(alloc: Global, name: &'a str, value: &'a str, help: &'a str) -> Arg<'a>
+    ensures { rule_of result ≡ grammar.valued name.entry.now }
+{
     Arg::new(alloc, name)
         .long(name)
         .value_name(value)
@@ -406,7 +418,9 @@ fn value_of<'a>(alloc: Global, name: &'a str, value: &'a str, help: &'a str) -> 
 }
 
 /// An option with a value, as often as one likes.
-fn values<'a>(alloc: Global, name: &'a str, value: &'a str, help: &'a str) -> Arg<'a> {
+fn values<'a>(alloc: Global, name: &'a str, value: &'a str, help: &'a str) -> Arg<'a>
+    ensures { rule_of result ≡ grammar.repeated name.entry.now }
+{
     Arg::new(alloc, name)
         .long(name)
         .value_name(value)
@@ -421,7 +435,9 @@ fn choice<'a>(
     value: &'a str,
     help: &'a str,
     values: &'a [&'a str],
-) -> Arg<'a> {
+) -> Arg<'a>
+    ensures { rule_of result ≡ grammar.chosen name.entry.now values.entry }
+{
     Arg::new(alloc, name)
         .long(name)
         .value_name(value)
@@ -431,8 +447,26 @@ fn choice<'a>(
         .action(ArgAction::Set)
 }
 
+/// What LLVM's alone takes: past 2^32 bytes it would write a package that can't be read, or leave
+/// inputs out, where this program refuses. It may have a value behind `=`, and help leaves it out.
+fn overflow<'a>(alloc: Global) -> Arg<'a> {
+    choice(
+        alloc,
+        "continue-on-cu-index-overflow",
+        "HOW",
+        "No effect: a package that is too large is refused",
+        &["continue", "soft-stop"],
+    )
+    .num_args(0..=1)
+    .require_equals(true)
+    .default_missing_value("continue")
+    .hide(true)
+}
+
 /// An option without a value.
-fn flag<'a>(alloc: Global, name: &'a str, help: &'a str) -> Arg<'a> {
+fn flag<'a>(alloc: Global, name: &'a str, help: &'a str) -> Arg<'a>
+    ensures { rule_of result ≡ grammar.flag name.entry.now }
+{
     Arg::new(alloc, name)
         .long(name)
         .help(help)
@@ -440,7 +474,9 @@ fn flag<'a>(alloc: Global, name: &'a str, help: &'a str) -> Arg<'a> {
 }
 
 /// A word that a command line must have at its place.
-fn place<'a>(alloc: Global, name: &'a str, value: &'a str, help: &'a str) -> Arg<'a> {
+fn place<'a>(alloc: Global, name: &'a str, value: &'a str, help: &'a str) -> Arg<'a>
+    ensures { rule_of result ≡ grammar.place name.entry.now }
+{
     Arg::new(alloc, name)
         .value_name(value)
         .help(help)

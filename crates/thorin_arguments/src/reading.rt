@@ -1,7 +1,11 @@
 //! What a command line asks for.
 
-ghost use Rattle.std.specs.Prelude.{◌≡◌, is_some};
-ghost use Rattle.thorin_arguments.specs.Asked.{Does, IsCallOf, IsTold, has_peer, words_in};
+ghost use Rattle.std.specs.Prelude.{◌≡◌, ◌⊎◌, IfErr, IfOk, IfSome, false, is_some};
+ghost use Rattle.clap.specs.Words.{app_of, found_of, kind_of, rows_of, subcommand_rows_of};
+ghost use Rattle.clap.specs.declared.error.kind.ErrorKind.TheVariants.{OutOfMemory};
+ghost use Rattle.thorin_arguments.specs.Asked.{Does, IsCallBy, IsCallOf, IsTold, has_peer};
+ghost use Rattle.thorin_arguments.specs.Asked.{words_in};
+ghost use Rattle.thorin_arguments.specs.Grammar.{AreMatchesOf, AreRefused, IsPack, IsThorin};
 
 use crate::asking::Commands;
 use crate::command;
@@ -24,8 +28,7 @@ const PACK_TIP: &'static str = "\n\n  tip: packing is a command: 'thorin pack -o
 /// with a target or a version in them too, it takes the command lines of those programs. `commit`
 /// is the one that the program was built from, where that is known, for `--version`.
 pub fn run<C: Commands>(alloc: Global, words: &[String], commit: &str, commands: &mut C) -> u8
-    ensures called { Does C.does (IsCallOf (has_peer (words_in words.now)))
-        commands.old result commands.new }
+    ensures called { Does C.does (IsCallOf (words_in words.now)) commands.old result commands.new }
 {
     match command::version_of(alloc, commit) {
         Ok(version) => run_version(alloc, words, version.as_str(), commands),
@@ -35,8 +38,7 @@ pub fn run<C: Commands>(alloc: Global, words: &[String], commit: &str, commands:
 
 /// The same of a program of this version.
 fn run_version<C: Commands>(alloc: Global, words: &[String], version: &str, commands: &mut C) -> u8
-    ensures { Does C.does (IsCallOf (has_peer (words_in words.now)))
-        commands.old result commands.new }
+    ensures { Does C.does (IsCallOf (words_in words.now)) commands.old result commands.new }
 {
     let peer = peer_name(words);
     match peer {
@@ -76,7 +78,7 @@ fn run_as<C: Commands>(
     words: &[String],
     commands: &mut C,
 ) -> u8
-    ensures { Does C.does (IsCallOf (is_some peer.entry)) commands.old result
+    ensures { Does C.does (IsCallBy (is_some peer.entry) (words_in words.now)) commands.old result
         commands.new }
 {
     match read(alloc, peer, version, words) {
@@ -174,7 +176,12 @@ fn read<'a>(
     peer: Option<&'a str>,
     version: &'a str,
     words: &'a [String],
-) -> Result<ArgMatches<'a>, Error> {
+) -> Result<ArgMatches<'a>, Error>
+    ensures matches { is_some peer.entry ≡ false → IfOk result (λ m.
+        AreMatchesOf (words_in words.now) (rows_of (found_of m)) (subcommand_rows_of m)) }
+    ensures refused { is_some peer.entry ≡ false → IfErr result (λ e.
+        (kind_of e ≡ OutOfMemory) ⊎ AreRefused (words_in words.now)) }
+{
     let mut command = command_line(alloc, peer, version)?;
     read_by(alloc, &mut command, peer.is_some(), words)
 }
@@ -185,8 +192,29 @@ fn read_by<'a>(
     command: &mut Command<'a>,
     is_peer: bool,
     words: &'a [String],
-) -> Result<ArgMatches<'a>, Error> {
-    let matches = command.try_get_matches_from_mut(words)?;
+) -> Result<ArgMatches<'a>, Error>
+    ensures matches { IsThorin (app_of command.old) → IfOk result (λ m.
+        AreMatchesOf (words_in words.now) (rows_of (found_of m)) (subcommand_rows_of m)) }
+    ensures refused { IsThorin (app_of command.old) → is_peer ≡ false → IfErr result (λ e.
+        (kind_of e ≡ OutOfMemory) ⊎ AreRefused (words_in words.now)) }
+{
+    match command.try_get_matches_from_mut(words) {
+        Ok(matches) => tested(alloc, command, is_peer, matches),
+        Err(error) => Err(error),
+    }
+}
+
+/// The matches, unless something is wrong with them beside what clap tests.
+fn tested<'a>(
+    alloc: Global,
+    command: &mut Command<'a>,
+    is_peer: bool,
+    matches: ArgMatches<'a>,
+) -> Result<ArgMatches<'a>, Error>
+    ensures matches { IfOk result (λ m. m ≡ matches.entry) }
+    ensures refused { is_peer ≡ false → IfErr result (λ e.
+        (kind_of e ≡ OutOfMemory) ⊎ IsPack (subcommand_rows_of matches.entry)) }
+{
     match error_of(&matches, is_peer) {
         Some((kind, text)) if is_peer => Err(command.error(kind, text)?),
         Some((kind, text)) => Err(pack_error(alloc, kind, text)?),
@@ -201,7 +229,9 @@ fn pack_error(alloc: Global, kind: ErrorKind, text: &str) -> Result<Error, Alloc
 }
 
 /// What is wrong with the words beside what clap tests, if anything is.
-fn error_of(matches: &ArgMatches<'_>, is_peer: bool) -> Option<(ErrorKind, &'static str)> {
+fn error_of(matches: &ArgMatches<'_>, is_peer: bool) -> Option<(ErrorKind, &'static str)>
+    ensures { is_peer ≡ false → IfSome result (λ _. IsPack (subcommand_rows_of matches.now)) }
+{
     if let Some(text) = error_of_pack(packed_in(matches, is_peer)?) {
         Some((ErrorKind::ValueValidation, text))
     } else if is_peer && lacks_output(matches) {
@@ -212,7 +242,9 @@ fn error_of(matches: &ArgMatches<'_>, is_peer: bool) -> Option<(ErrorKind, &'sta
 }
 
 /// The words that ask for packing: a peer's, or those of the command `pack`.
-fn packed_in<'m, 'a>(matches: &'m ArgMatches<'a>, is_peer: bool) -> Option<&'m ArgMatches<'a>> {
+fn packed_in<'m, 'a>(matches: &'m ArgMatches<'a>, is_peer: bool) -> Option<&'m ArgMatches<'a>>
+    ensures { is_peer ≡ false → IfSome result (λ _. IsPack (subcommand_rows_of matches.now)) }
+{
     if is_peer {
         return Some(matches);
     }
@@ -244,7 +276,9 @@ fn command_line<'a>(
     alloc: Global,
     peer: Option<&'a str>,
     version: &'a str,
-) -> Result<Command<'a>, AllocError> {
+) -> Result<Command<'a>, AllocError>
+    ensures { is_some peer.entry ≡ false → IfOk result (λ c. IsThorin (app_of c)) }
+{
     match peer {
         Some(name) => command::peer(alloc, name, version),
         None => command::command(alloc, version),
