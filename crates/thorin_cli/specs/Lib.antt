@@ -1,1 +1,3 @@
-pub mod Manner
+pub mod Doing
+pub mod Programs
+pub mod Settings

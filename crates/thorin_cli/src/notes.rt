@@ -1,11 +1,12 @@
 //! The `note:` lines of the program: which file the failure of a command is about, and why a file
 //! can't be read or written.
 
+use crate::system::NotedReader;
 use dwp_table::CONTRIBUTION_KINDS;
 use std::alloc::{AllocError, Global};
 use std::io::{self, Write};
 use thorin_commands::{Packing, reason};
-use thorin_find::{HostReader, Unread};
+use thorin_find::Unread;
 use thorin_inputs::Compression;
 use thorin_print::Failure;
 use thorin_reading::PlainReader;
@@ -47,9 +48,9 @@ pub(crate) struct Read {
 
 impl Read {
     /// What these readers know.
-    pub(crate) fn by(host: &HostReader<'_>, files: &PlainReader<'_, HostReader<'_>>) -> Read {
+    pub(crate) fn by<R: NotedReader>(reader: &R, files: &PlainReader<'_, R>) -> Read {
         Read {
-            unread: host.unread(),
+            unread: reader.unread(),
             compression: files.compression(),
         }
     }

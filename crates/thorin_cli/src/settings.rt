@@ -1,17 +1,25 @@
-//! The settings of a command, in the packer's terms, by the words of its command line and the
-//! manner of the program.
+//! The settings of a command, in the terms of the crate that does it, by the words of its command
+//! line and the manner of the program.
+
+ghost use Rattle.std.specs.Prelude.{◌≡◌};
+ghost use Rattle.thorin_cli.specs.Settings as spec;
+ghost use Rattle.thorin_cli.specs.Settings.{form_of, nameless_units};
+ghost use Rattle.thorin_find.specs.Finding.{words_of};
 
 use crate::manner::Manner;
-use thorin_arguments::PackArguments;
+use thorin_arguments::{FindArguments, ListArguments, PackArguments};
 use thorin_commands::{KeptMacros, NamelessUnits, Packing, Warnings};
 use thorin_errors::MissingReferencedObjectBehaviour;
+use thorin_find::{FindForm, FindWords, ListForm};
 use thorin_print::Form;
 
 /// What is to be packed, in the packer's terms.
 pub(crate) fn packing_of<'m, 'a>(
     arguments: PackArguments<'m, 'a>,
     manner: Manner,
-) -> Packing<'m, 'a> {
+) -> Packing<'m, 'a>
+    ensures { result ≡ spec.packing_for manner arguments.entry }
+{
     let missing = if arguments.skips_missing || arguments.partial {
         MissingReferencedObjectBehaviour::Skip
     } else {
@@ -24,36 +32,50 @@ pub(crate) fn packing_of<'m, 'a>(
         inputs: arguments.inputs,
         executables: arguments.executables,
         missing,
-        nameless: nameless_units(arguments.skips_nameless || manner.skips_nameless),
+        nameless: nameless_units(arguments.skips_nameless || manner.of_peer),
         force: arguments.force,
         decompresses: arguments.decompresses,
         prefix_maps: arguments.prefix_maps,
         partial: arguments.partial,
-        opens_archives: arguments.opens_archives || manner.opens_archives,
+        opens_archives: arguments.opens_archives || manner.of_peer,
         verbose: arguments.verbose,
         warnings,
         allows_overlap: arguments.allows_overlap,
         macros,
-        warns_of_macros: macros == KeptMacros::All
-            && !matches!(warnings, Warnings::Never)
-            && (arguments.verbose || manner.on_terminal),
-        lets_empty: manner.lets_empty,
+        warns_of_macros: warns(macros, warnings) && (arguments.verbose || manner.on_terminal),
+        lets_empty: manner.of_peer,
     }
 }
 
-/// Which macros count: those that the words keep, or the manner of a peer.
-fn macros_of(arguments: PackArguments<'_, '_>, manner: Manner) -> KeptMacros {
+/// Which macros count: those that the words keep, or the last where the program is a peer.
+fn macros_of(arguments: PackArguments<'_, '_>, manner: Manner) -> KeptMacros
+    ensures { result ≡ spec.macros_for manner arguments.entry }
+{
     if arguments.drops_macros {
         KeptMacros::None
-    } else if arguments.keeps_last_macros || manner.keeps_last_macros {
+    } else if arguments.keeps_last_macros || manner.of_peer {
         KeptMacros::Last
     } else {
         KeptMacros::All
     }
 }
 
+/// Whether an object is warned of that has several sections of macros: all count, and warnings are
+/// printed.
+fn warns(macros: KeptMacros, warnings: Warnings) -> bool
+    ensures { result ≡ spec.warns macros warnings }
+{
+    match (macros, warnings) {
+        (_, Warnings::Never) => false,
+        (KeptMacros::All, _) => true,
+        _ => false,
+    }
+}
+
 /// What becomes of units that name no object.
-pub(crate) fn nameless_units(are_skipped: bool) -> NamelessUnits {
+pub(crate) fn nameless_units(are_skipped: bool) -> NamelessUnits
+    ensures { result ≡ nameless_units are_skipped }
+{
     if are_skipped {
         NamelessUnits::PassedOver
     } else {
@@ -62,20 +84,61 @@ pub(crate) fn nameless_units(are_skipped: bool) -> NamelessUnits {
 }
 
 /// In which form a command prints.
-pub(crate) fn form_of(as_json: bool) -> Form {
+pub(crate) fn form_of(as_json: bool) -> Form
+    ensures { result ≡ form_of as_json }
+{
     if as_json { Form::Json } else { Form::Lines }
 }
 
-/// The warnings that a word asks for, where there is one. Who asks for more than the errors has
-/// each, also on a terminal.
-fn warnings_of(arguments: PackArguments<'_, '_>, manner: Manner) -> Warnings {
-    let default = match manner.warnings {
-        Warnings::Once if arguments.verbose => Warnings::Each,
-        warnings => warnings,
-    };
+/// The warnings that a word asks for, where there is one.
+fn warnings_of(arguments: PackArguments<'_, '_>, manner: Manner) -> Warnings
+    ensures { result ≡ spec.warnings_for manner arguments.entry }
+{
+    let usual = usual_warnings(manner, arguments.verbose);
     match arguments.warnings {
-        Some(word) => Warnings::of(word).unwrap_or(default),
-        None => default,
+        Some(word) => Warnings::of(word).unwrap_or(usual),
+        None => usual,
+    }
+}
+
+/// The warnings where no word asks for any. Who asks for more than the errors has each, also on a
+/// terminal.
+fn usual_warnings(manner: Manner, verbose: bool) -> Warnings
+    ensures { result ≡ spec.usual_warnings manner verbose }
+{
+    if manner.of_peer {
+        Warnings::Never
+    } else if manner.on_terminal && !verbose {
+        Warnings::Once
+    } else {
+        Warnings::Each
+    }
+}
+
+/// The words that ask for a unit, and what is wanted of it.
+pub(crate) fn find_words<'a>(arguments: FindArguments<'a>) -> FindWords<'a>
+    ensures { words_of result ≡ spec.words_for arguments.entry }
+{
+    FindWords {
+        kind: arguments.kind,
+        id: arguments.id,
+        form: FindForm {
+            string: arguments.string,
+            section: arguments.section,
+            form: form_of(arguments.json),
+        },
+    }
+}
+
+/// What a list is to have.
+pub(crate) fn list_form(arguments: ListArguments) -> ListForm
+    ensures { result ≡ spec.list_form arguments }
+{
+    ListForm {
+        sizes: arguments.sizes,
+        names: arguments.names,
+        columns: arguments.columns,
+        form: form_of(arguments.json),
     }
 }
 

@@ -45,28 +45,33 @@ pub struct NamedFile {
 /// sought in the working folder by the ends of the path, the longest first: so an object that was
 /// moved with its folders is found by the name that the compiler was given for it.
 #[derive(Drop)]
-pub struct HostInputs<'r> {
+pub(crate) struct HostInputs<'r> {
     rt: &'r HostRuntime,
     files: HostFiles<'r>,
-    seeks: bool,
+    seeks: Cell<bool>,
     /// The last file that the command line names and that was read.
     named: Cell<Option<NamedFile>>,
 }
 
 impl<'r> HostInputs<'r> {
     /// The files of the runtime.
-    pub fn new(rt: &'r HostRuntime, seeks: bool) -> HostInputs<'r> {
+    pub(crate) fn new(rt: &'r HostRuntime) -> HostInputs<'r> {
         HostInputs {
             rt,
             files: HostFiles::new(rt),
-            seeks,
+            seeks: Cell::new(false),
             named: Cell::new(None),
         }
     }
 
+    /// Seeks files that aren't at their paths, or doesn't.
+    pub(crate) fn seek(&self, seeks: bool) {
+        self.seeks.set(seeks);
+    }
+
     /// The last file that the command line names and that was read, as far as there was memory to
     /// keep it. Asked for once.
-    pub fn last_named(&self) -> Option<NamedFile> {
+    pub(crate) fn last_named(&self) -> Option<NamedFile> {
         self.named.replace(None)
     }
 
@@ -145,7 +150,7 @@ impl FileSystem for HostInputs<'_> {
 
     fn read_regular_over(&self, path: Path<'_>, room: &mut Vec<u8>) -> Result<(), InputError> {
         let answer = self.files.read_regular_over(path, room);
-        if !self.seeks || !is_not_found(&answer) {
+        if !self.seeks.get() || !is_not_found(&answer) {
             return answer;
         }
         match self.end_of(path.path_text()) {
@@ -156,7 +161,7 @@ impl FileSystem for HostInputs<'_> {
 
     fn try_regular(&self, path: Path<'_>) -> Result<(), InputError> {
         let answer = self.files.try_regular(path);
-        if !self.seeks || !is_not_found(&answer) {
+        if !self.seeks.get() || !is_not_found(&answer) {
             return answer;
         }
         match self.end_of(path.path_text()) {
@@ -171,7 +176,7 @@ impl FileSystem for HostInputs<'_> {
 
     fn object_identity(&self, name: &str) -> Option<(u64, u64)> {
         match self.files.identity(name) {
-            None if self.seeks => self.files.identity(self.end_of(name)?),
+            None if self.seeks.get() => self.files.identity(self.end_of(name)?),
             identity => identity,
         }
     }

@@ -7,7 +7,7 @@ mod pipes;
 mod progress;
 mod responses;
 
-pub use inputs::{HostInputs, NamedFile, Peculiarity};
+pub use inputs::{NamedFile, Peculiarity};
 pub use pipes::Watched;
-pub use progress::{Console, CountedFiles, Lines};
-pub use responses::HostResponses;
+pub use progress::{Console, CountedFiles, Lines, NotedFiles, Telling};
+pub use responses::{HostResponses, NotedResponses};

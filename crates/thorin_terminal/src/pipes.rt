@@ -1,17 +1,22 @@
 //! Standard output, of which is kept why it took nothing.
 
+ghost use Rattle.std.specs.Prelude.{◌≡◌};
+
 use std::io::{self, Write};
 
 /// A writer, and why a write failed.
 #[derive(Drop)]
-pub struct Watched<'o, O> {
-    out: &'o mut O,
+pub struct Watched<O> {
+    /// The writer.
+    pub out: O,
     failure: Option<io::Error>,
 }
 
-impl<'o, O: Write> Watched<'o, O> {
+impl<O: Write> Watched<O> {
     /// A writer that took nothing yet.
-    pub fn new(out: &'o mut O) -> Watched<'o, O> {
+    pub fn new(out: O) -> Watched<O>
+        ensures { result.out ≡ out }
+    {
         Watched { out, failure: None }
     }
 
@@ -21,7 +26,9 @@ impl<'o, O: Write> Watched<'o, O> {
     }
 }
 
-impl<O: Write> Write for Watched<'_, O> {
+impl<O: Write> Write for Watched<O> {
+    ghost contents = { λ watched. O.contents watched.out };
+
     fn write(&mut self, bytes: &[u8]) -> io::Result<usize> {
         match self.out.write(bytes) {
             Ok(taken) => Ok(taken),

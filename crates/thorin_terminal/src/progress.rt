@@ -19,12 +19,12 @@ pub struct Console<'r, 'e, E> {
     rt: &'r HostRuntime,
     err: Cell<Option<&'e mut E>>,
     /// When packing began; none where that isn't told.
-    start: Option<Instant>,
+    start: Cell<Option<Instant>>,
     /// How many milliseconds must pass from one line to the next, and before the first.
-    pause: u64,
+    pause: Cell<u64>,
     next: Cell<u64>,
     /// How many files are to be read, where that is known.
-    all: Option<u64>,
+    all: Cell<Option<u64>>,
     /// How many files were read, and their bytes.
     files: Cell<u64>,
     bytes: Cell<u64>,
@@ -32,28 +32,28 @@ pub struct Console<'r, 'e, E> {
 }
 
 impl<'r, 'e, E: Write> Console<'r, 'e, E> {
-    /// That of a packing that begins now. How far it is is told after some milliseconds, if at all.
-    pub fn new(
-        rt: &'r HostRuntime,
-        err: &'e mut E,
-        patience: Option<u64>,
-        all: Option<u64>,
-    ) -> Console<'r, 'e, E> {
-        let start = match patience {
-            Some(_) => Instant::now(rt).ok(),
-            None => None,
-        };
-        let patience = patience.unwrap_or(0);
+    /// One that tells nothing yet.
+    pub fn new(rt: &'r HostRuntime, err: &'e mut E) -> Console<'r, 'e, E> {
         Console {
             rt,
             err: Cell::new(Some(err)),
-            start,
-            pause: patience / 10,
-            next: Cell::new(patience),
-            all,
+            start: Cell::new(None),
+            pause: Cell::new(0),
+            next: Cell::new(0),
+            all: Cell::new(None),
             files: Cell::new(0),
             bytes: Cell::new(0),
             is_shown: Cell::new(false),
+        }
+    }
+
+    /// Tells from now on how far packing is, after some milliseconds, if at all.
+    fn begin(&self, patience: Option<u64>, all: Option<u64>) {
+        if let Some(patience) = patience {
+            self.start.set(Instant::now(self.rt).ok());
+            self.pause.set(patience / 10);
+            self.next.set(patience);
+            self.all.set(all);
         }
     }
 
@@ -61,7 +61,7 @@ impl<'r, 'e, E: Write> Console<'r, 'e, E> {
     fn count(&self, size: usize) {
         self.files.set(self.files.get().saturating_add(1));
         self.bytes.set(self.bytes.get().saturating_add(size as u64));
-        let Some(start) = &self.start else {
+        let Some(start) = self.start.get() else {
             return;
         };
         let Ok(passed) = start.elapsed(self.rt) else {
@@ -69,7 +69,7 @@ impl<'r, 'e, E: Write> Console<'r, 'e, E> {
         };
         let passed = u64::try_from(passed.as_millis()).unwrap_or(u64::MAX);
         if passed >= self.next.get() {
-            self.next.set(passed.saturating_add(self.pause));
+            self.next.set(passed.saturating_add(self.pause.get()));
             self.show();
         }
     }
@@ -79,7 +79,7 @@ impl<'r, 'e, E: Write> Console<'r, 'e, E> {
         let files = self.files.get();
         let megabytes = self.bytes.get() / 1_000_000;
         if let Some(err) = self.err.replace(None) {
-            let shown = match self.all {
+            let shown = match self.all.get() {
                 Some(all) => write!(err, "\rpacking {files} of {all}, {megabytes} MB\x1b[K"),
                 None => write!(err, "\rpacking {files}, {megabytes} MB\x1b[K"),
             };
@@ -89,7 +89,7 @@ impl<'r, 'e, E: Write> Console<'r, 'e, E> {
     }
 
     /// Takes the line away, where there is one.
-    pub fn clear(&self) {
+    fn clear(&self) {
         if self.is_shown.replace(false) {
             if let Some(err) = self.err.replace(None) {
                 let _ = write!(err, "\r\x1b[K");
@@ -128,32 +128,57 @@ impl<E: Write> Write for Lines<'_, '_, '_, E> {
     }
 }
 
+/// What is told while packing.
+#[derive(Clone, Copy)]
+pub struct Telling {
+    /// After how many milliseconds it is told how far packing is, if at all.
+    pub patience: Option<u64>,
+    /// How many files are to be read, where that is known.
+    pub all: Option<u64>,
+    /// Whether a line tells of each object that a file names.
+    pub names_objects: bool,
+}
+
+/// Files that are packed, of which is known what notes say.
+pub trait NotedFiles: FileSystem {
+    /// Seeks regular files that aren't at their paths elsewhere, or doesn't.
+    fn seek(&self, seeks: bool);
+
+    /// Tells what is told while packing, up to `end`.
+    fn begin(&self, telling: Telling);
+
+    /// Nothing is told any more.
+    fn end(&self);
+
+    /// The last file that the command line names and that was read, as far as there was memory to
+    /// keep it. Asked for once.
+    fn last_named(&self) -> Option<NamedFile>;
+
+    /// Why the package's file couldn't be written, if it couldn't. Asked for once.
+    fn unwritten(&self) -> Option<io::Error>;
+}
+
 /// The files of the system, of which is counted what is read.
 #[derive(Drop)]
 pub struct CountedFiles<'c, 'r, 'e, E> {
     files: HostInputs<'r>,
     console: &'c Console<'r, 'e, E>,
-    /// Whether a line tells of each object that a file names.
-    names_objects: bool,
+    names_objects: Cell<bool>,
+    unwritten: Cell<Option<io::Error>>,
 }
 
 impl<'c, 'r, 'e, E: Write> CountedFiles<'c, 'r, 'e, E> {
-    /// Those files, with a line for each object that one of them names, or without.
+    /// Those of the runtime, told of on a console.
     pub fn new(
-        files: HostInputs<'r>,
+        rt: &'r HostRuntime,
         console: &'c Console<'r, 'e, E>,
-        names_objects: bool,
     ) -> CountedFiles<'c, 'r, 'e, E> {
         CountedFiles {
-            files,
+            files: HostInputs::new(rt),
             console,
-            names_objects,
+            names_objects: Cell::new(false),
+            unwritten: Cell::new(None),
         }
-    }
-
-    /// The last file that the command line names and that was read. Asked for once.
-    pub fn last_named(&self) -> Option<NamedFile> {
-        self.files.last_named()
     }
 
     /// Tells of an object that a file names.
@@ -183,7 +208,7 @@ impl<E: Write> FileSystem for CountedFiles<'_, '_, '_, E> {
     fn read_regular_over(&self, path: Path<'_>, room: &mut Vec<u8>) -> Result<(), InputError> {
         self.files.read_regular_over(path, room)?;
         self.console.count(room.len());
-        if self.names_objects {
+        if self.names_objects.get() {
             self.tell_object(path.path_text(), room);
         }
         Ok(())
@@ -206,10 +231,31 @@ impl<E: Write> FileSystem for CountedFiles<'_, '_, '_, E> {
     }
 
     fn write_object(&mut self, object: &WritableObject, name: &str) -> Result<(), Failure> {
-        self.files.write_object(object, name)
+        let answer = self.files.write_object(object, name);
+        self.unwritten.set(self.files.write_failure());
+        answer
+    }
+}
+
+impl<E: Write> NotedFiles for CountedFiles<'_, '_, '_, E> {
+    fn seek(&self, seeks: bool) {
+        self.files.seek(seeks);
     }
 
-    fn write_failure(&mut self) -> Option<io::Error> {
-        self.files.write_failure()
+    fn begin(&self, telling: Telling) {
+        self.console.begin(telling.patience, telling.all);
+        self.names_objects.set(telling.names_objects);
+    }
+
+    fn end(&self) {
+        self.console.clear();
+    }
+
+    fn last_named(&self) -> Option<NamedFile> {
+        self.files.last_named()
+    }
+
+    fn unwritten(&self) -> Option<io::Error> {
+        self.unwritten.replace(None)
     }
 }

@@ -7,6 +7,16 @@ use std::cell::Cell;
 use std::{io, str};
 use thorin_words::{ResponseError, ResponseFiles};
 
+/// Response files, of which is known what notes say.
+pub trait NotedResponses: ResponseFiles {
+    /// The name of the file that couldn't be read, and why. Asked for once.
+    fn unread(&self) -> Option<(String, io::Error)>;
+
+    /// The name of the last file that was read and isn't UTF-8, as far as there was memory to keep
+    /// it. Asked for once.
+    fn not_text(&self) -> Option<String>;
+}
+
 /// The files of the system. What has no end, as a device, isn't read.
 #[derive(Drop)]
 pub struct HostResponses<'r> {
@@ -25,17 +35,6 @@ impl<'r> HostResponses<'r> {
             unread: Cell::new(None),
             not_text: Cell::new(None),
         }
-    }
-
-    /// The name of the file that couldn't be read, and why.
-    pub fn unread(&self) -> Option<(String, io::Error)> {
-        self.unread.replace(None)
-    }
-
-    /// The name of the last file that was read and isn't UTF-8, as far as there was memory to keep
-    /// it. Asked for once.
-    pub fn not_text(&self) -> Option<String> {
-        self.not_text.replace(None)
     }
 }
 
@@ -63,6 +62,16 @@ impl ResponseFiles for HostResponses<'_> {
                 Err(error)
             }
         }
+    }
+}
+
+impl NotedResponses for HostResponses<'_> {
+    fn unread(&self) -> Option<(String, io::Error)> {
+        self.unread.replace(None)
+    }
+
+    fn not_text(&self) -> Option<String> {
+        self.not_text.replace(None)
     }
 }
 

@@ -1,0 +1,11 @@
+use Rattle.thorin_cli.proofs.program.Program.pack_told.Goals as goal
+
+pub returns-clause-done : goal.returns-clause-done
+returns-clause-done g c = record {
+  packed = c.pack-answer.ensures.packed;
+  status = c.pack-answer.ensures.status;
+  refused = c.pack-answer.ensures.refused;
+  cause = λ is. let told = c.pack-answer.ensures.told is in (told.cause, told.is);
+  failed = c.pack-answer.ensures.failed;
+  apart = c.pack-answer.ensures.apart;
+}

@@ -1,0 +1,245 @@
+//! The commands, over the files of a system, its clock, and two writers.
+
+ghost use Rattle.std.specs.Prelude.{◌≡◌, ◌⊎◌};
+ghost use Rattle.thorin_print.specs.Answers.{exit_status};
+ghost use Rattle.thorin_check.specs.Checking.{Checks};
+ghost use Rattle.thorin_reading.specs.Taken.{Takes};
+ghost use Rattle.thorin_cli.specs.Doing.{Answers, DoesCall, DoesPacking, HasStatus, ListsMissing};
+ghost use Rattle.thorin_cli.specs.Doing.{Verifies};
+ghost use Rattle.thorin_cli.specs.Programs.{KeepsPlaces, state_of, system};
+
+use crate::manner::Manner;
+use crate::notes::{
+    Given, Read, note_no_index, note_output, note_packing, note_reading, note_refused,
+};
+use crate::settings::{file_count, find_words, form_of, list_form, nameless_units, packing_of};
+use crate::system::NotedReader;
+use std::fmt;
+use std::io::{self, Write};
+use thorin_arguments::{CheckArguments, Commands, FindArguments, ListArguments, PackArguments};
+use thorin_check::{Reading, check_by};
+use thorin_commands::{Packing, list_missing, pack};
+use thorin_find::{find_by, lacks_index, list_by};
+use thorin_print::{Failure, Form, report, show};
+use thorin_reading::PlainReader;
+use thorin_terminal::{NotedFiles, Telling, Watched};
+
+/// The program: what it uses of the system, and where it prints.
+#[derive(Drop)]
+pub(crate) struct Program<'r, 's, 'o, 'e, F, R, O, E> {
+    pub(crate) rt: &'r HostRuntime,
+    pub(crate) manner: Manner,
+    pub(crate) patience: u64,
+    pub(crate) files: &'s mut F,
+    pub(crate) reader: &'s R,
+    pub(crate) out: &'o mut Watched<O>,
+    pub(crate) err: &'e mut E,
+}
+
+impl<F: NotedFiles, R: NotedReader, O: Write, E: Write> Program<'_, '_, '_, '_, F, R, O, E> {
+    /// The status of a command that read these files. Where it was refused, that is printed.
+    fn status(&mut self, answer: Result<u8, Failure>, given: Given<'_>, read: Read) -> u8
+        ensures has { HasStatus answer result }
+        ensures kept { (self.new.files ≡ self.old.files) × (self.new.out ≡ self.old.out) }
+    {
+        match answer {
+            Ok(status) => status,
+            Err(failure) => {
+                let status = self.report(&failure);
+                note_reading(self.rt, &failure, given, read, self.err);
+                status
+            }
+        }
+    }
+
+    /// Prints why a command failed, and answers the status. That nobody reads standard output any
+    /// more isn't told: whoever closed the pipe has what they wanted.
+    fn report(&mut self, failure: &Failure) -> u8
+        ensures status { (result ≡ exit_status failure.now) ⊎ (result ≡ 1) }
+        ensures kept { (self.new.files ≡ self.old.files) × (self.new.out ≡ self.old.out) }
+    {
+        match self.out.failure() {
+            Some(cause) if matches!(failure, Failure::Line) => {
+                if cause.kind() == io::ErrorKind::BrokenPipe {
+                    return 1;
+                }
+                let status = report(self.err, failure);
+                note_output(self.rt, &cause, self.err);
+                status
+            }
+            _ => report(self.err, failure),
+        }
+    }
+
+    /// Packs.
+    fn pack_as(&mut self, packing: &Packing<'_, '_>) -> u8
+        ensures done { Answers (DoesPacking (system F.offer F.known F.begun O.contents
+            (R.offer self.old.reader.now)) packing.now (state_of self.old)
+            (state_of self.new)) result }
+        ensures places { KeepsPlaces self.old self.new }
+    {
+        match self.pack_told(packing) {
+            Ok(0) => 0,
+            Ok(status) => {
+                note_refused(self.rt, packing, &self.files.last_named(), self.err);
+                status
+            }
+            Err(failure) => {
+                let status = self.report(&failure);
+                note_packing(self.rt, &failure, packing, self.files.unwritten(), self.err);
+                status
+            }
+        }
+    }
+
+    /// Packs, and tells a terminal meanwhile how far that is.
+    fn pack_told(&mut self, packing: &Packing<'_, '_>) -> Result<u8, Failure>
+        ensures done { DoesPacking (system F.offer F.known F.begun O.contents
+            (R.offer self.old.reader.now)) packing.now (state_of self.old)
+            (state_of self.new) result }
+        ensures places { KeepsPlaces self.old self.new }
+    {
+        let patience = if self.manner.on_terminal && !packing.verbose {
+            Some(self.patience)
+        } else {
+            None
+        };
+        let telling = Telling {
+            patience,
+            all: file_count(packing),
+            names_objects: packing.verbose,
+        };
+        self.files.begin(telling);
+        let answer = pack(self.rt.alloc(), self.files, packing, self.out, self.err);
+        self.files.end();
+        answer
+    }
+
+    /// Lists the objects that are missing.
+    fn list_as(&mut self, packing: &Packing<'_, '_>) -> u8
+        ensures done { Answers (ListsMissing (state_of self.old) (state_of self.new)) result }
+        ensures places { KeepsPlaces self.old self.new }
+    {
+        match list_missing(self.rt.alloc(), self.files, packing, self.out, self.err) {
+            Ok(status) => status,
+            Err(failure) => self.report(&failure),
+        }
+    }
+
+    /// Checks the package that would be made.
+    fn verify_as(&mut self, packing: &Packing<'_, '_>) -> u8
+        ensures done { Answers (Verifies (system F.offer F.known F.begun O.contents
+            (R.offer self.old.reader.now)) packing.now (state_of self.old)
+            (state_of self.new)) result }
+        ensures places { KeepsPlaces self.old self.new }
+    {
+        let reading = Reading {
+            form: Form::Lines,
+            nameless: packing.nameless,
+        };
+        match packing.output_name(self.rt.alloc()) {
+            Ok(output) => {
+                let executables = packing.executables.unwrap_or(&[]);
+                let decompresses = packing.decompresses;
+                self.check_as(output.as_str(), executables, decompresses, reading)
+            }
+            Err(failure) => report(self.err, &failure),
+        }
+    }
+
+    /// Checks a package, for executables that are decompressed as it is.
+    fn check_as(
+        &mut self,
+        file: &str,
+        executables: &[&str],
+        decompresses: bool,
+        reading: Reading,
+    ) -> u8
+        ensures done { Answers (Checks (Takes decompresses (R.offer self.old.reader.now)) file.now
+            (record { paths = executables.now; reading = reading })
+            (O.contents self.old.out.now.out) (O.contents self.new.out.now.out)) result }
+        ensures files { self.new.files ≡ self.old.files }
+        ensures place { self.new.out.ghost_name ≡ self.old.out.ghost_name }
+    {
+        let files = PlainReader::new(self.rt.alloc(), self.reader, decompresses);
+        let answer = check_by(self.rt, &files, file, executables, reading, self.out);
+        self.status(answer, Given::file(file), Read::by(self.reader, &files))
+    }
+}
+
+impl<F: NotedFiles, R: NotedReader, O: Write, E: Write> Commands
+    for Program<'_, '_, '_, '_, F, R, O, E> {
+    // The files and standard output stay where they are, and the call does what it is for.
+    ghost does = { λ old call status new. KeepsPlaces old new
+        × DoesCall (system F.offer F.known F.begun O.contents (R.offer old.reader.now)) old.manner
+        (state_of old) call status (state_of new) };
+
+    fn pack(&mut self, arguments: PackArguments<'_, '_>) -> u8 {
+        let packing = packing_of(arguments, self.manner);
+        if arguments.verifies_only {
+            self.verify_as(&packing)
+        } else if arguments.lists_missing {
+            self.list_as(&packing)
+        } else {
+            self.pack_as(&packing)
+        }
+    }
+
+    fn find(&mut self, arguments: FindArguments<'_>) -> u8 {
+        let file = arguments.file;
+        let files = PlainReader::new(self.rt.alloc(), self.reader, arguments.decompresses);
+        let asked = find_words(arguments);
+        let answer = find_by(self.rt.alloc(), &files, file, asked, self.out);
+        let given = Given {
+            kind: arguments.kind,
+            id: arguments.id,
+            wanted: arguments.string.or(arguments.section).unwrap_or(""),
+            ..Given::file(file)
+        };
+        self.status(answer, given, Read::by(self.reader, &files))
+    }
+
+    fn list(&mut self, file: &str, arguments: ListArguments) -> u8 {
+        let form = list_form(arguments);
+        let files = PlainReader::new(self.rt.alloc(), self.reader, arguments.decompresses);
+        let answer = list_by(self.rt.alloc(), &files, file, form, self.out);
+        if answer.is_ok() && self.manner.on_terminal && lacks_index(self.rt, file) {
+            note_no_index(self.rt, file, self.err);
+        }
+        self.status(answer, Given::file(file), Read::by(self.reader, &files))
+    }
+
+    fn check(&mut self, arguments: CheckArguments<'_, '_>) -> u8 {
+        let reading = Reading {
+            form: form_of(arguments.json),
+            nameless: nameless_units(arguments.skips_nameless),
+        };
+        let CheckArguments {
+            file,
+            executables,
+            decompresses,
+            ..
+        } = arguments;
+        self.check_as(file, executables, decompresses, reading)
+    }
+
+    fn show<D: fmt::Display>(&mut self, text: &D) -> u8 {
+        if show(self.out, text) {
+            0
+        } else {
+            self.report(&Failure::Line)
+        }
+    }
+
+    fn refuse<D: fmt::Display>(&mut self, text: &D) -> u8 {
+        if show(self.err, text) { 2 } else { 1 }
+    }
+
+    fn refuse_words(&mut self) -> u8 {
+        report(self.err, &Failure::BadCommand)
+    }
+
+    fn lack_memory(&mut self) -> u8 {
+        report(self.err, &Failure::Memory)
+    }
+}
