@@ -1,16 +1,15 @@
 #!/usr/bin/env python3
-"""Runs tests, or the program, with one allocation refused, for each in turn.
+"""Runs rows, or the program, with one allocation refused, for each in turn.
 
-    bench/refuse_allocations.py CRATE..      the tests of refused allocations of a crate, or all files of a program of rows
-    bench/refuse_allocations.py CRATE/FILE   one of these files
+    bench/refuse_allocations.py CRATE..      all files of a program of rows
+    bench/refuse_allocations.py CRATE/FILE   one of these files, or a script of test_packages
     bench/refuse_allocations.py --program    pack, pack -e, find, list and check
 
-`rt ci` has built the tests and the programs before. Each test whose name begins with `a_refused` or `refused`, each file of
-rows and each command is run with its first allocation refused, then with its second, and so on until a run meets no refusal. A
-test that fails is told with the number of the allocation; a row has to give what it gives without a refusal, or to say
-`Memory`, unless memory is refused for what is printed, so that nothing is; a command has to tell `error: Out of memory`, with at
-most one note of the file behind it, and end with status 1, or to give all that it gives without a refusal. Wants a C compiler
-that splits DWARF, and glibc.
+`rt ci` has built the programs before. Each file of rows and each command is run with its first allocation refused, then with
+its second, and so on until a run meets no refusal. A row has to give what it gives without a refusal, or to say `Memory`, unless
+memory is refused for what is printed, so that nothing is; a command has to tell `error: Out of memory`, with at most one note of
+the file behind it, and end with status 1, or to give all that it gives without a refusal. Wants a C compiler that splits DWARF,
+and glibc.
 """
 import glob
 import os
@@ -23,13 +22,6 @@ HERE = os.path.dirname(os.path.abspath(__file__))
 CRATES = os.path.join(HERE, "..", "crates")
 # Calls of rows that say whether something is there, and not why it isn't: of these only that they answer.
 OF_YES_AND_NO = {"crowded", "written"}
-
-
-def tests_of(program):
-    """The full names of the tests of refused allocations."""
-    listed = subprocess.run([program, "--list"], capture_output=True, text=True, check=True).stdout
-    names = [line.split(": ")[0] for line in listed.splitlines()]
-    return [name for name in names if name.split("::")[-1].startswith(("a_refused", "refused"))]
 
 
 def refuse_in_turn(name, words, shim, why_wrong, at=None):
@@ -48,27 +40,22 @@ def refuse_in_turn(name, words, shim, why_wrong, at=None):
     return failed
 
 
-def refuse_in_tests(crate, shim):
-    program = os.path.join(CRATES, crate, "out", crate + "_tests")
-    why_wrong = lambda status, printed, _told, _refused: printed.strip() or f"status {status}" if status else ""
-    return sum(refuse_in_turn(f"{crate} {test}", [program, test], shim, why_wrong) for test in tests_of(program))
-
-
 def files_of(asked):
-    """The files of rows that a word asks for; none where it names a crate of tests."""
+    """The files of rows that a word asks for."""
     if "/" in asked:
         return [asked]
     return [f"{asked}/{os.path.basename(it)}" for it in sorted(glob.glob(os.path.join(CRATES, asked, "data", "*.rows")))]
 
 
 def rows_of(printed):
-    """The rows that were printed, each with its answer."""
-    rows = []
+    """The rows that were printed, each with its answer: of a script behind its line, else behind four blanks."""
+    rows, is_script = [], "\n$ " in printed
     for line in printed.splitlines():
-        if line.startswith("    ") and rows:
-            rows[-1] += f"\n{line}"
-        else:
+        begins = line.startswith(("$ ", "# ", "== ")) if is_script else not line.startswith("    ")
+        if begins or not rows:
             rows.append(line)
+        else:
+            rows[-1] += f"\n{line}"
     return rows
 
 
@@ -142,10 +129,8 @@ def main(asked):
         for it in asked:
             if it == "--program":
                 failed += refuse_in_program(folder, shim)
-            elif files := files_of(it):
-                failed += sum(refuse_in_rows(file, shim) for file in files)
             else:
-                failed += refuse_in_tests(it, shim)
+                failed += sum(refuse_in_rows(file, shim) for file in files_of(it))
     print(f"{failed} runs failed")
     return 1 if failed else 0
 

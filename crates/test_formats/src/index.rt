@@ -74,17 +74,13 @@ fn part(row: Row<'_>, said: &mut Said) {
     said.put(&Hex(part_of(row.bytes(1), Some(range))));
 }
 
-/// The first section of a kind: its number and size, and its content.
+/// The first section of a kind: its number and size.
 fn of_kind(row: Row<'_>, said: &mut Said) {
     let Ok(file) = ElfFile::parse(row.bytes(1)) else {
         return said.word("no ELF file");
     };
     let found = first_sections(&file).get(row.kind(2));
     said.put(&found.map(|(number, section)| (number, section.size())));
-    match content_of_kind(&file, row.kind(2)) {
-        Ok(content) => said.ok(&Hex(content)),
-        Err(error) => said.err(&error),
-    }
 }
 
 fn in_package(package: &PackageFile<'_>, row: Row<'_>, said: &mut Said) {

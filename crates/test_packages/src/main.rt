@@ -13,6 +13,7 @@ mod objects;
 mod packing;
 mod random;
 mod reading;
+mod sessions;
 mod tally;
 
 use std::alloc::Global;
@@ -23,7 +24,7 @@ use test_rows::{Said, Table, asked, split};
 const COMMON: &str = "common";
 
 /// The scripts, in the order in which they are run; each begins with the names of the common one.
-const SCRIPTS: [&str; 12] = [
+const SCRIPTS: [&str; 14] = [
     "one_object",
     "forms",
     "many_objects",
@@ -33,6 +34,8 @@ const SCRIPTS: [&str; 12] = [
     "packages",
     "refused_packages",
     "own_packages",
+    "sessions",
+    "memory",
     "damaged",
     "cut",
     "random",
@@ -68,8 +71,8 @@ fn run_named(rt: &HostRuntime, script: &str) -> io::Result<()> {
 fn text_of(rt: &HostRuntime, file: &str, said: &mut Said) -> String {
     match fs::read_to_string(rt, file) {
         Ok(text) => text,
-        Err(_error) => {
-            said.wrong("file", file);
+        Err(error) => {
+            tell_unread(&error, file, said);
             String::new(rt.alloc())
         }
     }
@@ -127,9 +130,14 @@ fn keep_files<'n>(rt: &HostRuntime, table: &mut Table<'n>, words: &[&'n str], sa
     for i in 0..words.len() {
         match fs::read(rt, words[i]) {
             Ok(bytes) => table.keep(words[i], bytes, said),
-            Err(_error) => said.wrong("file", words[i]),
+            Err(error) => tell_unread(&error, words[i], said),
         }
     }
+}
+
+fn tell_unread(error: &io::Error, file: &str, said: &mut Said) {
+    said.note_that(!matches!(error.kind(), io::ErrorKind::OutOfMemory));
+    said.wrong("file", file);
 }
 
 /// Says what a line answers that asks something.
@@ -164,6 +172,9 @@ fn ask_packing<'n>(
         "pack" => packing::pack_named(alloc, table, words, said),
         "groups" => packing::pack_grouped(alloc, table, words, said),
         "builder" => builders::build(alloc, table, words, said),
+        "session" => sessions::session(alloc, table, words, said),
+        "session_groups" => sessions::groups(alloc, table, words, said),
+        "retried" | "once" | "packed" => sessions::refused(alloc, table, command, words, said),
         "damage" => cutting::damage(alloc, table, words, said),
         "every_cut" => cutting::every_cut(alloc, table, words, said),
         "random" => random::random(alloc, table, false, words, said),

@@ -27,7 +27,7 @@ pub fn object<'n>(alloc: Global, table: &mut Table<'n>, words: &[&'n str], said:
 fn keep<'n>(table: &mut Table<'n>, name: &'n str, file: &WritableObject, said: &mut Said) {
     match file.write() {
         Ok(bytes) => table.keep(name, bytes, said),
-        Err(_error) => said.wrong("object", name),
+        Err(_error) => said.note_that(false),
     }
 }
 
@@ -41,18 +41,19 @@ fn append(
 ) {
     let (kind, word) = split(section, "=");
     let bytes = table.joined(&[word], said);
-    match kind_of(alloc, kind) {
-        Some(kind) if file.append(kind, &bytes).is_ok() => {}
-        _ => said.wrong("section", section),
+    match kind_of(alloc, kind, said) {
+        Some(kind) => said.note_that(file.append(kind, &bytes).is_ok()),
+        None => said.wrong("section", section),
     }
 }
 
 /// The kind of the section `.debug_NAME.dwo`, or of the index `.debug_NAME`.
-fn kind_of(alloc: Global, name: &str) -> Option<SectionKind> {
+fn kind_of(alloc: Global, name: &str, said: &mut Said) -> Option<SectionKind> {
     let mut section = Said::new(alloc);
     section.add(".debug_");
     section.add(name);
     let index = SectionKind::of_name(section.as_str());
     section.add(".dwo");
+    let section = said.made(section.finish(), String::new(alloc));
     SectionKind::of_name(section.as_str()).or(index)
 }

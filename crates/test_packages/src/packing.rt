@@ -5,17 +5,37 @@ ghost use Rattle.std.specs.Prelude.{◌≤◌};
 
 use std::alloc::Global;
 use test_rows::{Said, Table, split};
-use thorin::{Bump, BytesSession, Error, Input, Packed, pack, pack_groups};
+use thorin::{
+    Bump, BytesSession, Error, Input, Packed, RelocationEntry, Session, pack, pack_groups,
+};
 
 /// What packing these inputs gives; no outcome where memory ran out.
 pub fn packed(alloc: Global, inputs: &[&[u8]]) -> Packed {
-    let arena = Bump::new(alloc);
-    let session = BytesSession::new(&arena);
     let mut list = Vec::new(alloc);
     for i in 0..inputs.len() {
         let _ = list.push(Input::Bytes(inputs[i]));
     }
-    pack(alloc, &session, &list).unwrap_or(Packed {
+    packed_inputs(alloc, &list)
+}
+
+/// The same of inputs that need no files.
+pub fn packed_inputs(alloc: Global, inputs: &[Input<'_>]) -> Packed {
+    let arena = Bump::new(alloc);
+    let session = BytesSession::new(&arena);
+    let mut list = Vec::new(alloc);
+    for i in 0..inputs.len() {
+        let _ = list.push(inputs[i]);
+    }
+    packed_by(alloc, &session, &list)
+}
+
+/// The same in a session.
+pub fn packed_by<'s, Sess: Session<RelocationEntry>>(
+    alloc: Global,
+    session: &'s Sess,
+    inputs: &[Input<'s>],
+) -> Packed {
+    pack(alloc, session, inputs).unwrap_or(Packed {
         outcomes: Vec::new(alloc),
         file: Err(Error::Memory),
         differing: Vec::new(alloc),
@@ -37,11 +57,25 @@ pub fn accepted(packed: &Packed) -> usize {
 pub fn grouped(alloc: Global, inputs: &[&[u8]], starts: &[usize]) -> Result<Vec<u8>, Error> {
     let arena = Bump::new(alloc);
     let session = BytesSession::new(&arena);
+    let mut list = Vec::new(alloc);
+    for i in 0..inputs.len() {
+        let _ = list.push(inputs[i]);
+    }
+    grouped_by(alloc, &session, &list, starts)
+}
+
+/// The same in a session.
+pub fn grouped_by<'s, Sess: Session<RelocationEntry>>(
+    alloc: Global,
+    session: &'s Sess,
+    inputs: &[&'s [u8]],
+    starts: &[usize],
+) -> Result<Vec<u8>, Error> {
     let mut groups = Vec::new(alloc);
     for i in 0..starts.len() {
         let _ = groups.push(group(inputs, starts, i));
     }
-    pack_groups(alloc, &session, &groups)
+    pack_groups(alloc, session, &groups)
 }
 
 /// The inputs of a group.
@@ -145,13 +179,24 @@ pub fn pack_grouped<'n>(alloc: Global, table: &mut Table<'n>, words: &[&'n str],
     }
 }
 
-/// The same of the words of inputs: the first of a group begins with `[`, the last ends with `]`.
 fn grouped_words(
     alloc: Global,
     table: &Table<'_>,
     words: &[&str],
     said: &mut Said,
 ) -> Result<Vec<u8>, Error> {
+    let (inputs, starts) = groups_in(alloc, table, words, said);
+    grouped(alloc, &inputs, &starts)
+}
+
+/// The inputs of words, and the numbers at which their groups begin: the first word of a group
+/// begins with `[`, the last ends with `]`.
+pub fn groups_in<'t>(
+    alloc: Global,
+    table: &'t Table<'_>,
+    words: &[&str],
+    said: &mut Said,
+) -> (Vec<&'t [u8]>, Vec<usize>) {
     let mut inputs = Vec::new(alloc);
     let mut starts = Vec::new(alloc);
     for i in 0..words.len() {
@@ -166,5 +211,23 @@ fn grouped_words(
             said.note_that(inputs.push(input).is_ok());
         }
     }
-    grouped(alloc, &inputs, &starts)
+    (inputs, starts)
+}
+
+/// Whether a packed file is this one, or there is none for the same error.
+pub fn is_file(
+    alloc: Global,
+    packed: &Result<Vec<u8>, Error>,
+    file: &Result<Vec<u8>, Error>,
+) -> bool {
+    match (packed, file) {
+        (Ok(packed), Ok(file)) => packed.as_slice() == file.as_slice(),
+        (Err(packed), Err(error)) => {
+            let (mut one, mut other) = (Said::new(alloc), Said::new(alloc));
+            one.debug(packed);
+            other.debug(error);
+            one.as_str() == other.as_str()
+        }
+        _ => false,
+    }
 }

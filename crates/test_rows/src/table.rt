@@ -49,7 +49,7 @@ impl<'n> Table<'n> {
     }
 
     /// The bytes that a name has got last.
-    fn named(&self, name: &str) -> Option<&[u8]> {
+    pub fn named(&self, name: &str) -> Option<&[u8]> {
         let mut found: Option<&[u8]> = None;
         for i in 0..self.all.len() {
             if self.all[i].name == name {

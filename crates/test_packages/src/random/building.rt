@@ -1,12 +1,12 @@
 //! Damaged inputs for the builder: objects and packages.
 
 use crate::builders::{Built, build_bytes};
-use crate::packing::{accepted, grouped, packed, tell_outcomes};
+use crate::packing::{accepted, grouped, is_file, packed_inputs, tell_outcomes};
 use crate::random::reading::read_packaged;
 use crate::tally::{self, Tally};
 use std::alloc::Global;
 use test_rows::{Generator, Said};
-use thorin::{DwarfObject, Error, PackageFile, Packed};
+use thorin::{DwarfObject, Error, Input, PackageFile, Packed};
 
 /// Gives a few samples, some of them damaged, to the builder, to `pack` and to `pack_groups`, and
 /// holds what they answer against one another.
@@ -18,19 +18,19 @@ pub fn build(alloc: Global, generator: &mut Generator, samples: &[&[u8]], tally:
     }
     let mut inputs = Vec::new(alloc);
     for i in 0..few.len() {
-        tally.expect(inputs.push(few[i].as_slice()).is_ok());
+        tally.expect(inputs.push(Input::Bytes(few[i].as_slice())).is_ok());
     }
     compare(alloc, &inputs, tally);
 }
 
-fn compare(alloc: Global, inputs: &[&[u8]], tally: &mut Tally) {
+fn compare(alloc: Global, inputs: &[Input<'_>], tally: &mut Tally) {
     let built = build_each(alloc, inputs, tally);
-    let whole = packed(alloc, inputs);
+    let whole = packed_inputs(alloc, inputs);
     let mut answers = Said::new(alloc);
     tell_outcomes(&[], &whole, &mut answers);
     tally.expect(answers.as_str() == built.answers.as_str());
     hold_packed(alloc, &whole, &built, tally);
-    let again = packed(alloc, &built.accepted);
+    let again = packed_inputs(alloc, &built.accepted);
     tally.expect(accepted(&again) == again.outcomes.len());
     hold_packed(alloc, &again, &built, tally);
     if let Ok(file) = &built.file {
@@ -42,7 +42,7 @@ fn compare(alloc: Global, inputs: &[&[u8]], tally: &mut Tally) {
     compare_groups(alloc, &built, tally);
 }
 
-fn build_each<'i>(alloc: Global, inputs: &[&'i [u8]], tally: &mut Tally) -> Built<'i> {
+fn build_each<'i>(alloc: Global, inputs: &[Input<'i>], tally: &mut Tally) -> Built<'i> {
     build_bytes(alloc, (&[], inputs), tally, &mut Said::new(alloc))
 }
 
@@ -55,20 +55,6 @@ fn hold_packed(alloc: Global, packed: &Packed, built: &Built<'_>, tally: &mut Ta
     }
     tally.expect(accepted == built.accepted.len());
     tally.expect(is_file(alloc, &packed.file, &built.file));
-}
-
-/// Whether the packed file is this one, or there is none for the same error.
-fn is_file(alloc: Global, packed: &Result<Vec<u8>, Error>, file: &Result<Vec<u8>, Error>) -> bool {
-    match (packed, file) {
-        (Ok(packed), Ok(file)) => packed.as_slice() == file.as_slice(),
-        (Err(packed), Err(error)) => {
-            let (mut one, mut other) = (Said::new(alloc), Said::new(alloc));
-            one.debug(packed);
-            other.debug(error);
-            one.as_str() == other.as_str()
-        }
-        _ => false,
-    }
 }
 
 /// Reads a written package: it has these units and no others.
@@ -90,7 +76,7 @@ pub fn read_back(file: &[u8], units: &[DwarfObject], tally: &mut Tally) {
 /// Packs a file alone that may be an input again: it is taken, and has the same units, unless a
 /// section is in no row of it.
 fn pack_again(alloc: Global, file: &[u8], units: &[DwarfObject], tally: &mut Tally) {
-    let again = build_each(alloc, &[file], tally);
+    let again = build_each(alloc, &[Input::Bytes(file)], tally);
     tally.expect(if again.accepted.is_empty() {
         again.is_outside
     } else {
@@ -104,8 +90,13 @@ fn pack_again(alloc: Global, file: &[u8], units: &[DwarfObject], tally: &mut Tal
 /// Packs the accepted inputs in two groups, half of them each: where there is a file, it has these
 /// units.
 fn compare_groups(alloc: Global, built: &Built<'_>, tally: &mut Tally) {
-    let half = built.accepted.len() / 2;
-    let file = grouped(alloc, &built.accepted, &[0, half]);
+    let mut accepted = Vec::new(alloc);
+    for i in 0..built.accepted.len() {
+        if let Input::Bytes(bytes) = built.accepted[i] {
+            tally.expect(accepted.push(bytes).is_ok());
+        }
+    }
+    let file = grouped(alloc, &accepted, &[0, accepted.len() / 2]);
     tally.note(tally::GROUPS, file.is_ok());
     match &file {
         Ok(file) => read_back(file, &built.end.units, tally),

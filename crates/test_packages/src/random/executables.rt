@@ -5,10 +5,11 @@ use crate::random::building::read_back;
 use crate::tally::{self, Tally};
 use std::alloc::Global;
 use std::collections::BTreeMap;
+use std::path::{AsPath, Path};
 use test_rows::{Generator, Said};
 use thorin::{
-    Bump, BytesSession, Error, MemorySession, MissingReferencedObjectBehaviour, SkeletonList,
-    skeletons,
+    Bump, BytesSession, Error, Input, MemorySession, MissingReferencedObjectBehaviour,
+    SkeletonList, skeletons,
 };
 
 /// The files of a session, by their paths.
@@ -67,9 +68,11 @@ fn give(
 ) {
     let arena = Bump::new(alloc);
     let session = MemorySession::new(&arena, files);
-    let inputs: (&[&str], &[&[u8]]) = (&[], &[first]);
+    let executable = Input::Executable(Path::new(EXECUTABLE), missing);
+    let inputs = [Input::Bytes(first), executable];
+    let inputs: (&[&str], &[Input<'_>]) = (&[], &inputs);
     let mut said = Said::new(alloc);
-    let built = build_by(alloc, &session, inputs, Some(missing), tally, &mut said);
+    let built = build_by(alloc, &session, inputs, false, tally, &mut said);
     let is_missing = matches!(built.file, Err(Error::MissingReferencedUnit(_)));
     tally.expect(is_missing == built.end.lacks_units);
     if let Ok(file) = &built.file {

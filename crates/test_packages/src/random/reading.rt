@@ -2,33 +2,13 @@
 
 use crate::tally::{self, Tally};
 use dwp_dwarf::{
-    Abbreviation, AbbreviationCache, Abbreviations, Attribute, Format, ReadError, Reader, Relocate,
-    Relocation, RelocationEntry, SliceReader, StringSections, UnitHeader, UnitHeaders, UnitSection,
-    attr_string, root,
+    Abbreviation, AbbreviationCache, Abbreviations, Attribute, Format, ReadError, SliceReader,
+    StringSections, UnitHeader, UnitHeaders, UnitSection, attr_string, root,
 };
 use dwp_elf_read::{ElfFile, FileKind, Section};
 use dwp_index::CONTRIBUTION_KINDS;
 use std::alloc::Global;
 use thorin::{DwarfObject, Endianness, PackageFile, SectionKind, UnitIndex};
-
-/// Relocations of a section of units: at its first unit's offset of abbreviations, and behind its
-/// header.
-const RELOCATIONS: [RelocationEntry; 2] = [
-    RelocationEntry {
-        offset: 6,
-        relocation: Relocation {
-            addend: 0,
-            implicit_addend: false,
-        },
-    },
-    RelocationEntry {
-        offset: 12,
-        relocation: Relocation {
-            addend: 1,
-            implicit_addend: true,
-        },
-    },
-];
 
 /// Reads bytes by each reader.
 pub fn read_all(alloc: Global, bytes: &[u8], tally: &mut Tally) {
@@ -108,10 +88,9 @@ fn read_named(
     abbreviations: &str,
     tally: &mut Tally,
 ) {
-    let units = reader_of(file, name);
-    let abbreviations = reader_of(file, abbreviations);
-    let strings = strings_of(file);
-    read_twice(alloc, units, section, abbreviations, &strings, tally);
+    let units = UnitHeaders::new(reader_of(file, name), section);
+    let mut cache = AbbreviationCache::new(alloc, reader_of(file, abbreviations));
+    read_units(units, &mut cache, &strings_of(file), tally);
 }
 
 fn strings_of<'a>(file: &ElfFile<'a>) -> StringSections<SliceReader<'a>> {
@@ -122,77 +101,22 @@ fn strings_of<'a>(file: &ElfFile<'a>) -> StringSections<SliceReader<'a>> {
     }
 }
 
-/// Reads units as they are and with relocations.
-fn read_twice<R: Reader>(
-    alloc: Global,
-    units: R,
-    section: UnitSection,
-    abbreviations: R,
-    strings: &StringSections<R>,
+fn read_units(
+    units: UnitHeaders<SliceReader<'_>>,
+    cache: &mut AbbreviationCache<SliceReader<'_>>,
+    strings: &StringSections<SliceReader<'_>>,
     tally: &mut Tally,
 ) {
-    read_units(alloc, units, section, abbreviations, strings, tally);
-    let units = Relocate::new(&RELOCATIONS, units);
-    let abbreviations = Relocate::new(&[], abbreviations);
-    let strings = relocated(strings);
-    read_units(alloc, units, section, abbreviations, &strings, tally);
-}
-
-fn relocated<'a, R: Reader>(strings: &StringSections<R>) -> StringSections<Relocate<'a, R>> {
-    StringSections {
-        debug_str: Relocate::new(&RELOCATIONS, strings.debug_str),
-        debug_line_str: Relocate::new(&RELOCATIONS, strings.debug_line_str),
-        debug_str_offsets: Relocate::new(&RELOCATIONS, strings.debug_str_offsets),
-    }
-}
-
-fn read_units<R: Reader>(
-    alloc: Global,
-    units: R,
-    section: UnitSection,
-    abbreviations: R,
-    strings: &StringSections<R>,
-    tally: &mut Tally,
-) {
-    let mut cache = AbbreviationCache::new(alloc, abbreviations);
-    let length = units.len();
-    let read = read_each(UnitHeaders::new(units, section), &mut cache, strings, tally);
-    tally.expect(match read {
-        Some(read) => read == length,
-        None => true,
-    });
-}
-
-/// How many bytes the units have; None where one can't be read.
-fn read_each<R: Reader>(
-    headers: UnitHeaders<R>,
-    cache: &mut AbbreviationCache<R>,
-    strings: &StringSections<R>,
-    tally: &mut Tally,
-) -> Option<usize> {
-    let mut read: Option<usize> = Some(0);
-    for header in headers {
+    for header in units {
         tally.note(tally::UNIT, header.is_ok());
-        match header {
-            Ok(header) => {
-                read = with(read, header.bytes().len());
-                read_root(&header, cache, strings, tally);
-            }
-            Err(_) => read = None,
+        if let Ok(header) = header {
+            read_root(&header, cache, strings, tally);
         }
     }
-    read
 }
 
-fn with(read: Option<usize>, more: usize) -> Option<usize> {
-    match read {
-        Some(read) => Some(read.saturating_add(more)),
-        None => None,
-    }
-}
-
-fn tag_of<R: Reader>(
-    found: Result<Option<Abbreviation<R>>, ReadError>,
+fn tag_of(
+    found: Result<Option<Abbreviation<SliceReader<'_>>>, ReadError>,
 ) -> Result<Option<u64>, ReadError> {
     match found {
         Ok(Some(abbreviation)) => Ok(Some(abbreviation.tag())),
@@ -201,10 +125,10 @@ fn tag_of<R: Reader>(
     }
 }
 
-fn read_root<R: Reader>(
-    header: &UnitHeader<R>,
-    cache: &mut AbbreviationCache<R>,
-    strings: &StringSections<R>,
+fn read_root(
+    header: &UnitHeader<SliceReader<'_>>,
+    cache: &mut AbbreviationCache<SliceReader<'_>>,
+    strings: &StringSections<SliceReader<'_>>,
     tally: &mut Tally,
 ) {
     let offset = header.abbrev_offset();
@@ -217,10 +141,10 @@ fn read_root<R: Reader>(
     read_entry(header, &table, strings, tally);
 }
 
-fn read_entry<R: Reader>(
-    header: &UnitHeader<R>,
-    table: &Abbreviations<R>,
-    strings: &StringSections<R>,
+fn read_entry(
+    header: &UnitHeader<SliceReader<'_>>,
+    table: &Abbreviations<SliceReader<'_>>,
+    strings: &StringSections<SliceReader<'_>>,
     tally: &mut Tally,
 ) {
     let entry = root(header, table);
@@ -235,10 +159,10 @@ fn read_entry<R: Reader>(
     }
 }
 
-fn read_attribute<R: Reader>(
-    attribute: &Attribute<R>,
+fn read_attribute(
+    attribute: &Attribute<SliceReader<'_>>,
     format: Format,
-    strings: &StringSections<R>,
+    strings: &StringSections<SliceReader<'_>>,
     tally: &mut Tally,
 ) {
     let _ = attribute.number();
