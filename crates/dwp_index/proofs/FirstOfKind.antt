@@ -1,7 +1,7 @@
 -- The first section of a kind, met in file order.
-use Rattle.std.proofs.Common.{[], ap, Bool, cond, drop, eqb, false, find, is_some, length, List}
+use Rattle.std.proofs.Common.{[], ap, Bool, cond, drop, eqb, false, find, is_some, List}
 use Rattle.std.proofs.Common.{None, Option, option_and_then, option_map, refl, rules, slice_get}
-use Rattle.std.proofs.Common.{Some, sym, true, ℕ, ◌+◌, ◌||◌, ◌∙◌, ◌∷◌, ◌≡◌, ◌≤◌}
+use Rattle.std.proofs.Common.{Some, sym, true, ℕ, ◌+◌, ◌||◌, ◌∙◌, ◌∷◌, ◌≡◌}
 use Rattle.std.specs.Prelude.{IfSome, IsTrue}
 use Rattle.std.specs.Option.{option_or}
 use Rattle.std.proofs.lemmas.Bool.{false≢true}
@@ -11,7 +11,7 @@ use Terms.{all_kinds, by-bool, has_name, is_of_kind, is-same, name_of, same-each
 use Terms.{same_kind, same_Some, SectionKind}
 use Rattle.dwp_base.proofs.Bools.{both}
 use Rattle.dwp_base.proofs.EveryKind.{kind-named}
-use Rattle.dwp_base.proofs.Finds.{find_end, find_hit, find_miss}
+use Rattle.dwp_base.proofs.Finds.{find_hit, find_miss}
 use Rattle.dwp_base.specs.Sections.{compressed_name_of, is_named, kind_named}
 use Rattle.dwp_elf_read.specs.Elf.{SectionMeaning, SHT_NOBITS}
 use Rattle.dwp_elf_read.specs.View.{section}
@@ -135,10 +135,3 @@ met-next kind xs i next None at is = by-bool _ (is_of_kind kind (section next))
       there = tt;
       filled = tt;
     }))
-
--- none comes later
-pub met-all : (kind : SectionKind) (xs : List SectionMeaning) (i : ℕ)
-    (met : Option (ℕ × Section)) → length xs ≤ i → IsMet kind xs i met
-    → option_map (λ found. section found.1) met ≡ find (is_of_kind kind) xs
-met-all kind xs i (Some found) past is = is.first
-met-all kind xs i None past is = sym (find_end (is_of_kind kind) xs i past) ∙ is.first

@@ -4,8 +4,7 @@ ghost use Rattle.std.specs.Prelude.{◌≡◌, Some, IsTrue, IfSome, option_map,
 ghost use Rattle.std.specs.List.{find};
 ghost use Rattle.dwp_base.specs.Reading.{Answers};
 ghost use Rattle.dwp_elf_read.specs.View.{elf, section};
-ghost use Rattle.dwp_index.specs.Contents.{content, is_of_kind, used_bytes, bytes_of};
-ghost use Rattle.dwp_index.specs.Contents.{content_among, contents_of};
+ghost use Rattle.dwp_index.specs.Contents.{content, is_of_kind, used_bytes, bytes_of, contents_of};
 ghost use Rattle.dwp_index.specs.Firsts.{first_in, found_in, found_with};
 ghost use Rattle.dwp_base.specs.declared.section.SectionKind.{SectionKind};
 ghost use Rattle.dwp_index.specs.ContentFields.{contents_in};
@@ -28,34 +27,6 @@ fn used_bytes<'a>(used: &Section<'a>, kind: SectionKind) -> Result<&'a [u8], Rea
         return Err(ReadError::Compressed);
     }
     used.data()
-}
-
-/// The first section of a kind that has bytes.
-fn first_of_kind<'a>(file: &ElfFile<'a>, kind: SectionKind) -> Option<Section<'a>>
-    ensures { option_map section result ≡ find (is_of_kind kind) (elf file.now).sections }
-{
-    for i in 0..file.section_count() {
-        if let Some(candidate) = file.section(i) {
-            if candidate.holds(kind) {
-                return Some(candidate);
-            }
-        }
-    }
-    None
-}
-
-/// The content of the first section of a kind that has bytes; none where there is no such section.
-///
-/// # Errors
-/// `Compressed` where it is compressed, `SectionRange` where it isn't in the file.
-#[tactic(auto, unfolding(crate::specs::Contents::content_among))]
-pub fn content_of_kind<'a>(file: &ElfFile<'a>, kind: SectionKind) -> Result<&'a [u8], ReadError>
-    ensures { Answers (λ bytes. bytes.now) result (content_among (elf file.now).sections kind) }
-{
-    match first_of_kind(file, kind) {
-        None => Ok(&[]),
-        Some(used) => used_bytes(&used, kind),
-    }
 }
 
 /// The first section of each kind that has bytes, and its number, by one walk over the sections.

@@ -11,7 +11,7 @@ mod unit;
 mod unit_index;
 mod units;
 
-pub use contents::{content_of_kind, first_sections};
+pub use contents::first_sections;
 pub use dwp_table::{
     Bucketable, CONTRIBUTION_KINDS, DebugTypeSignature, DwarfObject, DwoId, column_of, first_place,
     kind_of_column, place_after, place_row, slot_count,

@@ -1,8 +1,7 @@
 -- Reading words byte by byte: what was read of a word stands in front of what is left of it.
-use Rattle.std.proofs.Common.{◌≡◌, ℕ, List, [], ◌∷◌, ◌++◌, Some, refl, sym, append-nil, map}
-use Rattle.std.proofs.Common.{append_assoc, true, false, Vec, Global}
+use Rattle.std.proofs.Common.{◌≡◌, ℕ, List, [], ◌∷◌, ◌++◌, Some, refl, sym, append-nil}
+use Rattle.std.proofs.Common.{append_assoc, true, false}
 use Rattle.std.proofs.lemmas.Bool.{false≢true}
-use Rattle.std.proofs.lemmas.List.{map-append}
 use Rattle.thorin_words.specs.declared.words.Place.{Place}
 use Rattle.thorin_words.specs.declared.words.Place.TheVariants.{Between, Inside, Escaped}
 use Rattle.thorin_words.specs.Words.{put, words_from, words_of, escaped, quoted, keeps, behind}
@@ -59,19 +58,6 @@ module _ (word : List ℕ) (place : Place) (byte : ℕ) {left rest : List ℕ}
       → is_between place ≡ true
       → prefix word (words_from place left) ≡ prefix word (words_from (behind place byte) rest)
   spaced out ends was = rw (front, out, ends, was) refl
-
--- a word behind those that were read, and nothing of the next
-pub one_more : (old new : Vec (Vec ℕ Global) Global) (word : Vec ℕ Global)
-    → new.items ≡ old.items ++ word ∷ [] → (more : List (List ℕ))
-    → map (λ word. word.items) new.items ++ prefix [] more ≡
-    map (λ word. word.items) old.items ++ word.items ∷ more
-one_more old new word added more = rw (added, map-append, append_assoc, prefix-nothing more) refl
-
--- nothing was read yet
-pub at_start : (word text : List ℕ) → word ≡ [] → words_of text ≡
-    prefix word (words_from Between text)
-unfolding words_of
-at_start word text none = rw (none, prefix-nothing (words_from Between text)) refl
 
 between : (place : Place) → is_between place ≡ true → place ≡ Between
 between Between is = refl

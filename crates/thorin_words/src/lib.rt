@@ -10,4 +10,3 @@ mod words;
 pub use identifier::hexadecimal;
 pub use printing::{is_control, printed, push_control, push_digits};
 pub use responses::{ResponseError, ResponseFiles, expanded};
-pub use words::split_words;

@@ -1,11 +1,9 @@
 //! The words of a text, as linkers read those of a response file.
 
-ghost use Rattle.std.specs.Prelude.{◌≡◌, ◌≤◌, length, map, IfOk};
-ghost use Rattle.thorin_words.specs.Words.{behind, keeps, is_between, is_space, is_mark, words_of};
-ghost use Rattle.thorin_words.specs.Words.{IsNext};
+ghost use Rattle.std.specs.Prelude.{◌≡◌, ◌≤◌, length, IfOk};
+ghost use Rattle.thorin_words.specs.Words.{behind, keeps, is_between, is_space, is_mark, IsNext};
 
-use std::alloc::{AllocError, Global};
-use std::mem;
+use std::alloc::AllocError;
 
 /// Where a byte of the text stands.
 #[derive(Clone, Copy)]
@@ -69,36 +67,10 @@ fn is_mark(byte: u8) -> bool
     byte == b'\'' || byte == b'"'
 }
 
-/// The words of a text: whitespace separates them; a quotation mark, `'` or `"`, takes what stands
-/// up to the next one of its kind into the word, and a backslash the byte behind it, also between
-/// quotation marks. The text's end ends all. So linkers read what stands in the file of `@FILE`.
-///
-/// # Errors
-/// Want of memory.
-#[tactic(auto, unfolding(crate::specs::Words::words_of))]
-pub fn split_words(alloc: Global, text: &[u8]) -> Result<Vec<Vec<u8>>, AllocError>
-    ensures { IfOk result (λ words. map (λ word. word.items) words.items ≡ words_of text.now) }
-{
-    let mut words = Vec::new(alloc);
-    let mut word = Vec::new(alloc);
-    let mut place = Place::Between;
-    for byte in text {
-        let was = place;
-        place = was.behind(*byte);
-        if was.keeps(*byte) {
-            word.push(*byte)?;
-        } else if place.is_between() && !was.is_between() {
-            words.push(mem::replace(&mut word, Vec::new(alloc)))?;
-        }
-    }
-    if !place.is_between() {
-        words.push(word)?;
-    }
-    Ok(words)
-}
-
 /// Reads the first word that begins at a place of a text or behind it, into a word's room, and
-/// answers the place behind it; none where there is no more word.
+/// answers the place behind it; none where there is no more word. Whitespace separates words; a
+/// quotation mark, `'` or `"`, takes what stands up to the next one of its kind into the word, and a
+/// backslash the byte behind it, also between quotation marks. The text's end ends all.
 ///
 /// # Errors
 /// Want of memory.
