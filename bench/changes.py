@@ -1,17 +1,18 @@
 #!/usr/bin/env python3
-"""Changes lines of the reader's, the writer's and the builder's code by a little, and sees whom it strikes.
+"""Changes lines of the crates' code by a little, and sees whether the prover refuses what no test sees.
 
     bench/changes.py [--seed N] [--all N] [--most N] [--list] TREE [CRATE..]
-    bench/changes.py --page
+    bench/changes.py [--seed N] [--all N] [--most N] --page
 
 TREE is a copy of the repository in which each crate was proved and built by rt ci, as .ci/wrong-bodies has it. A change
 names an error's neighbour, adds one to a number, or takes a comparison's neighbour. Of all that could be changed --all
-are drawn by the seed, at most --most in a function, from the given crates or all. A change that doesn't compile is drawn
-anew. Changes of different functions are proved together, with the groups of .ci/wrong-bodies; a change counts as refused
-where its own function is told as not proved. What came of each is written to out/changes/CRATE.json. It runs no test:
-bench/changed_tests.py does. --list prints what would be changed, and tries nothing. --page writes what both scripts left in
-out/changes into the table and the lists of bench/changes.md, and keeps that page's rows of crates that weren't tried and its
-reasons; its status is 1 where a change is neither refused, seen nor explained.
+are drawn by the seed, at most --most in a function, from the given crates or all. bench/changed_tests.py comes first: it runs
+the tests over each change, which takes seconds, and a change that a test sees is tried no more. The others are proved; one
+that doesn't compile is drawn anew. Changes of different functions are proved together, with the groups of .ci/wrong-bodies; a
+change counts as refused where its own function is told as not proved, and as let through where that is told as proved. What
+came of each is written to out/changes/CRATE.json. --list prints what would be changed, and tries nothing. --page writes what
+both scripts left in out/changes into the table and the lists of bench/changes.md, and keeps that page's reasons; its status
+is 1 where a change is neither seen, refused nor explained.
 """
 import glob
 import json
@@ -39,6 +40,9 @@ NUMBER = re.compile(r"(?:(?<=\.\.)|(?<![\w.]))(0x[0-9a-f_]+|\d[\d_]*)(?!\w|\.\d)
 # What bench/changes.md says of a change that nobody explained yet.
 OPEN = "not explained"
 STILL = ("still proved with it", "not refused: ")
+# The draw that the page is of: its seed, how many changes, and how many of them at most in a function.
+SEED, COUNT, MOST = 20261130, 400, 2
+PROVED = re.compile(r"fn (\S+): proved")
 
 
 def texts_of(crate):
@@ -158,6 +162,11 @@ def drawn(crates, seed, count, most):
     return taken, rest, len(every)
 
 
+def start_of(text, line):
+    """Where a line of a text begins, by its number from 1 on."""
+    return sum(len(it) + 1 for it in text.split("\n")[: line - 1])
+
+
 def refused_by_the_front_end(crate, group):
     """The changes of a group in whose lines the front end finds an error, and what it says."""
     with tempfile.TemporaryDirectory(prefix="changes-") as room:
@@ -172,8 +181,10 @@ def refused_by_the_front_end(crate, group):
     lines = [it for it in (told.stdout + told.stderr).split("\n") if re.search(r"\berror(\[|:)", it) and "no function" not in it]
     places = {(m[1], int(m[2])) for it in lines for m in re.finditer(r"(src/\S+?):(\d+)", it)}
     near = lambda it, by: any(file == it.file and abs(line - it.line - 1) <= by for file, line in places)
-    # (an arm that can't be reached any more stands below the one that was changed)
-    return [it for it in group.edits if near(it, 0)] or [it for it in group.edits if near(it, 1)], lines
+    # (an arm that can't be reached any more stands below the one that was changed, the use of what has another type anywhere)
+    names = {of_edits.function_at(of_edits.text_of(crate, file), file, start_of(of_edits.text_of(crate, file), line)) for file, line in places}
+    function = [it for it in group.edits if it.meant in names]
+    return [it for it in group.edits if near(it, 0)] or [it for it in group.edits if near(it, 1)] or function, lines
 
 
 def that_compile(crate, mine, rest, most):
@@ -214,6 +225,14 @@ class Crate(wrong.Crate):
         self.write()
         return tried
 
+    def judge_assuming(self, group, lines):
+        """Lets those through whose functions are proved over the contracts of the others: no proof reads another's body."""
+        super().judge_assuming(group, lines)
+        proved = {it[1] for line in lines for it in [PROVED.match(line)] if it}
+        is_proved = lambda edit: all(any(wrong.belongs(it, name) for it in proved) for name in group.functions_of(edit))
+        self.failed |= {it.name: STILL[0] for it in self.doubted if is_proved(it)}
+        self.doubted = [it for it in self.doubted if it.name not in self.failed]
+
     def write(self):
         names = {it.name: it.meant for it in self.edits}
         let = {name: why for name, why in self.failed.items() if name in names and why.startswith(STILL)}
@@ -226,9 +245,10 @@ class Crate(wrong.Crate):
 
 
 def try_crate(crate, mine, rest, most, into):
-    """Tries the changes of a crate."""
-    good, anew = that_compile(crate, mine, rest, most)
-    print(f"{crate.name}: {len(good)} changes, {anew} drawn anew", flush=True)
+    """Tries the changes of a crate that no test sees."""
+    tests = tests_of_changes()
+    good, anew = that_compile(crate, [it for it in mine if key_of(it) not in tests], rest, most)
+    print(f"{crate.name}: {len(good)} of {len(mine)} changes, {anew} drawn anew", flush=True)
     with tempfile.TemporaryDirectory(prefix="changes-kept-") as room:
         it = Crate(crate, good, room, anew, into)
         it.run_all()
@@ -236,6 +256,11 @@ def try_crate(crate, mine, rest, most, into):
     print(f"{crate.name}: {len(it.refused)} refused, {len(let)} let through, {len(other)} other; {it.checks} checks, {it.seconds:.0f} s of one core", flush=True)
     for name, why in {**let, **other}.items():
         print(f"  {name}: {why[:200]}", flush=True)
+
+
+def key_of(change):
+    """A change's name among those of all crates."""
+    return f"{change.crate.name} {change.name}"
 
 
 def tests_of_changes():
@@ -249,48 +274,44 @@ def tests_of_changes():
     return found
 
 
-def row_of(name, tests):
-    """The cells of a crate's row; of the changes that the prover doesn't refuse, those that a test sees, and the others."""
-    with open(f"{ROOT}/out/changes/{name}.json", encoding="utf-8") as it:
-        kept = json.load(it)
-    let = [f"{name} {it}" for it in kept["functions"] if it not in kept["refused"]]
-    seen, neither = [it for it in let if it in tests], [it for it in let if it not in tests]
-    return [len(kept["functions"]), len(kept["refused"]), len(seen), len(neither)], seen, neither
+def row_of(name, keys, tests, reasons):
+    """The cells of a crate's row: its changes, those that a test sees, that the prover refuses, that neither does, and those untried; and the fourth kind."""
+    tried, file = {"functions": [], "refused": [], "let_through": [], "other": []}, f"{ROOT}/out/changes/{name}.json"
+    if os.path.exists(file):
+        with open(file, encoding="utf-8") as it:
+            tried = json.load(it)
+        keys = [*(it for it in keys if it in tests), *(f"{name} {it}" for it in tried["functions"])]
+    every = dict.fromkeys(keys)
+    seen = {it for it in every if it in tests}
+    refused = {it for it in every if it.removeprefix(f"{name} ") in tried["refused"]} - seen
+    told = {f"{name} {it}" for part in ("let_through", "other") for it in tried[part]} | {*reasons}
+    neither = [it for it in every if it in told and it not in seen | refused]
+    return [len(every), len(seen), len(refused), len(neither), len(every) - len(seen) - len(refused) - len(neither)], neither
 
 
-def read_page(text):
-    """The cells of each crate's row in a page, and its reasons."""
-    rows = {name: [int(it) for it in cells.split("|")] for name, cells in re.findall(r"^\| `(\w+)` \|([\d |]+)\|$", text, re.M)}
+def reasons_of(text):
+    """What a page says of changes."""
     told = re.findall(r"^- `(\w+ src/[^`]*)`:\s(.*(?:\n  .*)*)", text, re.M)
-    return rows, {key: " ".join(why.split()) for key, why in told if why != OPEN}
+    return {key: " ".join(why.split()) for key, why in told if why != OPEN}
 
 
-def listed(title, whys):
-    """A list of the page, if it isn't empty."""
-    how = {"subsequent_indent": "  ", "break_long_words": False, "break_on_hyphens": False}
-    return ["", f"## {title}", "", *(textwrap.fill(f"- `{key}`: {why}", 100, **how) for key, why in whys)] if whys else []
-
-
-def write_page():
-    """Writes the table and the lists of bench/changes.md anew; how many changes nobody refuses, sees or explains."""
+def write_page(taken, crates):
+    """Writes the table and the list of bench/changes.md anew; how many changes nobody sees, refuses or explains, or tried."""
     page = f"{ROOT}/bench/changes.md"
-    crates = [it.name for it in changed_crates(ROOT)]
     with open(page, encoding="utf-8") as it:
         text = it.read()
-    rows, reasons = read_page(text)
-    tests, seen, neither = tests_of_changes(), [], []
+    reasons, tests, rows, neither = reasons_of(text), tests_of_changes(), {}, []
     for name in crates:
-        if os.path.exists(f"{ROOT}/out/changes/{name}.json"):
-            rows[name], mine, others = row_of(name, tests)
-            seen, neither = seen + mine, neither + others
-    rows["all"] = [sum(it) for it in zip(*(rows[name] for name in crates if name in rows))]
-    lines = [text[: text.index("|---|")] + "|---|---|---|---|---|"]
-    lines += [f"| `{name}` | {' | '.join(str(it) for it in rows[name])} |" for name in [*crates, "all"] if name in rows]
-    lines += listed("Seen by a test alone", [(it, f"`{'`, `'.join(tests[it])}`") for it in seen])
-    lines += listed("Neither", [(it, reasons.get(it, OPEN)) for it in neither])
+        rows[name], mine = row_of(name, [key_of(it) for it in taken if it.crate.name == name], tests, reasons)
+        neither += mine
+    rows["all"] = [sum(it) for it in zip(*rows.values())]
+    lines = [text[: text.index("|---|")] + "|---|---|---|---|---|---|"]
+    lines += [f"| `{name}` | {' | '.join(str(it) for it in row)} |" for name, row in rows.items() if row[0]]
+    how = {"subsequent_indent": "  ", "break_long_words": False, "break_on_hyphens": False}
+    lines += ["", "## Neither", "", *(textwrap.fill(f"- `{it}`: {reasons.get(it, OPEN)}", 100, **how) for it in neither)]
     with open(page, "w", encoding="utf-8") as it:
         it.write("\n".join(lines) + "\n")
-    return sum(it not in reasons for it in neither)
+    return sum(it not in reasons for it in neither) + rows["all"][-1]
 
 
 def number(words, flag, usual):
@@ -315,21 +336,20 @@ def list_drawn(asked, taken, every):
 
 
 def main(words):
-    into = f"{ROOT}/out/changes"
-    seed, count, most = number(words, "--seed", 20261125), number(words, "--all", 330), number(words, "--most", 2)
+    seed, count, most = number(words, "--seed", SEED), number(words, "--all", COUNT), number(words, "--most", MOST)
     is_list = "--list" in words
     words = [it for it in words if it != "--list"]
-    if words == ["--page"]:
-        return 1 if write_page() else 0
-    if not words or words[0].startswith("-"):
+    if not words or words[0].startswith("-") and words != ["--page"]:
         sys.exit(__doc__)
-    crates = {it.name: it for it in changed_crates(os.path.abspath(words[0]))}
-    asked = words[1:] or [*crates]
+    crates = {it.name: it for it in changed_crates(ROOT if words == ["--page"] else os.path.abspath(words[0]))}
     taken, rest, every = drawn([*crates.values()], seed, count, most)
+    if words == ["--page"]:
+        return 1 if write_page(taken, crates) else 0
+    asked = words[1:] or [*crates]
     if is_list:
         return list_drawn(asked, taken, every)
     for name in asked:
-        try_crate(crates[name], [it for it in taken if it.crate.name == name], rest, most, into)
+        try_crate(crates[name], [it for it in taken if it.crate.name == name], rest, most, f"{ROOT}/out/changes")
     return 0
 
 

@@ -341,6 +341,12 @@ def table(title, packers, rows, about="", before=(), counts=False):
     sys.stdout.flush()
 
 
+def of_page(title):
+    """A part of the page as it was committed, which this script doesn't measure."""
+    page = subprocess.run(["git", "show", "HEAD:docs/COMPARISON.md"], cwd=Path(__file__).parent, capture_output=True, text=True, check=True).stdout
+    return re.search(rf"^## {title}\n(?:(?!## ).*\n)*", page, re.M)[0].rstrip("\n")
+
+
 def said_of_stale(packer, where, linked):
     """What came of an executable that was linked with other units than its objects have."""
     said, is_there = packer.pack(where, [], "app")
@@ -463,6 +469,7 @@ def compare(folder, packers, debuggers, rounds, note):
               "beside the executable; objects and archives are gone. The first column has what it shows by the objects alone, "
               "where they were made. **Macros too**: where macros were compiled in, it knows one of the source. **Needs none**: "
               "it shows that without objects and package.", ["no package, but the objects"])
+    print("\n" + of_page("Real programs in a debugger"))
     wrong = folder / "wrong"
     wrong.mkdir()
     rows = []
