@@ -3,4 +3,5 @@ pub mod Entries
 pub mod Headers
 pub mod Members
 pub mod Names
+pub mod Texts
 pub mod View

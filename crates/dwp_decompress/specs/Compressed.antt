@@ -1,10 +1,12 @@
 -- Which sections of an ELF file are compressed: those with SHF_COMPRESSED (ELF gABI, "Section
 -- Attribute Flags"), and by GNU's older convention those whose names begin with `.zdebug_` (GNU
 -- binutils, `--compress-debug-sections=zlib-gnu`).
-use Rattle.std.specs.Prelude.{ℕ, List, Bool, false, ◌&&◌, ◌||◌, ◌==◌, not, codes, nat_eq, Option}
+use Rattle.std.specs.Prelude.{◌≡◌, ℕ, List, Bool, false, true, Result, Ok, Err, ◌&&◌, ◌||◌, ◌==◌}
+use Rattle.std.specs.Prelude.{not, codes, nat_eq, Option}
 use Rattle.std.specs.Prelude.{Some, None}
 use Rattle.std.specs.List.{starts_with, list_any}
-use Rattle.dwp_elf_read.specs.Elf.{SectionMeaning, SHT_NOBITS, has_compressed_flag}
+use Rattle.dwp_elf_read.specs.Elf.{Elf, SectionMeaning, SHT_NOBITS, has_compressed_flag}
+use Rattle.dwp_elf_read.specs.declared.error.ReadError.{ReadError}
 use Rattle.dwp_decompress.specs.declared.asked.Asked.{Asked}
 use Rattle.dwp_decompress.specs.Asked.{is_asked}
 
@@ -31,3 +33,8 @@ is_compressed asked section =
 -- some section's is
 abbrev pub has_compressed : Asked → List SectionMeaning → Bool
 has_compressed asked sections = list_any (is_compressed asked) sections
+
+-- a file that can be read has one
+abbrev pub HasCompressed : Asked → Result Elf ReadError → Type 0
+HasCompressed asked (Ok file) = has_compressed asked file.sections ≡ true
+HasCompressed asked (Err e) = ⊥

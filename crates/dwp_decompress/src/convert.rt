@@ -6,6 +6,7 @@ ghost use Rattle.dwp_elf_read.specs.Elf.{elf_of};
 ghost use Rattle.dwp_elf_read.specs.View.{elf};
 ghost use Rattle.dwp_decompress.specs.Agreement.{expected_file};
 ghost use Rattle.dwp_decompress.specs.Answers.{GivesFile};
+ghost use Rattle.dwp_decompress.specs.Compressed.{HasCompressed};
 ghost use Rattle.dwp_decompress.specs.Result.{plain_file, decompressed_of, plain_length_of};
 ghost use Rattle.dwp_decompress.specs.Headers.{told_sizes};
 ghost use Rattle.dwp_decompress.specs.Sizes.{length_of, sum_tells_more, tells_too_much};
@@ -113,6 +114,7 @@ pub fn decompressed(
         ≡ Ok (option_map (λ out. length_of_list out.items) plain)) }
     ensures limit { IsTrue (tells_too_much asked bytes.now (elf_of bytes.now))
         → result ≡ Err Unrepresentable }
+    ensures compressed { result ≡ Err Unrepresentable → HasCompressed asked (elf_of bytes.now) }
 {
     let file = ElfFile::parse(bytes)?;
     if has_compressed(asked, &file) {

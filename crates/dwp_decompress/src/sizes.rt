@@ -8,6 +8,7 @@ ghost use Rattle.dwp_elf_read.specs.Layout.{entry_size};
 ghost use Rattle.dwp_elf_read.specs.View as view;
 ghost use Rattle.dwp_elf_read.specs.View.{elf};
 ghost use Rattle.dwp_decompress.specs.Answers.{GivesFile};
+ghost use Rattle.dwp_decompress.specs.Compressed.{HasCompressed};
 ghost use Rattle.dwp_decompress.specs.Headers.{told_size, told_sizes};
 ghost use Rattle.dwp_decompress.specs.Names.{added_name_of, added_names, names_number};
 ghost use Rattle.dwp_decompress.specs.Result.{plain_length_of};
@@ -240,6 +241,7 @@ pub fn plain_length(bytes: &[u8], asked: Asked) -> Result<Option<u64>, Decompres
     ensures length { GivesFile (λ size. size) result (plain_length_of asked bytes.now) }
     ensures limit { IsTrue (tells_too_much asked bytes.now (elf_of bytes.now))
         → result ≡ Err Unrepresentable }
+    ensures compressed { result ≡ Err Unrepresentable → HasCompressed asked (elf_of bytes.now) }
 {
     let file = ElfFile::parse(bytes)?;
     if has_compressed(asked, &file) {
