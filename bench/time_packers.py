@@ -69,7 +69,7 @@ def main():
                     cells.append(refused[name])
                     continue
                 wall, busy, memory = zip(*seen[name])
-                cells.append(f"{min(wall):.0f} / {statistics.median(wall):.0f} ms, {min(busy):.0f} busy, {max(memory):.0f} MiB")
+                cells.append(f"{min(wall):.1f} / {statistics.median(wall):.1f} ms, {min(busy):.0f} busy, {max(memory):.0f} MiB")
             print(f"| {group}: {len(inputs)} inputs, {total / 1e6:.1f} MB | " + " | ".join(cells) + " |", flush=True)
 
 

@@ -1,12 +1,15 @@
 //! The contents of the sections, in order of first append.
 
-ghost use Rattle.std.specs.Prelude.{◌≡◌, ◌<◌, length, position, IfOk, OnErr};
+ghost use Rattle.std.specs.Prelude.{◌≡◌, ◌<◌, ◌++◌, length, position, IfOk, OnOk, OnErr};
 ghost use Rattle.dwp_base.specs.Sections.{same_kind};
 ghost use Rattle.dwp_elf.specs.Contents.{contents_of, content_of, appended, truncated};
 ghost use Rattle.dwp_elf.specs.Growing.{lengths};
 
 use dwp_base::SectionKind;
 use std::alloc::{AllocError, Global};
+
+/// How many bytes are copied together.
+const PIECE: usize = 1024;
 
 /// The number of the section of a kind.
 fn number_of(sections: &[(SectionKind, Vec<u8>)], kind: SectionKind) -> Option<usize>
@@ -41,6 +44,21 @@ pub fn lengths_of(
     Ok(sizes)
 }
 
+/// Appends bytes, some at a time: longer pieces are copied byte by byte on some processors.
+fn append_by_pieces(out: &mut Vec<u8>, bytes: &[u8]) -> Result<(), AllocError>
+    ensures ok { OnOk result (out.new.items ≡ out.old.items ++ bytes.now) }
+    ensures err { OnErr result (out.new.items ≡ out.old.items) }
+{
+    out.reserve(bytes.len())?;
+    let mut at = 0;
+    while at < bytes.len() {
+        let next = at + PIECE.min(bytes.len() - at);
+        out.extend_from_slice(&bytes[at..next])?;
+        at = next;
+    }
+    Ok(())
+}
+
 /// Adds bytes at the end of the content of a kind, or as a new last content where there is none,
 /// and tells where they begin in it.
 pub fn append_to(
@@ -60,7 +78,7 @@ pub fn append_to(
         Some(number) => {
             let section = &mut sections[number];
             let place = section.1.len();
-            section.1.extend_from_slice(bytes)?;
+            append_by_pieces(&mut section.1, bytes)?;
             Ok(place)
         }
         None => {
@@ -88,7 +106,7 @@ pub fn move_to(
         Some(number) => {
             let section = &mut sections[number];
             let place = section.1.len();
-            section.1.extend_from_slice(&bytes)?;
+            append_by_pieces(&mut section.1, &bytes)?;
             Ok(place)
         }
         None => {

@@ -3,6 +3,7 @@
 ghost use Rattle.std.specs.Prelude.{◌≡◌, ◌≤◌, ◌+◌, ◌↔◌, length, take, IfOk, OnOk, IfSome, IsTrue};
 ghost use Rattle.std.specs.Io.KnownBytes.{Consumes};
 
+use std::alloc::AllocError;
 use std::fs::{self, File, FileType};
 use std::io::{self, ErrorKind, Read};
 use std::os::unix::fs::{FileTypeExt, MetadataExt};
@@ -11,6 +12,9 @@ use std::path::{AsPath, Path};
 /// How much room is made at least for files that are read one after another: 16 MiB. Most objects
 /// fit, and new room costs the system a fault for each page that it touches for the first time.
 const ROOM: usize = 0x100_0000;
+
+/// By how many bytes it is lengthened at a time.
+const PIECE: usize = 1024;
 
 /// Reads a file whole, into room of its length where the system tells the length, so that it is
 /// held once.
@@ -168,10 +172,23 @@ fn read_whole<F: Read>(file: &mut F, len: u64, room: &mut Vec<u8>) -> io::Result
             room.reserve_exact(needed)?;
         }
     }
-    room.resize(needed, 0)?;
+    lengthen(room, needed)?;
     let front = read_once(file, room)?;
     room.truncate(front);
     file.read_to_end(room)?;
+    Ok(())
+}
+
+/// Lengthens room that has fewer than `len` bytes by zeros, some at a time: more are set byte by byte
+/// on some processors.
+fn lengthen(room: &mut Vec<u8>, len: usize) -> Result<(), AllocError>
+    ensures { OnOk result (len ≤ length room.new.items) }
+{
+    let zeros = [0; PIECE];
+    while room.len() < len {
+        let count = PIECE.min(len - room.len());
+        room.extend_from_slice(&zeros[..count])?;
+    }
     Ok(())
 }
 

@@ -2,21 +2,21 @@ use Rattle.dwp_elf.proofs.Terms.{ap, arith, common_steps, length, refl}
 use Rattle.dwp_elf.proofs.Changes.{at_first, absent, contents_of-set_same}
 use Rattle.dwp_elf.proofs.contents.append_to.Goals as goal
 
-pub returns-in_err-extend_from_slice-in-Some-clause-unchanged :
-    goal.returns-in_err-extend_from_slice-in-Some-clause-unchanged
-returns-in_err-extend_from_slice-in-Some-clause-unchanged c =
+pub returns-in_err-append_by_pieces-in-Some-clause-unchanged :
+    goal.returns-in_err-append_by_pieces-in-Some-clause-unchanged
+returns-in_err-append_by_pieces-in-Some-clause-unchanged c =
     grind (arith, common_steps, contents_of-set_same)
 
-pub returns-in_ok-extend_from_slice-in-Some-clause-contents :
-    goal.returns-in_ok-extend_from_slice-in-Some-clause-contents
-returns-in_ok-extend_from_slice-in-Some-clause-contents c =
+pub returns-in_ok-append_by_pieces-in-Some-clause-contents :
+    goal.returns-in_ok-append_by_pieces-in-Some-clause-contents
+returns-in_ok-append_by_pieces-in-Some-clause-contents c =
     (at_first _ _ _ (rw c.deref.ensures.value at c.in-Some.ensures)).added _ _ _
     c.index_mut-section.ensures.value refl
-    c.in_ok-extend_from_slice-in-Some.ensures.items
+    c.in_ok-append_by_pieces-in-Some.ensures.ok
 
-pub returns-in_ok-extend_from_slice-in-Some-clause-place :
-    goal.returns-in_ok-extend_from_slice-in-Some-clause-place
-returns-in_ok-extend_from_slice-in-Some-clause-place c =
+pub returns-in_ok-append_by_pieces-in-Some-clause-place :
+    goal.returns-in_ok-append_by_pieces-in-Some-clause-place
+returns-in_ok-append_by_pieces-in-Some-clause-place c =
     let first = at_first _ _ _ (rw c.deref.ensures.value at c.in-Some.ensures) in
     let content = ap length (first.content _ c.index_mut-section.ensures.value) in
     omega (arith, content, c.index_mut-section.result.now.1.ok.0, c.len-place.ensures)
