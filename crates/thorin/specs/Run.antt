@@ -16,6 +16,7 @@ use Rattle.thorin.specs.declared.packing.Input.TheVariants as inputs
 use Rattle.thorin_join.specs.Builder.{State, finish_test, IsFinishedState}
 use Rattle.thorin_builder.specs.Taking.{Outcome, Takes, accepted_of, TakesFile, TakesExecutable}
 use Rattle.thorin_builder.specs.Taking.{TakesExecutableSkippingNameless, Step}
+use Rattle.thorin_builder.specs.Reading.{DeclinesSome}
 
 -- what came of an input of a list, and the bytes that were accepted
 abbrev pub TakesInput : (List ℕ → Result (List ℕ) IoError → Type 0) → Input → State → Outcome
@@ -35,6 +36,16 @@ pub record Took (offer : List ℕ → Result (List ℕ) IoError
     → Type 0) (input : Input) (old : State) (outcome : Outcome) (new : State) : Type 0 where
   pub accepted : List (List ℕ)
   pub takes : TakesInput offer input old outcome new accepted
+
+-- an input is declined for a reason: the file at its path is, or of an executable that of some
+-- path;
+-- bytes aren't
+abbrev pub DeclinesInput : {D : Type 0} → (declines : List ℕ → D → Type 0) → Input → D → Type 0
+DeclinesInput declines (inputs.Object path) why = declines (path_bytes path) why
+DeclinesInput declines (inputs.Bytes bytes) why = ⊥
+DeclinesInput declines (inputs.Executable path missing) why = DeclinesSome declines why
+DeclinesInput declines (inputs.ExecutableSkippingNameless path missing) why =
+    DeclinesSome declines why
 
 -- a run: each input in order, refused ones passed over; and the bytes of all that were accepted, in
 -- order

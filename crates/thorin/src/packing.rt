@@ -4,9 +4,9 @@ ghost use Rattle.std.specs.Prelude.{◌≡◌, ℕ, List, map, IfOk, IfErr};
 ghost use Rattle.thorin_join.specs.Builder.{differing_in};
 ghost use Rattle.thorin_join.specs.Join.{IsPackageOf};
 ghost use Rattle.thorin.specs.Packed.{IsPacked};
-ghost use Rattle.thorin_builder.specs.Reading.{DeclinesSome, OnDeclined, outcome_of};
+ghost use Rattle.thorin_builder.specs.Reading.{OnDeclined, outcome_of};
 ghost use Rattle.thorin_join.specs.Represents.{units_in};
-ghost use Rattle.thorin.specs.Run.{Ran, Took, Writes};
+ghost use Rattle.thorin.specs.Run.{DeclinesInput, Ran, Took, Writes};
 
 use dwp_bytes::RelocationEntry;
 use dwp_table::DebugTypeSignature;
@@ -107,7 +107,7 @@ pub fn take_input<'o, 's: 'o, Sess: Session<RelocationEntry>, R: InputReader>(
 ) -> Result<(), NotTaken<Error, R::Refusal>>
     ensures taken { Took (R.offer reader.now) input.entry builder.old.state (outcome_of result)
         builder.new.state }
-    ensures declined { OnDeclined result (DeclinesSome (R.declines reader.now)) }
+    ensures declined { OnDeclined result (DeclinesInput (R.declines reader.now) input.entry) }
     ensures session { builder.new.session ≡ builder.old.session }
 {
     match input {

@@ -5,3 +5,5 @@ pub mod Mapped
 pub mod Overlaps
 pub mod Plain
 pub mod Prefixes
+pub mod Repetitions
+pub mod RepetitionFields

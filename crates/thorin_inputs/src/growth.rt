@@ -1,11 +1,15 @@
 //! Small files that could ask for a package of any size.
 
-ghost use Rattle.std.specs.Prelude.{◌≡◌};
+ghost use Rattle.std.specs.Prelude.{◌≡◌, None, IfOk, OnOk, OnErr};
 ghost use Rattle.thorin_inputs.specs.Growth.{growth_text};
+ghost use Rattle.thorin_inputs.specs.Repetitions.{File, none_read, plus, begun, with_added};
+ghost use Rattle.thorin_inputs.specs.Repetitions.{bytes_more, is_added_within, own_counted};
+ghost use Rattle.thorin_inputs.specs.Repetitions.{object_counted, is_admitted, last, last_of};
+ghost use Rattle.thorin_inputs.specs.Repetitions.{noted};
 
-use std::alloc::Global;
-use std::cell::Cell;
+use std::alloc::{AllocError, Global};
 use std::collections::BTreeMap;
+use std::marker::Model;
 
 /// How many bytes an input may bring in any case that its files don't have.
 pub(crate) const LEAST_ROOM: usize = 1 << 12;
@@ -61,100 +65,165 @@ impl Growth {
 /// how often files are read again.
 #[derive(Drop)]
 pub struct Repetitions {
-    alloc: Global,
-    /// The files that were read, as far as there was memory for them: the device and the number
-    /// of each there, and its size, since not every file system numbers its files. Each with the
-    /// number of the input for which it was read last.
-    files: Cell<BTreeMap<(u64, u64, usize), usize>>,
-    input: Cell<usize>,
+    /// The files that were read: the device and the number of each there, and its size, since not
+    /// every file system numbers its files. Each with the number of the input for which it was read
+    /// last.
+    files: BTreeMap<(u64, u64, usize), usize>,
+    input: usize,
     /// How many bytes of the input were read, and added once more.
-    read: Cell<usize>,
-    added: Cell<usize>,
+    read: usize,
+    added: usize,
     /// How many bytes of all inputs were read first, and again.
-    first: Cell<usize>,
-    again: Cell<usize>,
+    first: usize,
+    again: usize,
+}
+
+impl Model for Repetitions {
+    ghost use Rattle.thorin_inputs.specs.Repetitions.{Reads};
+
+    ghost Value = { Reads };
+
+    ghost use Rattle.thorin_inputs.specs.RepetitionFields.{reads_in};
+
+    ghost view = { reads_in };
 }
 
 impl Repetitions {
     /// Of an input of which nothing was read.
-    pub fn new(alloc: Global) -> Repetitions {
+    pub fn new(alloc: Global) -> Repetitions
+        ensures input { result.input ≡ 0 }
+        ensures last { (file : File) → last result file ≡ None }
+        ensures counts { result.counts ≡ none_read }
+    {
         Repetitions {
-            alloc,
-            files: Cell::new(BTreeMap::new(alloc)),
-            input: Cell::new(0),
-            read: Cell::new(0),
-            added: Cell::new(0),
-            first: Cell::new(0),
-            again: Cell::new(0),
+            files: BTreeMap::new(alloc),
+            input: 0,
+            read: 0,
+            added: 0,
+            first: 0,
+            again: 0,
         }
     }
 
     /// Begins an input.
-    pub fn begin(&self) {
-        self.input.set(self.input.get().saturating_add(1));
-        self.read.set(0);
-        self.added.set(0);
+    pub fn begin(&mut self)
+        ensures { self.new ≡ record self.old {
+          input = plus self.old.input 1;
+          counts = begun
+              self.old.counts;
+        } }
+    {
+        self.input = self.input.saturating_add(1);
+        self.read = 0;
+        self.added = 0;
     }
 
     /// Counts the input's own file, which was read.
-    pub fn count_own(&self, identity: Option<(u64, u64)>, size: usize) {
-        let is_first = self.last_input_of(identity, size).is_none();
-        self.count_read(size, is_first);
+    ///
+    /// # Errors
+    /// Want of memory; then nothing was counted.
+    pub fn count_own(&mut self, identity: Option<(u64, u64)>, size: usize) -> Result<(), AllocError>
+        ensures counted { OnOk result (self.new.counts
+            ≡ own_counted self.old.counts (last_of self.old identity size) size) }
+        ensures noted { OnOk result ((file : File)
+            → last self.new file ≡ noted self.old identity size file) }
+        ensures input { self.new.input ≡ self.old.input }
+        ensures uncounted { OnErr result (self.new.counts ≡ self.old.counts) }
+    {
+        let before = self.note(identity, size)?;
+        self.read = self.read.saturating_add(size);
+        if before.is_none() {
+            self.first = self.first.saturating_add(size);
+        }
+        Ok(())
     }
 
     /// Whether an object that was read may be added. One that was read before counts with its size:
     /// by another path for the same input as what is added once more, and in any case as what is
     /// read again.
-    pub fn admits_object(&self, identity: Option<(u64, u64)>, size: usize) -> bool {
-        let Some(input) = self.last_input_of(identity, size) else {
-            self.count_read(size, true);
+    ///
+    /// # Errors
+    /// Want of memory; then nothing was counted.
+    pub fn admits_object(
+        &mut self,
+        identity: Option<(u64, u64)>,
+        size: usize,
+    ) -> Result<bool, AllocError>
+        ensures admitted { IfOk result (λ admits. admits
+            ≡ is_admitted self.old.counts self.old.input (last_of self.old identity size) size) }
+        ensures counted { OnOk result (self.new.counts
+            ≡ object_counted self.old.counts self.old.input (last_of self.old identity size) size) }
+        ensures noted { OnOk result ((file : File)
+            → last self.new file ≡ noted self.old identity size file) }
+        ensures input { self.new.input ≡ self.old.input }
+        ensures uncounted { OnErr result (self.new.counts ≡ self.old.counts) }
+    {
+        let before = self.note(identity, size)?;
+        Ok(self.admits_after(before, size))
+    }
+
+    /// The same of one that was noted, and was read before for an input, if it was.
+    fn admits_after(&mut self, before: Option<usize>, size: usize) -> bool
+        ensures admitted { result ≡ is_admitted self.old.counts self.old.input before size }
+        ensures counted { self.new.counts
+            ≡ object_counted self.old.counts self.old.input before size }
+        ensures files { self.new.files ≡ self.old.files }
+        ensures input { self.new.input ≡ self.old.input }
+    {
+        let Some(input) = before else {
+            self.read = self.read.saturating_add(size);
+            self.first = self.first.saturating_add(size);
             return true;
         };
-        if !self.admits_again(size) {
+        self.again = self.again.saturating_add(size);
+        if self.again / READ_AGAIN > self.first {
             return false;
         }
-        if input == self.input.get() {
+        if input == self.input {
             return self.admits_more(size);
         }
-        self.count_read(size, false);
+        self.read = self.read.saturating_add(size);
         true
     }
 
     /// Whether an object may be added once more that isn't read again: how many bytes of sections
     /// it adds, and how many type units it has that differ from those kept.
-    pub fn admits(&self, bytes: usize, differing: usize) -> bool {
+    pub fn admits(&mut self, bytes: usize, differing: usize) -> bool
+        ensures counted { self.new ≡ record self.old {
+          counts = with_added self.old.counts
+              (bytes_more bytes differing);
+        } }
+        ensures admitted { result ≡ is_added_within self.new.counts }
+    {
         let differing = differing.saturating_mul(DIFFERING_SIZE);
         self.admits_more(bytes.saturating_add(differing))
     }
 
-    /// Counts bytes that were read, the first time or again.
-    fn count_read(&self, bytes: usize, is_first: bool) {
-        self.read.set(self.read.get().saturating_add(bytes));
-        if is_first {
-            self.first.set(self.first.get().saturating_add(bytes));
-        }
-    }
-
     /// Whether so many bytes may be added once more: all together as many as were read so far.
-    fn admits_more(&self, bytes: usize) -> bool {
-        let added = self.added.get().saturating_add(bytes);
-        self.added.set(added);
-        added <= LEAST_ROOM || added <= self.read.get()
+    fn admits_more(&mut self, bytes: usize) -> bool
+        ensures counted { self.new ≡ record self.old { counts = with_added self.old.counts bytes } }
+        ensures admitted { result ≡ is_added_within self.new.counts }
+    {
+        self.added = self.added.saturating_add(bytes);
+        self.added <= LEAST_ROOM || self.added <= self.read
     }
 
-    /// Whether so many bytes may be read again.
-    fn admits_again(&self, bytes: usize) -> bool {
-        let again = self.again.get().saturating_add(bytes);
-        self.again.set(again);
-        again / READ_AGAIN <= self.first.get()
-    }
-
-    /// The input for which a file was read before, if it was; that is the present one then.
-    fn last_input_of(&self, identity: Option<(u64, u64)>, size: usize) -> Option<usize> {
-        let (device, number) = identity?;
-        let mut files = self.files.replace(BTreeMap::new(self.alloc));
-        let last = files.insert((device, number, size), self.input.get());
-        self.files.set(files);
-        last.ok().flatten()
+    /// Notes that a file was read for the present input: the one for which it was read before, if it
+    /// was; that is the present one then.
+    fn note(
+        &mut self,
+        identity: Option<(u64, u64)>,
+        size: usize,
+    ) -> Result<Option<usize>, AllocError>
+        ensures before { IfOk result (λ before. before ≡ last_of self.old identity size) }
+        ensures noted { OnOk result ((file : File)
+            → last self.new file ≡ noted self.old identity size file) }
+        ensures input { self.new.input ≡ self.old.input }
+        ensures counts { self.new.counts ≡ self.old.counts }
+    {
+        let Some((device, number)) = identity else {
+            return Ok(None);
+        };
+        Ok(self.files.insert((device, number, size), self.input)?)
     }
 }

@@ -28,8 +28,8 @@ pub use growth::{Growth, Repetitions};
 pub use inner::has_inner_strings;
 pub use macros::MacroWarnings;
 pub use notes::{
-    MEMBER_NAME_READ, note_absent, note_alone, note_before, note_reason, note_refused,
-    note_twice_in, place_of, place_of_member, reason,
+    Lack, MEMBER_NAME_READ, cut_hint, note_absent, note_alone, note_before, note_reason,
+    note_refused, note_twice_in, place_of, place_of_member, reason,
 };
 pub use overlaps::{has_compressed_overlap, has_overlap};
 pub use plain::{PlainError, plain_of};

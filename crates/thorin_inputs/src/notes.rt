@@ -2,6 +2,8 @@
 //! it, and which option helps.
 
 use crate::compression::Compression;
+use dwp_elf::ElfFile;
+use dwp_elf_read::ReadError;
 use std::alloc::{AllocError, Global};
 use std::fmt;
 use std::io::{self, Write};
@@ -15,9 +17,9 @@ pub const MEMBER_NAME_READ: usize = 769;
 /// How many bytes of a longer one are shown.
 const BEGINNING_SHOWN: usize = 383;
 
-/// An input, or an object that it names, as it is printed.
+/// An input, or an object that it names, as it is printed. Of an empty name two marks are.
 pub fn place_of(alloc: Global, input: &str, named: Option<&str>) -> Result<String, AllocError> {
-    let input = shown(alloc, input)?;
+    let input = shown(alloc, if input.is_empty() { "''" } else { input })?;
     match named {
         Some(named) => {
             let named = shown(alloc, named)?;
@@ -78,6 +80,62 @@ pub fn note_absent<E: Write>(reason: &str, others: usize, err: &mut E) {
     };
 }
 
+/// Why an input adds no split units.
+#[derive(Clone, Copy)]
+pub enum Lack {
+    /// That isn't known.
+    Unknown,
+    /// It has type units alone, which are passed over.
+    Types,
+    /// It is taken for an executable, and has split units of its own.
+    Split,
+    /// It is taken for an executable, and has debug information that isn't split.
+    Whole,
+    /// It is taken for an executable, and has no debug information.
+    Stripped,
+    /// It is taken for an object, and has debug information of a link.
+    Linked,
+    /// It is taken for an object, and has no debug information.
+    Bare,
+}
+
+impl Lack {
+    /// What a file lacks that is taken for an executable, or for an object.
+    pub fn of(bytes: &[u8], is_executable: bool) -> Lack {
+        let Ok(file) = ElfFile::parse(bytes) else {
+            return Lack::Unknown;
+        };
+        let is_linked = has_section(&file, ".debug_info") || has_section(&file, ".zdebug_info");
+        match (is_executable, is_linked) {
+            (true, true) => Lack::Whole,
+            (true, false) if has_section(&file, ".debug_info.dwo") => Lack::Split,
+            (true, false) => Lack::Stripped,
+            (false, true) => Lack::Linked,
+            (false, false) => Lack::Bare,
+        }
+    }
+}
+
+/// Whether an ELF file has a section of this name.
+fn has_section(file: &ElfFile<'_>, name: &str) -> bool {
+    file.section_by_name(name).is_some()
+}
+
+/// What is said of it behind `no split units`.
+impl fmt::Display for Lack {
+    fn fmt<W: fmt::Write>(&self, f: &mut fmt::Formatter<W>) -> fmt::Result {
+        f.write_str(match self {
+            Lack::Unknown => "",
+            Lack::Types => ": .debug_types.dwo is passed over without .debug_info.dwo",
+            Lack::Split => ": objects and packages are named without -e",
+            Lack::Whole => ": compiled without -gsplit-dwarf?",
+            Lack::Stripped => ": stripped? name the file from before that, or its .debug file",
+            Lack::Linked => ": name its .dwo, or an executable behind -e",
+            Lack::Bare => ": no debug information",
+        })
+    }
+}
+
 /// Prints the note on an input, or an object that it names, that was read and refused.
 pub fn note_refused<E: Write>(place: &str, error: &Error, left: Compression, err: &mut E) {
     let cause = Cause(error);
@@ -106,15 +164,34 @@ pub fn note_twice_in<E: Write>(unit: u64, place: &str, err: &mut E) {
     let _ = writeln!(err, "note: unit 0x{unit:08x}: twice in {place}");
 }
 
-/// The cause below an error, where there is one: the error itself was told.
+/// What may have become of a file that can't be read as ELF, if anything: those who write packages
+/// and objects put the section headers last, so they are what a file lacks that was cut short.
+pub fn cut_hint(cause: &ReadError) -> &'static str {
+    match cause {
+        ReadError::SectionTable => " (cut short?)",
+        _ => "",
+    }
+}
+
+/// The cause below an error, or what helps, where there is either: the error itself was told.
 #[derive(Drop)]
 struct Cause<'a>(&'a Error);
 
 impl fmt::Display for Cause<'_> {
     fn fmt<W: fmt::Write>(&self, f: &mut fmt::Formatter<W>) -> fmt::Result {
         match self.0 {
+            Error::InvalidInputKind => f.write_str(
+                ": an archive: --archives packs its members, unless it is thin",
+            ),
+            Error::MissingDwoName(_) => f.write_str(": --skip-nameless passes over such units"),
+            Error::UnsupportedRelocation(_, _) => f.write_str(
+                ": only absolute relocations of x86-64, i386 and AArch64 are read",
+            ),
+            Error::ParseObjectFile(cause) => {
+                let hint = cut_hint(cause);
+                write!(f, ": {cause}{hint}")
+            }
             Error::ParseFileKind(cause)
-            | Error::ParseObjectFile(cause)
             | Error::DecompressData(cause)
             | Error::NamelessSection(cause, _) => write!(f, ": {cause}"),
             Error::ParseUnitAbbreviations(cause)

@@ -1,9 +1,12 @@
 //! Files with plain sections in place of compressed ones.
 
-ghost use Rattle.std.specs.Prelude.{◌≡◌, IfOk, IfErr};
+ghost use Rattle.std.specs.Prelude.{◌≡◌, Err, IfOk, IfErr};
+ghost use Rattle.dwp_elf_read.specs.Elf.{elf_of};
+ghost use Rattle.dwp_decompress.specs.Compressed.{HasCompressed};
 ghost use Rattle.dwp_decompress.specs.Result.{decompressed_of};
 ghost use Rattle.dwp_decompress.specs.declared.asked.Asked.TheVariants.{OfUnits};
 ghost use Rattle.thorin_inputs.specs.Plain.{IsPlain, LeavesUnread, or_content};
+ghost use Rattle.thorin_inputs.specs.declared.plain.PlainError.TheVariants.{TooLarge};
 
 use dwp_decompress::{Asked, DecompressError, decompressed};
 use std::alloc::Global;
@@ -29,6 +32,7 @@ pub fn plain_of(alloc: Global, file: &[u8]) -> Result<Option<Vec<u8>>, PlainErro
     ensures plain { IfOk result (λ taken. IsPlain file.now (or_content file.now taken)
         (decompressed_of OfUnits file.now)) }
     ensures unread { IfErr result (λ e. LeavesUnread e (decompressed_of OfUnits file.now)) }
+    ensures compressed { result ≡ Err TooLarge → HasCompressed OfUnits (elf_of file.now) }
 {
     match decompressed(alloc, file, Asked::OfUnits) {
         Ok(plain) => Ok(plain),
