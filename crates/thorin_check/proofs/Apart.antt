@@ -1,6 +1,6 @@
--- Ranges that don't overlap, unless they are the same.
+-- Ranges that don't overlap, unless they are the same, and are read alike.
 use Rattle.std.proofs.Common.{◌≡◌, ◌⊎◌, ◌∙◌, ℕ, ◌+◌, ◌-◌, ◌^◌, ◌<◌, ◌≤◌, min, true, false, List, []}
-use Rattle.std.proofs.Common.{◌∷◌, ◌++◌, length, get_or, take, Option, Some, None, Result, Ok, Err}
+use Rattle.std.proofs.Common.{◌∷◌, length, get_or, take, Option, Some, None, Result, Ok, Err}
 use Rattle.std.proofs.Common.{Bool, ◌||◌, not, refl, sym, inl, inr, arith, below_more, nat_eq}
 use Rattle.std.specs.List.{AllPairs, Contains}
 use Rattle.std.specs.List.Sorted.{IsPermutation}
@@ -8,19 +8,28 @@ use Rattle.std.proofs.lemmas.Bool.Decides.{nat_tests}
 use Rattle.std.proofs.lemmas.Option.{same_Some}
 use Rattle.std.proofs.lemmas.List.{get_or_default, take_more}
 use Rattle.std.proofs.lemmas.List.Elements.{All-nil, All-cons, All-append}
-use Rattle.std.proofs.lemmas.List.Elements.{Contains-append_left, Contains-push}
 use Rattle.std.proofs.lemmas.List.Sorted.{Contains-permutation}
 use Rattle.dwp_base.proofs.Bools.{by-bool}
 use Rattle.dwp_base.specs.declared.section.Contribution.{Contribution}
 use Rattle.dwp_base.specs.declared.section.SectionKind.{SectionKind}
+use Rattle.dwp_base.specs.declared.section.SectionKind.TheVariants.{Abbrev}
 use Rattle.dwp_bytes.specs.declared.error.ReadError.{ReadError}
 use Rattle.dwp_index.specs.Index.{Index, Ranges, row_in, range_in, contribution, column_place}
 use Rattle.dwp_index.specs.Package.{Package, index_for}
 use Rattle.dwp_index.specs.declared.units.UnitEntry.{UnitEntry}
-use Rattle.thorin_check.specs.Apart.{IsSame, IsApart, IsLast, HasRange, HasRanges, AreApartIn}
-use Rattle.thorin_check.specs.Apart.{AreApart}
-use Rattle.thorin_check.specs.Overlaps.{overlap, row_range, range_by_index, slot_range}
+use Rattle.thorin_check.specs.Placed.{IsSame, IsApart, IsLast, HasRange, HasRanges}
+use Rattle.thorin_check.specs.Apart.{AreApartIn}
+use Rattle.thorin_check.specs.Apart.{AreApart, AreReadAlike}
+use Rattle.thorin_check.specs.Placed.{tables_by}
+use Rattle.thorin_check.specs.Overlaps.{overlap, row_range, range_by_index, same_range, slot_range}
 use Rattle.thorin_check.specs.declared.overlaps.Placed.{Placed}
+
+-- two ranges that are the same, or both absent
+pub one_range : (a b : Option Contribution) → same_range a b ≡ true → a ≡ b
+one_range None None e = refl
+one_range None (Some b) e = absurd cc
+one_range (Some a) None e = absurd cc
+one_range (Some a) (Some b) e = grind (arith, nat_tests)
 
 before_or : (j k : ℕ) → j < k + 1 → (j < k) ⊎ (j ≡ k)
 before_or j k lt = grind arith
@@ -37,13 +46,6 @@ pub record GoneThrough (ranges : List Placed) (i farthest : ℕ)
   pub last : (range : Placed) → IsLast before range → (k : ℕ) × (k + 1 ≡ i)
       × ((d : Placed) → IsSame (get_or ranges k d) range)
 
-pub gone_none : (ranges : List Placed) → GoneThrough ranges 0 0 None
-gone_none ranges = record {
-  apart = λ j k d lt below. absurd (omega arith);
-  ends = λ k d lt. absurd (omega arith);
-  last = λ range is. absurd is;
-}
-
 module _ (ranges : List Placed) (i farthest : ℕ) (before : Option Placed)
     (g : GoneThrough ranges i farthest before) (x : Placed) where
   abbrev pub IsHere : Type 0
@@ -57,7 +59,7 @@ module _ (ranges : List Placed) (i farthest : ℕ) (before : Option Placed)
       let next = last.1 in
       elim (before_or j last.0 (omega arith)) [
         | inl less ↦ elim (g.apart j last.0 d less (omega arith)) [
-          | inl alike ↦ inl (alike.0 ∙ same.0, alike.1 ∙ same.1)
+          | inl alike ↦ inl (alike.0 ∙ same.0, alike.1 ∙ same.1, alike.2 ∙ same.2)
           | inr behind ↦ inr (rw same.0 at behind)
         ]
         | inr this ↦ rw this (inl same)
@@ -110,10 +112,6 @@ gone_on ranges i e lt farthest further before false twin false g last goes more 
     absurd cc
 gone_on ranges i e lt farthest further before true twin behind g last goes more end none = absurd cc
 
-pub gone_all : (ranges : List Placed) (i farthest : ℕ) (before : Option Placed)
-    → length ranges ≤ i → GoneThrough ranges i farthest before → AllPairs IsApart ranges
-gone_all ranges i farthest before le g j k d less lt = g.apart j k d less (omega arith)
-
 -- ---- ranges of slots
 
 begun : (range : Option Contribution) (offset size : ℕ) → contribution offset size ≡ range
@@ -164,25 +162,51 @@ module _ (p q : Placed) (a b : Contribution) (p_at : p.offset ≡ a.offset.0) (p
   two_behind (inl same) = inl (sym p_at ∙ sym same.0 ∙ q_at, sym p_of ∙ sym same.1 ∙ q_of)
   two_behind (inr le) = inr (inr (rw (← p_at, ← q_of, ← q_at) le))
 
+module _ (p q : Placed) (a : Contribution) (s t : Option Contribution) (some : 0 < a.size)
+    (p_at : p.offset ≡ a.offset.0) (p_of : p.size ≡ a.size) (q_at : q.offset ≡ a.offset.0)
+    (q_of : q.size ≡ a.size) (p_by : p.tables ≡ s) (q_by : q.tables ≡ t) where
+  read_alike : IsApart p q → s ≡ t
+  read_alike (inl same) = sym p_by ∙ same.2 ∙ q_by
+  read_alike (inr le) = absurd (omega arith)
+
+  alike_behind : IsApart q p → s ≡ t
+  alike_behind (inl same) = sym p_by ∙ sym same.2 ∙ q_by
+  alike_behind (inr le) = absurd (omega arith)
+
 module _ (pack : Package) (slots : List UnitEntry) (kind : SectionKind) (ranges : List Placed)
     (has : HasRanges pack slots kind ranges) (apart : AllPairs IsApart ranges) where
   order : (j k : ℕ) → (j < k) ⊎ ((j ≡ k) ⊎ (k < j))
   order j k = grind arith
 
-  both_apart : (a b : Contribution) → HasRange ranges a → HasRange ranges b → AreTwoApart a b
-  both_apart a b one other =
-      let is : get_or ranges one.1.0 one.0 ≡ one.0 = one.1.2 in
-      let so : get_or ranges other.1.0 one.0 ≡ other.0 =
-      get_or_default ranges other.1.0 one.0 other.0 other.1.1 ∙ other.1.2 in
-      elim (order one.1.0 other.1.0) [
-        | inl less ↦ two_apart one.0 other.0 a b one.2 one.3 other.2 other.3
-            (rw (is, so) at (apart one.1.0 other.1.0 one.0 less other.1.1))
-        | inr (inl this) ↦ (let alike : one.0 ≡ other.0 = rw (← this, is) at so in
-            two_apart one.0 other.0 a b one.2 one.3 other.2 other.3
-            (rw alike (inl (refl, refl))))
-        | inr (inr more) ↦ two_behind one.0 other.0 a b one.2 one.3 other.2 other.3
-            (rw (is, so) at (apart other.1.0 one.1.0 one.0 more one.1.1))
+  -- of two ranges among these one is apart from the other
+  placed_apart : (p q : Placed) → Contains ranges p → Contains ranges q
+      → IsApart p q ⊎ IsApart q p
+  placed_apart p q one other =
+      let is : get_or ranges one.0 p ≡ p = one.2 in
+      let so : get_or ranges other.0 p ≡ q =
+      get_or_default ranges other.0 p q other.1 ∙ other.2 in
+      elim (order one.0 other.0) [
+        | inl less ↦ inl (rw (is, so) at (apart one.0 other.0 p less other.1))
+        | inr (inl this) ↦ (let alike : p ≡ q = rw (← this, is) at so in
+            inl (rw alike (inl (refl, refl, refl))))
+        | inr (inr more) ↦ inr (rw (is, so) at (apart other.0 one.0 p more one.1))
       ]
+
+  both_apart : (a b : Contribution) (s t : Option Contribution) → HasRange ranges a s
+      → HasRange ranges b t → AreTwoApart a b
+  both_apart a b s t one other = elim (placed_apart one.0 other.0 one.1 other.1) [
+    | inl apart ↦ two_apart one.0 other.0 a b one.2 one.3 other.2 other.3 apart
+    | inr apart ↦ two_behind one.0 other.0 a b one.2 one.3 other.2 other.3 apart
+  ]
+
+  both_alike : (a : Contribution) (s t : Option Contribution) → 0 < a.size → HasRange ranges a s
+      → HasRange ranges a t → s ≡ t
+  both_alike a s t some one other = elim (placed_apart one.0 other.0 one.1 other.1) [
+    | inl apart ↦ read_alike one.0 other.0 a s t some one.2 one.3 other.2 other.3 one.4 other.4
+        apart
+    | inr apart ↦ alike_behind one.0 other.0 a s t some one.2 one.3 other.2 other.3 one.4 other.4
+        apart
+  ]
 
   slots_by : (a b : UnitEntry) → Contains slots a → Contains slots b → (r s : Option Contribution)
       → slot_range pack a kind ≡ r → slot_range pack b kind ≡ s → overlap r s ≡ false
@@ -191,12 +215,20 @@ module _ (pack : Package) (slots : List UnitEntry) (kind : SectionKind) (ranges 
   slots_by a b is so (Some r) (Some s) here there =
       not_overlap r s (index_has (index_for pack a.object) a.row kind r here)
       (index_has (index_for pack b.object) b.row kind s there)
-      (both_apart r s (has a is r here) (has b so s there))
+      (both_apart r s _ _ (has a is r here) (has b so s there))
 
-  pub slots_apart : (a b : UnitEntry) → Contains slots a → Contains slots b
-      → overlap (slot_range pack a kind) (slot_range pack b kind) ≡ false
-  slots_apart a b is so =
-      slots_by a b is so (slot_range pack a kind) (slot_range pack b kind) refl refl
+  -- two slots that share the bytes of a unit
+  slots_alike : (a b : UnitEntry) → Contains slots a → Contains slots b
+      → AreReadAlike pack kind a b
+  slots_alike a b is so units range here there =
+      rw units at (both_alike range _ _ (index_has (index_for pack a.object) a.row kind range here)
+      (has a is range here) (has b so range there))
+
+  pub slots_apart : AreApartIn pack slots kind
+  slots_apart a b is so = (
+    slots_by a b is so (slot_range pack a kind) (slot_range pack b kind) refl refl,
+    slots_alike a b is so,
+  )
 
 -- one section more
 module _ (pack : Package) (slots : List UnitEntry) (kinds : List SectionKind) (i : ℕ)
@@ -223,39 +255,19 @@ pub ranges_sorted : (pack : Package) (slots : List UnitEntry) (kind : SectionKin
     → HasRanges pack slots kind new
 ranges_sorted pack slots kind old new same has slot is range here =
     let there = has slot is range here in
-    (there.0, Contains-permutation old new there.0 same there.1, there.2, there.3)
+    (there.0, Contains-permutation old new there.0 same there.1, there.2, there.3, there.4)
 
 -- ---- ranges that are gathered
 
 -- those of the first slots
 abbrev pub HasFirst : Package → List UnitEntry → SectionKind → ℕ → List Placed → Type 0
 HasFirst pack slots kind i ranges = (k : ℕ) (d : UnitEntry) → k < i → (range : Contribution)
-    → slot_range pack (get_or slots k d) kind ≡ Some range → HasRange ranges range
+    → slot_range pack (get_or slots k d) kind ≡ Some range
+    → HasRange ranges range (tables_by kind (slot_range pack (get_or slots k d) Abbrev))
 
 module _ (pack : Package) (slots : List UnitEntry) (kind : SectionKind) (i : ℕ) where
   pub first_all : (ranges : List Placed) → length slots ≤ i → HasFirst pack slots kind i ranges
       → HasRanges pack slots kind ranges
   first_all ranges le has slot is range here =
-      let lt = is.1 in has is.0 slot (omega arith) range (rw is.2 here)
-
-  module _ (e : UnitEntry) (lt : i < length slots) (ranges : List Placed)
-      (has : HasFirst pack slots kind i ranges) where
-    pub first_none : None ≡ slot_range pack (get_or slots i e) kind
-        → HasFirst pack slots kind (i + 1) ranges
-    first_none none k d below = below_more
-        (λ k. (range : Contribution) → slot_range pack (get_or slots k d) kind ≡ Some range
-        → HasRange ranges range) i (λ k h. has k d h)
-        (λ range. rw (get_or_default slots i d e lt)
-        (λ here. absurd (let some = none ∙ here in cc))) k below
-
-    pub first_some : (placed : Placed) (c : Contribution)
-        → Some c ≡ slot_range pack (get_or slots i e) kind → placed.offset ≡ c.offset.0
-        → placed.size ≡ c.size → HasFirst pack slots kind (i + 1) (ranges ++ (placed ∷ []))
-    first_some placed c some offset size k d below = below_more
-        (λ k. (range : Contribution) → slot_range pack (get_or slots k d) kind ≡ Some range
-        → HasRange (ranges ++ (placed ∷ [])) range) i
-        (λ k h range here. let there = has k d h range here in
-        (there.0, Contains-append_left ranges _ there.0 there.1, there.2, there.3))
-        (λ range. rw (get_or_default slots i d e lt) (λ here.
-        let same = same_Some c range (some ∙ here) in
-        (placed, Contains-push ranges placed, rw (← same) offset, rw (← same) size))) k below
+      let lt = is.1 in
+      let there = has is.0 slot (omega arith) range (rw is.2 here) in rw is.2 at there

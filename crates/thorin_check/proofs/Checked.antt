@@ -15,7 +15,7 @@ use Rattle.thorin_check.specs.Checking.{TellsExecutable}
 use Rattle.thorin_check.specs.Checking.{TellsPackage, FailsOne, IsOfReading, IsOfChecking}
 use Rattle.thorin_check.specs.Checking.{Finishes}
 use Rattle.thorin_check.specs.Checking.{ChecksIndexed, ChecksPackage, ChecksBytes, Checks}
-use Rattle.thorin_check.specs.Faults.{TellsNamed}
+use Rattle.thorin_check.specs.Faults.{TellsNamed, room_of}
 use Rattle.thorin_find.specs.Listing.{AreByRow}
 use Rattle.thorin_print.specs.Answers.{IsOfPrinting, Grows, Outcome}
 use Rattle.thorin_check.specs.Telling.{fault_count, Progress, Told}
@@ -55,7 +55,8 @@ module _ (offer : Offer) where
   pub executable_read : (reading : Reading) (pack : Package) (executable : List ℕ)
       (a b : Progress) (result : Outcome) (bytes lent : List ℕ) → offer executable (Ok bytes)
       → lent ≡ bytes
-      → Tells (TellsNamed pack executable (skeletons_by reading.nameless lent)) a b result
+      → Tells (TellsNamed pack executable (room_of lent) (skeletons_by reading.nameless lent)) a b
+      result
       → TellsOr (IsOfReading offer executable)
       (TellsExecutable offer reading pack executable) a b result
   executable_read reading pack executable a b (Ok done) bytes lent read same t =

@@ -1,12 +1,17 @@
 -- Units that are told of, one of each range of string offsets.
-use Rattle.std.proofs.Common.{◌≡◌, ℕ, ◌+◌, ◌<◌, ◌≤◌, List, [], ◌∷◌, ◌++◌, length, take}
-use Rattle.std.proofs.Common.{get_or, Option, Some, None, Result, Ok, Err, refl, arith, below_more}
+use Rattle.std.proofs.Common.{◌≡◌, ℕ, zero, suc, ◌+◌, ◌<◌, ◌≤◌, List, [], ◌∷◌, ◌++◌, length, take}
+use Rattle.std.proofs.Common.{get_or, Option, Some, None, Result, Ok, Err, refl, sym, ◌∙◌, arith}
+use Rattle.std.proofs.Common.{below_more}
 use Rattle.std.proofs.Common.{Bool, false, ◌&&◌, nat_eq, IfOk, OnOk, String, Global}
 use Rattle.std.proofs.lemmas.Bool.Decides.{nat_tests}
-use Rattle.std.specs.List.{All}
+use Rattle.std.specs.List.{All, AllPairs}
 use Rattle.std.specs.List.Sorted.{IsPermutation}
 use Rattle.std.proofs.lemmas.List.{get_or_default}
-use Rattle.std.proofs.lemmas.List.Elements.{All-get_or, Contains-append_left, Contains-push}
+use Rattle.std.proofs.lemmas.List.Elements.{All-get_or, All-nil, All-cons, All-append, All-weaker}
+use Rattle.std.proofs.lemmas.List.Elements.{Contains-append_left, Contains-push}
+use Rattle.std.proofs.lemmas.List.Kept.{AllPairs-cons}
+use Rattle.std.proofs.lemmas.Option.{same_Some}
+use Rattle.dwp_base.proofs.Steps.{same-ok}
 use Rattle.std.proofs.lemmas.List.Sorted.{Contains-permutation}
 use Rattle.dwp_index.specs.Package.{Package, FoundUnit, found}
 use Rattle.dwp_index.specs.declared.error.PackageError.{PackageError}
@@ -15,12 +20,17 @@ use Rattle.dwp_table.specs.declared.object.DwarfObject.{DwarfObject}
 use Rattle.thorin_print.specs.Answers.{Outcome}
 use Rattle.dwp_table.specs.Columns.{contribution_kinds}
 use Rattle.thorin_check.specs.Apart.{AreApart}
-use Rattle.thorin_check.specs.Checking.{TellsStringsOfAll, TellsListed, TellsSlot, TellsSlots}
+use Rattle.thorin_check.specs.Checking.{TellsStringsOfAll, TellsSlot, TellsSlots}
+use Rattle.thorin_check.specs.Gathered.{TellsListed}
 use Rattle.thorin_check.specs.Checking.{TellsUnits}
-use Rattle.thorin_check.specs.Faults.{TellsStringsOf, TellsText, TellsUnit, IsTextOf}
+use Rattle.thorin_check.specs.Faults.{TellsStringsOf, TellsUnit}
+use Rattle.thorin_check.specs.Texts.{TellsText, IsTextOf}
 use Rattle.thorin_check.specs.Rendering.{FaultValue}
 use Rattle.thorin_check.specs.Seen.{IsSeen, GoesOn, IsGatheredIn, TellsSeen}
-use Rattle.thorin_check.specs.Strings.{IsRangeOfOne, Listed, IsOfUnit, IsGathered}
+use Rattle.thorin_check.specs.Distinct.{number_of, IsBehind}
+use Rattle.thorin_check.specs.Strings.{HasOffsets, ShareNone, IsRangeOfOne}
+use Rattle.thorin_check.specs.Gathered.{Listed, IsOfUnit}
+use Rattle.thorin_check.specs.Gathered.{IsGathered}
 use Rattle.thorin_check.specs.declared.units.Seen.{Seen}
 use Rattle.thorin_check.specs.Telling.{Progress, Told, Tells, TellsOr, ForEach}
 use Rattle.thorin_check.specs.declared.strings.StringRange.{StringRange}
@@ -39,60 +49,128 @@ among_more pack objects more range one = record {
   is_range = one.is_range;
 }
 
+-- a relation of each of some and each later one holds with one more, if each has it to that
+pairs_more : {X : Type 0} (R : X → X → Type 0) (xs : List X) (x : X) → All (λ a. R a x) xs
+    → AllPairs R xs → AllPairs R (xs ++ (x ∷ []))
+pairs_more R [] x each h = λ i j d lt within. absurd (omega arith)
+pairs_more R (y ∷ ys) x each h = AllPairs-cons R y (ys ++ (x ∷ []))
+    (All-append (R y) ys (x ∷ []) (λ i d lt. h zero (suc i) d (omega arith) (omega arith))
+    (All-cons (R y) x [] (each zero y (omega arith)) (All-nil (R y))))
+    (pairs_more R ys x (λ i d lt. each (suc i) d (omega arith))
+    (λ i j d lt within. h (suc i) (suc j) d (omega arith) (omega arith)))
+
+-- a unit has no string offsets behind some, if there are some
+abbrev pub IsUpTo : Package → Option StringRange → DwarfObject → Type 0
+IsUpTo pack None object = ⊥
+IsUpTo pack (Some last) object = (range : StringRange) → HasOffsets pack object range
+    → number_of range ≤ number_of last
+
+-- a unit has one range of string offsets
+one_range : (pack : Package) (object : DwarfObject) (a b : StringRange) → HasOffsets pack object a
+    → HasOffsets pack object b → a ≡ b
+one_range pack object a b (one, is, has) (other, so, too) =
+    let same : one ≡ other = same_Some one other (same-ok (Some one) (Some other) (sym is ∙ so)) in
+    same_Some a b (sym has ∙ rw same too)
+
+-- those before are apart from one behind them
+module _ (pack : Package) (range : StringRange) (object : DwarfObject)
+    (this : HasOffsets pack object range) where
+  up_to_next : (before : Option StringRange) → IsBehind before range → (other : DwarfObject)
+      → IsUpTo pack before other → IsUpTo pack (Some range) other
+  up_to_next None behind other up = absurd up
+  up_to_next (Some last) behind other up = λ has is. let le = up has is in omega arith
+
+  up_to_this : IsUpTo pack (Some range) object
+  up_to_this has is = rw (one_range pack object has range is this) (omega arith)
+
+  shares_none : (before : Option StringRange) → IsBehind before range → (other : DwarfObject)
+      → IsUpTo pack before other → ShareNone pack other object
+  shares_none None behind other up = absurd up
+  shares_none (Some last) behind other up = λ has one two.
+      let le = rw (one_range pack object has range two this) at (up has one) in
+      absurd (omega arith)
+
 module _ (pack : Package) (listed : Listed) where
   -- what was told of the strings of the first so many, each range's once
-  pub record TellsFirst (i : ℕ) (faults : List FaultValue) : Type 0 where
+  pub record TellsFirst (i : ℕ) (before : Option StringRange) (faults : List FaultValue)
+      : Type 0 where
     pub objects : List DwarfObject
+    pub once : AllPairs (ShareNone pack) objects
+    pub up_to : All (IsUpTo pack before) objects
+    pub last : (range : StringRange) → before ≡ Some range → IsRangeOfOne pack objects range
     pub told : TellsStringsOfAll pack objects faults
     pub others : (k : ℕ) (d : StringRange × DwarfObject) → k < i
         → IsRangeOfOne pack objects (get_or listed k d).0
 
-  pub first_none : TellsFirst 0 []
-  first_none = record { objects = []; told = refl; others = λ k d lt. absurd (omega arith) }
+  pub first_none : TellsFirst 0 None []
+  first_none = record {
+    objects = [];
+    once = λ i j d lt within. absurd (omega arith);
+    up_to = All-nil (IsUpTo pack None);
+    last = λ range e. absurd cc;
+    told = refl;
+    others = λ k d lt. absurd (omega arith);
+  }
 
-  module _ (i : ℕ) (e : StringRange × DwarfObject) (lt : i < length listed) where
-    -- those of the next one have the range of one before
-    pub first_again : (j : ℕ) (c : StringRange × DwarfObject) → j < i
-        → (get_or listed j c).0 ≡ (get_or listed i e).0 → (faults : List FaultValue)
-        → TellsFirst i faults → TellsFirst (i + 1) faults
-    first_again j c before same faults t = record {
+  module _ (i : ℕ) (e : StringRange × DwarfObject) (lt : i < length listed)
+      (before : Option StringRange) where
+    -- those of the next one have the range before
+    pub first_again : before ≡ Some (get_or listed i e).0 → (faults : List FaultValue)
+        → TellsFirst i before faults → TellsFirst (i + 1) before faults
+    first_again same faults t = record {
       objects = t.objects;
+      once = t.once;
+      up_to = t.up_to;
+      last = t.last;
       told = t.told;
       others = λ k d below. below_more
           (λ k. (d : StringRange × DwarfObject) → IsRangeOfOne pack t.objects (get_or listed k d).0)
           i (λ k h d. t.others k d h)
-          (λ d. rw (get_or_default listed i d e lt, ← same) (t.others j c before)) k below d;
+          (λ d. rw (get_or_default listed i d e lt) (t.last (get_or listed i e).0 same)) k below d;
     }
 
     -- those of the next one were told of
-    pub first_more : (are : All (IsOfUnit pack) listed) → (faults more : List FaultValue)
-        → TellsFirst i faults
+    pub first_more : (are : All (IsOfUnit pack) listed) → IsBehind before (get_or listed i e).0
+        → (faults more : List FaultValue) → TellsFirst i before faults
         → TellsStringsOf (get_or listed i e).1 (found pack (get_or listed i e).1) more
-        → TellsFirst (i + 1) (faults ++ more)
-    first_more are faults more t told =
+        → TellsFirst (i + 1) (Some (get_or listed i e).0) (faults ++ more)
+    first_more are behind faults more t told =
         let object = (get_or listed i e).1 in
+        let range = (get_or listed i e).0 in
         let is = All-get_or (IsOfUnit pack) listed i e lt are in
+        let here : IsRangeOfOne pack (t.objects ++ ((get_or listed i e).1 ∷ []))
+        (get_or listed i e).0 = record {
+          object = (get_or listed i e).1;
+          is_one = Contains-push t.objects (get_or listed i e).1;
+          unit = is.0;
+          is_found = is.1;
+          is_range = is.2;
+        } in
         record {
           objects = t.objects ++ ((get_or listed i e).1 ∷ []);
+          once = pairs_more (ShareNone pack) t.objects object
+              (All-weaker (IsUpTo pack before) (λ other. ShareNone pack other object)
+              (shares_none pack range object is before behind) t.objects t.up_to) t.once;
+          up_to = All-append (IsUpTo pack (Some range)) t.objects (object ∷ [])
+              (All-weaker (IsUpTo pack before) (IsUpTo pack (Some range))
+              (up_to_next pack range object is before behind) t.objects t.up_to)
+              (All-cons (IsUpTo pack (Some range)) object [] (up_to_this pack range object is)
+              (All-nil (IsUpTo pack (Some range))));
+          last = λ other e. rw (← same_Some range other e) here;
           told = for_each_more (λ object. TellsStringsOf object (found pack object)) t.objects
               (get_or listed i e).1 faults more t.told told;
           others = λ k d below. below_more
               (λ k. (d : StringRange × DwarfObject)
               → IsRangeOfOne pack (t.objects ++ ((get_or listed i e).1 ∷ [])) (get_or listed k d).0)
               i (λ k h d. among_more pack t.objects _ (get_or listed k d).0 (t.others k d h))
-              (λ d. rw (get_or_default listed i d e lt) (record {
-                object = (get_or listed i e).1;
-                is_one = Contains-push t.objects (get_or listed i e).1;
-                unit = is.0;
-                is_found = is.1;
-                is_range = is.2;
-              })) k below d;
+              (λ d. rw (get_or_default listed i d e lt) here) k below d;
         }
 
-  pub first_all : (i : ℕ) → length listed ≤ i → (faults : List FaultValue) → TellsFirst i faults
-      → TellsListed pack listed faults
-  first_all i le faults t = record {
+  pub first_all : (i : ℕ) (before : Option StringRange) → length listed ≤ i
+      → (faults : List FaultValue) → TellsFirst i before faults → TellsListed pack listed faults
+  first_all i before le faults t = record {
     objects = t.objects;
+    once = t.once;
     told = t.told;
     others = λ range there.
         let lt = there.1.1 in
@@ -106,6 +184,7 @@ pub listed_before : (pack : Package) (old new : Listed) → IsPermutation old ne
     → Tells (TellsListed pack old) a b result
 listed_before pack old new same a b result = tells_as a b result (λ faults t. record {
   objects = t.objects;
+  once = t.once;
   told = t.told;
   others = λ range there.
       t.others range (there.0, Contains-permutation old new (range, there.0) same there.1);
@@ -125,7 +204,7 @@ for_each_weaker P Q goes (x ∷ xs) faults h = record {
   all = h.all;
 }
 
--- what is told of the units of slots; where that is nothing, none of their ranges overlap
+-- what is told of the units of slots; where that is nothing, none of their ranges clash
 abbrev pub TellsUnitsOnly : Package → Listed → List UnitEntry → List FaultValue → Type 0
 TellsUnitsOnly pack listed entries faults = ForEach (TellsSeen pack listed) entries faults
     × (faults ≡ [] → AreApart pack entries contribution_kinds)
@@ -135,6 +214,7 @@ units_then : (pack : Package) (entries : List UnitEntry) (listed : Listed)
     → TellsListed pack listed more → TellsUnits pack entries (faults ++ more)
 units_then pack entries listed faults more units strings = (
   strings.objects,
+  strings.once,
   in_turn {P = TellsSlots pack strings.objects entries}
       {Q = TellsStringsOfAll pack strings.objects} faults more (
         for_each_weaker (TellsSeen pack listed) (TellsSlot pack strings.objects)

@@ -4,7 +4,6 @@ use Rattle.std.proofs.Common.{Option, Some, None, is_none, Result, Ok, Err, IfOk
 use Rattle.std.proofs.Common.{string_bytes, Global, decimal, refl, inl, arith}
 use Rattle.std.specs.Result.{result_err}
 use Rattle.std.proofs.KnownBytes.{Appends-trans}
-use Rattle.dwp_base.specs.declared.section.SectionKind.{SectionKind}
 use Rattle.dwp_base.specs.declared.section.SectionKind.TheVariants.{Abbrev}
 use Rattle.dwp_bytes.specs.declared.error.ReadError.{ReadError}
 use Rattle.dwp_index.specs.Index.{range_in}
@@ -12,11 +11,12 @@ use Rattle.dwp_index.specs.Package.{Package, FoundUnit, found}
 use Rattle.dwp_index.specs.declared.error.PackageError.{PackageError}
 use Rattle.dwp_index.specs.declared.units.UnitEntry.{UnitEntry}
 use Rattle.dwp_table.specs.declared.object.DwarfObject.{DwarfObject}
-use Rattle.thorin_check.specs.Faults.{TellsText, IsTextOf, IsSomeText, IsUnreadText}
+use Rattle.thorin_check.specs.Texts.{TellsText, IsTextOf, IsSomeText, IsUnreadText}
 use Rattle.thorin_check.specs.Faults.{TellsOwn, TellsItself, TellsFound, TellsUnit}
 use Rattle.thorin_check.specs.Faults.{has_abbreviations, string_text, TellsString, TellsStrings}
-use Rattle.thorin_check.specs.Faults.{TellsStringsOf, TellsWhat, IsBroken}
-use Rattle.thorin_check.specs.Overlaps.{IsClash, overlap_text}
+use Rattle.thorin_check.specs.Faults.{TellsStringsOf, IsBroken}
+use Rattle.thorin_check.specs.Texts.{TellsWhat}
+use Rattle.thorin_check.specs.Overlaps.{IsClash}
 use Rattle.thorin_check.specs.Own.{own_of}
 use Rattle.thorin_print.specs.Answers.{Outcome}
 use Rattle.thorin_print.specs.Shown.{shown}
@@ -98,11 +98,9 @@ module _ (pack : Package) (entry : UnitEntry) where
         in_whole_row text e h = grind (arith)
 
 module _ (pack : Package) (object : DwarfObject) (unit : FoundUnit) where
-  pub overlapped : (kind : SectionKind) (other : DwarfObject) → IsClash pack unit kind other
-      → (text : List ℕ) → text ≡ overlap_text kind other
+  pub clashed : (text : List ℕ) → IsClash pack unit text
       → TellsItself pack object unit (of_unit object text ∷ [])
-  overlapped kind other clash text is =
-      inl (record { kind = kind; other = other; clash = clash; is = rw is refl })
+  clashed text clash = inl (text, clash, refl)
 
   pub of_its_own : {E : Type 0} (text : Result (Option (String Global)) E)
       → IsTextOf (TellsOwn object (own_of object unit)) object text

@@ -20,10 +20,11 @@ use Rattle.dwp_base.proofs.Bools.{both}
 use Rattle.dwp_index.specs.declared.units.UnitEntry.{UnitEntry}
 use Rattle.dwp_table.specs.declared.object.DwarfObject.{DwarfObject}
 use Rattle.dwp_table.specs.declared.object.DwarfObject.TheVariants.{Compilation, TypeUnit}
-use Rattle.thorin_check.specs.Faults.{TellsWhat, row_text, row_fault, row_faults, is_of, IsNamed}
+use Rattle.thorin_check.specs.Texts.{TellsWhat}
+use Rattle.thorin_check.specs.Faults.{row_text, row_fault, is_of, IsNamed}
 use Rattle.thorin_check.specs.Faults.{IsUnnamed, TellsRowsOf}
 use Rattle.thorin_check.specs.Rendering.{FaultValue}
-use Rattle.thorin_check.specs.Rows.{is_next}
+use Rattle.thorin_check.specs.Rows.{is_next, row_faults}
 use Rattle.thorin_check.specs.Telling.{Progress, Told, Tells, Is, IsFault}
 use Rattle.thorin_find.specs.Listing.{place_by, place_of_line}
 use Rattle.thorin_print.specs.Answers.{Outcome, IsOfPrinting}

@@ -29,8 +29,9 @@ use Rattle.dwp_units.specs.declared.unit.UnitSection.TheVariants.{Info, Types}
 use Rattle.thorin_find.specs.Names.{first_of, header_in}
 use Rattle.thorin_identity.specs.Identity.{identity}
 use Rattle.thorin_check.specs.Faults.{is_of}
-use Rattle.thorin_check.specs.Own.{own_by, own_of, said_of, numbers_of, bytes_at, is_in_types}
-use Rattle.thorin_check.specs.Own.{section_by, place_in, own_at, IsReadIn}
+use Rattle.thorin_check.specs.Own.{own_by, own_of}
+use Rattle.thorin_check.specs.Remembered.{said_of, numbers_of, bytes_at, is_in_types}
+use Rattle.thorin_check.specs.Remembered.{section_by, place_in, own_at, IsReadIn}
 use Rattle.thorin_check.specs.declared.abbreviations.PlaceRead.{PlaceRead}
 use Rattle.thorin_check.proofs.FoundUnits.{row_of_found}
 

@@ -15,7 +15,7 @@ use Rattle.dwp_index.specs.Contents.{content}
 use Rattle.dwp_index.specs.Package.{Package, FoundUnit, unit_in, found}
 use Rattle.dwp_index.proofs.RowsOfUnits.{by_row}
 use Rattle.dwp_table.specs.declared.object.DwarfObject.{DwarfObject}
-use Rattle.thorin_check.specs.Ends.{IsReach, HasEnds, is_inside}
+use Rattle.thorin_check.specs.Reach.{IsReach, HasEnds, is_inside}
 use Rattle.thorin_check.specs.declared.ends.Ends.{Ends}
 
 module _ (strings : List ℕ) where

@@ -20,10 +20,12 @@ use Rattle.dwp_index.specs.Package.{Package, FoundUnit, found, row_bytes}
 use Rattle.dwp_index.specs.declared.error.PackageError.{PackageError}
 use Rattle.dwp_table.specs.declared.object.DwarfObject.{DwarfObject}
 use Rattle.thorin_find.specs.Finding.{string_of}
-use Rattle.thorin_check.specs.Ends.{HasEnds, AllEnd}
+use Rattle.thorin_check.specs.Reach.{HasEnds}
+use Rattle.thorin_check.specs.Ends.{AllEnd}
 use Rattle.thorin_check.specs.Strings.{is_wide, range_by, range_of, IsRangeOfOne, HasStringsOf}
-use Rattle.thorin_check.specs.Strings.{HasStringsIn, Listed, IsOfUnit, Lists, string_by, AllEndIn}
-use Rattle.thorin_check.specs.Strings.{IsGathered, Gathers, Adds}
+use Rattle.thorin_check.specs.Strings.{HasStringsIn}
+use Rattle.thorin_check.specs.Gathered.{Listed, IsOfUnit, Lists, string_by, AllEndIn}
+use Rattle.thorin_check.specs.Gathered.{IsGathered, Gathers, Adds}
 use Rattle.thorin_check.specs.Seen.{Gathered, IsGatheredIn}
 use Rattle.thorin_check.specs.declared.strings.StringRange.{StringRange}
 use Rattle.thorin_check.specs.declared.strings.Strings.{Strings}
@@ -131,14 +133,6 @@ module _ (pack : Package) (old : Strings) (unit : FoundUnit) (object : DwarfObje
   module _ (range : StringRange) (has : Some range ≡ range_of unit) where
     this : (other : StringRange) → range_of unit ≡ Some other → range ≡ other
     this other e = same_Some range other (has ∙ e)
-
-    -- it has those of the unit before
-    pub again_added : old.last ≡ Some range → Adds pack old old unit
-    again_added last = record {
-      gathers = g;
-      kept = λ other there. there;
-      added = λ other e. rw (← this other e) (g.last range last);
-    }
 
     -- its strings can all be read
     pub read_added : (new : Strings) → new.ends ≡ old.ends → new.unread ≡ old.unread

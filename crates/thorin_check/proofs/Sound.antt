@@ -35,6 +35,7 @@ use Rattle.thorin_check.specs.Checking.{lacking_faults, status_of}
 use Rattle.thorin_check.specs.Executables.{Executables}
 use Rattle.thorin_check.specs.Faults.{IsUnread, TellsItself, is_bare, TellsInRow, TellsFound}
 use Rattle.thorin_check.specs.Faults.{TellsLooked, TellsUnit, missing_faults, TellsEnd, TellsListed}
+use Rattle.thorin_check.specs.Faults.{room_of}
 use Rattle.thorin_check.specs.Faults.{TellsNamed, TellsOwn, TellsString, TellsNumbered}
 use Rattle.thorin_check.specs.Faults.{strings_of, TellsStrings, TellsStringsOf}
 use Rattle.thorin_check.specs.Ends.{AllEnd}
@@ -105,7 +106,7 @@ module _ (pack : Package) (entry : UnitEntry) where
 
   its_own : (unit : FoundUnit) → TellsItself pack entry.object unit []
       → own_of entry.object unit ≡ Some (Some entry.object)
-  its_own unit (inl h) = absurd (some_told _ _ h.is)
+  its_own unit (inl h) = absurd (some_told _ _ h.2)
   its_own unit (inr h) = by_own (own_of entry.object unit) h
 
 -- ---- strings
@@ -196,11 +197,11 @@ named_once pack all is_types a b here there is so row =
 
 -- ---- executables
 
-end_none : (executable : List ℕ) (left : Listed) → TellsEnd executable left []
-    → (left.0 ≡ []) × (left.1 ≡ None)
-end_none executable ([], None) h = (refl, refl)
-end_none executable ([], Some error) h = absurd (some_told _ _ h.1)
-end_none executable (named ∷ left, end) h = absurd (some_told _ _ h.1.1)
+end_none : (executable : List ℕ) (room : ℕ) (first : List Named) (left : Listed)
+    → TellsEnd executable room first left [] → (left.0 ≡ []) × (left.1 ≡ None)
+end_none executable room first ([], None) h = (refl, refl)
+end_none executable room first ([], Some error) h = absurd (some_told _ _ h.1)
+end_none executable room first (named ∷ left, end) h = absurd (some_told _ _ h.2.1)
 
 none_is_some : (error : ErrorValue) → Some error ≡ None → ⊥
 none_is_some error e = cc
@@ -224,28 +225,31 @@ none_missing pack executable (first ∷ named) e =
     (none_missing pack executable named both.1)
 
 module _ (offer : Offer) (reading : Reading) (pack : Package) where
-  listed : (executable : List ℕ) (units : Listed) → TellsListed pack executable units []
+  listed : (executable : List ℕ) (room : ℕ) (units : Listed)
+      → TellsListed pack executable room units []
       → (units.1 ≡ None) × All (λ named. found pack named.0 ≢ Ok None) units.0
-  listed executable units t =
+  listed executable room units t =
       let both = none_of_both _ t.ended t.all in
-      let end = end_none executable (t.left, units.1)
-      (subst (TellsEnd executable (t.left, units.1)) both.1 t.end) in
+      let end = end_none executable room t.first (t.left, units.1)
+      (subst (TellsEnd executable room t.first (t.left, units.1)) both.1 t.end) in
       let none : t.left ≡ [] = end.0 in
       (end.1, rw (t.split, none, append-nil) (none_missing pack executable t.first both.0))
 
-  of_named : (executable : List ℕ) (units : Listed) → TellsNamed pack executable units []
+  of_named : (executable : List ℕ) (room : ℕ) (units : Listed)
+      → TellsNamed pack executable room units []
       → (units.1 ≡ None) × (units.0 ≢ []) × All (λ named. found pack named.0 ≢ Ok None) units.0
-  of_named executable ([], None) h = absurd (some_told _ _ h)
-  of_named executable ([], Some error) t =
-      let none = listed executable ([], Some error) t in absurd (none_is_some error none.0)
-  of_named executable (first ∷ rest, end) t =
-      let all = listed executable (first ∷ rest, end) t in
+  of_named executable room ([], None) h = absurd (some_told _ _ h)
+  of_named executable room ([], Some error) t =
+      let none = listed executable room ([], Some error) t in absurd (none_is_some error none.0)
+  of_named executable room (first ∷ rest, end) t =
+      let all = listed executable room (first ∷ rest, end) t in
       (all.0, some_named first rest, all.1)
 
   has_units : (executable : List ℕ) → TellsExecutable offer reading pack executable []
       → HasUnitsOf offer reading pack executable
   has_units executable t =
-      let units = of_named executable (skeletons_by reading.nameless t.bytes) t.tells in
+      let units = of_named executable (room_of t.bytes)
+      (skeletons_by reading.nameless t.bytes) t.tells in
       record {
         bytes = t.bytes;
         read = t.read;
@@ -319,7 +323,7 @@ pub no_fault_told : (offer : Offer) (executables : Executables) (pack : Package)
 no_fault_told offer executables pack entries by_row t =
     let parts = none_in_turn _ _ t in
     let units = none_in_turn (TellsSlots pack parts.0.0 entries)
-    (TellsStringsOfAll pack parts.0.0) parts.0.1 in
+    (TellsStringsOfAll pack parts.0.0) parts.0.2 in
     let others = none_in_turn _ _ parts.1 in
     let tables = none_in_turn _ _ others.0 in
     let sections = none_in_turn _ _ tables.0 in

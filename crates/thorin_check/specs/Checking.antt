@@ -2,7 +2,7 @@
 use Rattle.std.specs.Prelude.{◌≡◌, ◌≢◌, ◌⊎◌, ℕ, Bool, true, false, ◌==◌, List, [], ◌∷◌, ◌++◌}
 use Rattle.std.specs.Prelude.{codes, length, if◌then◌else◌, Option, Result, Ok, Err}
 use Rattle.std.specs.Borrow.{Bor}
-use Rattle.std.specs.List.{flat_map}
+use Rattle.std.specs.List.{AllPairs, flat_map}
 use Rattle.std.specs.declared.io.Error.{Error as IoError}
 use Rattle.std.specs.Io.KnownBytes.{Appends, Keeps}
 use Rattle.dwp_base.specs.Sections.{name_of}
@@ -17,7 +17,7 @@ use Rattle.thorin_find.specs.Files.{Offer, RefusesFile}
 use Rattle.thorin_print.specs.declared.form.Form.{Form}
 use Rattle.thorin_check.specs.Rendering.{FaultValue, of_package, fault_text, totals_text}
 use Rattle.thorin_check.specs.Faults.{TellsUnit, TellsStringsOf, TellsRowsOf, row_end, TellsNamed}
-use Rattle.thorin_check.specs.Faults.{lacks_abbreviations, lacks_strings}
+use Rattle.thorin_check.specs.Faults.{lacks_abbreviations, lacks_strings, room_of}
 use Rattle.thorin_find.specs.Listing.{AreByRow, has_no_index}
 use Rattle.thorin_print.specs.Answers.{Grows, IsOfPrinting}
 use Rattle.thorin_check.specs.Telling.{InTurn, ForEach, Is, fault_count}
@@ -26,8 +26,7 @@ use Rattle.thorin_check.specs.Apart.{AreApart}
 use Rattle.thorin_check.specs.Executables.{Executables}
 use Rattle.thorin_check.specs.Indexes.{TellsIndexes}
 use Rattle.thorin_check.specs.Sound.{IsSound}
-use Rattle.thorin_check.specs.Strings.{Listed, Lists, IsRangeOfOne, HasStringsIn}
-use Rattle.thorin_check.specs.declared.strings.StringRange.{StringRange}
+use Rattle.thorin_check.specs.Strings.{HasStringsIn, ShareNone}
 use Rattle.thorin_check.specs.declared.executables.Reading.{Reading}
 use Rattle.thorin_print.specs.declared.output.Failure.{Failure}
 use Rattle.thorin_print.specs.declared.output.Failure.TheVariants as failures
@@ -44,7 +43,7 @@ abbrev pub TellsSlot : Package → List DwarfObject → UnitEntry → List Fault
 TellsSlot pack objects entry faults = TellsUnit pack entry faults
     × (faults ≡ [] → HasStringsIn pack objects (found pack entry.object))
 
--- the same of all such units; where that is nothing, none of their ranges overlap
+-- the same of all such units; where that is nothing, none of their ranges clash
 abbrev pub TellsSlots : Package → List DwarfObject → List UnitEntry → List FaultValue → Type 0
 TellsSlots pack objects entries faults = ForEach (TellsSlot pack objects) entries faults
     × (faults ≡ [] → AreApart pack entries contribution_kinds)
@@ -55,16 +54,10 @@ TellsStringsOfAll pack objects = ForEach (λ object. TellsStringsOf object (foun
     objects
 
 -- what is told of the units that slots name, and then of the strings of some of them, which are all
--- whose strings can't all be read
+-- whose strings can't all be read, but each string offsets' once
 abbrev pub TellsUnits : Package → List UnitEntry → List FaultValue → Type 0
-TellsUnits pack entries faults = (objects : List DwarfObject)
+TellsUnits pack entries faults = (objects : List DwarfObject) × AllPairs (ShareNone pack) objects
     × InTurn (TellsSlots pack objects entries) (TellsStringsOfAll pack objects) faults
-
--- the same of a list of string offsets and units that have them
-pub record TellsListed (pack : Package) (listed : Listed) (faults : List FaultValue) : Type 0 where
-  pub objects : List DwarfObject
-  pub told : TellsStringsOfAll pack objects faults
-  pub others : (range : StringRange) → Lists listed range → IsRangeOfOne pack objects range
 
 -- what is told of the rows of both indexes
 abbrev pub TellsRows : Package → List UnitEntry → List FaultValue → Type 0
@@ -95,7 +88,8 @@ pub record TellsExecutable (offer : Offer) (reading : Reading) (pack : Package)
     (executable : List ℕ) (faults : List FaultValue) : Type 0 where
   pub bytes : List ℕ
   pub read : offer executable (Ok bytes)
-  pub tells : TellsNamed pack executable (skeletons_by reading.nameless bytes) faults
+  pub tells : TellsNamed pack executable (room_of bytes)
+      (skeletons_by reading.nameless bytes) faults
 
 abbrev pub TellsExecutables : Offer → (reading : Reading) → Package → List (Bor (List ℕ))
     → List FaultValue → Type 0

@@ -1,13 +1,11 @@
 -- The faults of a package that `check` tells.
-use Rattle.std.specs.Prelude.{◌≡◌, ◌≢◌, ◌⊎◌, ℕ, ◌+◌, ◌-◌, ◌<◌, Bool, true, false, not, ◌&&◌, ◌==◌}
-use Rattle.std.specs.Prelude.{List, [], ◌∷◌}
+use Rattle.std.specs.Prelude.{◌≡◌, ◌≢◌, ◌⊎◌, ℕ, ◌+◌, ◌<◌, max, nat_lt, Bool, true, false}
+use Rattle.std.specs.Prelude.{not, ◌&&◌, ◌==◌, if◌then◌else◌, List, [], ◌∷◌}
 use Rattle.std.specs.Prelude.{◌++◌, codes, map, length, Option, Some, None, is_none, Result, Ok}
-use Rattle.std.specs.Prelude.{Err, String, string_bytes}
+use Rattle.std.specs.Prelude.{Err}
 use Rattle.std.specs.Fmt.{decimal}
-use Rattle.std.specs.Global.{Global}
 use Rattle.std.specs.List.{All, Contains, flat_map, range_with_len}
 use Rattle.dwp_base.specs.Sections.{name_of}
-use Rattle.dwp_base.specs.declared.section.SectionKind.{SectionKind}
 use Rattle.dwp_base.specs.declared.section.SectionKind.TheVariants.{Abbrev, Str, StrOffsets}
 use Rattle.dwp_bytes.specs.declared.error.ReadError.{ReadError}
 use Rattle.dwp_index.specs.Index.{Index, range_in}
@@ -18,58 +16,21 @@ use Rattle.dwp_index.specs.declared.units.UnitEntry.{UnitEntry}
 use Rattle.dwp_table.specs.declared.object.DwarfObject.{DwarfObject}
 use Rattle.dwp_table.specs.declared.object.DwarfObject.TheVariants.{Compilation, TypeUnit}
 use Rattle.thorin_executable.specs.Skeletons.{Named, Listed}
-use Rattle.thorin_errors.specs.Errors.{ErrorValue}
 use Rattle.thorin_find.specs.Finding.{string_count, string_of}
-use Rattle.thorin_check.specs.Overlaps.{IsClash, overlap_text}
+use Rattle.thorin_check.specs.Overlaps.{IsClash}
 use Rattle.thorin_check.specs.Own.{own_of}
 use Rattle.thorin_find.specs.Lines.{short_kind}
 use Rattle.thorin_print.specs.Lines.{hex16}
 use Rattle.dwp_table.specs.Objects.{identifier_of}
 use Rattle.thorin_print.specs.Shown.{shown, shown_briefly}
-use Rattle.thorin_print.specs.Answers.{Outcome, Grows}
 use Rattle.thorin_check.specs.Rendering.{FaultValue, of_unit, of_package, of_executable}
-use Rattle.thorin_check.specs.Telling.{Progress, Is, IsNone, IsFault, ForEach}
-use Rattle.thorin_check.specs.Telling.{Tells, Told}
-use Rattle.thorin_print.specs.Answers.{IsOfPrinting}
-use Rattle.thorin_print.specs.declared.output.Failure.{Failure}
-use Rattle.thorin_print.specs.declared.output.Failure.TheVariants as failures
+use Rattle.thorin_check.specs.Telling.{IsNone, IsFault, ForEach}
 use Rattle.thorin_words.specs.Printed.{printed}
 use Rattle.dwp_index.specs.Contents.{content}
 
 -- ---- units
 
--- the fault of a unit, where there is a text
-abbrev pub unit_faults : DwarfObject → Option (String Global) → List FaultValue
-unit_faults object None = []
-unit_faults object (Some text) = of_unit object (string_bytes text) ∷ []
-
--- such a fault was told, with a text that was made; or there was no memory for that
-abbrev pub TellsText : {E : Type 0} → DwarfObject → Result (Option (String Global)) E
-    → (old new : Progress) → Outcome → Type 0
-TellsText object (Ok text) old new result = Tells (Is (unit_faults object text)) old new result
-TellsText object (Err cause) old new result =
-    (result ≡ Err failures.Memory) × Grows old.written new.written
-
--- the same of a fault of the package
-abbrev pub TellsWhat : {E : Type 0} → Result (String Global) E → (old new : Progress) → Outcome
-    → Type 0
-TellsWhat (Ok text) old new result = Tells (IsFault (of_package (string_bytes text))) old new result
-TellsWhat (Err cause) old new result =
-    (result ≡ Err failures.Memory) × Grows old.written new.written
-
--- a text, or none, of a fault of a unit of which something holds
-abbrev pub IsTextOf : {E : Type 0} → (List FaultValue → Type 0) → DwarfObject
-    → Result (Option (String Global)) E → Type 0
-IsTextOf P object (Ok text) = P (unit_faults object text)
-IsTextOf P object (Err cause) = Unit {0}
-
--- a text that there is, where it could be made
-abbrev pub IsSomeText : {E : Type 0} → Result (String Global) E
-    → Result (Option (String Global)) E → Type 0
-IsSomeText (Ok text) result = result ≡ Ok (Some text)
-IsSomeText (Err cause) result = result ≡ Err cause
-
--- such a fault, with the text of an error
+-- a fault of a unit, with the text of an error
 abbrev pub IsSomeFault : DwarfObject → List FaultValue → Type 0
 IsSomeFault object faults = (text : List ℕ) × IsFault (of_unit object text) faults
 
@@ -78,12 +39,6 @@ abbrev pub IsUnread : DwarfObject → PackageError → List FaultValue → Type 
 IsUnread object (Range kind) faults = IsFault (of_unit object
     (codes "its range of " ++ (name_of kind ++ codes " is outside the section"))) faults
 IsUnread object _ faults = IsSomeFault object faults
-
--- the same as a text
-abbrev pub IsUnreadText : PackageError → List ℕ → Type 0
-IsUnreadText (Range kind) text =
-    text ≡ codes "its range of " ++ (name_of kind ++ codes " is outside the section")
-IsUnreadText _ text = Unit {0}
 
 -- what is told of a unit whose own bytes give another identifier, or of one whose own identifier
 -- can't be read
@@ -104,18 +59,14 @@ TellsOwn object (Some None) faults =
 TellsOwn object None faults =
     (cause : List ℕ) × IsFault (of_unit object (unread_own_text cause)) faults
 
--- what is told of a unit whose range of a section clashes with that of another
-pub record TellsOverlap (pack : Package) (object : DwarfObject) (unit : FoundUnit)
-    (faults : List FaultValue) : Type 0 where
-  pub kind : SectionKind
-  pub other : DwarfObject
-  pub clash : IsClash pack unit kind other
-  pub is : IsFault (of_unit object (overlap_text kind other)) faults
+-- what is told of a unit whose ranges clash with those of another
+abbrev pub TellsClash : Package → DwarfObject → FoundUnit → List FaultValue → Type 0
+TellsClash pack object unit faults =
+    (text : List ℕ) × IsClash pack unit text × IsFault (of_unit object text) faults
 
--- what is told of a unit by its ranges and its own bytes: an overlap, or what its own identifier
--- gives
+-- what is told of a unit by its ranges and its own bytes: a clash, or what its own identifier gives
 abbrev pub TellsItself : Package → DwarfObject → FoundUnit → List FaultValue → Type 0
-TellsItself pack object unit faults = TellsOverlap pack object unit faults
+TellsItself pack object unit faults = TellsClash pack object unit faults
     ⊎ TellsOwn object (own_of object unit) faults
 
 -- a package has abbreviations
@@ -205,10 +156,6 @@ row_text kind row = kind ++ (codes " row " ++ (decimal row ++ codes ": no slot n
 abbrev pub row_fault : (kind : List ℕ) → ℕ → FaultValue
 row_fault kind row = of_package (row_text kind row)
 
--- those of the rows from one up to another
-abbrev pub row_faults : (kind : List ℕ) → (first end : ℕ) → List FaultValue
-row_faults kind first end = map (row_fault kind) (range_with_len first (end - first))
-
 -- an object is a type unit, or a compilation unit
 abbrev pub is_of : (is_types : Bool) → DwarfObject → Bool
 is_of false (Compilation id) = true
@@ -263,22 +210,37 @@ IsBroken executable faults =
 abbrev pub longest_path : ℕ
 longest_path = 4095
 
+-- how many bytes a path has that is longer
+abbrev pub long_size : (path : List ℕ) → ℕ
+long_size path = if nat_lt longest_path (length path) then length path else 0
+
+-- how many bytes all such paths of some units have
+abbrev pub long_bytes : List Named → ℕ
+long_bytes [] = 0
+long_bytes (named ∷ rest) = long_size named.1 + long_bytes rest
+
+-- for how many bytes of them there is room in any case: as many as an executable has, or 4,096
+abbrev pub room_of : (bytes : List ℕ) → ℕ
+room_of bytes = max (length bytes) 4096
+
 -- what is told behind the last unit that was looked for: why there are no others, if that is an
--- error, or that no more are looked for, where the next one has a path that no system opens
-abbrev pub TellsEnd : (executable : List ℕ) → (left : Listed) → List FaultValue → Type 0
-TellsEnd executable ([], None) faults = IsNone faults
-TellsEnd executable ([], Some error) faults = IsBroken executable faults
-TellsEnd executable (named ∷ left, end) faults =
-    (longest_path < length named.1) × IsBroken executable faults
+-- error, or that no more are looked for, where the next one has such a path, and those up to it
+-- have more bytes than there is room for
+abbrev pub TellsEnd : (executable : List ℕ) → (room : ℕ) → (first : List Named) → (left : Listed)
+    → List FaultValue → Type 0
+TellsEnd executable room first ([], None) faults = IsNone faults
+TellsEnd executable room first ([], Some error) faults = IsBroken executable faults
+TellsEnd executable room first (named ∷ left, end) faults = (longest_path < length named.1)
+    × (room < long_bytes (first ++ (named ∷ []))) × IsBroken executable faults
 
 -- what is told of the units that an executable names, up to its first error or such a path
-pub record TellsListed (pack : Package) (executable : List ℕ) (listed : Listed)
+pub record TellsListed (pack : Package) (executable : List ℕ) (room : ℕ) (listed : Listed)
     (faults : List FaultValue) : Type 0 where
   pub first : List Named
   pub left : List Named
   pub split : listed.0 ≡ first ++ left
   pub ended : List FaultValue
-  pub end : TellsEnd executable (left, listed.1) ended
+  pub end : TellsEnd executable room first (left, listed.1) ended
   pub all : faults ≡ flat_map (λ named. missing_faults executable named (found pack named.0))
       first ++ ended
 
@@ -287,28 +249,7 @@ abbrev pub bare_fault : (executable : List ℕ) → FaultValue
 bare_fault executable = of_executable (shown executable) (codes "no split units")
 
 -- what is told of an executable: the same, or what is told of the units that it names
-abbrev pub TellsNamed : Package → (executable : List ℕ) → Listed → List FaultValue → Type 0
-TellsNamed pack executable ([], None) faults = IsFault (bare_fault executable) faults
-TellsNamed pack executable listed faults = TellsListed pack executable listed faults
-
--- the first of the units that are left was told of
-pub record TellsFirst (pack : Package) (executable : List ℕ) (before after : Listed)
-    (old new : Progress) : Type 0 where
-  pub first : Named
-  pub split : before ≡ (first ∷ after.0, after.1)
-  pub told : Told (Is (missing_faults executable first (found pack first.0))) old new
-
--- the same, where there is one; else the end was told of
-abbrev pub TellsNext : Package → (executable : List ℕ) → (before after : Listed)
-    → (old new : Progress) → Result Bool Failure → Type 0
-TellsNext pack executable before after old new (Ok true) =
-    TellsFirst pack executable before after old new
-TellsNext pack executable before after old new (Ok false) =
-    Told (TellsListed pack executable before) old new
-TellsNext pack executable before after old new (Err failure) =
-    IsOfPrinting failure × Grows old.written new.written
-
--- an answer, unless telling failed
-abbrev pub answering : Outcome → Bool → Result Bool Failure
-answering (Ok done) more = Ok more
-answering (Err failure) more = Err failure
+abbrev pub TellsNamed : Package → (executable : List ℕ) → (room : ℕ) → Listed → List FaultValue
+    → Type 0
+TellsNamed pack executable room ([], None) faults = IsFault (bare_fault executable) faults
+TellsNamed pack executable room listed faults = TellsListed pack executable room listed faults

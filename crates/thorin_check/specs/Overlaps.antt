@@ -1,7 +1,8 @@
 -- Ranges of units that overlap: each byte of a section belongs to one contribution, which several
 -- units may share (DWARF 5, 7.3.5).
-use Rattle.std.specs.Prelude.{◌≡◌, ℕ, ◌+◌, Bool, true, false, ◌&&◌, ◌||◌, ◌==◌, not, List, ◌++◌}
-use Rattle.std.specs.Prelude.{codes, nat_lt, nat_le, Option, Some, None, is_some, Result, Ok, Err}
+use Rattle.std.specs.Prelude.{◌≡◌, ◌⊎◌, ℕ, ◌+◌, Bool, true, false, ◌&&◌, ◌||◌, ◌==◌, not}
+use Rattle.std.specs.Prelude.{List, ◌++◌, codes, nat_lt, nat_le, Option, Some, None, is_some}
+use Rattle.std.specs.Prelude.{Result, Ok, Err}
 use Rattle.dwp_base.specs.Sections.{name_of}
 use Rattle.dwp_base.specs.declared.section.Contribution.{Contribution}
 use Rattle.dwp_base.specs.declared.section.SectionKind.{SectionKind}
@@ -45,10 +46,6 @@ differ_in_tables kind a b = has_units kind && is_some (range_in a kind)
     && same_range (range_in a kind) (range_in b kind)
     && not (same_range (range_in a Abbrev) (range_in b Abbrev))
 
--- their ranges of a section clash: they overlap, or are shared by rows that can't share them
-abbrev pub clash : SectionKind → (a b : Ranges) → Bool
-clash kind a b = overlap (range_in a kind) (range_in b kind) || differ_in_tables kind a b
-
 -- the range that the row which a slot names has of a section
 abbrev pub row_range : Result Ranges ReadError → SectionKind → Option Contribution
 row_range (Ok row) kind = range_in row kind
@@ -61,14 +58,28 @@ range_by_index (Some index) row kind = row_range (row_in index row) kind
 abbrev pub slot_range : Package → UnitEntry → SectionKind → Option Contribution
 slot_range pack slot kind = range_by_index (index_for pack slot.object) slot.row kind
 
--- a look-up in a package finds a unit under an identifier whose range of a section clashes
-pub record IsClash (pack : Package) (unit : FoundUnit) (kind : SectionKind) (other : DwarfObject)
-    : Type 0 where
-  pub second : FoundUnit
-  pub is_found : found pack other ≡ Ok (Some second)
-  pub is : clash kind unit.row second.row ≡ true
-
--- what is told of a unit whose range of a section clashes with that of another
+-- what is told of a unit whose range of a section overlaps that of another
 abbrev pub overlap_text : SectionKind → DwarfObject → List ℕ
 overlap_text kind other = codes "its range of " ++ (name_of kind ++ (codes " overlaps that of "
     ++ (short_kind other ++ (codes " 0x" ++ hex16 (identifier_of other)))))
+
+-- what is told of a unit that shares its bytes with another, but not the abbreviations
+abbrev pub tables_text : SectionKind → DwarfObject → List ℕ
+tables_text kind other = codes "its range of " ++ (name_of kind ++ (codes " is that of "
+    ++ (short_kind other ++ (codes " 0x" ++ (hex16 (identifier_of other)
+    ++ codes ", with other abbreviations")))))
+
+-- what is told of a unit of one row and another of a second one: that their ranges of a section
+-- overlap, or that they share one, and not the abbreviations
+abbrev pub IsClashText : SectionKind → (other : DwarfObject) → (a b : Ranges) → List ℕ → Type 0
+IsClashText kind other a b text =
+    ((overlap (range_in a kind) (range_in b kind) ≡ true) × (text ≡ overlap_text kind other))
+    ⊎ ((differ_in_tables kind a b ≡ true) × (text ≡ tables_text kind other))
+
+-- the same of a unit, and of the one that a look-up in a package finds under an identifier
+pub record IsClash (pack : Package) (unit : FoundUnit) (text : List ℕ) : Type 0 where
+  pub kind : SectionKind
+  pub other : DwarfObject
+  pub second : FoundUnit
+  pub is_found : found pack other ≡ Ok (Some second)
+  pub is : IsClashText kind other unit.row second.row text

@@ -4,9 +4,10 @@ use Rattle.dwp_index.specs.Package.{Package, FoundUnit, found}
 use Rattle.dwp_index.specs.declared.error.PackageError.{PackageError}
 use Rattle.dwp_index.specs.declared.units.UnitEntry.{UnitEntry}
 use Rattle.thorin_check.specs.Faults.{TellsUnit}
-use Rattle.thorin_check.specs.Own.{Knows}
+use Rattle.thorin_check.specs.Remembered.{Knows}
 use Rattle.thorin_check.specs.Rendering.{FaultValue}
-use Rattle.thorin_check.specs.Strings.{Listed, range_of, IsGathered, Gathers}
+use Rattle.thorin_check.specs.Gathered.{Listed, IsGathered, Gathers}
+use Rattle.thorin_check.specs.Strings.{range_of}
 use Rattle.thorin_check.specs.declared.strings.StringRange.{StringRange}
 use Rattle.thorin_check.specs.declared.units.Seen.{Seen}
 

@@ -1,6 +1,5 @@
 //! The identifiers that units' own bytes give. What was read is remembered: the abbreviations from
-//! unit to unit, and what units that share their bytes have. Bytes that units share are read by one
-//! table of abbreviations; that another row gives them another is a fault.
+//! unit to unit, and what units that share their bytes have.
 
 ghost use Rattle.std.specs.Prelude.{◌≡◌, ◌≢◌, ◌+◌, ◌≤◌, true, false, length, Option, Some, None, Ok};
 ghost use Rattle.std.specs.Prelude.{IfOk, string_bytes};
@@ -12,12 +11,13 @@ ghost use Rattle.dwp_index.specs.Index.{range_in};
 ghost use Rattle.dwp_index.specs.Package.{found};
 ghost use Rattle.dwp_units.specs.Units.{unit_of};
 ghost use Rattle.thorin_identity.specs.Identity.{identity};
-ghost use Rattle.thorin_check.specs.Faults.{TellsItself, TellsOwn, IsTextOf};
+ghost use Rattle.thorin_check.specs.Faults.{TellsOwn};
+ghost use Rattle.thorin_check.specs.Texts.{IsTextOf};
 ghost use Rattle.thorin_check.specs.Faults.{own_text, unread_own_text};
-ghost use Rattle.thorin_check.specs.Own.{own_of, said_of, numbers_of, bytes_at, place_in};
-ghost use Rattle.thorin_check.specs.Own.{Knows};
+ghost use Rattle.thorin_check.specs.Own.{own_of};
+ghost use Rattle.thorin_check.specs.Remembered.{said_of, numbers_of, bytes_at, place_in};
+ghost use Rattle.thorin_check.specs.Remembered.{Knows};
 
-use crate::clashes::{clash_of, overlap_text};
 use crate::faults::some;
 use crate::turns::TablesByTurns;
 use dwp_base::{Contribution, SectionKind};
@@ -82,22 +82,12 @@ impl Place {
     fn key(self) -> [u64; 3] {
         [u64::from(self.is_in_types), self.own.0, self.own.1]
     }
-
-    /// The section that has the unit's own bytes.
-    fn kind(self) -> SectionKind {
-        if self.is_in_types {
-            SectionKind::Types
-        } else {
-            SectionKind::Info
-        }
-    }
 }
 
 /// What was read at a place, of the first unit there.
 #[derive(Drop)]
 pub(crate) struct PlaceRead {
     place: Place,
-    object: DwarfObject,
     own: Own,
 }
 
@@ -124,9 +114,7 @@ impl<'a> Remembered<'a> {
     }
 
     /// What is told of a unit by the identifier that its own bytes give. Where another unit has the
-    /// same ones that is read once, and a unit that has other abbreviations than the first of them
-    /// clashes with it.
-    #[tactic(auto, using(crate::proofs::Faulted::of_its_own))]
+    /// same ones that is read once.
     pub(crate) fn text_of(
         &mut self,
         pack: &PackageFile<'a>,
@@ -136,7 +124,7 @@ impl<'a> Remembered<'a> {
     ) -> Result<Option<String>, AllocError>
         requires knows { Knows pack.now self.old }
         requires is_found { found pack.now object ≡ Ok (Some unit.now) }
-        ensures text { IsTextOf (TellsItself pack.now object unit.now) object result }
+        ensures text { IsTextOf (TellsOwn object (own_of object unit.now)) object result }
         ensures knows { Knows pack.now self.new }
     {
         if has_twin {
@@ -147,7 +135,6 @@ impl<'a> Remembered<'a> {
     }
 
     /// The same, remembered.
-    #[tactic(auto, using(crate::proofs::Faulted::overlapped, crate::proofs::Faulted::of_its_own, crate::proofs::Faulted::made))]
     fn text_once(
         &mut self,
         pack: &PackageFile<'a>,
@@ -156,7 +143,7 @@ impl<'a> Remembered<'a> {
     ) -> Result<Option<String>, AllocError>
         requires knows { Knows pack.now self.old }
         requires is_found { found pack.now object ≡ Ok (Some unit.now) }
-        ensures text { IsTextOf (TellsItself pack.now object unit.now) object result }
+        ensures text { IsTextOf (TellsOwn object (own_of object unit.now)) object result }
         ensures knows { Knows pack.now self.new }
     {
         let place = Place::of(unit, object);
@@ -164,14 +151,10 @@ impl<'a> Remembered<'a> {
             if read.place.is(place) {
                 return own_fault(self.alloc, &read.own, object);
             }
-            if let Some((kind, other)) = clash_of(pack, unit, Some((place.kind(), read.object))) {
-                return some(overlap_text(self.alloc, kind, other));
-            }
         }
         let own = read(self.alloc, &mut self.tables, pack, object, unit)?;
         let text = own_fault(self.alloc, &own, object)?;
-        self.shared
-            .insert(place.key(), PlaceRead { place, object, own })?;
+        self.shared.insert(place.key(), PlaceRead { place, own })?;
         Ok(text)
     }
 }

@@ -17,6 +17,7 @@ use crate::rendering::put_totals;
 use crate::tables::check_tables;
 use crate::units::check_units;
 use dwp_index::{PackageFile, UnitEntry};
+use std::alloc::Global;
 use std::io::Write;
 use thorin_find::{FileReader, entries_by_row, has_no_index, read_named};
 use thorin_print::{Failure, flush, print};
@@ -33,7 +34,7 @@ use thorin_print::{Failure, flush, print};
 /// no index, `Line` or `Memory`.
 #[tactic(auto, using(crate::proofs::Checked::not_checked))]
 pub fn check_by<F: FileReader, O: Write>(
-    rt: &HostRuntime,
+    alloc: Global,
     files: &F,
     file: &str,
     executables: &[&str],
@@ -46,7 +47,7 @@ pub fn check_by<F: FileReader, O: Write>(
 {
     match read_named(files, file) {
         Ok(bytes) => check_bytes(
-            rt,
+            alloc,
             files,
             bytes.as_slice(),
             Named {
@@ -62,7 +63,7 @@ pub fn check_by<F: FileReader, O: Write>(
 /// Checks a package's bytes.
 #[tactic(auto, using(crate::proofs::Checked::malformed))]
 fn check_bytes<F: FileReader, O: Write>(
-    rt: &HostRuntime,
+    alloc: Global,
     files: &F,
     bytes: &[u8],
     named: Named<'_, '_>,
@@ -72,7 +73,7 @@ fn check_bytes<F: FileReader, O: Write>(
         (O.contents out.old) (O.contents out.new) result }
 {
     match PackageFile::parse(bytes) {
-        Ok(pack) => check_package(rt, files, &pack, named, out),
+        Ok(pack) => check_package(alloc, files, &pack, named, out),
         Err(_) => Err(Failure::Malformed),
     }
 }
@@ -89,7 +90,7 @@ pub(crate) struct Opened<'m, 'a> {
 /// Checks a package, unless it has no index.
 #[tactic(auto, using(crate::proofs::Checked::no_index, crate::proofs::Checked::has_index, crate::proofs::Checked::no_memory_left))]
 fn check_package<F: FileReader, O: Write>(
-    rt: &HostRuntime,
+    alloc: Global,
     files: &F,
     pack: &PackageFile<'_>,
     named: Named<'_, '_>,
@@ -101,13 +102,13 @@ fn check_package<F: FileReader, O: Write>(
     if has_no_index(pack) {
         return Err(Failure::NoIndex);
     }
-    match entries_by_row(rt.alloc(), pack) {
+    match entries_by_row(alloc, pack) {
         Ok(entries) => {
             let opened = Opened {
                 pack,
                 entries: entries.as_slice(),
             };
-            check_entries(rt, files, opened, named, out)
+            check_entries(alloc, files, opened, named, out)
         }
         Err(_) => Err(Failure::Memory),
     }
@@ -115,7 +116,7 @@ fn check_package<F: FileReader, O: Write>(
 
 /// Checks a package for what its slots name, and prints all of it. Answers the status.
 fn check_entries<F: FileReader, O: Write>(
-    rt: &HostRuntime,
+    alloc: Global,
     files: &F,
     opened: Opened<'_, '_>,
     named: Named<'_, '_>,
@@ -125,8 +126,8 @@ fn check_entries<F: FileReader, O: Write>(
     ensures { ChecksIndexed (F.offer files.now) (executables_of named.entry)
         opened.entry.pack.now (O.contents out.old) (O.contents out.new) result }
 {
-    let mut faults = Faults::none(rt.alloc(), named.reading.form);
-    match check_all(rt, files, opened, named, &mut faults, out) {
+    let mut faults = Faults::none(alloc, named.reading.form);
+    match check_all(alloc, files, opened, named, &mut faults, out) {
         Ok(()) => finish(opened.entries.len(), &mut faults, out),
         Err(failure) => give_up(failure, faults.waiting.as_str(), out),
     }
@@ -135,7 +136,7 @@ fn check_entries<F: FileReader, O: Write>(
 /// Checks the units, the sections that units need, the rows and the executables.
 #[tactic(auto, using(crate::proofs::Checked::of_printing, crate::proofs::Told::in_turn_or))]
 fn check_all<F: FileReader, O: Write>(
-    rt: &HostRuntime,
+    alloc: Global,
     files: &F,
     opened: Opened<'_, '_>,
     named: Named<'_, '_>,
@@ -151,7 +152,7 @@ fn check_all<F: FileReader, O: Write>(
 {
     match check_units(opened, faults, out) {
         Ok(()) => match check_tables(opened, faults, out) {
-            Ok(()) => check_executables(rt, files, opened.pack, named, faults, out),
+            Ok(()) => check_executables(alloc, files, opened.pack, named, faults, out),
             Err(failure) => Err(failure),
         },
         Err(failure) => Err(failure),

@@ -1,9 +1,11 @@
 //! Two units whose ranges of a section clash, in `thorin check`.
 
 ghost use Rattle.std.specs.Prelude.{◌≡◌, IfOk, IfSome, string_bytes};
-ghost use Rattle.thorin_check.specs.Overlaps.{IsClash, begins_inside, clash, differ_in_tables};
-ghost use Rattle.thorin_check.specs.Overlaps.{has_units, overlap, overlap_text, same_range};
+ghost use Rattle.thorin_check.specs.Overlaps.{IsClash, IsClashText, begins_inside};
+ghost use Rattle.thorin_check.specs.Overlaps.{differ_in_tables, has_units, overlap, overlap_text};
+ghost use Rattle.thorin_check.specs.Overlaps.{same_range, tables_text};
 
+use crate::faults::some;
 use crate::overlaps::Clash;
 use dwp_base::{Contribution, SectionKind};
 use dwp_index::{PackageFile, PackagedUnit, Row};
@@ -11,35 +13,49 @@ use dwp_table::{Bucketable, DwarfObject};
 use std::alloc::{AllocError, Global};
 use thorin_find::short_kind;
 
-/// A section, and a unit whose range of it clashes with that of this unit: those that are given,
-/// where that is so.
-pub(crate) fn clash_of(
+/// What is told of a unit whose range of a section clashes with that of another: these are given,
+/// where that may be so.
+pub(crate) fn clash_text(
+    alloc: Global,
     pack: &PackageFile<'_>,
     unit: &PackagedUnit<'_>,
     given: Option<Clash>,
-) -> Option<Clash>
-    ensures { IfSome result (λ clash. IsClash pack.now unit.now clash.0 clash.1) }
+) -> Result<Option<String>, AllocError>
+    ensures { IfOk result (λ text. IfSome text (λ text.
+        IsClash pack.now unit.now (string_bytes text))) }
 {
-    let (kind, other) = given?;
+    let Some((kind, other)) = given else {
+        return Ok(None);
+    };
     match pack.find(other) {
-        Ok(Some(second)) => {
-            if clash(kind, unit.ranges(), second.ranges()) {
-                Some((kind, other))
-            } else {
-                None
-            }
-        }
-        _ => None,
+        Ok(Some(second)) => text_of(alloc, kind, other, unit.ranges(), second.ranges()),
+        _ => Ok(None),
     }
 }
 
-/// What is told of a unit whose range of a section clashes with that of another.
-#[tactic(auto, using(thorin_print::proofs::Hex::hex16_written))]
-pub(crate) fn overlap_text(
+/// What is told of a unit of one row and another of a second one, if anything.
+fn text_of(
     alloc: Global,
     kind: SectionKind,
     other: DwarfObject,
-) -> Result<String, AllocError>
+    a: &Row<'_>,
+    b: &Row<'_>,
+) -> Result<Option<String>, AllocError>
+    ensures { IfOk result (λ text. IfSome text (λ text.
+        IsClashText kind other a.now b.now (string_bytes text))) }
+{
+    if overlap(a.range(kind), b.range(kind)) {
+        return some(overlap_text(alloc, kind, other));
+    }
+    if differ_in_tables(kind, a, b) {
+        return some(tables_text(alloc, kind, other));
+    }
+    Ok(None)
+}
+
+/// What is told of a unit whose range of a section overlaps that of another.
+#[tactic(auto, using(thorin_print::proofs::Hex::hex16_written))]
+fn overlap_text(alloc: Global, kind: SectionKind, other: DwarfObject) -> Result<String, AllocError>
     ensures { IfOk result (λ text. string_bytes text ≡ overlap_text kind other) }
 {
     let name = kind.name();
@@ -48,11 +64,17 @@ pub(crate) fn overlap_text(
     format!(in alloc; "its range of {name} overlaps that of {other_kind} 0x{id:016x}")
 }
 
-/// Whether the ranges of a section that two rows have clash.
-fn clash(kind: SectionKind, a: &Row<'_>, b: &Row<'_>) -> bool
-    ensures { result ≡ clash kind a.now b.now }
+/// What is told of a unit that shares its bytes with another, but not the abbreviations.
+#[tactic(auto, using(thorin_print::proofs::Hex::hex16_written))]
+fn tables_text(alloc: Global, kind: SectionKind, other: DwarfObject) -> Result<String, AllocError>
+    ensures { IfOk result (λ text. string_bytes text ≡ tables_text kind other) }
 {
-    overlap(a.range(kind), b.range(kind)) || differ_in_tables(kind, a, b)
+    let name = kind.name();
+    let other_kind = short_kind(other);
+    let id = other.index();
+    format!(in alloc;
+        "its range of {name} is that of {other_kind} 0x{id:016x}, with other abbreviations"
+    )
 }
 
 /// Whether two rows have the same bytes of a unit, and other abbreviations.
@@ -66,14 +88,14 @@ fn differ_in_tables(kind: SectionKind, a: &Row<'_>, b: &Row<'_>) -> bool
 }
 
 /// Whether a section has the bytes of units.
-fn has_units(kind: SectionKind) -> bool
+pub(crate) fn has_units(kind: SectionKind) -> bool
     ensures { result ≡ has_units kind }
 {
     matches!(kind, SectionKind::Info | SectionKind::Types)
 }
 
 /// Whether two ranges are the same, or both are absent.
-fn is_same(a: Option<Contribution>, b: Option<Contribution>) -> bool
+pub(crate) fn is_same(a: Option<Contribution>, b: Option<Contribution>) -> bool
     ensures { result ≡ same_range a b }
 {
     match (a, b) {

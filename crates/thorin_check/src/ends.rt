@@ -5,7 +5,8 @@ ghost use Rattle.std.specs.Result.{result_err};
 ghost use Rattle.dwp_bytes.specs.StringOffsets.{string_at};
 ghost use Rattle.dwp_index.specs.Contents.{content};
 ghost use Rattle.dwp_index.specs.Package.{row_bytes};
-ghost use Rattle.thorin_check.specs.Ends.{IsReach, HasEnds, AllEnd, is_inside};
+ghost use Rattle.thorin_check.specs.Reach.{IsReach, HasEnds, is_inside};
+ghost use Rattle.thorin_check.specs.Ends.{AllEnd};
 ghost use Rattle.thorin_find.specs.Finding.{string_of};
 
 use dwp_base::{Endianness, SectionKind};

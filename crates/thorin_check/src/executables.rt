@@ -1,18 +1,20 @@
 //! The units that executables name, in `thorin check`.
 
-ghost use Rattle.std.specs.Prelude.{◌≡◌, ◌≢◌, ◌<◌, ℕ, List, false, length, IfOk, OnOk};
-ghost use Rattle.std.specs.Prelude.{string_bytes};
+ghost use Rattle.std.specs.Prelude.{◌≡◌, ◌≢◌, ◌<◌, ◌≤◌, ◌+◌, ℕ, List, true, false, length, IfOk};
+ghost use Rattle.std.specs.Prelude.{OnOk, string_bytes};
 ghost use Rattle.dwp_index.specs.Package.{found};
 ghost use Rattle.thorin_executable.specs.Skeletons.{skeletons_by};
 ghost use Rattle.thorin_errors.specs.declared.error.Error.TheVariants.{Memory};
 ghost use Rattle.thorin_check.specs.Checking.{IsOfChecking, IsOfReading, TellsExecutables};
 ghost use Rattle.thorin_check.specs.Checking.{TellsExecutable};
 ghost use Rattle.thorin_check.specs.Faults.{TellsNamed, TellsListed, missing_text, missing_faults};
-ghost use Rattle.thorin_check.specs.Faults.{IsTextOf, IsBroken, TellsNext, answering, bare_fault};
-ghost use Rattle.thorin_check.specs.Faults.{longest_path};
+ghost use Rattle.thorin_check.specs.Texts.{IsTextOf};
+ghost use Rattle.thorin_check.specs.Faults.{IsBroken, bare_fault, longest_path};
+ghost use Rattle.thorin_check.specs.Faults.{long_size, room_of};
 ghost use Rattle.thorin_print.specs.Shown.{shown};
 ghost use Rattle.thorin_words.specs.Printed.{printed};
 ghost use Rattle.thorin_check.specs.Telling.{progress, Tells, TellsOr, Is, IsFault};
+ghost use Rattle.thorin_check.specs.Turns.{TellsNext, answering};
 
 use crate::faults::{Faults, some, tell, tell_fault};
 use crate::rendering::Fault;
@@ -26,14 +28,14 @@ use thorin_errors::Error;
 use thorin_executable::{NamedUnit, NamedUnits, NamelessUnits};
 use thorin_find::{FileReader, read_named};
 use thorin_print::{Failure, Form, shown, shown_briefly};
-use thorin_sessions::{ArenaSession, Session};
+use thorin_sessions::{BytesSession, Session};
 use thorin_words::printed;
 
 /// The longest path that Linux opens: its PATH_MAX (limits.h) counts a zero byte behind it.
 const LONGEST_PATH: usize = 4095;
 
 /// How many bytes longer paths of an executable may have in any case: else as many as it has.
-const LEAST_ROOM: usize = 1 << 12;
+const LEAST_ROOM: usize = 4096;
 
 /// How the executables are read whose units are to be in a package, and how faults are printed.
 #[derive(Clone, Copy)]
@@ -65,7 +67,7 @@ struct Naming<'m, 'a> {
 /// Each split unit that executables name is in the package.
 #[tactic(auto, using(crate::proofs::Told::none_told, crate::proofs::Told::told_all))]
 pub(crate) fn check_executables<F: FileReader, O: Write>(
-    rt: &HostRuntime,
+    alloc: Global,
     files: &F,
     pack: &PackageFile<'_>,
     named: Named<'_, '_>,
@@ -82,7 +84,7 @@ pub(crate) fn check_executables<F: FileReader, O: Write>(
             pack,
             executable: named.executables[i],
         };
-        match check_executable(rt, files, naming, named.reading, faults, out) {
+        match check_executable(alloc, files, naming, named.reading, faults, out) {
             Ok(()) => {}
             Err(failure) => return Err(failure),
         }
@@ -93,7 +95,7 @@ pub(crate) fn check_executables<F: FileReader, O: Write>(
 /// Each split unit that an executable names is in the package, and it names one.
 #[tactic(auto, using(crate::proofs::Checked::executable_read, crate::proofs::Checked::executable_unread))]
 fn check_executable<F: FileReader, O: Write>(
-    rt: &HostRuntime,
+    alloc: Global,
     files: &F,
     naming: Naming<'_, '_>,
     reading: Reading,
@@ -106,14 +108,21 @@ fn check_executable<F: FileReader, O: Write>(
         result }
 {
     match read_named(files, naming.executable) {
-        Ok(bytes) => check_read(rt, naming, bytes.as_slice(), reading.nameless, faults, out),
+        Ok(bytes) => check_read(
+            alloc,
+            naming,
+            bytes.as_slice(),
+            reading.nameless,
+            faults,
+            out,
+        ),
         Err(failure) => Err(failure),
     }
 }
 
 /// The same of the bytes of an executable.
 fn check_read<O: Write>(
-    rt: &HostRuntime,
+    alloc: Global,
     naming: Naming<'_, '_>,
     bytes: &[u8],
     nameless: NamelessUnits,
@@ -121,11 +130,11 @@ fn check_read<O: Write>(
     out: &mut O,
 ) -> Result<(), Failure>
     ensures { Tells (TellsNamed naming.entry.pack.now naming.entry.executable.now
-        (skeletons_by nameless bytes.now)) (progress (O.contents out.old) faults.old)
+        (room_of bytes.now) (skeletons_by nameless bytes.now)) (progress (O.contents out.old) faults.old)
         (progress (O.contents out.new) faults.new) result }
 {
-    let bump = Bump::new(rt.alloc());
-    let session = ArenaSession::new(rt, &bump);
+    let bump = Bump::new(alloc);
+    let session = BytesSession::new(&bump);
     check_named(&session, naming, bytes, nameless, faults, out)
 }
 
@@ -139,17 +148,24 @@ fn check_named<'s, Sess: Session<RelocationEntry>, O: Write>(
     out: &mut O,
 ) -> Result<(), Failure>
     ensures { Tells (TellsNamed naming.entry.pack.now naming.entry.executable.now
-        (skeletons_by nameless bytes.now)) (progress (O.contents out.old) faults.old)
+        (room_of bytes.now) (skeletons_by nameless bytes.now)) (progress (O.contents out.old) faults.old)
         (progress (O.contents out.new) faults.new) result }
 {
     let alloc = *faults.waiting.allocator();
     match NamedUnits::read_by(alloc, session, bytes, nameless) {
         Ok(mut units) => {
-            let room = bytes.len().max(LEAST_ROOM);
+            let room = room_of(bytes);
             check_listed(naming, &mut units, room, faults, out)
         }
         Err(error) => tell_error(naming.executable, &error, faults, out),
     }
+}
+
+/// For how many bytes of long paths of an executable there is room.
+fn room_of(bytes: &[u8]) -> usize
+    ensures { result ≡ room_of bytes.now }
+{
+    bytes.len().max(LEAST_ROOM)
 }
 
 /// The same of the units that an executable names, with room for so many bytes of long paths.
@@ -160,7 +176,8 @@ fn check_listed<O: Write>(
     faults: &mut Faults,
     out: &mut O,
 ) -> Result<(), Failure>
-    ensures { Tells (TellsNamed naming.entry.pack.now naming.entry.executable.now units.old.listed)
+    ensures { Tells (TellsNamed naming.entry.pack.now naming.entry.executable.now room
+        units.old.listed)
         (progress (O.contents out.old) faults.old) (progress (O.contents out.new) faults.new)
         result }
 {
@@ -184,13 +201,14 @@ fn check_skeletons<O: Write>(
     faults: &mut Faults,
     out: &mut O,
 ) -> Result<(), Failure>
-    ensures { Tells (TellsListed naming.entry.pack.now naming.entry.executable.now units.old.listed)
+    ensures { Tells (TellsListed naming.entry.pack.now naming.entry.executable.now room
+        units.old.listed)
         (progress (O.contents out.old) faults.old) (progress (O.contents out.new) faults.new)
         result }
 {
-    let mut room = room;
+    let mut left = room;
     loop {
-        match check_next(naming, units, &mut room, faults, out) {
+        match check_next(naming, units, &mut left, faults, out) {
             Ok(more) => {
                 if !more {
                     return Ok(());
@@ -210,8 +228,8 @@ fn check_next<O: Write>(
     faults: &mut Faults,
     out: &mut O,
 ) -> Result<bool, Failure>
-    ensures { TellsNext naming.entry.pack.now naming.entry.executable.now units.old.listed
-        units.new.listed (progress (O.contents out.old) faults.old)
+    ensures { TellsNext naming.entry.pack.now naming.entry.executable.now room.old room.new
+        units.old.listed units.new.listed (progress (O.contents out.old) faults.old)
         (progress (O.contents out.new) faults.new) result }
 {
     match units.next() {
@@ -234,7 +252,9 @@ fn check_next<O: Write>(
 /// Whether there is room for the path of a unit, which takes some where no system opens one as long
 /// and it isn't that of the unit before.
 fn has_room(room: &mut usize, unit: NamedUnit, path: &str) -> bool
-    ensures { result ≡ false → longest_path < length path.now }
+    ensures long { result ≡ false → longest_path < length path.now }
+    ensures over { result ≡ false → room.old < length path.now }
+    ensures fits { result ≡ true → room.old ≤ room.new + long_size path.now }
 {
     if unit.is_repeated || path.len() <= LONGEST_PATH {
         return true;

@@ -2,7 +2,7 @@
 
 ghost use Rattle.std.specs.Prelude.{◌≡◌, [], string_bytes};
 ghost use Rattle.thorin_check.specs.Telling.{progress, HandsOver, IsFault, PassesOn, Tells};
-ghost use Rattle.thorin_check.specs.Faults.{TellsText, TellsWhat, IsSomeText};
+ghost use Rattle.thorin_check.specs.Texts.{TellsText, TellsWhat, IsSomeText};
 ghost use Rattle.thorin_check.specs.Rendering.{value_of};
 
 use crate::rendering::{Fault, put_fault};

@@ -1,19 +1,22 @@
-//! Ranges of units that overlap those of others, in `thorin check`.
+//! Ranges of units that clash with those of others, in `thorin check`: they overlap, or are the same
+//! bytes of units, and their rows have other abbreviations.
 
 ghost use Rattle.std.specs.Prelude.{◌≡◌, ◌⊎◌, ◌≤◌, ◌<◌, ◌+◌, ◌-◌, ◌^◌, min, true, false, IfOk, OnOk};
 ghost use Rattle.std.specs.List.{AllPairs};
 ghost use Rattle.std.specs.List.Sorted.{IsPermutation};
 ghost use Rattle.dwp_table.specs.Columns.{contribution_kinds};
-ghost use Rattle.thorin_check.specs.Apart.{IsApart, IsLast, HasRanges, AreApart};
+ghost use Rattle.thorin_check.specs.Placed.{IsApart, IsLast, HasRanges, tables_by};
+ghost use Rattle.thorin_check.specs.Apart.{AreApart};
 ghost use Rattle.thorin_check.specs.Overlaps.{slot_range};
 
+use crate::clashes::{has_units, is_same as is_same_range};
 use crate::indexes::has_column;
 use dwp_base::{Contribution, SectionKind};
 use dwp_index::{PackageFile, Row, UnitEntry, UnitIndex};
 use dwp_table::{CONTRIBUTION_KINDS, DwarfObject};
 use std::alloc::{AllocError, Global};
 
-/// A section, and another unit whose range of it seems to overlap.
+/// A section, and another unit whose range of it seems to clash.
 pub(crate) type Clash = (SectionKind, DwarfObject);
 
 /// A range that a unit has of a section; the unit is the one of an entry.
@@ -21,6 +24,8 @@ pub(crate) type Clash = (SectionKind, DwarfObject);
 struct Placed {
     offset: u64,
     size: u64,
+    /// The unit's abbreviations, where the section has the bytes of units.
+    tables: Option<Contribution>,
     entry: usize,
 }
 
@@ -34,7 +39,7 @@ struct Column {
 /// What the ranges of a unit have in common with those of others.
 #[derive(Clone, Copy)]
 pub(crate) struct Shares {
-    /// A range that seems to overlap that of another.
+    /// A range that seems to clash with that of another.
     pub clash: Option<Clash>,
     /// Whether another unit has the same bytes.
     pub has_twin: bool,
@@ -45,35 +50,34 @@ pub(crate) struct Shares {
 pub(crate) struct Overlaps {
     // For each entry whether another row has the range of its own bytes.
     twins: Vec<bool>,
-    // For each entry a range that seems to overlap that of another; nothing where no row has one.
+    // For each entry a range that seems to clash with that of another; nothing where no row has one.
     clashes: Vec<Option<Clash>>,
-    /// Whether ranges of rows overlap without being the same.
-    pub overlap: bool,
+    /// Whether ranges of rows clash.
+    pub clash: bool,
 }
 
 impl Overlaps {
     /// Goes over the ranges of the rows that these entries name, of each section in turn: these are
-    /// read without a look-up. Where some of them overlap without being the same, it looks each
-    /// entry's unit up, and goes over the ranges of those that are found in the row of their entry:
-    /// no others count as overlapping.
+    /// read without a look-up. Where some of them clash, it looks each entry's unit up, and goes over
+    /// the ranges of those that are found in the row of their entry: no others count as clashing.
     pub(crate) fn find(
         alloc: Global,
         pack: &PackageFile<'_>,
         entries: &[UnitEntry],
     ) -> Result<Overlaps, AllocError>
-        ensures { IfOk result (λ overlaps. overlaps.overlap ≡ false
+        ensures { IfOk result (λ overlaps. overlaps.clash ≡ false
             → AreApart pack.now entries.now contribution_kinds) }
     {
         let mut overlaps = Overlaps {
             twins: Vec::from_elem(alloc, false, entries.len())?,
             clashes: Vec::new(alloc),
-            overlap: false,
+            clash: false,
         };
-        let overlap = overlaps.find_twins(alloc, pack, entries)?;
-        if overlap {
+        let clash = overlaps.find_twins(alloc, pack, entries)?;
+        if clash {
             overlaps.find_clashes(alloc, pack, entries)?;
         }
-        overlaps.overlap = overlap;
+        overlaps.clash = clash;
         Ok(overlaps)
     }
 
@@ -92,66 +96,60 @@ impl Overlaps {
     }
 
     /// Marks each entry whose row has the range of its own bytes in common with another's. Answers
-    /// whether ranges of the rows overlap without being the same.
+    /// whether ranges of the rows clash.
     fn find_twins(
         &mut self,
         alloc: Global,
         pack: &PackageFile<'_>,
         entries: &[UnitEntry],
     ) -> Result<bool, AllocError>
-        ensures { IfOk result (λ overlap. overlap ≡ false
+        ensures { IfOk result (λ clash. clash ≡ false
             → AreApart pack.now entries.now contribution_kinds) }
     {
-        let mut overlap = false;
+        let mut clash = false;
         for kind in &CONTRIBUTION_KINDS {
             let ranges = sorted_ranges(alloc, pack, entries, *kind)?;
-            overlap |= self.mark_twins(*kind, ranges.as_slice());
+            clash |= self.mark_twins(*kind, ranges.as_slice());
         }
-        Ok(overlap)
+        Ok(clash)
     }
 
     /// The same of the ranges of one section, sorted by their places.
     fn mark_twins(&mut self, kind: SectionKind, ranges: &[Placed]) -> bool
         ensures { result ≡ false → AllPairs IsApart ranges.now }
     {
-        let mut overlap = false;
+        let mut clash = false;
         let mut farthest = 0u64;
         let mut before: Option<Placed> = None;
         for range in ranges {
+            self.mark_both(kind, before, *range);
             let is_twin = is_last(before, *range);
-            self.mark_both(is_twin, kind, before, *range);
-            overlap |= !is_behind(is_twin, farthest, *range);
+            clash |= !is_behind(is_twin, farthest, *range);
             farthest = further(farthest, *range);
             before = Some(*range);
         }
-        overlap
+        clash
     }
 
-    /// Marks two units that have the same bytes.
-    fn mark_both(
-        &mut self,
-        are_twins: bool,
-        kind: SectionKind,
-        first: Option<Placed>,
-        second: Placed,
-    ) {
-        if are_twins {
-            self.mark_twin(kind, first);
-            self.mark_twin(kind, Some(second));
-        }
-    }
-
-    /// Marks a unit that has the bytes of another, where the range is that of its own bytes.
-    fn mark_twin(&mut self, kind: SectionKind, range: Option<Placed>) {
-        if let (SectionKind::Info | SectionKind::Types, Some(range)) = (kind, range) {
-            if let Some(has_twin) = self.twins.get_mut(range.entry) {
-                *has_twin = true;
+    /// Marks two units that have the same bytes, where the section has the bytes of units.
+    fn mark_both(&mut self, kind: SectionKind, first: Option<Placed>, second: Placed) {
+        if let Some(first) = first {
+            if has_units(kind) && is_same(first, second) {
+                self.mark_twin(first);
+                self.mark_twin(second);
             }
         }
     }
 
-    /// Marks each range of the units that are found in the row of their entry that seems to overlap
-    /// one of another.
+    /// Marks the unit of a range, which has the bytes of another.
+    fn mark_twin(&mut self, range: Placed) {
+        if let Some(has_twin) = self.twins.get_mut(range.entry) {
+            *has_twin = true;
+        }
+    }
+
+    /// Marks each range of the units that are found in the row of their entry that seems to clash
+    /// with one of another.
     fn find_clashes(
         &mut self,
         alloc: Global,
@@ -166,9 +164,9 @@ impl Overlaps {
         self.mark_clashes(&mut columns, entries)
     }
 
-    /// Marks each range that another seems to overlap. Sorted by their places, a range overlaps one
-    /// before it where the farthest end before is past its place, and one behind it where the next
-    /// place is before its end.
+    /// Marks each range that another seems to overlap, and then those that are read otherwise. Sorted
+    /// by their places, a range overlaps one before it where the farthest end before is past its
+    /// place, and one behind it where the next place is before its end.
     fn mark_clashes(
         &mut self,
         columns: &mut Vec<Column>,
@@ -180,6 +178,9 @@ impl Overlaps {
                 self.mark_earlier(column.kind, column.ranges.as_slice(), entries);
                 self.mark_later(column.kind, column.ranges.as_slice(), entries);
             }
+        }
+        for column in columns {
+            self.mark_others(column.kind, column.ranges.as_slice(), entries);
         }
         Ok(())
     }
@@ -222,7 +223,22 @@ impl Overlaps {
         }
     }
 
-    /// Marks a range that another seems to overlap; the first mark of a unit stays.
+    /// Marks each range that is the same as one before, and has other abbreviations.
+    fn mark_others(&mut self, kind: SectionKind, ranges: &[Placed], entries: &[UnitEntry]) {
+        let mut first: Option<Placed> = None;
+        for range in ranges {
+            match first {
+                Some(other) if is_same(other, *range) => {
+                    if !is_same_range(other.tables, range.tables) {
+                        self.mark(kind, *range, other, entries);
+                    }
+                }
+                _ => first = Some(*range),
+            }
+        }
+    }
+
+    /// Marks a range that seems to clash with another; the first mark of a unit stays.
     fn mark(&mut self, kind: SectionKind, range: Placed, other: Placed, entries: &[UnitEntry]) {
         if let Some(clash) = self.clashes.get_mut(range.entry) {
             if let Some(other) = entries.get(other.entry) {
@@ -265,6 +281,7 @@ fn sorted_ranges(
             ranges.push(Placed {
                 offset: range.offset.0,
                 size: range.size,
+                tables: slot_tables(pack, entries[entry], kind),
                 entry,
             })?;
         }
@@ -284,6 +301,17 @@ fn slot_range(pack: &PackageFile<'_>, slot: UnitEntry, kind: SectionKind) -> Opt
     match index.row(slot.row) {
         Ok(row) => row.range(kind),
         Err(_) => None,
+    }
+}
+
+/// The abbreviations of that row, where a section has the bytes of units.
+fn slot_tables(pack: &PackageFile<'_>, slot: UnitEntry, kind: SectionKind) -> Option<Contribution>
+    ensures { result ≡ tables_by kind (slot_range pack.now slot SectionKind.Abbrev) }
+{
+    if has_units(kind) {
+        slot_range(pack, slot, SectionKind::Abbrev)
+    } else {
+        None
     }
 }
 
@@ -315,6 +343,11 @@ fn gather_of(row: &Row<'_>, entry: usize, columns: &mut Vec<Column>) -> Result<(
                 column.ranges.push(Placed {
                     offset: range.offset.0,
                     size: range.size,
+                    tables: if has_units(column.kind) {
+                        row.range(SectionKind::Abbrev)
+                    } else {
+                        None
+                    },
                     entry,
                 })?;
             }
@@ -354,12 +387,13 @@ fn is_same(a: Placed, b: Placed) -> bool
     a.offset == b.offset && a.size == b.size
 }
 
-/// Whether a range is the same as the one before, where there is one.
+/// Whether a range is the same as the one before, where there is one, and has its abbreviations.
+#[tactic(auto, using(crate::proofs::Apart::one_range))]
 fn is_last(before: Option<Placed>, range: Placed) -> bool
     ensures { result ≡ true → IsLast before range }
 {
     match before {
-        Some(last) => is_same(last, range),
+        Some(last) => is_same(last, range) && is_same_range(last.tables, range.tables),
         None => false,
     }
 }

@@ -4,8 +4,8 @@ ghost use Rattle.std.specs.Prelude.{◌≡◌, ◌<◌, ◌≤◌, codes, false,
 ghost use Rattle.std.specs.List.Sorted.{IsSortedByKey};
 ghost use Rattle.std.specs.Ordering.{nat_cmp};
 ghost use Rattle.thorin_check.specs.Checking.{TellsRows};
-ghost use Rattle.thorin_check.specs.Faults.{is_of, row_text, row_faults, row_end, TellsRowsOf};
-ghost use Rattle.thorin_check.specs.Rows.{is_next};
+ghost use Rattle.thorin_check.specs.Faults.{is_of, row_text, row_end, TellsRowsOf};
+ghost use Rattle.thorin_check.specs.Rows.{is_next, row_faults};
 ghost use Rattle.thorin_check.specs.Telling.{progress, Tells, Is};
 ghost use Rattle.thorin_find.specs.Listing.{AreByRow, place_of_line};
 

@@ -1,13 +1,17 @@
 //! The strings of a package's units, in `thorin check`.
 
-ghost use Rattle.std.specs.Prelude.{◌≡◌, ℕ, List, [], None, Some, Ok, IfOk, OnOk, string_bytes, true};
+ghost use Rattle.std.specs.Prelude.{◌≡◌, ◌<◌, ℕ, List, [], None, Some, Ok, IfOk, OnOk, true};
+ghost use Rattle.std.specs.Prelude.{string_bytes};
 ghost use Rattle.std.specs.List.{All};
 ghost use Rattle.dwp_index.specs.Package.{Package, found};
-ghost use Rattle.thorin_check.specs.Strings.{range_of, is_wide, IsOfUnit, Gathers, Adds};
-ghost use Rattle.thorin_check.specs.Checking.{TellsListed};
-ghost use Rattle.thorin_check.specs.Ends.{HasEnds, AllEnd};
+ghost use Rattle.thorin_check.specs.Strings.{range_of, is_wide};
+ghost use Rattle.thorin_check.specs.Gathered.{IsOfUnit, Gathers, Adds};
+ghost use Rattle.thorin_check.specs.Gathered.{TellsListed};
+ghost use Rattle.thorin_check.specs.Distinct.{number_of, IsBehind};
+ghost use Rattle.thorin_check.specs.Reach.{HasEnds};
+ghost use Rattle.thorin_check.specs.Ends.{AllEnd};
 ghost use Rattle.thorin_check.specs.Faults.{TellsStringsOf, TellsStrings, TellsString, string_text};
-ghost use Rattle.thorin_check.specs.Faults.{IsTextOf};
+ghost use Rattle.thorin_check.specs.Texts.{IsTextOf};
 ghost use Rattle.thorin_find.specs.Finding.{string_of};
 ghost use Rattle.thorin_check.specs.Telling.{progress, Tells};
 ghost use Rattle.dwp_table.specs.declared.object.DwarfObject.{DwarfObject};
@@ -64,9 +68,45 @@ impl StringRange {
             && is_wide(self.format) == is_wide(other.format)
     }
 
+    /// Whether they come behind others, as they are sorted.
+    fn is_behind(self, other: StringRange) -> bool
+        ensures { result ≡ true → number_of other < number_of self }
+    {
+        if self.offset != other.offset {
+            return other.offset < self.offset;
+        }
+        if self.size != other.size {
+            return other.size < self.size;
+        }
+        if self.version != other.version {
+            return other.version < self.version;
+        }
+        !is_wide(other.format) && is_wide(self.format)
+    }
+
     /// The numbers that they are sorted by.
     fn key(self) -> (u64, u64, u16, bool) {
         (self.offset, self.size, self.version, is_wide(self.format))
+    }
+}
+
+/// Whether these are the string offsets before, if there were some.
+fn is_last(before: Option<StringRange>, range: StringRange) -> bool
+    ensures { result ≡ true → before ≡ Some range }
+{
+    match before {
+        Some(last) => last.is(range),
+        None => false,
+    }
+}
+
+/// Whether string offsets come behind those before, if there were some.
+fn comes_behind(before: Option<StringRange>, range: StringRange) -> bool
+    ensures { result ≡ true → IsBehind before range }
+{
+    match before {
+        Some(last) => range.is_behind(last),
+        None => true,
     }
 }
 
@@ -121,7 +161,7 @@ impl Strings {
         let Some(range) = StringRange::of(unit) else {
             return Ok(());
         };
-        if self.is_last(range) {
+        if is_last(self.last, range) {
             return Ok(());
         }
         if self.reads_all(unit, range.size) {
@@ -131,16 +171,6 @@ impl Strings {
         self.unread.push((range, object))?;
         self.last = Some(range);
         Ok(())
-    }
-
-    /// Whether these are the string offsets of the unit before.
-    fn is_last(&self, range: StringRange) -> bool
-        ensures { result ≡ true → self.now.last ≡ Some range }
-    {
-        match self.last {
-            Some(last) => last.is(range),
-            None => false,
-        }
     }
 
     /// Whether a unit's strings can all be read; false where it would take too long to tell.
@@ -182,7 +212,8 @@ pub(crate) fn check_strings<O: Write>(
 }
 
 /// Checks the strings of these units, but for those that have the string offsets of the one before.
-#[tactic(auto, using(crate::proofs::Told::none_told))]
+/// They are sorted by these: where they weren't, which can't be, this tells of want of memory.
+#[tactic(auto, using(crate::proofs::Told::none_told, thorin_print::proofs::Printed::none_grown))]
 fn check_distinct<O: Write>(
     pack: &PackageFile<'_>,
     ends: Ends,
@@ -196,10 +227,15 @@ fn check_distinct<O: Write>(
         (progress (O.contents out.old) faults.old) (progress (O.contents out.new) faults.new)
         result }
 {
+    let mut before: Option<StringRange> = None;
     for i in 0..strings.len() {
-        if 0 < i && strings[i - 1].0.is(strings[i].0) {
+        if is_last(before, strings[i].0) {
             continue;
         }
+        if !comes_behind(before, strings[i].0) {
+            return Err(Failure::Memory);
+        }
+        before = Some(strings[i].0);
         match check_strings_of(pack, ends, strings[i].1, faults, out) {
             Ok(()) => {}
             Err(failure) => return Err(failure),

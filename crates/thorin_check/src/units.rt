@@ -8,16 +8,17 @@ ghost use Rattle.dwp_index.specs.Index.{range_in};
 ghost use Rattle.dwp_index.specs.Package.{found};
 ghost use Rattle.thorin_check.specs.Checking.{TellsUnits};
 ghost use Rattle.thorin_check.specs.Faults.{TellsUnit, TellsFound, TellsItself};
-ghost use Rattle.thorin_check.specs.Faults.{IsUnreadText, IsTextOf, has_abbreviations};
+ghost use Rattle.thorin_check.specs.Texts.{IsUnreadText, IsTextOf};
+ghost use Rattle.thorin_check.specs.Faults.{has_abbreviations};
 ghost use Rattle.dwp_table.specs.Columns.{contribution_kinds};
 ghost use Rattle.thorin_check.specs.Apart.{AreApart};
-ghost use Rattle.thorin_check.specs.Ends.{HasEnds};
+ghost use Rattle.thorin_check.specs.Reach.{HasEnds};
 ghost use Rattle.thorin_check.specs.Seen.{IsSeen, GoesOn, Gathered, IsGatheredIn, TellsSeen};
 ghost use Rattle.thorin_check.specs.Telling.{progress, Tells, ForEach};
 
 use crate::abbreviations::Remembered;
 use crate::checking::Opened;
-use crate::clashes::{clash_of, overlap_text};
+use crate::clashes::clash_text;
 use crate::ends::Ends;
 use crate::faults::{Faults, some, tell};
 use crate::overlaps::{Overlaps, Shares};
@@ -81,7 +82,7 @@ pub(crate) fn check_units<O: Write>(
     }
 }
 
-/// The same with what is known of overlaps. That there is one and nothing is told can't be; then this
+/// The same with what is known of clashes. That there is one and nothing is told can't be; then this
 /// tells of want of memory.
 fn check_all<O: Write>(
     opened: Opened<'_, '_>,
@@ -89,7 +90,7 @@ fn check_all<O: Write>(
     faults: &mut Faults,
     out: &mut O,
 ) -> Result<(), Failure>
-    requires { overlaps.now.overlap ≡ false
+    requires { overlaps.now.clash ≡ false
         → AreApart opened.pack.now opened.entries.now contribution_kinds }
     ensures { Tells (TellsUnits opened.entry.pack.now opened.entry.entries.now)
         (progress (O.contents out.old) faults.old) (progress (O.contents out.new) faults.new)
@@ -104,7 +105,7 @@ fn check_all<O: Write>(
     let count = faults.count;
     match check_each(units, opened.entries, overlaps, &mut seen, faults, out) {
         Ok(()) => {
-            if is_untold(overlaps.overlap, count, faults.count) {
+            if is_untold(overlaps.clash, count, faults.count) {
                 return Err(Failure::Memory);
             }
             check_strings(opened.pack, ends, &mut seen.strings.unread, faults, out)
@@ -113,11 +114,11 @@ fn check_all<O: Write>(
     }
 }
 
-/// Whether ranges overlap, and the number of faults stayed.
-fn is_untold(overlap: bool, before: u64, after: u64) -> bool
-    ensures { result ≡ (overlap && after == before) }
+/// Whether ranges clash, and the number of faults stayed.
+fn is_untold(clash: bool, before: u64, after: u64) -> bool
+    ensures { result ≡ (clash && after == before) }
 {
-    overlap && after == before
+    clash && after == before
 }
 
 /// Checks each unit that a slot names, and gathers those whose strings are still to be checked.
@@ -204,8 +205,8 @@ fn is_bare(has_any: bool, unit: &PackagedUnit<'_>) -> bool
 }
 
 /// What is told of a unit by its ranges and its own bytes, if anything: none of its ranges is to
-/// overlap that of another, and its own identifier is to be that of the slot.
-#[tactic(auto, using(crate::proofs::Faulted::overlapped, crate::proofs::Faulted::made, crate::proofs::Distinct::stays_seen))]
+/// clash with that of another, and its own identifier is to be that of the slot.
+#[tactic(auto, using(crate::proofs::Faulted::clashed, crate::proofs::Distinct::stays_seen))]
 fn text_of_itself<'a>(
     pack: &PackageFile<'a>,
     object: DwarfObject,
@@ -220,14 +221,15 @@ fn text_of_itself<'a>(
     ensures gathered { IfOk result (λ text. text ≡ None
         → Gathered pack.now seen.new.strings.unread.items unit.now) }
 {
-    match clash_of(pack, unit, shares.clash) {
-        Some((kind, other)) => some(overlap_text(seen.alloc, kind, other)),
+    match clash_text(seen.alloc, pack, unit, shares.clash)? {
+        Some(text) => Ok(Some(text)),
         None => text_of_own(pack, object, unit, shares.has_twin, seen),
     }
 }
 
 /// What is told of a unit by the identifier that its own bytes give. Where that is its own, the unit
 /// is gathered for the check of its strings.
+#[tactic(auto, using(crate::proofs::Faulted::of_its_own))]
 fn text_of_own<'a>(
     pack: &PackageFile<'a>,
     object: DwarfObject,

@@ -1,4 +1,4 @@
-use Rattle.thorin_check.specs.Faults.{row_faults}
+use Rattle.thorin_check.specs.Rows.{row_faults}
 use Rattle.thorin_check.specs.Telling.{progress, Told, Is}
 use Rattle.thorin_check.proofs.rows.tell_rows.Given as goal
 

@@ -1,5 +1,5 @@
 use Rattle.std.proofs.lemmas.List.Sorted.{All-permutation}
-use Rattle.thorin_check.specs.Strings.{IsOfUnit}
+use Rattle.thorin_check.specs.Gathered.{IsOfUnit}
 use Rattle.thorin_check.proofs.Distinct.{listed_before}
 use Rattle.thorin_check.proofs.strings.check_strings.Goals as goal
 

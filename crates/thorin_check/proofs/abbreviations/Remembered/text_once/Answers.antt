@@ -1,21 +1,18 @@
 use Rattle.std.proofs.Common.{◌∙◌}
 use Rattle.thorin_check.specs.declared.abbreviations.PlaceRead.{PlaceRead}
-use Rattle.thorin_check.proofs.Faulted.{of_its_own}
 use Rattle.thorin_check.proofs.Own.{known_again, known_more, read_at}
 use Rattle.thorin_check.proofs.abbreviations.Remembered.text_once.Goals as goal
 
 pub returns-then-is-clause-text : goal.returns-then-is-clause-text
 returns-then-is-clause-text c =
-    of_its_own c.args.pack.now c.args.object c.args.unit.now c.own_fault.result
-    (rw (known_again c.args.pack.now c.args.object c.args.unit.now _ _ c.requires.is_found
+    rw (known_again c.args.pack.now c.args.object c.args.unit.now _ _ c.requires.is_found
     c.requires.knows.shared c.in-Some.ensures.member
-    (c.is.ensures c.if-is.true ∙ c.of-place.ensures)) at c.own_fault.ensures)
+    (c.is.ensures c.if-is.true ∙ c.of-place.ensures)) at c.own_fault.ensures
 
 pub returns-clause-knows : goal.returns-clause-knows
 returns-clause-knows c =
     let read : PlaceRead = record {
       place = c.of-place.result;
-      object = c.args.object;
       own = c.in_ok-own.own;
     } in
     record {

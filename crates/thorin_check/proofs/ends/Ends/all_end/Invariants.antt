@@ -1,6 +1,6 @@
 use Rattle.std.proofs.Common.{◌≡◌, ◌<◌, ℕ, true}
 use Rattle.dwp_bytes.specs.StringOffsets.{entry_in}
-use Rattle.thorin_check.specs.Ends.{is_inside}
+use Rattle.thorin_check.specs.Reach.{is_inside}
 use Rattle.thorin_check.proofs.ends.Ends.all_end.Given as goal
 
 -- the offsets so far are inside
