@@ -22,19 +22,22 @@ use Rattle.dwp_archive.specs.declared.error.ArchiveError.{ArchiveError}
 use Rattle.dwp_archive.specs.declared.error.ArchiveError.TheVariants as archive_errors
 use Rattle.thorin_errors.specs.declared.error.InputError.{InputError}
 use Rattle.thorin_join.specs.Builder.{State, start}
-use Rattle.thorin_builder.specs.Reading.{IsRead, OnDeclined, DeclinesSome, outcome_of, unread}
+use Rattle.thorin_builder.specs.Reading.{IsRead, OnDeclined, outcome_of, unread}
 use Rattle.thorin_builder.specs.declared.reader.NotTaken.{NotTaken}
-use Rattle.thorin.specs.Run.{RefusesToWrite, Took}
+use Rattle.thorin.specs.Run.{DeclinesInput, RefusesToWrite, Took}
 use Rattle.thorin.specs.declared.packing.Input.{Input}
 use Rattle.thorin.specs.declared.packing.Input.TheVariants as inputs
 use Rattle.thorin_inputs.specs.declared.growth.Growth.{Growth}
+use Rattle.thorin_print.specs.Answers.{FailsBy}
+use Rattle.thorin_print.specs.declared.output.Failure.{Failure}
+use Rattle.thorin_print.specs.declared.output.Failure.TheVariants as failures
 use Rattle.thorin_commands.specs.Archives.{StandsFor, is_archive, split_contents}
 use Rattle.thorin_commands.specs.Cause.{AreRefused, Cause, IsNotTaken, Alone, Plain, Archive}
 use Rattle.thorin_commands.specs.Cause.{Unread}
 use Rattle.thorin_commands.specs.Cause.{IsCauseFor, IsCauseOf, Taking, Finishing, IsRefused}
 use Rattle.thorin_commands.specs.Cause.{IsTakenNot}
 use Rattle.thorin_commands.specs.Cause.{IsUnfinished, IsUnfit, IsUntaken, Reasons, Refuses}
-use Rattle.thorin_commands.specs.Cause.{StopsAmong, StopsAt}
+use Rattle.thorin_commands.specs.Cause.{Stops, StopsAmong, StopsAt}
 use Rattle.thorin_commands.specs.Cause.{Among, Bad, IsMalformed, StopsIn, Tells, Told, Untaken}
 use Rattle.thorin_commands.specs.Cause.{Unfinished, refusal_text, told_text}
 use Rattle.thorin_commands.specs.Opened.{Fills, TookEach, TookInputs}
@@ -47,19 +50,28 @@ use Rattle.thorin_commands.specs.declared.refusal.Refusal.{Refusal}
 use Rattle.thorin_commands.specs.declared.refusal.Refusal.TheVariants as refusals
 use Rattle.thorin_commands.proofs.Opened.{each_append, each_none}
 
-module _ {W : Type 0} (contents : W → Option (List ℕ)) (writer : W) where
+-- a line wasn't taken, or memory ran out
+pub stops_by : (X U : Type 0) (failure : Failure) → FailsBy X failure → Stops X U failure
+stops_by X U failures.Line h = h
+stops_by X U failures.Memory h = tt
+stops_by X U _ h = absurd h
+
+module _ {W : Type 0} (contents : W → Option (List ℕ)) (failed : W → Type 0) (writer : W) where
   -- what is known of a refusal by causes that are others
   pub refuses_by : {P Q : Cause → Type 0} → ((cause : Cause) → P cause → Q cause)
-      → (refusal : Refusal) → Refuses contents writer P refusal
-      → Refuses contents writer Q refusal
+      → (refusal : Refusal) → Refuses contents failed writer P refusal
+      → Refuses contents failed writer Q refusal
   refuses_by f refusals.Told t =
       record { cause = t.cause; is = f t.cause t.is; line = t.line }
   refuses_by f refusals.Empty t = f (Unfinished NoOutputObjectCreated) t
-  refuses_by f (refusals.Command failure) t = tt
+  refuses_by f (refusals.Command failures.Line) t = t
+  refuses_by f (refusals.Command failures.Memory) t = tt
+  refuses_by f (refusals.Command failures.Input) t = f (Unfinished NoOutputObjectCreated) t
+  refuses_by f (refusals.Command _) t = absurd t
 
   pub err_by : {X : Type 0} {P Q : Cause → Type 0} → ((cause : Cause) → P cause → Q cause)
-      → (r : Result X Refusal) → IfErr r (Refuses contents writer P)
-      → IfErr r (Refuses contents writer Q)
+      → (r : Result X Refusal) → IfErr r (Refuses contents failed writer P)
+      → IfErr r (Refuses contents failed writer Q)
   err_by f (Ok x) t = tt
   err_by f (Err refusal) t = refuses_by f refusal t
 
@@ -67,17 +79,12 @@ module _ {W : Type 0} (contents : W → Option (List ℕ)) (writer : W) where
   pub told_reason : (outcome : Result (Unit {0}) (NotTaken Error Growth))
       → (why : NotTaken Error Growth) → outcome ≡ Err why
       → Tells contents writer (refusal_text why)
-      → Refuses contents writer (IsUntaken (λ why. outcome ≡ Err why)) refusals.Told
+      → Refuses contents failed writer (IsUntaken (λ why. outcome ≡ Err why)) refusals.Told
   told_reason outcome why e line = record {
     cause = Untaken why;
     is = record { why = why; is = refl; reason = e };
     line = line;
   }
-
-  -- a package that can't be finished, since no input began it, or for an error that was told
-  pub told_error : (error : Error) → Tells contents writer (told_text (error_of error))
-      → Refuses contents writer (λ cause. cause ≡ Unfinished error) refusals.Told
-  told_error error line = record { cause = Unfinished error; is = refl; line = line }
 
 -- an outcome's reason is one of others
 pub reason_by : {P : NotTaken Error Growth → Type 0}
@@ -85,16 +92,11 @@ pub reason_by : {P : NotTaken Error Growth → Type 0}
     → (cause : Cause) → IsUntaken (λ why. outcome ≡ Err why) cause → IsUntaken P cause
 reason_by outcome h cause u = record { why = u.why; is = u.is; reason = rw u.reason at h }
 
--- a package can't be finished
-pub unfinished_by : {state : State} (error : Error)
-    → MemoryAside error (RefusesToWrite state (error_of error))
-    → (cause : Cause) → cause ≡ Unfinished error → IsUnfinished state cause
-unfinished_by error h cause e = record { error = error; is = e; refuses = h }
-
 -- what a call answered says why it didn't take an input
 pub refused : (offer : Offer) (declines : Reasons) (input : Input) (old new : State)
     (outcome : Result (Unit {0}) (NotTaken Error Growth))
-    → Took offer input old (outcome_of outcome) new → OnDeclined outcome (DeclinesSome declines)
+    → Took offer input old (outcome_of outcome) new
+    → OnDeclined outcome (DeclinesInput declines input)
     → IfErr outcome (IsRefused offer declines input old)
 refused offer declines input old new (Ok x) took declined = tt
 refused offer declines input old new (Err why) took declined =
@@ -123,7 +125,7 @@ module _ {opens : Bool} {manner : Manner} {offer : Offer} {declines : Reasons} w
       Archive path state file cause opened offered is stops
 
 -- a list is what stands before a place, what stands there, and what stands behind it
-split_at : {X : Type 0} (xs : List X) (i : ℕ) (none : X) → i < length xs
+pub split_at : {X : Type 0} (xs : List X) (i : ℕ) (none : X) → i < length xs
     → xs ≡ take i xs ++ get_or xs i none ∷ drop (i + 1) xs
 split_at xs i none h =
     sym (rw (take_more xs i none h, append_assoc) at (take-append-drop (i + 1) xs))
@@ -209,16 +211,16 @@ cause_for : (offer : Offer) (declines : Reasons) (packing : Packing) (opens : Bo
 cause_for offer declines packing opens manner list o m are cause is =
     record { list = list; are = are; is = rw (o, m) at is }
 
-module _ {W : Type 0} (contents : W → Option (List ℕ)) (writer : W) (offer : Offer)
-    (declines : Reasons) (packing : Packing) where
+module _ {W : Type 0} (contents : W → Option (List ℕ)) (failed : W → Type 0) (writer : W)
+    (offer : Offer) (declines : Reasons) (packing : Packing) where
   module _ (opens : Bool) (manner : Manner) (list : List Input)
       (o : opens ≡ packing.opens_archives) (m : manner ≡ manner_of packing) where
     -- of those that were asked for; and where none of them began a package
     pub told_for : map asked list ≡ asks packing → (refusal : Refusal)
-        → Refuses contents writer
+        → Refuses contents failed writer
         (IsCauseOf packing.partial opens manner offer declines list) refusal
-        → Refuses contents writer (IsCauseFor offer declines packing) refusal
-    told_for are refusal t = refuses_by contents writer
+        → Refuses contents failed writer (IsCauseFor offer declines packing) refusal
+    told_for are refusal t = refuses_by contents failed writer
         (cause_for offer declines packing opens manner list o m (inl are)) refusal t
 
     pub empty_for : map asked list ≡ asks packing
@@ -233,10 +235,10 @@ module _ {W : Type 0} (contents : W → Option (List ℕ)) (writer : W) (offer :
         → map asked list ≡ asks packing ++ Some (path.now, None) ∷ []
         → take 1 (paths_in packing.executables) ≡ path ∷ []
         → {X : Type 0} (result : Result X Refusal)
-        → IfErr result (Refuses contents writer
+        → IfErr result (Refuses contents failed writer
         (IsCauseOf packing.partial opens manner offer declines list))
-        → IfErr result (Refuses contents writer (IsCauseFor offer declines packing))
-    told_unsplit path lets are first result t = err_by contents writer
+        → IfErr result (Refuses contents failed writer (IsCauseFor offer declines packing))
+    told_unsplit path lets are first result t = err_by contents failed writer
         (cause_for offer declines packing opens manner list o m (inr (lets, rw first are)))
         result t
 
@@ -248,14 +250,15 @@ module _ {W : Type 0} (contents : W → Option (List ℕ)) (writer : W) (offer :
       record { cause = Unfinished NoOutputObjectCreated; is = is; line = line }
 
 -- causes of what is read, however that is written
-pub told_alike : {W X : Type 0} (contents : W → Option (List ℕ)) (writer : W)
-    (offers : X → Offer) (x y : X) (reading packing : Packing) → x ≡ y → reading ≡ packing
+pub told_alike : {W X : Type 0} (contents : W → Option (List ℕ)) (failed : W → Type 0)
+    (writer : W) (offers : X → Offer) (x y : X) (reading packing : Packing) → x ≡ y
+    → reading ≡ packing
     → (refusal : Refusal)
-    → Refuses contents writer (IsCauseFor (reads reading (offers x))
+    → Refuses contents failed writer (IsCauseFor (reads reading (offers x))
     (why_declined reading (offers x)) packing) refusal
-    → Refuses contents writer (IsCauseFor (reads packing (offers y))
+    → Refuses contents failed writer (IsCauseFor (reads packing (offers y))
     (why_declined packing (offers y)) packing) refusal
-told_alike contents writer offers x y reading packing f p refusal t = rw (f, p) at t
+told_alike contents failed writer offers x y reading packing f p refusal t = rw (f, p) at t
 
 -- what is taken for the content of a member was refused
 pub content_refused : {manner : Manner} {content taken : List ℕ} → IsTakenFor manner content taken
@@ -297,7 +300,7 @@ one_stops contents writer {content = content} {state = state} why h line = recor
 pub bytes_refused : (offer : Offer) (declines : Reasons) (bytes : Bor (List ℕ)) (old new : State)
     (outcome : Result (Unit {0}) (NotTaken Error Growth))
     → Took offer (inputs.Bytes bytes) old (outcome_of outcome) new
-    → OnDeclined outcome (DeclinesSome declines)
+    → OnDeclined outcome (DeclinesInput declines (inputs.Bytes bytes))
     → IfErr outcome (AreRefused offer declines bytes.now old)
 bytes_refused offer declines bytes old new (Ok x) took declined = tt
 bytes_refused offer declines bytes old new (Err why) took declined = record {

@@ -4,3 +4,4 @@ mod Opened
 mod Puts
 mod Readable
 mod Taken
+mod Whys

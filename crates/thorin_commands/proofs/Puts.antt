@@ -70,10 +70,6 @@ pub early : (N B : Type 0) (failure : Failure) → N → Fails failure N B
 unfolding Fails
 early N B failure n = inl n
 
-pub late : (N B : Type 0) (failure : Failure) → IsOfWriting failure → B → Fails failure N B
-unfolding Fails
-late N B failure w b = inr (w, b)
-
 -- with an object under a name
 module _ (N X : Type 0) (offer : List ℕ → Result (List ℕ) IoError → Type 0) (packing : Packing)
     (Puts : (name text : List ℕ) → Type 0) (object : File) (name : List ℕ) where
@@ -88,11 +84,10 @@ module _ (N X : Type 0) (offer : List ℕ → Result (List ℕ) IoError → Type
   done_packing x is named put = packs is named put
 
   pub failed_packing : (failure : Failure) → IsPackageFor offer packing object
-      → out_of packing ≡ Some name → Fails failure N (Puts name (file_text object))
+      → out_of packing ≡ Some name → IsOfWriting failure → Puts name (file_text object)
       → Comes (Err (refusals.Command failure)) N (Packs offer packing Puts) X
   unfolding Comes Fails
-  failed_packing failure is named (inl n) = inl n
-  failed_packing failure is named (inr h) = inr (h.0, packs is named h.1)
+  failed_packing failure is named w put = inr (w, packs is named put)
 
 module _ (N B D : Type 0) where
   -- where nothing was written, any refusal says so

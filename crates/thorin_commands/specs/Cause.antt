@@ -7,6 +7,7 @@ use Rattle.std.specs.Path.{path_bytes}
 use Rattle.std.specs.declared.path.Path.{Path}
 use Rattle.dwp_archive.specs.Entries.{Member}
 use Rattle.dwp_archive.specs.Members.{members_of}
+use Rattle.dwp_archive.specs.Texts.{archive_text}
 use Rattle.dwp_archive.specs.declared.error.ArchiveError.{ArchiveError}
 use Rattle.dwp_archive.specs.declared.error.ArchiveError.TheVariants as archive_errors
 use Rattle.thorin_errors.specs.Answers.{MemoryAside}
@@ -16,15 +17,17 @@ use Rattle.thorin_errors.specs.declared.error.Error.{Error}
 use Rattle.thorin_errors.specs.declared.error.Error.TheVariants as errors
 use Rattle.thorin_errors.specs.declared.error.InputError.{InputError}
 use Rattle.thorin_join.specs.Builder.{State, start}
-use Rattle.thorin_builder.specs.Reading.{DeclinesSome, IsRead, OnDeclined, OnFailed, error_in}
+use Rattle.thorin_builder.specs.Reading.{IsRead, OnDeclined, OnFailed, error_in}
 use Rattle.thorin_builder.specs.Reading.{unread}
 use Rattle.thorin_builder.specs.declared.reader.NotTaken.{NotTaken}
 use Rattle.thorin_builder.specs.declared.reader.NotTaken.TheVariants.{Failed, Declined}
-use Rattle.thorin.specs.Run.{RefusesToWrite, Took}
+use Rattle.thorin.specs.Run.{DeclinesInput, RefusesToWrite, Took}
 use Rattle.thorin.specs.declared.packing.Input.{Input}
 use Rattle.thorin.specs.declared.packing.Input.TheVariants as inputs
 use Rattle.thorin_words.specs.Printed.{printed}
 use Rattle.thorin_print.specs.Lines.{line_end}
+use Rattle.thorin_print.specs.declared.output.Failure.{Failure}
+use Rattle.thorin_print.specs.declared.output.Failure.TheVariants as failures
 use Rattle.thorin_inputs.specs.Growth.{growth_text}
 use Rattle.thorin_inputs.specs.declared.growth.Growth.{Growth}
 use Rattle.thorin_commands.specs.Archives.{StandsFor, is_archive, split_contents}
@@ -72,10 +75,10 @@ pub data Cause : Type 0 where
   Malformed : (error : ArchiveError) → Cause
   Unfinished : (error : Error) → Cause
 
--- what is told of it; the texts of malformed archives aren't stated
+-- what is told of it
 abbrev pub text_of : Cause → Option (List ℕ)
 text_of (Untaken why) = refusal_text why
-text_of (Malformed error) = None
+text_of (Malformed error) = Some (archive_text error)
 text_of (Unfinished error) = told_text (error_of error)
 
 -- why the file at a path may be declined
@@ -87,7 +90,7 @@ pub record IsRefused (offer : Offer) (declines : Reasons) (input : Input) (state
     (why : NotTaken Error Growth) : Type 0 where
   pub new : State
   pub took : Took offer input state (Err (error_in why)) new
-  pub declined : OnDeclined {X = Unit {0}} (Err why) (DeclinesSome declines)
+  pub declined : OnDeclined {X = Unit {0}} (Err why) (DeclinesInput declines input)
 
 -- the same of bytes
 pub record AreRefused (offer : Offer) (declines : Reasons) (bytes : List ℕ) (state : State)
@@ -204,10 +207,24 @@ pub record Told {W : Type 0} (contents : W → Option (List ℕ)) (writer : W)
   pub is : Causes cause
   pub line : Tells contents writer (text_of cause)
 
+-- why packing stopped before anything was written: a line wasn't taken, or memory ran out; or no
+-- input began a package, and an executable couldn't be read a second time
+abbrev pub Stops : (failed unsplit : Type 0) → Failure → Type 0
+Stops failed unsplit failures.Line = failed
+Stops failed unsplit failures.Memory = Unit {0}
+Stops failed unsplit failures.Input = unsplit
+Stops failed unsplit _ = ⊥
+
 -- what is known of a refusal: a cause was told; or no input began a package, which isn't told yet;
 -- or a step failed
-abbrev pub Refuses : {W : Type 0} → (contents : W → Option (List ℕ)) → W → (Cause → Type 0)
-    → Refusal → Type 0
-Refuses contents writer Causes refusals.Told = Told contents writer Causes
-Refuses contents writer Causes refusals.Empty = Causes (Unfinished errors.NoOutputObjectCreated)
-Refuses contents writer Causes (refusals.Command failure) = Unit {0}
+abbrev pub Ends : (told unsplit : Type 0) → (Why : Failure → Type 0) → Refusal → Type 0
+Ends told unsplit Why refusals.Told = told
+Ends told unsplit Why refusals.Empty = unsplit
+Ends told unsplit Why (refusals.Command failure) = Why failure
+
+-- before anything was written, by the causes that there may be
+abbrev pub Refuses : {W : Type 0} → (contents : W → Option (List ℕ)) → (failed : W → Type 0) → W
+    → (Cause → Type 0) → Refusal → Type 0
+Refuses contents failed writer Causes refusal = Ends (Told contents writer Causes)
+    (Causes (Unfinished errors.NoOutputObjectCreated)) (Stops (failed writer)
+    (Causes (Unfinished errors.NoOutputObjectCreated))) refusal

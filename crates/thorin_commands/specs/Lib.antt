@@ -1,5 +1,6 @@
 pub mod Archives
 pub mod Cause
+pub mod Failing
 pub mod Naming
 pub mod Opened
 pub mod Packing

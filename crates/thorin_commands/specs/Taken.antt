@@ -2,6 +2,7 @@
 use Rattle.std.specs.Prelude.{◌≡◌, ℕ, List, Bool, true, false, Result, Ok, Err, ◌⊎◌, IsSome}
 use Rattle.std.specs.declared.io.Error.{Error as IoError}
 use Rattle.dwp_elf_read.specs.Elf.{elf_of}
+use Rattle.dwp_decompress.specs.Compressed.{HasCompressed}
 use Rattle.dwp_decompress.specs.Result.{decompressed_of}
 use Rattle.dwp_decompress.specs.Sizes as decompressing
 use Rattle.dwp_decompress.specs.declared.asked.Asked.TheVariants.{OfUnits}
@@ -72,19 +73,20 @@ HasOverlap manner bytes = (overlaps bytes (elf_of bytes) ≡ true)
     ⊎ ((manner.decompresses ≡ true)
     × (decompressing.overlaps OfUnits bytes (elf_of bytes) ≡ true))
 
--- plain bytes are declined: for their strings, or since macros are to go
+-- plain bytes are declined: for their strings, where these may not overlap, or since macros are to
+-- go
 abbrev pub DeclinesPlain : Manner → List ℕ → Growth → Type 0
 DeclinesPlain manner plain growth.Strings = manner.allows_overlap ≡ false
 DeclinesPlain manner plain growth.Macros = IsSome (kept_macros_of manner.macros plain)
 DeclinesPlain manner plain _ = ⊥
 
--- bytes are declined: their sections overlap, where that isn't allowed; they are to be
--- decompressed;
--- or their plain bytes are declined
+-- bytes are declined: their sections overlap, where that isn't allowed; some that are compressed
+-- are to be decompressed; or their plain bytes are declined
 abbrev pub DeclinesBytes : Manner → List ℕ → Growth → Type 0
 DeclinesBytes manner bytes growth.Sections =
     (manner.allows_overlap ≡ false) × HasOverlap manner bytes
-DeclinesBytes manner bytes growth.Plain = manner.decompresses ≡ true
+DeclinesBytes manner bytes growth.Plain =
+    (manner.decompresses ≡ true) × HasCompressed OfUnits (elf_of bytes)
 DeclinesBytes manner bytes why =
     (plain : List ℕ) × IsPlainFor manner.decompresses bytes plain × DeclinesPlain manner plain why
 

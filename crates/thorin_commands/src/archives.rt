@@ -4,17 +4,18 @@ ghost use Rattle.std.specs.Prelude.{◌≡◌, ◌⊎◌, ◌∷◌, [], map, Ok
 ghost use Rattle.std.specs.Path.{path_bytes};
 ghost use Rattle.thorin.specs.declared.packing.Input.TheVariants.{Object};
 ghost use Rattle.dwp_archive.specs.View as view;
+ghost use Rattle.thorin_print.specs.Answers.{FailsBy};
 ghost use Rattle.thorin_commands.specs.Archives.{is_archive, is_split, split_contents};
 ghost use Rattle.thorin_commands.specs.Cause.{AreRefused, IsNotTaken, IsTakenNot, IsUnfit};
 ghost use Rattle.thorin_commands.specs.Cause.{IsMalformed, IsUntaken, Refuses, StopsAmong};
-ghost use Rattle.thorin_commands.specs.Cause.{StopsIn, Tells, refusal_text};
+ghost use Rattle.thorin_commands.specs.Cause.{Malformed, StopsIn, Tells, refusal_text, text_of};
 ghost use Rattle.thorin_commands.specs.Opened.{TookAll, TookEach, TookMembers, TookBytes};
 
 use crate::origins::{Holding, Origin, now_in, place_of_refused};
 use crate::reading::Inputs;
 use crate::refusal::Refusal;
 use crate::taking::{Tried, settle};
-use crate::telling::{Refused, Telling, tell_refused, tell_why, text_in};
+use crate::telling::{Refused, Telling, put_error, put_notes, tell_refused, tell_why, text_in};
 use dwp_archive::{ArchiveError, Member, members};
 use dwp_bytes::RelocationEntry;
 use dwp_elf::ElfFile;
@@ -23,9 +24,12 @@ use std::io::Write;
 use std::path::{AsPath, Path};
 use thorin::{DwarfPackage, Input, NotTaken, take_input};
 use thorin_errors::Error;
-use thorin_inputs::{Growth, MEMBER_NAME_READ, note_alone, place_of_member};
-use thorin_print::{Failure, shown, tell_taken};
+use thorin_inputs::{Growth, MEMBER_NAME_READ, note_alone, note_reason, place_of_member};
+use thorin_print::{Failure, LineOutput, shown, tell_taken};
 use thorin_sessions::Session;
+
+/// What helps where an archive is thin.
+const THIN: &'static str = "its members are files: name these, as `ar t` lists them";
 
 /// Whether bytes are those of an archive, plain or thin.
 #[tactic(auto, unfolding(crate::specs::Archives::is_archive))]
@@ -51,7 +55,8 @@ fn is_split(bytes: &[u8]) -> bool
 
 /// Takes the file at a path: an object, or where it is an archive its members that have split
 /// units. Tells what came of it where that is asked for.
-pub(crate) fn take_opened<'o, 's: 'o, Sess: Session<RelocationEntry>, I: Inputs, E: Write>(
+#[tactic(auto, using(crate::proofs::Causes::stops_by))]
+pub(crate) fn take_opened<'o, 's: 'o, Sess: Session<RelocationEntry>, I: Inputs, E: LineOutput>(
     inputs: &I,
     builder: &mut DwarfPackage<'o, 's, Sess>,
     room: &mut Vec<u8>,
@@ -62,9 +67,9 @@ pub(crate) fn take_opened<'o, 's: 'o, Sess: Session<RelocationEntry>, I: Inputs,
     requires { I.opens inputs.now ≡ true }
     ensures took { OnOk result (TookAll (I.opens inputs.now) (I.manner inputs.now)
         (I.offer inputs.now) (Object path.entry) builder.old.state builder.new.state) }
-    ensures told { IfErr result (Refuses E.contents err.new (IsNotTaken (I.opens inputs.now)
-        (I.manner inputs.now) (I.offer inputs.now) (I.declines inputs.now) (Object path.entry)
-        builder.old.state)) }
+    ensures told { IfErr result (Refuses E.contents E.failed err.new (IsNotTaken
+        (I.opens inputs.now) (I.manner inputs.now) (I.offer inputs.now) (I.declines inputs.now)
+        (Object path.entry) builder.old.state)) }
 {
     inputs.begin(Input::Object(path));
     match inputs.read_into(path, room) {
@@ -86,7 +91,7 @@ pub(crate) fn take_opened<'o, 's: 'o, Sess: Session<RelocationEntry>, I: Inputs,
 }
 
 /// Takes what was read at a path.
-fn take_read<'o, 's: 'o, Sess: Session<RelocationEntry>, I: Inputs, E: Write>(
+fn take_read<'o, 's: 'o, Sess: Session<RelocationEntry>, I: Inputs, E: LineOutput>(
     inputs: &I,
     builder: &mut DwarfPackage<'o, 's, Sess>,
     bytes: &[u8],
@@ -97,9 +102,9 @@ fn take_read<'o, 's: 'o, Sess: Session<RelocationEntry>, I: Inputs, E: Write>(
     requires offered { I.offer inputs.now (path_bytes place.path) (Ok bytes.now) }
     ensures took { OnOk result (TookAll (I.opens inputs.now) (I.manner inputs.now)
         (I.offer inputs.now) (Object place.entry.path) builder.old.state builder.new.state) }
-    ensures told { IfErr result (Refuses E.contents err.new (IsNotTaken (I.opens inputs.now)
-        (I.manner inputs.now) (I.offer inputs.now) (I.declines inputs.now) (Object
-        place.entry.path) builder.old.state)) }
+    ensures told { IfErr result (Refuses E.contents E.failed err.new (IsNotTaken
+        (I.opens inputs.now) (I.manner inputs.now) (I.offer inputs.now) (I.declines inputs.now)
+        (Object place.entry.path) builder.old.state)) }
 {
     if is_archive(bytes) {
         take_members(inputs, builder, bytes, place, err)
@@ -109,7 +114,7 @@ fn take_read<'o, 's: 'o, Sess: Session<RelocationEntry>, I: Inputs, E: Write>(
 }
 
 /// Takes an object that was read at a path.
-fn take_object<'o, 's: 'o, Sess: Session<RelocationEntry>, I: Inputs, E: Write>(
+fn take_object<'o, 's: 'o, Sess: Session<RelocationEntry>, I: Inputs, E: LineOutput>(
     inputs: &I,
     builder: &mut DwarfPackage<'o, 's, Sess>,
     bytes: &[u8],
@@ -118,7 +123,7 @@ fn take_object<'o, 's: 'o, Sess: Session<RelocationEntry>, I: Inputs, E: Write>(
 ) -> Result<(), Refusal>
     ensures took { OnOk result
         (TookBytes (I.offer inputs.now) bytes.now builder.old.state builder.new.state) }
-    ensures told { IfErr result (Refuses E.contents err.new (IsUntaken (AreRefused (I.offer
+    ensures told { IfErr result (Refuses E.contents E.failed err.new (IsUntaken (AreRefused (I.offer
         inputs.now) (I.declines inputs.now) bytes.now builder.old.state))) }
 {
     let before = builder.contained_units().len();
@@ -148,7 +153,7 @@ fn take_bytes<'o, 's: 'o, Sess: Session<RelocationEntry>, I: Inputs>(
 }
 
 /// Takes the members of an archive that have split units, in order.
-fn take_members<'o, 's: 'o, Sess: Session<RelocationEntry>, I: Inputs, E: Write>(
+fn take_members<'o, 's: 'o, Sess: Session<RelocationEntry>, I: Inputs, E: LineOutput>(
     inputs: &I,
     builder: &mut DwarfPackage<'o, 's, Sess>,
     bytes: &[u8],
@@ -157,7 +162,7 @@ fn take_members<'o, 's: 'o, Sess: Session<RelocationEntry>, I: Inputs, E: Write>
 ) -> Result<(), Refusal>
     ensures took { OnOk result (TookMembers (I.manner inputs.now) (I.offer inputs.now) bytes.now
         builder.old.state builder.new.state) }
-    ensures told { IfErr result (Refuses E.contents err.new (StopsIn (I.offer inputs.now)
+    ensures told { IfErr result (Refuses E.contents E.failed err.new (StopsIn (I.offer inputs.now)
         (I.declines inputs.now) (I.manner inputs.now) bytes.now builder.old.state)) }
 {
     match members(place.telling.alloc, bytes) {
@@ -168,7 +173,8 @@ fn take_members<'o, 's: 'o, Sess: Session<RelocationEntry>, I: Inputs, E: Write>
 
 /// Takes those of an archive's members that have split units, and tells what came of it where that
 /// is asked for.
-fn take_listed<'o, 's: 'o, Sess: Session<RelocationEntry>, I: Inputs, E: Write>(
+#[tactic(auto, using(crate::proofs::Causes::stops_by))]
+fn take_listed<'o, 's: 'o, Sess: Session<RelocationEntry>, I: Inputs, E: LineOutput>(
     inputs: &I,
     builder: &mut DwarfPackage<'o, 's, Sess>,
     members: &[Member<'_>],
@@ -177,7 +183,7 @@ fn take_listed<'o, 's: 'o, Sess: Session<RelocationEntry>, I: Inputs, E: Write>(
 ) -> Result<(), Refusal>
     ensures took { OnOk result (TookEach (I.manner inputs.now) (I.offer inputs.now)
         (split_contents (map view.member members.now)) builder.old.state builder.new.state) }
-    ensures told { IfErr result (Refuses E.contents err.new (IsUntaken (StopsAmong (I.offer
+    ensures told { IfErr result (Refuses E.contents E.failed err.new (IsUntaken (StopsAmong (I.offer
         inputs.now) (I.declines inputs.now) (I.manner inputs.now) (split_contents (map
         view.member members.now)) builder.old.state))) }
 {
@@ -199,7 +205,7 @@ struct Place<'p> {
 }
 
 /// Takes those of an archive's members that have split units.
-fn take_each<'o, 's: 'o, Sess: Session<RelocationEntry>, I: Inputs, E: Write>(
+fn take_each<'o, 's: 'o, Sess: Session<RelocationEntry>, I: Inputs, E: LineOutput>(
     inputs: &I,
     builder: &mut DwarfPackage<'o, 's, Sess>,
     members: &[Member<'_>],
@@ -208,7 +214,7 @@ fn take_each<'o, 's: 'o, Sess: Session<RelocationEntry>, I: Inputs, E: Write>(
 ) -> Result<(), Refusal>
     ensures took { OnOk result (TookEach (I.manner inputs.now) (I.offer inputs.now)
         (split_contents (map view.member members.now)) builder.old.state builder.new.state) }
-    ensures told { IfErr result (Refuses E.contents err.new (IsUntaken (StopsAmong (I.offer
+    ensures told { IfErr result (Refuses E.contents E.failed err.new (IsUntaken (StopsAmong (I.offer
         inputs.now) (I.declines inputs.now) (I.manner inputs.now) (split_contents (map
         view.member members.now)) builder.old.state))) }
 {
@@ -219,7 +225,8 @@ fn take_each<'o, 's: 'o, Sess: Session<RelocationEntry>, I: Inputs, E: Write>(
 }
 
 /// Takes a member of an archive, where it has split units.
-fn take_split<'o, 's: 'o, Sess: Session<RelocationEntry>, I: Inputs, E: Write>(
+#[tactic(auto, using(crate::proofs::Causes::stops_by))]
+fn take_split<'o, 's: 'o, Sess: Session<RelocationEntry>, I: Inputs, E: LineOutput>(
     inputs: &I,
     builder: &mut DwarfPackage<'o, 's, Sess>,
     member: Member<'_>,
@@ -228,7 +235,7 @@ fn take_split<'o, 's: 'o, Sess: Session<RelocationEntry>, I: Inputs, E: Write>(
 ) -> Result<(), Refusal>
     ensures took { OnOk result (TookEach (I.manner inputs.now) (I.offer inputs.now)
         (split_contents (view.member member.entry ∷ [])) builder.old.state builder.new.state) }
-    ensures told { IfErr result (Refuses E.contents err.new (IsUntaken (StopsAmong (I.offer
+    ensures told { IfErr result (Refuses E.contents E.failed err.new (IsUntaken (StopsAmong (I.offer
         inputs.now) (I.declines inputs.now) (I.manner inputs.now) (split_contents (view.member
         member.entry ∷ [])) builder.old.state))) }
 {
@@ -276,24 +283,54 @@ fn take_content<'o, 's: 'o, Sess: Session<RelocationEntry>, I: Inputs>(
 }
 
 /// What becomes of an archive whose members can't be told, which is told here.
-fn malformed<E: Write>(place: Place<'_>, error: ArchiveError, err: &mut E) -> Refusal
-    ensures { Refuses E.contents err.new (IsMalformed error) result }
+#[tactic(auto, using(crate::proofs::Causes::stops_by))]
+fn malformed<E: LineOutput>(place: Place<'_>, error: ArchiveError, err: &mut E) -> Refusal
+    ensures { Refuses E.contents E.failed err.new (IsMalformed error) result }
 {
     if let ArchiveError::Memory = error {
         return Refusal::Command(Failure::Memory);
     }
-    let _ = writeln!(err, "error: {error}");
-    if let Ok(archive) = shown(place.telling.alloc, place.path.path_text()) {
-        note_alone(archive.as_str(), err);
+    match tell_malformed(place, error, err) {
+        Ok(()) => Refusal::Told,
+        Err(failure) => Refusal::Command(failure),
     }
-    Refusal::Told
+}
+
+/// Prints why the members of an archive can't be told, and which it is.
+///
+/// # Errors
+/// `Line` or `Memory`.
+fn tell_malformed<E: LineOutput>(
+    place: Place<'_>,
+    error: ArchiveError,
+    err: &mut E,
+) -> Result<(), Failure>
+    ensures told { OnOk result (Tells E.contents err.new (text_of (Malformed error))) }
+    ensures blamed { IfErr result (FailsBy (E.failed err.new)) }
+{
+    let alloc = place.telling.alloc;
+    put_error(alloc, error.text(), err)?;
+    let mut notes = Vec::new(alloc);
+    if let Ok(archive) = shown(alloc, place.path.path_text()) {
+        note_archive(archive.as_str(), error, &mut notes);
+    }
+    put_notes(notes.as_slice(), err);
+    Ok(())
+}
+
+/// Prints the note on such an archive.
+fn note_archive<E: Write>(archive: &str, error: ArchiveError, err: &mut E) {
+    match error {
+        ArchiveError::Thin => note_reason(archive, THIN, err),
+        _ => note_alone(archive, err),
+    }
 }
 
 /// Tells why a member was refused, and which.
 ///
 /// # Errors
 /// `Line` or `Memory`.
-fn refuse_member<'o, 's: 'o, Sess: Session<RelocationEntry>, I: Inputs, E: Write>(
+fn refuse_member<'o, 's: 'o, Sess: Session<RelocationEntry>, I: Inputs, E: LineOutput>(
     inputs: &I,
     builder: &DwarfPackage<'o, 's, Sess>,
     why: &NotTaken<Error, Growth>,
@@ -301,7 +338,8 @@ fn refuse_member<'o, 's: 'o, Sess: Session<RelocationEntry>, I: Inputs, E: Write
     place: Place<'_>,
     err: &mut E,
 ) -> Result<(), Failure>
-    ensures { OnOk result (Tells E.contents err.new (refusal_text why.now)) }
+    ensures told { OnOk result (Tells E.contents err.new (refusal_text why.now)) }
+    ensures blamed { IfErr result (FailsBy (E.failed err.new)) }
 {
     let alloc = place.telling.alloc;
     let name = member.beginning_of_name(MEMBER_NAME_READ);

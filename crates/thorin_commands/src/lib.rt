@@ -12,6 +12,7 @@ mod packing;
 mod plain;
 mod reading;
 mod refusal;
+mod repeated;
 mod room;
 mod taking;
 mod telling;

@@ -26,14 +26,14 @@ use dwp_elf::WritableObject;
 use dwp_elf::laws::written_contents_are_read_back;
 use dwp_table::DebugTypeSignature;
 use std::alloc::Global;
-use std::io::Write;
 use thorin::laws::runs_go_on;
 use thorin::{BytesSession, DwarfPackage, Input};
 use thorin_errors::Error;
+use thorin_print::LineOutput;
 use thorin_sessions::Session;
 
 /// The object to be written for these inputs, and those signatures.
-pub(crate) fn packed_inputs<I: Inputs, E: Write>(
+pub(crate) fn packed_inputs<I: Inputs, E: LineOutput>(
     inputs: &I,
     list: &[Input<'_>],
     telling: Telling,
@@ -41,7 +41,7 @@ pub(crate) fn packed_inputs<I: Inputs, E: Write>(
 ) -> Result<(WritableObject, Vec<DebugTypeSignature>), Refusal>
     ensures packed { IfOk result (λ made. IsPackedFrom telling.partial (I.opens inputs.now)
         (I.manner inputs.now) (I.offer inputs.now) list.now made.0) }
-    ensures told { IfErr result (Refuses E.contents err.new (IsCauseOf telling.partial
+    ensures told { IfErr result (Refuses E.contents E.failed err.new (IsCauseOf telling.partial
         (I.opens inputs.now) (I.manner inputs.now) (I.offer inputs.now) (I.declines inputs.now)
         list.now)) }
 {
@@ -51,7 +51,7 @@ pub(crate) fn packed_inputs<I: Inputs, E: Write>(
 }
 
 /// The same, over a session that holds what is read.
-fn packed_over<'s, Sess: Session<RelocationEntry>, I: Inputs, E: Write>(
+fn packed_over<'s, Sess: Session<RelocationEntry>, I: Inputs, E: LineOutput>(
     session: &'s Sess,
     inputs: &I,
     list: &[Input<'_>],
@@ -60,7 +60,7 @@ fn packed_over<'s, Sess: Session<RelocationEntry>, I: Inputs, E: Write>(
 ) -> Result<(WritableObject, Vec<DebugTypeSignature>), Refusal>
     ensures packed { IfOk result (λ made. IsPackedFrom telling.partial (I.opens inputs.now)
         (I.manner inputs.now) (I.offer inputs.now) list.now made.0) }
-    ensures told { IfErr result (Refuses E.contents err.new (IsCauseOf telling.partial
+    ensures told { IfErr result (Refuses E.contents E.failed err.new (IsCauseOf telling.partial
         (I.opens inputs.now) (I.manner inputs.now) (I.offer inputs.now) (I.declines inputs.now)
         list.now)) }
 {
@@ -77,7 +77,8 @@ fn packed_over<'s, Sess: Session<RelocationEntry>, I: Inputs, E: Write>(
 
 /// Takes these inputs, warns of those without split units, and leaves out what isn't there, where
 /// that is asked for.
-fn fill<'o, 's: 'o, Sess: Session<RelocationEntry>, I: Inputs, E: Write>(
+#[tactic(auto, using(crate::proofs::Causes::stops_by))]
+fn fill<'o, 's: 'o, Sess: Session<RelocationEntry>, I: Inputs, E: LineOutput>(
     inputs: &I,
     builder: &mut DwarfPackage<'o, 's, Sess>,
     list: &[Input<'_>],
@@ -86,12 +87,12 @@ fn fill<'o, 's: 'o, Sess: Session<RelocationEntry>, I: Inputs, E: Write>(
 ) -> Result<(), Refusal>
     ensures fills { OnOk result (Fills telling.partial (I.opens inputs.now) (I.manner inputs.now)
         (I.offer inputs.now) list.now builder.old.state builder.new.state) }
-    ensures told { IfErr result (Refuses E.contents err.new (StopsAt (I.opens inputs.now)
+    ensures told { IfErr result (Refuses E.contents E.failed err.new (StopsAt (I.opens inputs.now)
         (I.manner inputs.now) (I.offer inputs.now) (I.declines inputs.now) list.now
         builder.old.state)) }
 {
-    let types_alone = take_all(inputs, builder, list, telling, err)?;
-    warn_unsplit(builder, list, types_alone.as_slice(), telling, err)?;
+    let lacks = take_all(inputs, builder, list, telling, err)?;
+    warn_unsplit(inputs, builder, list, lacks.as_slice(), telling, err)?;
     tell_differing(inputs, builder)?;
     leave_out(inputs, builder, telling, err)?;
     Ok(())
@@ -99,7 +100,7 @@ fn fill<'o, 's: 'o, Sess: Session<RelocationEntry>, I: Inputs, E: Write>(
 
 /// The object of the package, which can be written, and those signatures. Where it can't be
 /// finished, that is printed.
-fn finished<'o, 's: 'o, Sess: Session<RelocationEntry>, I: Inputs, E: Write>(
+fn finished<'o, 's: 'o, Sess: Session<RelocationEntry>, I: Inputs, E: LineOutput>(
     alloc: Global,
     inputs: &I,
     builder: DwarfPackage<'o, 's, Sess>,
@@ -109,7 +110,8 @@ fn finished<'o, 's: 'o, Sess: Session<RelocationEntry>, I: Inputs, E: Write>(
         × IsFinishedState builder.entry.state made.0) }
     ensures packaged { IfOk result (λ made.
         IsPackageOf (units_in builder.entry.state) (file_text made.0)) }
-    ensures told { IfErr result (Refuses E.contents err.new (IsUnfinished builder.entry.state)) }
+    ensures told { IfErr result (Refuses E.contents E.failed err.new
+        (IsUnfinished builder.entry.state)) }
 {
     let (finished, differing) = builder.finish_with_differing();
     match finished {
@@ -122,8 +124,14 @@ fn finished<'o, 's: 'o, Sess: Session<RelocationEntry>, I: Inputs, E: Write>(
 }
 
 /// What becomes of a package that can't be finished: it is told here, unless no input began it.
-fn unfinished<I: Inputs, E: Write>(alloc: Global, inputs: &I, error: &Error, err: &mut E) -> Refusal
-    ensures { Refuses E.contents err.new (λ cause. cause ≡ Unfinished error.now) result }
+#[tactic(auto, using(crate::proofs::Causes::stops_by))]
+fn unfinished<I: Inputs, E: LineOutput>(
+    alloc: Global,
+    inputs: &I,
+    error: &Error,
+    err: &mut E,
+) -> Refusal
+    ensures { Refuses E.contents E.failed err.new (λ cause. cause ≡ Unfinished error.now) result }
 {
     if let Error::NoOutputObjectCreated = error {
         return Refusal::Empty;

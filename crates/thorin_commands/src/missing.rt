@@ -1,13 +1,14 @@
 //! Objects that executables name and that aren't there: what `pack --partial` leaves out, and what
 //! `pack --missing` lists.
 
-ghost use Rattle.std.specs.Prelude.{◌≡◌, ◌≤◌, OnOk, IfOk};
+ghost use Rattle.std.specs.Prelude.{◌≡◌, ◌≤◌, OnOk, IfOk, IfErr};
+ghost use Rattle.thorin_print.specs.Answers.{FailsBy};
 ghost use Rattle.thorin_commands.specs.Packing.{left};
 
 use crate::packing::{Packing, paths_in};
 use crate::plain::InputFiles;
 use crate::reading::Inputs;
-use crate::telling::{Telling, tell_error};
+use crate::telling::{Telling, tell_why, text_in};
 use bumpalo::Bump;
 use dwp_bytes::RelocationEntry;
 use dwp_table::Bucketable;
@@ -19,41 +20,43 @@ use thorin::{BytesSession, DwarfPackage, Input, NamelessUnits, NotTaken};
 use thorin_builder::admit_path;
 use thorin_errors::{Error, MissingReferencedObjectBehaviour};
 use thorin_executable::NamedUnits;
-use thorin_inputs::{AbsentUnits, Growth};
-use thorin_output::{FileSystem, flush};
-use thorin_print::{Failure, buffer, shown};
+use thorin_inputs::{AbsentUnits, Growth, place_of};
+use thorin_output::FileSystem;
+use thorin_print::{Failure, LineOutput, buffer, flush, shown};
 use thorin_sessions::Session;
 
 /// Where that is asked for, leaves out units that executables refer to and that aren't there: each
 /// is told.
-pub(crate) fn leave_out<'o, 's: 'o, Sess: Session<RelocationEntry>, I: Inputs, E: Write>(
+pub(crate) fn leave_out<'o, 's: 'o, Sess: Session<RelocationEntry>, I: Inputs, E: LineOutput>(
     inputs: &I,
     builder: &mut DwarfPackage<'o, 's, Sess>,
     telling: Telling,
     err: &mut E,
 ) -> Result<(), Failure>
-    ensures { OnOk result (builder.new.state ≡ left telling.partial builder.old.state) }
+    ensures left { OnOk result (builder.new.state ≡ left telling.partial builder.old.state) }
+    ensures blamed { IfErr result (FailsBy (E.failed err.new)) }
 {
     if telling.partial {
-        tell_missing(builder, &inputs.absent_units(), err)?;
+        tell_missing(telling.alloc, builder, &inputs.absent_units(), err)?;
         builder.forget_targets();
     }
     Ok(())
 }
 
 /// Warns of each unit that an executable names and the package lacks.
-fn tell_missing<'o, 's: 'o, Sess: Session<RelocationEntry>, E: Write>(
+fn tell_missing<'o, 's: 'o, Sess: Session<RelocationEntry>, E: LineOutput>(
+    alloc: Global,
     builder: &DwarfPackage<'o, 's, Sess>,
     absent: &AbsentUnits,
     err: &mut E,
-) -> Result<(), Failure> {
+) -> Result<(), Failure>
+    ensures { IfErr result (FailsBy (E.failed err.new)) }
+{
     for target in builder.missing_targets() {
         let unit = target.index();
         let reason = absent.reason(unit).unwrap_or("not found");
-        match writeln!(err, "warning: unit 0x{unit:08x}: {reason}") {
-            Ok(()) => {}
-            Err(_) => return Err(Failure::Line),
-        }
+        let line = format!(in alloc; "warning: unit 0x{unit:08x}: {reason}\n")?;
+        err.print_text(line.as_str())?;
     }
     Ok(())
 }
@@ -79,7 +82,7 @@ pub fn list_missing<F: FileSystem, O: Write, E: Write>(
     }
     let inputs = InputFiles::new(alloc, files, packing)?;
     let listed = list_over(alloc, &inputs, executables, packing.nameless, out);
-    status_of(alloc, listed, err)
+    status_of(alloc, &inputs, listed, err)
 }
 
 /// The same, where there are executables: whether there is a line.
@@ -97,8 +100,9 @@ fn list_over<I: Inputs, O: Write>(
 }
 
 /// The status of a list. Where an executable is refused, that is printed.
-fn status_of<E: Write>(
+fn status_of<I: Inputs, E: Write>(
     alloc: Global,
+    inputs: &I,
     listed: Result<bool, Unlisted>,
     err: &mut E,
 ) -> Result<u8, Failure>
@@ -107,8 +111,8 @@ fn status_of<E: Write>(
     match listed {
         Ok(false) => Ok(0),
         Ok(true) => Ok(1),
-        Err(Unlisted::Refused(why)) => {
-            tell_error(alloc, &why, err)?;
+        Err(Unlisted::Refused(why, place)) => {
+            tell_why(alloc, inputs, &why, text_in(&place), None, err)?;
             Ok(1)
         }
         Err(Unlisted::Failed(failure)) => Err(failure),
@@ -118,15 +122,15 @@ fn status_of<E: Write>(
 /// Why no more is listed.
 #[derive(Drop)]
 enum Unlisted {
-    /// An executable is refused.
-    Refused(NotTaken<Error, Growth>),
+    /// An executable is refused: why, and which, as it is printed.
+    Refused(NotTaken<Error, Growth>, Option<String>),
     /// What the command was given can't be done.
     Failed(Failure),
 }
 
 impl From<Error> for Unlisted {
     fn from(error: Error) -> Unlisted {
-        Unlisted::Refused(NotTaken::Failed(error))
+        Unlisted::Refused(NotTaken::Failed(error), None)
     }
 }
 
@@ -166,9 +170,16 @@ fn list_of<I: Inputs, W: Write>(
     let path = Path::new(executable);
     let mut room = Vec::new(alloc);
     inputs.begin(Input::Executable(path, MissingReferencedObjectBehaviour::Skip));
-    match inputs.read_into(path, &mut room) {
+    let listed = match inputs.read_into(path, &mut room) {
         Ok(bytes) => list_read(alloc, inputs, bytes, nameless, seen, lines),
-        Err(why) => Err(Unlisted::Refused(NotTaken::from(why))),
+        Err(why) => Err(Unlisted::Refused(NotTaken::from(why), None)),
+    };
+    match listed {
+        Err(Unlisted::Refused(why, _)) => {
+            let place = place_of(alloc, executable, None).ok();
+            Err(Unlisted::Refused(why, place))
+        }
+        listed => listed,
     }
 }
 
@@ -218,7 +229,7 @@ fn list_each<I: Inputs, W: Write>(
 fn admit<I: Inputs>(inputs: &I, path: &str) -> Result<(), Unlisted> {
     match admit_path(inputs, path) {
         Ok(()) => Ok(()),
-        Err(why) => Err(Unlisted::Refused(NotTaken::Declined(why))),
+        Err(why) => Err(Unlisted::Refused(NotTaken::Declined(why), None)),
     }
 }
 

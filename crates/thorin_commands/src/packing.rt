@@ -1,10 +1,10 @@
 //! `thorin pack`.
 
-ghost use Rattle.std.specs.Prelude.{◌≡◌, ◌⊎◌, ◌≤◌, Ok, Some, OnOk, IfOk, IfErr, map, string_bytes};
-ghost use Rattle.std.specs.Prelude.{true, false};
-ghost use Rattle.dwp_elf.specs.FileText.{file_text};
+ghost use Rattle.std.specs.Prelude.{◌≡◌, ◌⊎◌, ◌≤◌, Ok, Some, IfOk, IfErr, map, string_bytes};
+ghost use Rattle.std.specs.Prelude.{true, false, IsTrue};
 ghost use Rattle.thorin_output.specs.Files.{Put, Begins};
-ghost use Rattle.thorin_commands.specs.Cause.{IsCauseFor, Refuses, Told, Unfinished};
+ghost use Rattle.thorin_commands.specs.Cause.{Ends, IsCauseFor, Refuses, Told, Unfinished};
+ghost use Rattle.thorin_commands.specs.Failing.{FailsPacking, LeadTo};
 ghost use Rattle.thorin_errors.specs.declared.error.Error.TheVariants.{NoOutputObjectCreated};
 ghost use Rattle.thorin_commands.specs.Naming.{IsNameless};
 ghost use Rattle.thorin_commands.specs.Packing.{out_of, Packs, Comes, IsPackageFor};
@@ -25,7 +25,7 @@ use std::io::Write;
 use thorin::{Input, NamelessUnits};
 use thorin_errors::{Error, MissingReferencedObjectBehaviour};
 use thorin_output::{FileSystem, Warned, Warnings, write_then_warn};
-use thorin_print::{Failure, buffer};
+use thorin_print::{Failure, LineOutput};
 
 /// What is to be packed, and where to.
 #[derive(Drop)]
@@ -104,9 +104,13 @@ impl Packing<'_, '_> {
 
     /// Whether the package would take the place of an input, where that isn't asked for.
     fn overwrites<F: FileSystem>(&self, files: &F, output: &str) -> bool
-        ensures { result ≡ false → self.now.force ≡ false
+        ensures apart { result ≡ false → self.now.force ≡ false
             → AllApart (F.known files.now) output.now (paths_in self.now.inputs)
             × AllApart (F.known files.now) output.now (paths_in self.now.executables) }
+        ensures forced { IsTrue result → self.now.force ≡ false }
+        ensures leads { IsTrue result
+            → LeadTo (F.known files.now) output.now (paths_in self.now.inputs)
+            ⊎ LeadTo (F.known files.now) output.now (paths_in self.now.executables) }
     {
         !self.force
             && (has_file(files, paths_in(self.inputs), output)
@@ -116,7 +120,8 @@ impl Packing<'_, '_> {
 
 /// Whether one of these names is another name of a file.
 fn has_file<F: FileSystem>(files: &F, names: &[&str], file: &str) -> bool
-    ensures { result ≡ false → AllApart (F.known files.now) file.now names.now }
+    ensures apart { result ≡ false → AllApart (F.known files.now) file.now names.now }
+    ensures leads { IsTrue result → LeadTo (F.known files.now) file.now names.now }
 {
     let own = files.identity(file);
     if own.is_none() {
@@ -138,8 +143,8 @@ fn has_file<F: FileSystem>(files: &F, names: &[&str], file: &str) -> bool
 /// `Output` where the package's file can't be written, `Overwrites` where it is an input;
 /// `BadCommand` where there is no name for it; `Line` or `Memory`; `Input` where nothing is split,
 /// and the executable can't be read a second time.
-#[tactic(auto, using(crate::proofs::Puts::when_done, crate::proofs::Puts::when_empty, crate::proofs::Puts::when_told, crate::proofs::Puts::when_failed, crate::proofs::Puts::early, crate::proofs::Causes::told_empty))]
-pub fn pack<F: FileSystem, O: Write, E: Write>(
+#[tactic(auto, using(crate::proofs::Puts::when_done, crate::proofs::Puts::when_empty, crate::proofs::Puts::when_told, crate::proofs::Puts::when_failed, crate::proofs::Puts::early, crate::proofs::Causes::told_empty, crate::proofs::Whys::why_printing))]
+pub fn pack<F: FileSystem, O: Write, E: LineOutput>(
     alloc: Global,
     files: &mut F,
     packing: &Packing<'_, '_>,
@@ -157,6 +162,8 @@ pub fn pack<F: FileSystem, O: Write, E: Write>(
         ((files.new ≡ files.old) × (out.new ≡ out.old))
         (Packs (reads packing.now (F.offer files.old)) packing.now
         (Begins F.begun O.contents files.old files.new out.old out.new))) }
+    ensures why { IfErr result (FailsPacking F.offer F.known F.begun O.contents
+        packing.now files.old files.new out.old out.new (E.failed err.new)) }
     ensures apart { packing.now.force ≡ false
         → (files.new ≡ files.old) ⊎ IsNoInput (F.known files.old) packing.now }
 {
@@ -172,8 +179,8 @@ pub fn pack<F: FileSystem, O: Write, E: Write>(
 }
 
 /// The same, but for the line that says that no input began a package.
-#[tactic(auto, using(crate::proofs::Puts::stopped))]
-fn pack_all<F: FileSystem, O: Write, E: Write>(
+#[tactic(auto, using(crate::proofs::Puts::stopped, crate::proofs::Whys::why_nameless))]
+fn pack_all<F: FileSystem, O: Write, E: LineOutput>(
     alloc: Global,
     files: &mut F,
     packing: &Packing<'_, '_>,
@@ -187,17 +194,22 @@ fn pack_all<F: FileSystem, O: Write, E: Write>(
         (Begins F.begun O.contents files.old files.new out.old out.new))
         (Packs (reads packing.now (F.offer files.old)) packing.now
         (Put F.begun O.contents files.old files.new out.old out.new)) }
-    ensures told { IfErr result (Refuses E.contents err.new (IsCauseFor
+    ensures told { IfErr result (Ends (Told E.contents err.new (IsCauseFor
         (reads packing.now (F.offer files.old)) (declines packing.now (F.offer files.old))
-        packing.now)) }
+        packing.now)) (IsCauseFor (reads packing.now (F.offer files.old)) (declines packing.now
+        (F.offer files.old)) packing.now (Unfinished NoOutputObjectCreated))
+        (FailsPacking F.offer F.known F.begun O.contents
+        packing.now files.old files.new out.old out.new (E.failed err.new))) }
 {
-    let output = packing.output_name(alloc)?;
-    pack_under(alloc, files, packing, output.as_str(), out, err)
+    match packing.output_name(alloc) {
+        Ok(output) => pack_under(alloc, files, packing, output.as_str(), out, err),
+        Err(failure) => Err(Refusal::Command(failure)),
+    }
 }
 
 /// Packs what is asked for under a name.
-#[tactic(auto, using(crate::proofs::Puts::stopped, crate::proofs::Puts::failed_packing, crate::proofs::Puts::done_packing))]
-fn pack_under<F: FileSystem, O: Write, E: Write>(
+#[tactic(auto, using(crate::proofs::Puts::stopped, crate::proofs::Whys::ends))]
+fn pack_under<F: FileSystem, O: Write, E: LineOutput>(
     alloc: Global,
     files: &mut F,
     packing: &Packing<'_, '_>,
@@ -213,9 +225,12 @@ fn pack_under<F: FileSystem, O: Write, E: Write>(
         (Begins F.begun O.contents files.old files.new out.old out.new))
         (Packs (reads packing.now (F.offer files.old)) packing.now
         (Put F.begun O.contents files.old files.new out.old out.new)) }
-    ensures told { IfErr result (Refuses E.contents err.new (IsCauseFor
+    ensures told { IfErr result (Ends (Told E.contents err.new (IsCauseFor
         (reads packing.now (F.offer files.old)) (declines packing.now (F.offer files.old))
-        packing.now)) }
+        packing.now)) (IsCauseFor (reads packing.now (F.offer files.old)) (declines packing.now
+        (F.offer files.old)) packing.now (Unfinished NoOutputObjectCreated))
+        (FailsPacking F.offer F.known F.begun O.contents
+        packing.now files.old files.new out.old out.new (E.failed err.new))) }
 {
     if packing.overwrites(files, output) {
         return Err(Refusal::Command(Failure::Overwrites));
@@ -228,7 +243,7 @@ fn pack_under<F: FileSystem, O: Write, E: Write>(
                 differing: differing.as_slice(),
                 warnings: packing.warnings_left(),
             };
-            match write_and_warn(files, &object, warned, output, out, err) {
+            match write_then_warn(files, &object, warned, output, out, err) {
                 Ok(()) => Ok(()),
                 Err(failure) => Err(Refusal::Command(failure)),
             }
@@ -237,36 +252,9 @@ fn pack_under<F: FileSystem, O: Write, E: Write>(
     }
 }
 
-/// Writes the package, and then prints the warnings.
-#[tactic(auto, using(crate::proofs::Puts::early, crate::proofs::Puts::late))]
-fn write_and_warn<F: FileSystem, O: Write, E: Write>(
-    files: &mut F,
-    object: &WritableObject,
-    warned: Warned<'_>,
-    output: &str,
-    out: &mut O,
-    err: &mut E,
-) -> Result<(), Failure>
-    ensures done { OnOk result (Put F.begun O.contents files.old files.new out.old out.new
-        output.now (file_text object.now)) }
-    ensures failed { IfErr result (λ failure. Fails failure
-        ((files.new ≡ files.old) × (out.new ≡ out.old)) (Begins F.begun O.contents files.old
-        files.new out.old out.new output.now (file_text object.now))) }
-{
-    match buffer(warned.alloc, err) {
-        Ok(mut lines) => {
-            match write_then_warn(files, object, warned, output, out, &mut lines) {
-                Ok(()) => Ok(()),
-                Err(failure) => Err(failure),
-            }
-        }
-        Err(failure) => Err(failure),
-    }
-}
-
 /// The object to be written for what is asked for, the signatures of type units that were passed
 /// over and differ from the ones kept, and the warnings of sections of macros.
-fn packed<F: FileSystem, E: Write>(
+fn packed<F: FileSystem, E: LineOutput>(
     alloc: Global,
     files: &F,
     packing: &Packing<'_, '_>,
@@ -274,7 +262,7 @@ fn packed<F: FileSystem, E: Write>(
 ) -> Result<(WritableObject, Vec<DebugTypeSignature>, String), Refusal>
     ensures packed { IfOk result (λ made. IsPackageFor
         (reads packing.now (F.offer files.now)) packing.now made.0) }
-    ensures told { IfErr result (Refuses E.contents err.new (IsCauseFor
+    ensures told { IfErr result (Refuses E.contents E.failed err.new (IsCauseFor
         (reads packing.now (F.offer files.now)) (declines packing.now (F.offer files.now))
         packing.now)) }
 {
@@ -292,7 +280,7 @@ fn packed<F: FileSystem, E: Write>(
 
 /// The same of the list of what is asked for.
 #[tactic(auto, using(crate::proofs::Puts::for_packing, crate::proofs::Puts::packed_alike, crate::proofs::Causes::told_alike))]
-fn packed_from<F: FileSystem, E: Write>(
+fn packed_from<F: FileSystem, E: LineOutput>(
     alloc: Global,
     files: &F,
     packing: &Packing<'_, '_>,
@@ -302,7 +290,7 @@ fn packed_from<F: FileSystem, E: Write>(
     requires { map asked list.now ≡ asks packing.now }
     ensures packed { IfOk result (λ made. IsPackageFor
         (reads packing.now (F.offer files.now)) packing.now made.0) }
-    ensures told { IfErr result (Refuses E.contents err.new (IsCauseFor
+    ensures told { IfErr result (Refuses E.contents E.failed err.new (IsCauseFor
         (reads packing.now (F.offer files.now)) (declines packing.now (F.offer files.now))
         packing.now)) }
 {
@@ -322,7 +310,7 @@ fn packed_from<F: FileSystem, E: Write>(
 
 /// The same by these inputs, and whether something is split.
 #[tactic(auto, using(crate::proofs::Puts::for_packing, crate::proofs::Causes::told_for, crate::proofs::Causes::empty_for))]
-fn packed_by<I: Inputs, E: Write>(
+fn packed_by<I: Inputs, E: LineOutput>(
     alloc: Global,
     inputs: &I,
     packing: &Packing<'_, '_>,
@@ -333,8 +321,8 @@ fn packed_by<I: Inputs, E: Write>(
     requires opens { I.opens inputs.now ≡ packing.now.opens_archives }
     requires manner { I.manner inputs.now ≡ manner_of packing.now }
     ensures packed { IfOk result (λ made. IsPackageFor (I.offer inputs.now) packing.now made.0) }
-    ensures told { IfErr result (Refuses E.contents err.new (IsCauseFor (I.offer inputs.now)
-        (I.declines inputs.now) packing.now)) }
+    ensures told { IfErr result (Refuses E.contents E.failed err.new (IsCauseFor
+        (I.offer inputs.now) (I.declines inputs.now) packing.now)) }
 {
     let telling = Telling {
         alloc,
@@ -354,7 +342,8 @@ fn packed_by<I: Inputs, E: Write>(
 
 /// The object to be written where nothing is split: an executable is taken as an object too, which
 /// has nothing to be packed.
-fn packed_unsplit<I: Inputs, E: Write>(
+#[tactic(auto, using(crate::proofs::Whys::uncounted))]
+fn packed_unsplit<I: Inputs, E: LineOutput>(
     alloc: Global,
     inputs: &I,
     packing: &Packing<'_, '_>,
@@ -366,8 +355,8 @@ fn packed_unsplit<I: Inputs, E: Write>(
     requires empty { IsCauseFor (I.offer inputs.now) (I.declines inputs.now) packing.now
         (Unfinished NoOutputObjectCreated) }
     ensures packed { IfOk result (λ made. IsPackageFor (I.offer inputs.now) packing.now made.0) }
-    ensures told { IfErr result (Refuses E.contents err.new (IsCauseFor (I.offer inputs.now)
-        (I.declines inputs.now) packing.now)) }
+    ensures told { IfErr result (Refuses E.contents E.failed err.new (IsCauseFor
+        (I.offer inputs.now) (I.declines inputs.now) packing.now)) }
 {
     let objects = paths_in(packing.inputs);
     let executables = paths_in(packing.executables);

@@ -1,16 +1,14 @@
 //! The reader of the inputs of `pack`: files are read, decompressed, left with the macros that are
 //! kept, and tested for strings and sections that overlap; what can't be read is kept for notes.
 
-ghost use Rattle.std.specs.Prelude.{◌≡◌, ◌⊎◌, false, Err, IsTrue, IfOk, IfErr, OnErr, string_bytes};
+ghost use Rattle.std.specs.Prelude.{◌≡◌, ◌⊎◌, false, IsTrue, IfOk, IfErr, string_bytes};
 ghost use Rattle.std.specs.Path.{path_bytes};
 ghost use Rattle.thorin_builder.specs.Reading.{OnDeclined, OnFailed};
-ghost use Rattle.thorin_builder.specs.declared.reader.NotTaken.TheVariants.{Declined};
 ghost use Rattle.thorin_sessions.specs.Sessions.{IsNoWantOfMemory};
 ghost use Rattle.thorin_errors.specs.declared.error.InputError.TheVariants.{Memory};
 ghost use Rattle.thorin_inputs.specs.Macros.{IsKeptOf};
 ghost use Rattle.thorin_inputs.specs.Plain as spec;
 ghost use Rattle.thorin_inputs.specs.Prefixes.{mapped as mapped_path};
-ghost use Rattle.thorin_inputs.specs.declared.growth.Growth.TheVariants as growth;
 ghost use Rattle.thorin_commands.specs.Packing.{IsAmong, declines, manner_of, paths_in};
 ghost use Rattle.thorin_commands.specs.Packing.{read_through, reads};
 ghost use Rattle.thorin_commands.specs.Taken.{DeclinesBytes, DeclinesPlain, HasOverlap, IsPlainFor};
@@ -21,6 +19,7 @@ use crate::differences::{Difference, Differences};
 use crate::origins::{Holding, Origin, Origins};
 use crate::packing::{Packing, paths_in};
 use crate::reading::Inputs;
+use crate::repeated::Repeated;
 use crate::room::{or_content, put_over, read_file, unit_count_of};
 use dwp_macros::{MacrosError, with_macros};
 use dwp_table::{DebugTypeSignature, DwarfObject, DwoId};
@@ -31,7 +30,7 @@ use thorin::{Input, InputReader, NotTaken, Repetition};
 use thorin_errors::InputError;
 use thorin_inputs::{
     AbsentUnits, Compression, Encodings, Growth, MacroWarnings, Places, PlainError, Prefixes,
-    Repetitions, has_compressed_overlap, has_inner_strings, has_overlap, plain_of, reason,
+    has_compressed_overlap, has_inner_strings, has_overlap, plain_of, reason,
 };
 use thorin_output::FileSystem;
 use thorin_print::Failure;
@@ -65,8 +64,8 @@ pub(crate) struct InputFiles<'f, F> {
     absent: Cell<AbsentUnits>,
     /// Whether the input is an executable.
     is_executable: Cell<bool>,
-    /// What objects of the input add once more.
-    repetitions: Repetitions,
+    /// What was counted of the files that were read.
+    repeated: Repeated,
     ghost maps: { prefixes.words.now ≡ paths_in packing.now.prefix_maps },
 }
 
@@ -99,7 +98,7 @@ impl<'f, F: FileSystem> InputFiles<'f, F> {
             encodings: Encodings::new(alloc),
             absent: Cell::new(AbsentUnits::new(alloc)),
             is_executable: Cell::new(false),
-            repetitions: Repetitions::new(alloc),
+            repeated: Repeated::new(alloc),
         })
     }
 
@@ -154,7 +153,12 @@ impl<'f, F: FileSystem> InputFiles<'f, F> {
     {
         self.keep_path(is_own, path.path_text());
         match read_file(self.files, is_own, path, room) {
-            Ok(()) => self.admit_file(is_own, path.path_text(), room),
+            Ok(()) => {
+                if self.admits_file(is_own, path.path_text(), room)? {
+                    return Ok(());
+                }
+                Err(NotTaken::Declined(Growth::Repetition))
+            }
             Err(InputError::Io(cause)) => {
                 self.failure.set(reason(self.alloc, &cause).ok());
                 Err(NotTaken::Failed(InputError::Io(cause)))
@@ -167,29 +171,15 @@ impl<'f, F: FileSystem> InputFiles<'f, F> {
     /// read before by another path.
     ///
     /// # Errors
-    /// `Declined` where it may not.
-    fn admit_file(
-        &self,
-        is_own: bool,
-        path: &str,
-        file: &[u8],
-    ) -> Result<(), NotTaken<InputError, Growth>>
-        ensures { OnErr result ((result ≡ Err (Declined growth.Repetition))
-            × (self.now.packing.now.allows_overlap ≡ false)) }
+    /// Want of memory.
+    fn admits_file(&self, is_own: bool, path: &str, file: &[u8]) -> Result<bool, AllocError>
+        ensures { IfOk result (λ admits.
+            admits ≡ false → self.now.packing.now.allows_overlap ≡ false) }
     {
         if self.packing.allows_overlap {
-            return Ok(());
+            return Ok(true);
         }
-        let repetitions = &self.repetitions;
-        if is_own {
-            repetitions.count_own(self.files.identity(path), file.len());
-            return Ok(());
-        }
-        let identity = self.files.object_identity(path);
-        if repetitions.admits_object(identity, file.len()) {
-            return Ok(());
-        }
-        Err(NotTaken::Declined(Growth::Repetition))
+        self.repeated.admits_file(self.files, is_own, path, file)
     }
 
     /// A path that an executable names, with its prefix replaced.
@@ -380,7 +370,7 @@ impl<F: FileSystem> InputReader for InputFiles<'_, F> {
     fn admit(&self, repetition: Repetition<'_>) -> Result<(), Growth> {
         self.named.set(self.with_prefix_replaced(repetition.path.path_text()).ok());
         let (bytes, differing) = (repetition.bytes, repetition.differing);
-        if self.packing.allows_overlap || self.repetitions.admits(bytes, differing) {
+        if self.packing.allows_overlap || self.repeated.admits(bytes, differing) {
             return Ok(());
         }
         Err(Growth::Repetition)
@@ -441,7 +431,7 @@ impl<F: FileSystem> Inputs for InputFiles<'_, F> {
         absent.begin();
         self.absent.set(absent);
         self.macros.begin();
-        self.repetitions.begin();
+        self.repeated.begin();
         self.is_executable.set(executable_of(input).is_some());
     }
 

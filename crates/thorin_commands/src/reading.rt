@@ -1,9 +1,10 @@
 //! What `pack` asks of the reader of its inputs, as a trait: `plain` has the reader.
 
-ghost use Rattle.std.specs.Prelude.{◌≡◌, Bool, IfOk};
+ghost use Rattle.std.specs.Prelude.{◌≡◌, Bool, IfOk, IfErr};
 ghost use Rattle.thorin_builder.specs.Reading.{OnDeclined, OnFailed};
 ghost use Rattle.thorin_errors.specs.declared.error.InputError.TheVariants.{Memory};
 ghost use Rattle.thorin_inputs.specs.Plain.{or_content};
+ghost use Rattle.thorin_commands.specs.Naming.{IsUncounted};
 ghost use Rattle.thorin_commands.specs.Taken.{DeclinesBytes, IsTakenFor, Manner};
 
 use crate::differences::Difference;
@@ -52,7 +53,8 @@ pub(crate) trait Inputs: InputReader<Refusal = Growth> {
     ///
     /// # Errors
     /// `Input` where the read fails, `Memory`.
-    fn unit_count(&self, path: &str) -> Result<Option<usize>, Failure>;
+    fn unit_count(&self, path: &str) -> Result<Option<usize>, Failure>
+        ensures { IfErr result IsUncounted };
 
     /// The path of the object that the input names and that was read last; none where none was, and
     /// where it was taken. Asked for once.

@@ -5,6 +5,7 @@ ghost use Rattle.std.specs.Path.{path_bytes};
 ghost use Rattle.thorin_inputs.specs.Plain as spec;
 ghost use Rattle.thorin_output.specs.Reads.{IsReadOver};
 ghost use Rattle.thorin_sessions.specs.Sessions.{IsNoWantOfMemory};
+ghost use Rattle.thorin_commands.specs.Naming.{IsUncounted};
 
 use crate::packing::Packing;
 use std::alloc::Global;
@@ -56,7 +57,9 @@ pub(crate) fn unit_count_of<F: FileSystem>(
     files: &F,
     packing: &Packing<'_, '_>,
     path: &str,
-) -> Result<Option<usize>, Failure> {
+) -> Result<Option<usize>, Failure>
+    ensures { IfErr result IsUncounted }
+{
     if !files.is_regular(path) {
         return Ok(None);
     }

@@ -3,6 +3,7 @@
 
 ghost use Rattle.std.specs.Prelude.{◌≡◌, Ok, Err, OnOk, IfErr};
 ghost use Rattle.thorin.specs.Run.{Took};
+ghost use Rattle.thorin_print.specs.Answers.{FailsBy};
 ghost use Rattle.thorin_commands.specs.Cause.{IsNotTaken, IsRefused, IsUntaken, Refuses};
 ghost use Rattle.thorin_commands.specs.Cause.{StopsAt};
 ghost use Rattle.thorin_commands.specs.Opened.{TookAll, TookInputs};
@@ -11,52 +12,54 @@ use crate::archives::take_opened;
 use crate::origins::{Holding, Origin, now_in, place_of_refused};
 use crate::reading::Inputs;
 use crate::refusal::Refusal;
-use crate::telling::{Refused, Telling, has_types_alone, tell_refused, told};
+use crate::telling::{Refused, Telling, lack_of, tell_refused, told};
 use dwp_bytes::RelocationEntry;
 use std::alloc::AllocError;
-use std::io::Write;
 use std::path::AsPath;
 use thorin::{DwarfPackage, Input, NotTaken, take_input};
 use thorin_errors::Error;
-use thorin_inputs::Growth;
-use thorin_print::Failure;
+use thorin_inputs::{Growth, Lack};
+use thorin_print::{Failure, LineOutput};
 use thorin_sessions::Session;
 
-/// Takes the inputs in order, up to the first that is refused. Answers of each whether its type
-/// units were passed over for want of a section of info.
-pub(crate) fn take_all<'o, 's: 'o, Sess: Session<RelocationEntry>, I: Inputs, E: Write>(
+/// Takes the inputs in order, up to the first that is refused. Answers of each why it added no unit,
+/// if it added none.
+pub(crate) fn take_all<'o, 's: 'o, Sess: Session<RelocationEntry>, I: Inputs, E: LineOutput>(
     inputs: &I,
     builder: &mut DwarfPackage<'o, 's, Sess>,
     list: &[Input<'_>],
     telling: Telling,
     err: &mut E,
-) -> Result<Vec<bool>, Refusal>
+) -> Result<Vec<Lack>, Refusal>
     ensures took { OnOk result (TookInputs (I.opens inputs.now) (I.manner inputs.now)
         (I.offer inputs.now) list.now builder.old.state builder.new.state) }
-    ensures told { IfErr result (Refuses E.contents err.new (StopsAt (I.opens inputs.now)
+    ensures told { IfErr result (Refuses E.contents E.failed err.new (StopsAt (I.opens inputs.now)
         (I.manner inputs.now) (I.offer inputs.now) (I.declines inputs.now) list.now
         builder.old.state)) }
 {
     let mut room = Vec::new(telling.alloc);
-    let mut types_alone = Vec::new(telling.alloc);
+    let mut lacks = Vec::new(telling.alloc);
     for input in list {
         let before = builder.contained_units().len();
         take(inputs, builder, &mut room, *input, telling, err)?;
-        let adds_none = builder.contained_units().len() == before;
-        let is_alone = adds_none && has_types_alone(inputs, *input, room.as_slice());
-        mark(&mut types_alone, is_alone)?;
+        let lack = if builder.contained_units().len() == before {
+            lack_of(inputs, *input, room.as_slice())
+        } else {
+            Lack::Unknown
+        };
+        keep_lack(&mut lacks, lack)?;
     }
-    Ok(types_alone)
+    Ok(lacks)
 }
 
-/// Marks the next input.
-fn mark(marks: &mut Vec<bool>, mark: bool) -> Result<(), AllocError> {
-    marks.push(mark)?;
+/// Keeps what the next input lacks.
+fn keep_lack(lacks: &mut Vec<Lack>, lack: Lack) -> Result<(), AllocError> {
+    lacks.push(lack)?;
     Ok(())
 }
 
 /// Takes an input, or where it is an archive that is to be opened the members of it.
-fn take<'o, 's: 'o, Sess: Session<RelocationEntry>, I: Inputs, E: Write>(
+fn take<'o, 's: 'o, Sess: Session<RelocationEntry>, I: Inputs, E: LineOutput>(
     inputs: &I,
     builder: &mut DwarfPackage<'o, 's, Sess>,
     room: &mut Vec<u8>,
@@ -66,9 +69,9 @@ fn take<'o, 's: 'o, Sess: Session<RelocationEntry>, I: Inputs, E: Write>(
 ) -> Result<(), Refusal>
     ensures took { OnOk result (TookAll (I.opens inputs.now) (I.manner inputs.now)
         (I.offer inputs.now) input.entry builder.old.state builder.new.state) }
-    ensures told { IfErr result (Refuses E.contents err.new (IsNotTaken (I.opens inputs.now)
-        (I.manner inputs.now) (I.offer inputs.now) (I.declines inputs.now) input.entry
-        builder.old.state)) }
+    ensures told { IfErr result (Refuses E.contents E.failed err.new (IsNotTaken
+        (I.opens inputs.now) (I.manner inputs.now) (I.offer inputs.now) (I.declines inputs.now)
+        input.entry builder.old.state)) }
 {
     match input {
         Input::Object(path) if inputs.opens_archives() => {
@@ -79,7 +82,7 @@ fn take<'o, 's: 'o, Sess: Session<RelocationEntry>, I: Inputs, E: Write>(
 }
 
 /// Takes an input that is no archive, and tells what came of it.
-fn take_alone<'o, 's: 'o, Sess: Session<RelocationEntry>, I: Inputs, E: Write>(
+fn take_alone<'o, 's: 'o, Sess: Session<RelocationEntry>, I: Inputs, E: LineOutput>(
     inputs: &I,
     builder: &mut DwarfPackage<'o, 's, Sess>,
     room: &mut Vec<u8>,
@@ -89,7 +92,7 @@ fn take_alone<'o, 's: 'o, Sess: Session<RelocationEntry>, I: Inputs, E: Write>(
 ) -> Result<(), Refusal>
     ensures took { OnOk result
         (Took (I.offer inputs.now) input.entry builder.old.state (Ok tt) builder.new.state) }
-    ensures told { IfErr result (Refuses E.contents err.new (IsUntaken (IsRefused (I.offer
+    ensures told { IfErr result (Refuses E.contents E.failed err.new (IsUntaken (IsRefused (I.offer
         inputs.now) (I.declines inputs.now) input.entry builder.old.state))) }
 {
     let before = builder.contained_units().len();
@@ -115,7 +118,8 @@ pub(crate) struct Tried<'a> {
 
 /// Tells of an input by its outcome: how many units were added, where that is asked for, or why it
 /// was refused.
-pub(crate) fn settle<'o, 's: 'o, Sess: Session<RelocationEntry>, I: Inputs, E: Write>(
+#[tactic(auto, using(crate::proofs::Causes::stops_by))]
+pub(crate) fn settle<'o, 's: 'o, Sess: Session<RelocationEntry>, I: Inputs, E: LineOutput>(
     inputs: &I,
     builder: &DwarfPackage<'o, 's, Sess>,
     tried: Tried<'_>,
@@ -124,7 +128,7 @@ pub(crate) fn settle<'o, 's: 'o, Sess: Session<RelocationEntry>, I: Inputs, E: W
     err: &mut E,
 ) -> Result<(), Refusal>
     ensures took { OnOk result (outcome ≡ Ok tt) }
-    ensures told { IfErr result (Refuses E.contents err.new
+    ensures told { IfErr result (Refuses E.contents E.failed err.new
         (IsUntaken (λ why. outcome ≡ Err why))) }
 {
     match outcome {
@@ -145,13 +149,15 @@ pub(crate) fn settle<'o, 's: 'o, Sess: Session<RelocationEntry>, I: Inputs, E: W
 }
 
 /// Keeps and tells, where that is asked for, that an input was taken, and what the package has now.
-fn accept<I: Inputs, E: Write>(
+fn accept<I: Inputs, E: LineOutput>(
     inputs: &I,
     now: Holding<'_>,
     tried: Tried<'_>,
     telling: Telling,
     err: &mut E,
-) -> Result<(), Failure> {
+) -> Result<(), Failure>
+    ensures { IfErr result (FailsBy (E.failed err.new)) }
+{
     keep_input(inputs, tried.input, now);
     let added = now.units.saturating_sub(tried.before);
     told(inputs, tried, added, telling, err)

@@ -1,8 +1,8 @@
 //! What `pack` tells of its inputs: with `--verbose`, and where one is refused.
 
-ghost use Rattle.std.specs.Prelude.{OnOk};
+ghost use Rattle.std.specs.Prelude.{OnOk, IfErr};
 ghost use Rattle.thorin_errors.specs.Errors.{error_of};
-ghost use Rattle.thorin_print.specs.Answers.{Grows};
+ghost use Rattle.thorin_print.specs.Answers.{FailsBy, Grows};
 ghost use Rattle.thorin_commands.specs.Cause.{HasLine, Tells, refusal_text, told_text};
 
 use crate::reading::Inputs;
@@ -14,12 +14,15 @@ use std::path::{AsPath, Path};
 use thorin::{DwarfPackage, Input, NotTaken};
 use thorin_errors::Error;
 use thorin_inputs::{
-    Growth, count_units, note_absent, note_alone, note_before, note_reason, note_refused,
-    note_twice_in, place_of,
+    Growth, Lack, count_units, has_types_alone, note_absent, note_alone, note_before, note_reason,
+    note_refused, note_twice_in, place_of,
 };
-use thorin_print::{Failure, print, shown, tell_taken};
+use thorin_print::{Failure, LineOutput, shown, tell_taken};
 use thorin_sessions::Session;
 use thorin_words::printed;
+
+/// What helps where inputs have several encodings.
+const ENCODINGS: &'static str = "note: compile all with one -gdwarf-N, or pack each kind apart";
 
 /// What is told while inputs are taken, and where its texts are made.
 #[derive(Clone, Copy)]
@@ -34,13 +37,15 @@ pub(crate) struct Telling {
 }
 
 /// Tells of an input that was taken how many of its units were added, where that is asked for.
-pub(crate) fn told<I: Inputs, E: Write>(
+pub(crate) fn told<I: Inputs, E: LineOutput>(
     inputs: &I,
     taken: Tried<'_>,
     added: usize,
     telling: Telling,
     err: &mut E,
-) -> Result<(), Failure> {
+) -> Result<(), Failure>
+    ensures { IfErr result (FailsBy (E.failed err.new)) }
+{
     match path_of(taken.input) {
         Some(path) if telling.verbose => {
             let all = units_of(inputs, taken);
@@ -69,67 +74,85 @@ fn path_of(input: Input<'_>) -> Option<Path<'_>> {
     }
 }
 
-/// Whether type units of an object that was taken were passed over, by the bytes that were read: it
-/// has no section of info. Of what is no regular file that isn't told.
-pub(crate) fn has_types_alone<I: Inputs>(inputs: &I, input: Input<'_>, room: &[u8]) -> bool {
+/// Why an input that was taken added no unit, by the bytes that were read. Of what is no regular file
+/// it isn't told that type units were passed over.
+pub(crate) fn lack_of<I: Inputs>(inputs: &I, input: Input<'_>, room: &[u8]) -> Lack {
     match input {
-        Input::Object(path) => {
-            thorin_inputs::has_types_alone(room) && inputs.is_regular(path.path_text())
+        Input::Bytes(_) => Lack::Unknown,
+        Input::Object(path) if has_types_alone(room) && inputs.is_regular(path.path_text()) => {
+            Lack::Types
         }
-        _ => false,
+        Input::Object(_) => Lack::of(room, false),
+        _ => Lack::Unknown,
+    }
+}
+
+/// Why a regular file that was taken for an executable added no unit: it is read again for that.
+fn lack_at<I: Inputs>(alloc: Global, inputs: &I, input: Input<'_>, path: Path<'_>) -> Lack {
+    if !inputs.is_regular(path.path_text()) {
+        return Lack::Unknown;
+    }
+    let mut room = Vec::new(alloc);
+    inputs.begin(input);
+    match inputs.read_into(path, &mut room) {
+        Ok(bytes) => Lack::of(bytes, true),
+        Err(_) => Lack::Unknown,
     }
 }
 
 /// Warns of each object whose type units were passed over. Where the package has no units and
 /// nothing is missing, of each other input too: none of them has split units. Where something is
 /// missing, of objects alone: some executable has split units.
-pub(crate) fn warn_unsplit<'o, 's: 'o, Sess: Session<RelocationEntry>, E: Write>(
+pub(crate) fn warn_unsplit<'o, 's: 'o, Sess: Session<RelocationEntry>, I: Inputs, E: LineOutput>(
+    inputs: &I,
     builder: &DwarfPackage<'o, 's, Sess>,
     list: &[Input<'_>],
-    types_alone: &[bool],
+    lacks: &[Lack],
     telling: Telling,
     err: &mut E,
-) -> Result<(), Failure> {
+) -> Result<(), Failure>
+    ensures { IfErr result (FailsBy (E.failed err.new)) }
+{
     if !telling.warns {
         return Ok(());
     }
     let is_empty = builder.contained_units().is_empty();
     let is_one_split = is_empty && builder.missing_targets().next().is_some();
     for i in 0..list.len() {
-        let has_types = matches!(types_alone.get(i), Some(true));
+        let lack = lacks.get(i).copied().unwrap_or(Lack::Unknown);
         let is_warned = match list[i] {
             Input::Executable(_, _) | Input::ExecutableSkippingNameless(_, _) => {
                 is_empty && !is_one_split
             }
-            _ => is_empty || has_types,
+            _ => is_empty || matches!(lack, Lack::Types),
         };
         if is_warned {
-            warn_of(telling.alloc, list[i], has_types, err)?;
+            warn_of(telling.alloc, inputs, list[i], lack, err)?;
         }
     }
     Ok(())
 }
 
-/// Warns of an input that has nothing that is split, but for type units that were passed over.
-fn warn_of<E: Write>(
+/// Warns of an input that added nothing that is split, and says why.
+fn warn_of<I: Inputs, E: LineOutput>(
     alloc: Global,
+    inputs: &I,
     input: Input<'_>,
-    has_types: bool,
+    lack: Lack,
     err: &mut E,
-) -> Result<(), Failure> {
+) -> Result<(), Failure>
+    ensures { IfErr result (FailsBy (E.failed err.new)) }
+{
     let Some(path) = path_of(input) else {
         return Ok(());
     };
     let name = shown(alloc, path.path_text())?;
-    let passed = if has_types {
-        ": .debug_types.dwo is passed over without .debug_info.dwo"
-    } else {
-        ""
+    let lack = match input {
+        Input::Object(_) | Input::Bytes(_) => lack,
+        _ => lack_at(alloc, inputs, input, path),
     };
-    match writeln!(err, "warning: {name}: no split units{passed}") {
-        Ok(()) => Ok(()),
-        Err(_) => Err(Failure::Line),
-    }
+    let line = format!(in alloc; "warning: {name}: no split units{lack}\n")?;
+    err.print_text(line.as_str())
 }
 
 /// An input that was refused.
@@ -145,13 +168,14 @@ pub(crate) struct Refused<'a> {
 ///
 /// # Errors
 /// `Line` or `Memory`.
-pub(crate) fn tell_refused<I: Inputs, E: Write>(
+pub(crate) fn tell_refused<I: Inputs, E: LineOutput>(
     alloc: Global,
     inputs: &I,
     refused: Refused<'_>,
     err: &mut E,
 ) -> Result<(), Failure>
-    ensures { OnOk result (Tells E.contents err.new (refusal_text refused.entry.why.now)) }
+    ensures told { OnOk result (Tells E.contents err.new (refusal_text refused.entry.why.now)) }
+    ensures blamed { IfErr result (FailsBy (E.failed err.new)) }
 {
     let place = place_in(alloc, refused.input, inputs.last_named());
     let place = text_in(&place);
@@ -171,7 +195,7 @@ pub(crate) fn text_in(text: &Option<String>) -> Option<&str> {
 /// # Errors
 /// `Line` or `Memory`.
 #[tactic(auto, using(crate::proofs::Lines::followed))]
-pub(crate) fn tell_why<I: Inputs, E: Write>(
+pub(crate) fn tell_why<I: Inputs, E: LineOutput>(
     alloc: Global,
     inputs: &I,
     why: &NotTaken<Error, Growth>,
@@ -179,7 +203,8 @@ pub(crate) fn tell_why<I: Inputs, E: Write>(
     before: Option<usize>,
     err: &mut E,
 ) -> Result<(), Failure>
-    ensures { OnOk result (Tells E.contents err.new (refusal_text why.now)) }
+    ensures told { OnOk result (Tells E.contents err.new (refusal_text why.now)) }
+    ensures blamed { IfErr result (FailsBy (E.failed err.new)) }
 {
     tell_error(alloc, why, err)?;
     let mut notes = Vec::new(alloc);
@@ -191,11 +216,11 @@ pub(crate) fn tell_why<I: Inputs, E: Write>(
 }
 
 /// Prints notes that were put together, as far as they can be.
-fn put_notes<E: Write>(notes: &[u8], err: &mut E)
+pub(crate) fn put_notes<E: LineOutput>(notes: &[u8], err: &mut E)
     ensures { Grows (E.contents err.old) (E.contents err.new) }
 {
     if let Ok(text) = str::from_utf8(notes) {
-        let _ = print(text, err);
+        let _ = err.print_text(text);
     }
 }
 
@@ -203,16 +228,17 @@ fn put_notes<E: Write>(notes: &[u8], err: &mut E)
 ///
 /// # Errors
 /// `Line` or `Memory`.
-pub(crate) fn tell_error<E: Write>(
+pub(crate) fn tell_error<E: LineOutput>(
     alloc: Global,
     why: &NotTaken<Error, Growth>,
     err: &mut E,
 ) -> Result<(), Failure>
-    ensures { OnOk result (Tells E.contents err.new (refusal_text why.now)) }
+    ensures told { OnOk result (Tells E.contents err.new (refusal_text why.now)) }
+    ensures blamed { IfErr result (FailsBy (E.failed err.new)) }
 {
     match why {
         NotTaken::Failed(error) => print_error(alloc, error, err),
-        NotTaken::Declined(growth) => put_error(growth.error(), err),
+        NotTaken::Declined(growth) => put_error(alloc, growth.error(), err),
     }
 }
 
@@ -280,7 +306,7 @@ fn note_twice<I: Inputs, E: Write>(
 fn note_encodings<I: Inputs, E: Write>(inputs: &I, place: Option<&str>, err: &mut E) {
     match (inputs.encoding_notes(), place) {
         (Ok(Some(lines)), _) => {
-            let _ = err.write_all(lines.as_bytes());
+            let _ = writeln!(err, "{lines}{ENCODINGS}");
         }
         (_, Some(place)) => note_alone(place, err),
         _ => {}
@@ -299,13 +325,14 @@ fn place_in(alloc: Global, input: Input<'_>, named: Option<String>) -> Option<St
 /// # Errors
 /// `Line` or `Memory`.
 #[tactic(auto, using(crate::proofs::Lines::followed))]
-pub(crate) fn tell_unfinished<I: Inputs, E: Write>(
+pub(crate) fn tell_unfinished<I: Inputs, E: LineOutput>(
     alloc: Global,
     inputs: &I,
     error: &Error,
     err: &mut E,
 ) -> Result<(), Failure>
-    ensures { OnOk result (Tells E.contents err.new (told_text (error_of error.now))) }
+    ensures told { OnOk result (Tells E.contents err.new (told_text (error_of error.now))) }
+    ensures blamed { IfErr result (FailsBy (E.failed err.new)) }
 {
     print_error(alloc, error, err)?;
     let mut notes = Vec::new(alloc);
@@ -331,28 +358,32 @@ fn note_missing<I: Inputs, E: Write>(inputs: &I, unit: u64, err: &mut E) {
 /// # Errors
 /// `Line` or `Memory`.
 #[tactic(auto, using(crate::proofs::Lines::told))]
-pub(crate) fn print_error<E: Write>(
+pub(crate) fn print_error<E: LineOutput>(
     alloc: Global,
     error: &Error,
     err: &mut E,
 ) -> Result<(), Failure>
-    ensures { OnOk result (Tells E.contents err.new (told_text (error_of error.now))) }
+    ensures told { OnOk result (Tells E.contents err.new (told_text (error_of error.now))) }
+    ensures blamed { IfErr result (FailsBy (E.failed err.new)) }
 {
     let text = format!(in alloc; "{error}")?;
     let text = printed(alloc, text.as_str())?;
-    put_error(text.as_str(), err)
+    put_error(alloc, text.as_str(), err)
 }
 
 /// Prints the text of an error.
 ///
 /// # Errors
-/// `Line`.
+/// `Line` or `Memory`.
 #[tactic(auto, using(crate::proofs::Lines::printed))]
-fn put_error<E: Write>(text: &str, err: &mut E) -> Result<(), Failure>
-    ensures { OnOk result (HasLine E.contents err.new text.now) }
+pub(crate) fn put_error<E: LineOutput>(
+    alloc: Global,
+    text: &str,
+    err: &mut E,
+) -> Result<(), Failure>
+    ensures told { OnOk result (HasLine E.contents err.new text.now) }
+    ensures blamed { IfErr result (FailsBy (E.failed err.new)) }
 {
-    match writeln!(err, "error: {text}") {
-        Ok(()) => Ok(()),
-        Err(_) => Err(Failure::Line),
-    }
+    let line = format!(in alloc; "error: {text}\n")?;
+    err.print_text(line.as_str())
 }

@@ -10,7 +10,13 @@ use Rattle.dwp_elf_read.specs.declared.error.WriteError.{WriteError}
 use Rattle.dwp_elf_read.specs.declared.error.WriteError.TheVariants.{NumberTooLarge, Memory, Io}
 use Rattle.dwp_elf.specs.FileText.{Object, file_text}
 use Rattle.dwp_elf.specs.Refusals.{RefusesWriter}
-use Rattle.thorin_output.specs.Files.{HasBeginning, Begun, Adds, Put, Begins}
+use Rattle.thorin_print.specs.Answers.{FailsBy, IsOfPrinting}
+use Rattle.thorin_print.specs.declared.output.Failure.{Failure}
+use Rattle.thorin_print.specs.declared.output.Failure.TheVariants as failures
+use Rattle.thorin_output.specs.Files.{HasBeginning, Begun, Adds, Put, Begins, IsOfFile}
+use Rattle.thorin_output.specs.Files.{IsCutShort, IsUnwritten, IsWhyUnwritten}
+use Rattle.thorin_output.specs.Warnings.{IsPrinted, IsWarning}
+use Rattle.thorin_output.specs.declared.warnings.Warned.{Warned}
 
 -- a package whose writing was refused was begun
 pub begun : (o : Object) (old new : Option (List ℕ)) (e : WriteError) → RefusesWriter o old new e
@@ -65,3 +71,43 @@ module _ {F O : Type 0} (begins : F → Option (List Begun)) (contents : O → O
   put_begins h = by-bool _ (bytes_eq name (codes "-"))
       (λ e. let was = rw e at h in rw e (was.0, whole (contents out) (contents out') text was.1))
       (λ e. let was = rw e at h in rw e (inl was.0, was.1))
+
+  -- why that failed, in the stream and in a file
+  pub why_stream : bytes_eq name (codes "-") ≡ true → files' ≡ files
+      → HasBeginning (contents out) (contents out') text → (failure : Failure)
+      → IsOfPrinting failure → IsWhyUnwritten (IsUnwritten begins files files' out out' name)
+      (IsCutShort contents files files' out out' name text) ⊥ failure
+  why_stream e same begun failures.Line h =
+      inl (record { a_stream = e; begun = begun; same = same })
+  why_stream e same begun failures.Memory h = tt
+  why_stream e same begun _ h = absurd h
+
+  pub why_file : bytes_eq name (codes "-") ≡ false
+      → Adds (begins files) (begins files') (name, None) → out' ≡ out → (failure : Failure)
+      → IsOfFile failure → IsWhyUnwritten (IsUnwritten begins files files' out out' name)
+      (IsCutShort contents files files' out out' name text) ⊥ failure
+  why_file e added same failures.Output h = record { a_file = e; added = added; same = same }
+  why_file e added same failures.Memory h = tt
+  why_file e added same _ h = absurd h
+
+-- why lines behind a package weren't printed, or it wasn't written
+pub why_package : (U C X : Type 0) (failure : Failure) → IsWhyUnwritten U C ⊥ failure
+    → IsWhyUnwritten U C X failure
+why_package U C X failures.Output h = h
+why_package U C X failures.Line (inl h) = inl h
+why_package U C X failures.Line (inr h) = absurd h
+why_package U C X failures.Memory h = tt
+why_package U C X _ h = absurd h
+
+pub why_line : (U C X : Type 0) (failure : Failure) → FailsBy X failure
+    → IsWhyUnwritten U C X failure
+why_line U C X failures.Line h = inr h
+why_line U C X failures.Memory h = tt
+why_line U C X _ h = absurd h
+
+-- the warnings that were printed, and handed over
+pub printed : {warned : Warned} (old middle new : Option (List ℕ)) (text : List ℕ)
+    → IsWarning warned text → Appends old middle text → Keeps middle new
+    → IsPrinted old new (IsWarning warned)
+printed old middle new text is added kept =
+    record { text = text; is = is; added = Appends-kept old middle new text added kept }

@@ -27,6 +27,12 @@ IsOfWriting failures.Line = Unit {0}
 IsOfWriting failures.Memory = Unit {0}
 IsOfWriting _ = ⊥
 
+-- what writing a file may fail by
+abbrev pub IsOfFile : Failure → Type 0
+IsOfFile failures.Output = Unit {0}
+IsOfFile failures.Memory = Unit {0}
+IsOfFile _ = ⊥
+
 -- `-` names a stream, and anything else a file
 abbrev pub is_stream : List ℕ → Bool
 is_stream name = bytes_eq name (codes "-")
@@ -58,3 +64,27 @@ unfoldable pub Begins : {F O : Type 0} → (F → Option (List Begun)) → (O �
     → (files files' : F) (out out' : O) → (name text : List ℕ) → Type 0
 Begins begun contents files files' out out' name text =
     BeginsIn begun contents files files' out out' (is_stream name) name text
+
+-- ---- why that failed
+
+-- a file of a name was begun, and not written to its end
+pub record IsUnwritten {F O : Type 0} (begun : F → Option (List Begun)) (files files' : F)
+    (out out' : O) (name : List ℕ) : Type 0 where
+  pub a_file : is_stream name ≡ false
+  pub added : Adds (begun files) (begun files') (name, None)
+  pub same : out' ≡ out
+
+-- the stream didn't take all of a text
+pub record IsCutShort {F O : Type 0} (contents : O → Option (List ℕ)) (files files' : F)
+    (out out' : O) (name text : List ℕ) : Type 0 where
+  pub a_stream : is_stream name ≡ true
+  pub begun : HasBeginning (contents out) (contents out') text
+  pub same : files' ≡ files
+
+-- the file wasn't written to its end; the stream didn't take all, or a line behind it wasn't taken;
+-- or memory ran out
+abbrev pub IsWhyUnwritten : (unwritten cut_short failed : Type 0) → Failure → Type 0
+IsWhyUnwritten unwritten cut_short failed failures.Output = unwritten
+IsWhyUnwritten unwritten cut_short failed failures.Line = cut_short ⊎ failed
+IsWhyUnwritten unwritten cut_short failed failures.Memory = Unit {0}
+IsWhyUnwritten unwritten cut_short failed _ = ⊥

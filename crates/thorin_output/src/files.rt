@@ -5,7 +5,7 @@ ghost use Rattle.std.specs.Path.{path_bytes};
 ghost use Rattle.std.specs.declared.io.Error.{Error as IoError};
 ghost use Rattle.dwp_elf.specs.FileText.{file_text};
 ghost use Rattle.thorin_sessions.specs.Sessions.{IsNoWantOfMemory};
-ghost use Rattle.thorin_output.specs.Files.{Begun, Adds, IsOfWriting};
+ghost use Rattle.thorin_output.specs.Files.{Begun, Adds, IsOfFile};
 ghost use Rattle.thorin_output.specs.Reads.{Identity, any_identity, anything, IsReadOver};
 
 use dwp_elf::{WritableObject, WriteError as ObjectError};
@@ -72,7 +72,7 @@ pub trait FileSystem {
         ensures whole { OnOk result
             (Adds (begun self.old) (begun self.new) (name.now, Some (file_text object.now))) }
         ensures part { OnErr result (Adds (begun self.old) (begun self.new) (name.now, None)) }
-        ensures cause { IfErr result IsOfWriting };
+        ensures cause { IfErr result IsOfFile };
 
     /// Why the last file couldn't be written; none where that isn't known. Asked for once.
     fn write_failure(&mut self) -> Option<io::Error> {

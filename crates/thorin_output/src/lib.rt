@@ -6,5 +6,4 @@ mod output;
 mod warnings;
 
 pub use files::{FileSystem, HostFiles};
-pub use output::flush;
 pub use warnings::{Warned, Warnings, write_then_warn};

@@ -1,21 +1,23 @@
 //! Writing the package's file.
 
 ghost use Rattle.std.specs.Prelude.{OnOk, OnErr, IfErr};
-ghost use Rattle.std.specs.Io.KnownBytes.{Appends, Keeps};
+ghost use Rattle.std.specs.Io.KnownBytes.{Appends};
 ghost use Rattle.dwp_elf.specs.FileText.{file_text};
-ghost use Rattle.thorin_output.specs.Files.{HasBeginning, IsOfWriting, Put, Begins};
+ghost use Rattle.thorin_print.specs.Answers.{IsOfPrinting};
+ghost use Rattle.thorin_output.specs.Files.{HasBeginning, IsCutShort, IsUnwritten, IsWhyUnwritten};
+ghost use Rattle.thorin_output.specs.Files.{Put, Begins};
 
 use crate::files::FileSystem;
 use dwp_elf::WritableObject;
-use std::io::{self, Write};
-use thorin_print::Failure;
+use std::io::Write;
+use thorin_print::{Failure, flush};
 
 /// Writes a package to OUT, where `-` is standard output. Where OUT is a regular file, or isn't
 /// there, a write that fails leaves OUT as it was.
 ///
 /// # Errors
 /// `Output`, `Line` or `Memory`.
-#[tactic(auto, using(crate::proofs::Puts::put_stream, crate::proofs::Puts::put_file, crate::proofs::Puts::begins_stream, crate::proofs::Puts::begins_file))]
+#[tactic(auto, using(crate::proofs::Puts::put_stream, crate::proofs::Puts::put_file, crate::proofs::Puts::begins_stream, crate::proofs::Puts::begins_file, crate::proofs::Puts::why_stream, crate::proofs::Puts::why_file))]
 pub(crate) fn write_package<F: FileSystem, O: Write>(
     files: &mut F,
     object: &WritableObject,
@@ -26,7 +28,10 @@ pub(crate) fn write_package<F: FileSystem, O: Write>(
         output.now (file_text object.now)) }
     ensures begun { OnErr result (Begins F.begun O.contents files.old files.new out.old out.new
         output.now (file_text object.now)) }
-    ensures cause { IfErr result IsOfWriting }
+    ensures why { IfErr result (IsWhyUnwritten
+        (IsUnwritten F.begun files.old files.new out.old out.new output.now)
+        (IsCutShort O.contents files.old files.new out.old out.new output.now
+        (file_text object.now)) ⊥) }
 {
     if output == "-" {
         write_stream(object, out)?;
@@ -43,7 +48,7 @@ fn write_stream<O: Write>(object: &WritableObject, out: &mut O) -> Result<(), Fa
         (file_text object.now)) }
     ensures part { OnErr result (HasBeginning (O.contents out.old) (O.contents out.new)
         (file_text object.now)) }
-    ensures cause { IfErr result IsOfWriting }
+    ensures cause { IfErr result IsOfPrinting }
 {
     hand_over(object, out)?;
     flush(out)?;
@@ -60,35 +65,10 @@ fn hand_over<W: Write>(object: &WritableObject, file: &mut W) -> Result<(), Fail
         (file_text object.now)) }
     ensures part { OnErr result (HasBeginning (W.contents file.old) (W.contents file.new)
         (file_text object.now)) }
-    ensures cause { IfErr result IsOfWriting }
+    ensures cause { IfErr result IsOfPrinting }
 {
     match object.write_to(file) {
         Ok(()) => Ok(()),
         Err(_) => Err(Failure::Line),
-    }
-}
-
-/// Hands over what a writer holds back.
-///
-/// # Errors
-/// `Memory` where memory ran out, else `Line`.
-pub fn flush<W: Write>(lines: &mut W) -> Result<(), Failure>
-    ensures kept { Keeps (W.contents lines.old) (W.contents lines.new) }
-    ensures cause { IfErr result IsOfWriting }
-{
-    match lines.flush() {
-        Ok(()) => Ok(()),
-        Err(e) => Err(flush_failure(&e)),
-    }
-}
-
-/// What a failed flush is.
-fn flush_failure(e: &io::Error) -> Failure
-    ensures { IsOfWriting result }
-{
-    if e.kind() == io::ErrorKind::OutOfMemory {
-        Failure::Memory
-    } else {
-        Failure::Line
     }
 }

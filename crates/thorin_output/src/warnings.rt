@@ -1,17 +1,22 @@
 //! Warnings, printed once the package is written.
 
-ghost use Rattle.std.specs.Prelude.{◌≡◌, OnOk, OnErr, IfErr};
+ghost use Rattle.std.specs.Prelude.{◌≡◌, ℕ, List, ◌++◌, flat_map, OnOk, OnErr, IfOk, IfErr};
+ghost use Rattle.std.specs.Prelude.{string_bytes};
 ghost use Rattle.dwp_elf.specs.FileText.{file_text};
-ghost use Rattle.thorin_output.specs.Files.{IsOfWriting, Put, Begins};
+ghost use Rattle.thorin_errors.specs.Text.{hex8};
+ghost use Rattle.thorin_print.specs.Answers.{FailsBy};
+ghost use Rattle.thorin_output.specs.Files.{IsCutShort, IsUnwritten, IsWhyUnwritten, Put, Begins};
 ghost use Rattle.thorin_output.specs.Warnings as spec;
+ghost use Rattle.thorin_output.specs.Warnings.{AreLines, IsPrinted, IsWarning, count_line};
+ghost use Rattle.thorin_output.specs.Warnings.{differing_line};
 
 use crate::files::FileSystem;
-use crate::output::{flush, write_package};
+use crate::output::write_package;
 use dwp_elf::WritableObject;
 use dwp_table::DebugTypeSignature;
 use std::alloc::{AllocError, Global};
 use std::io::Write;
-use thorin_print::Failure;
+use thorin_print::{Failure, LineOutput};
 
 /// Which warnings of type units that differ are printed.
 #[derive(Clone, Copy)]
@@ -60,101 +65,117 @@ pub struct Warned<'d> {
 ///
 /// # Errors
 /// `Output`, `Line` or `Memory`.
-#[tactic(auto, using(crate::proofs::Puts::put_begins))]
-pub fn write_then_warn<F: FileSystem, O: Write, W: Write>(
+#[tactic(auto, using(crate::proofs::Puts::put_begins, crate::proofs::Puts::why_package, crate::proofs::Puts::why_line))]
+pub fn write_then_warn<F: FileSystem, O: Write, E: LineOutput>(
     files: &mut F,
     object: &WritableObject,
     warned: Warned<'_>,
     output: &str,
     out: &mut O,
-    lines: &mut W,
+    err: &mut E,
 ) -> Result<(), Failure>
     ensures done { OnOk result (Put F.begun O.contents files.old files.new out.old out.new
         output.now (file_text object.now)) }
+    ensures warned { OnOk result (IsPrinted (E.contents err.old) (E.contents err.new)
+        (IsWarning warned.entry)) }
     ensures begun { OnErr result (Begins F.begun O.contents files.old files.new out.old out.new
         output.now (file_text object.now)) }
-    ensures cause { IfErr result IsOfWriting }
+    ensures why { IfErr result (IsWhyUnwritten
+        (IsUnwritten F.begun files.old files.new out.old out.new output.now)
+        (IsCutShort O.contents files.old files.new out.old out.new output.now
+        (file_text object.now)) (E.failed err.new)) }
 {
     write_package(files, object, output, out)?;
-    warn(warned, lines)?;
+    warn(warned, err)?;
     Ok(())
 }
 
 /// Prints the warnings, and hands them over.
-pub(crate) fn warn<W: Write>(warned: Warned<'_>, lines: &mut W) -> Result<(), Failure>
-    ensures { IfErr result IsOfWriting }
+#[tactic(auto, using(crate::proofs::Puts::printed))]
+fn warn<E: LineOutput>(warned: Warned<'_>, err: &mut E) -> Result<(), Failure>
+    ensures printed { OnOk result (IsPrinted (E.contents err.old) (E.contents err.new)
+        (IsWarning warned.entry)) }
+    ensures blamed { IfErr result (FailsBy (E.failed err.new)) }
 {
-    print_all(warned, lines)?;
-    flush(lines)
+    let text = warnings_text(warned)?;
+    err.print_text(text.as_str())?;
+    err.flush_text()
 }
 
-/// Prints the lines, and then those of type units.
-fn print_all<W: Write>(warned: Warned<'_>, lines: &mut W) -> Result<(), Failure>
-    ensures { IfErr result IsOfWriting }
+/// The lines, and behind them those of type units that are asked for.
+fn warnings_text(warned: Warned<'_>) -> Result<String, AllocError>
+    ensures { IfOk result (λ text. IsWarning warned.entry (string_bytes text)) }
 {
-    match lines.write_all(warned.lines.as_bytes()) {
-        Ok(()) => print_warnings(warned, lines),
-        Err(_) => Err(Failure::Line),
-    }
+    let mut text = String::from_str(warned.alloc, warned.lines)?;
+    put_lines(warned, &mut text)?;
+    Ok(text)
 }
 
-/// Prints what is asked for of them.
-fn print_warnings<W: Write>(warned: Warned<'_>, lines: &mut W) -> Result<(), Failure>
-    ensures { IfErr result IsOfWriting }
+/// Adds the lines of type units that are asked for.
+fn put_lines(warned: Warned<'_>, text: &mut String) -> Result<(), AllocError>
+    ensures { OnOk result ((lines : List ℕ)
+        × AreLines warned.entry.warnings warned.entry.differing.now lines
+        × (string_bytes text.new ≡ string_bytes text.old ++ lines)) }
 {
     match warned.warnings {
-        Warnings::Each => warn_each(warned.differing, lines),
+        Warnings::Each => put_each(warned.differing, text),
         Warnings::Once if !warned.differing.is_empty() => {
-            warn_once(warned.alloc, warned.differing, lines)
+            let units = count_distinct(warned.alloc, warned.differing)?;
+            put_count(units, warned.differing.len(), text)
         }
         _ => Ok(()),
     }
 }
 
-/// Prints a line for each type unit that differs from the one kept.
-fn warn_each<W: Write>(differing: &[DebugTypeSignature], lines: &mut W) -> Result<(), Failure>
-    ensures { IfErr result IsOfWriting }
+/// Adds a line for each type unit that differs from the one kept.
+fn put_each(differing: &[DebugTypeSignature], text: &mut String) -> Result<(), AllocError>
+    ensures { OnOk result (string_bytes text.new ≡ string_bytes text.old
+        ++ flat_map differing_line differing.now) }
 {
     for signature in differing {
-        let id = signature.0;
-        let told = writeln!(
-            lines,
-            "warning: type unit 0x{id:08x} differs from the one kept"
-        );
-        match told {
-            Ok(()) => {}
-            Err(_) => return Err(Failure::Line),
-        }
+        put_one(*signature, text)?;
     }
     Ok(())
 }
 
-/// Prints one line: how many type units differ, and in how many copies.
-fn warn_once<W: Write>(
-    alloc: Global,
-    differing: &[DebugTypeSignature],
-    lines: &mut W,
-) -> Result<(), Failure>
-    ensures { IfErr result IsOfWriting }
+/// Adds the line of one.
+fn put_one(signature: DebugTypeSignature, text: &mut String) -> Result<(), AllocError>
+    ensures { OnOk result (string_bytes text.new ≡ string_bytes text.old
+        ++ differing_line signature) }
 {
-    let Ok(units) = count_distinct(alloc, differing) else {
-        return Err(Failure::Memory);
-    };
-    let copies = differing.len();
-    let told = if units == 1 {
+    put_between(
+        "warning: type unit 0x",
+        signature.0,
+        " differs from the one kept\n",
+        text,
+    )
+}
+
+/// Adds an identifier between two texts.
+#[tactic(auto, using(thorin_errors::proofs::Hex::hex8_written))]
+fn put_between(before: &str, id: u64, after: &str, text: &mut String) -> Result<(), AllocError>
+    ensures { OnOk result (string_bytes text.new ≡ string_bytes text.old
+        ++ (before.now ++ (hex8 id ++ after.now))) }
+{
+    write!(text, "{before}{id:08x}{after}")
+}
+
+/// Adds one line: how many type units differ, and in how many copies.
+#[tactic(auto, unfolding(crate::specs::Warnings::count_line))]
+fn put_count(units: usize, copies: usize, text: &mut String) -> Result<(), AllocError>
+    ensures { OnOk result (string_bytes text.new ≡ string_bytes text.old
+        ++ count_line units copies) }
+{
+    if units == 1 {
         writeln!(
-            lines,
+            text,
             "warning: 1 type unit differs from the one kept, copies: {copies}"
         )
     } else {
         writeln!(
-            lines,
+            text,
             "warning: {units} type units differ from the ones kept, copies: {copies}"
         )
-    };
-    match told {
-        Ok(()) => Ok(()),
-        Err(_) => Err(Failure::Line),
     }
 }
 

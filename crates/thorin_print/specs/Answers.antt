@@ -49,6 +49,12 @@ IsOfPrinting failures.Line = Unit {0}
 IsOfPrinting failures.Memory = Unit {0}
 IsOfPrinting _ = ⊥
 
+-- the same where what was to take the line knows that it failed
+abbrev pub FailsBy : (failed : Type 0) → Failure → Type 0
+FailsBy failed failures.Line = failed
+FailsBy failed failures.Memory = Unit {0}
+FailsBy failed _ = ⊥
+
 -- a text was printed, or something of it or nothing
 abbrev pub Prints : (text : List ℕ) → (old new : Option (List ℕ)) → Outcome
     → Type 0

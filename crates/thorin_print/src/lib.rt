@@ -3,12 +3,14 @@
 #![tactic(auto)]
 
 mod form;
+mod line_output;
 mod output;
 mod showing;
 mod spelled;
 mod telling;
 
 pub use form::Form;
+pub use line_output::{LineOutput, WatchedLines};
 pub use output::{Failure, answer, answer_bytes, buffer, flush, print, report, show};
 pub use showing::{shown, shown_briefly};
 pub use spelled::{put_spelled, put_spelled_or};

@@ -4,6 +4,7 @@ ghost use Rattle.std.specs.Prelude.{◌≡◌, ◌⊎◌, ◌≤◌, length, tak
 ghost use Rattle.std.specs.Io.KnownBytes.{Appends, Keeps};
 ghost use Rattle.thorin_print.specs.Answers.{HasBeginning, Comes, exit_status};
 ghost use Rattle.thorin_print.specs.Answers.{IsOfPrinting, Prints};
+ghost use Rattle.thorin_print.specs.declared.output.Failure.TheVariants.{Memory};
 
 use dwp_base::SectionKind;
 use std::alloc::{AllocError, AllocFailed, Global};
@@ -100,22 +101,18 @@ impl fmt::Display for Failure {
 }
 
 impl From<AllocError> for Failure {
+    ghost from_gives = { λ _ failure. failure ≡ Memory };
+
     fn from(_e: AllocError) -> Failure {
         Failure::Memory
     }
 }
 
 impl<T: Drop> From<AllocFailed<T>> for Failure {
+    ghost from_gives = { λ _ failure. failure ≡ Memory };
+
     fn from(_e: AllocFailed<T>) -> Failure {
         Failure::Memory
-    }
-}
-
-/// What came of printing a line.
-pub(crate) fn written(outcome: io::Result<()>) -> Result<(), Failure> {
-    match outcome {
-        Ok(()) => Ok(()),
-        Err(_) => Err(Failure::Line),
     }
 }
 

@@ -36,6 +36,7 @@ returns-clause-took g c =
 pub returns-in_err-take_split-clause-told : goal.returns-in_err-take_split-clause-told
 returns-in_err-take_split-clause-told g c =
     let p = err_from_is_err_and c.from_residual.result c.from_residual.ensures.1 in
-    rw (p.1, p.2) (refuses_by g.E.Write.contents c.take_split.new.err (stops_among
+    rw (p.1, p.2) (refuses_by g.E.LineOutput.contents g.E.LineOutput.failed
+    c.take_split.new.err (stops_among
     c.args.members.now c.loop-member.member-index none c.loop-member-test.true
     c.loop-member.invariant) c.in_err-take_split.field-0.0 c.in_err-take_split.ensures.told)

@@ -13,10 +13,12 @@ returns-in-Ok-clause-took g c =
     }) (rw c.as_slice.ensures.value at c.take_listed.ensures.took)
 
 pub returns-in-Ok-clause-told : goal.returns-in-Ok-clause-told
-returns-in-Ok-clause-told g c = err_by g.E.Write.contents c.take_listed.new.err
+returns-in-Ok-clause-told g c = err_by g.E.LineOutput.contents g.E.LineOutput.failed
+    c.take_listed.new.err
     (among c.in-Ok.ensures) c.take_listed.result
     (rw c.as_slice.ensures.value at c.take_listed.ensures.told)
 
 pub returns-in-Err-clause-told : goal.returns-in-Err-clause-told
-returns-in-Err-clause-told g c = refuses_by g.E.Write.contents c.malformed.new.err
+returns-in-Err-clause-told g c = refuses_by g.E.LineOutput.contents g.E.LineOutput.failed
+    c.malformed.new.err
     (bad c.in-Err.ensures) c.malformed.result c.malformed.ensures

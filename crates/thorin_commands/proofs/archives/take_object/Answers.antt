@@ -9,6 +9,6 @@ returns-clause-took g c =
     rw e at c.take_bytes-outcome.ensures.took) c.settle.ensures.took
 
 pub returns-clause-told : goal.returns-clause-told
-returns-clause-told g c = err_by g.E.Write.contents c.settle.new.err
+returns-clause-told g c = err_by g.E.LineOutput.contents g.E.LineOutput.failed c.settle.new.err
     (reason_by c.take_bytes-outcome.result c.take_bytes-outcome.ensures.refused)
     c.settle.result c.settle.ensures.told

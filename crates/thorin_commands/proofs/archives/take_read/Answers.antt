@@ -9,7 +9,8 @@ returns-then-is_archive-clause-took g c = on_ok_weaker c.take_members.result
     (took_archive c.requires.opens c.requires.offered) c.take_members.ensures.took
 
 pub returns-then-is_archive-clause-told : goal.returns-then-is_archive-clause-told
-returns-then-is_archive-clause-told g c = err_by g.E.Write.contents c.take_members.new.err
+returns-then-is_archive-clause-told g c = err_by g.E.LineOutput.contents g.E.LineOutput.failed
+    c.take_members.new.err
     (archive c.requires.opens c.requires.offered
     (search (rules, c.is_archive.ensures, c.if-is_archive)))
     c.take_members.result c.take_members.ensures.told
@@ -20,7 +21,8 @@ returns-else-is_archive-clause-took g c =
     (search (rules, c.is_archive.ensures, c.if-is_archive))) c.take_object.ensures.took
 
 pub returns-else-is_archive-clause-told : goal.returns-else-is_archive-clause-told
-returns-else-is_archive-clause-told g c = err_by g.E.Write.contents c.take_object.new.err
+returns-else-is_archive-clause-told g c = err_by g.E.LineOutput.contents g.E.LineOutput.failed
+    c.take_object.new.err
     (plain c.requires.opens c.requires.offered
     (search (rules, c.is_archive.ensures, c.if-is_archive)))
     c.take_object.result c.take_object.ensures.told

@@ -54,13 +54,15 @@ returns-in-Ok-clause-packed g c =
     c.finished.ensures.finished c.finished.ensures.packaged
 
 pub returns-in-Ok-clause-told : goal.returns-in-Ok-clause-told
-returns-in-Ok-clause-told g c = err_by g.E.Write.contents c.finished.new.err
+returns-in-Ok-clause-told g c = err_by g.E.LineOutput.contents g.E.LineOutput.failed
+    c.finished.new.err
     (finishing {declines = g.I.InputReader.declines c.args.inputs.now} c.args.telling.partial
     c.args.list.now c.fill.new.builder.state
     (rw c.new-builder.ensures.state at c.in-Ok.ensures.fills))
     c.finished.result c.finished.ensures.told
 
 pub returns-in-Err-clause-told : goal.returns-in-Err-clause-told
-returns-in-Err-clause-told g c = refuses_by g.E.Write.contents c.fill.new.err
+returns-in-Err-clause-told g c = refuses_by g.E.LineOutput.contents
+    g.E.LineOutput.failed c.fill.new.err
     (taking c.args.telling.partial c.args.list.now) c.in-Err.refusal
     (rw c.new-builder.ensures.state at c.in-Err.ensures.told)

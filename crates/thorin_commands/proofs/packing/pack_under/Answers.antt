@@ -1,14 +1,15 @@
 use Rattle.std.proofs.Common.{inr, rules}
 use Rattle.thorin_commands.proofs.Puts.{done_packing, failed_packing}
+use Rattle.thorin_commands.proofs.Whys.{of_writing, why_writing}
 use Rattle.thorin_commands.proofs.packing.pack_under.Goals as goal
 
-pub returns-in-Ok-write_and_warn-clause-comes : goal.returns-in-Ok-write_and_warn-clause-comes
-returns-in-Ok-write_and_warn-clause-comes g c = done_packing _ _ _ _ _ _ _ _ c.in-Ok.ensures.packed
-    c.requires c.in-Ok-write_and_warn.ensures.done
+pub returns-in-Ok-write_then_warn-clause-comes : goal.returns-in-Ok-write_then_warn-clause-comes
+returns-in-Ok-write_then_warn-clause-comes g c = done_packing _ _ _ _ _ _ _ _ c.in-Ok.ensures.packed
+    c.requires c.in-Ok-write_then_warn.ensures.done
 
-pub returns-in-Ok-write_and_warn-clause-apart : goal.returns-in-Ok-write_and_warn-clause-apart
-returns-in-Ok-write_and_warn-clause-apart g c = λ forced.
-    let apart = c.overwrites.ensures (search (rules, c.if-overwrites)) forced in
+pub returns-in-Ok-write_then_warn-clause-apart : goal.returns-in-Ok-write_then_warn-clause-apart
+returns-in-Ok-write_then_warn-clause-apart g c = λ forced.
+    let apart = c.overwrites.ensures.apart (search (rules, c.if-overwrites)) forced in
     inr (record {
       name = c.args.output.now;
       named = c.requires;
@@ -18,11 +19,26 @@ returns-in-Ok-write_and_warn-clause-apart g c = λ forced.
 
 pub returns-in-Ok-clause-comes : goal.returns-in-Ok-clause-comes
 returns-in-Ok-clause-comes g c = failed_packing _ _ _ _ _ _ _ _ c.in-Ok.ensures.packed c.requires
-    c.in-Err-write_and_warn.ensures.failed
+    (of_writing _ _ _ c.in-Err-write_then_warn.failure c.in-Err-write_then_warn.ensures.why)
+    c.in-Err-write_then_warn.ensures.begun
+
+pub returns-in-Ok-clause-told : goal.returns-in-Ok-clause-told
+returns-in-Ok-clause-told g c = why_writing _ _ _ _ _ _ _ _ _ c.in-Ok.ensures.packed c.requires
+    c.in-Err-write_then_warn.failure c.in-Err-write_then_warn.ensures.why
+
+pub returns-then-overwrites-clause-told : goal.returns-then-overwrites-clause-told
+returns-then-overwrites-clause-told g c = (
+  c.overwrites.ensures.forced (search (rules, c.if-overwrites)),
+  record {
+    name = c.args.output.now;
+    named = c.requires;
+    leads = c.overwrites.ensures.leads (search (rules, c.if-overwrites));
+  },
+)
 
 pub returns-in-Ok-clause-apart : goal.returns-in-Ok-clause-apart
 returns-in-Ok-clause-apart g c = λ forced.
-    let apart = c.overwrites.ensures (search (rules, c.if-overwrites)) forced in
+    let apart = c.overwrites.ensures.apart (search (rules, c.if-overwrites)) forced in
     inr (record {
       name = c.args.output.now;
       named = c.requires;

@@ -14,7 +14,8 @@ returns-clause-packed g c = unsplit_made (g.I.InputReader.offer c.args.inputs.no
     c.packed_inputs.ensures.packed
 
 pub returns-clause-told : goal.returns-clause-told
-returns-clause-told g c = told_unsplit g.E.Write.contents c.packed_inputs.new.err
+returns-clause-told g c = told_unsplit g.E.LineOutput.contents g.E.LineOutput.failed
+    c.packed_inputs.new.err
     (g.I.InputReader.offer c.args.inputs.now) (g.I.InputReader.declines c.args.inputs.now)
     c.args.packing.now (g.I.Inputs.opens c.args.inputs.now) (g.I.Inputs.manner c.args.inputs.now)
     c.as_slice.result.now c.requires.opens c.requires.manner c.in-Some.executable.now

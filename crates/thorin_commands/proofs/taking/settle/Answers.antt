@@ -4,5 +4,6 @@ use Rattle.thorin_commands.proofs.taking.settle.Goals as goal
 pub returns-in_ok-tell_refused-in-Err-clause-told :
     goal.returns-in_ok-tell_refused-in-Err-clause-told
 returns-in_ok-tell_refused-in-Err-clause-told g c =
-    told_reason g.E.Write.contents c.tell_refused.new.err c.args.outcome c.in-Err.why c.in-Err.is
-    c.in_ok-tell_refused-in-Err.ensures
+    told_reason g.E.LineOutput.contents g.E.LineOutput.failed c.tell_refused.new.err c.args.outcome
+    c.in-Err.why c.in-Err.is
+    c.in_ok-tell_refused-in-Err.ensures.told

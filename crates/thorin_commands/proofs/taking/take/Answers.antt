@@ -9,5 +9,6 @@ returns-in_default-clause-took g c =
     on_ok_weaker c.take_alone.result (took_alone (search rules)) c.take_alone.ensures.took
 
 pub returns-in_default-clause-told : goal.returns-in_default-clause-told
-returns-in_default-clause-told g c = err_by g.E.Write.contents c.take_alone.new.err
+returns-in_default-clause-told g c = err_by g.E.LineOutput.contents g.E.LineOutput.failed
+    c.take_alone.new.err
     (alone (search rules)) c.take_alone.result c.take_alone.ensures.told

@@ -25,6 +25,7 @@ pub returns-in_err-take-clause-told : goal.returns-in_err-take-clause-told
 returns-in_err-take-clause-told g c =
     let none : Input = Object (record { text = record { ref_ptr = (0, 0); now = [] } }) in
     let p = err_from_is_err_and c.from_residual.result c.from_residual.ensures.1 in
-    rw (p.1, p.2) (refuses_by g.E.Write.contents c.take.new.err (stops_at c.args.list.now
+    rw (p.1, p.2) (refuses_by g.E.LineOutput.contents g.E.LineOutput.failed c.take.new.err
+    (stops_at c.args.list.now
     c.loop-input.input-index none c.loop-input-test.true c.loop-input.invariant)
     c.in_err-take.field-0.0 c.in_err-take.ensures.told)

@@ -9,7 +9,7 @@ returns-clause-took g c =
     rw e at c.take_input-outcome.ensures.taken) c.settle.ensures.took
 
 pub returns-clause-told : goal.returns-clause-told
-returns-clause-told g c = err_by g.E.Write.contents c.settle.new.err
+returns-clause-told g c = err_by g.E.LineOutput.contents g.E.LineOutput.failed c.settle.new.err
     (reason_by c.take_input-outcome.result (refused (g.I.InputReader.offer c.args.inputs.now)
     (g.I.InputReader.declines c.args.inputs.now) c.args.input c.args.builder.now.state
     c.take_input-outcome.new.builder.state c.take_input-outcome.result
