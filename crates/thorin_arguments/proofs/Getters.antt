@@ -9,7 +9,7 @@ use Rattle.clap.specs.Matches.{ReadsOne, one_text}
 use Rattle.clap.specs.Walk.{Text, rows_of}
 use Rattle.clap.specs.declared.parser.matches.Found.{Found}
 use Rattle.clap.proofs.WalkLemmas.{one_text-rows}
-use Rattle.thorin_arguments.specs.Asked.{is_set}
+use Rattle.thorin_arguments.specs.Flags.{is_set}
 
 abbrev is_true : Text → Bool
 is_true text = bytes_eq text (codes "true")

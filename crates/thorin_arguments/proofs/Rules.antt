@@ -3,27 +3,22 @@ use Rattle.std.proofs.Common.{◌≡◌, ◌∙◌, ◌&&◌, ◌++◌, ap, sym,
 use Rattle.std.proofs.Common.{ap₂, is_some, length, map, not, take, ℕ, ◌+◌, ◌<◌}
 use Rattle.std.specs.Prelude.{fold}
 use Rattle.std.specs.List.{list_all}
-use Rattle.std.specs.Borrow.{Bor}
 use Rattle.std.proofs.Math.ListN.{get_or}
 use Rattle.std.proofs.lemmas.List.{append-nil, append_assoc, map-append, take_more}
-use Rattle.clap.specs.Words.{AddsArg, AddsConflicts, AddsInTurn, AddsRequiredUnless, AddsSubcommand}
+use Rattle.clap.specs.Words.{AddsArg, AddsInTurn, AddsSubcommand}
 use Rattle.clap.specs.Words.{App, Shape, app_of, rule_of, shape_of, with_rule, with_subcommand}
-use Rattle.clap.specs.Walk.{Rule, Text, is_empty}
+use Rattle.clap.specs.Walk.{Rule, is_empty}
 use Rattle.clap.specs.declared.builder.arg.Arg.{Arg}
 use Rattle.clap.specs.declared.builder.command.Command.{Command}
-use Rattle.clap.proofs.SimpleLemmas.{is_false, is_nil}
+use Rattle.clap.proofs.SimpleLemmas.{is_false}
 use Rattle.clap.proofs.WalkLemmas.{both}
-use Rattle.thorin_arguments.specs.Rules.{beside, made, rule_in}
+use Rattle.thorin_arguments.specs.Rules.{made, rule_in}
 use Rattle.thorin_arguments.specs.declared.command.Word.{Word}
 use Rattle.thorin_arguments.specs.declared.command.Word.TheVariants as words
 
 and-left : (a b : Bool) → a ≡ true → (a && b) ≡ b
 and-left true b e = refl
 and-left false b e = absurd cc
-
-and-right : (a b : Bool) → b ≡ true → (a && b) ≡ a
-and-right true b e = e
-and-right false b e = refl
 
 last-of-ten : (a b c d e f g h i j : Bool)
     → (a && (b && (c && (d && (e && (f && (g && (h && (i && j))))))))) ≡ true → j ≡ true
@@ -37,42 +32,6 @@ last-of-ten a b c d e f g h i j x =
     let v = both g (h && (i && j)) u.1 in
     let w = both h (i && j) v.1 in
     (both i j w.1).1
-
--- of seven that are true, the sixth may be another
-others : (a b c d e f g : Bool) → (a && (b && (c && (d && (e && (f && g)))))) ≡ true
-    → (f ≡ true) × ((x : Bool) → (a && (b && (c && (d && (e && (x && g)))))) ≡ x)
-others a b c d e f g h =
-    let p = both a (b && (c && (d && (e && (f && g))))) h in
-    let q = both b (c && (d && (e && (f && g)))) p.1 in
-    let r = both c (d && (e && (f && g))) q.1 in
-    let s = both d (e && (f && g)) r.1 in
-    let t = both e (f && g) s.1 in
-    let u = both f g t.1 in
-    (u.0, λ x. rw (p.0, q.0, r.0, s.0, t.0, u.1) (and-right x true refl))
-
--- a list that others were added to, which had none
-grown : {X : Type 0} (old new xs : List X) → is_empty old ≡ true → new ≡ old ++ xs
-    → is_empty new ≡ is_empty xs
-grown old new xs e h = ap is_empty (h ∙ ap (λ l. l ++ xs) (is_nil old e))
-
-module _ (old new : Arg) (r : Rule) (xs : List (Bor Text)) (is : rule_of old ≡ r)
-    (free : r.is_free ≡ true) where
-  pub conflicting : AddsConflicts old new xs → rule_of new ≡ beside xs r
-  conflicting h =
-      let p = both _ _ (ap (λ (x : Rule). x.is_free) is ∙ free) in
-      let q = both _ _ p.1 in
-      let left = and-left _ _ p.0 ∙ (and-right _ _ q.1 ∙ grown _ new.conflicts.items xs q.0 h.1) in
-      ap rule_of h.0 ∙ ((λ i. record (rule_of old) { is_free = left i }) ∙ ap (beside xs) is)
-
-  pub unless : AddsRequiredUnless old new xs → rule_of new ≡ beside xs r
-  unless h =
-      let left = others (not old.exclusive) (is_empty old.conflicts.items)
-      (is_empty old.needs.items) (is_empty old.r_ifs.items) (is_empty old.r_ifs_all.items)
-      (is_empty old.r_unless.items) (is_empty old.r_unless_all.items)
-      (ap (λ (x : Rule). x.is_free) is ∙ free) in
-      let none = left.1 (is_empty new.r_unless.items)
-      ∙ grown old.r_unless.items new.r_unless.items xs left.0 h.1 in
-      ap rule_of h.0 ∙ ((λ i. record (rule_of old) { is_free = none i }) ∙ ap (beside xs) is)
 
 -- a simple argument isn't global
 local : (x : Arg) → (rule_of x).is_simple ≡ true → x.global ≡ false
@@ -99,13 +58,11 @@ folded a (r ∷ rules) = folded (with_rule a r) rules
     (append_assoc a.top.rules (r ∷ []) rules)
 
 simple : (word : Word) → (rule_in word).is_simple ≡ true
-simple (words.Output others) = refl
+simple words.Output = refl
 simple (words.Executables help) = refl
 simple words.Verbose = refl
 simple (words.Flag name help) = refl
-simple (words.FlagAlone name help others) = refl
 simple (words.Value name value help) = refl
-simple (words.Alone name value help others) = refl
 simple (words.Values name value help) = refl
 simple (words.Choice name value help values) = refl
 simple words.Inputs = refl

@@ -4,15 +4,15 @@ use Rattle.std.specs.Prelude.{◌≡◌, ℕ, Bool, true, false, ◌||◌, List,
 use Rattle.std.specs.Prelude.{String, string_bytes, ◌⊎◌, ⊤, codes, map, option_map, unwrap_or}
 use Rattle.std.specs.Borrow.{Bor}
 use Rattle.std.specs.declared.alloc.Global.{Global}
-use Rattle.std.specs.Option.{option_map_or}
-use Rattle.std.specs.Str.{bytes_eq}
-use Rattle.clap.specs.Walk.{Row, Text, all_of, first_of, one_of}
+use Rattle.clap.specs.Walk.{Row, Text, all_of, first_of}
 use Rattle.thorin_arguments.specs.declared.asking.PackArguments.{PackArguments}
 use Rattle.thorin_arguments.specs.declared.asking.FindArguments.{FindArguments}
 use Rattle.thorin_arguments.specs.declared.asking.ListArguments.{ListArguments}
 use Rattle.thorin_arguments.specs.declared.asking.CheckArguments.{CheckArguments}
-use Rattle.thorin_arguments.specs.Grammar.{AreMatchesOf, AreRefused}
+use Rattle.thorin_arguments.specs.Flags.{is_set}
+use Rattle.thorin_arguments.specs.Grammar.{AreMatchesOf, AreRefused, AskForText}
 use Rattle.thorin_arguments.specs.Peers.{is_peer}
+use Rattle.thorin_arguments.specs.Wrong.{is_wrong}
 
 -- what is called: a command with its inputs and settings; or a text is shown that the words ask
 -- for, they are refused, or it is told that memory ran out
@@ -36,10 +36,6 @@ IsWord rows name word = word.now ≡ unwrap_or (first_of name rows) []
 -- the values of a name, in order, where any are given
 abbrev pub AreValues : List Row → Text → Option (Bor (List (Bor Text))) → Type 0
 AreValues rows name values = option_map (λ s. map (λ v. v.now) s.now) values ≡ all_of name rows
-
--- whether an option without a value is given
-abbrev pub is_set : List Row → Text → Bool
-is_set rows name = option_map_or (λ text. bytes_eq text (codes "true")) (one_of name rows) false
 
 -- the inputs and settings of `pack`; a peer decompresses without being told
 pub record AsksPack (of_peer : Bool) (rows : List Row) (a : PackArguments) : Type 0 where
@@ -117,11 +113,18 @@ Asks true rows command call = AsksPeer rows call
 Asks false rows command call = AsksIn command call
 
 -- no command is called
-abbrev pub IsTold : Call → Type 0
-IsTold Shows = ⊤
-IsTold Refuses = ⊤
-IsTold LacksMemory = ⊤
-IsTold _ = ⊥
+abbrev pub IsUncalled : Call → Type 0
+IsUncalled Shows = ⊤
+IsUncalled Refuses = ⊤
+IsUncalled LacksMemory = ⊤
+IsUncalled _ = ⊥
+
+-- a text is shown; words are refused, or memory ran out for that
+abbrev pub IsShown : Call → Type 0
+IsShown call = call ≡ Shows
+
+abbrev pub IsRefusal : Call → Type 0
+IsRefusal call = (call ≡ Refuses) ⊎ (call ≡ LacksMemory)
 
 -- the status that is answered where no command is called: 2 where words are refused, 0 where a text
 -- is shown, and 1 where that can't be printed, or memory ran out
@@ -146,27 +149,29 @@ abbrev pub has_peer : List Text → Bool
 has_peer [] = false
 has_peer (program ∷ line) = is_peer program
 
--- a call that words ask for: by their matches, as the grammar has them; a peer's by some matches
+-- a call that words ask for: by their matches, as the grammar has them, whose options go together;
+-- a peer's by some matches
 abbrev pub IsAsked : (of_peer : Bool) → List Text → Call → Type 0
 IsAsked true words call = (rows : List Row) × AsksPeer rows call
 IsAsked false words call = (rows : List Row) × (command : Option (Text × List Row))
-    × AreMatchesOf words rows command × AsksIn command call
+    × AreMatchesOf words rows command × (is_wrong command ≡ false) × AsksIn command call
 
--- words that may be refused
-abbrev pub MayBeRefused : (of_peer : Bool) → List Text → Type 0
-MayBeRefused true words = ⊤
-MayBeRefused false words = AreRefused words
+-- no command is called, and why: help is asked for or the version, the words are refused, or memory
+-- ran out
+abbrev pub IsToldOf : List Text → Call → Type 0
+IsToldOf words Shows = AskForText words
+IsToldOf words Refuses = AreRefused words
+IsToldOf words LacksMemory = ⊤
+IsToldOf words _ = ⊥
 
--- no command is called, and it is told why
-abbrev pub IsToldOf : (of_peer : Bool) → List Text → Call → Type 0
-IsToldOf of_peer words Shows = MayBeRefused of_peer words
-IsToldOf of_peer words Refuses = MayBeRefused of_peer words
-IsToldOf of_peer words LacksMemory = ⊤
-IsToldOf of_peer words _ = ⊥
+-- the same of a line of a peer's, or of one of `thorin`
+abbrev pub IsTold : (of_peer : Bool) → List Text → Call → Type 0
+IsTold true words call = IsUncalled call
+IsTold false words call = IsToldOf words call
 
--- what is done with a line of a peer's, or of one of `thorin`
+-- what is done with a line
 abbrev pub IsCallBy : (of_peer : Bool) → List Text → Call → Type 0
-IsCallBy of_peer words call = IsToldOf of_peer words call ⊎ IsAsked of_peer words call
+IsCallBy of_peer words call = IsTold of_peer words call ⊎ IsAsked of_peer words call
 
 -- the same, by the program's name
 abbrev pub IsCallOf : List Text → Call → Type 0

@@ -1,13 +1,17 @@
 -- The command lines of `thorin`, as clap takes them: its commands, and the options and words of
 -- each.
-use Rattle.std.specs.Prelude.{◌≡◌, ℕ, true, false, List, [], ◌∷◌, Option, Some, codes, option_map}
+use Rattle.std.specs.Prelude.{◌≡◌, ◌⊎◌, ℕ, true, false, List, [], ◌∷◌, Option, Some, codes}
 use Rattle.std.specs.Borrow.{Bor}
 use Rattle.clap.specs.Lexer.{usize_max}
+use Rattle.clap.specs.Faults.{fault_of}
+use Rattle.clap.specs.Kinds.{IsAmong}
 use Rattle.clap.specs.Simple.{App, Shape, matches_of, new_rule, new_shape, subcommand_of}
-use Rattle.clap.specs.Takes.{takes}
 use Rattle.clap.specs.Walk.{Row, Rule, Text, texts}
 use Rattle.clap.specs.declared.builder.action.ArgAction.TheVariants.{Append, Set, SetTrue}
 use Rattle.clap.specs.declared.builder.value_parser.ValueParser.TheVariants as parsers
+use Rattle.clap.specs.declared.error.kind.ErrorKind.{ErrorKind}
+use Rattle.clap.specs.declared.error.kind.ErrorKind.TheVariants as kinds
+use Rattle.thorin_arguments.specs.Wrong.{is_wrong}
 
 -- ---- kinds of words
 
@@ -43,10 +47,6 @@ places name = record (new_rule name) {
 abbrev pub also : ℕ → Rule → Rule
 also letter rule = record rule { short = Some letter }
 
--- whether it must be there, or may, depends on others
-abbrev pub bound : Rule → Rule
-bound rule = record rule { is_free = false }
-
 -- ---- the commands
 
 abbrev pub exec : Rule
@@ -54,20 +54,20 @@ exec = also 101 (repeated (codes "exec"))
 
 abbrev pub pack_words : Bor (List (Bor Text)) → List Rule
 pack_words which =
-    bound (also 111 (valued (codes "output"))) ∷ exec ∷ flag (codes "skip-missing")
+    also 111 (valued (codes "output")) ∷ exec ∷ flag (codes "skip-missing")
     ∷ flag (codes "skip-nameless") ∷ flag (codes "partial") ∷ flag (codes "missing")
     ∷ repeated (codes "prefix-map") ∷ flag (codes "force") ∷ flag (codes "decompress")
-    ∷ flag (codes "archives") ∷ flag (codes "allow-overlap") ∷ bound (flag (codes "last-macros"))
+    ∷ flag (codes "archives") ∷ flag (codes "allow-overlap") ∷ flag (codes "last-macros")
     ∷ flag (codes "no-macros") ∷ chosen (codes "warnings") which ∷ also 118 (flag (codes "verbose"))
     ∷ places (codes "input") ∷ []
 
 abbrev pub find_words : List Rule
 find_words = place (codes "file") ∷ place (codes "kind") ∷ place (codes "id")
-    ∷ valued (codes "string") ∷ bound (valued (codes "section")) ∷ flag (codes "decompress")
+    ∷ valued (codes "string") ∷ valued (codes "section") ∷ flag (codes "decompress")
     ∷ flag (codes "json") ∷ []
 
 abbrev pub list_words : List Rule
-list_words = flag (codes "sizes") ∷ flag (codes "names") ∷ bound (flag (codes "columns"))
+list_words = flag (codes "sizes") ∷ flag (codes "names") ∷ flag (codes "columns")
     ∷ flag (codes "decompress") ∷ flag (codes "json") ∷ place (codes "file") ∷ []
 
 abbrev pub check_words : List Rule
@@ -99,23 +99,36 @@ AreKinds which = texts which.now ≡ codes "each" ∷ codes "once" ∷ codes "no
 abbrev pub IsThorin : App → Type 0
 IsThorin app = (which : Bor (List (Bor Text))) × AreKinds which × (app ≡ thorin which)
 
--- ---- words
+-- ---- what words say
 
--- what is found of words: the matches of the line, and the command in it with its own
+-- kinds of errors by which a text is shown that the words ask for
+abbrev pub IsText : ErrorKind → Type 0
+IsText kind = (kind ≡ kinds.DisplayHelp) ⊎ (kind ≡ kinds.DisplayVersion)
+
+-- words that the grammar doesn't take, since they have an error of such a kind
+abbrev pub HaveError : (ErrorKind → Type 0) → List Text → Type 0
+HaveError IsSuch words = (which : Bor (List (Bor Text))) × AreKinds which
+    × (kind : ErrorKind) × IsAmong kind (fault_of (thorin which) words) × IsSuch kind
+
+-- words that the grammar takes, with their matches: those of the line, and the command in it with
+-- its own
 pub record AreMatchesOf (words : List Text) (rows : List Row) (command : Option (Text × List Row))
     : Type 0 where
   pub which : Bor (List (Bor Text))
   pub kinds : AreKinds which
+  pub taken : fault_of (thorin which) words ≡ []
   pub rows_are : rows ≡ matches_of (thorin which) words
   pub command_is : command ≡ subcommand_of (thorin which) words
 
--- the command in a line is `pack`
-abbrev pub IsPack : Option (Text × List Row) → Type 0
-IsPack command = option_map (λ c. c.0) command ≡ Some (codes "pack")
+-- words that the grammar takes, and whose options don't go together
+abbrev pub AreWrong : List Text → Type 0
+AreWrong words = (rows : List Row) × (command : Option (Text × List Row))
+    × AreMatchesOf words rows command × (is_wrong command ≡ true)
 
--- words that may be refused: those that the grammar takes only where they ask for packing (the
--- words of `check` are taken by their grammar alone; where other commands have words that are bound
--- to others, it takes none)
+-- words that ask for help or the version
+abbrev pub AskForText : List Text → Type 0
+AskForText words = HaveError IsText words
+
+-- words that are refused: the grammar doesn't take them, or they are wrong
 abbrev pub AreRefused : List Text → Type 0
-AreRefused words = (which : Bor (List (Bor Text))) × AreKinds which
-    × (takes (thorin which) words ≡ true → IsPack (subcommand_of (thorin which) words))
+AreRefused words = HaveError (λ kind. ¬ IsText kind) words ⊎ AreWrong words

@@ -1,26 +1,19 @@
 -- The words of a command line as this program lists them, in clap's terms.
-use Rattle.std.specs.Prelude.{List, codes, map}
+use Rattle.std.specs.Prelude.{codes, map}
 use Rattle.clap.specs.Simple.{Shape, shape_of}
-use Rattle.clap.specs.Walk.{Rule, is_empty}
+use Rattle.clap.specs.Walk.{Rule}
 use Rattle.clap.specs.declared.builder.command.Command.{Command}
 use Rattle.thorin_arguments.specs.Grammar as grammar
 use Rattle.thorin_arguments.specs.declared.command.Word.{Word}
 use Rattle.thorin_arguments.specs.declared.command.Word.TheVariants as words
 use Rattle.thorin_arguments.specs.declared.command.Line.{Line}
 
--- one beside which others count, where there are any
-abbrev pub beside : {X : Type 0} → List X → Rule → Rule
-beside others rule = record rule { is_free = is_empty others }
-
 abbrev pub rule_in : Word → Rule
-rule_in (words.Output others) =
-    beside others.now (grammar.also 111 (grammar.valued (codes "output")))
+rule_in words.Output = grammar.also 111 (grammar.valued (codes "output"))
 rule_in (words.Executables help) = grammar.exec
 rule_in words.Verbose = grammar.also 118 (grammar.flag (codes "verbose"))
 rule_in (words.Flag name help) = grammar.flag name.now
-rule_in (words.FlagAlone name help others) = beside others.now (grammar.flag name.now)
 rule_in (words.Value name value help) = grammar.valued name.now
-rule_in (words.Alone name value help others) = beside others.now (grammar.valued name.now)
 rule_in (words.Values name value help) = grammar.repeated name.now
 rule_in (words.Choice name value help values) = grammar.chosen name.now values
 rule_in words.Inputs = grammar.places (codes "input")

@@ -17,21 +17,16 @@ const VERSION: &'static str = "1.2.0";
 /// A word that a command line may have.
 #[derive(Clone, Copy)]
 enum Word {
-    /// `-o OUT`, which must be there, unless an option of one of these names is.
-    Output(&'static [&'static str]),
+    /// `-o OUT`.
+    Output,
     /// `-e EXEC`, as often as one likes, with its help.
     Executables(&'static str),
     /// `-v`.
     Verbose,
     /// An option without a value: its name and its help.
     Flag(&'static str, &'static str),
-    /// The same, beside which others can't stand: its name, its help, the others.
-    FlagAlone(&'static str, &'static str, &'static [&'static str]),
     /// An option with any value: its name, how help shows the value, its help.
     Value(&'static str, &'static str, &'static str),
-    /// The same, beside which another can't stand: its name, how help shows the value, its help,
-    /// the others.
-    Alone(&'static str, &'static str, &'static str, &'static [&'static str]),
     /// An option with a value, as often as one likes: its name, how help shows the value, its help.
     Values(&'static str, &'static str, &'static str),
     /// An option with one of some values: its name, how help shows the value, its help, the values.
@@ -46,6 +41,8 @@ enum Word {
 #[derive(Clone, Copy)]
 struct Line {
     name: &'static str,
+    /// The program's name and its own.
+    full_name: &'static str,
     about: &'static str,
     below: &'static str,
     words: &'static [Word],
@@ -81,17 +78,15 @@ const SKIP_NAMELESS: Word = Word::Flag("skip-nameless", "Skip units of EXECs tha
 
 const JSON: Word = Word::Flag("json", "Print a JSON object a line");
 
-const SECTION: Word = Word::Alone(
+const SECTION: Word = Word::Value(
     "section",
     "SECTION",
     "Write the unit's bytes of a section instead, as they are",
-    &["string", "json"],
 );
 
-const COLUMNS: Word = Word::FlagAlone(
+const COLUMNS: Word = Word::Flag(
     "columns",
     "Print sizes in columns, and each total in per cent of the file",
-    &["names", "json"],
 );
 
 const OVERLAP: Word = Word::Flag(
@@ -99,10 +94,9 @@ const OVERLAP: Word = Word::Flag(
     "Take inputs that make a package larger than they are",
 );
 
-const LAST_MACROS: Word = Word::FlagAlone(
+const LAST_MACROS: Word = Word::Flag(
     "last-macros",
     "Keep only the last .debug_macro.dwo of each object",
-    &["no-macros"],
 );
 
 const NO_MACROS: Word = Word::Flag("no-macros", "Leave out .debug_macro.dwo of all objects");
@@ -138,10 +132,11 @@ const WARNINGS: Word = Word::Choice(
 const COMMANDS: [Line; 4] = [
     Line {
         name: "pack",
+        full_name: "thorin pack",
         about: "Pack objects into a package",
         below: PACK_EXAMPLES,
         words: &[
-            Word::Output(&["missing"]),
+            Word::Output,
             PACKED,
             SKIP_MISSING,
             SKIP_NAMELESS,
@@ -161,6 +156,7 @@ const COMMANDS: [Line; 4] = [
     },
     Line {
         name: "find",
+        full_name: "thorin find",
         about: "Show what a package has of a unit",
         below: FIND_EXAMPLES,
         words: &[
@@ -179,6 +175,7 @@ const COMMANDS: [Line; 4] = [
     },
     Line {
         name: "list",
+        full_name: "thorin list",
         about: "List the units of a package",
         below: LIST_EXAMPLES,
         words: &[
@@ -195,6 +192,7 @@ const COMMANDS: [Line; 4] = [
     },
     Line {
         name: "check",
+        full_name: "thorin check",
         about: "Check a package and report its errors",
         below: CHECK_EXAMPLES,
         words: &[
@@ -209,7 +207,7 @@ const COMMANDS: [Line; 4] = [
 
 /// The words of a peer: those of `pack`, some of which say what a peer does in any case.
 const PEER: [Word; 17] = [
-    Word::Output(&["exec", "missing"]),
+    Word::Output,
     PACKED,
     Word::Flag("verify-only", "Check the package OUT instead of writing it"),
     SKIP_MISSING,
@@ -265,14 +263,39 @@ pub(crate) fn command<'a>(alloc: Global, version: &'a str) -> Result<Command<'a>
     .bin_name("thorin")
 }
 
-/// The command line of `thorin pack` alone, as its usage is shown.
-pub(crate) fn pack_command<'a>(alloc: Global) -> Result<Command<'a>, AllocError> {
-    command_of(alloc, &COMMANDS[0])?.bin_name("thorin pack")
+/// The command line of one of the commands alone, as its usage is shown.
+pub(crate) fn part<'a>(alloc: Global, name: &str) -> Result<Command<'a>, AllocError> {
+    match COMMANDS.iter().find(|line| line.name == name) {
+        Some(line) => command_of(alloc, line)?.bin_name(line.full_name),
+        None => command_of(alloc, &COMMANDS[0]),
+    }
 }
 
-/// Whether a word names a command.
-pub(crate) fn is_command(word: &str) -> bool {
-    COMMANDS.iter().any(|line| line.name == word)
+/// The names of the commands that take an option, `-v` or `--verbose` say; none where it is of none.
+pub(crate) fn takers_of(alloc: Global, option: &str) -> Result<String, AllocError> {
+    let mut names = String::new(alloc);
+    for line in &COMMANDS {
+        if line.words.iter().any(|word| is_named(*word, option)) {
+            names.push_str(if names.is_empty() { "" } else { ", " })?;
+            names.push_str(line.name)?;
+        }
+    }
+    Ok(names)
+}
+
+/// Whether a word of a command line is the option of this name, behind its dashes.
+fn is_named(word: Word, option: &str) -> bool {
+    let (short, long) = match word {
+        Word::Output => ("-o", "output"),
+        Word::Executables(_) => ("-e", "exec"),
+        Word::Verbose => ("-v", "verbose"),
+        Word::Flag(name, _)
+        | Word::Value(name, _, _)
+        | Word::Values(name, _, _)
+        | Word::Choice(name, _, _, _) => ("", name),
+        Word::Inputs | Word::Place(_, _, _) => return false,
+    };
+    option == short || option.strip_prefix("--") == Some(long)
 }
 
 /// The command line of `dwp` and `llvm-dwp`, under one of these names. As there, the last of
@@ -336,33 +359,26 @@ fn args_of<'a>(alloc: Global, words: &[Word]) -> Result<Vec<Arg<'a>>, AllocError
 {
     let mut args = Vec::new(alloc);
     for word in words {
-        args.push(arg_of(alloc, *word)?)?;
+        args.push(arg_of(alloc, *word))?;
     }
     Ok(args)
 }
 
 /// A word in clap's terms.
-fn arg_of<'a>(alloc: Global, word: Word) -> Result<Arg<'a>, AllocError>
-    ensures { IfOk result (λ arg. rule_of arg ≡ rule_in word) }
+fn arg_of<'a>(alloc: Global, word: Word) -> Arg<'a>
+    ensures { rule_of result ≡ rule_in word }
 {
-    let arg = match word {
-        Word::Output(others) => return output(alloc).required_unless_present_any(others),
+    match word {
+        Word::Output => output(alloc),
         Word::Executables(help) => executables(alloc, help),
         Word::Verbose => flag(alloc, "verbose", "Report each input").short('v'),
         Word::Flag(name, help) => flag(alloc, name, help),
-        Word::FlagAlone(name, help, others) => {
-            return flag(alloc, name, help).conflicts_with_all(others);
-        }
         Word::Value(name, value, help) => value_of(alloc, name, value, help),
-        Word::Alone(name, value, help, others) => {
-            return value_of(alloc, name, value, help).conflicts_with_all(others);
-        }
         Word::Values(name, value, help) => values(alloc, name, value, help),
         Word::Choice(name, value, help, values) => choice(alloc, name, value, help, values),
         Word::Inputs => inputs(alloc),
         Word::Place(name, value, help) => place(alloc, name, value, help),
-    };
-    Ok(arg)
+    }
 }
 
 fn output<'a>(alloc: Global) -> Arg<'a>

@@ -3,7 +3,8 @@
 ghost use Rattle.std.specs.Prelude.{◌≡◌, codes};
 ghost use Rattle.clap.specs.Words.{found_of, rows_of, subcommand_rows_of};
 ghost use Rattle.thorin_arguments.specs.Asked.{AreValues, Asks, AsksBy, AsksPack, Does, IsValue};
-ghost use Rattle.thorin_arguments.specs.Asked.{IsWord, is_set};
+ghost use Rattle.thorin_arguments.specs.Asked.{IsWord};
+ghost use Rattle.thorin_arguments.specs.Flags.{is_set};
 
 use crate::asking::{CheckArguments, Commands, FindArguments, ListArguments, PackArguments};
 use clap::ArgMatches;

@@ -7,6 +7,7 @@ mod commands;
 mod peers;
 mod reading;
 mod texts;
+mod wrong;
 
 pub use asking::{CheckArguments, Commands, FindArguments, ListArguments, PackArguments};
 pub use commands::dispatch;

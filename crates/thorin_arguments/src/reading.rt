@@ -1,28 +1,27 @@
 //! What a command line asks for.
 
-ghost use Rattle.std.specs.Prelude.{◌≡◌, ◌⊎◌, IfErr, IfOk, IfSome, false, is_some};
-ghost use Rattle.clap.specs.Words.{app_of, found_of, kind_of, rows_of, subcommand_rows_of};
-ghost use Rattle.clap.specs.declared.error.kind.ErrorKind.TheVariants.{OutOfMemory};
-ghost use Rattle.thorin_arguments.specs.Asked.{Does, IsCallBy, IsCallOf, IsTold, has_peer};
+ghost use Rattle.std.specs.Prelude.{◌≡◌, IfOk, false, is_some};
+ghost use Rattle.clap.specs.Words.{app_of, kind_of};
+ghost use Rattle.thorin_arguments.specs.Asked.{Does, IsCallBy, IsCallOf, IsRefusal, has_peer};
 ghost use Rattle.thorin_arguments.specs.Asked.{words_in};
-ghost use Rattle.thorin_arguments.specs.Grammar.{AreMatchesOf, AreRefused, IsPack, IsThorin};
+ghost use Rattle.thorin_arguments.specs.Grammar.{IsText, IsThorin};
+ghost use Rattle.thorin_arguments.specs.Reading.{IsReadAs, IsTested};
 
 use crate::asking::Commands;
 use crate::command;
-use crate::commands::{dispatch, has_flag, value_of, values_of};
+use crate::commands::dispatch;
 use crate::peers::is_peer;
+use crate::wrong::{Wrong, wrong_in, wrong_in_peer};
 use clap::error::ErrorKind;
 use clap::{ArgMatches, Command, Error};
 use std::alloc::{AllocError, Global};
 use thorin_words::printed;
 
-const NO_OUTPUT: &'static str = "--output <OUT> is required with more than one --exec <EXEC>";
+const PACK_TIP: &'static str = "packing is a command: 'thorin pack -o OUT ..'";
 
-const NO_PREFIX: &'static str = "the value of --prefix-map <FROM=TO> has no `=`";
+const CHECK_TIP: &'static str = "checking is a command: 'thorin check OUT -e EXEC'";
 
-const NO_EXECUTABLE: &'static str = "--missing needs --exec <EXEC>";
-
-const PACK_TIP: &'static str = "\n\n  tip: packing is a command: 'thorin pack -o OUT ..'";
+const EXEC_TIP: &'static str = "an executable is named behind '-e'";
 
 /// Does what a command line asks for, and answers the status. Under the names `dwp` and `llvm-dwp`,
 /// with a target or a version in them too, it takes the command lines of those programs. `commit`
@@ -84,81 +83,83 @@ fn run_as<C: Commands>(
     match read(alloc, peer, version, words) {
         Ok(matches) => dispatch(&matches, peer.is_some(), commands),
         Err(error) if error.kind() == ErrorKind::OutOfMemory => commands.lack_memory(),
-        Err(error) => tell_printed(alloc, words, version, &error, commands),
+        Err(error) if error.use_stderr() => refuse(alloc, words, version, &error, commands),
+        Err(error) => commands.show(&error),
     }
 }
 
-/// Prints what is said of these words: where they have characters that aren't printed, of the words
-/// as they are printed.
-fn tell_printed<C: Commands>(
+/// Refuses words, and prints why: what is said of them as they are printed, since some may have
+/// characters that aren't.
+fn refuse<C: Commands>(
     alloc: Global,
     words: &[String],
     version: &str,
     error: &Error,
     commands: &mut C,
 ) -> u8
-    ensures { Does C.does IsTold commands.old result commands.new }
+    ensures { Does C.does IsRefusal commands.old result commands.new }
 {
     match printed_words(alloc, words) {
-        Ok(shown) => match read(
-            alloc,
-            peer_name(shown.as_slice()),
-            version,
-            shown.as_slice(),
-        ) {
-            Err(error) => tell_or_advise(alloc, shown.as_slice(), &error, commands),
-            Ok(_) => tell(error, commands),
+        Ok(shown) => match refusal(alloc, shown.as_slice(), version, error) {
+            Ok(text) => commands.refuse(&text),
+            Err(AllocError) => commands.lack_memory(),
         },
         Err(AllocError) => commands.lack_memory(),
     }
 }
 
-/// Prints what is said of these words, with a tip where they are meant for packing.
-fn tell_or_advise<C: Commands>(
+/// Why words are refused, with a tip where there is one; this error where they aren't.
+fn refusal(
     alloc: Global,
     words: &[String],
+    version: &str,
     error: &Error,
-    commands: &mut C,
-) -> u8
-    ensures { Does C.does IsTold commands.old result commands.new }
-{
-    if !lacks_pack(words, error) {
-        return tell(error, commands);
-    }
-    match with_tip(alloc, error) {
-        Ok(text) => commands.refuse(&text),
-        Err(AllocError) => commands.lack_memory(),
+) -> Result<String, AllocError> {
+    match read(alloc, peer_name(words), version, words) {
+        Ok(_matches) => format!(in alloc; "{error}"),
+        Err(own) if own.kind() == ErrorKind::OutOfMemory => Err(AllocError),
+        Err(own) => with_tip(alloc, words, &own),
     }
 }
 
-/// Whether words name no command, though one of them is an option of packing.
-fn lacks_pack(words: &[String], error: &Error) -> bool {
-    matches!(
-        error.kind(),
-        ErrorKind::UnknownArgument | ErrorKind::InvalidSubcommand
-    ) && peer_name(words).is_none()
-        && !words.iter().any(|word| command::is_command(word.as_str()))
-        && words.iter().any(|word| is_of_packing(word.as_str()))
-}
-
-/// Whether a word is an option that says what is packed, or where to.
-fn is_of_packing(word: &str) -> bool {
-    word.starts_with("-o")
-        || word.starts_with("-e")
-        || word.starts_with("--output")
-        || word.starts_with("--exec")
-}
-
-/// What is said of them, with a tip before the usage unless there is another.
-fn with_tip(alloc: Global, error: &Error) -> Result<String, AllocError> {
+/// What is said of words that are refused: where they aren't a peer's, with a tip before the usage
+/// that may take the place of clap's.
+fn with_tip(alloc: Global, words: &[String], error: &Error) -> Result<String, AllocError> {
     let text = format!(in alloc; "{error}")?;
-    if text.contains("  tip: ") {
+    let Some((front, usage)) = text.as_str().split_once("\n\nUsage: ") else {
+        return Ok(text);
+    };
+    let (said, is_advised) = match front.split_once("\n\n  tip: ") {
+        Some((said, _)) => (said, true),
+        None => (front, false),
+    };
+    let tip = match error.kind() {
+        _ if peer_name(words).is_some() => String::new(alloc),
+        ErrorKind::InvalidSubcommand if !is_advised => String::from_str(alloc, PACK_TIP)?,
+        ErrorKind::UnknownArgument => tip_on(alloc, said, usage)?,
+        _ => String::new(alloc),
+    };
+    if tip.is_empty() {
         return Ok(text);
     }
-    match text.as_str().split_once("\n\nUsage:") {
-        Some((front, usage)) => format!(in alloc; "{front}{PACK_TIP}\n\nUsage:{usage}"),
-        None => Ok(text),
+    format!(in alloc; "{said}\n\n  tip: {tip}\n\nUsage: {usage}")
+}
+
+/// A tip on a word that a command doesn't take, by what is said of it and the command's usage; empty
+/// where there is none.
+fn tip_on(alloc: Global, said: &str, usage: &str) -> Result<String, AllocError> {
+    let word = said.split('\'').nth(1).unwrap_or("");
+    if word == "--verify-only" {
+        return String::from_str(alloc, CHECK_TIP);
     }
+    if !word.starts_with("-") && usage.starts_with("thorin check") {
+        return String::from_str(alloc, EXEC_TIP);
+    }
+    let takers = command::takers_of(alloc, word)?;
+    if takers.is_empty() {
+        return Ok(takers);
+    }
+    format!(in alloc; "'{word}' is an option of {takers}")
 }
 
 /// Words as they are printed.
@@ -177,10 +178,7 @@ fn read<'a>(
     version: &'a str,
     words: &'a [String],
 ) -> Result<ArgMatches<'a>, Error>
-    ensures matches { is_some peer.entry ≡ false → IfOk result (λ m.
-        AreMatchesOf (words_in words.now) (rows_of (found_of m)) (subcommand_rows_of m)) }
-    ensures refused { is_some peer.entry ≡ false → IfErr result (λ e.
-        (kind_of e ≡ OutOfMemory) ⊎ AreRefused (words_in words.now)) }
+    ensures { is_some peer.entry ≡ false → IsReadAs (words_in words.now) result }
 {
     let mut command = command_line(alloc, peer, version)?;
     read_by(alloc, &mut command, peer.is_some(), words)
@@ -193,10 +191,7 @@ fn read_by<'a>(
     is_peer: bool,
     words: &'a [String],
 ) -> Result<ArgMatches<'a>, Error>
-    ensures matches { IsThorin (app_of command.old) → IfOk result (λ m.
-        AreMatchesOf (words_in words.now) (rows_of (found_of m)) (subcommand_rows_of m)) }
-    ensures refused { IsThorin (app_of command.old) → is_peer ≡ false → IfErr result (λ e.
-        (kind_of e ≡ OutOfMemory) ⊎ AreRefused (words_in words.now)) }
+    ensures { IsThorin (app_of command.old) → is_peer ≡ false → IsReadAs (words_in words.now) result }
 {
     match command.try_get_matches_from_mut(words) {
         Ok(matches) => tested(alloc, command, is_peer, matches),
@@ -211,65 +206,29 @@ fn tested<'a>(
     is_peer: bool,
     matches: ArgMatches<'a>,
 ) -> Result<ArgMatches<'a>, Error>
-    ensures matches { IfOk result (λ m. m ≡ matches.entry) }
-    ensures refused { is_peer ≡ false → IfErr result (λ e.
-        (kind_of e ≡ OutOfMemory) ⊎ IsPack (subcommand_rows_of matches.entry)) }
+    ensures { is_peer ≡ false → IsTested matches.entry result }
 {
-    match error_of(&matches, is_peer) {
-        Some((kind, text)) if is_peer => Err(command.error(kind, text)?),
-        Some((kind, text)) => Err(pack_error(alloc, kind, text)?),
+    if is_peer {
+        return match wrong_in_peer(&matches) {
+            Some(wrong) => Err(command.error(wrong.kind(), wrong.text())?),
+            None => Ok(matches),
+        };
+    }
+    match matches.subcommand() {
+        Some((name, words)) => match wrong_in(name, words) {
+            Some(wrong) => Err(error_of(alloc, name, wrong)?),
+            None => Ok(matches),
+        },
         None => Ok(matches),
     }
 }
 
-/// What is said of words of the command `pack`, with its usage.
-fn pack_error(alloc: Global, kind: ErrorKind, text: &str) -> Result<Error, AllocError> {
-    let mut pack = command::pack_command(alloc)?;
-    pack.error(kind, text)
-}
-
-/// What is wrong with the words beside what clap tests, if anything is.
-fn error_of(matches: &ArgMatches<'_>, is_peer: bool) -> Option<(ErrorKind, &'static str)>
-    ensures { is_peer ≡ false → IfSome result (λ _. IsPack (subcommand_rows_of matches.now)) }
+/// What is said of wrong words of a command, with its usage.
+fn error_of(alloc: Global, name: &str, wrong: Wrong) -> Result<Error, AllocError>
+    ensures { IfOk result (λ error. ¬ IsText (kind_of error)) }
 {
-    if let Some(text) = error_of_pack(packed_in(matches, is_peer)?) {
-        Some((ErrorKind::ValueValidation, text))
-    } else if is_peer && lacks_output(matches) {
-        Some((ErrorKind::MissingRequiredArgument, NO_OUTPUT))
-    } else {
-        None
-    }
-}
-
-/// The words that ask for packing: a peer's, or those of the command `pack`.
-fn packed_in<'m, 'a>(matches: &'m ArgMatches<'a>, is_peer: bool) -> Option<&'m ArgMatches<'a>>
-    ensures { is_peer ≡ false → IfSome result (λ _. IsPack (subcommand_rows_of matches.now)) }
-{
-    if is_peer {
-        return Some(matches);
-    }
-    matches.subcommand_matches("pack")
-}
-
-/// What is wrong with words that ask for packing beside what clap tests, if anything is.
-fn error_of_pack(matches: &ArgMatches<'_>) -> Option<&'static str> {
-    for word in values_of(matches, "prefix-map").unwrap_or(&[]) {
-        if !word.contains('=') {
-            return Some(NO_PREFIX);
-        }
-    }
-    if has_flag(matches, "missing") && values_of(matches, "exec").is_none() {
-        return Some(NO_EXECUTABLE);
-    }
-    None
-}
-
-/// Whether a peer's command line names no package, and no single executable either that would name
-/// it.
-fn lacks_output(matches: &ArgMatches<'_>) -> bool {
-    value_of(matches, "output").is_none()
-        && !has_flag(matches, "missing")
-        && values_of(matches, "exec").unwrap_or(&[]).len() != 1
+    let mut command = command::part(alloc, name)?;
+    command.error(wrong.kind(), wrong.text())
 }
 
 fn command_line<'a>(
@@ -282,20 +241,6 @@ fn command_line<'a>(
     match peer {
         Some(name) => command::peer(alloc, name, version),
         None => command::command(alloc, version),
-    }
-}
-
-/// Prints what is said of a command line that asks for nothing to be done, help among it, and
-/// answers the status.
-fn tell<C: Commands>(error: &Error, commands: &mut C) -> u8
-    ensures { Does C.does IsTold commands.old result commands.new }
-{
-    if error.kind() == ErrorKind::OutOfMemory {
-        commands.lack_memory()
-    } else if error.use_stderr() {
-        commands.refuse(error)
-    } else {
-        commands.show(error)
     }
 }
 

@@ -37,9 +37,10 @@ fn main(rt: HostRuntime) -> ExitCode {
     let hosts = (HostReader::new(host), HostResponses::new(host));
     let hosts = &hosts;
     let mut err = Lines(lent);
-    let status = match words_of(&rt) {
+    let mut word = Vec::new(rt.alloc());
+    let status = match words_of(&rt, &mut word) {
         Ok(words) => thorin_cli::run(
-            host,
+            rt.alloc(),
             words.as_slice(),
             facts,
             &mut files,
@@ -50,10 +51,7 @@ fn main(rt: HostRuntime) -> ExitCode {
             &mut out,
             &mut err,
         ),
-        Err(cause) => match bad_word(&rt) {
-            Ok(word) => thorin_cli::refuse_words(&rt, &mut err, &cause, word.as_slice()),
-            Err(cause) => thorin_cli::refuse_words(&rt, &mut err, &cause, b""),
-        },
+        Err(cause) => thorin_cli::refuse_words(rt.alloc(), &mut err, &cause, word.as_slice()),
     };
     ExitCode::from(status)
 }
@@ -66,29 +64,30 @@ fn patience(rt: &HostRuntime) -> u64 {
     }
 }
 
-/// The words of the command line, the program's name among them.
-fn words_of(rt: &HostRuntime) -> io::Result<Vec<String>> {
-    let words = env::args(rt)?;
-    let words: Vec<String> = words.collect(rt.alloc())?;
+/// The words of the command line, the program's name among them. Each is read into `word`, which
+/// keeps the first that isn't UTF-8; empty where that is longer than a word can be.
+///
+/// # Errors
+/// `InvalidData` where there is such a word, want of memory by its kind.
+fn words_of(rt: &HostRuntime, word: &mut Vec<u8>) -> io::Result<Vec<String>> {
+    let mut words = Vec::new(rt.alloc());
+    word.resize(MOST_BYTES, 0)?;
+    for index in 0..usize::MAX {
+        let len = match rt.arg(index, word.as_mut_slice()) {
+            Ok(len) => len,
+            Err(FillError::NotPresent) => break,
+            Err(FillError::TooLong) => return Err(bad_word(word, 0)),
+        };
+        match str::from_utf8(&word.as_slice()[..len]) {
+            Ok(text) => words.push(String::from_str(rt.alloc(), text)?)?,
+            Err(_error) => return Err(bad_word(word, len)),
+        }
+    }
     Ok(words)
 }
 
-/// The first word that isn't UTF-8; empty where none is, or it is longer than a word can be.
-fn bad_word(rt: &HostRuntime) -> io::Result<Vec<u8>> {
-    let mut room = Vec::new(rt.alloc());
-    room.resize(MOST_BYTES, 0)?;
-    for index in 0..usize::MAX {
-        match rt.arg(index, room.as_mut_slice()) {
-            Ok(len) => {
-                if str::from_utf8(&room.as_slice()[..len]).is_err() {
-                    room.truncate(len);
-                    return Ok(room);
-                }
-            }
-            Err(FillError::TooLong) => {}
-            Err(FillError::NotPresent) => break,
-        }
-    }
-    room.truncate(0);
-    Ok(room)
+/// Keeps so many bytes of a word that is refused.
+fn bad_word(word: &mut Vec<u8>, len: usize) -> io::Error {
+    word.truncate(len);
+    io::Error::from(io::ErrorKind::InvalidData)
 }

@@ -1,7 +1,7 @@
 -- What the program does: the command that words ask for, with the status of its answer.
 use Rattle.std.specs.Prelude.{◌≡◌, ◌≤◌, ◌⊎◌, ◌==◌, ◌&&◌, ℕ, Bool, true, false, not, List, [], ◌∷◌}
 use Rattle.std.specs.Prelude.{codes, Option, Some, Result, Ok, Err, IfOk, IfErr, IsErr}
-use Rattle.std.specs.Prelude.{if◌then◌else◌}
+use Rattle.std.specs.Prelude.{if◌then◌else◌, ⊤}
 use Rattle.std.specs.List.{list_any}
 use Rattle.clap.specs.Walk.{Text}
 use Rattle.thorin_print.specs.Answers.{exit_status}
@@ -15,6 +15,7 @@ use Rattle.thorin_words.specs.Responses.{Stands}
 use Rattle.thorin_output.specs.Files.{Begins, Begun, Put}
 use Rattle.thorin_output.specs.Reads.{Identity}
 use Rattle.thorin_commands.specs.Cause.{Cause, IsCauseFor}
+use Rattle.thorin_commands.specs.Failing.{FailsPacking}
 use Rattle.thorin_commands.specs.Naming.{IsNameless}
 use Rattle.thorin_commands.specs.Packing.{Fails, IsNoInput, Packs, declines, out_of, paths_in}
 use Rattle.thorin_commands.specs.Packing.{reads}
@@ -57,7 +58,8 @@ pub record Answers (P : Result ℕ Failure → Type 0) (status : ℕ) : Type 0 w
 -- ---- the commands
 
 -- `pack`: at 0 the package was put under its name; at 1 nothing was touched, for a cause; at a
--- failure nothing, or the package was begun; and without `force` it took the place of no input
+-- failure nothing, or the package was begun, and why, but of a line that wasn't taken; and without
+-- `force` it took the place of no input
 pub record DoesPacking {F O : Type 0} (system : System F O) (packing : Packing)
     (old new : State F O) (answer : Result ℕ Failure) : Type 0 where
   pub packed : answer ≡ Ok 0 → Packs (reads packing (system.offer old.files)) packing
@@ -69,6 +71,8 @@ pub record DoesPacking {F O : Type 0} (system : System F O) (packing : Packing)
   pub failed : IfErr answer (λ failure. Fails failure (Untouched old new)
       (Packs (reads packing (system.offer old.files)) packing
       (Begins system.begun system.contents old.files new.files old.out new.out)))
+  pub why : IfErr answer (FailsPacking system.offer system.known system.begun system.contents
+      packing old.files new.files old.out new.out ⊤)
   pub apart : packing.force ≡ false
       → (new.files ≡ old.files) ⊎ IsNoInput (system.known old.files) packing
 
@@ -130,7 +134,8 @@ line_of [] = (codes "thorin", [])
 line_of (program ∷ line) = named program line
 
 -- the words of response files, which `text` says, stand in the place of their names, and then one
--- call was made that the words ask for; or these can't be told, and nothing was touched
+-- call was made that the words ask for; or these can't be told, or not for want of memory, and
+-- nothing was touched
 abbrev pub Runs : {F O : Type 0} → System F O → (text : Text → Option Text → Type 0)
     → (on_terminal : Bool) → (line : Text × List Text) → (old : State F O) → (status : ℕ)
     → (new : State F O) → Type 0
@@ -138,4 +143,4 @@ Runs system text on_terminal line old status new =
     ((own : List Text) × Stands text [] line.1 (Ok own)
     × Does (DoesCall system (record { of_peer = is_peer line.0; on_terminal = on_terminal }))
     (IsCallOf (line.0 ∷ own)) old status new)
-    ⊎ (((status ≡ 1) ⊎ (status ≡ 2)) × Untouched old new)
+    ⊎ ((status ≡ 1) × Untouched old new)

@@ -16,6 +16,7 @@ pub use crate::manner::{Facts, Manner};
 use crate::notes::{note_not_text, note_unread};
 use crate::program::Program;
 pub use crate::system::{NotedReader, Readers};
+use std::alloc::Global;
 use std::convert::AsStr;
 use std::io::{self, Write};
 use thorin_arguments::is_peer;
@@ -33,7 +34,7 @@ use thorin_words::{ResponseError, expanded, printed};
 /// for a bad command line. Under the names `dwp` and `llvm-dwp` it takes the command lines of those
 /// programs. `facts` is what is known of where the program runs.
 pub fn run<F: NotedFiles, R: NotedReader, P: NotedResponses, S: AsStr, O: Write, E: Write>(
-    rt: &HostRuntime,
+    alloc: Global,
     words: &[S],
     facts: Facts<'_>,
     files: &mut F,
@@ -52,7 +53,7 @@ pub fn run<F: NotedFiles, R: NotedReader, P: NotedResponses, S: AsStr, O: Write,
         (record { files = files.new; out = out.new }) }
 {
     let (program, line) = named_program(words);
-    match expanded(rt.alloc(), readers.responses, program, line) {
+    match expanded(alloc, readers.responses, program, line) {
         Ok(words) => {
             let manner = Manner {
                 of_peer: is_peer(program),
@@ -60,7 +61,7 @@ pub fn run<F: NotedFiles, R: NotedReader, P: NotedResponses, S: AsStr, O: Write,
             };
             files.seek(manner.of_peer);
             let mut program = Program {
-                rt,
+                alloc,
                 manner,
                 patience: facts.patience,
                 files,
@@ -68,11 +69,11 @@ pub fn run<F: NotedFiles, R: NotedReader, P: NotedResponses, S: AsStr, O: Write,
                 out,
                 err,
             };
-            thorin_arguments::run(rt.alloc(), words.as_slice(), facts.commit, &mut program)
+            thorin_arguments::run(alloc, words.as_slice(), facts.commit, &mut program)
         }
         Err(error) => {
-            let status = refuse_response(rt, err, &error);
-            note_response(rt, readers.responses, &error, err);
+            let status = refuse_response(alloc, err, &error);
+            note_response(alloc, readers.responses, &error, err);
             status
         }
     }
@@ -102,42 +103,43 @@ fn is_peer_name(word: &str) -> bool
 }
 
 /// Prints why the words of a command line can't be told, and answers the status.
-fn refuse_response<E: Write>(rt: &HostRuntime, err: &mut E, error: &ResponseError) -> u8
-    ensures { (result ≡ 1) ⊎ (result ≡ 2) }
+fn refuse_response<E: Write>(alloc: Global, err: &mut E, error: &ResponseError) -> u8
+    ensures { result ≡ 1 }
 {
     match error {
-        ResponseError::Inside(name) => refuse_inside(rt, err, name.as_str()),
-        ResponseError::TooDeep(name) => refuse_deep(rt, err, name.as_str()),
+        ResponseError::Inside(name) => refuse_inside(alloc, err, name.as_str()),
+        ResponseError::TooDeep(name) => refuse_deep(alloc, err, name.as_str()),
         ResponseError::TooLong => {
             let _ = show(err, &"error: Response files are too long\n");
             1
         }
-        ResponseError::Unreadable | ResponseError::TooMany => report(err, &Failure::Response),
-        ResponseError::NotUtf8 => report(err, &Failure::BadCommand),
+        ResponseError::Unreadable | ResponseError::TooMany | ResponseError::NotUtf8 => {
+            report(err, &Failure::Response)
+        }
         ResponseError::Memory => report(err, &Failure::Memory),
     }
 }
 
 /// Prints the note on a response file that can't be read, or isn't text.
 fn note_response<P: NotedResponses, E: Write>(
-    rt: &HostRuntime,
+    alloc: Global,
     files: &P,
     error: &ResponseError,
     err: &mut E,
 ) {
     if let Some((name, cause)) = files.unread() {
-        note_unread(rt, name.as_str(), &cause, err);
+        note_unread(alloc, name.as_str(), &cause, err);
     }
     if matches!(error, ResponseError::NotUtf8) {
-        note_not_text(rt, &files.not_text(), err);
+        note_not_text(alloc, &files.not_text(), err);
     }
 }
 
 /// Prints that a response file is inside itself, and answers the status.
-fn refuse_inside<E: Write>(rt: &HostRuntime, err: &mut E, name: &str) -> u8
-    ensures { (result ≡ 1) ⊎ (result ≡ 2) }
+fn refuse_inside<E: Write>(alloc: Global, err: &mut E, name: &str) -> u8
+    ensures { result ≡ 1 }
 {
-    match printed(rt.alloc(), name) {
+    match printed(alloc, name) {
         Ok(name) => {
             let _ = writeln!(err, "error: Response file {name} is inside itself");
             1
@@ -147,10 +149,10 @@ fn refuse_inside<E: Write>(rt: &HostRuntime, err: &mut E, name: &str) -> u8
 }
 
 /// Prints that a response file is inside too many others, and answers the status.
-fn refuse_deep<E: Write>(rt: &HostRuntime, err: &mut E, name: &str) -> u8
-    ensures { (result ≡ 1) ⊎ (result ≡ 2) }
+fn refuse_deep<E: Write>(alloc: Global, err: &mut E, name: &str) -> u8
+    ensures { result ≡ 1 }
 {
-    match printed(rt.alloc(), name) {
+    match printed(alloc, name) {
         Ok(name) => {
             let _ = writeln!(err, "error: Response file {name} is inside 64 others");
             1
@@ -161,7 +163,7 @@ fn refuse_deep<E: Write>(rt: &HostRuntime, err: &mut E, name: &str) -> u8
 
 /// What the program answers where its command line can't be taken: this word of it isn't UTF-8, or
 /// memory ran out.
-pub fn refuse_words<E: Write>(rt: &HostRuntime, err: &mut E, cause: &io::Error, word: &[u8]) -> u8
+pub fn refuse_words<E: Write>(alloc: Global, err: &mut E, cause: &io::Error, word: &[u8]) -> u8
     ensures status { (result ≡ 1) ⊎ (result ≡ 2) }
     ensures memory { error_kind cause.now ≡ OutOfMemory → result ≡ 1 }
 {
@@ -169,7 +171,7 @@ pub fn refuse_words<E: Write>(rt: &HostRuntime, err: &mut E, cause: &io::Error, 
         return report(err, &Failure::Memory);
     }
     let status = report(err, &Failure::BadCommand);
-    let mut name = String::new(rt.alloc());
+    let mut name = String::new(alloc);
     if put_spelled(word, Form::Lines, &mut name).is_ok() {
         let _ = writeln!(err, "note: {name}: not UTF-8: name a link to it");
     }

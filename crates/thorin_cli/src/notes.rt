@@ -2,16 +2,21 @@
 //! can't be read or written.
 
 use crate::system::NotedReader;
+use dwp_index::PackageError;
 use dwp_table::CONTRIBUTION_KINDS;
 use std::alloc::{AllocError, Global};
 use std::io::{self, Write};
 use thorin_commands::{Packing, reason};
-use thorin_find::Unread;
-use thorin_inputs::Compression;
+use thorin_find::{FileKind, Unread};
+use thorin_inputs::{Compression, cut_hint};
 use thorin_print::Failure;
 use thorin_reading::PlainReader;
 use thorin_terminal::{NamedFile, Peculiarity};
 use thorin_words::printed;
+
+/// What helps where an executable names an object that isn't there.
+const MISSING: &'static str =
+    "--missing lists the objects that aren't there, --prefix-map FROM=TO finds those that moved";
 
 /// What a command that reads was given.
 #[derive(Clone, Copy)]
@@ -42,8 +47,9 @@ impl<'a> Given<'a> {
 pub(crate) struct Read {
     /// The one that couldn't be read.
     unread: Option<Unread>,
-    /// Whether the last is compressed.
+    /// Whether the last is compressed, and what it is.
     compression: Compression,
+    kind: FileKind,
 }
 
 impl Read {
@@ -52,6 +58,7 @@ impl Read {
         Read {
             unread: reader.unread(),
             compression: files.compression(),
+            kind: files.kind(),
         }
     }
 }
@@ -59,7 +66,7 @@ impl Read {
 /// Prints the note on a failure of a command that reads: which of the files it is about, or the
 /// word.
 pub(crate) fn note_reading<E: Write>(
-    rt: &HostRuntime,
+    alloc: Global,
     failure: &Failure,
     given: Given<'_>,
     read: Read,
@@ -68,22 +75,23 @@ pub(crate) fn note_reading<E: Write>(
     match failure {
         Failure::Input => {
             if let Some(unread) = &read.unread {
-                note_unread(rt, unread.path.as_str(), &unread.cause, err);
+                note_unread(alloc, unread.path.as_str(), &unread.cause, err);
             }
         }
         Failure::Malformed => {
-            let advice = advice_on(rt.alloc(), read.compression).ok();
-            note(rt, given.file, text_of(&advice), err);
+            let why = why_malformed(alloc, read).ok();
+            note(alloc, given.file, text_of(&why), err);
         }
-        Failure::NoIndex | Failure::NoUnit(_) | Failure::NoString(_) | Failure::NoRange(_) => {
-            note(rt, given.file, "", err);
+        Failure::NoIndex | Failure::NoUnit(_) => {
+            note(alloc, given.file, object_note(read.kind), err);
         }
-        Failure::BadKind => note(rt, given.kind, "neither cu nor tu", err),
-        Failure::BadIdentifier => note(rt, given.id, "not 1 to 16 hexadecimal digits", err),
-        Failure::BadNumber => note(rt, given.wanted, "not a decimal number", err),
+        Failure::NoString(_) | Failure::NoRange(_) => note(alloc, given.file, "", err),
+        Failure::BadKind => note(alloc, given.kind, "neither cu nor tu", err),
+        Failure::BadIdentifier => note(alloc, given.id, "not 1 to 16 hexadecimal digits", err),
+        Failure::BadNumber => note(alloc, given.wanted, "not a decimal number", err),
         Failure::BadSection => {
-            let why = section_names(rt.alloc()).ok();
-            note(rt, given.wanted, text_of(&why), err);
+            let why = section_names(alloc).ok();
+            note(alloc, given.wanted, text_of(&why), err);
         }
         _ => {}
     }
@@ -99,39 +107,50 @@ fn section_names(alloc: Global) -> Result<String, AllocError> {
     Ok(text)
 }
 
-/// What can be done about a package that can't be read, or why it couldn't be decompressed, if
-/// anything.
-fn advice_on(alloc: Global, compression: Compression) -> Result<String, AllocError> {
-    match compression {
-        Compression::None => Ok(String::new(alloc)),
-        Compression::Left => String::from_str(alloc, "compressed: --decompress reads it"),
-        Compression::Overlaps | Compression::Unread(_) => {
-            format!(in alloc; "compressed: {compression}")
+/// Why a package can't be read, and what can be done about that.
+fn why_malformed(alloc: Global, read: Read) -> Result<String, AllocError> {
+    match (read.compression, read.kind) {
+        (Compression::Left, _) => String::from_str(alloc, "compressed: --decompress reads it"),
+        (Compression::Overlaps | Compression::Unread(_), _) => {
+            format!(in alloc; "compressed: {}", read.compression)
         }
+        (_, FileKind::Malformed(PackageError::Elf(cause))) => {
+            format!(in alloc; "{cause}{}", cut_hint(&cause))
+        }
+        (_, FileKind::Malformed(error)) => format!(in alloc; "{error}"),
+        _ => String::from_str(alloc, "`thorin check` tells its faults"),
+    }
+}
+
+/// What is said of a file that is an object where a package is wanted; nothing of another.
+fn object_note(kind: FileKind) -> &'static str {
+    match kind {
+        FileKind::Object => "an object: `thorin pack` makes a package of it",
+        _ => "",
     }
 }
 
 /// Prints the note on a failure of packing that is about the package's file, and why that couldn't
 /// be written.
 pub(crate) fn note_packing<E: Write>(
-    rt: &HostRuntime,
+    alloc: Global,
     failure: &Failure,
     packing: &Packing<'_, '_>,
     cause: Option<io::Error>,
     err: &mut E,
 ) {
-    let Ok(output) = packing.output_name(rt.alloc()) else {
+    let Ok(output) = packing.output_name(alloc) else {
         return;
     };
     match failure {
         Failure::Output => {
             let why = match &cause {
-                Some(cause) => reason(rt.alloc(), cause).ok(),
+                Some(cause) => reason(alloc, cause).ok(),
                 None => None,
             };
-            note(rt, output.as_str(), text_of(&why), err);
+            note(alloc, output.as_str(), text_of(&why), err);
         }
-        Failure::Overwrites => note(rt, output.as_str(), "", err),
+        Failure::Overwrites => note(alloc, output.as_str(), "", err),
         _ => {}
     }
 }
@@ -139,7 +158,7 @@ pub(crate) fn note_packing<E: Write>(
 /// Prints the note on a packing that was refused for what it was given: nothing, or a file that is
 /// no input as it is.
 pub(crate) fn note_refused<E: Write>(
-    rt: &HostRuntime,
+    alloc: Global,
     packing: &Packing<'_, '_>,
     named: &Option<NamedFile>,
     err: &mut E,
@@ -152,23 +171,13 @@ pub(crate) fn note_refused<E: Write>(
     };
     let path = named.path.as_str();
     match named.peculiarity {
-        Some(Peculiarity::Archive) if !packing.opens_archives && has_path(packing.inputs, path) => {
-            note(rt, path, "an archive: --archives packs its members", err);
-        }
+        Some(Peculiarity::NamesMissing) => note(alloc, path, MISSING, err),
         Some(Peculiarity::RelocatableFor(machine)) if has_path(packing.executables, path) => {
-            let why = machine_note(rt.alloc(), machine).ok();
-            note(rt, path, text_of(&why), err);
-        }
-        None if is_split_name(path) && has_path(packing.executables, path) => {
-            note(rt, path, "objects and packages are named without -e", err);
+            let why = machine_note(alloc, machine).ok();
+            note(alloc, path, text_of(&why), err);
         }
         _ => {}
     }
-}
-
-/// Whether a path ends as those of objects and packages do.
-fn is_split_name(path: &str) -> bool {
-    path.as_bytes().ends_with(b".dwo") || path.as_bytes().ends_with(b".dwp")
 }
 
 /// Whether a path is one of those that are named.
@@ -179,9 +188,7 @@ fn has_path(named: Option<&[&str]>, path: &str) -> bool {
 /// What is said of a relocatable file for a machine.
 fn machine_note(alloc: Global, machine: u16) -> Result<String, AllocError> {
     let name = machine_name(machine);
-    format!(in alloc;
-        "relocatable, for machine {machine}{name}: relocations are read of x86-64, i386 and AArch64"
-    )
+    format!(in alloc; "relocatable, for machine {machine}{name}")
 }
 
 /// The name of a machine, in brackets (ELF gABI, `e_machine`).
@@ -203,15 +210,31 @@ fn machine_name(machine: u16) -> &'static str {
     }
 }
 
-/// Prints the note on a file that is listed and has no index.
-pub(crate) fn note_no_index<E: Write>(rt: &HostRuntime, name: &str, err: &mut E) {
-    note(rt, name, "no index: not a package", err);
+/// Prints the note on a file that was listed and is an object; on a terminal also on another without
+/// an index.
+pub(crate) fn note_listed<E: Write>(
+    alloc: Global,
+    name: &str,
+    kind: FileKind,
+    on_terminal: bool,
+    err: &mut E,
+) {
+    match kind {
+        FileKind::Object => note(alloc, name, object_note(kind), err),
+        FileKind::NoIndex if on_terminal => note(alloc, name, "no index: not a package", err),
+        _ => {}
+    }
 }
 
 /// Prints the note on a response file that isn't text: its name, where there was memory to keep it.
-pub(crate) fn note_not_text<E: Write>(rt: &HostRuntime, name: &Option<String>, err: &mut E) {
+pub(crate) fn note_not_text<E: Write>(alloc: Global, name: &Option<String>, err: &mut E) {
     match name {
-        Some(name) => note(rt, name.as_str(), "a response file that isn't UTF-8", err),
+        Some(name) => note(
+            alloc,
+            name.as_str(),
+            "a response file that isn't UTF-8",
+            err,
+        ),
         None => {
             let _ = writeln!(err, "note: a response file isn't UTF-8");
         }
@@ -219,20 +242,21 @@ pub(crate) fn note_not_text<E: Write>(rt: &HostRuntime, name: &Option<String>, e
 }
 
 /// Prints why standard output took nothing.
-pub(crate) fn note_output<E: Write>(rt: &HostRuntime, cause: &io::Error, err: &mut E) {
-    let why = reason(rt.alloc(), cause).ok();
-    note(rt, "standard output", text_of(&why), err);
+pub(crate) fn note_output<E: Write>(alloc: Global, cause: &io::Error, err: &mut E) {
+    let why = reason(alloc, cause).ok();
+    note(alloc, "standard output", text_of(&why), err);
 }
 
 /// Prints the note on a file that couldn't be read.
-pub(crate) fn note_unread<E: Write>(rt: &HostRuntime, name: &str, cause: &io::Error, err: &mut E) {
-    let why = why_unread(rt, cause).ok();
-    note(rt, name, text_of(&why), err);
+pub(crate) fn note_unread<E: Write>(alloc: Global, name: &str, cause: &io::Error, err: &mut E) {
+    let why = why_unread(alloc, cause).ok();
+    note(alloc, name, text_of(&why), err);
 }
 
 /// Prints a note: what it is about, and what is the matter with it.
-fn note<E: Write>(rt: &HostRuntime, about: &str, why: &str, err: &mut E) {
-    if let Ok(about) = printed(rt.alloc(), about) {
+fn note<E: Write>(alloc: Global, about: &str, why: &str, err: &mut E) {
+    let about = if about.is_empty() { "''" } else { about };
+    if let Ok(about) = printed(alloc, about) {
         let _ = if why.is_empty() {
             writeln!(err, "note: {about}")
         } else {
@@ -250,9 +274,9 @@ fn text_of(text: &Option<String>) -> &str {
 }
 
 /// Why a file couldn't be read.
-fn why_unread(rt: &HostRuntime, cause: &io::Error) -> Result<String, AllocError> {
+fn why_unread(alloc: Global, cause: &io::Error) -> Result<String, AllocError> {
     match cause.kind() {
-        io::ErrorKind::IsADirectory => String::from_str(rt.alloc(), "not a regular file"),
-        _ => reason(rt.alloc(), cause),
+        io::ErrorKind::IsADirectory => String::from_str(alloc, "not a regular file"),
+        _ => reason(alloc, cause),
     }
 }

@@ -10,24 +10,25 @@ ghost use Rattle.thorin_cli.specs.Programs.{KeepsPlaces, state_of, system};
 
 use crate::manner::Manner;
 use crate::notes::{
-    Given, Read, note_no_index, note_output, note_packing, note_reading, note_refused,
+    Given, Read, note_listed, note_output, note_packing, note_reading, note_refused,
 };
 use crate::settings::{file_count, find_words, form_of, list_form, nameless_units, packing_of};
 use crate::system::NotedReader;
+use std::alloc::Global;
 use std::fmt;
 use std::io::{self, Write};
 use thorin_arguments::{CheckArguments, Commands, FindArguments, ListArguments, PackArguments};
 use thorin_check::{Reading, check_by};
 use thorin_commands::{Packing, list_missing, pack};
-use thorin_find::{find_by, lacks_index, list_by};
+use thorin_find::{find_by, list_by};
 use thorin_print::{Failure, Form, report, show};
 use thorin_reading::PlainReader;
 use thorin_terminal::{NotedFiles, Telling, Watched};
 
 /// The program: what it uses of the system, and where it prints.
 #[derive(Drop)]
-pub(crate) struct Program<'r, 's, 'o, 'e, F, R, O, E> {
-    pub(crate) rt: &'r HostRuntime,
+pub(crate) struct Program<'s, 'o, 'e, F, R, O, E> {
+    pub(crate) alloc: Global,
     pub(crate) manner: Manner,
     pub(crate) patience: u64,
     pub(crate) files: &'s mut F,
@@ -36,7 +37,7 @@ pub(crate) struct Program<'r, 's, 'o, 'e, F, R, O, E> {
     pub(crate) err: &'e mut E,
 }
 
-impl<F: NotedFiles, R: NotedReader, O: Write, E: Write> Program<'_, '_, '_, '_, F, R, O, E> {
+impl<F: NotedFiles, R: NotedReader, O: Write, E: Write> Program<'_, '_, '_, F, R, O, E> {
     /// The status of a command that read these files. Where it was refused, that is printed.
     fn status(&mut self, answer: Result<u8, Failure>, given: Given<'_>, read: Read) -> u8
         ensures has { HasStatus answer result }
@@ -46,7 +47,7 @@ impl<F: NotedFiles, R: NotedReader, O: Write, E: Write> Program<'_, '_, '_, '_, 
             Ok(status) => status,
             Err(failure) => {
                 let status = self.report(&failure);
-                note_reading(self.rt, &failure, given, read, self.err);
+                note_reading(self.alloc, &failure, given, read, self.err);
                 status
             }
         }
@@ -64,7 +65,7 @@ impl<F: NotedFiles, R: NotedReader, O: Write, E: Write> Program<'_, '_, '_, '_, 
                     return 1;
                 }
                 let status = report(self.err, failure);
-                note_output(self.rt, &cause, self.err);
+                note_output(self.alloc, &cause, self.err);
                 status
             }
             _ => report(self.err, failure),
@@ -81,12 +82,18 @@ impl<F: NotedFiles, R: NotedReader, O: Write, E: Write> Program<'_, '_, '_, '_, 
         match self.pack_told(packing) {
             Ok(0) => 0,
             Ok(status) => {
-                note_refused(self.rt, packing, &self.files.last_named(), self.err);
+                note_refused(self.alloc, packing, &self.files.last_named(), self.err);
                 status
             }
             Err(failure) => {
                 let status = self.report(&failure);
-                note_packing(self.rt, &failure, packing, self.files.unwritten(), self.err);
+                note_packing(
+                    self.alloc,
+                    &failure,
+                    packing,
+                    self.files.unwritten(),
+                    self.err,
+                );
                 status
             }
         }
@@ -110,7 +117,7 @@ impl<F: NotedFiles, R: NotedReader, O: Write, E: Write> Program<'_, '_, '_, '_, 
             names_objects: packing.verbose,
         };
         self.files.begin(telling);
-        let answer = pack(self.rt.alloc(), self.files, packing, self.out, self.err);
+        let answer = pack(self.alloc, self.files, packing, self.out, self.err);
         self.files.end();
         answer
     }
@@ -120,7 +127,7 @@ impl<F: NotedFiles, R: NotedReader, O: Write, E: Write> Program<'_, '_, '_, '_, 
         ensures done { Answers (ListsMissing (state_of self.old) (state_of self.new)) result }
         ensures places { KeepsPlaces self.old self.new }
     {
-        match list_missing(self.rt.alloc(), self.files, packing, self.out, self.err) {
+        match list_missing(self.alloc, self.files, packing, self.out, self.err) {
             Ok(status) => status,
             Err(failure) => self.report(&failure),
         }
@@ -137,7 +144,7 @@ impl<F: NotedFiles, R: NotedReader, O: Write, E: Write> Program<'_, '_, '_, '_, 
             form: Form::Lines,
             nameless: packing.nameless,
         };
-        match packing.output_name(self.rt.alloc()) {
+        match packing.output_name(self.alloc) {
             Ok(output) => {
                 let executables = packing.executables.unwrap_or(&[]);
                 let decompresses = packing.decompresses;
@@ -161,14 +168,14 @@ impl<F: NotedFiles, R: NotedReader, O: Write, E: Write> Program<'_, '_, '_, '_, 
         ensures files { self.new.files ≡ self.old.files }
         ensures place { self.new.out.ghost_name ≡ self.old.out.ghost_name }
     {
-        let files = PlainReader::new(self.rt.alloc(), self.reader, decompresses);
-        let answer = check_by(self.rt, &files, file, executables, reading, self.out);
+        let files = PlainReader::new(self.alloc, self.reader, decompresses);
+        let answer = check_by(self.alloc, &files, file, executables, reading, self.out);
         self.status(answer, Given::file(file), Read::by(self.reader, &files))
     }
 }
 
 impl<F: NotedFiles, R: NotedReader, O: Write, E: Write> Commands
-    for Program<'_, '_, '_, '_, F, R, O, E> {
+    for Program<'_, '_, '_, F, R, O, E> {
     // The files and standard output stay where they are, and the call does what it is for.
     ghost does = { λ old call status new. KeepsPlaces old new
         × DoesCall (system F.offer F.known F.begun O.contents (R.offer old.reader.now)) old.manner
@@ -187,9 +194,9 @@ impl<F: NotedFiles, R: NotedReader, O: Write, E: Write> Commands
 
     fn find(&mut self, arguments: FindArguments<'_>) -> u8 {
         let file = arguments.file;
-        let files = PlainReader::new(self.rt.alloc(), self.reader, arguments.decompresses);
+        let files = PlainReader::new(self.alloc, self.reader, arguments.decompresses);
         let asked = find_words(arguments);
-        let answer = find_by(self.rt.alloc(), &files, file, asked, self.out);
+        let answer = find_by(self.alloc, &files, file, asked, self.out);
         let given = Given {
             kind: arguments.kind,
             id: arguments.id,
@@ -201,10 +208,16 @@ impl<F: NotedFiles, R: NotedReader, O: Write, E: Write> Commands
 
     fn list(&mut self, file: &str, arguments: ListArguments) -> u8 {
         let form = list_form(arguments);
-        let files = PlainReader::new(self.rt.alloc(), self.reader, arguments.decompresses);
-        let answer = list_by(self.rt.alloc(), &files, file, form, self.out);
-        if answer.is_ok() && self.manner.on_terminal && lacks_index(self.rt, file) {
-            note_no_index(self.rt, file, self.err);
+        let files = PlainReader::new(self.alloc, self.reader, arguments.decompresses);
+        let answer = list_by(self.alloc, &files, file, form, self.out);
+        if answer.is_ok() {
+            note_listed(
+                self.alloc,
+                file,
+                files.kind(),
+                self.manner.on_terminal,
+                self.err,
+            );
         }
         self.status(answer, Given::file(file), Read::by(self.reader, &files))
     }

@@ -1,7 +1,7 @@
 -- What `list` prints.
 use Rattle.std.specs.Prelude.{◌≡◌, ◌⊎◌, ℕ, ◌+◌, ◌^◌, Bool, true, false, List, [], ◌∷◌, ◌++◌, codes}
 use Rattle.std.specs.Prelude.{length, Option, Some, None, Result, Ok, Err, ◌==◌, if◌then◌else◌}
-use Rattle.std.specs.Prelude.{◌&&◌, is_none}
+use Rattle.std.specs.Prelude.{◌&&◌, not, is_none}
 use Rattle.std.specs.Fmt.{decimal}
 use Rattle.std.specs.List.{flat_map}
 use Rattle.std.specs.List.Sorted.{IsPermutation, IsSortedByKey, IsStableByKey}
@@ -26,19 +26,31 @@ use Rattle.thorin_find.specs.Names.{source_name, object_name}
 use Rattle.thorin_print.specs.declared.form.Form.{Form}
 use Rattle.thorin_print.specs.declared.form.Form.TheVariants.{Lines, Json}
 use Rattle.thorin_print.specs.Spelled.{spelled_or}
+use Rattle.thorin_find.specs.declared.indexes.FileKind.{FileKind}
+use Rattle.thorin_find.specs.declared.indexes.FileKind.TheVariants as files
 use Rattle.thorin_find.specs.declared.listing.ListForm.{ListForm}
 use Rattle.thorin_print.specs.Lines.{hex16, line_end}
 use Rattle.thorin_find.specs.Lines.{short_kind}
 use Rattle.thorin_print.specs.declared.output.Failure.{Failure}
 use Rattle.thorin_print.specs.declared.output.Failure.TheVariants as failures
 use Rattle.dwp_index.specs.Contents.{content}
-use Rattle.dwp_base.specs.declared.section.SectionKind.TheVariants.{Str}
+use Rattle.dwp_base.specs.declared.section.SectionKind.TheVariants.{Info, Str}
 
 -- ---- indexes
 
 -- a package has no index of either kind
 abbrev pub has_no_index : Package → Bool
 has_no_index pack = is_none pack.compilations && is_none pack.types
+
+-- what a file is that can be read: without an index it is an object where it has split units
+abbrev pub kind_in : Package → FileKind
+kind_in pack = if not (has_no_index pack) then files.Package
+    else if length (content pack.contents Info) == 0 then files.NoIndex else files.Object
+
+-- what any is
+abbrev pub kind_of : Result Package PackageError → FileKind
+kind_of (Ok pack) = kind_in pack
+kind_of (Err error) = files.Malformed error
 
 -- ---- the order of lines
 

@@ -1,10 +1,11 @@
-//! Whether a package has an index.
+//! What a file is to the commands that read packages.
 
-ghost use Rattle.std.specs.Prelude.{◌≡◌, Ok};
-ghost use Rattle.dwp_index.specs.Package.{Package, package_of};
-ghost use Rattle.thorin_find.specs.Listing.{has_no_index};
+ghost use Rattle.std.specs.Prelude.{◌≡◌};
+ghost use Rattle.dwp_index.specs.Package.{package_of};
+ghost use Rattle.thorin_find.specs.Listing.{has_no_index, kind_in, kind_of};
 
-use dwp_index::PackageFile;
+use dwp_base::SectionKind;
+use dwp_index::{PackageError, PackageFile};
 
 /// Whether a package has no index of either kind.
 pub fn has_no_index(pack: &PackageFile<'_>) -> bool
@@ -13,20 +14,38 @@ pub fn has_no_index(pack: &PackageFile<'_>) -> bool
     pack.compilation_index().is_none() && pack.type_index().is_none()
 }
 
-/// Whether a file holds a package without an index, as far as it can be read.
-pub fn lacks_index(rt: &HostRuntime, path: &str) -> bool {
-    match thorin_files::read(rt, path) {
-        Ok(bytes) => lacks_index_in(bytes.as_slice()),
-        Err(_) => false,
+/// What a file is.
+#[derive(Clone, Copy)]
+pub enum FileKind {
+    /// A package: it has an index.
+    Package,
+    /// An object: it has split units and no index.
+    Object,
+    /// A file without an index and without split units.
+    NoIndex,
+    /// This keeps it from being read.
+    Malformed(PackageError),
+}
+
+/// What a file is that has these bytes.
+pub fn kind_of(bytes: &[u8]) -> FileKind
+    ensures { result ≡ kind_of (package_of bytes.now) }
+{
+    match PackageFile::parse(bytes) {
+        Ok(pack) => kind_in(&pack),
+        Err(error) => FileKind::Malformed(error),
     }
 }
 
-/// Whether a package's bytes have no index of either kind.
-fn lacks_index_in(bytes: &[u8]) -> bool
-    ensures { (pack : Package) → package_of bytes.now ≡ Ok pack → result ≡ has_no_index pack }
+/// The same of one that can be read.
+fn kind_in(pack: &PackageFile<'_>) -> FileKind
+    ensures { result ≡ kind_in pack.now }
 {
-    match PackageFile::parse(bytes) {
-        Ok(pack) => has_no_index(&pack),
-        Err(_) => false,
+    if !has_no_index(pack) {
+        FileKind::Package
+    } else if pack.content(SectionKind::Info).is_empty() {
+        FileKind::NoIndex
+    } else {
+        FileKind::Object
     }
 }

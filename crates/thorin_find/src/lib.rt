@@ -16,7 +16,7 @@ mod wanted;
 pub use describing::put_json_unit;
 pub use files::{FileReader, HostReader, Unread, read_named};
 pub use finding::{find_by, put_object, short_kind, string_count};
-pub use indexes::{has_no_index, lacks_index};
+pub use indexes::{FileKind, has_no_index, kind_of};
 pub use listing::{ListForm, entries_by_row, list_by};
 pub use names::header_of;
 pub use wanted::{FindForm, FindWords};

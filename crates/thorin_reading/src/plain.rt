@@ -7,7 +7,7 @@ use dwp_decompress::{Asked, DecompressError, plain_length};
 use std::alloc::Global;
 use std::cell::Cell;
 use std::io;
-use thorin_find::FileReader;
+use thorin_find::{FileKind, FileReader, kind_of};
 use thorin_inputs::{Compression, decompress};
 
 /// The files of another reader, each decompressed where that is asked for. Of a file whose
@@ -19,8 +19,9 @@ pub struct PlainReader<'f, F> {
     /// Whether files are decompressed.
     pub decompresses: bool,
     alloc: Global,
-    /// What the last file is.
+    /// What the last file is: still compressed or not, and a package or not.
     compression: Cell<Compression>,
+    kind: Cell<FileKind>,
 }
 
 impl<'f, F: FileReader> PlainReader<'f, F> {
@@ -34,12 +35,18 @@ impl<'f, F: FileReader> PlainReader<'f, F> {
             decompresses,
             alloc,
             compression: Cell::new(Compression::None),
+            kind: Cell::new(FileKind::NoIndex),
         }
     }
 
     /// What the last file that was read still has of compressed sections that units may need.
     pub fn compression(&self) -> Compression {
         self.compression.get()
+    }
+
+    /// What the last file that was read is, as it was taken.
+    pub fn kind(&self) -> FileKind {
+        self.kind.get()
     }
 }
 
@@ -50,11 +57,13 @@ impl<F: FileReader> FileReader for PlainReader<'_, F> {
         let mut bytes = self.files.read(path)?;
         if !self.decompresses {
             self.compression.set(compression_of(&bytes));
+            self.kind.set(kind_of(&bytes));
             return Ok(bytes);
         }
         match decompress(self.alloc, &mut bytes, false) {
             Ok(left) => {
                 self.compression.set(left);
+                self.kind.set(kind_of(&bytes));
                 Ok(bytes)
             }
             Err(_) => Err(io::Error::from(io::ErrorKind::OutOfMemory)),

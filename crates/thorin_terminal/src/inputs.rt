@@ -26,8 +26,8 @@ const MOST_ENDS: usize = 64;
 /// What a file is that packing may refuse for it.
 #[derive(Clone, Copy)]
 pub enum Peculiarity {
-    /// An archive that isn't thin.
-    Archive,
+    /// An executable that names an object which isn't there.
+    NamesMissing,
     /// A relocatable file for this machine, whose relocations aren't read.
     RelocatableFor(u16),
 }
@@ -49,8 +49,10 @@ pub(crate) struct HostInputs<'r> {
     rt: &'r HostRuntime,
     files: HostFiles<'r>,
     seeks: Cell<bool>,
-    /// The last file that the command line names and that was read.
+    /// The last file that the command line names and that was read; whether an object that it names
+    /// isn't there.
     named: Cell<Option<NamedFile>>,
+    misses: Cell<bool>,
 }
 
 impl<'r> HostInputs<'r> {
@@ -61,6 +63,7 @@ impl<'r> HostInputs<'r> {
             files: HostFiles::new(rt),
             seeks: Cell::new(false),
             named: Cell::new(None),
+            misses: Cell::new(false),
         }
     }
 
@@ -72,7 +75,11 @@ impl<'r> HostInputs<'r> {
     /// The last file that the command line names and that was read, as far as there was memory to
     /// keep it. Asked for once.
     pub(crate) fn last_named(&self) -> Option<NamedFile> {
-        self.named.replace(None)
+        let mut named = self.named.replace(None)?;
+        if self.misses.get() {
+            named.peculiarity = Some(Peculiarity::NamesMissing);
+        }
+        Some(named)
     }
 
     /// An object that was read, and the file that names it, as they are printed.
@@ -114,11 +121,8 @@ fn named_file(alloc: Global, path: &str, bytes: &[u8]) -> Option<NamedFile> {
     }
 }
 
-/// What a file is, by its first bytes (ar(5); ELF gABI, "ELF Header").
+/// What a file is, by its first bytes (ELF gABI, "ELF Header").
 fn peculiarity_of(bytes: &[u8]) -> Option<Peculiarity> {
-    if bytes.starts_with(b"!<arch>\n") {
-        return Some(Peculiarity::Archive);
-    }
     let machine = ElfFile::parse(bytes).ok()?.machine();
     match machine {
         EM_386 | EM_X86_64 | EM_AARCH64 => None,
@@ -142,6 +146,7 @@ impl FileSystem for HostInputs<'_> {
 
     fn read_over(&self, path: Path<'_>, room: &mut Vec<u8>) -> Result<(), InputError> {
         self.named.set(None);
+        self.misses.set(false);
         self.files.read_over(path, room)?;
         self.named
             .set(named_file(self.rt.alloc(), path.path_text(), room));
@@ -150,13 +155,16 @@ impl FileSystem for HostInputs<'_> {
 
     fn read_regular_over(&self, path: Path<'_>, room: &mut Vec<u8>) -> Result<(), InputError> {
         let answer = self.files.read_regular_over(path, room);
-        if !self.seeks.get() || !is_not_found(&answer) {
+        if !is_not_found(&answer) {
             return answer;
         }
-        match self.end_of(path.path_text()) {
-            Some(end) => self.files.read_regular_over(Path::new(end), room),
-            None => answer,
+        if self.seeks.get() {
+            if let Some(end) = self.end_of(path.path_text()) {
+                return self.files.read_regular_over(Path::new(end), room);
+            }
         }
+        self.misses.set(true);
+        answer
     }
 
     fn try_regular(&self, path: Path<'_>) -> Result<(), InputError> {

@@ -7,5 +7,6 @@ returns-clause-done g c = record {
   refused = c.pack-answer.ensures.refused;
   cause = λ is. let told = c.pack-answer.ensures.told is in (told.cause, told.is);
   failed = c.pack-answer.ensures.failed;
+  why = c.pack-answer.ensures.why;
   apart = c.pack-answer.ensures.apart;
 }
