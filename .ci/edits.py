@@ -10,7 +10,7 @@ class Edit:
 
     def __init__(self, crate, name):
         self.crate, self.name = crate, name
-        self.pairs, self.functions, self.is_alone = [], set(), False
+        self.pairs, self.functions, self.is_alone, self.is_called = [], set(), False, False
         # Whether it is tried without those answers of the proof that are searches.
         self.is_bare = False
         with open(f"{crate.folder}/must-fail/{name}", encoding="utf-8") as it:
@@ -47,6 +47,15 @@ class Edit:
                 self.is_alone = True
             elif not is_named:
                 self.functions.add(name)
+
+    def words(self):
+        """The words in the bodies of its functions, as it leaves them: among them the names of all that they call."""
+        found, names = set(), {it.rpartition("::")[2] for it in self.functions}
+        for text in (self.applied({})[0] or {}).values():
+            lines = text.split("\n")
+            for first, last, name in functions_in(lines):
+                found.update(re.findall(r"\w+", "\n".join(lines[first + 1 : last])) if name in names else [])
+        return found
 
     def applied(self, texts):
         """The texts of the files with the edit applied to these, or why it can't be."""
@@ -265,6 +274,8 @@ class Group:
             return False
         if self.edits and (self.is_alone or edit.is_alone and not edit.functions):
             return False
+        if edit.is_called and self.takes_copy(edit):
+            return True
         changed, _why = edit.applied(self.texts)
         if changed is None or self.functions & edit.functions:
             return self.takes_copy(edit)
@@ -300,8 +311,15 @@ class Group:
 
 
 def grouped(edits, assumes=True, copies=False):
-    """The edits in as few groups as have different functions, or with copies of one."""
-    groups = []
+    """The edits in as few groups as have different functions, or with copies of one.
+
+    An edit of a function that another edit's function calls is made in a copy where there can be one: the other is then tried
+    beside it, since what it calls stays as it was.
+    """
+    groups, words = [], [(edit.functions, edit.words()) for edit in edits] if copies else []
+    for edit in edits:
+        names = {it.rpartition("::")[2] for it in edit.functions}
+        edit.is_called = any(names & found for functions, found in words if functions != edit.functions)
     for edit in edits:
         if not any(it.takes(edit) for it in groups):
             groups.append(Group(assumes, copies))
