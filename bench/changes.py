@@ -6,14 +6,15 @@
 
 TREE is a copy of the repository in which each crate was proved and built by rt ci, as .ci/wrong-bodies has it. A change
 names an error's neighbour, adds one to a number, or takes a comparison's neighbour. Of all that could be changed --all
-are drawn by the seed, at most --most in a function, from the given crates or all. bench/changed_tests.py comes first: it runs
-the tests over each change, which takes seconds, and a change that a test sees is tried no more. The others are proved; one
-that doesn't compile is drawn anew. Changes of different functions are proved together, with the groups of .ci/wrong-bodies; a
+are drawn by the seed, at most --most in a function, from the given crates or all. bench/changed_tests.py runs the tests over
+each change. Either script may come first: what a test sees isn't proved, and what is refused isn't tested. A change that
+doesn't compile is drawn anew. Changes of different functions are proved together, with the groups of .ci/wrong-bodies; a
 change counts as refused where its own function is told as not proved, and as let through where that is told as proved. What
 came of each is written to out/changes/CRATE.json. --list prints what would be changed, and tries nothing. --page writes what
 both scripts left in out/changes into the table and the lists of bench/changes.md, and keeps that page's reasons; its status
-is 1 where a change is neither seen, refused nor explained.
+is 1 where a change is neither refused, seen nor explained.
 """
+import functools
 import glob
 import json
 import os
@@ -41,7 +42,7 @@ NUMBER = re.compile(r"(?:(?<=\.\.)|(?<![\w.]))(0x[0-9a-f_]+|\d[\d_]*)(?!\w|\.\d)
 OPEN = "not explained"
 STILL = ("still proved with it", "not refused: ")
 # The draw that the page is of: its seed, how many changes, and how many of them at most in a function.
-SEED, COUNT, MOST = 20261130, 400, 2
+SEED, COUNT, MOST = 20261201, 400, 2
 PROVED = re.compile(r"fn (\S+): proved")
 
 
@@ -84,11 +85,19 @@ def changed_crates(tree):
 class Change:
     """A change of one line of a function; .ci/wrong-bodies tries it as it does an edit of must-fail/."""
 
-    def __init__(self, crate, file, line, column, old, new, function):
+    def __init__(self, crate, file, line, column, old, new):
         self.crate, self.file, self.line, self.column, self.old, self.new = crate, file, line, column, old, new
         self.name = f"{file}:{line + 1}:{column + 1} {old} -> {new}"
-        self.functions, self.meant, self.is_alone, self.is_bare = {function}, function, False, False
-        self.pairs = [(file, old, new)]
+        self.is_alone, self.is_bare, self.pairs = False, False, [(file, old, new)]
+
+    @functools.cached_property
+    def meant(self):
+        text = of_edits.text_of(self.crate, self.file)
+        return of_edits.function_at(text, self.file, start_of(text, self.line + 1))
+
+    @functools.cached_property
+    def functions(self):
+        return {self.meant}
 
     def applied(self, texts):
         lines = (texts.get(self.file) or of_edits.text_of(self.crate, self.file)).split("\n")
@@ -142,10 +151,8 @@ def changes_of(crate, after):
     for file, text in texts.items():
         lines = text.split("\n")
         for at in sorted(set(bodies(lines))) if not file.endswith(("laws.rt", "text.rt")) else []:
-            place = sum(len(it) + 1 for it in lines[:at])
-            function = of_edits.function_at(text, file, place)
             for column, old, new in changes_of_line(lines[at], integers, after):
-                yield Change(crate, file, at, column, old, new, function)
+                yield Change(crate, file, at, column, old, new)
 
 
 def drawn(crates, seed, count, most):
@@ -155,10 +162,10 @@ def drawn(crates, seed, count, most):
     random.Random(seed).shuffle(every)
     taken, rest, held = [], [], {}
     for it in every:
-        key = (it.crate.name, it.meant)
-        is_taken = len(taken) < count and held.get(key, 0) < most
+        is_taken = len(taken) < count and held.get((it.crate.name, it.meant), 0) < most
         (taken if is_taken else rest).append(it)
-        held[key] = held.get(key, 0) + is_taken
+        if is_taken:
+            held[it.crate.name, it.meant] = held.get((it.crate.name, it.meant), 0) + 1
     return taken, rest, len(every)
 
 
@@ -239,8 +246,10 @@ class Crate(wrong.Crate):
         other = {name: why for name, why in self.failed.items() if name not in let}
         kept = {"refused": self.refused, "let_through": let, "other": other, "anew": self.anew, "seconds": round(self.seconds), "checks": self.checks, "functions": names}
         os.makedirs(self.into, exist_ok=True)
-        with open(f"{self.into}/{self.crate.name}.json", "w", encoding="utf-8") as out:
+        # (another run may read it meanwhile)
+        with open(f"{self.into}/{self.crate.name}.new", "w", encoding="utf-8") as out:
             json.dump(kept, out, indent=1)
+        os.replace(out.name, f"{self.into}/{self.crate.name}.json")
         return let, other
 
 
@@ -274,19 +283,35 @@ def tests_of_changes():
     return found
 
 
+def tried_of(crate):
+    """What the prover told of a crate's changes, by their names among those of all crates: all that it tried, what it refused, and what it didn't."""
+    file = f"{ROOT}/out/changes/{crate}.json"
+    if not os.path.exists(file):
+        return None, set(), set()
+    with open(file, encoding="utf-8") as it:
+        told = json.load(it)
+    # (a change that took away a name says nothing of what the body means)
+    refused = {it for it, why in told["refused"].items() if not why.startswith(wrong.ONLY_NAMES)}
+    rest = {*told["refused"], *told["let_through"], *told["other"]} - refused
+    every, refused, rest = ([f"{crate} {it}" for it in part] for part in (told["functions"], refused, rest))
+    return every, {*refused}, {*rest}
+
+
+def refused_by_the_prover():
+    """The changes of all crates that the prover refused."""
+    names = (os.path.basename(it).removesuffix(".json") for it in glob.glob(f"{ROOT}/out/changes/*.json"))
+    return {change for name in names if not name.endswith(".seen") for change in tried_of(name)[1]}
+
+
 def row_of(name, keys, tests, reasons):
-    """The cells of a crate's row: its changes, those that a test sees, that the prover refuses, that neither does, and those untried; and the fourth kind."""
-    tried, file = {"functions": [], "refused": [], "let_through": [], "other": []}, f"{ROOT}/out/changes/{name}.json"
-    if os.path.exists(file):
-        with open(file, encoding="utf-8") as it:
-            tried = json.load(it)
-        keys = [*(it for it in keys if it in tests), *(f"{name} {it}" for it in tried["functions"])]
-    every = dict.fromkeys(keys)
-    seen = {it for it in every if it in tests}
-    refused = {it for it in every if it.removeprefix(f"{name} ") in tried["refused"]} - seen
-    told = {f"{name} {it}" for part in ("let_through", "other") for it in tried[part]} | {*reasons}
+    """The cells of a crate's row: its changes, those that the prover refuses, that a test sees, that are to be explained, and the rest; and the fourth kind."""
+    tried, refused, told = tried_of(name)
+    every = dict.fromkeys(keys if tried is None else [*(it for it in keys if it in tests), *tried])
+    seen = {it for it in every if it in tests} - refused
+    told |= {*reasons}
     neither = [it for it in every if it in told and it not in seen | refused]
-    return [len(every), len(seen), len(refused), len(neither), len(every) - len(seen) - len(refused) - len(neither)], neither
+    counts = [len(refused), len(seen), len(neither)]
+    return [len(every), *counts, len(every) - sum(counts)], neither
 
 
 def reasons_of(text):
@@ -296,7 +321,7 @@ def reasons_of(text):
 
 
 def write_page(taken, crates):
-    """Writes the table and the list of bench/changes.md anew; how many changes nobody sees, refuses or explains, or tried."""
+    """Writes the table and the list of bench/changes.md anew; how many changes nobody refuses, sees or explains."""
     page = f"{ROOT}/bench/changes.md"
     with open(page, encoding="utf-8") as it:
         text = it.read()
@@ -308,7 +333,7 @@ def write_page(taken, crates):
     lines = [text[: text.index("|---|")] + "|---|---|---|---|---|---|"]
     lines += [f"| `{name}` | {' | '.join(str(it) for it in row)} |" for name, row in rows.items() if row[0]]
     how = {"subsequent_indent": "  ", "break_long_words": False, "break_on_hyphens": False}
-    lines += ["", "## Neither", "", *(textwrap.fill(f"- `{it}`: {reasons.get(it, OPEN)}", 100, **how) for it in neither)]
+    lines += ["", "## Explained", "", *(textwrap.fill(f"- `{it}`: {reasons.get(it, OPEN)}", 100, **how) for it in neither)]
     with open(page, "w", encoding="utf-8") as it:
         it.write("\n".join(lines) + "\n")
     return sum(it not in reasons for it in neither) + rows["all"][-1]
