@@ -37,11 +37,10 @@ enum Word {
     Place(&'static str, &'static str, &'static str),
 }
 
-/// A command: its name, what it does, what stands below its options, and its words.
+/// A command: its names, what it does, what stands below its options, and its words.
 #[derive(Clone, Copy)]
 struct Line {
     name: &'static str,
-    /// The program's name and its own.
     full_name: &'static str,
     about: &'static str,
     below: &'static str,
