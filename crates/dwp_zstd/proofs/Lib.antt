@@ -1,5 +1,6 @@
 pub mod Terms
 pub mod Copies
+pub mod FourStreams
 pub mod HighBits
 pub mod Loops
 pub mod LowBits
