@@ -1,7 +1,9 @@
 mod Folding
+mod InnerPlaces
 mod Marking
 mod Narrowing
 mod Noting
 mod Prefixing
 mod Sizes
 mod Standing
+mod UsedSections

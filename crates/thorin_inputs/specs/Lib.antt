@@ -1,5 +1,7 @@
 pub mod Given
 pub mod Growth
+pub mod InnerPlaces
+pub mod InnerStrings
 pub mod Macros
 pub mod Mapped
 pub mod Overlaps
@@ -7,3 +9,4 @@ pub mod Plain
 pub mod Prefixes
 pub mod Repetitions
 pub mod RepetitionFields
+pub mod UsedSections

@@ -1,32 +1,48 @@
 //! Strings that begin inside others: a few bytes of string offsets could ask for as many copies of
 //! one long string.
 
+ghost use Rattle.std.specs.Prelude.{◌≡◌, ◌≤◌, ◌<◌, ◌+◌, ◌*◌, ℕ, ◌||◌, ◌&&◌, ◌==◌, nat_lt, IfOk};
+ghost use Rattle.std.specs.Prelude.{OnOk, length};
+ghost use Rattle.std.specs.Option.{option_copied};
+ghost use Rattle.dwp_elf_read.specs.Elf.{elf_of};
+ghost use Rattle.dwp_elf_read.specs.View.{elf};
+ghost use Rattle.dwp_index.specs.Index.{row_in};
+ghost use Rattle.dwp_index.specs.IndexBytes.{index_of};
+ghost use Rattle.thorin_inputs.specs.InnerStrings.{begins_inside, has_inner_strings, has_word};
+ghost use Rattle.thorin_inputs.specs.InnerStrings.{has_row_between, is_row_between, most_inner};
+ghost use Rattle.thorin_inputs.specs.InnerStrings.{inner_size, is_inner, sizes_at, string_size};
+ghost use Rattle.thorin_inputs.specs.InnerStrings.{first_content, or_nothing, step_by, word_count};
+ghost use Rattle.thorin_inputs.specs.InnerPlaces.{Counts, IsSummed, IsWithin, is_counted};
+ghost use Rattle.dwp_base.specs.declared.endian.Endianness.TheVariants.{Little};
+ghost use Rattle.dwp_base.specs.declared.section.SectionKind.TheVariants.{Str};
+
 use crate::growth::LEAST_ROOM;
-use crate::used::{Used, content};
+use crate::overlaps::units;
+use crate::used::{Used, content, or_nothing};
 use dwp_base::SectionKind;
 use dwp_bytes::string_at;
 use dwp_elf::{ElfFile, Endianness};
+use dwp_index::UnitIndex;
 use std::alloc::{AllocError, Global};
+use std::collections::BTreeSet;
 
 /// How many bytes an offset of a string has at least. A longer one is a word with its lower half,
 /// and another that is zero.
 const WORD: usize = 4;
 
 /// How many times as many bytes as their file such strings may have.
-const FILES: usize = 16;
+const FILES: u128 = 16;
 
 /// The strings of a file that begin inside others.
 #[derive(Drop)]
 struct InnerStrings<'a> {
-    alloc: Global,
     /// The section of strings.
     strings: &'a [u8],
-    /// A bit for each byte of it, once there is such a string: whether one that begins there is
-    /// counted.
-    counted: Vec<u8>,
-    /// How many bytes those have that are counted, and how many they may have.
-    size: usize,
-    most: usize,
+    /// How many bytes the file has.
+    file_size: usize,
+    /// Where those begin that are counted, and how many bytes they have.
+    places: BTreeSet<u32>,
+    size: u128,
 }
 
 /// Whether an object's or a package's strings that begin inside others have more than 16 times the
@@ -35,67 +51,125 @@ struct InnerStrings<'a> {
 ///
 /// # Errors
 /// Want of memory.
-pub fn has_inner_strings(alloc: Global, bytes: &[u8]) -> Result<bool, AllocError> {
-    let Ok(file) = ElfFile::parse(bytes) else {
-        return Ok(false);
-    };
-    let used = Used::of(&file);
-    let (true, Some(strings)) = (used.has_units, used.strings) else {
-        return Ok(false);
-    };
-    let mut inner = InnerStrings {
-        alloc,
-        strings,
-        counted: Vec::new(alloc),
-        size: 0,
-        most: bytes.len().saturating_mul(FILES).max(LEAST_ROOM),
-    };
+pub fn has_inner_strings(alloc: Global, bytes: &[u8]) -> Result<bool, AllocError>
+    ensures exact { IfOk result (λ has. has ≡ has_inner_strings bytes.now (elf_of bytes.now)) }
+{
+    match ElfFile::parse(bytes) {
+        Ok(file) => has_inner_in(alloc, &file, bytes.len()),
+        Err(_) => Ok(false),
+    }
+}
+
+/// The same of a file of so many bytes.
+fn has_inner_in(alloc: Global, file: &ElfFile<'_>, size: usize) -> Result<bool, AllocError>
+    ensures { IfOk result (λ has. has ≡ nat_lt (most_inner size) (inner_size (elf file.now))) }
+{
+    match units(file) {
+        Some(_units) => has_inner_beside(alloc, file, size),
+        None => Ok(false),
+    }
+}
+
+/// The same of one that has units.
+fn has_inner_beside(alloc: Global, file: &ElfFile<'_>, size: usize) -> Result<bool, AllocError>
+    ensures { IfOk result (λ has. let strings = or_nothing (first_content Str (elf file.now).sections) in
+        has ≡ nat_lt (most_inner size) (sizes_at strings (is_inner (elf file.now) strings))) }
+{
     let order = file.endianness();
-    let step = if used.has_aligned_offsets(order) {
-        WORD
-    } else {
-        1
+    let used = Used::of(file);
+    let step = step_of(used, order);
+    let mut inner = InnerStrings {
+        strings: or_nothing(used.strings),
+        file_size: size,
+        places: BTreeSet::new(alloc),
+        size: 0,
     };
-    for number in used.first_offsets..used.behind_offsets {
-        let Some(section) = file.section(number) else {
-            continue;
-        };
-        if let Some(SectionKind::StrOffsets) = section.section_kind() {
-            inner.count(content(&section), order, step)?;
+    for i in used.first_offsets..used.behind_offsets {
+        if let Some(section) = file.section(i) {
+            if section.holds(SectionKind::StrOffsets)
+                && inner.count(content(&section), order, step)?
+            {
+                return Ok(true);
+            }
         }
     }
-    Ok(inner.is_past())
+    Ok(false)
+}
+
+/// At each how many bytes a word of string offsets may begin.
+fn step_of(used: Used<'_>, order: Endianness) -> usize
+    ensures step { result ≡ step_by order (or_nothing (option_copied used.entry.compilations))
+        (or_nothing (option_copied used.entry.types)) }
+    ensures least { 1 ≤ result }
+    ensures most { result ≤ 4 }
+{
+    if has_row_between(or_nothing(used.compilations), order)
+        || has_row_between(or_nothing(used.types), order)
+    {
+        return 1;
+    }
+    WORD
+}
+
+/// Whether the string offsets of some row of an index, if it is one, begin between words.
+fn has_row_between(index: &[u8], order: Endianness) -> bool
+    ensures { result ≡ has_row_between (index_of order index.now) }
+{
+    let Ok(index) = UnitIndex::parse(index, order) else {
+        return false;
+    };
+    for number in 0..index.unit_count() {
+        if is_row_between(&index, number + 1) {
+            return true;
+        }
+    }
+    false
+}
+
+/// Whether those of a row do.
+fn is_row_between(index: &UnitIndex<'_>, number: u32) -> bool
+    ensures { result ≡ is_row_between (row_in index.now number) }
+{
+    match index.row(number) {
+        Ok(row) => match row.range(SectionKind::StrOffsets) {
+            Some(range) => range.offset.0 % 4 != 0,
+            None => false,
+        },
+        Err(_) => false,
+    }
 }
 
 impl InnerStrings<'_> {
-    /// Whether they have more bytes than they may have.
-    fn is_past(&self) -> bool {
-        self.size > self.most
-    }
-
-    /// Counts those that offsets name which stand at each so many bytes of a section, up to the one
-    /// with which they are too large.
-    fn count(&mut self, offsets: &[u8], order: Endianness, step: usize) -> Result<(), AllocError> {
+    /// Counts those that words of string offsets name, of which one begins at each so many bytes; up
+    /// to the one with which they are too large. Answers whether they are.
+    fn count(&mut self, offsets: &[u8], order: Endianness, step: usize) -> Result<bool, AllocError>
+        requires within { IsWithin self.old }
+        requires least { 1 ≤ step }
+        requires most { step ≤ 4 }
+        ensures { IfOk result (Counts self.old self.new (λ at.
+            has_word order step offsets.now at && begins_inside self.old.strings.now at)) }
+    {
         match (order, step) {
+            // (nearly all files have these)
             (Endianness::Little, WORD) => self.count_words(offsets),
             _ => self.count_by(offsets, order, step),
         }
     }
 
-    /// The same of words, the lowest byte first, one after the other: nearly all files have these.
-    fn count_words(&mut self, offsets: &[u8]) -> Result<(), AllocError> {
+    /// The same of words, the lowest byte first, one after the other.
+    fn count_words(&mut self, offsets: &[u8]) -> Result<bool, AllocError>
+        requires { IsWithin self.old }
+        ensures { IfOk result (Counts self.old self.new (λ at.
+            has_word Little 4 offsets.now at && begins_inside self.old.strings.now at)) }
+    {
         let strings = self.strings;
-        for number in 0..offsets.len() / WORD {
-            let rest = &offsets[number * WORD..];
-            let offset = Endianness::Little.read_u32(rest) as usize;
-            if begins_inside(strings, offset) {
-                self.add(offset)?;
-                if self.is_past() {
-                    return Ok(());
-                }
+        for number in 0..word_count(offsets.len(), WORD) {
+            let place = Endianness::Little.read_u32(&offsets[number * WORD..]);
+            if begins_inside(strings, place) && self.add(place)? {
+                return Ok(true);
             }
         }
-        Ok(())
+        Ok(false)
     }
 
     /// The same for any order and step.
@@ -104,61 +178,81 @@ impl InnerStrings<'_> {
         offsets: &[u8],
         order: Endianness,
         step: usize,
-    ) -> Result<(), AllocError> {
+    ) -> Result<bool, AllocError>
+        requires within { IsWithin self.old }
+        requires least { 1 ≤ step }
+        requires most { step ≤ 4 }
+        ensures { IfOk result (Counts self.old self.new (λ at.
+            has_word order step offsets.now at && begins_inside self.old.strings.now at)) }
+    {
         let strings = self.strings;
-        for number in 0..offsets.len() {
-            let Some(offset) = word_at(offsets, order, number.wrapping_mul(step)) else {
-                return Ok(());
-            };
-            if begins_inside(strings, offset) {
-                self.add(offset)?;
-                if self.is_past() {
-                    return Ok(());
-                }
+        for number in 0..word_count(offsets.len(), step) {
+            let place = order.read_u32(&offsets[number * step..]);
+            if begins_inside(strings, place) && self.add(place)? {
+                return Ok(true);
             }
         }
-        Ok(())
+        Ok(false)
     }
 
-    /// Counts the one that begins at an offset, unless it is counted.
+    /// Counts the one that begins at a place, unless it is counted. Answers whether they are too
+    /// large then.
     #[inline(never)]
-    fn add(&mut self, offset: usize) -> Result<(), AllocError> {
-        if self.counted.is_empty() {
-            self.counted.resize(self.strings.len() / 8 + 1, 0)?;
+    fn add(&mut self, place: u32) -> Result<bool, AllocError>
+        requires { IsWithin self.old }
+        ensures strings { OnOk result (self.new.strings.now ≡ self.old.strings.now) }
+        ensures file { OnOk result (self.new.file_size ≡ self.old.file_size) }
+        ensures summed { OnOk result (IsSummed self.new) }
+        ensures past { IfOk result (λ past.
+            past ≡ nat_lt (most_inner self.old.file_size) self.new.size) }
+        ensures all { OnOk result ((at : ℕ) → is_counted self.new at
+            ≡ (is_counted self.old at || place == at)) }
+    {
+        if self.places.insert(place)? {
+            self.size += size_at(self.strings, place as usize) as u128;
         }
-        if let Some(bits) = self.counted.get_mut(offset / 8) {
-            let bit = 1 << (offset % 8);
-            if *bits & bit == 0 {
-                *bits |= bit;
-                self.size = self.size.saturating_add(size_at(self.strings, offset));
-            }
-        }
-        Ok(())
+        Ok(self.size > most_inner(self.file_size))
     }
 }
 
-/// The word at a place; None where fewer bytes are left.
-fn word_at(bytes: &[u8], order: Endianness, at: usize) -> Option<usize> {
-    if at > bytes.len() || bytes.len() - at < WORD {
-        return None;
-    }
-    Some(order.read_u32(&bytes[at..]) as usize)
+/// How many bytes such strings may have in a file of so many bytes.
+fn most_inner(size: usize) -> u128
+    ensures { result ≡ most_inner size }
+{
+    (size as u128 * FILES).max(LEAST_ROOM as u128)
 }
 
-/// Whether the byte before an offset is one of a string.
+/// How many words so many bytes have, of which one begins at each so many bytes.
 #[inline(always)]
-fn begins_inside(strings: &[u8], offset: usize) -> bool {
-    match strings.get(offset.wrapping_sub(1)) {
+fn word_count(size: usize, step: usize) -> usize
+    requires least { 1 ≤ step }
+    requires most { step ≤ 4 }
+    ensures { result ≡ word_count step size }
+{
+    if size < WORD {
+        return 0;
+    }
+    (size - WORD) / step + 1
+}
+
+/// Whether the byte before a place is one of a string.
+#[inline(always)]
+fn begins_inside(strings: &[u8], place: u32) -> bool
+    ensures { result ≡ begins_inside strings.now place }
+{
+    match strings.get((place as usize).wrapping_sub(1)) {
         Some(before) => *before != 0,
         None => false,
     }
 }
 
-/// How many bytes a string has that begins at an offset, with the zero byte at its end; those to
-/// the end of the section where there is none.
-fn size_at(strings: &[u8], offset: usize) -> usize {
-    match string_at(strings, offset as u64) {
-        Ok(string) => string.len().saturating_add(1),
-        Err(_) => strings.len().saturating_sub(offset),
+/// How many bytes a string has that begins at a place, with the zero byte at its end; those to the
+/// end of the section where there is none.
+fn size_at(strings: &[u8], place: usize) -> usize
+    ensures { result ≡ string_size strings.now place }
+{
+    match string_at(strings, place as u64) {
+        Ok(string) => string.len() + 1,
+        Err(_) => strings.len().saturating_sub(place),
     }
 }

@@ -55,7 +55,7 @@ fn used_in(file: &ElfFile<'_>) -> u64
 
 /// The first section of units.
 #[tactic(auto, using(dwp_base::proofs::Finds::find_hit, dwp_base::proofs::Finds::find_miss, dwp_base::proofs::Finds::slice_get_none))]
-fn units<'a>(file: &ElfFile<'a>) -> Option<Section<'a>>
+pub(crate) fn units<'a>(file: &ElfFile<'a>) -> Option<Section<'a>>
     ensures { option_map view.section result ≡ find (is_of Info) (elf file.now).sections }
 {
     for i in 0..file.section_count() {
@@ -70,7 +70,7 @@ fn units<'a>(file: &ElfFile<'a>) -> Option<Section<'a>>
 
 /// The first section of a kind that has bytes.
 #[tactic(auto, using(dwp_base::proofs::Finds::find_hit, dwp_base::proofs::Finds::find_miss, dwp_base::proofs::Finds::slice_get_none))]
-fn first<'a>(file: &ElfFile<'a>, kind: SectionKind) -> Option<Section<'a>>
+pub(crate) fn first<'a>(file: &ElfFile<'a>, kind: SectionKind) -> Option<Section<'a>>
     ensures { option_map view.section result ≡ find (holds kind) (elf file.now).sections }
 {
     for i in 0..file.section_count() {
