@@ -1,4 +1,5 @@
 pub mod Answers
+pub mod Failures
 pub mod Lines
 pub mod Shown
 pub mod Spelled

@@ -11,7 +11,7 @@ mod telling;
 
 pub use form::Form;
 pub use line_output::{LineOutput, WatchedLines};
-pub use output::{Failure, answer, answer_bytes, buffer, flush, print, report, show};
+pub use output::{Failure, answer, answer_bytes, buffer, flush, print, show};
 pub use showing::{shown, shown_briefly};
 pub use spelled::{put_spelled, put_spelled_or};
 pub use telling::tell_taken;

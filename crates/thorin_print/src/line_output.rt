@@ -1,10 +1,14 @@
 //! What the lines of a command are printed to, and whether that failed.
 
-ghost use Rattle.std.specs.Prelude.{◌≡◌, ℕ, List, Option, IfErr, OnOk, true, ⊤};
+ghost use Rattle.std.specs.Prelude.{◌≡◌, ℕ, List, Option, IfErr, IfSome, IsTrue, OnOk, true, false};
+ghost use Rattle.std.specs.Prelude.{⊤};
+ghost use Rattle.std.specs.Io.KnownBytes.{Appends};
 ghost use Rattle.std.specs.Io.KnownBytes.{Keeps};
 ghost use Rattle.thorin_print.specs.Answers.{FailsBy, Prints};
+ghost use Rattle.thorin_print.specs.Failures.{Reports, error_line};
 
 use crate::output::{Failure, flush, print};
+use std::fmt;
 use std::io::Write;
 
 /// What takes the lines that a command prints. Every `Write` is one.
@@ -77,5 +81,58 @@ impl<W: Write> LineOutput for WatchedLines<W> {
             self.has_failed = true;
         }
         flushed
+    }
+}
+
+impl<W: Write> WatchedLines<W> {
+    /// A writer to which nothing was printed yet.
+    pub fn new(writer: W) -> WatchedLines<W>
+        ensures { result.writer ≡ writer }
+    {
+        WatchedLines {
+            writer,
+            has_failed: false,
+        }
+    }
+
+    /// Prints a text as it is, and answers whether it could.
+    pub fn show<D: fmt::Display>(&mut self, text: &D) -> bool
+        ensures shown { IsTrue result → IfSome (D.output text.now)
+            (Appends (W.contents self.old.writer) (W.contents self.new.writer)) }
+        ensures failed { result ≡ false → self.new.has_failed ≡ true }
+        ensures once { self.old.has_failed ≡ true → self.new.has_failed ≡ true }
+    {
+        if write!(self.writer, "{text}").is_ok() {
+            return true;
+        }
+        self.has_failed = true;
+        false
+    }
+
+    /// Prints the line of an error, and answers whether it could.
+    pub fn tell<D: fmt::Display>(&mut self, error: &D) -> bool
+        ensures told { IsTrue result → IfSome (D.output error.now) (λ text.
+            Appends (W.contents self.old.writer) (W.contents self.new.writer) (error_line text)) }
+        ensures failed { result ≡ false → self.new.has_failed ≡ true }
+        ensures once { self.old.has_failed ≡ true → self.new.has_failed ≡ true }
+    {
+        if writeln!(self.writer, "error: {error}").is_ok() {
+            return true;
+        }
+        self.has_failed = true;
+        false
+    }
+
+    /// Tells a failure, and answers its status; 1 where it can't be printed.
+    pub fn report(&mut self, failure: &Failure) -> u8
+        ensures reports { Reports failure.now (W.contents self.old.writer)
+            (W.contents self.new.writer) (self.new.has_failed ≡ true) result }
+        ensures once { self.old.has_failed ≡ true → self.new.has_failed ≡ true }
+    {
+        if self.tell(failure) {
+            failure.status()
+        } else {
+            1
+        }
     }
 }

@@ -1,10 +1,12 @@
 //! What the program prints of failures, and how it prints a text.
 
-ghost use Rattle.std.specs.Prelude.{◌≡◌, ◌⊎◌, ◌≤◌, length, take, IfOk, IfErr, OnOk, OnErr};
+ghost use Rattle.std.specs.Prelude.{◌≡◌, ◌≤◌, length, take, IfOk, IfErr, OnOk, OnErr, Some};
+ghost use Rattle.std.specs.Fmt.{DisplaysOnOk};
 ghost use Rattle.std.specs.Io.KnownBytes.{Appends, Keeps};
 ghost use Rattle.thorin_print.specs.Answers.{HasBeginning, Comes, exit_status};
 ghost use Rattle.thorin_print.specs.Answers.{IsOfPrinting, Prints};
-ghost use Rattle.thorin_print.specs.declared.output.Failure.TheVariants.{Memory};
+ghost use Rattle.thorin_print.specs.Failures.{failure_text};
+ghost use Rattle.thorin_print.specs.declared.output.Failure.TheVariants.{Memory, NoRange, NoUnit};
 
 use dwp_base::SectionKind;
 use std::alloc::{AllocError, AllocFailed, Global};
@@ -62,42 +64,48 @@ impl Failure {
             _ => 1,
         }
     }
+}
 
-    /// What is said of it, an identifier, a number and a kind aside.
-    fn text(&self) -> &'static str {
+impl fmt::Display for Failure {
+    ghost output = { λ failure. Some (failure_text failure) };
+
+    fn fmt<W: fmt::Write>(&self, f: &mut fmt::Formatter<W>) -> fmt::Result {
         match self {
-            Failure::Output => "Failed to write output file",
-            Failure::Overwrites => "Output file is an input: --force overwrites it",
-            Failure::Response => "Failed to read response file",
-            Failure::Line => "Failed to write standard output",
-            Failure::Input => "Failed to read input file",
-            Failure::Malformed => "Malformed package",
-            Failure::NoIndex => "no index: not a package",
-            Failure::NoUnit(_) => "Unit is not in the package",
-            Failure::BadKind => "Bad unit kind",
-            Failure::BadIdentifier => "Bad identifier",
-            Failure::BadNumber => "Bad number",
-            Failure::BadSection => "Bad section kind",
-            Failure::NoString(_) => "Unit has no such string",
-            Failure::NoRange(_) => "Unit has no such range",
-            Failure::BadCommand => "Bad command line",
-            Failure::Memory => "Out of memory",
+            Failure::Output => f.write_str("Failed to write output file"),
+            Failure::Overwrites => f.write_str("Output file is an input: --force overwrites it"),
+            Failure::Response => f.write_str("Failed to read response file"),
+            Failure::Line => f.write_str("Failed to write standard output"),
+            Failure::Input => f.write_str("Failed to read input file"),
+            Failure::Malformed => f.write_str("Malformed package"),
+            Failure::NoIndex => f.write_str("no index: not a package"),
+            Failure::NoUnit(id) => write_unit(f, *id),
+            Failure::BadKind => f.write_str("Bad unit kind"),
+            Failure::BadIdentifier => f.write_str("Bad identifier"),
+            Failure::BadNumber => f.write_str("Bad number"),
+            Failure::BadSection => f.write_str("Bad section kind"),
+            Failure::NoString(number) => write!(f, "Unit has no string {number}"),
+            Failure::NoRange(kind) => write_range(f, *kind),
+            Failure::BadCommand => f.write_str("Bad command line"),
+            Failure::Memory => f.write_str("Out of memory"),
         }
     }
 }
 
-impl fmt::Display for Failure {
-    fn fmt<W: fmt::Write>(&self, f: &mut fmt::Formatter<W>) -> fmt::Result {
-        match self {
-            Failure::NoUnit(id) => write!(f, "Unit 0x{id:08x} is not in the package"),
-            Failure::NoString(i) => write!(f, "Unit has no string {i}"),
-            Failure::NoRange(kind) => {
-                let name = kind.short_name();
-                write!(f, "Unit has no range of {name}")
-            }
-            _ => f.write_str(self.text()),
-        }
-    }
+/// Writes what is said of an identifier that no unit has.
+#[tactic(auto, using(crate::proofs::Hex::hex8_written))]
+fn write_unit<W: fmt::Write>(f: &mut fmt::Formatter<W>, id: u64) -> fmt::Result
+    ensures { DisplaysOnOk W.write_str_gives f.old result (Some (failure_text (NoUnit id))) f.new }
+{
+    write!(f, "Unit 0x{id:08x} is not in the package")
+}
+
+/// Writes what is said of a kind of section that a unit has no range of.
+fn write_range<W: fmt::Write>(f: &mut fmt::Formatter<W>, kind: SectionKind) -> fmt::Result
+    ensures { DisplaysOnOk W.write_str_gives f.old result (Some (failure_text (NoRange kind)))
+        f.new }
+{
+    let name = kind.short_name();
+    write!(f, "Unit has no range of {name}")
 }
 
 impl From<AllocError> for Failure {
@@ -226,16 +234,6 @@ pub fn flush<W: Write>(lines: &mut W) -> Result<(), Failure>
     match lines.flush() {
         Ok(()) => Ok(()),
         Err(e) => Err(buffer_failure(&e)),
-    }
-}
-
-/// Prints a failure, and answers its status; 1 where it can't be printed.
-pub fn report<W: Write>(err: &mut W, failure: &Failure) -> u8
-    ensures { (result ≡ exit_status failure.now) ⊎ (result ≡ 1) }
-{
-    match writeln!(err, "error: {failure}") {
-        Ok(()) => failure.status(),
-        Err(_) => 1,
     }
 }
 

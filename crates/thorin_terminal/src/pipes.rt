@@ -9,7 +9,8 @@ use std::io::{self, Write};
 pub struct Watched<O> {
     /// The writer.
     pub out: O,
-    failure: Option<io::Error>,
+    /// Why the last write that failed did, if one did.
+    pub failure: Option<io::Error>,
 }
 
 impl<O: Write> Watched<O> {
@@ -18,11 +19,6 @@ impl<O: Write> Watched<O> {
         ensures { result.out ≡ out }
     {
         Watched { out, failure: None }
-    }
-
-    /// Why a write failed, if one did.
-    pub fn failure(&self) -> Option<io::Error> {
-        self.failure
     }
 }
 
