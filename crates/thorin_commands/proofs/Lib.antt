@@ -1,7 +1,9 @@
 mod Causes
-mod Lines
+pub mod Lines
+mod Made
 mod Opened
 mod Puts
 mod Readable
 mod Taken
+mod Warned
 mod Whys

@@ -5,7 +5,8 @@ use Rattle.std.specs.Io.KnownBytes.{Appends}
 use Rattle.std.proofs.lemmas.List.{append_assoc, append-nil}
 use Rattle.thorin_words.specs.Printed as words
 use Rattle.thorin_print.specs.Answers.{Grows}
-use Rattle.thorin_commands.specs.Cause.{HasLine, Tells, error_line}
+use Rattle.thorin_print.specs.Failures.{error_line}
+use Rattle.thorin_commands.specs.Cause.{HasLine, Tells}
 
 -- known bytes stay known
 known : (old new : Option (List ℕ)) (bytes : List ℕ) → IsSome old → Appends old new bytes

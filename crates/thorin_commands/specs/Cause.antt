@@ -1,5 +1,5 @@
 -- Why nothing was packed where the program answers 1, and the line that tells it.
-use Rattle.std.specs.Prelude.{◌≡◌, ◌≢◌, ◌⊎◌, ℕ, List, [], ◌∷◌, ◌++◌, Bool, true, false, codes}
+use Rattle.std.specs.Prelude.{◌≡◌, ◌≢◌, ◌⊎◌, ℕ, List, [], ◌∷◌, ◌++◌, Bool, true, false}
 use Rattle.std.specs.Prelude.{Option, Some, None, IsSome, Ok, Err}
 use Rattle.std.specs.Borrow.{Bor}
 use Rattle.std.specs.Option.{option_map}
@@ -25,7 +25,7 @@ use Rattle.thorin.specs.Run.{DeclinesInput, RefusesToWrite, Took}
 use Rattle.thorin.specs.declared.packing.Input.{Input}
 use Rattle.thorin.specs.declared.packing.Input.TheVariants as inputs
 use Rattle.thorin_words.specs.Printed.{printed}
-use Rattle.thorin_print.specs.Lines.{line_end}
+use Rattle.thorin_print.specs.Failures.{error_line}
 use Rattle.thorin_print.specs.declared.output.Failure.{Failure}
 use Rattle.thorin_print.specs.declared.output.Failure.TheVariants as failures
 use Rattle.thorin_inputs.specs.Growth.{growth_text}
@@ -39,9 +39,6 @@ use Rattle.thorin_commands.specs.declared.refusal.Refusal.{Refusal}
 use Rattle.thorin_commands.specs.declared.refusal.Refusal.TheVariants as refusals
 
 -- ---- the line
-
-abbrev pub error_line : List ℕ → List ℕ
-error_line text = codes "error: " ++ (text ++ line_end)
 
 -- a writer whose bytes are known at all times has the line of a text among them
 unfoldable pub HasLine : {W : Type 0} → (contents : W → Option (List ℕ)) → W → (text : List ℕ)

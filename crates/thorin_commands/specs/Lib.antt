@@ -1,7 +1,9 @@
 pub mod Archives
 pub mod Cause
 pub mod Failing
+pub mod Made
 pub mod Naming
 pub mod Opened
 pub mod Packing
 pub mod Taken
+pub mod Warned

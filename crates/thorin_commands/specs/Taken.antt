@@ -11,6 +11,7 @@ use Rattle.dwp_macros.specs.declared.kept.KeptMacros.{KeptMacros}
 use Rattle.thorin_builder.specs.declared.reader.NotTaken.{NotTaken}
 use Rattle.thorin_builder.specs.declared.reader.NotTaken.TheVariants.{Failed, Declined}
 use Rattle.thorin_errors.specs.declared.error.InputError.{InputError}
+use Rattle.thorin_inputs.specs.InnerStrings.{has_inner_strings}
 use Rattle.thorin_inputs.specs.Macros.{IsKeptOf}
 use Rattle.thorin_inputs.specs.Overlaps.{overlaps}
 use Rattle.thorin_inputs.specs.Plain.{IsPlain}
@@ -73,10 +74,11 @@ HasOverlap manner bytes = (overlaps bytes (elf_of bytes) ≡ true)
     ⊎ ((manner.decompresses ≡ true)
     × (decompressing.overlaps OfUnits bytes (elf_of bytes) ≡ true))
 
--- plain bytes are declined: for their strings, where these may not overlap, or since macros are to
--- go
+-- plain bytes are declined: many of their strings begin inside others, where that isn't allowed; or
+-- macros are to go
 abbrev pub DeclinesPlain : Manner → List ℕ → Growth → Type 0
-DeclinesPlain manner plain growth.Strings = manner.allows_overlap ≡ false
+DeclinesPlain manner plain growth.Strings =
+    (manner.allows_overlap ≡ false) × (has_inner_strings plain (elf_of plain) ≡ true)
 DeclinesPlain manner plain growth.Macros = IsSome (kept_macros_of manner.macros plain)
 DeclinesPlain manner plain _ = ⊥
 

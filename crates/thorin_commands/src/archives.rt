@@ -1,17 +1,19 @@
 //! Archives as inputs of `pack`.
 
-ghost use Rattle.std.specs.Prelude.{◌≡◌, ◌⊎◌, ◌∷◌, [], map, Ok, OnOk, IfErr, true};
+ghost use Rattle.std.specs.Prelude.{◌≡◌, ◌⊎◌, ◌-◌, ◌∷◌, [], map, Ok, OnOk, IfErr, true};
 ghost use Rattle.std.specs.Path.{path_bytes};
 ghost use Rattle.thorin.specs.declared.packing.Input.TheVariants.{Object};
 ghost use Rattle.dwp_archive.specs.View as view;
+ghost use Rattle.thorin_output.specs.Warnings.{IsPrinted};
 ghost use Rattle.thorin_print.specs.Answers.{FailsBy};
 ghost use Rattle.thorin_commands.specs.Archives.{is_archive, is_split, split_contents};
 ghost use Rattle.thorin_commands.specs.Cause.{AreRefused, IsNotTaken, IsTakenNot, IsUnfit};
 ghost use Rattle.thorin_commands.specs.Cause.{IsMalformed, IsUntaken, Refuses, StopsAmong};
 ghost use Rattle.thorin_commands.specs.Cause.{Malformed, StopsIn, Tells, refusal_text, text_of};
 ghost use Rattle.thorin_commands.specs.Opened.{TookAll, TookEach, TookMembers, TookBytes};
+ghost use Rattle.thorin_commands.specs.Warned.{TellsAdded, path_of, unit_count};
 
-use crate::origins::{Holding, Origin, now_in, place_of_refused};
+use crate::origins::{Holding, Origin, now_in, place_of_refused, unit_count};
 use crate::reading::Inputs;
 use crate::refusal::Refusal;
 use crate::taking::{Tried, settle};
@@ -67,6 +69,9 @@ pub(crate) fn take_opened<'o, 's: 'o, Sess: Session<RelocationEntry>, I: Inputs,
     requires { I.opens inputs.now ≡ true }
     ensures took { OnOk result (TookAll (I.opens inputs.now) (I.manner inputs.now)
         (I.offer inputs.now) (Object path.entry) builder.old.state builder.new.state) }
+    ensures line { OnOk result (IsPrinted (E.contents err.old) (E.contents err.new)
+        (TellsAdded telling.verbose (path_of (Object path.entry))
+        (unit_count builder.new.state - unit_count builder.old.state))) }
     ensures told { IfErr result (Refuses E.contents E.failed err.new (IsNotTaken
         (I.opens inputs.now) (I.manner inputs.now) (I.offer inputs.now) (I.declines inputs.now)
         (Object path.entry) builder.old.state)) }
@@ -102,6 +107,9 @@ fn take_read<'o, 's: 'o, Sess: Session<RelocationEntry>, I: Inputs, E: LineOutpu
     requires offered { I.offer inputs.now (path_bytes place.path) (Ok bytes.now) }
     ensures took { OnOk result (TookAll (I.opens inputs.now) (I.manner inputs.now)
         (I.offer inputs.now) (Object place.entry.path) builder.old.state builder.new.state) }
+    ensures line { OnOk result (IsPrinted (E.contents err.old) (E.contents err.new)
+        (TellsAdded place.entry.telling.verbose (path_of (Object place.entry.path))
+        (unit_count builder.new.state - unit_count builder.old.state))) }
     ensures told { IfErr result (Refuses E.contents E.failed err.new (IsNotTaken
         (I.opens inputs.now) (I.manner inputs.now) (I.offer inputs.now) (I.declines inputs.now)
         (Object place.entry.path) builder.old.state)) }
@@ -123,10 +131,13 @@ fn take_object<'o, 's: 'o, Sess: Session<RelocationEntry>, I: Inputs, E: LineOut
 ) -> Result<(), Refusal>
     ensures took { OnOk result
         (TookBytes (I.offer inputs.now) bytes.now builder.old.state builder.new.state) }
+    ensures line { OnOk result (IsPrinted (E.contents err.old) (E.contents err.new)
+        (TellsAdded place.entry.telling.verbose (path_of (Object place.entry.path))
+        (unit_count builder.new.state - unit_count builder.old.state))) }
     ensures told { IfErr result (Refuses E.contents E.failed err.new (IsUntaken (AreRefused (I.offer
         inputs.now) (I.declines inputs.now) bytes.now builder.old.state))) }
 {
-    let before = builder.contained_units().len();
+    let before = unit_count(builder);
     let outcome = take_bytes(place.telling.alloc, inputs, builder, bytes);
     let tried = Tried {
         input: Input::Object(place.path),
@@ -162,6 +173,9 @@ fn take_members<'o, 's: 'o, Sess: Session<RelocationEntry>, I: Inputs, E: LineOu
 ) -> Result<(), Refusal>
     ensures took { OnOk result (TookMembers (I.manner inputs.now) (I.offer inputs.now) bytes.now
         builder.old.state builder.new.state) }
+    ensures line { OnOk result (IsPrinted (E.contents err.old) (E.contents err.new)
+        (TellsAdded place.entry.telling.verbose (path_of (Object place.entry.path))
+        (unit_count builder.new.state - unit_count builder.old.state))) }
     ensures told { IfErr result (Refuses E.contents E.failed err.new (StopsIn (I.offer inputs.now)
         (I.declines inputs.now) (I.manner inputs.now) bytes.now builder.old.state)) }
 {
@@ -183,18 +197,32 @@ fn take_listed<'o, 's: 'o, Sess: Session<RelocationEntry>, I: Inputs, E: LineOut
 ) -> Result<(), Refusal>
     ensures took { OnOk result (TookEach (I.manner inputs.now) (I.offer inputs.now)
         (split_contents (map view.member members.now)) builder.old.state builder.new.state) }
+    ensures line { OnOk result (IsPrinted (E.contents err.old) (E.contents err.new)
+        (TellsAdded place.entry.telling.verbose (path_of (Object place.entry.path))
+        (unit_count builder.new.state - unit_count builder.old.state))) }
     ensures told { IfErr result (Refuses E.contents E.failed err.new (IsUntaken (StopsAmong (I.offer
         inputs.now) (I.declines inputs.now) (I.manner inputs.now) (split_contents (map
         view.member members.now)) builder.old.state))) }
 {
-    let before = builder.contained_units().len();
+    let before = unit_count(builder);
     take_each(inputs, builder, members, place, err)?;
-    if place.telling.verbose {
-        let added = builder.contained_units().len().saturating_sub(before);
-        let name = place.path.path_text();
-        tell_taken(place.telling.alloc, name, added, None, err)?;
-    }
+    let added = unit_count(builder).saturating_sub(before);
+    tell_archive(place, added, err)?;
     Ok(())
+}
+
+/// Tells of an archive how many units of its members were added, where that is asked for.
+#[tactic(auto, using(crate::proofs::Warned::not_verbose, crate::proofs::Warned::added_told))]
+fn tell_archive<E: LineOutput>(place: Place<'_>, added: usize, err: &mut E) -> Result<(), Failure>
+    ensures line { OnOk result (IsPrinted (E.contents err.old) (E.contents err.new)
+        (TellsAdded place.entry.telling.verbose (path_of (Object place.entry.path)) added)) }
+    ensures blamed { IfErr result (FailsBy (E.failed err.new)) }
+{
+    if !place.telling.verbose {
+        return Ok(());
+    }
+    let name = place.path.path_text();
+    tell_taken(place.telling.alloc, name, added, None, err)
 }
 
 /// Where an object or an archive was read, and what is told of it.
@@ -214,6 +242,7 @@ fn take_each<'o, 's: 'o, Sess: Session<RelocationEntry>, I: Inputs, E: LineOutpu
 ) -> Result<(), Refusal>
     ensures took { OnOk result (TookEach (I.manner inputs.now) (I.offer inputs.now)
         (split_contents (map view.member members.now)) builder.old.state builder.new.state) }
+    ensures kept { OnOk result (err.new ≡ err.old) }
     ensures told { IfErr result (Refuses E.contents E.failed err.new (IsUntaken (StopsAmong (I.offer
         inputs.now) (I.declines inputs.now) (I.manner inputs.now) (split_contents (map
         view.member members.now)) builder.old.state))) }
@@ -235,6 +264,7 @@ fn take_split<'o, 's: 'o, Sess: Session<RelocationEntry>, I: Inputs, E: LineOutp
 ) -> Result<(), Refusal>
     ensures took { OnOk result (TookEach (I.manner inputs.now) (I.offer inputs.now)
         (split_contents (view.member member.entry ∷ [])) builder.old.state builder.new.state) }
+    ensures kept { OnOk result (err.new ≡ err.old) }
     ensures told { IfErr result (Refuses E.contents E.failed err.new (IsUntaken (StopsAmong (I.offer
         inputs.now) (I.declines inputs.now) (I.manner inputs.now) (split_contents (view.member
         member.entry ∷ [])) builder.old.state))) }

@@ -1,7 +1,12 @@
 //! Type units that differ from the ones kept: which inputs brought both, and the type's name.
 
+ghost use Rattle.std.specs.Prelude.{◌≡◌, ◌++◌, ℕ, List, IfOk, OnOk, string_bytes};
+ghost use Rattle.thorin_join.specs.Builder.{differing_in};
+ghost use Rattle.thorin_commands.specs.Warned.{TellNamed, TellsNamed, named_line};
+
 use crate::origins::{Origin, Origins, printed_origin};
 use crate::reading::Inputs;
+use crate::telling::{Telling, unit_line};
 use dwp_bytes::RelocationEntry;
 use dwp_table::{DebugTypeSignature, DwarfObject};
 use std::alloc::{AllocError, Global};
@@ -24,8 +29,6 @@ pub(crate) struct Differences {
     last: Cell<Option<BTreeMap<u64, String>>>,
     /// What is told of those so far; none where there was no memory for it.
     told: Cell<Option<Told>>,
-    /// Their lines.
-    lines: Cell<Option<String>>,
 }
 
 /// For each of them the type's name and the input, and how many bytes these have.
@@ -35,29 +38,82 @@ struct Told {
     size: usize,
 }
 
-/// One of them: its place among them, its signature, and the place of the one kept among the
-/// package's units.
+/// One of them: its place among them, and the place of the one kept among the package's units.
 #[derive(Clone, Copy)]
 pub(crate) struct Difference {
     number: usize,
-    signature: DebugTypeSignature,
     kept: Option<usize>,
 }
 
-/// Tells of each, for lines that are printed once the package is written.
-pub(crate) fn tell_differing<'o, 's: 'o, Sess: Session<RelocationEntry>, I: Inputs>(
+/// The lines of all, which are printed once the package is written, where that is asked for.
+#[tactic(auto, using(crate::proofs::Warned::with_names, crate::proofs::Warned::without_names))]
+pub(crate) fn lines_of_differing<'o, 's: 'o, Sess: Session<RelocationEntry>, I: Inputs>(
     inputs: &I,
     builder: &DwarfPackage<'o, 's, Sess>,
-) -> Result<(), AllocError> {
-    for (number, signature) in builder.differing_types().iter().enumerate() {
-        let unit = DwarfObject::TypeUnit(*signature);
-        inputs.tell_difference(Difference {
-            number,
-            signature: *signature,
-            kept: builder.contained_units().get_index_of(&unit),
-        })?;
+    telling: Telling,
+) -> Result<String, AllocError>
+    ensures { IfOk result (λ lines. TellsNamed telling.names (differing_in builder.now.state)
+        (string_bytes lines)) }
+{
+    if telling.names {
+        named_lines(inputs, builder, telling.alloc)
+    } else {
+        Ok(String::new(telling.alloc))
     }
-    Ok(())
+}
+
+/// The line of each.
+fn named_lines<'o, 's: 'o, Sess: Session<RelocationEntry>, I: Inputs>(
+    inputs: &I,
+    builder: &DwarfPackage<'o, 's, Sess>,
+    alloc: Global,
+) -> Result<String, AllocError>
+    ensures { IfOk result (λ lines. TellNamed (differing_in builder.now.state)
+        (string_bytes lines)) }
+{
+    let mut lines = String::new(alloc);
+    let differing = builder.differing_types();
+    for number in 0..differing.len() {
+        let more = if lines.len() < MOST {
+            known_of(inputs, builder, number, differing[number])?
+        } else {
+            String::new(alloc)
+        };
+        put_named(alloc, differing[number], more.as_str(), &mut lines)?;
+    }
+    Ok(lines)
+}
+
+/// What is known of one, by its place among them.
+fn known_of<'o, 's: 'o, Sess: Session<RelocationEntry>, I: Inputs>(
+    inputs: &I,
+    builder: &DwarfPackage<'o, 's, Sess>,
+    number: usize,
+    signature: DebugTypeSignature,
+) -> Result<String, AllocError> {
+    let unit = DwarfObject::TypeUnit(signature);
+    let kept = builder.contained_units().get_index_of(&unit);
+    inputs.difference(Difference { number, kept })
+}
+
+/// Adds the line of one, with what is known of it.
+fn put_named(
+    alloc: Global,
+    signature: DebugTypeSignature,
+    more: &str,
+    lines: &mut String,
+) -> Result<(), AllocError>
+    ensures { OnOk result (string_bytes lines.new ≡ string_bytes lines.old
+        ++ named_line signature.0 more.now) }
+{
+    let line = unit_line(
+        alloc,
+        "warning: type unit 0x",
+        signature.0,
+        " differs from the one kept",
+        more,
+    )?;
+    lines.push_str(line.as_str())
 }
 
 impl Differences {
@@ -69,7 +125,6 @@ impl Differences {
             is_asked,
             last: Cell::new(None),
             told: Cell::new(Some(Told { texts, size: 0 })),
-            lines: Cell::new(None),
         }
     }
 
@@ -94,33 +149,16 @@ impl Differences {
         self.last.set(last);
     }
 
-    /// Adds the line of one, by what brought the package's units.
+    /// What is known of one, by what brought the package's units.
     ///
     /// # Errors
     /// Want of memory.
-    pub(crate) fn tell(&self, it: Difference, origins: &Origins) -> Result<(), AllocError> {
-        if !self.is_asked {
-            return Ok(());
-        }
+    pub(crate) fn of(&self, it: Difference, origins: &Origins) -> Result<String, AllocError> {
+        let mut text = String::new(self.alloc);
         let told = self.told.replace(None);
-        let mut lines = self.lines.replace(None).unwrap_or(String::new(self.alloc));
-        let id = it.signature.0;
-        write!(
-            lines,
-            "warning: type unit 0x{id:08x} differs from the one kept"
-        )?;
-        if lines.len() < MOST {
-            put_more(&told, it, origins, &mut lines)?;
-        }
-        lines.push_str("\n")?;
-        self.lines.set(Some(lines));
+        put_more(&told, it, origins, &mut text)?;
         self.told.set(told);
-        Ok(())
-    }
-
-    /// The lines, and none any more.
-    pub(crate) fn take(&self) -> Option<String> {
-        self.lines.replace(None)
+        Ok(text)
     }
 }
 

@@ -1,20 +1,21 @@
 //! The object of a package, made of the inputs.
 
-ghost use Rattle.std.specs.Prelude.{◌≡◌, Ok, OnOk, IfOk, IfErr};
+ghost use Rattle.std.specs.Prelude.{◌≡◌, [], map, Ok, OnOk, IfOk, IfErr, string_bytes};
 ghost use Rattle.dwp_elf.specs.FileText.{file_text};
 ghost use Rattle.dwp_elf.specs.Numbers.{Fits};
 ghost use Rattle.dwp_elf_read.specs.declared.error.WriteError.TheVariants as writer;
 ghost use Rattle.thorin_errors.specs.declared.error.Error.TheVariants.{ObjectWrite};
-ghost use Rattle.thorin_join.specs.Builder.{IsFinishedState, finish_test};
+ghost use Rattle.thorin_join.specs.Builder.{IsFinishedState, differing_in, finish_test};
 ghost use Rattle.thorin_join.specs.Join.{IsPackageOf, IsPackageOnceWritten};
 ghost use Rattle.thorin_join.specs.Meaning.{Members};
 ghost use Rattle.thorin_join.specs.Represents.{units_in};
 ghost use Rattle.thorin_commands.specs.Cause.{IsCauseOf, IsUnfinished, Refuses, StopsAt};
 ghost use Rattle.thorin_commands.specs.Cause.{Unfinished};
-ghost use Rattle.thorin_commands.specs.Opened.{Fills};
-ghost use Rattle.thorin_commands.specs.Packing.{IsPackedFrom};
+ghost use Rattle.thorin_commands.specs.Made.{FillsTelling, IsMade, TellsSome};
+ghost use Rattle.thorin_commands.specs.declared.refusal.Refusal.TheVariants.{Empty};
+ghost use Rattle.thorin_output.specs.Warnings.{IsPrinted};
 
-use crate::differences::tell_differing;
+use crate::differences::lines_of_differing;
 use crate::missing::leave_out;
 use crate::reading::Inputs;
 use crate::refusal::Refusal;
@@ -32,15 +33,20 @@ use thorin_errors::Error;
 use thorin_print::LineOutput;
 use thorin_sessions::Session;
 
-/// The object to be written for these inputs, and those signatures.
+/// The object to be written for these inputs, the signatures of type units that differ, and their
+/// lines.
 pub(crate) fn packed_inputs<I: Inputs, E: LineOutput>(
     inputs: &I,
     list: &[Input<'_>],
     telling: Telling,
     err: &mut E,
-) -> Result<(WritableObject, Vec<DebugTypeSignature>), Refusal>
-    ensures packed { IfOk result (λ made. IsPackedFrom telling.partial (I.opens inputs.now)
-        (I.manner inputs.now) (I.offer inputs.now) list.now made.0) }
+) -> Result<(WritableObject, Vec<DebugTypeSignature>, String), Refusal>
+    ensures made { IfOk result (λ made. IsMade telling.verbose telling.warns telling.partial
+        telling.names (I.opens inputs.now) (I.manner inputs.now) (I.offer inputs.now) list.now
+        (E.contents err.old) (E.contents err.new) made.0 made.1.items (string_bytes made.2)) }
+    ensures tried { IfErr result (λ refusal. refusal ≡ Empty
+        → IsPrinted (E.contents err.old) (E.contents err.new)
+        (TellsSome telling.verbose telling.warns telling.partial list.now)) }
     ensures told { IfErr result (Refuses E.contents E.failed err.new (IsCauseOf telling.partial
         (I.opens inputs.now) (I.manner inputs.now) (I.offer inputs.now) (I.declines inputs.now)
         list.now)) }
@@ -57,9 +63,13 @@ fn packed_over<'s, Sess: Session<RelocationEntry>, I: Inputs, E: LineOutput>(
     list: &[Input<'_>],
     telling: Telling,
     err: &mut E,
-) -> Result<(WritableObject, Vec<DebugTypeSignature>), Refusal>
-    ensures packed { IfOk result (λ made. IsPackedFrom telling.partial (I.opens inputs.now)
-        (I.manner inputs.now) (I.offer inputs.now) list.now made.0) }
+) -> Result<(WritableObject, Vec<DebugTypeSignature>, String), Refusal>
+    ensures made { IfOk result (λ made. IsMade telling.verbose telling.warns telling.partial
+        telling.names (I.opens inputs.now) (I.manner inputs.now) (I.offer inputs.now) list.now
+        (E.contents err.old) (E.contents err.new) made.0 made.1.items (string_bytes made.2)) }
+    ensures tried { IfErr result (λ refusal. refusal ≡ Empty
+        → IsPrinted (E.contents err.old) (E.contents err.new)
+        (TellsSome telling.verbose telling.warns telling.partial list.now)) }
     ensures told { IfErr result (Refuses E.contents E.failed err.new (IsCauseOf telling.partial
         (I.opens inputs.now) (I.manner inputs.now) (I.offer inputs.now) (I.declines inputs.now)
         list.now)) }
@@ -67,7 +77,7 @@ fn packed_over<'s, Sess: Session<RelocationEntry>, I: Inputs, E: LineOutput>(
     runs_go_on(inputs);
     let mut builder = DwarfPackage::new(telling.alloc, session);
     match fill(inputs, &mut builder, list, telling, err) {
-        Ok(()) => finished(telling.alloc, inputs, builder, err),
+        Ok(lines) => finished(telling.alloc, inputs, builder, lines, err),
         Err(refusal) => {
             drop(builder);
             Err(refusal)
@@ -76,7 +86,7 @@ fn packed_over<'s, Sess: Session<RelocationEntry>, I: Inputs, E: LineOutput>(
 }
 
 /// Takes these inputs, warns of those without split units, and leaves out what isn't there, where
-/// that is asked for.
+/// that is asked for. Answers the lines of type units that differ.
 #[tactic(auto, using(crate::proofs::Causes::stops_by))]
 fn fill<'o, 's: 'o, Sess: Session<RelocationEntry>, I: Inputs, E: LineOutput>(
     inputs: &I,
@@ -84,39 +94,48 @@ fn fill<'o, 's: 'o, Sess: Session<RelocationEntry>, I: Inputs, E: LineOutput>(
     list: &[Input<'_>],
     telling: Telling,
     err: &mut E,
-) -> Result<(), Refusal>
-    ensures fills { OnOk result (Fills telling.partial (I.opens inputs.now) (I.manner inputs.now)
-        (I.offer inputs.now) list.now builder.old.state builder.new.state) }
+) -> Result<String, Refusal>
+    requires { units_in builder.old.state ≡ [] }
+    ensures fills { IfOk result (λ lines. FillsTelling telling.verbose telling.warns telling.partial
+        telling.names (I.opens inputs.now) (I.manner inputs.now) (I.offer inputs.now) list.now
+        builder.old.state builder.new.state (E.contents err.old) (E.contents err.new)
+        (string_bytes lines)) }
     ensures told { IfErr result (Refuses E.contents E.failed err.new (StopsAt (I.opens inputs.now)
         (I.manner inputs.now) (I.offer inputs.now) (I.declines inputs.now) list.now
         builder.old.state)) }
 {
     let lacks = take_all(inputs, builder, list, telling, err)?;
     warn_unsplit(inputs, builder, list, lacks.as_slice(), telling, err)?;
-    tell_differing(inputs, builder)?;
+    let lines = lines_of_differing(inputs, builder, telling)?;
     leave_out(inputs, builder, telling, err)?;
-    Ok(())
+    Ok(lines)
 }
 
-/// The object of the package, which can be written, and those signatures. Where it can't be
-/// finished, that is printed.
+/// The object of the package, which can be written, those signatures, and these lines. Where it
+/// can't be finished, that is printed.
 fn finished<'o, 's: 'o, Sess: Session<RelocationEntry>, I: Inputs, E: LineOutput>(
     alloc: Global,
     inputs: &I,
     builder: DwarfPackage<'o, 's, Sess>,
+    lines: String,
     err: &mut E,
-) -> Result<(WritableObject, Vec<DebugTypeSignature>), Refusal>
+) -> Result<(WritableObject, Vec<DebugTypeSignature>, String), Refusal>
     ensures finished { IfOk result (λ made. (finish_test builder.entry.state ≡ Ok tt)
         × IsFinishedState builder.entry.state made.0) }
     ensures packaged { IfOk result (λ made.
         IsPackageOf (units_in builder.entry.state) (file_text made.0)) }
+    ensures differing { IfOk result (λ made.
+        map (λ s. s.0) made.1.items ≡ differing_in builder.entry.state) }
+    ensures lines { IfOk result (λ made. made.2 ≡ lines) }
+    ensures kept { OnOk result (err.new ≡ err.old) }
+    ensures empty { IfErr result (λ refusal. refusal ≡ Empty → err.new ≡ err.old) }
     ensures told { IfErr result (Refuses E.contents E.failed err.new
         (IsUnfinished builder.entry.state)) }
 {
     let (finished, differing) = builder.finish_with_differing();
     match finished {
         Ok(object) => match can_be_written(&object) {
-            Ok(()) => Ok((object, differing)),
+            Ok(()) => Ok((object, differing, lines)),
             Err(error) => Err(unfinished(alloc, inputs, &error, err)),
         },
         Err(error) => Err(unfinished(alloc, inputs, &error, err)),
@@ -131,7 +150,9 @@ fn unfinished<I: Inputs, E: LineOutput>(
     error: &Error,
     err: &mut E,
 ) -> Refusal
-    ensures { Refuses E.contents E.failed err.new (λ cause. cause ≡ Unfinished error.now) result }
+    ensures told { Refuses E.contents E.failed err.new (λ cause. cause ≡ Unfinished error.now)
+        result }
+    ensures empty { result ≡ Empty → err.new ≡ err.old }
 {
     if let Error::NoOutputObjectCreated = error {
         return Refusal::Empty;

@@ -2,16 +2,18 @@
 //! `pack --missing` lists.
 
 ghost use Rattle.std.specs.Prelude.{◌≡◌, ◌≤◌, OnOk, IfOk, IfErr};
+ghost use Rattle.thorin_output.specs.Warnings.{IsPrinted};
 ghost use Rattle.thorin_print.specs.Answers.{FailsBy};
 ghost use Rattle.thorin_commands.specs.Packing.{left};
+ghost use Rattle.thorin_commands.specs.Warned.{IsLeftLine, TellLeft, TellsLeft, missing_in};
 
 use crate::packing::{Packing, paths_in};
 use crate::plain::InputFiles;
 use crate::reading::Inputs;
-use crate::telling::{Telling, tell_why, text_in};
+use crate::telling::{Telling, tell_why, text_in, unit_line};
 use bumpalo::Bump;
 use dwp_bytes::RelocationEntry;
-use dwp_table::Bucketable;
+use dwp_table::{Bucketable, DwarfObject};
 use std::alloc::{AllocError, Global};
 use std::collections::HashSet;
 use std::io::Write;
@@ -27,6 +29,7 @@ use thorin_sessions::Session;
 
 /// Where that is asked for, leaves out units that executables refer to and that aren't there: each
 /// is told.
+#[tactic(auto, using(crate::proofs::Warned::none_left, crate::proofs::Warned::all_left))]
 pub(crate) fn leave_out<'o, 's: 'o, Sess: Session<RelocationEntry>, I: Inputs, E: LineOutput>(
     inputs: &I,
     builder: &mut DwarfPackage<'o, 's, Sess>,
@@ -34,12 +37,15 @@ pub(crate) fn leave_out<'o, 's: 'o, Sess: Session<RelocationEntry>, I: Inputs, E
     err: &mut E,
 ) -> Result<(), Failure>
     ensures left { OnOk result (builder.new.state ≡ left telling.partial builder.old.state) }
+    ensures lines { OnOk result (IsPrinted (E.contents err.old) (E.contents err.new)
+        (TellsLeft telling.partial builder.old.state)) }
     ensures blamed { IfErr result (FailsBy (E.failed err.new)) }
 {
-    if telling.partial {
-        tell_missing(telling.alloc, builder, &inputs.absent_units(), err)?;
-        builder.forget_targets();
+    if !telling.partial {
+        return Ok(());
     }
+    tell_missing(telling.alloc, builder, &inputs.absent_units(), err)?;
+    builder.forget_targets();
     Ok(())
 }
 
@@ -50,15 +56,31 @@ fn tell_missing<'o, 's: 'o, Sess: Session<RelocationEntry>, E: LineOutput>(
     absent: &AbsentUnits,
     err: &mut E,
 ) -> Result<(), Failure>
-    ensures { IfErr result (FailsBy (E.failed err.new)) }
+    ensures lines { OnOk result (IsPrinted (E.contents err.old) (E.contents err.new)
+        (TellLeft (missing_in builder.now.state))) }
+    ensures blamed { IfErr result (FailsBy (E.failed err.new)) }
 {
     for target in builder.missing_targets() {
-        let unit = target.index();
-        let reason = absent.reason(unit).unwrap_or("not found");
-        let line = format!(in alloc; "warning: unit 0x{unit:08x}: {reason}\n")?;
-        err.print_text(line.as_str())?;
+        tell_one(alloc, target, absent, err)?;
     }
     Ok(())
+}
+
+/// Warns of one of them.
+fn tell_one<E: LineOutput>(
+    alloc: Global,
+    target: DwarfObject,
+    absent: &AbsentUnits,
+    err: &mut E,
+) -> Result<(), Failure>
+    ensures line { OnOk result (IsPrinted (E.contents err.old) (E.contents err.new)
+        (IsLeftLine target)) }
+    ensures blamed { IfErr result (FailsBy (E.failed err.new)) }
+{
+    let unit = target.index();
+    let reason = absent.reason(unit).unwrap_or("not found");
+    let line = unit_line(alloc, "warning: unit 0x", unit, ": ", reason)?;
+    err.print_text(line.as_str())
 }
 
 /// Prints the path of each object that executables name and that can't be read, one a line, each

@@ -1,5 +1,8 @@
 //! Which input brought a unit of the package.
 
+ghost use Rattle.std.specs.Prelude.{◌≡◌};
+ghost use Rattle.thorin_commands.specs.Warned.{unit_count};
+
 use dwp_bytes::RelocationEntry;
 use dwp_table::{DebugTypeSignature, DwarfObject, DwoId};
 use std::alloc::{AllocError, Global};
@@ -29,12 +32,23 @@ pub(crate) struct Holding<'a> {
     pub(crate) differing: &'a [DebugTypeSignature],
 }
 
+/// How many units a package has.
+pub(crate) fn unit_count<'o, 's: 'o, Sess: Session<RelocationEntry>>(
+    builder: &DwarfPackage<'o, 's, Sess>,
+) -> usize
+    ensures { result ≡ unit_count builder.now.state }
+{
+    builder.contained_units().len()
+}
+
 /// What a package has now.
 pub(crate) fn now_in<'b, 'o, 's: 'o, Sess: Session<RelocationEntry>>(
     builder: &'b DwarfPackage<'o, 's, Sess>,
-) -> Holding<'b> {
+) -> Holding<'b>
+    ensures { result.units ≡ unit_count builder.now.state }
+{
     Holding {
-        units: builder.contained_units().len(),
+        units: unit_count(builder),
         differing: builder.differing_types(),
     }
 }

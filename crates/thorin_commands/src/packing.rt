@@ -1,15 +1,19 @@
 //! `thorin pack`.
 
-ghost use Rattle.std.specs.Prelude.{◌≡◌, ◌⊎◌, ◌≤◌, Ok, Some, IfOk, IfErr, map, string_bytes};
-ghost use Rattle.std.specs.Prelude.{true, false, IsTrue};
+ghost use Rattle.std.specs.Prelude.{◌≡◌, ◌⊎◌, ◌≤◌, ◌++◌, ℕ, List, Ok, Some, IfOk, IfErr, map};
+ghost use Rattle.std.specs.Prelude.{string_bytes};
+ghost use Rattle.std.specs.Prelude.{true, false, IsTrue, OnOk};
 ghost use Rattle.thorin_output.specs.Files.{Put, Begins};
 ghost use Rattle.thorin_commands.specs.Cause.{Ends, IsCauseFor, Refuses, Told, Unfinished};
 ghost use Rattle.thorin_commands.specs.Failing.{FailsPacking, LeadTo};
 ghost use Rattle.thorin_errors.specs.declared.error.Error.TheVariants.{NoOutputObjectCreated};
 ghost use Rattle.thorin_commands.specs.Naming.{IsNameless};
-ghost use Rattle.thorin_commands.specs.Packing.{out_of, Packs, Comes, IsPackageFor};
+ghost use Rattle.thorin_commands.specs.Made.{IsMadeFor, IsReady};
+ghost use Rattle.thorin_commands.specs.Packing.{out_of, Packs, Comes};
 ghost use Rattle.thorin_commands.specs.Packing.{AllApart, Fails, IsNoInput, asked, asks};
 ghost use Rattle.thorin_commands.specs.Packing.{declines, manner_of, paths_in, reads};
+ghost use Rattle.thorin_commands.specs.Warned.{PacksTelling, TellsInputs, TellsMacros, TellsTaken};
+ghost use Rattle.thorin_commands.specs.Warned.{names, others};
 
 use crate::asked::{inputs_of, inputs_with};
 use crate::making::packed_inputs;
@@ -89,12 +93,19 @@ impl Packing<'_, '_> {
 
     /// Whether each type unit that differs is told of with the inputs that brought it and the one
     /// kept.
-    pub(crate) fn tells_differences(&self) -> bool {
-        self.verbose && matches!(self.warnings, Warnings::Each)
+    pub(crate) fn tells_differences(&self) -> bool
+        ensures { result ≡ names self.now.verbose self.now.warnings }
+    {
+        match self.warnings {
+            Warnings::Each => self.verbose,
+            Warnings::Once | Warnings::Never => false,
+        }
     }
 
     /// Which warnings of type units that differ are printed behind those.
-    fn warnings_left(&self) -> Warnings {
+    fn warnings_left(&self) -> Warnings
+        ensures { result ≡ others (names self.now.verbose self.now.warnings) self.now.warnings }
+    {
         if self.tells_differences() {
             Warnings::Never
         } else {
@@ -153,6 +164,9 @@ pub fn pack<F: FileSystem, O: Write, E: LineOutput>(
 ) -> Result<u8, Failure>
     ensures packed { result ≡ Ok 0 → Packs (reads packing.now (F.offer files.old)) packing.now
         (Put F.begun O.contents files.old files.new out.old out.new) }
+    ensures warned { result ≡ Ok 0 → PacksTelling (reads packing.now (F.offer files.old))
+        packing.now (Put F.begun O.contents files.old files.new out.old out.new)
+        (E.contents err.old) (E.contents err.new) }
     ensures status { IfOk result (λ status. status ≤ 1) }
     ensures refused { result ≡ Ok 1 → (files.new ≡ files.old) × (out.new ≡ out.old) }
     ensures told { result ≡ Ok 1 → Told E.contents err.new (IsCauseFor
@@ -194,6 +208,9 @@ fn pack_all<F: FileSystem, O: Write, E: LineOutput>(
         (Begins F.begun O.contents files.old files.new out.old out.new))
         (Packs (reads packing.now (F.offer files.old)) packing.now
         (Put F.begun O.contents files.old files.new out.old out.new)) }
+    ensures warned { OnOk result (PacksTelling (reads packing.now (F.offer files.old)) packing.now
+        (Put F.begun O.contents files.old files.new out.old out.new)
+        (E.contents err.old) (E.contents err.new)) }
     ensures told { IfErr result (Ends (Told E.contents err.new (IsCauseFor
         (reads packing.now (F.offer files.old)) (declines packing.now (F.offer files.old))
         packing.now)) (IsCauseFor (reads packing.now (F.offer files.old)) (declines packing.now
@@ -225,6 +242,9 @@ fn pack_under<F: FileSystem, O: Write, E: LineOutput>(
         (Begins F.begun O.contents files.old files.new out.old out.new))
         (Packs (reads packing.now (F.offer files.old)) packing.now
         (Put F.begun O.contents files.old files.new out.old out.new)) }
+    ensures warned { OnOk result (PacksTelling (reads packing.now (F.offer files.old)) packing.now
+        (Put F.begun O.contents files.old files.new out.old out.new)
+        (E.contents err.old) (E.contents err.new)) }
     ensures told { IfErr result (Ends (Told E.contents err.new (IsCauseFor
         (reads packing.now (F.offer files.old)) (declines packing.now (F.offer files.old))
         packing.now)) (IsCauseFor (reads packing.now (F.offer files.old)) (declines packing.now
@@ -253,15 +273,16 @@ fn pack_under<F: FileSystem, O: Write, E: LineOutput>(
 }
 
 /// The object to be written for what is asked for, the signatures of type units that were passed
-/// over and differ from the ones kept, and the warnings of sections of macros.
+/// over and differ from the ones kept, and lines: the warnings of sections of macros, and those of
+/// these type units by name.
 fn packed<F: FileSystem, E: LineOutput>(
     alloc: Global,
     files: &F,
     packing: &Packing<'_, '_>,
     err: &mut E,
 ) -> Result<(WritableObject, Vec<DebugTypeSignature>, String), Refusal>
-    ensures packed { IfOk result (λ made. IsPackageFor
-        (reads packing.now (F.offer files.now)) packing.now made.0) }
+    ensures ready { IfOk result (λ made. IsReady (reads packing.now (F.offer files.now)) packing.now
+        (E.contents err.old) (E.contents err.new) made.0 made.1.items (string_bytes made.2)) }
     ensures told { IfErr result (Refuses E.contents E.failed err.new (IsCauseFor
         (reads packing.now (F.offer files.now)) (declines packing.now (F.offer files.now))
         packing.now)) }
@@ -279,7 +300,7 @@ fn packed<F: FileSystem, E: LineOutput>(
 }
 
 /// The same of the list of what is asked for.
-#[tactic(auto, using(crate::proofs::Puts::for_packing, crate::proofs::Puts::packed_alike, crate::proofs::Causes::told_alike))]
+#[tactic(auto, using(crate::proofs::Causes::told_alike))]
 fn packed_from<F: FileSystem, E: LineOutput>(
     alloc: Global,
     files: &F,
@@ -288,39 +309,61 @@ fn packed_from<F: FileSystem, E: LineOutput>(
     err: &mut E,
 ) -> Result<(WritableObject, Vec<DebugTypeSignature>, String), Refusal>
     requires { map asked list.now ≡ asks packing.now }
-    ensures packed { IfOk result (λ made. IsPackageFor
-        (reads packing.now (F.offer files.now)) packing.now made.0) }
+    ensures ready { IfOk result (λ made. IsReady (reads packing.now (F.offer files.now)) packing.now
+        (E.contents err.old) (E.contents err.new) made.0 made.1.items (string_bytes made.2)) }
     ensures told { IfErr result (Refuses E.contents E.failed err.new (IsCauseFor
         (reads packing.now (F.offer files.now)) (declines packing.now (F.offer files.now))
         packing.now)) }
 {
     let inputs = InputFiles::new(alloc, files, packing)?;
     match packed_by(alloc, &inputs, packing, list, err) {
-        Ok((object, differing, is_split)) => {
-            let warnings = if is_split {
-                inputs.warnings()?
-            } else {
-                String::new(alloc)
-            };
+        Ok((object, differing, lines, is_split)) => {
+            let warnings = lines_behind(alloc, &inputs, lines, is_split)?;
             Ok((object, differing, warnings))
         }
         Err(refusal) => Err(refusal),
     }
 }
 
+/// Lines that are printed behind a package: where something is split the warnings of sections of
+/// macros, and these.
+///
+/// # Errors
+/// Want of memory.
+#[tactic(auto, using(crate::proofs::Warned::no_macros))]
+fn lines_behind<F: FileSystem>(
+    alloc: Global,
+    inputs: &InputFiles<'_, F>,
+    named: String,
+    is_split: bool,
+) -> Result<String, AllocError>
+    ensures { IfOk result (λ lines. (macros : List ℕ)
+        × TellsMacros inputs.now.packing.now.warns_of_macros macros
+        × (string_bytes lines ≡ macros ++ string_bytes named)) }
+{
+    if !is_split {
+        return Ok(named);
+    }
+    let mut lines = inputs.warnings();
+    lines.push_str(named.as_str())?;
+    Ok(lines)
+}
+
 /// The same by these inputs, and whether something is split.
-#[tactic(auto, using(crate::proofs::Puts::for_packing, crate::proofs::Causes::told_for, crate::proofs::Causes::empty_for))]
+#[tactic(auto, using(crate::proofs::Causes::told_for, crate::proofs::Causes::empty_for))]
 fn packed_by<I: Inputs, E: LineOutput>(
     alloc: Global,
     inputs: &I,
     packing: &Packing<'_, '_>,
     list: &[Input<'_>],
     err: &mut E,
-) -> Result<(WritableObject, Vec<DebugTypeSignature>, bool), Refusal>
+) -> Result<(WritableObject, Vec<DebugTypeSignature>, String, bool), Refusal>
     requires asked { map asked list.now ≡ asks packing.now }
     requires opens { I.opens inputs.now ≡ packing.now.opens_archives }
     requires manner { I.manner inputs.now ≡ manner_of packing.now }
-    ensures packed { IfOk result (λ made. IsPackageFor (I.offer inputs.now) packing.now made.0) }
+    ensures made { IfOk result (λ made. IsMadeFor (TellsInputs packing.now) (I.offer inputs.now)
+        packing.now (E.contents err.old) (E.contents err.new) made.0 made.1.items
+        (string_bytes made.2)) }
     ensures told { IfErr result (Refuses E.contents E.failed err.new (IsCauseFor
         (I.offer inputs.now) (I.declines inputs.now) packing.now)) }
 {
@@ -329,12 +372,15 @@ fn packed_by<I: Inputs, E: LineOutput>(
         verbose: packing.verbose,
         warns: true,
         partial: packing.partial,
+        names: packing.tells_differences(),
     };
     match packed_inputs(inputs, list, telling, err) {
-        Ok((object, differing)) => Ok((object, differing, true)),
+        Ok((object, differing, lines)) => Ok((object, differing, lines, true)),
         Err(Refusal::Empty) if packing.lets_empty => {
-            let (object, differing) = packed_unsplit(alloc, inputs, packing, err)?;
-            Ok((object, differing, false))
+            match packed_unsplit(alloc, inputs, packing, err) {
+                Ok((object, differing, lines)) => Ok((object, differing, lines, false)),
+                Err(refusal) => Err(refusal),
+            }
         }
         Err(refusal) => Err(refusal),
     }
@@ -348,13 +394,15 @@ fn packed_unsplit<I: Inputs, E: LineOutput>(
     inputs: &I,
     packing: &Packing<'_, '_>,
     err: &mut E,
-) -> Result<(WritableObject, Vec<DebugTypeSignature>), Refusal>
+) -> Result<(WritableObject, Vec<DebugTypeSignature>, String), Refusal>
     requires allowed { packing.now.lets_empty ≡ true }
     requires opens { I.opens inputs.now ≡ packing.now.opens_archives }
     requires manner { I.manner inputs.now ≡ manner_of packing.now }
     requires empty { IsCauseFor (I.offer inputs.now) (I.declines inputs.now) packing.now
         (Unfinished NoOutputObjectCreated) }
-    ensures packed { IfOk result (λ made. IsPackageFor (I.offer inputs.now) packing.now made.0) }
+    ensures made { IfOk result (λ made. IsMadeFor (TellsTaken false false packing.now.partial)
+        (I.offer inputs.now) packing.now (E.contents err.old) (E.contents err.new) made.0
+        made.1.items (string_bytes made.2)) }
     ensures told { IfErr result (Refuses E.contents E.failed err.new (IsCauseFor
         (I.offer inputs.now) (I.declines inputs.now) packing.now)) }
 {
@@ -379,6 +427,7 @@ fn packed_unsplit<I: Inputs, E: LineOutput>(
         verbose: false,
         warns: false,
         partial: packing.partial,
+        names: packing.tells_differences(),
     };
     packed_inputs(inputs, list.as_slice(), telling, err)
 }

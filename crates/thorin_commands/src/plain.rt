@@ -13,6 +13,7 @@ ghost use Rattle.thorin_commands.specs.Packing.{IsAmong, declines, manner_of, pa
 ghost use Rattle.thorin_commands.specs.Packing.{read_through, reads};
 ghost use Rattle.thorin_commands.specs.Taken.{DeclinesBytes, DeclinesPlain, HasOverlap, IsPlainFor};
 ghost use Rattle.thorin_commands.specs.Taken.{IsReadInto};
+ghost use Rattle.thorin_commands.specs.Warned.{TellsMacros};
 
 use crate::asked::{executable_of, given_places};
 use crate::differences::{Difference, Differences};
@@ -330,16 +331,16 @@ impl<F: FileSystem> InputFiles<'_, F> {
         self.own.set(own);
     }
 
-    /// The warnings of sections of macros, and behind them those of type units that differ.
-    ///
-    /// # Errors
-    /// Want of memory.
-    pub(crate) fn warnings(&self) -> Result<String, AllocError> {
-        let mut lines = self.macros.take();
-        if let Some(more) = self.differences.take() {
-            lines.push_str(more.as_str())?;
+    /// The warnings of sections of macros, where these are asked for.
+    #[tactic(auto, using(crate::proofs::Warned::no_macros))]
+    pub(crate) fn warnings(&self) -> String
+        ensures { TellsMacros self.now.packing.now.warns_of_macros (string_bytes result) }
+    {
+        if self.packing.warns_of_macros {
+            self.macros.take()
+        } else {
+            String::new(self.alloc)
         }
-        Ok(lines)
     }
 }
 
@@ -476,8 +477,8 @@ impl<F: FileSystem> Inputs for InputFiles<'_, F> {
         self.differences.keep(taken, now.differing);
     }
 
-    fn tell_difference(&self, it: Difference) -> Result<(), AllocError> {
-        self.differences.tell(it, &self.origins)
+    fn difference(&self, it: Difference) -> Result<String, AllocError> {
+        self.differences.of(it, &self.origins)
     }
 
     fn origin_of(&self, place: usize) -> Option<String> {

@@ -76,11 +76,11 @@ pub(crate) trait Inputs: InputReader<Refusal = Growth> {
     /// Keeps for notes what was taken, and what the package has now.
     fn keep_taken(&self, taken: Origin<'_>, now: Holding<'_>);
 
-    /// Tells of a type unit that differs from the one kept, where that is asked for.
+    /// What is known of a type unit that differs from the one kept.
     ///
     /// # Errors
     /// Want of memory.
-    fn tell_difference(&self, it: Difference) -> Result<(), AllocError>;
+    fn difference(&self, it: Difference) -> Result<String, AllocError>;
 
     /// What brought the unit at a place among the package's, as it is printed; none where that
     /// isn't known. Asked for once.

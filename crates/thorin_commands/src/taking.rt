@@ -1,21 +1,25 @@
 //! Taking the inputs of `pack` in order: one that is accepted is noted, and told where that is
 //! asked for; and what becomes of one that is refused.
 
-ghost use Rattle.std.specs.Prelude.{◌≡◌, Ok, Err, OnOk, IfErr};
+ghost use Rattle.std.specs.Prelude.{◌≡◌, ◌-◌, ◌++◌, ◌∷◌, [], Ok, Err, OnOk, IfOk, IfErr};
 ghost use Rattle.thorin.specs.Run.{Took};
+ghost use Rattle.thorin_inputs.specs.declared.notes.Lack.TheVariants.{Types};
+ghost use Rattle.thorin_output.specs.Warnings.{IsPrinted};
 ghost use Rattle.thorin_print.specs.Answers.{FailsBy};
 ghost use Rattle.thorin_commands.specs.Cause.{IsNotTaken, IsRefused, IsUntaken, Refuses};
 ghost use Rattle.thorin_commands.specs.Cause.{StopsAt};
 ghost use Rattle.thorin_commands.specs.Opened.{TookAll, TookInputs};
+ghost use Rattle.thorin_commands.specs.Warned.{TellsAdded, TellsTaking, path_of, unit_count};
 
 use crate::archives::take_opened;
-use crate::origins::{Holding, Origin, now_in, place_of_refused};
+use crate::origins::{Holding, Origin, now_in, place_of_refused, unit_count};
 use crate::reading::Inputs;
 use crate::refusal::Refusal;
 use crate::telling::{Refused, Telling, lack_of, tell_refused, told};
 use dwp_bytes::RelocationEntry;
 use std::alloc::AllocError;
 use std::path::AsPath;
+use thorin::laws::runs_go_on;
 use thorin::{DwarfPackage, Input, NotTaken, take_input};
 use thorin_errors::Error;
 use thorin_inputs::{Growth, Lack};
@@ -33,27 +37,43 @@ pub(crate) fn take_all<'o, 's: 'o, Sess: Session<RelocationEntry>, I: Inputs, E:
 ) -> Result<Vec<Lack>, Refusal>
     ensures took { OnOk result (TookInputs (I.opens inputs.now) (I.manner inputs.now)
         (I.offer inputs.now) list.now builder.old.state builder.new.state) }
+    ensures lines { IfOk result (λ lacks. IsPrinted (E.contents err.old) (E.contents err.new)
+        (TellsTaking telling.verbose list.now (unit_count builder.old.state)
+        (unit_count builder.new.state) lacks.items)) }
     ensures told { IfErr result (Refuses E.contents E.failed err.new (StopsAt (I.opens inputs.now)
         (I.manner inputs.now) (I.offer inputs.now) (I.declines inputs.now) list.now
         builder.old.state)) }
 {
+    runs_go_on(inputs);
     let mut room = Vec::new(telling.alloc);
     let mut lacks = Vec::new(telling.alloc);
     for input in list {
-        let before = builder.contained_units().len();
+        let before = unit_count(builder);
         take(inputs, builder, &mut room, *input, telling, err)?;
-        let lack = if builder.contained_units().len() == before {
-            lack_of(inputs, *input, room.as_slice())
-        } else {
-            Lack::Unknown
-        };
-        keep_lack(&mut lacks, lack)?;
+        let added = unit_count(builder).saturating_sub(before);
+        keep_lack(
+            &mut lacks,
+            lack_behind(inputs, *input, room.as_slice(), added),
+        )?;
     }
     Ok(lacks)
 }
 
+/// Why an input that was taken added no unit, if it added none, by the bytes that were read.
+fn lack_behind<I: Inputs>(inputs: &I, input: Input<'_>, room: &[u8], added: usize) -> Lack
+    ensures { result ≡ Types → added ≡ 0 }
+{
+    if added == 0 {
+        lack_of(inputs, input, room)
+    } else {
+        Lack::Unknown
+    }
+}
+
 /// Keeps what the next input lacks.
-fn keep_lack(lacks: &mut Vec<Lack>, lack: Lack) -> Result<(), AllocError> {
+fn keep_lack(lacks: &mut Vec<Lack>, lack: Lack) -> Result<(), AllocError>
+    ensures { OnOk result (lacks.new.items ≡ lacks.old.items ++ lack ∷ []) }
+{
     lacks.push(lack)?;
     Ok(())
 }
@@ -69,6 +89,9 @@ fn take<'o, 's: 'o, Sess: Session<RelocationEntry>, I: Inputs, E: LineOutput>(
 ) -> Result<(), Refusal>
     ensures took { OnOk result (TookAll (I.opens inputs.now) (I.manner inputs.now)
         (I.offer inputs.now) input.entry builder.old.state builder.new.state) }
+    ensures line { OnOk result (IsPrinted (E.contents err.old) (E.contents err.new)
+        (TellsAdded telling.verbose (path_of input.entry)
+        (unit_count builder.new.state - unit_count builder.old.state))) }
     ensures told { IfErr result (Refuses E.contents E.failed err.new (IsNotTaken
         (I.opens inputs.now) (I.manner inputs.now) (I.offer inputs.now) (I.declines inputs.now)
         input.entry builder.old.state)) }
@@ -92,10 +115,13 @@ fn take_alone<'o, 's: 'o, Sess: Session<RelocationEntry>, I: Inputs, E: LineOutp
 ) -> Result<(), Refusal>
     ensures took { OnOk result
         (Took (I.offer inputs.now) input.entry builder.old.state (Ok tt) builder.new.state) }
+    ensures line { OnOk result (IsPrinted (E.contents err.old) (E.contents err.new)
+        (TellsAdded telling.verbose (path_of input.entry)
+        (unit_count builder.new.state - unit_count builder.old.state))) }
     ensures told { IfErr result (Refuses E.contents E.failed err.new (IsUntaken (IsRefused (I.offer
         inputs.now) (I.declines inputs.now) input.entry builder.old.state))) }
 {
-    let before = builder.contained_units().len();
+    let before = unit_count(builder);
     inputs.begin(input);
     let outcome = take_input(builder, inputs, room, input);
     let tried = Tried {
@@ -128,6 +154,9 @@ pub(crate) fn settle<'o, 's: 'o, Sess: Session<RelocationEntry>, I: Inputs, E: L
     err: &mut E,
 ) -> Result<(), Refusal>
     ensures took { OnOk result (outcome ≡ Ok tt) }
+    ensures line { OnOk result (IsPrinted (E.contents err.old) (E.contents err.new)
+        (TellsAdded telling.verbose (path_of tried.entry.input)
+        (unit_count builder.now.state - tried.entry.before))) }
     ensures told { IfErr result (Refuses E.contents E.failed err.new
         (IsUntaken (λ why. outcome ≡ Err why))) }
 {
@@ -156,7 +185,10 @@ fn accept<I: Inputs, E: LineOutput>(
     telling: Telling,
     err: &mut E,
 ) -> Result<(), Failure>
-    ensures { IfErr result (FailsBy (E.failed err.new)) }
+    ensures line { OnOk result (IsPrinted (E.contents err.old) (E.contents err.new)
+        (TellsAdded telling.verbose (path_of tried.entry.input)
+        (now.entry.units - tried.entry.before))) }
+    ensures blamed { IfErr result (FailsBy (E.failed err.new)) }
 {
     keep_input(inputs, tried.input, now);
     let added = now.units.saturating_sub(tried.before);

@@ -1,14 +1,23 @@
 //! What `pack` tells of its inputs: with `--verbose`, and where one is refused.
 
-ghost use Rattle.std.specs.Prelude.{OnOk, IfErr};
+ghost use Rattle.std.specs.Prelude.{◌≡◌, ◌⊎◌, ◌++◌, OnOk, IfOk, IfErr, length};
+ghost use Rattle.std.specs.Prelude.{option_map, string_bytes};
+ghost use Rattle.std.specs.Path.{path_bytes};
 ghost use Rattle.thorin_errors.specs.Errors.{error_of};
+ghost use Rattle.thorin_errors.specs.Text.{hex8};
+ghost use Rattle.thorin_inputs.specs.declared.notes.Lack.TheVariants.{Types};
+ghost use Rattle.thorin_output.specs.Warnings.{IsPrinted};
 ghost use Rattle.thorin_print.specs.Answers.{FailsBy, Grows};
 ghost use Rattle.thorin_commands.specs.Cause.{HasLine, Tells, refusal_text, told_text};
+ghost use Rattle.thorin_commands.specs.Warned.{TellUnsplitBy, TellsAdded, TellsUnsplit};
+ghost use Rattle.thorin_commands.specs.Warned.{path_of, unit_count, unit_line, unsplit_line};
 
+use crate::asked::executable_of;
+use crate::origins::unit_count;
 use crate::reading::Inputs;
 use crate::taking::Tried;
 use dwp_bytes::RelocationEntry;
-use std::alloc::Global;
+use std::alloc::{AllocError, Global};
 use std::io::Write;
 use std::path::{AsPath, Path};
 use thorin::{DwarfPackage, Input, NotTaken};
@@ -34,9 +43,13 @@ pub(crate) struct Telling {
     pub(crate) warns: bool,
     /// Whether a unit of an executable that isn't there is told and left out.
     pub(crate) partial: bool,
+    /// Whether each type unit that differs is told of with the inputs that brought it and the one
+    /// kept.
+    pub(crate) names: bool,
 }
 
 /// Tells of an input that was taken how many of its units were added, where that is asked for.
+#[tactic(auto, using(crate::proofs::Warned::not_verbose, crate::proofs::Warned::pathless, crate::proofs::Warned::added_told))]
 pub(crate) fn told<I: Inputs, E: LineOutput>(
     inputs: &I,
     taken: Tried<'_>,
@@ -44,14 +57,19 @@ pub(crate) fn told<I: Inputs, E: LineOutput>(
     telling: Telling,
     err: &mut E,
 ) -> Result<(), Failure>
-    ensures { IfErr result (FailsBy (E.failed err.new)) }
+    ensures line { OnOk result (IsPrinted (E.contents err.old) (E.contents err.new)
+        (TellsAdded telling.verbose (path_of taken.entry.input) added)) }
+    ensures blamed { IfErr result (FailsBy (E.failed err.new)) }
 {
+    if !telling.verbose {
+        return Ok(());
+    }
     match path_of(taken.input) {
-        Some(path) if telling.verbose => {
+        Some(path) => {
             let all = units_of(inputs, taken);
             tell_taken(telling.alloc, path.path_text(), added, all, err)
         }
-        _ => Ok(()),
+        None => Ok(()),
     }
 }
 
@@ -65,7 +83,9 @@ fn units_of<I: Inputs>(inputs: &I, taken: Tried<'_>) -> Option<usize> {
 }
 
 /// The path of an input; none where no path names it.
-fn path_of(input: Input<'_>) -> Option<Path<'_>> {
+fn path_of(input: Input<'_>) -> Option<Path<'_>>
+    ensures { option_map path_bytes result ≡ path_of input.entry }
+{
     match input {
         Input::Object(path)
         | Input::Executable(path, _)
@@ -103,6 +123,7 @@ fn lack_at<I: Inputs>(alloc: Global, inputs: &I, input: Input<'_>, path: Path<'_
 /// Warns of each object whose type units were passed over. Where the package has no units and
 /// nothing is missing, of each other input too: none of them has split units. Where something is
 /// missing, of objects alone: some executable has split units.
+#[tactic(auto, using(crate::proofs::Warned::unsplit_unasked))]
 pub(crate) fn warn_unsplit<'o, 's: 'o, Sess: Session<RelocationEntry>, I: Inputs, E: LineOutput>(
     inputs: &I,
     builder: &DwarfPackage<'o, 's, Sess>,
@@ -111,29 +132,50 @@ pub(crate) fn warn_unsplit<'o, 's: 'o, Sess: Session<RelocationEntry>, I: Inputs
     telling: Telling,
     err: &mut E,
 ) -> Result<(), Failure>
-    ensures { IfErr result (FailsBy (E.failed err.new)) }
+    requires { length lacks.now ≡ length list.now }
+    ensures lines { OnOk result (IsPrinted (E.contents err.old) (E.contents err.new)
+        (TellUnsplitBy telling.warns (unit_count builder.now.state ≡ 0) list.now lacks.now)) }
+    ensures blamed { IfErr result (FailsBy (E.failed err.new)) }
 {
     if !telling.warns {
         return Ok(());
     }
-    let is_empty = builder.contained_units().is_empty();
-    let is_one_split = is_empty && builder.missing_targets().next().is_some();
+    let count = unit_count(builder);
+    let is_one_split = count == 0 && builder.missing_targets().next().is_some();
     for i in 0..list.len() {
-        let lack = lacks.get(i).copied().unwrap_or(Lack::Unknown);
-        let is_warned = match list[i] {
-            Input::Executable(_, _) | Input::ExecutableSkippingNameless(_, _) => {
-                is_empty && !is_one_split
-            }
-            _ => is_empty || matches!(lack, Lack::Types),
-        };
-        if is_warned {
-            warn_of(telling.alloc, inputs, list[i], lack, err)?;
-        }
+        let (input, lack) = (list[i], lacks[i]);
+        warn_for(telling.alloc, inputs, input, lack, count, is_one_split, err)?;
     }
     Ok(())
 }
 
+/// Warns of an input that has type units alone; where the package has no units of any other too, but
+/// of an executable only where no executable has split units.
+#[tactic(auto, using(crate::proofs::Warned::unsplit_none))]
+fn warn_for<I: Inputs, E: LineOutput>(
+    alloc: Global,
+    inputs: &I,
+    input: Input<'_>,
+    lack: Lack,
+    count: usize,
+    is_one_split: bool,
+    err: &mut E,
+) -> Result<(), Failure>
+    ensures line { OnOk result (IsPrinted (E.contents err.old) (E.contents err.new)
+        (TellsUnsplit ((count ≡ 0) ⊎ (lack ≡ Types)) (path_of input.entry))) }
+    ensures blamed { IfErr result (FailsBy (E.failed err.new)) }
+{
+    if let Lack::Types = lack {
+        return warn_of(alloc, inputs, input, lack, err);
+    }
+    if count > 0 || is_one_split && executable_of(input).is_some() {
+        return Ok(());
+    }
+    warn_of(alloc, inputs, input, lack, err)
+}
+
 /// Warns of an input that added nothing that is split, and says why.
+#[tactic(auto, using(crate::proofs::Warned::unsplit_none))]
 fn warn_of<I: Inputs, E: LineOutput>(
     alloc: Global,
     inputs: &I,
@@ -141,7 +183,9 @@ fn warn_of<I: Inputs, E: LineOutput>(
     lack: Lack,
     err: &mut E,
 ) -> Result<(), Failure>
-    ensures { IfErr result (FailsBy (E.failed err.new)) }
+    ensures line { OnOk result (IsPrinted (E.contents err.old) (E.contents err.new)
+        (TellsUnsplit (Unit {0}) (path_of input.entry))) }
+    ensures blamed { IfErr result (FailsBy (E.failed err.new)) }
 {
     let Some(path) = path_of(input) else {
         return Ok(());
@@ -151,8 +195,36 @@ fn warn_of<I: Inputs, E: LineOutput>(
         Input::Object(_) | Input::Bytes(_) => lack,
         _ => lack_at(alloc, inputs, input, path),
     };
-    let line = format!(in alloc; "warning: {name}: no split units{lack}\n")?;
+    let why = format!(in alloc; "{lack}")?;
+    let line = format!(in alloc; "warning: {name}: no split units{why}\n")?;
     err.print_text(line.as_str())
+}
+
+/// The line of a unit: words, its identifier, words, and more.
+pub(crate) fn unit_line(
+    alloc: Global,
+    before: &str,
+    id: u64,
+    after: &str,
+    more: &str,
+) -> Result<String, AllocError>
+    ensures { IfOk result (λ line.
+        string_bytes line ≡ unit_line before.now id after.now more.now) }
+{
+    let mut line = String::new(alloc);
+    put_between(before, id, after, &mut line)?;
+    line.push_str(more)?;
+    line.push_str("\n")?;
+    Ok(line)
+}
+
+/// Adds an identifier between two texts.
+#[tactic(auto, using(thorin_errors::proofs::Hex::hex8_written))]
+fn put_between(before: &str, id: u64, after: &str, text: &mut String) -> Result<(), AllocError>
+    ensures { OnOk result (string_bytes text.new ≡ string_bytes text.old
+        ++ (before.now ++ (hex8 id ++ after.now))) }
+{
+    write!(text, "{before}{id:08x}{after}")
 }
 
 /// An input that was refused.

@@ -12,3 +12,6 @@ pub returns-clause-told : goal.returns-clause-told
 returns-clause-told g c = err_by g.E.LineOutput.contents g.E.LineOutput.failed c.settle.new.err
     (reason_by c.take_bytes-outcome.result c.take_bytes-outcome.ensures.refused)
     c.settle.result c.settle.ensures.told
+
+pub returns-clause-line : goal.returns-clause-line
+returns-clause-line g c = rw c.unit_count-before.ensures at c.settle.ensures.line

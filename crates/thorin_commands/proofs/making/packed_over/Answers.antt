@@ -1,13 +1,11 @@
-use Rattle.std.proofs.Common.{◌≡◌, ◌∙◌, Bool, true, false, refl, Result, Ok, ap, map}
-use Rattle.std.specs.Prelude.{Err, IfOk}
-use Rattle.dwp_elf.specs.FileText.{Object as File, file_text}
-use Rattle.thorin_join.specs.Builder.{State, start, finish_test, IsFinishedState}
-use Rattle.thorin_join.specs.Join.{IsPackageOf}
+use Rattle.std.proofs.Common.{◌≡◌, ◌∙◌, Bool, true, false, refl, Ok, ap, map}
+use Rattle.thorin_join.specs.Builder.{State, start, differing_in}
 use Rattle.thorin_join.specs.Represents.{units_in}
 use Rattle.thorin_builder.specs.Taking.{Outcome}
 use Rattle.thorin.specs.declared.packing.Input.{Input}
-use Rattle.thorin_commands.specs.Packing.{IsPackedFrom, left}
+use Rattle.thorin_commands.specs.Packing.{left}
 use Rattle.thorin_commands.proofs.Causes.{err_by, finishing, refuses_by, taking}
+use Rattle.thorin_commands.proofs.Made.{differing_left, if_made, if_refused, never_empty, told_some}
 use Rattle.thorin_commands.proofs.making.packed_over.Goals as goal
 
 -- a package without the list of units that executables refer to has the same units
@@ -15,51 +13,64 @@ units_left : (partial : Bool) (state : State) → units_in (left partial state) 
 units_left true state = refl
 units_left false state = refl
 
--- what two clauses say of what was made, if it was
-made_by : {V E : Type 0} (A B C : File → Type 0) (r : Result (File × V) E)
-    → ((object : File) → A object → B object → C object) → IfOk r (λ made. A made.0)
-    → IfOk r (λ made. B made.0) → IfOk r (λ made. C made.0)
-made_by A B C (Ok made) f a b = f made.0 a b
-made_by A B C (Err e) f a b = tt
+pub fill-requires : goal.fill-requires
+fill-requires g c = rw c.new-builder.ensures.state refl
 
-pub returns-in-Ok-clause-packed : goal.returns-in-Ok-clause-packed
-returns-in-Ok-clause-packed g c =
+pub returns-in-Ok-clause-made : goal.returns-in-Ok-clause-made
+returns-in-Ok-clause-made g c =
     let filled = rw c.new-builder.ensures.state at c.in-Ok.ensures.fills in
-    let took = filled.took in
-    let state = filled.state in
+    let took = filled.fills.took in
+    let state = filled.fills.state in
     let done = c.fill.new.builder.state in
     let partial = c.args.telling.partial in
     let outcome : Input → Outcome = λ i. Ok tt in
-    let now : done ≡ left partial state = filled.rest in
+    let now : done ≡ left partial state = filled.fills.rest in
     let units : units_in done ≡ units_in state = ap units_in now ∙ units_left partial state in
-    made_by (λ o. (finish_test done ≡ Ok tt) × IsFinishedState done o) (λ o.
-    IsPackageOf (units_in done) (file_text o))
-    (IsPackedFrom partial (g.I.Inputs.opens c.args.inputs.now)
-    (g.I.Inputs.manner c.args.inputs.now) (g.I.InputReader.offer c.args.inputs.now)
-    c.args.list.now) c.finished.result
-    (λ object finished packaged. record {
-      taken = took.list;
-      stand = took.stand;
+    let differ : differing_in done ≡ differing_in state =
+    ap differing_in now ∙ differing_left partial state in
+    if_made c.finished.result
+    (λ made finished packaged differing lines kept. record {
       packed = record {
-        state = state;
-        accepted = took.accepted;
-        ran = took.ran;
-        joined = c.runs_go_on.ensures.joined took.list start state (map outcome took.list)
-            took.accepted took.ran;
-        tested = rw now at finished.0;
-        finished = rw now at finished.1;
-        package_of = rw units at packaged;
+        taken = took.list;
+        stand = took.stand;
+        packed = record {
+          state = state;
+          accepted = took.accepted;
+          ran = took.ran;
+          joined = c.runs_go_on.ensures.joined took.list start state (map outcome took.list)
+              took.accepted took.ran;
+          tested = rw now at finished.0;
+          finished = rw now at finished.1;
+          package_of = rw units at packaged;
+        };
       };
+      told = rw kept filled.told;
+      differ = differing ∙ differ;
+      names_are = rw lines filled.names_are;
     })
-    c.finished.ensures.finished c.finished.ensures.packaged
+    c.finished.ensures.finished c.finished.ensures.packaged c.finished.ensures.differing
+    c.finished.ensures.lines c.finished.ensures.kept
+
+pub returns-in-Ok-clause-tried : goal.returns-in-Ok-clause-tried
+returns-in-Ok-clause-tried g c =
+    let filled = rw c.new-builder.ensures.state at c.in-Ok.ensures.fills in
+    if_refused c.finished.result
+    (λ refusal kept e. rw (kept e) (told_some filled.fills.state _ _ filled.told))
+    c.finished.ensures.empty
 
 pub returns-in-Ok-clause-told : goal.returns-in-Ok-clause-told
-returns-in-Ok-clause-told g c = err_by g.E.LineOutput.contents g.E.LineOutput.failed
-    c.finished.new.err
+returns-in-Ok-clause-told g c =
+    let filled = rw c.new-builder.ensures.state at c.in-Ok.ensures.fills in
+    err_by g.E.LineOutput.contents g.E.LineOutput.failed c.finished.new.err
     (finishing {declines = g.I.InputReader.declines c.args.inputs.now} c.args.telling.partial
-    c.args.list.now c.fill.new.builder.state
-    (rw c.new-builder.ensures.state at c.in-Ok.ensures.fills))
+    c.args.list.now c.fill.new.builder.state filled.fills)
     c.finished.result c.finished.ensures.told
+
+pub returns-in-Err-clause-tried : goal.returns-in-Err-clause-tried
+returns-in-Err-clause-tried g c = never_empty (g.I.Inputs.opens c.args.inputs.now)
+    (g.I.Inputs.manner c.args.inputs.now) (g.I.InputReader.offer c.args.inputs.now)
+    (g.I.InputReader.declines c.args.inputs.now) c.args.list.now _ g.E.LineOutput.contents
+    g.E.LineOutput.failed c.fill.new.err c.in-Err.refusal c.in-Err.ensures.told
 
 pub returns-in-Err-clause-told : goal.returns-in-Err-clause-told
 returns-in-Err-clause-told g c = refuses_by g.E.LineOutput.contents

@@ -1,17 +1,22 @@
-use Rattle.std.proofs.Common.{rules}
-use Rattle.thorin_commands.specs.Packing.{paths_in}
+use Rattle.std.proofs.Common.{◌≡◌, [], ◌∷◌, ◌++◌, false, inr, map, rules}
+use Rattle.std.specs.Prelude.{None, Some}
+use Rattle.thorin_commands.specs.Packing.{asked, asks, paths_in}
+use Rattle.thorin_commands.specs.Warned.{TellsTaken}
 use Rattle.thorin_commands.proofs.Causes.{told_unsplit}
-use Rattle.thorin_commands.proofs.Puts.{first_of, unsplit_made}
+use Rattle.thorin_commands.proofs.Made.{if_ok_as, made_for}
+use Rattle.thorin_commands.proofs.Puts.{first_of}
 use Rattle.thorin_commands.proofs.packing.packed_unsplit.Goals as goal
 
-pub returns-clause-packed : goal.returns-clause-packed
-returns-clause-packed g c = unsplit_made (g.I.InputReader.offer c.args.inputs.now)
-    c.args.packing.now (g.I.Inputs.opens c.args.inputs.now) (g.I.Inputs.manner c.args.inputs.now)
-    c.as_slice.result.now c.in-Some.executable.now c.requires.allowed c.requires.opens
-    c.requires.manner (search rules)
-    (first_of (paths_in c.args.packing.now.executables) c.in-Some.executable.now
-    (rw c.paths_in-executables.ensures at c.in-Some.ensures.value)) c.packed_inputs.result
-    c.packed_inputs.ensures.packed
+pub returns-clause-made : goal.returns-clause-made
+returns-clause-made g c =
+    let first = first_of (paths_in c.args.packing.now.executables) c.in-Some.executable.now
+    (rw c.paths_in-executables.ensures at c.in-Some.ensures.value) in
+    let are : map asked c.as_slice.result.now ≡ asks c.args.packing.now
+    ++ Some (c.in-Some.executable.now.now, None) ∷ [] = search rules in
+    if_ok_as c.packed_inputs.result (λ made it. made_for
+    (TellsTaken false false c.args.packing.now.partial) c.args.packing.now c.as_slice.result.now
+    c.requires.opens c.requires.manner c.tells_differences.ensures
+    (inr (c.requires.allowed, rw first are)) (λ state text t. t) it) c.packed_inputs.ensures.made
 
 pub returns-clause-told : goal.returns-clause-told
 returns-clause-told g c = told_unsplit g.E.LineOutput.contents g.E.LineOutput.failed

@@ -15,3 +15,6 @@ returns-clause-told g c = err_by g.E.LineOutput.contents g.E.LineOutput.failed c
     c.take_input-outcome.new.builder.state c.take_input-outcome.result
     c.take_input-outcome.ensures.taken c.take_input-outcome.ensures.declined))
     c.settle.result c.settle.ensures.told
+
+pub returns-clause-line : goal.returns-clause-line
+returns-clause-line g c = rw c.unit_count-before.ensures at c.settle.ensures.line

@@ -1,0 +1,181 @@
+-- What was made of inputs, and what was told of that.
+use Rattle.std.proofs.Common.{◌≡◌, ℕ, Bool, true, false, List, ◌++◌, refl, ap, ◌∙◌}
+use Rattle.std.proofs.Common.{inr}
+use Rattle.std.specs.Prelude.{Option, Some, Result, Ok, Err, IfOk, IfErr, OnOk, map}
+use Rattle.std.proofs.lemmas.List.{append_assoc}
+use Rattle.dwp_elf.specs.FileText.{Object as File, file_text}
+use Rattle.dwp_table.specs.declared.object.DebugTypeSignature.{DebugTypeSignature}
+use Rattle.thorin_errors.specs.declared.error.Error.{Error}
+use Rattle.thorin_join.specs.Builder.{State, differing_in}
+use Rattle.thorin.specs.declared.packing.Input.{Input}
+use Rattle.thorin_output.specs.Warnings.{IsPrinted, IsWarning}
+use Rattle.thorin_output.specs.declared.warnings.Warned.{Warned}
+use Rattle.thorin_commands.specs.Cause.{Alone, Among, Archive, Bad, Cause, IsNotTaken, Plain}
+use Rattle.thorin_commands.specs.Cause.{Reasons, Refuses, StopsAt, StopsIn, Unfinished, Unread}
+use Rattle.thorin_commands.specs.Made.{IsMade, IsMadeFor, IsReady, TellsSome}
+use Rattle.thorin_commands.specs.Packing.{AreAsked, asked, asks, left, manner_of, out_of, reads}
+use Rattle.thorin_commands.specs.Taken.{Manner, Offer}
+use Rattle.thorin_commands.specs.Warned.{PacksTelling, TellsInputs, TellsMacros, TellsTaken, names}
+use Rattle.thorin_commands.specs.Warned.{others}
+use Rattle.thorin_commands.specs.declared.packing.Packing.{Packing}
+use Rattle.thorin_commands.specs.declared.refusal.Refusal.{Refusal}
+use Rattle.thorin_commands.specs.declared.refusal.Refusal.TheVariants as refusals
+use Rattle.thorin_commands.proofs.Warned.{printed_as, printed_then}
+
+-- the type units that differ don't go where units that executables refer to do
+pub differing_left : (partial : Bool) (state : State)
+    → differing_in (left partial state) ≡ differing_in state
+differing_left true state = refl
+differing_left false state = refl
+
+-- an input that isn't taken is no reason why a package can't be finished
+stops_no : {manner : Manner} {offer : Offer} {declines : Reasons} {file : List ℕ} {old : State}
+    (cause : Cause) → StopsIn offer declines manner file old cause → (error : Error)
+    → cause ≡ Unfinished error → ⊥
+stops_no cause (Bad e h) error same = absurd cc
+stops_no cause (Among members why h s) error same = absurd cc
+
+module _ {opens : Bool} {manner : Manner} {offer : Offer} {declines : Reasons} where
+  not_taken_no : (input : Input) (state : State) (cause : Cause)
+      → IsNotTaken opens manner offer declines input state cause → (error : Error)
+      → cause ≡ Unfinished error → ⊥
+  not_taken_no input state cause (Alone i s why stands h) error same = absurd cc
+  not_taken_no input state cause (Unread path s why o h) error same = absurd cc
+  not_taken_no input state cause (Plain path s file why o f n h) error same = absurd cc
+  not_taken_no input state cause (Archive path s file c o f n h) error same =
+      stops_no c h error same
+
+pub never_empty : (opens : Bool) (manner : Manner) (offer : Offer) (declines : Reasons)
+    (list : List Input) (old : State) {W : Type 0} (contents : W → Option (List ℕ))
+    (failed : W → Type 0) (writer : W) {X : Type 0} (refusal : Refusal)
+    → Refuses contents failed writer (StopsAt opens manner offer declines list old) refusal
+    → refusal ≡ refusals.Empty → X
+never_empty opens manner offer declines list old contents failed writer refusals.Empty h e =
+    absurd (not_taken_no h.input h.state _ h.refused _ refl)
+never_empty opens manner offer declines list old contents failed writer refusals.Told h e =
+    absurd cc
+never_empty opens manner offer declines list old contents failed writer (refusals.Command failure)
+    h e = absurd cc
+
+-- what was told of a run
+pub told_some : {verbose warns partial : Bool} {list : List Input} (state : State)
+    (a b : Option (List ℕ)) → IsPrinted a b (TellsTaken verbose warns partial list state)
+    → IsPrinted a b (TellsSome verbose warns partial list)
+told_some state a b p = printed_as (λ x t. (state, t)) p
+
+-- what is known of all that was made
+pub if_made : {X E K : Type 0} {A B C D M : X → Type 0} (r : Result X E)
+    → ((made : X) → A made → B made → C made → D made → K → M made) → IfOk r A → IfOk r B
+    → IfOk r C → IfOk r D → OnOk r K → IfOk r M
+if_made (Ok made) f a b c d k = f made a b c d k
+if_made (Err e) f a b c d k = tt
+
+pub if_ok_as : {X E : Type 0} {P Q : X → Type 0} (r : Result X E) → ((x : X) → P x → Q x)
+    → IfOk r P → IfOk r Q
+if_ok_as (Ok x) f h = f x h
+if_ok_as (Err e) f h = tt
+
+pub if_refused : {X E : Type 0} {P Q : E → Type 0} (r : Result X E) → ((e : E) → P e → Q e)
+    → IfErr r P → IfErr r Q
+if_refused (Ok x) f h = tt
+if_refused (Err e) f h = f e h
+
+-- of just the inputs that were asked for
+pub made_for : (Tells : List Input → State → (text : List ℕ) → Type 0) {offer : Offer}
+    (packing : Packing) {verbose warns named opens : Bool} {manner : Manner} (list : List Input)
+    {a b : Option (List ℕ)} {object : File} {differing : List DebugTypeSignature}
+    {lines : List ℕ} → opens ≡ packing.opens_archives → manner ≡ manner_of packing
+    → named ≡ names packing.verbose packing.warnings → AreAsked packing list
+    → ((state : State) (text : List ℕ) → TellsTaken verbose warns packing.partial list state text
+    → Tells list state text)
+    → IsMade verbose warns packing.partial named opens manner offer list a b object differing lines
+    → IsMadeFor Tells offer packing a b object differing lines
+made_for Tells {offer} packing {verbose} {warns} list {a} {b} {object} {differing} {lines} o m n are
+    f made =
+    let it : IsMade verbose warns packing.partial (names packing.verbose packing.warnings)
+    packing.opens_archives (manner_of packing) offer list a b object differing lines =
+    rw (o, m, n) at made in record {
+      is = record { list = list; are = are; packed = it.packed };
+      told = printed_as (f it.packed.packed.state) it.told;
+      differ = it.differ;
+      names_are = it.names_are;
+    }
+
+-- behind a run that began no package
+pub made_twice : {offer : Offer} (packing : Packing) (list : List Input)
+    (a b c : Option (List ℕ)) {object : File} {differing : List DebugTypeSignature}
+    {lines : List ℕ} → packing.lets_empty ≡ true → map asked list ≡ asks packing
+    → IsPrinted a b (TellsSome packing.verbose true packing.partial list)
+    → IsMadeFor (TellsTaken false false packing.partial) offer packing b c object differing lines
+    → IsMadeFor (TellsInputs packing) offer packing a c object differing lines
+made_twice packing list a b c lets are p made = record {
+  is = made.is;
+  told = printed_then {R = TellsInputs packing made.is.list made.is.packed.packed.state}
+      (λ x y t u. inr (record {
+        lets = lets;
+        inputs = list;
+        are = are;
+        first = t.0;
+        before = x;
+        before_are = t.1;
+        behind = y;
+        behind_are = u;
+        text_is = refl;
+      })) p made.told;
+  differ = made.differ;
+  names_are = made.names_are;
+}
+
+-- with the lines of sections of macros
+pub made_ready : {X : Type 0} (offers : X → Offer) (x y : X) (reading packing : Packing)
+    {a b : Option (List ℕ)} {object : File} {differing : List DebugTypeSignature}
+    (named lines : List ℕ) → x ≡ y → reading ≡ packing
+    → IsMadeFor (TellsInputs packing) (reads reading (offers x)) packing a b object differing named
+    → (macros : List ℕ) × TellsMacros reading.warns_of_macros macros × (lines ≡ macros ++ named)
+    → IsReady (reads packing (offers y)) packing a b object differing lines
+made_ready offers x y reading packing {a} {b} {object} {differing} named lines f p made more =
+    record {
+      named = named;
+      made = rw (f, p) at made;
+      macros = more.0;
+      macros_are = rw p at more.1;
+      lines_are = more.2;
+    }
+
+-- and the warnings behind the package
+pub packs_telling : (offer : Offer) (packing : Packing) (Puts : (name text : List ℕ) → Type 0)
+    (object : File) (name : List ℕ) (differing : List DebugTypeSignature) (lines : List ℕ)
+    (a b c : Option (List ℕ)) (warned : Warned)
+    → IsReady offer packing a b object differing lines
+    → out_of packing ≡ Some name → Puts name (file_text object)
+    → warned.lines.now ≡ lines → warned.differing.now ≡ differing
+    → warned.warnings ≡ others (names packing.verbose packing.warnings) packing.warnings
+    → IsPrinted b c (IsWarning warned) → PacksTelling offer packing Puts a c
+packs_telling offer packing Puts object name differing lines a b c warned ready named put el ed ew
+    p = record {
+      packs = record {
+        object = object;
+        is = ready.made.is;
+        name = name;
+        named = named;
+        put = put;
+      };
+      told = printed_then (λ x y t u. record {
+        inputs = x;
+        inputs_are = t;
+        macros = ready.macros;
+        macros_are = ready.macros_are;
+        differing = ready.named ++ u.lines;
+        differing_are = record {
+          named = ready.named;
+          named_are = ready.made.names_are;
+          differing = differing;
+          differ = ready.made.differ;
+          lines = u.lines;
+          lines_are = rw (ed, ew) at u.are;
+          text_is = refl;
+        };
+        text_is = ap (λ l. x ++ l) (u.text_is ∙ (ap (λ l. l ++ u.lines) (el ∙ ready.lines_are)
+            ∙ append_assoc ready.macros ready.named u.lines));
+      }) ready.made.told p;
+    }

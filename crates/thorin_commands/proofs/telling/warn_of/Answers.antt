@@ -1,0 +1,17 @@
+use Rattle.std.proofs.Common.{◌≡◌, rules, string_bytes, sym}
+use Rattle.std.specs.Path.{path_bytes}
+use Rattle.thorin_print.specs.Shown.{shown}
+use Rattle.thorin_commands.specs.Warned.{path_of, unsplit_line}
+use Rattle.thorin_commands.proofs.Warned.{printed_ok, unsplit_told}
+use Rattle.thorin_commands.proofs.telling.warn_of.Goals as goal
+
+pub returns-clause-line : goal.returns-clause-line
+returns-clause-line g c =
+    let name = path_bytes c.in-Some.path in
+    let why = string_bytes c.in_ok-why.why in
+    let its : string_bytes c.in_ok-name.name ≡ shown name =
+    rw c.path_text.ensures.bytes at c.in_ok-name.ensures in
+    let line : string_bytes c.in_ok-line.line ≡ unsplit_line name why = search (rules, its) in
+    printed_ok (string_bytes c.in_ok-line.line) _ _ c.print_text.result
+    (λ h. unsplit_told (path_of c.args.input) name why _ _ (sym c.in-Some.ensures) (rw line at h))
+    (rw c.as_str.ensures.value at c.print_text.ensures.printed)
