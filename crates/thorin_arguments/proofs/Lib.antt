@@ -1,3 +1,4 @@
+pub mod Completing
 pub mod Getters
 pub mod Matched
 pub mod Rules

@@ -1,20 +1,25 @@
 -- What building a command line keeps of its words, in clap's terms.
 use Rattle.std.proofs.Common.{◌≡◌, ◌∙◌, ◌&&◌, ◌++◌, ap, sym, refl, Bool, true, false, List, [], ◌∷◌}
 use Rattle.std.proofs.Common.{ap₂, is_some, length, map, not, take, ℕ, ◌+◌, ◌<◌}
-use Rattle.std.specs.Prelude.{fold}
+use Rattle.std.specs.Borrow.{Bor}
+use Rattle.std.specs.Prelude.{codes, filter_map, fold}
 use Rattle.std.specs.List.{list_all}
 use Rattle.std.proofs.Math.ListN.{get_or}
 use Rattle.std.proofs.lemmas.List.{append-nil, append_assoc, map-append, take_more}
 use Rattle.clap.specs.Words.{AddsArg, AddsInTurn, AddsSubcommand}
 use Rattle.clap.specs.Words.{App, Shape, app_of, rule_of, shape_of, with_rule, with_subcommand}
-use Rattle.clap.specs.Walk.{Rule, is_empty}
+use Rattle.clap.specs.Walk.{Rule, Text, is_empty, texts}
 use Rattle.clap.specs.declared.builder.arg.Arg.{Arg}
 use Rattle.clap.specs.declared.builder.command.Command.{Command}
 use Rattle.clap.proofs.SimpleLemmas.{is_false}
 use Rattle.clap.proofs.WalkLemmas.{both}
-use Rattle.thorin_arguments.specs.Rules.{made, rule_in}
-use Rattle.thorin_arguments.specs.declared.command.Word.{Word}
-use Rattle.thorin_arguments.specs.declared.command.Word.TheVariants as words
+use Rattle.clap.proofs.OnLiterals.{clap_on_literals}
+use Rattle.thorin_arguments.specs.Grammar.{AreKinds, AreManners, chosen, long_names, peer}
+use Rattle.thorin_arguments.specs.Grammar.{peer_words}
+use Rattle.thorin_arguments.specs.Rules.{AreLongNames, AreOwnNames, ArePeerRules, made, rule_in}
+use Rattle.thorin_arguments.specs.Whole.{is_of_llvm}
+use Rattle.thorin_arguments.specs.declared.words.Word.{Word}
+use Rattle.thorin_arguments.specs.declared.words.Word.TheVariants as words
 
 and-left : (a b : Bool) → a ≡ true → (a && b) ≡ b
 and-left true b e = refl
@@ -72,15 +77,23 @@ all_simple : (list : List Word) → list_all (λ r. r.is_simple) (map rule_in li
 all_simple [] = refl
 all_simple (word ∷ list) = and-left _ _ (simple word) ∙ all_simple list
 
--- a command whose arguments are those of words
+-- a command whose arguments have these rules
+pub with_rules : (c d : Command) (args : List Arg) (rules : List Rule) → AddsInTurn AddsArg c args d
+    → map rule_of args ≡ rules → list_all (λ r. r.is_simple) rules ≡ true
+    → app_of d ≡ record (app_of c) {
+      top = record (app_of c).top { rules = (app_of c).top.rules ++ rules };
+    }
+with_rules c d args rules h same all =
+    added c d args h (ap (list_all (λ r. r.is_simple)) same ∙ all)
+    ∙ (ap (fold with_rule (app_of c)) same ∙ folded (app_of c) rules)
+
+-- those of words
 pub with_words : (c d : Command) (args : List Arg) (list : List Word) → AddsInTurn AddsArg c args d
     → map rule_of args ≡ map rule_in list
     → app_of d ≡ record (app_of c) {
       top = record (app_of c).top { rules = (app_of c).top.rules ++ map rule_in list };
     }
-with_words c d args list h same = added c d args h
-    (ap (list_all (λ r. r.is_simple)) same ∙ all_simple list)
-    ∙ (ap (fold with_rule (app_of c)) same ∙ folded (app_of c) (map rule_in list))
+with_words c d args list h same = with_rules c d args (map rule_in list) h same (all_simple list)
 
 -- commands that are added in turn
 with_commands : (c d : Command) (xs : List Command) → AddsInTurn AddsSubcommand c xs d
@@ -110,3 +123,71 @@ one_more f g xs x ys i d lt so_far e = map-append f xs (x ∷ [])
     ∙ (ap₂ (λ a b. a ++ b ∷ []) so_far e
     ∙ (sym (map-append g (take i ys) (get_or ys i d ∷ [])) ∙ ap (map g)
     (sym (take_more ys i d lt))))
+
+-- ---- a peer
+
+pub simple_peer : (of_llvm : Bool) (which how : Bor (List (Bor Text)))
+    → list_all (λ r. r.is_simple) (peer_words of_llvm which how) ≡ true
+simple_peer true which how = refl
+simple_peer false which how = refl
+
+-- a peer's rules, as they are made; LLVM's with one more
+abbrev pub text_at_none : Text → Bor Text
+text_at_none text = record { ref_ptr = (0, 0); now = text }
+
+abbrev pub some_manners : Bor (List (Bor Text))
+some_manners = record {
+  ref_ptr = (0, 0);
+  now = text_at_none (codes "continue") ∷ text_at_none (codes "soft-stop") ∷ [];
+}
+
+pub gnu_rules : (of_llvm : Bool) (which : Bor (List (Bor Text))) (args : List Arg)
+    → of_llvm ≡ false → map rule_of args ≡ peer_words false which some_manners → AreKinds which
+    → ArePeerRules of_llvm (map rule_of args)
+gnu_rules of_llvm which args other same kinds = (
+  which,
+  some_manners,
+  kinds,
+  refl,
+  same ∙ ap (λ b. peer_words b which some_manners) (sym other),
+)
+
+pub llvm_rules : (of_llvm : Bool) (which how : Bor (List (Bor Text)))
+    (args now : List Arg) (x : Arg)
+    → of_llvm ≡ true → now ≡ args ++ x ∷ [] → map rule_of args ≡ peer_words false which how
+    → rule_of x ≡ chosen (codes "continue-on-cu-index-overflow") how → AreKinds which
+    → AreManners how → ArePeerRules of_llvm (map rule_of now)
+llvm_rules of_llvm which how args now x llvm items same last kinds manners = (
+  which,
+  how,
+  kinds,
+  manners,
+  ap (map rule_of) items ∙ (map-append rule_of args (x ∷ [])
+      ∙ (ap₂ (λ a r. a ++ r ∷ []) same last ∙ ap (λ b. peer_words b which how) (sym llvm))),
+)
+
+pub two_more : (names one two : List (Bor Text)) (a b : Bor Text) → one ≡ names ++ a ∷ []
+    → two ≡ one ++ b ∷ [] → texts two ≡ texts names ++ a.now ∷ b.now ∷ []
+two_more names one two a b e f = ap texts (f ∙ ap (λ l. l ++ b ∷ []) e)
+    ∙ (map-append (λ s. s.now) (names ++ a ∷ []) (b ∷ [])
+    ∙ (ap (λ l. l ++ b.now ∷ []) (map-append (λ s. s.now) names (a ∷ []))
+    ∙ append_assoc (texts names) (a.now ∷ []) (b.now ∷ [])))
+
+abbrev longs : List Rule → List Text
+longs rules = filter_map (λ rule. rule.long) rules
+
+-- the names that a peer's grammar has
+own_names : (name : Text) (of_llvm : Bool) (which how : Bor (List (Bor Text)))
+    → long_names (peer name of_llvm which how)
+    ≡ longs (peer_words of_llvm which how) ++ codes "help" ∷ codes "version" ∷ []
+unfolding clap_on_literals peer
+own_names name true which how = refl
+own_names name false which how = refl
+
+pub are_long_names : (name : Text) (of_llvm : Bool) (own names : List Text)
+    → of_llvm ≡ is_of_llvm name → AreOwnNames of_llvm own
+    → names ≡ own ++ codes "help" ∷ codes "version" ∷ [] → AreLongNames name names
+are_long_names name of_llvm own names llvm has is app (which, how, _, _, app_is) =
+    is ∙ (ap (λ l. l ++ codes "help" ∷ codes "version" ∷ []) (has which how)
+    ∙ (sym (own_names name of_llvm which how)
+    ∙ (ap (λ b. long_names (peer name b which how)) llvm ∙ ap long_names (sym app_is))))

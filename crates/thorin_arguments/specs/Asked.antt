@@ -1,7 +1,8 @@
 -- Which command the matches of a command line ask for, with which inputs and settings, and what
 -- else the program does of words.
-use Rattle.std.specs.Prelude.{◌≡◌, ℕ, Bool, true, false, ◌||◌, List, [], ◌∷◌, Option, Some, None}
-use Rattle.std.specs.Prelude.{String, string_bytes, ◌⊎◌, ⊤, codes, map, option_map, unwrap_or}
+use Rattle.std.specs.Prelude.{◌≡◌, ℕ, Bool, true, false, ◌||◌, List, [], Option, Some, None}
+use Rattle.std.specs.Prelude.{String, string_bytes, ◌⊎◌, ⊤, codes, is_some, map, option_map}
+use Rattle.std.specs.Prelude.{unwrap_or}
 use Rattle.std.specs.Borrow.{Bor}
 use Rattle.std.specs.declared.alloc.Global.{Global}
 use Rattle.clap.specs.Walk.{Row, Text, all_of, first_of}
@@ -10,9 +11,8 @@ use Rattle.thorin_arguments.specs.declared.asking.FindArguments.{FindArguments}
 use Rattle.thorin_arguments.specs.declared.asking.ListArguments.{ListArguments}
 use Rattle.thorin_arguments.specs.declared.asking.CheckArguments.{CheckArguments}
 use Rattle.thorin_arguments.specs.Flags.{is_set}
-use Rattle.thorin_arguments.specs.Grammar.{AreMatchesOf, AreRefused, AskForText}
-use Rattle.thorin_arguments.specs.Peers.{is_peer}
-use Rattle.thorin_arguments.specs.Wrong.{is_wrong}
+use Rattle.thorin_arguments.specs.Grammar.{AreMatched, AreRefused, AskForText}
+use Rattle.thorin_arguments.specs.Peers.{peer_of}
 
 -- what is called: a command with its inputs and settings; or a text is shown that the words ask
 -- for, they are refused, or it is told that memory ran out
@@ -112,13 +112,6 @@ abbrev pub Asks : (of_peer : Bool) → List Row → Option (Text × List Row) �
 Asks true rows command call = AsksPeer rows call
 Asks false rows command call = AsksIn command call
 
--- no command is called
-abbrev pub IsUncalled : Call → Type 0
-IsUncalled Shows = ⊤
-IsUncalled Refuses = ⊤
-IsUncalled LacksMemory = ⊤
-IsUncalled _ = ⊥
-
 -- a text is shown; words are refused, or memory ran out for that
 abbrev pub IsShown : Call → Type 0
 IsShown call = call ≡ Shows
@@ -144,35 +137,23 @@ Does does asks old status new =
 abbrev pub words_in : List (String Global) → List Text
 words_in words = map string_bytes words
 
--- whether the program's name is that of a peer
-abbrev pub has_peer : List Text → Bool
-has_peer [] = false
-has_peer (program ∷ line) = is_peer program
-
--- a call that words ask for: by their matches, as the grammar has them, whose options go together;
--- a peer's by some matches
-abbrev pub IsAsked : (of_peer : Bool) → List Text → Call → Type 0
-IsAsked true words call = (rows : List Row) × AsksPeer rows call
-IsAsked false words call = (rows : List Row) × (command : Option (Text × List Row))
-    × AreMatchesOf words rows command × (is_wrong command ≡ false) × AsksIn command call
+-- a call that words ask for: by their matches, as the grammar has them, whose options go together
+abbrev pub IsAsked : (peer : Option Text) → List Text → Call → Type 0
+IsAsked peer words call = (rows : List Row) × (command : Option (Text × List Row))
+    × AreMatched peer false words rows command × Asks (is_some peer) rows command call
 
 -- no command is called, and why: help is asked for or the version, the words are refused, or memory
 -- ran out
-abbrev pub IsToldOf : List Text → Call → Type 0
-IsToldOf words Shows = AskForText words
-IsToldOf words Refuses = AreRefused words
-IsToldOf words LacksMemory = ⊤
-IsToldOf words _ = ⊥
+abbrev pub IsTold : (peer : Option Text) → List Text → Call → Type 0
+IsTold peer words Shows = AskForText peer words
+IsTold peer words Refuses = AreRefused peer words
+IsTold peer words LacksMemory = ⊤
+IsTold peer words _ = ⊥
 
--- the same of a line of a peer's, or of one of `thorin`
-abbrev pub IsTold : (of_peer : Bool) → List Text → Call → Type 0
-IsTold true words call = IsUncalled call
-IsTold false words call = IsToldOf words call
-
--- what is done with a line
-abbrev pub IsCallBy : (of_peer : Bool) → List Text → Call → Type 0
-IsCallBy of_peer words call = IsTold of_peer words call ⊎ IsAsked of_peer words call
+-- what is done with a line, of a peer of this name or of `thorin`
+abbrev pub IsCallBy : (peer : Option Text) → List Text → Call → Type 0
+IsCallBy peer words call = IsTold peer words call ⊎ IsAsked peer words call
 
 -- the same, by the program's name
 abbrev pub IsCallOf : List Text → Call → Type 0
-IsCallOf words call = IsCallBy (has_peer words) words call
+IsCallOf words call = IsCallBy (peer_of words) words call

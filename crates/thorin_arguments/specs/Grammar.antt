@@ -1,17 +1,19 @@
--- The command lines of `thorin`, as clap takes them: its commands, and the options and words of
--- each.
-use Rattle.std.specs.Prelude.{◌≡◌, ◌⊎◌, ℕ, true, false, List, [], ◌∷◌, Option, Some, codes}
+-- The command lines of `thorin` and its peers, as clap takes them: the commands, and the options
+-- and words of each.
+use Rattle.std.specs.Prelude.{◌≡◌, ◌⊎◌, ℕ, Bool, true, false, List, [], ◌∷◌, ◌++◌, Option, Some}
+use Rattle.std.specs.Prelude.{None, codes, filter_map, if◌then◌else◌, is_some}
 use Rattle.std.specs.Borrow.{Bor}
 use Rattle.clap.specs.Lexer.{usize_max}
 use Rattle.clap.specs.Faults.{fault_of}
 use Rattle.clap.specs.Kinds.{IsAmong}
-use Rattle.clap.specs.Simple.{App, Shape, matches_of, new_rule, new_shape, subcommand_of}
+use Rattle.clap.specs.Simple.{App, Shape, built, matches_of, new_rule, new_shape, subcommand_of}
 use Rattle.clap.specs.Walk.{Row, Rule, Text, texts}
 use Rattle.clap.specs.declared.builder.action.ArgAction.TheVariants.{Append, Set, SetTrue}
 use Rattle.clap.specs.declared.builder.value_parser.ValueParser.TheVariants as parsers
 use Rattle.clap.specs.declared.error.kind.ErrorKind.{ErrorKind}
 use Rattle.clap.specs.declared.error.kind.ErrorKind.TheVariants as kinds
-use Rattle.thorin_arguments.specs.Wrong.{is_wrong}
+use Rattle.thorin_arguments.specs.Whole.{completed, is_of_llvm}
+use Rattle.thorin_arguments.specs.Wrong.{is_wrong_line}
 
 -- ---- kinds of words
 
@@ -52,14 +54,21 @@ also letter rule = record rule { short = Some letter }
 abbrev pub exec : Rule
 exec = also 101 (repeated (codes "exec"))
 
-abbrev pub pack_words : Bor (List (Bor Text)) → List Rule
-pack_words which =
-    also 111 (valued (codes "output")) ∷ exec ∷ flag (codes "skip-missing")
-    ∷ flag (codes "skip-nameless") ∷ flag (codes "partial") ∷ flag (codes "missing")
-    ∷ repeated (codes "prefix-map") ∷ flag (codes "force") ∷ flag (codes "decompress")
+abbrev pub output : Rule
+output = also 111 (valued (codes "output"))
+
+-- how objects are packed, and which
+abbrev pub packing_words : Bor (List (Bor Text)) → List Rule
+packing_words which =
+    flag (codes "skip-missing") ∷ flag (codes "skip-nameless") ∷ flag (codes "partial")
+    ∷ flag (codes "missing") ∷ repeated (codes "prefix-map") ∷ flag (codes "force")
+    ∷ flag (codes "decompress")
     ∷ flag (codes "archives") ∷ flag (codes "allow-overlap") ∷ flag (codes "last-macros")
     ∷ flag (codes "no-macros") ∷ chosen (codes "warnings") which ∷ also 118 (flag (codes "verbose"))
     ∷ places (codes "input") ∷ []
+
+abbrev pub pack_words : Bor (List (Bor Text)) → List Rule
+pack_words which = output ∷ exec ∷ packing_words which
 
 abbrev pub find_words : List Rule
 find_words = place (codes "file") ∷ place (codes "kind") ∷ place (codes "id")
@@ -92,12 +101,50 @@ thorin which = record {
       ∷ command (codes "list") list_words ∷ command (codes "check") check_words ∷ [];
 }
 
+-- what a peer takes; LLVM's takes an option more, which changes nothing
+abbrev pub peer_words : (of_llvm : Bool) → (which how : Bor (List (Bor Text))) → List Rule
+peer_words of_llvm which how =
+    (output ∷ exec ∷ flag (codes "verify-only") ∷ packing_words which)
+    ++ (if of_llvm then chosen (codes "continue-on-cu-index-overflow") how ∷ [] else [])
+
+-- a peer, which has a version; of options that are repeated the last counts
+unfoldable pub peer : (name : Text) → (of_llvm : Bool) → (which how : Bor (List (Bor Text))) → App
+peer name of_llvm which how = record {
+  top = record (command name (peer_words of_llvm which how)) {
+    has_version = true;
+    args_override_self = true;
+  };
+  subs = [];
+}
+
 -- the kinds of warnings
 abbrev pub AreKinds : Bor (List (Bor Text)) → Type 0
 AreKinds which = texts which.now ≡ codes "each" ∷ codes "once" ∷ codes "none" ∷ []
 
+-- what LLVM's may do past 2^32 bytes
+abbrev pub AreManners : Bor (List (Bor Text)) → Type 0
+AreManners how = texts how.now ≡ codes "continue" ∷ codes "soft-stop" ∷ []
+
 abbrev pub IsThorin : App → Type 0
 IsThorin app = (which : Bor (List (Bor Text))) × AreKinds which × (app ≡ thorin which)
+
+abbrev pub IsPeer : (name : Text) → App → Type 0
+IsPeer name app = (which : Bor (List (Bor Text))) × (how : Bor (List (Bor Text))) × AreKinds which
+    × AreManners how × (app ≡ peer name (is_of_llvm name) which how)
+
+-- the grammar of a line: that of the peer of a name, where it has one, or of `thorin`
+abbrev pub IsLine : (peer : Option Text) → App → Type 0
+IsLine (Some name) app = IsPeer name app
+IsLine None app = IsThorin app
+
+-- the names of its long options, with those that clap adds
+abbrev pub long_names : App → List Text
+long_names app = filter_map (λ rule. rule.long) (built app).top.rules
+
+-- the words of a line as its grammar has them: a peer's may have long options that are cut short
+abbrev pub read_words : (peer : Option Text) → App → List Text → List Text
+read_words (Some name) app words = completed (is_of_llvm name) (long_names app) words
+read_words None app words = words
 
 -- ---- what words say
 
@@ -106,29 +153,32 @@ abbrev pub IsText : ErrorKind → Type 0
 IsText kind = (kind ≡ kinds.DisplayHelp) ⊎ (kind ≡ kinds.DisplayVersion)
 
 -- words that the grammar doesn't take, since they have an error of such a kind
-abbrev pub HaveError : (ErrorKind → Type 0) → List Text → Type 0
-HaveError IsSuch words = (which : Bor (List (Bor Text))) × AreKinds which
-    × (kind : ErrorKind) × IsAmong kind (fault_of (thorin which) words) × IsSuch kind
+abbrev pub HaveError : (peer : Option Text) → (ErrorKind → Type 0) → List Text → Type 0
+HaveError peer IsSuch words = (app : App) × IsLine peer app × (kind : ErrorKind)
+    × IsAmong kind (fault_of app (read_words peer app words)) × IsSuch kind
 
 -- words that the grammar takes, with their matches: those of the line, and the command in it with
 -- its own
-pub record AreMatchesOf (words : List Text) (rows : List Row) (command : Option (Text × List Row))
-    : Type 0 where
-  pub which : Bor (List (Bor Text))
-  pub kinds : AreKinds which
-  pub taken : fault_of (thorin which) words ≡ []
-  pub rows_are : rows ≡ matches_of (thorin which) words
-  pub command_is : command ≡ subcommand_of (thorin which) words
+pub record AreMatchesOf (peer : Option Text) (words : List Text) (rows : List Row)
+    (command : Option (Text × List Row)) : Type 0 where
+  pub app : App
+  pub line : IsLine peer app
+  pub taken : fault_of app (read_words peer app words) ≡ []
+  pub rows_are : rows ≡ matches_of app (read_words peer app words)
+  pub command_is : command ≡ subcommand_of app (read_words peer app words)
 
--- words that the grammar takes, and whose options don't go together
-abbrev pub AreWrong : List Text → Type 0
-AreWrong words = (rows : List Row) × (command : Option (Text × List Row))
-    × AreMatchesOf words rows command × (is_wrong command ≡ true)
+-- words that the grammar takes, and whose options go together, or don't
+abbrev pub AreMatched : (peer : Option Text) → (wrong : Bool) → List Text → List Row
+    → Option (Text × List Row) → Type 0
+AreMatched peer wrong words rows command = AreMatchesOf peer words rows command
+    × (is_wrong_line (is_some peer) rows command ≡ wrong)
 
 -- words that ask for help or the version
-abbrev pub AskForText : List Text → Type 0
-AskForText words = HaveError IsText words
+abbrev pub AskForText : (peer : Option Text) → List Text → Type 0
+AskForText peer words = HaveError peer IsText words
 
--- words that are refused: the grammar doesn't take them, or they are wrong
-abbrev pub AreRefused : List Text → Type 0
-AreRefused words = HaveError (λ kind. ¬ IsText kind) words ⊎ AreWrong words
+-- words that are refused: the grammar doesn't take them, or their options don't go together
+abbrev pub AreRefused : (peer : Option Text) → List Text → Type 0
+AreRefused peer words = HaveError peer (λ kind. ¬ IsText kind) words
+    ⊎ ((rows : List Row) × (command : Option (Text × List Row))
+    × AreMatched peer true words rows command)

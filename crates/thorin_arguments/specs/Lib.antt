@@ -5,4 +5,5 @@ pub mod Peers
 pub mod Reading
 pub mod Rules
 pub mod Versions
+pub mod Whole
 pub mod Wrong

@@ -1,6 +1,6 @@
 -- The names under which the program takes the command lines of its peers.
 use Rattle.std.specs.Prelude.{ℕ, ◌-◌, ◌==◌, ◌||◌, ◌&&◌, nat_lt, Bool, false, List, [], ◌∷◌, length}
-use Rattle.std.specs.Prelude.{take, codes, if◌then◌else◌}
+use Rattle.std.specs.Prelude.{take, codes, if◌then◌else◌, Option, Some, None}
 use Rattle.std.specs.Str.{bytes_eq}
 
 -- what stands behind the last of a mark, all where there is none: the rest of a text is gone
@@ -33,3 +33,8 @@ has_peer_name name = is_dwp (last_part 45 name)
 
 unfoldable pub is_peer : List ℕ → Bool
 is_peer program = has_peer_name (last_part 47 program)
+
+-- the name without folders, where the first word of a line is that of a peer
+abbrev pub peer_of : List (List ℕ) → Option (List ℕ)
+peer_of [] = None
+peer_of (program ∷ line) = if is_peer program then Some (last_part 47 program) else None

@@ -1,15 +1,16 @@
 -- The words of a command line as this program lists them, in clap's terms.
-use Rattle.std.specs.Prelude.{codes, map}
-use Rattle.clap.specs.Simple.{Shape, shape_of}
-use Rattle.clap.specs.Walk.{Rule}
+use Rattle.std.specs.Prelude.{◌≡◌, Bool, List, codes, filter_map, map}
+use Rattle.std.specs.Borrow.{Bor}
+use Rattle.clap.specs.Simple.{App, Shape, shape_of}
+use Rattle.clap.specs.Walk.{Rule, Text}
 use Rattle.clap.specs.declared.builder.command.Command.{Command}
 use Rattle.thorin_arguments.specs.Grammar as grammar
-use Rattle.thorin_arguments.specs.declared.command.Word.{Word}
-use Rattle.thorin_arguments.specs.declared.command.Word.TheVariants as words
+use Rattle.thorin_arguments.specs.declared.words.Word.{Word}
+use Rattle.thorin_arguments.specs.declared.words.Word.TheVariants as words
 use Rattle.thorin_arguments.specs.declared.command.Line.{Line}
 
 abbrev pub rule_in : Word → Rule
-rule_in words.Output = grammar.also 111 (grammar.valued (codes "output"))
+rule_in words.Output = grammar.output
 rule_in (words.Executables help) = grammar.exec
 rule_in words.Verbose = grammar.also 118 (grammar.flag (codes "verbose"))
 rule_in (words.Flag name help) = grammar.flag name.now
@@ -18,6 +19,21 @@ rule_in (words.Values name value help) = grammar.repeated name.now
 rule_in (words.Choice name value help values) = grammar.chosen name.now values
 rule_in words.Inputs = grammar.places (codes "input")
 rule_in (words.Place name value help) = grammar.place name.now
+
+-- the words of a peer
+abbrev pub ArePeerRules : (of_llvm : Bool) → List Rule → Type 0
+ArePeerRules of_llvm rules = (which : Bor (List (Bor Text))) × (how : Bor (List (Bor Text)))
+    × grammar.AreKinds which × grammar.AreManners how
+    × (rules ≡ grammar.peer_words of_llvm which how)
+
+-- the names of its long options
+abbrev pub AreOwnNames : (of_llvm : Bool) → List Text → Type 0
+AreOwnNames of_llvm names = (which how : Bor (List (Bor Text)))
+    → names ≡ filter_map (λ rule. rule.long) (grammar.peer_words of_llvm which how)
+
+-- the names of the long options of each grammar of the peer of this name
+abbrev pub AreLongNames : (peer : Text) → List Text → Type 0
+AreLongNames peer names = (app : App) → grammar.IsPeer peer app → names ≡ grammar.long_names app
 
 -- a command as it is made, and as its line says
 unfoldable pub made : Command → Shape

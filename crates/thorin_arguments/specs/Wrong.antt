@@ -1,6 +1,7 @@
 -- Options that don't go together, in words that the grammar takes.
-use Rattle.std.specs.Prelude.{◌&&◌, ◌||◌, ◌==◌, Bool, false, not, List, [], Option, Some, None}
-use Rattle.std.specs.Prelude.{codes, if◌then◌else◌, is_some, unwrap_or}
+use Rattle.std.specs.Prelude.{◌&&◌, ◌||◌, ◌==◌, Bool, true, false, not, List, [], Option, Some}
+use Rattle.std.specs.Prelude.{None}
+use Rattle.std.specs.Prelude.{ℕ, codes, if◌then◌else◌, is_some, length, unwrap_or}
 use Rattle.std.specs.List.{list_any}
 use Rattle.std.specs.Str.{bytes_eq}
 use Rattle.clap.specs.Walk.{Row, Text, all_of, first_of}
@@ -31,6 +32,15 @@ is_wrong_packing rows = (is_set rows (codes "missing") && not (is_given rows (co
 abbrev pub is_wrong_pack : List Row → Bool
 is_wrong_pack rows = lacks_output rows || is_wrong_packing rows
 
+-- how many executables are given
+abbrev pub count_executables : List Row → ℕ
+count_executables rows = length (unwrap_or (all_of (codes "exec") rows) [])
+
+-- under a peer's name a single executable names the package
+abbrev pub is_wrong_peer : List Row → Bool
+is_wrong_peer rows = (lacks_output rows && not (count_executables rows == 1))
+    || is_wrong_packing rows
+
 -- a section's bytes stand alone
 abbrev pub is_wrong_find : List Row → Bool
 is_wrong_find rows = is_given rows (codes "section")
@@ -50,3 +60,8 @@ is_wrong_by name rows = if bytes_eq name (codes "pack") then is_wrong_pack rows
 abbrev pub is_wrong : Option (Text × List Row) → Bool
 is_wrong (Some command) = is_wrong_by command.0 command.1
 is_wrong None = false
+
+-- the same of a line: of a peer's own options, or of the command in it
+abbrev pub is_wrong_line : (of_peer : Bool) → List Row → Option (Text × List Row) → Bool
+is_wrong_line true rows command = is_wrong_peer rows
+is_wrong_line false rows command = is_wrong command

@@ -1,41 +1,22 @@
 //! The command lines.
 
-ghost use Rattle.std.specs.Prelude.{◌≡◌, IfOk, codes, map, string_bytes};
+ghost use Rattle.std.specs.Prelude.{◌≡◌, IfOk, map, string_bytes};
+ghost use Rattle.clap.specs.Walk.{texts};
 ghost use Rattle.clap.specs.Words.{app_of, new_app, rule_of};
 ghost use Rattle.thorin_arguments.specs.Grammar as grammar;
-ghost use Rattle.thorin_arguments.specs.Rules.{made, rule_in, shape_in};
+ghost use Rattle.thorin_arguments.specs.Rules.{AreLongNames, AreOwnNames, ArePeerRules};
+ghost use Rattle.thorin_arguments.specs.Rules.{made, shape_in};
 ghost use Rattle.thorin_arguments.specs.Versions.{version_with};
 
 use crate::texts::{
     CHECK_EXAMPLES, EXAMPLES, FIND_EXAMPLES, LIST_EXAMPLES, PACK_EXAMPLES, PEER_NOTES,
 };
-use clap::{Arg, ArgAction, Command};
+use crate::whole::is_of_llvm;
+use crate::words::{Word, arg_of, args_of, is_named, names_of};
+use clap::{Arg, Command};
 use std::alloc::{AllocError, Global};
 
 const VERSION: &'static str = "1.2.0";
-
-/// A word that a command line may have.
-#[derive(Clone, Copy)]
-enum Word {
-    /// `-o OUT`.
-    Output,
-    /// `-e EXEC`, as often as one likes, with its help.
-    Executables(&'static str),
-    /// `-v`.
-    Verbose,
-    /// An option without a value: its name and its help.
-    Flag(&'static str, &'static str),
-    /// An option with any value: its name, how help shows the value, its help.
-    Value(&'static str, &'static str, &'static str),
-    /// An option with a value, as often as one likes: its name, how help shows the value, its help.
-    Values(&'static str, &'static str, &'static str),
-    /// An option with one of some values: its name, how help shows the value, its help, the values.
-    Choice(&'static str, &'static str, &'static str, &'static [&'static str]),
-    /// `INPUT`, as often as one likes.
-    Inputs,
-    /// One that must be there at its place: its name, how help shows it, its help.
-    Place(&'static str, &'static str, &'static str),
-}
 
 /// A command: its names, what it does, what stands below its options, and its words.
 #[derive(Clone, Copy)]
@@ -225,6 +206,15 @@ const PEER: [Word; 17] = [
     Word::Inputs,
 ];
 
+/// What LLVM's alone takes: past 2^32 bytes it would write a package that can't be read, or leave
+/// inputs out, where this program refuses. Help leaves it out.
+const OVERFLOW: Word = Word::Choice(
+    "continue-on-cu-index-overflow",
+    "HOW",
+    "No effect: a package that is too large is refused",
+    &["continue", "soft-stop"],
+);
+
 /// What `--version` prints behind the program's name: the version, and the commit where one is
 /// named.
 pub(crate) fn version_of(alloc: Global, commit: &str) -> Result<String, AllocError> {
@@ -282,32 +272,37 @@ pub(crate) fn takers_of(alloc: Global, option: &str) -> Result<String, AllocErro
     Ok(names)
 }
 
-/// Whether a word of a command line is the option of this name, behind its dashes.
-fn is_named(word: Word, option: &str) -> bool {
-    let (short, long) = match word {
-        Word::Output => ("-o", "output"),
-        Word::Executables(_) => ("-e", "exec"),
-        Word::Verbose => ("-v", "verbose"),
-        Word::Flag(name, _)
-        | Word::Value(name, _, _)
-        | Word::Values(name, _, _)
-        | Word::Choice(name, _, _, _) => ("", name),
-        Word::Inputs | Word::Place(_, _, _) => return false,
-    };
-    option == short || option.strip_prefix("--") == Some(long)
+/// The names of the long options of the peer of this name, with those that clap adds.
+pub(crate) fn long_names(alloc: Global, peer: &str) -> Result<Vec<&'static str>, AllocError>
+    ensures { IfOk result (λ names. AreLongNames peer.now (texts names.items)) }
+{
+    let mut names = own_names(alloc, is_of_llvm(peer))?;
+    names.push("help")?;
+    names.push("version")?;
+    Ok(names)
+}
+
+/// The names of a peer's long options.
+fn own_names(alloc: Global, of_llvm: bool) -> Result<Vec<&'static str>, AllocError>
+    ensures { IfOk result (λ names. AreOwnNames of_llvm (texts names.items)) }
+{
+    let mut names = names_of(alloc, &PEER)?;
+    if of_llvm {
+        names.push("continue-on-cu-index-overflow")?;
+    }
+    Ok(names)
 }
 
 /// The command line of `dwp` and `llvm-dwp`, under one of these names. As there, the last of
-/// repeated options counts, and a long one may be cut short.
+/// repeated options counts.
 pub(crate) fn peer<'a>(
     alloc: Global,
     name: &'a str,
     version: &'a str,
-) -> Result<Command<'a>, AllocError> {
-    let mut args = args_of(alloc, &PEER)?;
-    if is_of_llvm(name) {
-        args.push(overflow(alloc))?;
-    }
+) -> Result<Command<'a>, AllocError>
+    ensures { IfOk result (λ c. grammar.IsPeer name.entry.now (app_of c)) }
+{
+    let words = peer_args(alloc, is_of_llvm(name))?;
     titled(
         alloc,
         name,
@@ -316,14 +311,26 @@ pub(crate) fn peer<'a>(
     )
     .version(version)
     .args_override_self(true)
-    .infer_long_args(true)
-    .args(args)?
+    .args(words)?
     .bin_name(name)
 }
 
-/// Whether a peer's name is that of LLVM's.
-pub(crate) fn is_of_llvm(name: &str) -> bool {
-    name.starts_with("llvm-")
+/// A peer's words in clap's terms.
+fn peer_args<'a>(alloc: Global, of_llvm: bool) -> Result<Vec<Arg<'a>>, AllocError>
+    ensures { IfOk result (λ args. ArePeerRules of_llvm (map rule_of args.items)) }
+{
+    let mut args = args_of(alloc, &PEER)?;
+    if of_llvm {
+        args.push(arg_of(alloc, OVERFLOW).hide(true))?;
+    }
+    Ok(args)
+}
+
+/// A peer's command line as errors show it: the value of LLVM's option may be left out.
+pub(crate) fn shown<'a>(command: Command<'a>) -> Result<Command<'a>, AllocError> {
+    command.mut_arg("continue-on-cu-index-overflow", |arg| {
+        Ok(arg.num_args(0..=1).require_equals(true))
+    })
 }
 
 /// A command with its texts: what it does, and what stands below its options.
@@ -350,151 +357,4 @@ fn command_of<'a>(alloc: Global, line: &Line) -> Result<Command<'a>, AllocError>
 {
     let args = args_of(alloc, line.words)?;
     titled(alloc, line.name, line.about, line.below).args(args)
-}
-
-/// Words in clap's terms.
-fn args_of<'a>(alloc: Global, words: &[Word]) -> Result<Vec<Arg<'a>>, AllocError>
-    ensures { IfOk result (λ args. map rule_of args.items ≡ map rule_in words.now) }
-{
-    let mut args = Vec::new(alloc);
-    for word in words {
-        args.push(arg_of(alloc, *word))?;
-    }
-    Ok(args)
-}
-
-/// A word in clap's terms.
-fn arg_of<'a>(alloc: Global, word: Word) -> Arg<'a>
-    ensures { rule_of result ≡ rule_in word }
-{
-    match word {
-        Word::Output => output(alloc),
-        Word::Executables(help) => executables(alloc, help),
-        Word::Verbose => flag(alloc, "verbose", "Report each input").short('v'),
-        Word::Flag(name, help) => flag(alloc, name, help),
-        Word::Value(name, value, help) => value_of(alloc, name, value, help),
-        Word::Values(name, value, help) => values(alloc, name, value, help),
-        Word::Choice(name, value, help, values) => choice(alloc, name, value, help, values),
-        Word::Inputs => inputs(alloc),
-        Word::Place(name, value, help) => place(alloc, name, value, help),
-    }
-}
-
-fn output<'a>(alloc: Global) -> Arg<'a>
-    ensures { rule_of result ≡ grammar.also 111 (grammar.valued (codes "output")) }
-{
-    option(
-        alloc,
-        "output",
-        'o',
-        "OUT",
-        "The package to write; - for standard output",
-    )
-    .action(ArgAction::Set)
-}
-
-fn executables<'a>(alloc: Global, help: &'a str) -> Arg<'a>
-    ensures { rule_of result ≡ grammar.exec }
-{
-    option(alloc, "exec", 'e', "EXEC", help).action(ArgAction::Append)
-}
-
-fn inputs<'a>(alloc: Global) -> Arg<'a>
-    ensures { rule_of result ≡ grammar.places (codes "input") }
-{
-    Arg::new(alloc, "input")
-        .value_name("INPUT")
-        .help("Objects to pack, in order")
-        .num_args(0..)
-        .action(ArgAction::Append)
-}
-
-/// An option with a value, under a long name and a short one.
-fn option<'a>(alloc: Global, name: &'a str, short: char, value: &'a str, help: &'a str) -> Arg<'a>
-    ensures { rule_of result
-        ≡ record (grammar.also short (grammar.valued name.entry.now)) { action = None } }
-{
-    Arg::new(alloc, name)
-        .short(short)
-        .long(name)
-        .value_name(value)
-        .help(help)
-}
-
-/// An option with any value.
-fn value_of<'a>(alloc: Global, name: &'a str, value: &'a str, help: &'a str) -> Arg<'a>
-    ensures { rule_of result ≡ grammar.valued name.entry.now }
-{
-    Arg::new(alloc, name)
-        .long(name)
-        .value_name(value)
-        .help(help)
-        .action(ArgAction::Set)
-}
-
-/// An option with a value, as often as one likes.
-fn values<'a>(alloc: Global, name: &'a str, value: &'a str, help: &'a str) -> Arg<'a>
-    ensures { rule_of result ≡ grammar.repeated name.entry.now }
-{
-    Arg::new(alloc, name)
-        .long(name)
-        .value_name(value)
-        .help(help)
-        .action(ArgAction::Append)
-}
-
-/// An option with one of some values.
-fn choice<'a>(
-    alloc: Global,
-    name: &'a str,
-    value: &'a str,
-    help: &'a str,
-    values: &'a [&'a str],
-) -> Arg<'a>
-    ensures { rule_of result ≡ grammar.chosen name.entry.now values.entry }
-{
-    Arg::new(alloc, name)
-        .long(name)
-        .value_name(value)
-        .help(help)
-        .value_parser(values)
-        .hide_possible_values(true)
-        .action(ArgAction::Set)
-}
-
-/// What LLVM's alone takes: past 2^32 bytes it would write a package that can't be read, or leave
-/// inputs out, where this program refuses. It may have a value behind `=`, and help leaves it out.
-fn overflow<'a>(alloc: Global) -> Arg<'a> {
-    choice(
-        alloc,
-        "continue-on-cu-index-overflow",
-        "HOW",
-        "No effect: a package that is too large is refused",
-        &["continue", "soft-stop"],
-    )
-    .num_args(0..=1)
-    .require_equals(true)
-    .default_missing_value("continue")
-    .hide(true)
-}
-
-/// An option without a value.
-fn flag<'a>(alloc: Global, name: &'a str, help: &'a str) -> Arg<'a>
-    ensures { rule_of result ≡ grammar.flag name.entry.now }
-{
-    Arg::new(alloc, name)
-        .long(name)
-        .help(help)
-        .action(ArgAction::SetTrue)
-}
-
-/// A word that a command line must have at its place.
-fn place<'a>(alloc: Global, name: &'a str, value: &'a str, help: &'a str) -> Arg<'a>
-    ensures { rule_of result ≡ grammar.place name.entry.now }
-{
-    Arg::new(alloc, name)
-        .value_name(value)
-        .help(help)
-        .required(true)
-        .action(ArgAction::Set)
 }

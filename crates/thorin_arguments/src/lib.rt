@@ -7,6 +7,8 @@ mod commands;
 mod peers;
 mod reading;
 mod texts;
+mod whole;
+mod words;
 mod wrong;
 
 pub use asking::{CheckArguments, Commands, FindArguments, ListArguments, PackArguments};

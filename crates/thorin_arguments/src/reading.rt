@@ -1,16 +1,18 @@
 //! What a command line asks for.
 
-ghost use Rattle.std.specs.Prelude.{◌≡◌, IfOk, false, is_some};
+ghost use Rattle.std.specs.Prelude.{◌≡◌, IfOk, List, Option, is_some, option_map};
+ghost use Rattle.clap.specs.Walk.{Text};
 ghost use Rattle.clap.specs.Words.{app_of, kind_of};
-ghost use Rattle.thorin_arguments.specs.Asked.{Does, IsCallBy, IsCallOf, IsRefusal, has_peer};
-ghost use Rattle.thorin_arguments.specs.Asked.{words_in};
-ghost use Rattle.thorin_arguments.specs.Grammar.{IsText, IsThorin};
-ghost use Rattle.thorin_arguments.specs.Reading.{IsReadAs, IsTested};
+ghost use Rattle.thorin_arguments.specs.Asked.{Does, IsCallBy, IsCallOf, IsRefusal, words_in};
+ghost use Rattle.thorin_arguments.specs.Grammar.{IsLine, IsText};
+ghost use Rattle.thorin_arguments.specs.Peers.{last_part, peer_of};
+ghost use Rattle.thorin_arguments.specs.Reading.{AreReadAs, IsReadAs, IsTested};
 
 use crate::asking::Commands;
 use crate::command;
 use crate::commands::dispatch;
 use crate::peers::is_peer;
+use crate::whole::completed;
 use crate::wrong::{Wrong, wrong_in, wrong_in_peer};
 use clap::error::ErrorKind;
 use clap::{ArgMatches, Command, Error};
@@ -39,34 +41,13 @@ pub fn run<C: Commands>(alloc: Global, words: &[String], commit: &str, commands:
 fn run_version<C: Commands>(alloc: Global, words: &[String], version: &str, commands: &mut C) -> u8
     ensures { Does C.does (IsCallOf (words_in words.now)) commands.old result commands.new }
 {
-    let peer = peer_name(words);
-    match peer {
-        Some(name) if command::is_of_llvm(name) => match long_words(alloc, words) {
-            Ok(long) => run_as(alloc, peer, version, long.as_slice(), commands),
+    match peer_name(words) {
+        Some(name) => match completed(alloc, name, words) {
+            Ok(whole) => run_as(alloc, Some(name), version, whole.as_slice(), commands),
             Err(AllocError) => commands.lack_memory(),
         },
-        _ => run_as(alloc, peer, version, words, commands),
+        None => run_as(alloc, None, version, words, commands),
     }
-}
-
-/// The words of a command line of LLVM's, whose long options, which may have one dash, have two.
-fn long_words(alloc: Global, words: &[String]) -> Result<Vec<String>, AllocError> {
-    let mut long = Vec::with_capacity(alloc, words.len())?;
-    let mut takes_options = true;
-    for word in words {
-        takes_options = takes_options && word.as_str() != "--";
-        if takes_options && has_one_dash(word.as_str()) {
-            long.push(format!(in alloc; "-{word}")?)?;
-        } else {
-            long.push(word.clone()?)?;
-        }
-    }
-    Ok(long)
-}
-
-/// Whether a word is one of LLVM's long options behind one dash.
-fn has_one_dash(word: &str) -> bool {
-    word == "-version" || word == "-help" || word.starts_with("-continue-on-cu-index-overflow")
 }
 
 /// The same of a peer's name, where that is the program's.
@@ -77,7 +58,9 @@ fn run_as<C: Commands>(
     words: &[String],
     commands: &mut C,
 ) -> u8
-    ensures { Does C.does (IsCallBy (is_some peer.entry) (words_in words.now)) commands.old result
+    ensures { (line : List Text)
+        → AreReadAs (option_map (λ s. s.now) peer.entry) line (words_in words.now)
+        → Does C.does (IsCallBy (option_map (λ s. s.now) peer.entry) line) commands.old result
         commands.new }
 {
     match read(alloc, peer, version, words) {
@@ -115,7 +98,9 @@ fn refusal(
     version: &str,
     error: &Error,
 ) -> Result<String, AllocError> {
-    match read(alloc, peer_name(words), version, words) {
+    let peer = peer_name(words);
+    let mut command = command::shown(command_line(alloc, peer, version)?)?;
+    match read_by(alloc, &mut command, peer.is_some(), words) {
         Ok(_matches) => format!(in alloc; "{error}"),
         Err(own) if own.kind() == ErrorKind::OutOfMemory => Err(AllocError),
         Err(own) => with_tip(alloc, words, &own),
@@ -178,7 +163,9 @@ fn read<'a>(
     version: &'a str,
     words: &'a [String],
 ) -> Result<ArgMatches<'a>, Error>
-    ensures { is_some peer.entry ≡ false → IsReadAs (words_in words.now) result }
+    ensures { (line : List Text)
+        → AreReadAs (option_map (λ s. s.now) peer.entry) line (words_in words.now)
+        → IsReadAs (option_map (λ s. s.now) peer.entry) line result }
 {
     let mut command = command_line(alloc, peer, version)?;
     read_by(alloc, &mut command, peer.is_some(), words)
@@ -191,7 +178,9 @@ fn read_by<'a>(
     is_peer: bool,
     words: &'a [String],
 ) -> Result<ArgMatches<'a>, Error>
-    ensures { IsThorin (app_of command.old) → is_peer ≡ false → IsReadAs (words_in words.now) result }
+    ensures { (peer : Option Text) → is_some peer ≡ is_peer → IsLine peer (app_of command.old)
+        → (line : List Text) → AreReadAs peer line (words_in words.now)
+        → IsReadAs peer line result }
 {
     match command.try_get_matches_from_mut(words) {
         Ok(matches) => tested(alloc, command, is_peer, matches),
@@ -206,11 +195,11 @@ fn tested<'a>(
     is_peer: bool,
     matches: ArgMatches<'a>,
 ) -> Result<ArgMatches<'a>, Error>
-    ensures { is_peer ≡ false → IsTested matches.entry result }
+    ensures { IsTested is_peer matches.entry result }
 {
     if is_peer {
         return match wrong_in_peer(&matches) {
-            Some(wrong) => Err(command.error(wrong.kind(), wrong.text())?),
+            Some(wrong) => Err(told(command, wrong)?),
             None => Ok(matches),
         };
     }
@@ -228,6 +217,13 @@ fn error_of(alloc: Global, name: &str, wrong: Wrong) -> Result<Error, AllocError
     ensures { IfOk result (λ error. ¬ IsText (kind_of error)) }
 {
     let mut command = command::part(alloc, name)?;
+    told(&mut command, wrong)
+}
+
+/// What is said of wrong words of a command line, with its usage.
+fn told(command: &mut Command<'_>, wrong: Wrong) -> Result<Error, AllocError>
+    ensures { IfOk result (λ error. ¬ IsText (kind_of error)) }
+{
     command.error(wrong.kind(), wrong.text())
 }
 
@@ -236,7 +232,7 @@ fn command_line<'a>(
     peer: Option<&'a str>,
     version: &'a str,
 ) -> Result<Command<'a>, AllocError>
-    ensures { is_some peer.entry ≡ false → IfOk result (λ c. IsThorin (app_of c)) }
+    ensures { IfOk result (λ c. IsLine (option_map (λ s. s.now) peer.entry) (app_of c)) }
 {
     match peer {
         Some(name) => command::peer(alloc, name, version),
@@ -247,12 +243,23 @@ fn command_line<'a>(
 /// The program's name without folders, where it is that of a peer, whose command lines it then
 /// takes.
 fn peer_name(words: &[String]) -> Option<&str>
-    ensures { is_some result ≡ has_peer (words_in words.now) }
+    ensures { option_map (λ s. s.now) result ≡ peer_of (words_in words.now) }
 {
     let path = words.first()?.as_str();
     if is_peer(path) {
-        Some(path.rsplit('/').next().unwrap_or(path))
+        Some(without_folders(path))
     } else {
         None
     }
+}
+
+/// What stands behind the last `/` of a path, all where there is none.
+fn without_folders(path: &str) -> &str
+    ensures { result.now ≡ last_part 47 path.now }
+{
+    let mut name = path;
+    while let Some((_folder, rest)) = name.split_once('/') {
+        name = rest;
+    }
+    name
 }

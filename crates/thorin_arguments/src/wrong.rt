@@ -6,7 +6,7 @@ ghost use Rattle.clap.specs.Words.{found_of, rows_of};
 ghost use Rattle.thorin_arguments.specs.Grammar.{IsText};
 ghost use Rattle.thorin_arguments.specs.Wrong.{is_wrong_by, is_wrong_find, is_wrong_list};
 ghost use Rattle.thorin_arguments.specs.Wrong.{is_wrong_pack, is_wrong_packing, lacks_mark};
-ghost use Rattle.thorin_arguments.specs.Wrong.{is_given, lack_marks, lacks_output};
+ghost use Rattle.thorin_arguments.specs.Wrong.{is_given, is_wrong_peer, lack_marks, lacks_output};
 
 use crate::commands::{has_flag, value_of, values_of};
 use clap::ArgMatches;
@@ -78,7 +78,9 @@ pub(crate) fn wrong_in(name: &str, matches: &ArgMatches<'_>) -> Option<Wrong>
 }
 
 /// What is wrong with the words of a peer, if anything is. A single executable names the package.
-pub(crate) fn wrong_in_peer(matches: &ArgMatches<'_>) -> Option<Wrong> {
+pub(crate) fn wrong_in_peer(matches: &ArgMatches<'_>) -> Option<Wrong>
+    ensures { is_some result ≡ is_wrong_peer (rows_of (found_of matches.now)) }
+{
     match values_of(matches, "exec").unwrap_or(&[]).len() {
         0 => wrong_in_pack(matches),
         1 => wrong_in_packing(matches),

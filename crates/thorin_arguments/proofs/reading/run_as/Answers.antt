@@ -1,27 +1,29 @@
-use Rattle.std.proofs.Common.{◌∙◌, is_some, sym}
+use Rattle.std.proofs.Common.{◌∙◌, sym}
+use Rattle.std.specs.Prelude.{option_map}
 use Rattle.clap.specs.Words.{found_of, kind_of, rows_of, subcommand_rows_of}
-use Rattle.thorin_arguments.specs.Asked.{words_in}
 use Rattle.thorin_arguments.proofs.Matched.{by_stream, does_asked, does_refuse, does_show}
+use Rattle.thorin_arguments.proofs.Completing.{kept}
 use Rattle.thorin_arguments.proofs.reading.run_as.Goals as goal
 
 pub returns-in-Ok : goal.returns-in-Ok
-returns-in-Ok g c = does_asked g.C.Commands.does (is_some c.args.peer) (words_in c.args.words.now)
-    c.args.commands.now c.dispatch.new.commands c.dispatch.result
-    (rows_of (found_of c.in-Ok.matches)) (subcommand_rows_of c.in-Ok.matches)
-    c.in-Ok.ensures (rw c.is_some.ensures at c.dispatch.ensures.asked)
+returns-in-Ok g c = λ line are. does_asked g.C.Commands.does
+    (option_map (λ s. s.now) c.args.peer) line c.args.commands.now c.dispatch.new.commands
+    c.dispatch.result (rows_of (found_of c.in-Ok.matches)) (subcommand_rows_of c.in-Ok.matches)
+    (c.in-Ok.ensures line are)
+    (rw (c.is_some.ensures ∙ kept (λ s. s.now) c.args.peer) at c.dispatch.ensures.asked)
 
 pub returns-in-Err-2 : goal.returns-in-Err-2
-returns-in-Err-2 g c = does_refuse g.C.Commands.does (is_some c.args.peer)
-    (words_in c.args.words.now) c.args.commands.now c.refuse.new.commands c.refuse.result
-    c.in-Err.error c.in-Err.ensures (λ k.
+returns-in-Err-2 g c = λ line are. does_refuse g.C.Commands.does
+    (option_map (λ s. s.now) c.args.peer) line c.args.commands.now c.refuse.new.commands
+    c.refuse.result c.in-Err.error (c.in-Err.ensures line are) (λ k.
     let is = rw (c.kind.ensures ∙ k) at (sym c.eq.ensures ∙ c.if-eq.false) in absurd cc)
     ((by_stream c.use_stderr.result (kind_of c.in-Err.error) c.use_stderr.ensures).0
     c.if-use_stderr.true) c.refuse.ensures
 
 pub returns-in-Err-3 : goal.returns-in-Err-3
-returns-in-Err-3 g c = does_show g.C.Commands.does (is_some c.args.peer)
-    (words_in c.args.words.now) c.args.commands.now c.show.new.self c.show.result
-    c.in-Err.error c.in-Err.ensures (λ k.
+returns-in-Err-3 g c = λ line are. does_show g.C.Commands.does
+    (option_map (λ s. s.now) c.args.peer) line c.args.commands.now c.show.new.self
+    c.show.result c.in-Err.error (c.in-Err.ensures line are) (λ k.
     let is = rw (c.kind.ensures ∙ k) at (sym c.eq.ensures ∙ c.if-eq.false) in absurd cc)
     ((by_stream c.use_stderr.result (kind_of c.in-Err.error) c.use_stderr.ensures).1
     c.if-use_stderr.false) c.show.ensures.status c.show.ensures.does

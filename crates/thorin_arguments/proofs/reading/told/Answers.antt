@@ -1,5 +1,5 @@
 use Rattle.std.proofs.lemmas.Result.{IfOk-weaker}
-use Rattle.thorin_arguments.proofs.reading.error_of.Goals as goal
+use Rattle.thorin_arguments.proofs.reading.told.Goals as goal
 
 pub returns : goal.returns
 returns c = IfOk-weaker c.error.result _ _

@@ -1,7 +1,7 @@
 use Rattle.std.proofs.Common.{◌≡◌, map, take}
 use Rattle.clap.specs.Words.{rule_of}
 use Rattle.thorin_arguments.specs.Rules.{rule_in}
-use Rattle.thorin_arguments.proofs.command.args_of.Given as goal
+use Rattle.thorin_arguments.proofs.words.args_of.Given as goal
 
 -- the words so far
 abbrev pub invariant-loop-word : goal.invariant-loop-word

@@ -1,0 +1,70 @@
+-- What is read of a peer's line: its name, and its words with whole names.
+use Rattle.std.proofs.Common.{◌≡◌, ◌∙◌, ◌++◌, ◌==◌, ◌||◌, ◌&&◌, ap, sym, refl, Bool, true, false, ℕ}
+use Rattle.std.proofs.Common.{List, [], ◌∷◌, Option, Some, None, is_some, not, arith}
+use Rattle.std.specs.Prelude.{String, codes, if◌then◌else◌, option_map, string_bytes}
+use Rattle.std.specs.List.{list_any}
+use Rattle.std.specs.Str.{bytes_eq}
+use Rattle.std.specs.declared.alloc.Global.{Global}
+use Rattle.std.proofs.lemmas.Bool.Decides.{nat_tests}
+use Rattle.std.proofs.lemmas.List.{append_assoc, map-append}
+use Rattle.clap.specs.Walk.{Text}
+use Rattle.thorin_arguments.specs.Asked.{words_in}
+use Rattle.thorin_arguments.specs.Peers.{last_part, last_part_in}
+use Rattle.thorin_arguments.specs.Whole.{completed, whole_word}
+
+pub kept : {X Y : Type 0} (f : X → Y) (o : Option X) → is_some o ≡ is_some (option_map f o)
+kept f (Some x) = refl
+kept f None = refl
+
+-- ---- the last part of a path
+
+neither : (a b : Bool) → (a || b) ≡ false → (a ≡ false) × (b ≡ false)
+neither true b h = absurd cc
+neither false b h = (refl, h)
+
+pub last_part-none : (mark : ℕ) (part text : Text) → list_any (λ x. x == mark) text ≡ false
+    → last_part_in mark part text ≡ part
+last_part-none mark part [] lacks = refl
+last_part-none mark part (b ∷ rest) lacks =
+    let no = neither (b == mark) (list_any (λ x. x == mark) rest) lacks in
+    rw no.0 (last_part-none mark part rest no.1)
+
+pub last_part-behind : (mark : ℕ) (part front rest : Text)
+    → last_part_in mark part (front ++ mark ∷ rest) ≡ last_part mark rest
+last_part-behind mark part [] rest =
+    let same : (mark == mark) ≡ true = grind (arith, nat_tests) in
+    ap (λ b. last_part_in mark (if b then rest else part) rest) same
+last_part-behind mark part (b ∷ front) rest =
+    last_part-behind mark (if b == mark then front ++ mark ∷ rest else part) front rest
+
+-- ---- the words of a line
+
+abbrev pub rest_of : (of_llvm takes : Bool) → (names rest : List Text) → List Text
+rest_of of_llvm takes names rest = if takes then completed of_llvm names rest else rest
+
+pushed : (done : List (String Global)) (text : String Global) (rest : List Text)
+    → words_in (done ++ text ∷ []) ++ rest ≡ words_in done ++ string_bytes text ∷ rest
+pushed done text rest = ap (λ l. l ++ rest) (map-append string_bytes done (text ∷ []))
+    ∙ append_assoc (words_in done) (string_bytes text ∷ []) rest
+
+step : (of_llvm takes is_end : Bool) (names : List Text) (word : Text) (rest : List Text)
+    → bytes_eq word (codes "--") ≡ is_end
+    → (if takes && not is_end then whole_word of_llvm names word else word)
+    ∷ rest_of of_llvm (takes && not is_end) names rest
+    ≡ rest_of of_llvm takes names (word ∷ rest)
+step of_llvm false is_end names word rest e = refl
+step of_llvm true true names word rest e = sym (ap (λ b. if b then word ∷ rest
+    else whole_word of_llvm names word ∷ completed of_llvm names rest) e)
+step of_llvm true false names word rest e = sym (ap (λ b. if b then word ∷ rest
+    else whole_word of_llvm names word ∷ completed of_llvm names rest) e)
+
+pub one_word : (of_llvm takes is_end : Bool) (names : List Text) (done : List (String Global))
+    (text : String Global) (word : Text) (rest all : List Text)
+    → words_in done ++ rest_of of_llvm takes names (word ∷ rest) ≡ all
+    → bytes_eq word (codes "--") ≡ is_end
+    → string_bytes text ≡ (if takes && not is_end then whole_word of_llvm names word else word)
+    → words_in (done ++ text ∷ []) ++ rest_of of_llvm (takes && not is_end) names rest ≡ all
+one_word of_llvm takes is_end names done text word rest all h e is =
+    pushed done text (rest_of of_llvm (takes && not is_end) names rest)
+    ∙ (ap (λ t. words_in done ++ t ∷ rest_of of_llvm (takes && not is_end) names rest) is
+    ∙ (ap (λ l. words_in done ++ l) (step of_llvm takes is_end names word rest e) ∙ h))

@@ -1,0 +1,11 @@
+use Rattle.std.proofs.Common.{◌≡◌, ◌++◌, drop, map}
+use Rattle.std.specs.Prelude.{filter_map}
+use Rattle.clap.specs.Walk.{texts}
+use Rattle.thorin_arguments.specs.Rules.{rule_in}
+use Rattle.thorin_arguments.proofs.words.names_of.Given as goal
+
+-- the names so far, and those of the words that are left
+abbrev pub invariant-loop-word : goal.invariant-loop-word
+invariant-loop-word l = texts l.names.items
+    ++ filter_map (λ rule. rule.long) (map rule_in (drop l.word-index l.words))
+    ≡ filter_map (λ rule. rule.long) (map rule_in l.words)

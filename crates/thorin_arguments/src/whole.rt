@@ -1,0 +1,172 @@
+//! The words of a peer's line: long options that are cut short become whole.
+
+ghost use Rattle.std.specs.Prelude.{◌≡◌, IfOk, Some, option_map, string_bytes};
+ghost use Rattle.clap.specs.Lexer.{long_of, name_and_value, strip_byte};
+ghost use Rattle.clap.specs.Walk.{texts};
+ghost use Rattle.thorin_arguments.specs.Asked.{words_in};
+ghost use Rattle.thorin_arguments.specs.Reading.{AreReadAs};
+ghost use Rattle.thorin_arguments.specs.Whole as spec;
+
+use crate::command;
+use std::alloc::{AllocError, Global};
+
+const OVERFLOW: &'static str = "-continue-on-cu-index-overflow";
+
+/// The words of a line of the peer of this name, as its grammar has them.
+pub(crate) fn completed(
+    alloc: Global,
+    name: &str,
+    words: &[String],
+) -> Result<Vec<String>, AllocError>
+    ensures { IfOk result (λ whole.
+        AreReadAs (Some name.now) (words_in words.now) (words_in whole.items)) }
+{
+    let names = command::long_names(alloc, name)?;
+    completed_by(alloc, is_of_llvm(name), names.as_slice(), words)
+}
+
+/// The words of a line whose long options have these names, up to a word `--`.
+fn completed_by(
+    alloc: Global,
+    of_llvm: bool,
+    names: &[&str],
+    words: &[String],
+) -> Result<Vec<String>, AllocError>
+    ensures { IfOk result (λ whole. words_in whole.items
+        ≡ spec.completed of_llvm (texts names.now) (words_in words.now)) }
+{
+    let mut whole = Vec::with_capacity(alloc, words.len())?;
+    let mut takes_options = true;
+    for word in words {
+        takes_options = takes_options && word.as_str() != "--";
+        if takes_options {
+            whole.push(whole_word(alloc, of_llvm, names, word.as_str())?)?;
+        } else {
+            whole.push(String::from_str(alloc, word.as_str())?)?;
+        }
+    }
+    Ok(whole)
+}
+
+/// A word, as one of LLVM's with the dashes that it has to have.
+fn whole_word(
+    alloc: Global,
+    of_llvm: bool,
+    names: &[&str],
+    word: &str,
+) -> Result<String, AllocError>
+    ensures { IfOk result (λ text. string_bytes text
+        ≡ spec.whole_word of_llvm (texts names.now) word.now) }
+{
+    if of_llvm && has_one_dash(word) {
+        let mut dashed = String::from_str(alloc, "-")?;
+        dashed.push_str(word)?;
+        whole_long(alloc, names, dashed.as_str())
+    } else {
+        whole_long(alloc, names, word)
+    }
+}
+
+/// A word, with its whole name where it is a long option.
+fn whole_long(alloc: Global, names: &[&str], word: &str) -> Result<String, AllocError>
+    ensures { IfOk result (λ text. string_bytes text ≡ spec.whole_long (texts names.now) word.now) }
+{
+    match long_of(word) {
+        Some((name, value)) => long_word(alloc, whole_name(names, name), value),
+        None => String::from_str(alloc, word),
+    }
+}
+
+/// `--NAME` or `--NAME=VALUE`.
+fn long_word(alloc: Global, name: &str, value: Option<&str>) -> Result<String, AllocError>
+    ensures { IfOk result (λ text. string_bytes text
+        ≡ spec.long_word name.now (option_map (λ s. s.now) value.entry)) }
+{
+    let mut text = String::from_str(alloc, "--")?;
+    text.push_str(name)?;
+    match value {
+        Some(value) => {
+            text.push_str("=")?;
+            text.push_str(value)?;
+        }
+        None => text.push_str(default_value(name))?,
+    }
+    Ok(text)
+}
+
+/// What stands for a value that is left out: LLVM's option takes that.
+fn default_value(name: &str) -> &'static str
+    ensures { result.now ≡ spec.default_value name.now }
+{
+    match name {
+        "continue-on-cu-index-overflow" => "=continue",
+        _ => "",
+    }
+}
+
+/// The one of these names that begins so; this name where none does, or several.
+fn whole_name<'a>(names: &[&'a str], name: &'a str) -> &'a str
+    ensures { result.now ≡ spec.whole_name (texts names.now) name.now }
+{
+    let mut whole = name;
+    let mut is_begun = false;
+    for other in names {
+        if begins(name, other) {
+            if is_begun {
+                return name;
+            }
+            whole = *other;
+            is_begun = true;
+        }
+    }
+    whole
+}
+
+/// Whether a peer's name is that of LLVM's.
+pub(crate) fn is_of_llvm(name: &str) -> bool
+    ensures { result ≡ spec.is_of_llvm name.now }
+{
+    begins("llvm-", name)
+}
+
+/// Whether a word is one of LLVM's long options behind one dash.
+fn has_one_dash(word: &str) -> bool
+    ensures { result ≡ spec.has_one_dash word.now }
+{
+    word == "-version" || word == "-help" || begins(OVERFLOW, word)
+}
+
+/// Whether a text begins so.
+fn begins(start: &str, text: &str) -> bool
+    ensures { result ≡ spec.begins start.now text.now }
+{
+    text.as_bytes().starts_with(start.as_bytes())
+}
+
+/// A word `--NAME` or `--NAME=VALUE`, as its name and its value.
+fn long_of(word: &str) -> Option<(&str, Option<&str>)>
+    ensures { option_map (λ p. (p.0.now, option_map (λ s. s.now) p.1)) result ≡ long_of word.now }
+{
+    let rest = behind_dash(behind_dash(word)?)?;
+    if rest.is_empty() {
+        return None;
+    }
+    Some(split_value(rest))
+}
+
+/// What stands behind a dash.
+fn behind_dash(word: &str) -> Option<&str>
+    ensures { option_map (λ s. s.now) result ≡ strip_byte 45 word.now }
+{
+    word.strip_prefix('-')
+}
+
+/// What stands before the first `=`, and what stands behind it.
+fn split_value(text: &str) -> (&str, Option<&str>)
+    ensures { (result.0.now, option_map (λ s. s.now) result.1) ≡ name_and_value text.now }
+{
+    match text.split_once('=') {
+        Some((name, value)) => (name, Some(value)),
+        None => (text, None),
+    }
+}
