@@ -9,7 +9,7 @@ use std::io::IsTerminal;
 use std::process::ExitCode;
 use std::{env, io};
 use thorin_cli::{
-    Console, CountedFiles, Facts, HostReader, HostResponses, Lines, Readers, Watched,
+    Console, CountedFiles, Facts, HostReader, HostResponses, Lines, Readers, Watched, WatchedLines,
 };
 
 /// The variable of the environment that says how many milliseconds packing takes before a terminal
@@ -36,7 +36,7 @@ fn main(rt: HostRuntime) -> ExitCode {
     let mut files = CountedFiles::new(host, lent);
     let hosts = (HostReader::new(host), HostResponses::new(host));
     let hosts = &hosts;
-    let mut err = Lines(lent);
+    let mut err = WatchedLines::new(Lines(lent));
     let mut word = Vec::new(rt.alloc());
     let status = match words_of(&rt, &mut word) {
         Ok(words) => thorin_cli::run(

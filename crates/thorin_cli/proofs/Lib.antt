@@ -1,1 +1,2 @@
 mod Ran
+mod Told

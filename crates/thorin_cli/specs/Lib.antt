@@ -1,3 +1,4 @@
 pub mod Doing
 pub mod Programs
 pub mod Settings
+pub mod Telling

@@ -1,10 +1,12 @@
 //! The program `thorin`, as a function over its words and two writers.
 #![tactic(auto)]
 
-ghost use Rattle.std.specs.Prelude.{◌≡◌, ◌⊎◌, map};
+ghost use Rattle.std.specs.Prelude.{◌≡◌, ◌⊎◌, map, IsSome, true};
 ghost use Rattle.std.specs.IoError.{error_kind};
 ghost use Rattle.std.specs.declared.io.ErrorKind.TheVariants.{OutOfMemory};
+ghost use Rattle.thorin_print.specs.Answers.{Grows};
 ghost use Rattle.thorin_cli.specs.Doing.{Runs, is_name_of_peer, line_of};
+ghost use Rattle.thorin_cli.specs.Telling.{HasTried};
 
 mod manner;
 mod notes;
@@ -16,13 +18,13 @@ pub use crate::manner::{Facts, Manner};
 use crate::notes::{note_not_text, note_unread};
 use crate::program::Program;
 pub use crate::system::{NotedReader, Readers};
-use std::alloc::Global;
+use std::alloc::{AllocError, Global};
 use std::convert::AsStr;
 use std::io::{self, Write};
 use thorin_arguments::is_peer;
 pub use thorin_find::HostReader;
-pub use thorin_print::Failure;
-use thorin_print::{Form, put_spelled, report, show};
+pub use thorin_print::{Failure, WatchedLines};
+use thorin_print::{Form, print, put_spelled};
 pub use thorin_terminal::{Console, CountedFiles, HostResponses, Lines, Watched};
 use thorin_terminal::{NotedFiles, NotedResponses};
 use thorin_words::{ResponseError, expanded, printed};
@@ -40,17 +42,20 @@ pub fn run<F: NotedFiles, R: NotedReader, P: NotedResponses, S: AsStr, O: Write,
     files: &mut F,
     readers: Readers<'_, R, P>,
     out: &mut Watched<O>,
-    err: &mut E,
+    err: &mut WatchedLines<E>,
 ) -> u8
     ensures did { Runs (record {
       offer = F.offer;
       known = F.known;
       begun = F.begun;
       contents = λ out. O.contents out.out;
+      failed = λ out. IsSome out.failure;
+      told = λ err. E.contents err.writer;
+      untold = λ err. err.has_failed ≡ true;
       read = R.offer readers.entry.files.now;
     }) (P.offer readers.entry.responses.now) facts.entry.on_terminal
-        (line_of (map S.text words.now)) (record { files = files.old; out = out.old }) result
-        (record { files = files.new; out = out.new }) }
+        (line_of (map S.text words.now)) (record { files = files.old; out = out.old; err = err.old })
+        result (record { files = files.new; out = out.new; err = err.new }) }
 {
     let (program, line) = named_program(words);
     match expanded(alloc, readers.responses, program, line) {
@@ -73,7 +78,7 @@ pub fn run<F: NotedFiles, R: NotedReader, P: NotedResponses, S: AsStr, O: Write,
         }
         Err(error) => {
             let status = refuse_response(alloc, err, &error);
-            note_response(alloc, readers.responses, &error, err);
+            note_response(alloc, readers.responses, &error, &mut err.writer);
             status
         }
     }
@@ -103,77 +108,111 @@ fn is_peer_name(word: &str) -> bool
 }
 
 /// Prints why the words of a command line can't be told, and answers the status.
-fn refuse_response<E: Write>(alloc: Global, err: &mut E, error: &ResponseError) -> u8
-    ensures { result ≡ 1 }
+fn refuse_response<E: Write>(alloc: Global, err: &mut WatchedLines<E>, error: &ResponseError) -> u8
+    ensures status { result ≡ 1 }
+    ensures told { HasTried (E.contents err.old.writer) err.new (E.contents err.new.writer) }
 {
     match error {
-        ResponseError::Inside(name) => refuse_inside(alloc, err, name.as_str()),
-        ResponseError::TooDeep(name) => refuse_deep(alloc, err, name.as_str()),
-        ResponseError::TooLong => {
-            let _ = show(err, &"error: Response files are too long\n");
-            1
-        }
+        ResponseError::Inside(name) => refuse_file(alloc, err, name.as_str(), "itself"),
+        ResponseError::TooDeep(name) => refuse_file(alloc, err, name.as_str(), "64 others"),
+        ResponseError::TooLong => tell(err, "Response files are too long"),
         ResponseError::Unreadable | ResponseError::TooMany | ResponseError::NotUtf8 => {
-            report(err, &Failure::Response)
+            tell(err, "Failed to read response file")
         }
-        ResponseError::Memory => report(err, &Failure::Memory),
+        ResponseError::Memory => tell(err, "Out of memory"),
     }
 }
 
 /// Prints the note on a response file that can't be read, or isn't text.
+#[tactic(auto, using(thorin_print::proofs::Printed::grown))]
 fn note_response<P: NotedResponses, E: Write>(
     alloc: Global,
     files: &P,
     error: &ResponseError,
     err: &mut E,
-) {
+)
+    ensures { Grows (E.contents err.old) (E.contents err.new) }
+{
+    note_unread_response(alloc, files, err);
+    note_bad_text(alloc, files, error, err);
+}
+
+#[tactic(auto, using(thorin_print::proofs::Printed::none_grown))]
+fn note_unread_response<P: NotedResponses, E: Write>(alloc: Global, files: &P, err: &mut E)
+    ensures { Grows (E.contents err.old) (E.contents err.new) }
+{
     if let Some((name, cause)) = files.unread() {
         note_unread(alloc, name.as_str(), &cause, err);
     }
+}
+
+#[tactic(auto, using(thorin_print::proofs::Printed::none_grown))]
+fn note_bad_text<P: NotedResponses, E: Write>(
+    alloc: Global,
+    files: &P,
+    error: &ResponseError,
+    err: &mut E,
+)
+    ensures { Grows (E.contents err.old) (E.contents err.new) }
+{
     if matches!(error, ResponseError::NotUtf8) {
         note_not_text(alloc, &files.not_text(), err);
     }
 }
 
-/// Prints that a response file is inside itself, and answers the status.
-fn refuse_inside<E: Write>(alloc: Global, err: &mut E, name: &str) -> u8
-    ensures { result ≡ 1 }
+/// Prints that a response file is inside others, and answers the status.
+fn refuse_file<E: Write>(alloc: Global, err: &mut WatchedLines<E>, name: &str, others: &str) -> u8
+    ensures status { result ≡ 1 }
+    ensures told { HasTried (E.contents err.old.writer) err.new (E.contents err.new.writer) }
 {
-    match printed(alloc, name) {
-        Ok(name) => {
-            let _ = writeln!(err, "error: Response file {name} is inside itself");
-            1
-        }
-        Err(_) => report(err, &Failure::Memory),
+    match inside(alloc, name, others) {
+        Ok(text) => tell(err, text.as_str()),
+        Err(AllocError) => tell(err, "Out of memory"),
     }
 }
 
-/// Prints that a response file is inside too many others, and answers the status.
-fn refuse_deep<E: Write>(alloc: Global, err: &mut E, name: &str) -> u8
-    ensures { result ≡ 1 }
+/// What is said of a response file that is inside others.
+fn inside(alloc: Global, name: &str, others: &str) -> Result<String, AllocError> {
+    let name = printed(alloc, name)?;
+    format!(in alloc; "Response file {name} is inside {others}")
+}
+
+/// Prints an error of a text, and answers the status.
+fn tell<E: Write>(err: &mut WatchedLines<E>, text: &str) -> u8
+    ensures status { result ≡ 1 }
+    ensures told { HasTried (E.contents err.old.writer) err.new (E.contents err.new.writer) }
 {
-    match printed(alloc, name) {
-        Ok(name) => {
-            let _ = writeln!(err, "error: Response file {name} is inside 64 others");
-            1
-        }
-        Err(_) => report(err, &Failure::Memory),
-    }
+    let _told = err.tell(&text);
+    1
 }
 
 /// What the program answers where its command line can't be taken: this word of it isn't UTF-8, or
 /// memory ran out.
-pub fn refuse_words<E: Write>(alloc: Global, err: &mut E, cause: &io::Error, word: &[u8]) -> u8
+pub fn refuse_words<E: Write>(
+    alloc: Global,
+    err: &mut WatchedLines<E>,
+    cause: &io::Error,
+    word: &[u8],
+) -> u8
     ensures status { (result ≡ 1) ⊎ (result ≡ 2) }
     ensures memory { error_kind cause.now ≡ OutOfMemory → result ≡ 1 }
+    ensures failed { ¬ (error_kind cause.now ≡ OutOfMemory) → result ≡ 1
+        → err.new.has_failed ≡ true }
 {
     if cause.kind() == io::ErrorKind::OutOfMemory {
-        return report(err, &Failure::Memory);
+        return err.report(&Failure::Memory);
     }
-    let status = report(err, &Failure::BadCommand);
-    let mut name = String::new(alloc);
-    if put_spelled(word, Form::Lines, &mut name).is_ok() {
-        let _ = writeln!(err, "note: {name}: not UTF-8: name a link to it");
+    let status = err.report(&Failure::BadCommand);
+    if let Ok(note) = word_note(alloc, word) {
+        let _ = print(note.as_str(), &mut err.writer);
     }
     status
+}
+
+/// The note on a word that isn't UTF-8.
+fn word_note(alloc: Global, word: &[u8]) -> Result<String, AllocError> {
+    let mut note = String::from_str(alloc, "note: ")?;
+    put_spelled(word, Form::Lines, &mut note)?;
+    note.push_str(": not UTF-8: name a link to it\n")?;
+    Ok(note)
 }

@@ -1,6 +1,8 @@
 //! The `note:` lines of the program: which file the failure of a command is about, and why a file
 //! can't be read or written.
 
+ghost use Rattle.thorin_print.specs.Answers.{Grows};
+
 use crate::system::NotedReader;
 use dwp_index::PackageError;
 use dwp_table::CONTRIBUTION_KINDS;
@@ -9,7 +11,7 @@ use std::io::{self, Write};
 use thorin_commands::{Packing, reason};
 use thorin_find::{FileKind, Unread};
 use thorin_inputs::{Compression, cut_hint};
-use thorin_print::Failure;
+use thorin_print::{Failure, print};
 use thorin_reading::PlainReader;
 use thorin_terminal::{NamedFile, Peculiarity};
 use thorin_words::printed;
@@ -65,13 +67,16 @@ impl Read {
 
 /// Prints the note on a failure of a command that reads: which of the files it is about, or the
 /// word.
+#[tactic(auto, using(thorin_print::proofs::Printed::none_grown))]
 pub(crate) fn note_reading<E: Write>(
     alloc: Global,
     failure: &Failure,
     given: Given<'_>,
     read: Read,
     err: &mut E,
-) {
+)
+    ensures { Grows (E.contents err.old) (E.contents err.new) }
+{
     match failure {
         Failure::Input => {
             if let Some(unread) = &read.unread {
@@ -132,13 +137,16 @@ fn object_note(kind: FileKind) -> &'static str {
 
 /// Prints the note on a failure of packing that is about the package's file, and why that couldn't
 /// be written.
+#[tactic(auto, using(thorin_print::proofs::Printed::none_grown))]
 pub(crate) fn note_packing<E: Write>(
     alloc: Global,
     failure: &Failure,
     packing: &Packing<'_, '_>,
     cause: Option<io::Error>,
     err: &mut E,
-) {
+)
+    ensures { Grows (E.contents err.old) (E.contents err.new) }
+{
     let Ok(output) = packing.output_name(alloc) else {
         return;
     };
@@ -155,17 +163,41 @@ pub(crate) fn note_packing<E: Write>(
     }
 }
 
-/// Prints the note on a packing that was refused for what it was given: nothing, or a file that is
+/// Prints the notes on a packing that was refused for what it was given: nothing, or a file that is
 /// no input as it is.
+#[tactic(auto, using(thorin_print::proofs::Printed::grown))]
 pub(crate) fn note_refused<E: Write>(
     alloc: Global,
     packing: &Packing<'_, '_>,
     named: &Option<NamedFile>,
     err: &mut E,
-) {
+)
+    ensures { Grows (E.contents err.old) (E.contents err.new) }
+{
+    note_nothing(packing, err);
+    note_named(alloc, packing, named, err);
+}
+
+/// Prints the note that nothing was named.
+#[tactic(auto, using(thorin_print::proofs::Printed::none_grown))]
+fn note_nothing<E: Write>(packing: &Packing<'_, '_>, err: &mut E)
+    ensures { Grows (E.contents err.old) (E.contents err.new) }
+{
     if packing.inputs.is_none() && packing.executables.is_none() {
-        let _ = writeln!(err, "note: neither INPUT nor EXEC is named");
+        put_note("note: neither INPUT nor EXEC is named\n", err);
     }
+}
+
+/// Prints the note on a file that is no input as it is.
+#[tactic(auto, using(thorin_print::proofs::Printed::none_grown))]
+fn note_named<E: Write>(
+    alloc: Global,
+    packing: &Packing<'_, '_>,
+    named: &Option<NamedFile>,
+    err: &mut E,
+)
+    ensures { Grows (E.contents err.old) (E.contents err.new) }
+{
     let Some(named) = named else {
         return;
     };
@@ -212,13 +244,16 @@ fn machine_name(machine: u16) -> &'static str {
 
 /// Prints the note on a file that was listed and is an object; on a terminal also on another without
 /// an index.
+#[tactic(auto, using(thorin_print::proofs::Printed::none_grown))]
 pub(crate) fn note_listed<E: Write>(
     alloc: Global,
     name: &str,
     kind: FileKind,
     on_terminal: bool,
     err: &mut E,
-) {
+)
+    ensures { Grows (E.contents err.old) (E.contents err.new) }
+{
     match kind {
         FileKind::Object => note(alloc, name, object_note(kind), err),
         FileKind::NoIndex if on_terminal => note(alloc, name, "no index: not a package", err),
@@ -227,7 +262,9 @@ pub(crate) fn note_listed<E: Write>(
 }
 
 /// Prints the note on a response file that isn't text: its name, where there was memory to keep it.
-pub(crate) fn note_not_text<E: Write>(alloc: Global, name: &Option<String>, err: &mut E) {
+pub(crate) fn note_not_text<E: Write>(alloc: Global, name: &Option<String>, err: &mut E)
+    ensures { Grows (E.contents err.old) (E.contents err.new) }
+{
     match name {
         Some(name) => note(
             alloc,
@@ -235,33 +272,51 @@ pub(crate) fn note_not_text<E: Write>(alloc: Global, name: &Option<String>, err:
             "a response file that isn't UTF-8",
             err,
         ),
-        None => {
-            let _ = writeln!(err, "note: a response file isn't UTF-8");
-        }
+        None => put_note("note: a response file isn't UTF-8\n", err),
     }
 }
 
 /// Prints why standard output took nothing.
-pub(crate) fn note_output<E: Write>(alloc: Global, cause: &io::Error, err: &mut E) {
+pub(crate) fn note_output<E: Write>(alloc: Global, cause: &io::Error, err: &mut E)
+    ensures { Grows (E.contents err.old) (E.contents err.new) }
+{
     let why = reason(alloc, cause).ok();
     note(alloc, "standard output", text_of(&why), err);
 }
 
 /// Prints the note on a file that couldn't be read.
-pub(crate) fn note_unread<E: Write>(alloc: Global, name: &str, cause: &io::Error, err: &mut E) {
+pub(crate) fn note_unread<E: Write>(alloc: Global, name: &str, cause: &io::Error, err: &mut E)
+    ensures { Grows (E.contents err.old) (E.contents err.new) }
+{
     let why = why_unread(alloc, cause).ok();
     note(alloc, name, text_of(&why), err);
 }
 
 /// Prints a note: what it is about, and what is the matter with it.
-fn note<E: Write>(alloc: Global, about: &str, why: &str, err: &mut E) {
-    let about = if about.is_empty() { "''" } else { about };
-    if let Ok(about) = printed(alloc, about) {
-        let _ = if why.is_empty() {
-            writeln!(err, "note: {about}")
-        } else {
-            writeln!(err, "note: {about}: {why}")
-        };
+#[tactic(auto, using(thorin_print::proofs::Printed::none_grown))]
+fn note<E: Write>(alloc: Global, about: &str, why: &str, err: &mut E)
+    ensures { Grows (E.contents err.old) (E.contents err.new) }
+{
+    if let Ok(line) = note_line(alloc, about, why) {
+        put_note(line.as_str(), err);
+    }
+}
+
+/// Prints a line as far as it can be printed.
+#[tactic(auto, using(thorin_print::proofs::Printed::appended))]
+fn put_note<E: Write>(line: &str, err: &mut E)
+    ensures { Grows (E.contents err.old) (E.contents err.new) }
+{
+    let _ = print(line, err);
+}
+
+/// The line of a note.
+fn note_line(alloc: Global, about: &str, why: &str) -> Result<String, AllocError> {
+    let about = printed(alloc, if about.is_empty() { "''" } else { about })?;
+    if why.is_empty() {
+        format!(in alloc; "note: {about}\n")
+    } else {
+        format!(in alloc; "note: {about}: {why}\n")
     }
 }
 

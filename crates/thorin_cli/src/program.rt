@@ -1,7 +1,6 @@
 //! The commands, over the files of a system, its clock, and two writers.
 
-ghost use Rattle.std.specs.Prelude.{◌≡◌, ◌⊎◌};
-ghost use Rattle.thorin_print.specs.Answers.{exit_status};
+ghost use Rattle.std.specs.Prelude.{◌≡◌, Err, true};
 ghost use Rattle.thorin_check.specs.Checking.{Checks};
 ghost use Rattle.thorin_reading.specs.Taken.{Takes};
 ghost use Rattle.thorin_cli.specs.Doing.{Answers, DoesCall, DoesPacking, HasStatus, ListsMissing};
@@ -21,7 +20,7 @@ use thorin_arguments::{CheckArguments, Commands, FindArguments, ListArguments, P
 use thorin_check::{Reading, check_by};
 use thorin_commands::{Packing, list_missing, pack};
 use thorin_find::{find_by, list_by};
-use thorin_print::{Failure, Form, report, show};
+use thorin_print::{Failure, Form, WatchedLines, show};
 use thorin_reading::PlainReader;
 use thorin_terminal::{NotedFiles, Telling, Watched};
 
@@ -34,20 +33,22 @@ pub(crate) struct Program<'s, 'o, 'e, F, R, O, E> {
     pub(crate) files: &'s mut F,
     pub(crate) reader: &'s R,
     pub(crate) out: &'o mut Watched<O>,
-    pub(crate) err: &'e mut E,
+    pub(crate) err: &'e mut WatchedLines<E>,
 }
 
 impl<F: NotedFiles, R: NotedReader, O: Write, E: Write> Program<'_, '_, '_, F, R, O, E> {
     /// The status of a command that read these files. Where it was refused, that is printed.
     fn status(&mut self, answer: Result<u8, Failure>, given: Given<'_>, read: Read) -> u8
-        ensures has { HasStatus answer result }
+        ensures has { HasStatus (system F.offer F.known F.begun O.contents E.contents
+            (R.offer self.old.reader.now)) (state_of self.new) answer result }
         ensures kept { (self.new.files ≡ self.old.files) × (self.new.out ≡ self.old.out) }
+        ensures place { self.new.err.ghost_name ≡ self.old.err.ghost_name }
     {
         match answer {
             Ok(status) => status,
             Err(failure) => {
                 let status = self.report(&failure);
-                note_reading(self.alloc, &failure, given, read, self.err);
+                note_reading(self.alloc, &failure, given, read, &mut self.err.writer);
                 status
             }
         }
@@ -56,25 +57,29 @@ impl<F: NotedFiles, R: NotedReader, O: Write, E: Write> Program<'_, '_, '_, F, R
     /// Prints why a command failed, and answers the status. That nobody reads standard output any
     /// more isn't told: whoever closed the pipe has what they wanted.
     fn report(&mut self, failure: &Failure) -> u8
-        ensures status { (result ≡ exit_status failure.now) ⊎ (result ≡ 1) }
+        ensures has { HasStatus (system F.offer F.known F.begun O.contents E.contents
+            (R.offer self.old.reader.now)) (state_of self.new) (Err failure.now) result }
         ensures kept { (self.new.files ≡ self.old.files) × (self.new.out ≡ self.old.out) }
+        ensures place { self.new.err.ghost_name ≡ self.old.err.ghost_name }
+        ensures once { self.old.err.now.has_failed ≡ true → self.new.err.now.has_failed ≡ true }
     {
-        match self.out.failure() {
+        match self.out.failure {
             Some(cause) if matches!(failure, Failure::Line) => {
                 if cause.kind() == io::ErrorKind::BrokenPipe {
                     return 1;
                 }
-                let status = report(self.err, failure);
-                note_output(self.alloc, &cause, self.err);
+                let status = self.err.report(failure);
+                note_output(self.alloc, &cause, &mut self.err.writer);
                 status
             }
-            _ => report(self.err, failure),
+            _ => self.err.report(failure),
         }
     }
 
     /// Packs.
     fn pack_as(&mut self, packing: &Packing<'_, '_>) -> u8
-        ensures done { Answers (DoesPacking (system F.offer F.known F.begun O.contents
+        ensures done { Answers (system F.offer F.known F.begun O.contents E.contents
+            (R.offer self.old.reader.now)) (state_of self.new) (DoesPacking (system F.offer F.known F.begun O.contents E.contents
             (R.offer self.old.reader.now)) packing.now (state_of self.old)
             (state_of self.new)) result }
         ensures places { KeepsPlaces self.old self.new }
@@ -82,7 +87,12 @@ impl<F: NotedFiles, R: NotedReader, O: Write, E: Write> Program<'_, '_, '_, F, R
         match self.pack_told(packing) {
             Ok(0) => 0,
             Ok(status) => {
-                note_refused(self.alloc, packing, &self.files.last_named(), self.err);
+                note_refused(
+                    self.alloc,
+                    packing,
+                    &self.files.last_named(),
+                    &mut self.err.writer,
+                );
                 status
             }
             Err(failure) => {
@@ -92,7 +102,7 @@ impl<F: NotedFiles, R: NotedReader, O: Write, E: Write> Program<'_, '_, '_, F, R
                     &failure,
                     packing,
                     self.files.unwritten(),
-                    self.err,
+                    &mut self.err.writer,
                 );
                 status
             }
@@ -101,7 +111,7 @@ impl<F: NotedFiles, R: NotedReader, O: Write, E: Write> Program<'_, '_, '_, F, R
 
     /// Packs, and tells a terminal meanwhile how far that is.
     fn pack_told(&mut self, packing: &Packing<'_, '_>) -> Result<u8, Failure>
-        ensures done { DoesPacking (system F.offer F.known F.begun O.contents
+        ensures done { DoesPacking (system F.offer F.known F.begun O.contents E.contents
             (R.offer self.old.reader.now)) packing.now (state_of self.old)
             (state_of self.new) result }
         ensures places { KeepsPlaces self.old self.new }
@@ -124,10 +134,17 @@ impl<F: NotedFiles, R: NotedReader, O: Write, E: Write> Program<'_, '_, '_, F, R
 
     /// Lists the objects that are missing.
     fn list_as(&mut self, packing: &Packing<'_, '_>) -> u8
-        ensures done { Answers (ListsMissing (state_of self.old) (state_of self.new)) result }
+        ensures done { Answers (system F.offer F.known F.begun O.contents E.contents
+            (R.offer self.old.reader.now)) (state_of self.new) (ListsMissing (state_of self.old) (state_of self.new)) result }
         ensures places { KeepsPlaces self.old self.new }
     {
-        match list_missing(self.alloc, self.files, packing, self.out, self.err) {
+        match list_missing(
+            self.alloc,
+            self.files,
+            packing,
+            self.out,
+            &mut self.err.writer,
+        ) {
             Ok(status) => status,
             Err(failure) => self.report(&failure),
         }
@@ -135,7 +152,8 @@ impl<F: NotedFiles, R: NotedReader, O: Write, E: Write> Program<'_, '_, '_, F, R
 
     /// Checks the package that would be made.
     fn verify_as(&mut self, packing: &Packing<'_, '_>) -> u8
-        ensures done { Answers (Verifies (system F.offer F.known F.begun O.contents
+        ensures done { Answers (system F.offer F.known F.begun O.contents E.contents
+            (R.offer self.old.reader.now)) (state_of self.new) (Verifies (system F.offer F.known F.begun O.contents E.contents
             (R.offer self.old.reader.now)) packing.now (state_of self.old)
             (state_of self.new)) result }
         ensures places { KeepsPlaces self.old self.new }
@@ -150,7 +168,7 @@ impl<F: NotedFiles, R: NotedReader, O: Write, E: Write> Program<'_, '_, '_, F, R
                 let decompresses = packing.decompresses;
                 self.check_as(output.as_str(), executables, decompresses, reading)
             }
-            Err(failure) => report(self.err, &failure),
+            Err(failure) => self.report(&failure),
         }
     }
 
@@ -162,11 +180,13 @@ impl<F: NotedFiles, R: NotedReader, O: Write, E: Write> Program<'_, '_, '_, F, R
         decompresses: bool,
         reading: Reading,
     ) -> u8
-        ensures done { Answers (Checks (Takes decompresses (R.offer self.old.reader.now)) file.now
+        ensures done { Answers (system F.offer F.known F.begun O.contents E.contents
+            (R.offer self.old.reader.now)) (state_of self.new) (Checks (Takes decompresses (R.offer self.old.reader.now)) file.now
             (record { paths = executables.now; reading = reading })
             (O.contents self.old.out.now.out) (O.contents self.new.out.now.out)) result }
         ensures files { self.new.files ≡ self.old.files }
-        ensures place { self.new.out.ghost_name ≡ self.old.out.ghost_name }
+        ensures out { self.new.out.ghost_name ≡ self.old.out.ghost_name }
+        ensures err { self.new.err.ghost_name ≡ self.old.err.ghost_name }
     {
         let files = PlainReader::new(self.alloc, self.reader, decompresses);
         let answer = check_by(self.alloc, &files, file, executables, reading, self.out);
@@ -178,8 +198,8 @@ impl<F: NotedFiles, R: NotedReader, O: Write, E: Write> Commands
     for Program<'_, '_, '_, F, R, O, E> {
     // The files and standard output stay where they are, and the call does what it is for.
     ghost does = { λ old call status new. KeepsPlaces old new
-        × DoesCall (system F.offer F.known F.begun O.contents (R.offer old.reader.now)) old.manner
-        (state_of old) call status (state_of new) };
+        × DoesCall (system F.offer F.known F.begun O.contents E.contents (R.offer old.reader.now))
+        old.manner (state_of old) call status (state_of new) };
 
     fn pack(&mut self, arguments: PackArguments<'_, '_>) -> u8 {
         let packing = packing_of(arguments, self.manner);
@@ -216,7 +236,7 @@ impl<F: NotedFiles, R: NotedReader, O: Write, E: Write> Commands
                 file,
                 files.kind(),
                 self.manner.on_terminal,
-                self.err,
+                &mut self.err.writer,
             );
         }
         self.status(answer, Given::file(file), Read::by(self.reader, &files))
@@ -245,14 +265,14 @@ impl<F: NotedFiles, R: NotedReader, O: Write, E: Write> Commands
     }
 
     fn refuse<D: fmt::Display>(&mut self, text: &D) -> u8 {
-        if show(self.err, text) { 2 } else { 1 }
+        if self.err.show(text) { 2 } else { 1 }
     }
 
     fn refuse_words(&mut self) -> u8 {
-        report(self.err, &Failure::BadCommand)
+        self.err.report(&Failure::BadCommand)
     }
 
     fn lack_memory(&mut self) -> u8 {
-        report(self.err, &Failure::Memory)
+        self.err.report(&Failure::Memory)
     }
 }

@@ -1,6 +1,8 @@
-use Rattle.std.proofs.Common.{map, rules}
+use Rattle.std.proofs.Common.{◌≡◌, inr, map, refl, rules, true}
+use Rattle.std.specs.Prelude.{IsSome}
 use Rattle.thorin_arguments.specs.Asked.{words_in}
 use Rattle.thorin_cli.proofs.Ran.{ran}
+use Rattle.thorin_cli.proofs.Told.{tried}
 use Rattle.thorin_cli.proofs.run.Goals as goal
 
 pub returns-in-Ok : goal.returns-in-Ok
@@ -8,7 +10,31 @@ returns-in-Ok g c = record {
   did = ran _ _ c.args.facts.on_terminal c.named_program.result.0.now
       (map g.S.AsStr.text c.named_program.result.1.now) c.in-Ok.ensures.0
       (words_in c.as_slice.result.now) _ _
-      (record { files = c.run.new.commands.files.now; out = c.run.new.commands.out.now })
-      c.run.result _ _ _ _ _ c.named_program.ensures (search (rules, c.in-Ok.ensures.1))
-      c.in-Ok.ensures.2 (search rules) c.run.ensures.called (search rules) (search rules);
+      (record {
+        files = c.run.new.commands.files.now;
+        out = c.run.new.commands.out.now;
+        err = c.run.new.commands.err.now;
+      })
+      c.run.result _ _ _ _ _ _ _ c.named_program.ensures (search (rules, c.in-Ok.ensures.1))
+      c.in-Ok.ensures.2 (search rules) c.run.ensures.called (search rules) (search rules)
+      (search rules);
+}
+
+pub returns-in-Err : goal.returns-in-Err
+returns-in-Err g c = record {
+  did = inr (
+    c.refuse_response-status.ensures.status,
+    (refl, refl),
+    tried (record {
+      offer = g.F.FileSystem.offer;
+      known = g.F.FileSystem.known;
+      begun = g.F.FileSystem.begun;
+      contents = λ out. g.O.Write.contents out.out;
+      failed = λ out. IsSome out.failure;
+      told = λ err. g.E.Write.contents err.writer;
+      untold = λ err. err.has_failed ≡ true;
+      read = g.R.FileReader.offer c.args.readers.files.now;
+    }) c.args.files.now c.args.out.now c.args.err.now _ c.refuse_response-status.new.err
+        c.refuse_response-status.ensures.told c.note_response.ensures (λ h. h),
+  );
 }

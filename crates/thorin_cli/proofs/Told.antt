@@ -1,0 +1,113 @@
+-- What standard error got stays there when notes follow.
+use Rattle.std.proofs.Common.{◌≡◌, ◌⊎◌, ℕ, List, inl, inr, rules}
+use Rattle.std.specs.Prelude.{Err, IfErr, Ok, Result, Some}
+use Rattle.std.specs.Io.KnownBytes.{Appends}
+use Rattle.thorin_print.specs.Answers.{Grows}
+use Rattle.thorin_print.specs.Failures.{Reports, error_line, failure_text}
+use Rattle.thorin_print.specs.declared.output.Failure.{Failure}
+use Rattle.thorin_print.specs.declared.output.Failure.TheVariants as failures
+use Rattle.thorin_commands.proofs.Lines.{followed, printed}
+use Rattle.thorin_commands.specs.Cause.{Cause, Told, text_of}
+use Rattle.thorin_commands.specs.Failing.{FailsPacking, IsWhy}
+use Rattle.thorin_commands.specs.Packing.{declines, reads}
+use Rattle.thorin_commands.specs.declared.packing.Packing.{Packing}
+use Rattle.thorin_cli.specs.Doing.{DoesPacking, HasStatus, HasTold, State, System}
+
+-- why packing failed, where it is more often known that a line wasn't taken
+more : (known : _) (packing : Packing) (unsplit unwritten cut untold untold' : Type 0)
+    → (untold → untold') → (failure : Failure)
+    → IsWhy known packing unsplit unwritten (cut ⊎ untold) failure
+    → IsWhy known packing unsplit unwritten (cut ⊎ untold') failure
+more known packing unsplit unwritten cut untold untold' f failures.Line (inl c) = inl c
+more known packing unsplit unwritten cut untold untold' f failures.Line (inr u) = inr (f u)
+more known packing unsplit unwritten cut untold untold' f failures.BadCommand why = why
+more known packing unsplit unwritten cut untold untold' f failures.Overwrites why = why
+more known packing unsplit unwritten cut untold untold' f failures.Input why = why
+more known packing unsplit unwritten cut untold untold' f failures.Output why = why
+more known packing unsplit unwritten cut untold untold' f failures.Memory why = why
+more known packing unsplit unwritten cut untold untold' f _ why = absurd why
+
+module _ {F O E : Type 0} (system : System F O E) (files : F) (out : O) (old new : E) where
+  abbrev before : State F O E
+  before = record { files = files; out = out; err = old }
+
+  abbrev after : State F O E
+  after = record { files = files; out = out; err = new }
+
+  -- a failure whose line was printed, unless that couldn't be
+  pub reported : (failure : Failure) (status : ℕ)
+      → Reports failure (system.told old) (system.told new) (system.untold new) status
+      → HasStatus system after (Err failure) status
+  reported failure status (inl (is, line)) =
+      inl (is, printed system.told old new (failure_text failure) line)
+  reported failure status (inr (is, untold)) = inr (is, inl untold)
+
+  -- an error whose line was printed, unless that couldn't be, and notes behind it
+  pub tried : (middle : E) → (((text : List ℕ)
+      × Appends (system.told old) (system.told middle) (error_line text)) ⊎ system.untold middle)
+      → Grows (system.told middle) (system.told new)
+      → (system.untold middle → system.untold new) → HasTold system after
+  tried middle (inl (text, line)) grows stays =
+      inl (
+        text,
+        followed system.told middle new (Some text)
+            (printed system.told old middle text line) grows,
+      )
+  tried middle (inr untold) grows stays = inr (stays untold)
+
+  why_too : (system.untold old → system.untold new) → (packing : Packing) (start : State F O E)
+      (answer : Result ℕ Failure)
+      → IfErr answer (FailsPacking system.offer system.known system.begun system.contents packing
+      start.files files start.out out (system.untold old))
+      → IfErr answer (FailsPacking system.offer system.known system.begun system.contents packing
+      start.files files start.out out (system.untold new))
+  why_too stays packing start (Ok status) why = tt
+  why_too stays packing start (Err failure) why = more _ packing _ _ _ _ _ stays failure why
+
+  -- packing failed, whatever was printed behind that
+  pub stopped : (system.untold old → system.untold new) → (packing : Packing)
+      (start : State F O E) (failure : Failure)
+      → DoesPacking system packing start before (Err failure)
+      → DoesPacking system packing start after (Err failure)
+  stopped stays packing start failure does = record {
+    packed = does.packed;
+    warned = λ is. search (rules, is);
+    status = does.status;
+    refused = does.refused;
+    told = λ is. search (rules, is);
+    failed = does.failed;
+    why = why_too stays packing start (Err failure) does.why;
+    apart = does.apart;
+  }
+
+  module _ (grows : Grows (system.told old) (system.told new))
+      (stays : system.untold old → system.untold new) where
+    pub noted : (failure : Failure) (status : ℕ) → HasStatus system before (Err failure) status
+        → HasStatus system after (Err failure) status
+    noted failure status (inl (is, line)) =
+        inl (is, followed system.told old new (Some (failure_text failure)) line grows)
+    noted failure status (inr (is, inl untold)) = inr (is, inl (stays untold))
+    noted failure status (inr (is, inr failed)) = inr (is, inr failed)
+
+    told_too : (Causes : Cause → Type 0) → Told system.told old Causes
+        → Told system.told new Causes
+    told_too Causes told = record {
+      cause = told.cause;
+      is = told.is;
+      line = followed system.told old new (text_of told.cause) told.line grows;
+    }
+
+    -- packing was refused
+    pub refused : (packing : Packing) (start : State F O E) (answer : Result ℕ Failure)
+        → ¬ (answer ≡ Ok 0) → DoesPacking system packing start before answer
+        → DoesPacking system packing start after answer
+    refused packing start answer not does = record {
+      packed = does.packed;
+      warned = λ is. absurd (not is);
+      status = does.status;
+      refused = does.refused;
+      told = λ is. told_too _ (does.told is);
+      failed = does.failed;
+      why = why_too stays packing start answer does.why;
+      apart = does.apart;
+    }
