@@ -20,6 +20,7 @@ import resource
 import shutil
 import signal
 import stat
+import struct
 import subprocess
 import sys
 import tempfile
@@ -76,16 +77,21 @@ def rows(folder):
 
 
 def is_packed(path):
-    """Whether a file is an ELF file, as a package is."""
+    """Whether a file is an ELF file that ends behind its section headers, as a package does."""
     with open(path, "rb") as it:
-        return it.read(4) == b"\x7fELF"
+        file = it.read()
+    return file[:4] == b"\x7fELF" and struct.unpack_from("<Q", file, 40)[0] + 64 * struct.unpack_from("<H", file, 60)[0] == len(file)
+
+
+# What stands where a package is to go: more bytes than it has.
+OLD = "old" * 1000
 
 
 def old_output(folder, mode, name="old.dwp"):
-    """A file of a few bytes with these permissions, where a package is to go."""
+    """A file with these permissions, where a package is to go."""
     path = os.path.join(folder, name)
     with open(path, "w", encoding="utf-8") as it:
-        it.write("old")
+        it.write(OLD)
     os.chmod(path, mode)
     return path
 
@@ -130,7 +136,7 @@ def keeps_what_a_link_leads_to(program, folder):
     before = set(os.listdir(folder))
     status = pack(program, folder, link, preexec_fn=writes_little)
     with open(out, encoding="utf-8") as it:
-        return status == 1 and it.read() == "old" and set(os.listdir(folder)) == before
+        return status == 1 and it.read() == OLD and set(os.listdir(folder)) == before
 
 
 def writes_what_the_system_links_to(program, folder):
