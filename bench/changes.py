@@ -2,7 +2,7 @@
 """Changes lines of the crates' code by a little, and sees whether the prover refuses what no test sees.
 
     bench/changes.py [--seed N] [--all N] [--most N] [--list] TREE [CRATE..]
-    bench/changes.py [--seed N] [--all N] [--most N] --page
+    bench/changes.py [--seed N] [--all N] [--most N] --page [TREE]
 
 TREE is a copy of the repository in which each crate was proved and built by rt ci, as .ci/wrong-bodies has it. A change
 names an error's neighbour, adds one to a number, or takes a comparison's neighbour. Of all that could be changed --all
@@ -11,8 +11,9 @@ each change. Either script may come first: what a test sees isn't proved, and wh
 doesn't compile is drawn anew. Changes of different functions are proved together, with the groups of .ci/wrong-bodies; a
 change counts as refused where its own function is told as not proved, and as let through where that is told as proved. What
 came of each is written to out/changes/CRATE.json. --list prints what would be changed, and tries nothing. --page writes what
-both scripts left in out/changes into the table and the lists of bench/changes.md, and keeps that page's reasons; its status
-is 1 where a change is neither refused, seen nor explained.
+both scripts left in out/changes of the changes of TREE, of this checkout without one, into the table and the list of
+bench/changes.md, and keeps that page's reasons, and its rows of crates of which nothing is left; what the table counts under
+none of the three kinds is open, and then the status is 1.
 """
 import functools
 import glob
@@ -98,6 +99,8 @@ class Change:
     @functools.cached_property
     def functions(self):
         return {self.meant}
+
+    words = of_edits.Edit.words
 
     def applied(self, texts):
         lines = (texts.get(self.file) or of_edits.text_of(self.crate, self.file)).split("\n")
@@ -284,17 +287,15 @@ def tests_of_changes():
 
 
 def tried_of(crate):
-    """What the prover told of a crate's changes, by their names among those of all crates: all that it tried, what it refused, and what it didn't."""
+    """What the prover told of a crate's changes, by their names among those of all crates: all that it tried, and what it refused."""
     file = f"{ROOT}/out/changes/{crate}.json"
     if not os.path.exists(file):
-        return None, set(), set()
+        return None, set()
     with open(file, encoding="utf-8") as it:
         told = json.load(it)
     # (a change that took away a name says nothing of what the body means)
-    refused = {it for it, why in told["refused"].items() if not why.startswith(wrong.ONLY_NAMES)}
-    rest = {*told["refused"], *told["let_through"], *told["other"]} - refused
-    every, refused, rest = ([f"{crate} {it}" for it in part] for part in (told["functions"], refused, rest))
-    return every, {*refused}, {*rest}
+    refused = {f"{crate} {it}" for it, why in told["refused"].items() if not why.startswith(wrong.ONLY_NAMES)}
+    return [f"{crate} {it}" for it in told["functions"]], refused
 
 
 def refused_by_the_prover():
@@ -304,14 +305,18 @@ def refused_by_the_prover():
 
 
 def row_of(name, keys, tests, reasons):
-    """The cells of a crate's row: its changes, those that the prover refuses, that a test sees, that are to be explained, and the rest; and the fourth kind."""
-    tried, refused, told = tried_of(name)
+    """The counts of a crate's row: its changes, those that the prover refuses, that a test sees, that are explained; and all that are neither of the first two."""
+    tried, refused = tried_of(name)
     every = dict.fromkeys(keys if tried is None else [*(it for it in keys if it in tests), *tried])
     seen = {it for it in every if it in tests} - refused
-    told |= {*reasons}
-    neither = [it for it in every if it in told and it not in seen | refused]
-    counts = [len(refused), len(seen), len(neither)]
-    return [len(every), *counts, len(every) - sum(counts)], neither
+    neither = [it for it in every if it not in seen | refused]
+    return [len(every), len(refused), len(seen), sum(it in reasons for it in neither)], neither
+
+
+def kept_row(name, text):
+    """The same as a page has it."""
+    row = re.search(rf"^\| `{name}` ((?:\| \d+ ){{4}})", text, re.M)
+    return [int(it) for it in re.findall(r"\d+", row[1])] if row else [0] * 4, re.findall(rf"^- `({name} src/[^`]*)`", text, re.M)
 
 
 def reasons_of(text):
@@ -327,16 +332,22 @@ def write_page(taken, crates):
         text = it.read()
     reasons, tests, rows, neither = reasons_of(text), tests_of_changes(), {}, []
     for name in crates:
-        rows[name], mine = row_of(name, [key_of(it) for it in taken if it.crate.name == name], tests, reasons)
+        keys = [key_of(it) for it in taken if it.crate.name == name]
+        is_left = os.path.exists(f"{ROOT}/out/changes/{name}.json") or any(it in tests for it in keys)
+        rows[name], mine = row_of(name, keys, tests, reasons) if is_left else kept_row(name, text)
         neither += mine
     rows["all"] = [sum(it) for it in zip(*rows.values())]
-    lines = [text[: text.index("|---|")] + "|---|---|---|---|---|---|"]
-    lines += [f"| `{name}` | {' | '.join(str(it) for it in row)} |" for name, row in rows.items() if row[0]]
+    still = rows["all"][0] - sum(rows["all"][1:])
+    heads = ["crate", "changed", "refused by the prover", "seen by a test", "explained", *["open"] * (still > 0)]
+    lines = [f"{text[: text.index('| crate |')]}| {' | '.join(heads)} |", "|---" * len(heads) + "|"]
+    for name, row in rows.items():
+        row += [row[0] - sum(row[1:])] * (still > 0)
+        lines += [f"| `{name}` | {' | '.join(str(it) for it in row)} |"] * (row[0] > 0)
     how = {"subsequent_indent": "  ", "break_long_words": False, "break_on_hyphens": False}
     lines += ["", "## Explained", "", *(textwrap.fill(f"- `{it}`: {reasons.get(it, OPEN)}", 100, **how) for it in neither)]
     with open(page, "w", encoding="utf-8") as it:
         it.write("\n".join(lines) + "\n")
-    return sum(it not in reasons for it in neither) + rows["all"][-1]
+    return still
 
 
 def number(words, flag, usual):
@@ -364,11 +375,13 @@ def main(words):
     seed, count, most = number(words, "--seed", SEED), number(words, "--all", COUNT), number(words, "--most", MOST)
     is_list = "--list" in words
     words = [it for it in words if it != "--list"]
-    if not words or words[0].startswith("-") and words != ["--page"]:
+    is_page = words[:1] == ["--page"]
+    words = (words[1:] or [ROOT]) if is_page else words
+    if not words or words[0].startswith("-"):
         sys.exit(__doc__)
-    crates = {it.name: it for it in changed_crates(ROOT if words == ["--page"] else os.path.abspath(words[0]))}
+    crates = {it.name: it for it in changed_crates(os.path.abspath(words[0]))}
     taken, rest, every = drawn([*crates.values()], seed, count, most)
-    if words == ["--page"]:
+    if is_page:
         return 1 if write_page(taken, crates) else 0
     asked = words[1:] or [*crates]
     if is_list:
