@@ -1,20 +1,21 @@
 #!/usr/bin/env python3
 """Asks debuggers the same of a real program by its objects, by its package, and by neither, and compares what they print.
 
-    bench/compare_debuggers.py THORIN APP FUNCTIONS TYPE SOURCE MACRO DEBUGGER.. [-- WORDS..]
+    bench/compare_debuggers.py [OPTION..] THORIN APP FUNCTIONS TYPE SOURCE MACRO DEBUGGER.. [-- WORDS..]
 
-APP is an executable with its .dwo files below its folder, which is packed; FUNCTIONS, apart by commas, are where it is to
-stop; TYPE and SOURCE are a type and a file that lldb shows, MACRO a macro that gdb shows, `-` for none; WORDS are APP's. A
-DEBUGGER is a command that is a gdb or an lldb, as lldb-19 or 'chroot DIR gdb', where DIR has /proc, /dev/pts and /tmp of
-outside. Addresses, numbers of processes, times of files and lldb's numbers of entries, which are offsets, are passed over.
-The status is 1 where a debugger prints something else by the package than by the objects, or the same by neither."""
+APP is an executable with its .dwo files below its folder, which is packed, by OPTIONs as --decompress; FUNCTIONS, apart by
+commas, are where it is to stop; TYPE and SOURCE are a type and a file that lldb shows, MACRO a macro that gdb shows, `-` for
+none; WORDS are APP's. A DEBUGGER is a command that is a gdb or an lldb, as lldb-19 or 'chroot DIR gdb', where DIR has /proc,
+/dev/pts and /tmp of outside. Addresses, numbers of processes, times of files and lldb's numbers of entries, which are offsets,
+are passed over. The status is 1 where a debugger prints something else by the package than by the objects, or the same by neither."""
 import re
 import subprocess
 import sys
+from itertools import takewhile
 from pathlib import Path
 
 # What differs between runs, or between an object and a package that is whole.
-NUMBERS = re.compile(r"(?<=error: )\w+ 0x\w+: .*|id = \{0x\w+\}|[Pp]rocess \d+|\(LWP \d+\)|Thread 0x\w+|tid = \S+|tv_n?sec = -?\d+|0x(7ff|555)\w{9}|@ 0x\w+")
+NUMBERS = re.compile(r"(?<=error: )\w+ 0x\w+: .*|id = \{0x\w+\}|[Pp]rocess \d+|\(LWP \d+\)|Thread 0x\w+|tid = \S+|tv_n?sec = -?\d+|__glibc_reserved = [^})]*|0x(7ff|555)\w{9}|@ 0x\w+")
 
 
 def asked(debugger, app, functions, shown, words):
@@ -44,6 +45,8 @@ def move(where, old, new):
 
 
 def main(words):
+    options = list(takewhile(lambda it: it.startswith("--"), words))
+    words = words[len(options):]
     if len(words) < 7:
         sys.exit(__doc__)
     end = words.index("--") if "--" in words else len(words)
@@ -53,8 +56,9 @@ def main(words):
     of = {it: asked(it if "chroot" not in it else f"{it.rpartition(' ')[0]} env --chdir={app.parent} {it.rpartition(' ')[2]}",
                     app.name, functions, words[3:6], words[end + 1:]) for it in debuggers}
     objects = {it: said(of[it], app.parent) for it in debuggers}
-    subprocess.run([thorin, "pack", "--warnings=once", "-o", package.name, "-e", app.name], cwd=app.parent, check=True)
-    subprocess.run([thorin, "check", package.name, "-e", app.name], cwd=app.parent, check=True)
+    subprocess.run([thorin, "pack", "--warnings=once", *options, "-o", package.name, "-e", app.name], cwd=app.parent, check=True)
+    own = [it for it in options if it in ("--decompress", "--skip-nameless")]
+    subprocess.run([thorin, "check", *own, package.name, "-e", app.name], cwd=app.parent, check=True)
     move(app.parent, ".dwo", ".dwo.away")
     try:
         packed = {it: said(of[it], app.parent) for it in debuggers}
