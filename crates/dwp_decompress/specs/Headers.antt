@@ -21,17 +21,17 @@ use Rattle.dwp_decompress.specs.declared.error.DecompressError.TheVariants.{Head
 use Rattle.dwp_decompress.specs.declared.asked.Asked.{Asked}
 use Rattle.dwp_decompress.specs.declared.stream.Kind.{Kind}
 use Rattle.dwp_decompress.specs.declared.stream.Kind.TheVariants.{Zlib, Zstd}
-use Rattle.dwp_decompress.specs.declared.stream.Packed as declared
+use Rattle.dwp_decompress.specs.declared.stream.CompressedStream as declared
 use Rattle.dwp_decompress.specs.Answers.{reading, inflated_as, decoded_as}
 use Rattle.dwp_decompress.specs.Compressed.{is_compressed}
 
 -- a stream of a kind, and the size of what it writes
-pub record Packed : Type 0 where
+pub record CompressedStream : Type 0 where
   pub kind : Kind
   pub size : ℕ
   pub bytes : List ℕ
 
-abbrev pub packed : declared.Packed → Packed
+abbrev pub packed : declared.CompressedStream → CompressedStream
 packed stream = record { kind = stream.kind; size = stream.size; bytes = stream.bytes.now }
 
 -- the kind of a type: ELFCOMPRESS_ZLIB is 1, ELFCOMPRESS_ZSTD 2
@@ -40,7 +40,7 @@ kind_of type =
     if type == 1 then Ok Zlib else (if type == 2 then Ok Zstd else Err (UnknownType type))
 
 -- behind a header of three words: a type of four bytes, and in the second word the size
-unfoldable pub headed : Class → Endianness → List ℕ → Result Packed DecompressError
+unfoldable pub headed : Class → Endianness → List ℕ → Result CompressedStream DecompressError
 headed class order content =
     if nat_lt (length content) (3 * word_size class) then Err Header else (do
       kind ← kind_of (number_at order 4 content 0)
@@ -51,7 +51,7 @@ headed class order content =
       }))
 
 -- by the older convention zlib's: behind `ZLIB` and eight bytes of size, the highest first
-unfoldable pub older : List ℕ → Result Packed DecompressError
+unfoldable pub older : List ℕ → Result CompressedStream DecompressError
 older content =
     if nat_lt (length content) 12 then Err Header
     else (if starts_with nat_eq content (codes "ZLIB")
@@ -60,7 +60,7 @@ older content =
 
 -- the stream of a section with that content; where both forms are said, the flag counts
 unfoldable pub packed_in : Class → Endianness → SectionMeaning → List ℕ
-    → Result Packed DecompressError
+    → Result CompressedStream DecompressError
 packed_in class order section content =
     if has_compressed_flag section then headed class order content else older content
 
@@ -75,7 +75,7 @@ unreachable Zlib = errors.Zlib inflating.Unreachable
 unreachable Zstd = errors.Zstd decoding.Unreachable
 
 -- how many bytes a stream is said to write, if so few bytes can write so many
-unfoldable pub told_by : Packed → Result ℕ DecompressError
+unfoldable pub told_by : CompressedStream → Result ℕ DecompressError
 told_by packed =
     if nat_lt (reach_of packed.kind * length packed.bytes) packed.size
     then Err (unreachable packed.kind) else Ok packed.size

@@ -79,12 +79,10 @@ fn plain_name(old: &Section<'_>, new: &Section<'_>) -> bool
     ensures { IsTrue result
         → (view.section new.now).name ≡ option_map plain_name (view.section old.now).name }
 {
-    match old.name() {
-        Ok(name) => match new.name() {
-            Ok(own) => is_plain_name(name, own),
-            Err(_) => false,
-        },
-        Err(_) => new.name().is_err(),
+    match (old.name(), new.name()) {
+        (Ok(name), Ok(own)) => is_plain_name(name, own),
+        (Err(_), Err(_)) => true,
+        _ => false,
     }
 }
 
@@ -100,12 +98,10 @@ fn grown_content(old: &Section<'_>, new: &Section<'_>, added: &[u8]) -> bool
     ensures { IsTrue result → (view.section new.now).content
         ≡ option_map (λ names. names ++ added.now) (view.section old.now).content }
 {
-    match old.data() {
-        Ok(content) => match new.data() {
-            Ok(own) => is_longer_by(content, added, own),
-            Err(_) => false,
-        },
-        Err(_) => new.data().is_err(),
+    match (old.data(), new.data()) {
+        (Ok(content), Ok(own)) => is_longer_by(content, added, own),
+        (Err(_), Err(_)) => true,
+        _ => false,
     }
 }
 
@@ -173,33 +169,17 @@ impl<'a> Expected<'a> {
         }
     }
 
-    /// Whether the i-th section is what another is to become.
-    fn becomes(
-        &self,
-        before: &Section<'_>,
-        plain: &Option<Vec<u8>>,
-        new: &ElfFile<'_>,
-        i: usize,
-    ) -> bool
-        ensures { IsTrue result → slice_get (elf new.now).sections i ≡ Some (result_section
-            self.now.names self.now.added.now (view.section before.now)
-            (option_map (λ plain. plain.items) plain.now)) }
-    {
-        match new.section(i) {
-            Some(after) => self.is_result(before, &after, plain),
-            None => false,
-        }
-    }
-
     /// Whether the i-th section is what it is to become.
     fn agrees_at(&self, old: &ElfFile<'_>, new: &ElfFile<'_>, i: usize) -> bool
         requires { i < length self.now.contents.now.items }
         ensures { IsTrue result → AgreesAt self.now.names self.now.added.now (elf old.now).sections
             (elf new.now).sections (plain_contents self.now.contents.now.items) i }
     {
-        match old.section(i) {
-            Some(before) => self.becomes(&before, content_at(self.contents, i), new, i),
-            None => false,
+        match (old.section(i), new.section(i)) {
+            (Some(before), Some(after)) => {
+                self.is_result(&before, &after, content_at(self.contents, i))
+            }
+            _ => false,
         }
     }
 

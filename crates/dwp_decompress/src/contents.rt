@@ -4,7 +4,7 @@ ghost use Rattle.std.specs.Prelude.{option_map};
 ghost use Rattle.dwp_elf_read.specs.View as view;
 ghost use Rattle.dwp_elf_read.specs.View.{elf};
 ghost use Rattle.dwp_decompress.specs.Answers.{Gives};
-ghost use Rattle.dwp_decompress.specs.Headers.{written_by, plain_of, content_of};
+ghost use Rattle.dwp_decompress.specs.Headers.{written_by, content_of};
 ghost use Rattle.dwp_decompress.specs.Result.{contents_of, plain_contents};
 
 use crate::asked::Asked;
@@ -23,35 +23,13 @@ fn written(alloc: Global, kind: Kind, bytes: &[u8], size: usize) -> Result<Vec<u
     ensures { Gives (λ plain. plain.items) result (written_by kind bytes.now size) }
 {
     match kind {
-        Kind::Zlib => {
-            let plain = inflate(alloc, bytes, size)?;
-            Ok(plain)
-        }
-        Kind::Zstd => {
-            let plain = decompress(alloc, bytes, size)?;
-            Ok(plain)
-        }
+        Kind::Zlib => Ok(inflate(alloc, bytes, size)?),
+        Kind::Zstd => Ok(decompress(alloc, bytes, size)?),
     }
 }
 
-/// What a compressed section's stream writes.
-#[tactic(auto, unfolding(crate::specs::Headers::plain_of))]
-fn plain(
-    alloc: Global,
-    class: Class,
-    order: Endianness,
-    section: &Section<'_>,
-) -> Result<Vec<u8>, DecompressError>
-    ensures { Gives (λ plain. plain.items) result
-        (plain_of class order (view.section section.now)) }
-{
-    let content = section.data()?;
-    let packed = packed_in(class, order, section, content)?;
-    written(alloc, packed.kind, packed.bytes, packed.size as usize)
-}
-
 /// The plain content of a section, if that is asked for and compressed.
-#[tactic(auto, unfolding(crate::specs::Headers::content_of))]
+#[tactic(auto, unfolding(crate::specs::Headers::content_of, crate::specs::Headers::plain_of))]
 fn content(
     alloc: Global,
     asked: Asked,
@@ -62,11 +40,13 @@ fn content(
     ensures { Gives (option_map (λ plain. plain.items)) result
         (content_of asked class order (view.section section.now)) }
 {
-    if is_compressed(asked, section) {
-        let plain = plain(alloc, class, order, section)?;
-        return Ok(Some(plain));
+    if !is_compressed(asked, section) {
+        return Ok(None);
     }
-    Ok(None)
+    let content = section.data()?;
+    let packed = packed_in(class, order, section, content)?;
+    let plain = written(alloc, packed.kind, packed.bytes, packed.size as usize)?;
+    Ok(Some(plain))
 }
 
 /// The plain contents of all sections, in order, of a file of that class and byte order.

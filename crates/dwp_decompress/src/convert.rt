@@ -16,7 +16,7 @@ use crate::agree::Expected;
 use crate::asked::Asked;
 use crate::compressed::has_compressed;
 use crate::contents::contents;
-use crate::error::{DecompressError, Refusal};
+use crate::error::{DecompressError, NotConverted};
 use crate::file::Change;
 use crate::names::{added_names, names_number};
 use crate::sizes::length;
@@ -40,7 +40,7 @@ fn written(
     bytes: &[u8],
     file: &ElfFile<'_>,
     expected: &Expected<'_>,
-) -> Result<Vec<u8>, Refusal>
+) -> Result<Vec<u8>, NotConverted>
     ensures meant { IfOk result (λ out. elf_of out.items
         ≡ Ok (expected_file expected.now (elf file.now))) }
     ensures long { IfOk result (λ out. length_of_list out.items ≡ length) }
@@ -50,7 +50,7 @@ fn written(
     if out.len() as u64 == length && means(&out, file, expected) {
         Ok(out)
     } else {
-        Err(Refusal::TooLarge)
+        Err(NotConverted::TooLarge)
     }
 }
 

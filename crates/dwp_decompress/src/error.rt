@@ -3,7 +3,7 @@
 ghost use Rattle.std.specs.Prelude.{◌≡◌};
 ghost use Rattle.dwp_decompress.specs.Answers as spec;
 ghost use Rattle.dwp_decompress.specs.declared.error.DecompressError.TheVariants.{Memory, Read};
-ghost use Rattle.dwp_decompress.specs.declared.error.Refusal.TheVariants as refusing;
+ghost use Rattle.dwp_decompress.specs.declared.error.NotConverted.TheVariants as refusing;
 
 use dwp_elf_read::ReadError;
 use dwp_inflate::InflateError;
@@ -49,28 +49,28 @@ impl std::error::Error for DecompressError {}
 
 /// Why a file that was read can't be written.
 #[derive(Clone, Copy)]
-pub enum Refusal {
+pub enum NotConverted {
     /// A number is too large for the file's class, or the file would mean something else.
     TooLarge,
     /// Memory ran out.
     Memory,
 }
 
-impl From<AllocError> for Refusal {
+impl From<AllocError> for NotConverted {
     ghost from_gives = { λ _ refusal. refusal ≡ refusing.Memory };
 
-    fn from(_e: AllocError) -> Refusal {
-        Refusal::Memory
+    fn from(_e: AllocError) -> NotConverted {
+        NotConverted::Memory
     }
 }
 
-impl From<Refusal> for DecompressError {
+impl From<NotConverted> for DecompressError {
     ghost from_gives = { λ e error. error ≡ spec.refusal e };
 
-    fn from(e: Refusal) -> DecompressError {
+    fn from(e: NotConverted) -> DecompressError {
         match e {
-            Refusal::TooLarge => DecompressError::Unrepresentable,
-            Refusal::Memory => DecompressError::Memory,
+            NotConverted::TooLarge => DecompressError::Unrepresentable,
+            NotConverted::Memory => DecompressError::Memory,
         }
     }
 }

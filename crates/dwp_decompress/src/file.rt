@@ -3,7 +3,7 @@
 
 use crate::agree::Expected;
 use crate::compressed::is_older;
-use crate::error::Refusal;
+use crate::error::NotConverted;
 use crate::header::{Header, Manner};
 use dwp_base::Class;
 use dwp_elf_read::{ElfFile, Section};
@@ -23,14 +23,6 @@ pub struct Change<'a> {
     file: ElfFile<'a>,
     expected: Expected<'a>,
     manner: Manner,
-}
-
-/// A place that lies in no file.
-fn nowhere(class: Class) -> u64 {
-    match class {
-        Class::Elf32 => 0xffff_ffff,
-        Class::Elf64 => 0xffff_ffff_ffff_ffff,
-    }
 }
 
 impl<'a> Change<'a> {
@@ -104,7 +96,10 @@ impl<'a> Change<'a> {
     fn kept_header(&self, section: &Section<'_>, old: &Header, names: u64) -> Header {
         let mut header = *old;
         if section.data().is_err() {
-            header.offset = nowhere(self.manner.class);
+            header.offset = match self.manner.class {
+                Class::Elf32 => 0xffff_ffff,
+                Class::Elf64 => 0xffff_ffff_ffff_ffff,
+            };
         }
         if self.expected.added.is_empty() {
             return header;
@@ -126,12 +121,12 @@ impl<'a> Change<'a> {
         names: u64,
         next: &mut Next,
         out: &mut Vec<u8>,
-    ) -> Result<(), Refusal> {
+    ) -> Result<(), NotConverted> {
         let Some(raw) = self.manner.raw_header(self.bytes, i) else {
-            return Err(Refusal::TooLarge);
+            return Err(NotConverted::TooLarge);
         };
         let Some(section) = self.file.section(i) else {
-            return Err(Refusal::TooLarge);
+            return Err(NotConverted::TooLarge);
         };
         let old = self.manner.header(raw);
         let size = self.expected.plain_size(i);
@@ -142,24 +137,14 @@ impl<'a> Change<'a> {
         self.manner.add_header(&header, raw, out)
     }
 
-    /// Writes the plain contents.
-    fn add_contents(&self, out: &mut Vec<u8>) -> Result<(), Refusal> {
-        for content in self.expected.contents.iter() {
-            if let Some(plain) = content {
-                out.extend_from_slice(plain.as_slice())?;
-            }
-        }
-        Ok(())
-    }
-
     /// Writes the table of names again, with those that are added.
-    fn add_names(&self, out: &mut Vec<u8>) -> Result<(), Refusal> {
+    fn add_names(&self, out: &mut Vec<u8>) -> Result<(), NotConverted> {
         if self.expected.added.is_empty() {
             return Ok(());
         }
         if let Some(names) = self.file.section(self.expected.names) {
             let Ok(table) = names.data() else {
-                return Err(Refusal::TooLarge);
+                return Err(NotConverted::TooLarge);
             };
             out.extend_from_slice(table)?;
         }
@@ -167,17 +152,8 @@ impl<'a> Change<'a> {
         Ok(())
     }
 
-    /// Writes zeros up to a multiple of 8.
-    fn add_zeros(&self, out: &mut Vec<u8>) -> Result<(), Refusal> {
-        let over = out.len() % 8;
-        if over != 0 {
-            out.extend_from_slice([0; 8].split_at(8 - over).0)?;
-        }
-        Ok(())
-    }
-
     /// Writes the section headers.
-    fn add_headers(&self, names: u64, out: &mut Vec<u8>) -> Result<(), Refusal> {
+    fn add_headers(&self, names: u64, out: &mut Vec<u8>) -> Result<(), NotConverted> {
         let mut next = Next {
             content: self.bytes.len() as u64,
             name: self.names_size(),
@@ -188,13 +164,20 @@ impl<'a> Change<'a> {
         Ok(())
     }
 
-    /// Writes the file.
-    pub fn write(&self, out: &mut Vec<u8>) -> Result<(), Refusal> {
+    /// Writes the file. Its section headers begin at a multiple of 8.
+    pub fn write(&self, out: &mut Vec<u8>) -> Result<(), NotConverted> {
         out.extend_from_slice(self.bytes)?;
-        self.add_contents(out)?;
+        for content in self.expected.contents.iter() {
+            if let Some(plain) = content {
+                out.extend_from_slice(plain.as_slice())?;
+            }
+        }
         let names = out.len() as u64;
         self.add_names(out)?;
-        self.add_zeros(out)?;
+        let over = out.len() % 8;
+        if over != 0 {
+            out.extend_from_slice([0; 8].split_at(8 - over).0)?;
+        }
         let headers = out.len() as u64;
         self.add_headers(names, out)?;
         self.manner.set_table(headers, out)

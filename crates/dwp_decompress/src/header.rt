@@ -3,7 +3,7 @@
 ghost use Rattle.std.specs.Prelude.{◌≡◌, ◌*◌, ◌+◌, length, IfSome};
 ghost use Rattle.dwp_elf_read.specs.Layout.{word_size};
 
-use crate::error::Refusal;
+use crate::error::NotConverted;
 use crate::stream::{word_at, word_size_of};
 use dwp_base::{Class, Endianness};
 
@@ -45,11 +45,11 @@ impl Manner {
     }
 
     /// Writes an address, an offset or a size.
-    fn add_word(self, x: u64, out: &mut Vec<u8>) -> Result<(), Refusal> {
+    fn add_word(self, x: u64, out: &mut Vec<u8>) -> Result<(), NotConverted> {
         match self.class {
             Class::Elf32 => {
                 let Ok(x) = u32::try_from(x) else {
-                    return Err(Refusal::TooLarge);
+                    return Err(NotConverted::TooLarge);
                 };
                 out.extend_from_slice(&self.order.bytes_of_u32(x))?;
             }
@@ -59,7 +59,12 @@ impl Manner {
     }
 
     /// Writes a header; what doesn't change is that of the bytes.
-    pub fn add_header(self, header: &Header, raw: &[u8], out: &mut Vec<u8>) -> Result<(), Refusal>
+    pub fn add_header(
+        self,
+        header: &Header,
+        raw: &[u8],
+        out: &mut Vec<u8>,
+    ) -> Result<(), NotConverted>
         requires { length raw.now ≡ 16 + 6 * word_size self.class }
     {
         let word = word_size_of(self.class);
@@ -75,21 +80,16 @@ impl Manner {
         Ok(())
     }
 
-    /// Where the section headers begin, if the file's header is whole.
-    fn table(self, bytes: &[u8]) -> Option<u64> {
-        let place = 24 + 2 * word_size_of(self.class);
-        if bytes.len() < place + 8 {
-            return None;
-        }
-        Some(word_at(self.class, self.order, bytes, place))
-    }
-
     /// The bytes of the i-th section header, if they lie in the file.
     pub fn raw_header(self, bytes: &[u8], i: usize) -> Option<&[u8]>
         ensures { IfSome result (λ raw. length raw.now ≡ 16 + 6 * word_size self.class) }
     {
-        let table = self.table(bytes)?;
-        let size = 16 + 6 * word_size_of(self.class);
+        let word = word_size_of(self.class);
+        if bytes.len() < 32 + 2 * word {
+            return None;
+        }
+        let table = word_at(self.class, self.order, bytes, 24 + 2 * word);
+        let size = 16 + 6 * word;
         let place = table.checked_add((i as u64).checked_mul(size as u64)?)?;
         let end = bytes.len() as u64;
         if end < place || end - place < size as u64 {
@@ -108,15 +108,15 @@ impl Manner {
     }
 
     /// Has the file's header say where the section headers begin.
-    pub fn set_table(self, table: u64, out: &mut [u8]) -> Result<(), Refusal> {
+    pub fn set_table(self, table: u64, out: &mut [u8]) -> Result<(), NotConverted> {
         let place = 24 + 2 * word_size_of(self.class);
         if out.len() < place + 8 {
-            return Err(Refusal::TooLarge);
+            return Err(NotConverted::TooLarge);
         }
         match self.class {
             Class::Elf32 => {
                 let Ok(table) = u32::try_from(table) else {
-                    return Err(Refusal::TooLarge);
+                    return Err(NotConverted::TooLarge);
                 };
                 out[place..place + 4].copy_from_slice(&self.order.bytes_of_u32(table));
             }

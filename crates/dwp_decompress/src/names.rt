@@ -3,7 +3,7 @@
 ghost use Rattle.std.specs.Prelude.{◌≡◌, ◌++◌, Some, drop, slice_get, IfSome, IfOk, OnOk};
 ghost use Rattle.dwp_elf_read.specs.View as view;
 ghost use Rattle.dwp_elf_read.specs.View.{elf};
-ghost use Rattle.dwp_decompress.specs.Names.{added_name, added_name_of, added_names, link_of};
+ghost use Rattle.dwp_decompress.specs.Names.{added_name, added_name_of, added_names};
 ghost use Rattle.dwp_decompress.specs.Names.{names_number};
 
 use crate::asked::Asked;
@@ -11,16 +11,6 @@ use crate::compressed::{is_compressed, is_older};
 use crate::stream::word_size_of;
 use dwp_elf_read::{ElfFile, Section};
 use std::alloc::{AllocError, Global};
-
-/// The number of the section that section 0 names in place of the file's header.
-fn first_link(file: &ElfFile<'_>) -> usize
-    ensures { result ≡ link_of (slice_get (elf file.now).sections 0) }
-{
-    match file.section(0) {
-        Some(section) => section.link() as usize,
-        None => 0,
-    }
-}
 
 /// The number of the section that has the names.
 #[tactic(auto, unfolding(crate::specs::Names::names_number))]
@@ -32,10 +22,12 @@ pub fn names_number(bytes: &[u8], file: &ElfFile<'_>) -> Option<usize>
         return None;
     }
     let stored = file.endianness().read_u16(bytes.split_at(place).1);
-    if stored == 0xffff {
-        Some(first_link(file))
-    } else {
-        Some(usize::from(stored))
+    if stored != 0xffff {
+        return Some(usize::from(stored));
+    }
+    match file.section(0) {
+        Some(section) => Some(section.link() as usize),
+        None => Some(0),
     }
 }
 

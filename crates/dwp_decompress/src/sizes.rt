@@ -1,10 +1,9 @@
 //! How many bytes a file has once its sections are plain, and its compressed sections before.
 
-ghost use Rattle.std.specs.Prelude.{◌≡◌, ◌+◌, ◌*◌, ℕ, Ok, Err, false, length, slice_get, nat_lt};
+ghost use Rattle.std.specs.Prelude.{◌≡◌, ◌+◌, ℕ, Ok, Err, false, length, slice_get, nat_lt};
 ghost use Rattle.std.specs.Prelude.{IfSome, IfOk, IfErr, IsTrue};
 ghost use Rattle.dwp_base.specs.Reading.{Answers};
 ghost use Rattle.dwp_elf_read.specs.Elf.{elf_of};
-ghost use Rattle.dwp_elf_read.specs.Layout.{entry_size};
 ghost use Rattle.dwp_elf_read.specs.View as view;
 ghost use Rattle.dwp_elf_read.specs.View.{elf};
 ghost use Rattle.dwp_decompress.specs.Answers.{GivesFile};
@@ -13,7 +12,7 @@ ghost use Rattle.dwp_decompress.specs.Headers.{told_size, told_sizes};
 ghost use Rattle.dwp_decompress.specs.Names.{added_name_of, added_names, names_number};
 ghost use Rattle.dwp_decompress.specs.Result.{plain_length_of};
 ghost use Rattle.dwp_decompress.specs.declared.error.DecompressError.TheVariants.{Unrepresentable};
-ghost use Rattle.dwp_decompress.specs.Sizes.{size_of, names_size, rounded, length_with, length_of};
+ghost use Rattle.dwp_decompress.specs.Sizes.{size_of, names_size, length_with, length_of};
 ghost use Rattle.dwp_decompress.specs.Sizes.{compressed_size, size_in, overlaps, tells_more};
 ghost use Rattle.dwp_decompress.specs.Sizes.{sum_tells_more, tells_too_much};
 
@@ -157,30 +156,6 @@ fn names_size(table: u64, added: u64) -> Option<u64>
     table.checked_add(added)
 }
 
-/// The next multiple of 8.
-fn rounded(n: u64) -> Option<u64>
-    ensures { IfSome result (λ size. size ≡ rounded n) }
-{
-    Some(n.checked_add(7)? / 8 * 8)
-}
-
-/// How many bytes are behind one another, the last of them at a multiple of 8.
-fn behind(file: u64, plain: u64, names: u64, headers: u64) -> Option<u64>
-    ensures { IfSome result (λ size. size ≡ rounded (file + plain + names) + headers) }
-{
-    let end = file.checked_add(plain)?.checked_add(names)?;
-    rounded(end)?.checked_add(headers)
-}
-
-/// How many bytes the section headers have.
-fn headers_size(file: &ElfFile<'_>) -> Option<u64>
-    ensures { IfSome result (λ size. size
-        ≡ length (elf file.now).sections * entry_size (elf file.now).class) }
-{
-    let size = 16 + 6 * word_size_of(file.class()) as u64;
-    (file.section_count() as u64).checked_mul(size)
-}
-
 /// Whether the plain contents are said to have more bytes than zlib could write of as many bytes as
 /// the file has, or its compressed sections.
 #[tactic(auto, unfolding(crate::specs::Sizes::tells_more), using(crate::proofs::Sums::more_told, crate::proofs::Sums::few_told))]
@@ -209,8 +184,14 @@ fn length_with(asked: Asked, bytes: &[u8], file: &ElfFile<'_>, told: u64) -> Opt
         return None;
     }
     let names = names_size(table, added_sizes(asked, file)?)?;
-    let headers = headers_size(file)?;
-    behind(bytes.len() as u64, told, names, headers)
+    let end = (bytes.len() as u64)
+        .checked_add(told)?
+        .checked_add(names)?
+        .checked_add(7)?
+        / 8
+        * 8;
+    let header = 16 + 6 * word_size_of(file.class()) as u64;
+    end.checked_add((file.section_count() as u64).checked_mul(header)?)
 }
 
 /// How many bytes a file has once its compressed sections are plain.

@@ -4,7 +4,7 @@ ghost use Rattle.std.specs.Prelude.{◌≡◌, ◌+◌, ◌≤◌, length};
 ghost use Rattle.dwp_base.specs.Reading.{Answers};
 ghost use Rattle.dwp_elf_read.specs.Layout.{word_size, number_at};
 ghost use Rattle.dwp_elf_read.specs.View as view;
-ghost use Rattle.dwp_decompress.specs.Headers.{packed, kind_of, headed, older, packed_in};
+ghost use Rattle.dwp_decompress.specs.Headers.{packed, headed, older, packed_in};
 ghost use Rattle.dwp_decompress.specs.Headers.{told_by};
 
 use crate::error::DecompressError;
@@ -24,7 +24,7 @@ pub enum Kind {
 
 /// A stream of a kind, and the size of what it writes.
 #[derive(Clone, Copy)]
-pub struct Packed<'a> {
+pub struct CompressedStream<'a> {
     pub kind: Kind,
     pub size: u64,
     pub bytes: &'a [u8],
@@ -52,36 +52,32 @@ pub fn word_at(class: Class, order: Endianness, bytes: &[u8], place: usize) -> u
     }
 }
 
-/// The kind of a type.
-#[tactic(auto, unfolding(crate::specs::Headers::kind_of))]
-fn kind_of(number: u32) -> Result<Kind, DecompressError>
-    ensures { Answers (λ kind. kind) result (kind_of number) }
-{
-    match number {
-        1 => Ok(Kind::Zlib),
-        2 => Ok(Kind::Zstd),
-        _ => Err(DecompressError::UnknownType(number)),
-    }
-}
-
 /// The stream behind a header of three words.
-#[tactic(auto, unfolding(crate::specs::Headers::headed))]
-fn headed(class: Class, order: Endianness, content: &[u8]) -> Result<Packed<'_>, DecompressError>
+#[tactic(auto, unfolding(crate::specs::Headers::headed, crate::specs::Headers::kind_of))]
+fn headed(
+    class: Class,
+    order: Endianness,
+    content: &[u8],
+) -> Result<CompressedStream<'_>, DecompressError>
     ensures { Answers packed result (headed class order content.now) }
 {
     let word = word_size_of(class);
     if content.len() < 3 * word {
         return Err(DecompressError::Header);
     }
-    let kind = kind_of(order.read_u32(content.split_at(0).1))?;
+    let kind = match order.read_u32(content.split_at(0).1) {
+        1 => Kind::Zlib,
+        2 => Kind::Zstd,
+        number => return Err(DecompressError::UnknownType(number)),
+    };
     let size = word_at(class, order, content, word);
     let bytes = content.split_at(3 * word).1;
-    Ok(Packed { kind, size, bytes })
+    Ok(CompressedStream { kind, size, bytes })
 }
 
 /// The stream behind the older header.
 #[tactic(auto, unfolding(crate::specs::Headers::older))]
-fn older(content: &[u8]) -> Result<Packed<'_>, DecompressError>
+fn older(content: &[u8]) -> Result<CompressedStream<'_>, DecompressError>
     ensures { Answers packed result (older content.now) }
 {
     if content.len() < 12 {
@@ -90,7 +86,7 @@ fn older(content: &[u8]) -> Result<Packed<'_>, DecompressError>
     if content.starts_with(b"ZLIB") {
         let size = Endianness::Big.read_u64(content.split_at(4).1);
         let bytes = content.split_at(12).1;
-        return Ok(Packed {
+        return Ok(CompressedStream {
             kind: Kind::Zlib,
             size,
             bytes,
@@ -106,7 +102,7 @@ pub fn packed_in<'a>(
     order: Endianness,
     section: &Section<'_>,
     content: &'a [u8],
-) -> Result<Packed<'a>, DecompressError>
+) -> Result<CompressedStream<'a>, DecompressError>
     ensures { Answers packed result
         (packed_in class order (view.section section.now) content.now) }
 {
@@ -117,7 +113,7 @@ pub fn packed_in<'a>(
     }
 }
 
-impl Packed<'_> {
+impl CompressedStream<'_> {
     /// How many bytes the stream is said to write.
     ///
     /// # Errors

@@ -8,5 +8,6 @@ pub use Rattle.std.proofs.lemmas.Bool.{cases_lt}
 pub use Rattle.std.proofs.lemmas.Grind.{common_steps}
 pub use Rattle.std.proofs.lemmas.List.{drop_all, get_or_read}
 pub use Rattle.std.proofs.lemmas.Nat.{mod_below, pow_below}
-pub use Rattle.dwp_zstd.specs.Bits.{Bits, above_bytes, before_bytes, number_of}
-unfoldable pub use Rattle.dwp_zstd.specs.Bits.{after, left, low_at, below, unread, high_at, peeked}
+pub use Rattle.dwp_zstd.specs.Bits.{Bits, above_bytes, number_of}
+unfoldable pub use Rattle.dwp_zstd.specs.Bits.{after, bits_of, left, low_at, below, unread}
+unfoldable pub use Rattle.dwp_zstd.specs.Bits.{high_at, peeked}
