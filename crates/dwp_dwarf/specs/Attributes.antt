@@ -1,5 +1,5 @@
 -- What the readers of attributes show.
-use Rattle.std.specs.Prelude.{ℕ, List, [], Option, Some, None, Result, Ok, Err, if◌then◌else◌}
+use Rattle.std.specs.Prelude.{List, [], Option, Some, None, Result, Ok, Err, if◌then◌else◌}
 use Rattle.dwp_bytes.specs.Input.{Input}
 use Rattle.dwp_bytes.specs.declared.error.ReadError.{ReadError}
 use Rattle.dwp_dwarf.specs.Abbreviations.{pairs_in}

@@ -3,6 +3,7 @@
 ghost use Rattle.std.specs.Prelude.{◌≡◌, ℕ, Ok, Some, IfOk};
 ghost use Rattle.dwp_base.specs.Reading.{Answers, Reads};
 ghost use Rattle.dwp_bytes.specs.Input.{Input};
+ghost use Rattle.dwp_bytes.specs.Leb.{uleb_at};
 ghost use Rattle.dwp_dwarf.specs.Abbreviations.{constant_at, specification_at, past_specifications};
 ghost use Rattle.dwp_dwarf.specs.Abbreviations.{tag_at, children_at, declaration_at};
 ghost use Rattle.dwp_dwarf.specs.Abbreviations.{declaration, is_last, Declaration};
@@ -40,6 +41,21 @@ pub struct Abbreviations<R> {
 /// The fewest bytes of an attribute and its form.
 pub(crate) const SPECIFICATION_SIZE: usize = 2;
 
+/// A number of variable length. Most have one byte, which is looked at first.
+#[inline(always)]
+fn read_number<R: Reader>(reader: &mut R) -> Result<u64, ReadError>
+    ensures { Reads (λ x. x) result (R.input reader.old) (R.input reader.new) uleb_at }
+{
+    let bytes = reader.to_slice();
+    if bytes.is_empty() || bytes[0] >= 0x80 {
+        return reader.read_uleb128();
+    }
+    match reader.read_u8() {
+        Ok(byte) => Ok(u64::from(byte)),
+        Err(error) => Err(error),
+    }
+}
+
 #[tactic(auto, unfolding(crate::specs::Abbreviations::constant_at))]
 fn skip_constant<R: Reader>(reader: &mut R, form: u64) -> Result<(), ReadError>
     ensures { Reads (λ x. x) result (R.input reader.old) (R.input reader.new) (constant_at form) }
@@ -51,6 +67,7 @@ fn skip_constant<R: Reader>(reader: &mut R, form: u64) -> Result<(), ReadError>
 }
 
 /// The next attribute and its form.
+#[inline(always)]
 #[tactic(auto, unfolding(crate::specs::Abbreviations::specification_at))]
 pub(crate) fn read_specification<R: Reader>(
     reader: &mut R,
@@ -59,8 +76,8 @@ pub(crate) fn read_specification<R: Reader>(
         specification_at }
 {
     let mut at = *reader;
-    let name = at.read_uleb128()?;
-    let form = at.read_uleb128()?;
+    let name = read_number(&mut at)?;
+    let form = read_number(&mut at)?;
     skip_constant(&mut at, form)?;
     *reader = at;
     Ok(AttributeSpecification { name, form })
@@ -83,7 +100,7 @@ fn read_tag<R: Reader>(reader: &mut R) -> Result<u64, ReadError>
     ensures { Reads (λ x. x) result (R.input reader.old) (R.input reader.new) tag_at }
 {
     let mut at = *reader;
-    let tag = at.read_uleb128()?;
+    let tag = read_number(&mut at)?;
     if tag == 0 {
         return Err(ReadError::ZeroTag);
     }

@@ -71,40 +71,41 @@ module _ (bytes : List ℕ) (at n : ℕ) (few : n ≤ 64) (room : at + n ≤ len
       let found = first_set eqb next (replicate n 0) same_long (omega (arith, long)) k in
       grind (arith, nat_tests, lane, long, found)
 
--- 32 bytes from one place on, and as many from another
-module _ (bytes other : List ℕ) (at to : ℕ) (room : at + 32 ≤ length bytes)
-    (room' : to + 32 ≤ length other) (k : ℕ) (within : k < 32) where
+-- so many bytes from one place on, and from another
+module _ (n : ℕ) (few : n ≤ 64) (bytes other : List ℕ) (at to : ℕ) (room : at + n ≤ length bytes)
+    (room' : to + n ≤ length other) (k : ℕ) (within : k < n) where
   abbrev l : List ℕ
-  l = take 32 (drop at bytes)
+  l = take n (drop at bytes)
 
   abbrev m : List ℕ
-  m = take 32 (drop to other)
+  m = take n (drop to other)
 
-  long_l : length l ≡ 32
-  long_l = length-chunk at 32 bytes room
+  long_l : length l ≡ n
+  long_l = length-chunk at n bytes room
 
-  long_m : length m ≡ 32
-  long_m = length-chunk to 32 other room'
+  long_m : length m ≡ n
+  long_m = length-chunk to n other room'
 
   -- none of those is zero of which no lesser one is
   pub both_some : mask_of eqb (sel_l (map (top 7) (zip2 (λ a b. cond (ltb a b) 255 0) l m)) l m)
-      (replicate 32 0) ≡ 0 → (get_or bytes (at + k) 0 ≢ 0) × (get_or other (to + k) 0 ≢ 0)
+      (replicate n 0) ≡ 0 → (get_or bytes (at + k) 0 ≢ 0) × (get_or other (to + k) 0 ≢ 0)
   both_some is =
       let less : List Bool = zip2 ltb l m in
       let least : List ℕ = sel_l less l m in
-      let long_less : length less ≡ 32 = length-zip2 ltb l m (long_l ∙ sym long_m) ∙ long_l in
-      let long_least : length least ≡ 32 = length-sel_l less l m (long_less ∙ sym long_l)
+      let long_less : length less ≡ n = length-zip2 ltb l m (long_l ∙ sym long_m) ∙ long_l in
+      let long_least : length least ≡ n = length-sel_l less l m (long_less ∙ sym long_l)
       (long_less ∙ sym long_m) ∙ long_less in
-      let none : mask_of eqb least (replicate 32 0) ≡ 0 =
-      ap (λ ls. mask_of eqb (sel_l ls l m) (replicate 32 0)) {x = less}
+      let none : mask_of eqb least (replicate n 0) ≡ 0 =
+      ap (λ ls. mask_of eqb (sel_l ls l m) (replicate n 0)) {x = less}
       (sym (tops_compared w8 ltb l m)) ∙ is in
-      let some = eqb-false _ _ (clear eqb least (replicate 32 0) long_least (omega arith) k
-      (omega arith) (rw none (omega (arith, trailing_of_zero 64)))) in
+      let some = eqb-false _ _ (clear eqb least (replicate n 0)
+      (long_least ∙ sym (length-replicate n 0)) (omega (arith, long_least, few)) k
+      (omega (arith, long_least, within)) (rw none (omega (arith, trailing_of_zero 64)))) in
       let selected = get_or-sel_l less l m k 0 in
       let compared = get_or-zip2 ltb l m k 0 0 false in
-      let zero = get_or-replicate {A = ℕ} 32 k 0 0 within in
-      let first = get_or-chunk at 32 bytes k 0 within in
-      let second = get_or-chunk to 32 other k 0 within in
+      let zero = get_or-replicate {A = ℕ} n k 0 0 within in
+      let first = get_or-chunk at n bytes k 0 within in
+      let second = get_or-chunk to n other k 0 within in
       grind (arith, nat_tests, some, selected, compared, zero, first, second, long_l, long_m)
 
   -- those before the first that differ
@@ -112,9 +113,9 @@ module _ (bytes other : List ℕ) (at to : ℕ) (room : at + 32 ≤ length bytes
       → get_or bytes (at + k) 0 ≡ get_or other (to + k) 0
   lanes_same_before less =
       let same = clear (λ a b. not (eqb a b)) l m (omega (arith, long_l, long_m))
-      (omega (arith, long_l)) k (omega (arith, long_l)) less in
-      let first = get_or-chunk at 32 bytes k 0 within in
-      let second = get_or-chunk to 32 other k 0 within in
+      (omega (arith, long_l, few)) k (omega (arith, long_l, within)) less in
+      let first = get_or-chunk at n bytes k 0 within in
+      let second = get_or-chunk to n other k 0 within in
       grind (arith, nat_tests, first, second, same)
 
   -- all of them where none do

@@ -1,14 +1,30 @@
 -- Places of strings by their hashes. A slot keeps a hash, which tells where its search begins.
 use Rattle.std.specs.Prelude.{◌≡◌, ◌≢◌, ◌≤◌, ℕ, zero, suc, ◌+◌, ◌-◌, ◌*◌, ◌/◌, ◌%◌, ◌^◌, ◌<◌, ◌==◌}
 use Rattle.std.specs.Prelude.{◌⊎◌, if◌then◌else◌, Bool, true, List, Option, None, Some, length, map}
-use Rattle.std.specs.Prelude.{slice_index, slice_index_or, Contains}
-use Rattle.std.specs.Hash.FoldHasher.{initial, write, finish}
+use Rattle.std.specs.Prelude.{slice_index, slice_index_or, Contains, nat_le, bit_xor}
+use Rattle.std.specs.Hash.FoldHasher.{initial, write, finish, mix, folded_multiply, read_u64}
 use Rattle.dwp_strings.specs.declared.places.Slot.{Slot}
 use Rattle.dwp_strings.specs.Strings.{strings_in, offsets_from}
 
--- std's hash of a string, 64 bits, and the lower half of it, by which a place is kept
+-- a state after a block of sixteen bytes: as std's, but that nothing changes the second word, which
+-- isn't 0 in a string
+abbrev pub after_block : List ℕ → ℕ → ℕ → ℕ
+after_block s state at =
+    folded_multiply (bit_xor (read_u64 s at) state) (read_u64 s (at + 8))
+
+-- after so many first ones
+unfoldable pub after_blocks : List ℕ → ℕ → ℕ → ℕ
+after_blocks s state zero = state
+after_blocks s state (suc n) = after_block s (after_blocks s state n) (16 * n)
+
+-- the hash of a string, 64 bits: of at most eight bytes std's, of more also by blocks, and the last
+-- one as std's; and the lower half of it, by which a place is kept
 unfoldable pub wide : List ℕ → ℕ
-wide s = finish (write initial s)
+wide s =
+    if nat_le (length s) 8
+    then finish (write initial s)
+    else mix s (after_blocks s ((initial.state + length s) % 2 ^ 64) ((length s - 1) / 16))
+    (length s - 16) (length s - 8)
 
 abbrev pub hash : List ℕ → ℕ
 hash s = wide s % 2 ^ 32

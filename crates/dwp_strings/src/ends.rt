@@ -14,6 +14,9 @@ const LANES: usize = 64;
 /// Half of that.
 const HALF: usize = 32;
 
+/// Twice that.
+const BOTH: usize = 128;
+
 /// How many steps of 64 bytes are looked at before `memchr` is called on all bytes: it takes larger
 /// ones.
 pub const ROUNDS: usize = 4;
@@ -80,6 +83,19 @@ fn are_some(bytes: &[u8], at: usize, other: usize) -> bool
     first.simd_min(second).simd_eq(u8x32::splat(0)).to_bitmask() == 0
 }
 
+/// The same of 64.
+#[inline(always)]
+fn are_many_some(bytes: &[u8], at: usize, other: usize) -> bool
+    requires first { at + 64 ≤ length bytes.now }
+    requires second { other + 64 ≤ length bytes.now }
+    ensures first { IsTrue result → (k : ℕ) → k < 64 → slice_index bytes.now (at + k) ≢ 0 }
+    ensures second { IsTrue result → (k : ℕ) → k < 64 → slice_index bytes.now (other + k) ≢ 0 }
+{
+    let first = u8x64::from_slice(&bytes[at..]);
+    let second = u8x64::from_slice(&bytes[other..]);
+    first.simd_min(second).simd_eq(u8x64::splat(0)).to_bitmask() == 0
+}
+
 /// Whether none of the first `count` bytes, fewer than 32, is zero.
 #[inline(always)]
 fn begins_some(bytes: &[u8], count: usize) -> bool
@@ -106,14 +122,17 @@ pub(crate) fn ends_at(bytes: &[u8], end: usize) -> bool
     if end <= LANES {
         return are_some(bytes, 0, end - HALF);
     }
-    let last = end - LANES;
+    if end <= BOTH {
+        return are_many_some(bytes, 0, end - LANES);
+    }
+    let last = end - BOTH;
     let mut at = 0;
     while at < last {
-        if !are_some(bytes, at, at + HALF) {
+        if !are_many_some(bytes, at, at + LANES) {
             return false;
         }
-        at += LANES;
+        at += BOTH;
     }
     // (the last ones are looked at again where fewer are left)
-    are_some(bytes, last, last + HALF)
+    are_many_some(bytes, last, last + LANES)
 }

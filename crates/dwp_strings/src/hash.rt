@@ -1,15 +1,15 @@
-//! The hash of a string: the lower half of the one of `FoldHasher`, made of 32 bytes a step.
+//! The hash of a string, made of 32 bytes a step: nearly that of std's `FoldHasher`.
 
 ghost use Rattle.std.specs.Prelude.{◌≡◌, ◌<◌, ◌≤◌, ◌+◌, length};
 ghost use Rattle.std.specs.Hash.FoldHasher.{folded_multiply as folded, read_u32, read_u64, mix};
-ghost use Rattle.dwp_strings.specs.Places.{hash as hash_of, wide};
+ghost use Rattle.dwp_strings.specs.Places.{hash as hash_of, wide, after_block};
 
 use std::hash::{FoldHasher, Hasher};
 
 /// What the hasher begins with.
 const START: u64 = 0x243f_6a88_85a3_08d3;
 
-/// What every second word is changed by.
+/// What the last word is changed by.
 const MULTIPLIER: u64 = 0x9e37_79b9_7f4a_7c15;
 
 /// The two halves of a product, joined.
@@ -40,9 +40,19 @@ fn word_at(bytes: &[u8], at: usize) -> u64
     half_at(rest, 0) | half_at(rest, 4) << 32
 }
 
-/// The state after the words at two places.
+/// The state after a block of sixteen bytes. (Its second word isn't 0, since no byte is: so it
+/// needn't be changed first.)
 #[inline(always)]
-fn mixed(bytes: &[u8], state: u64, at: usize, other: usize) -> u64
+fn mixed(bytes: &[u8], state: u64, at: usize) -> u64
+    requires { at + 16 ≤ length bytes.now }
+    ensures { result ≡ after_block bytes.now state at }
+{
+    folded_multiply(word_at(bytes, at) ^ state, word_at(bytes, at + 8))
+}
+
+/// The state after the last words, at two places.
+#[inline(always)]
+fn mixed_last(bytes: &[u8], state: u64, at: usize, other: usize) -> u64
     requires first { at + 8 ≤ length bytes.now }
     requires second { other + 8 ≤ length bytes.now }
     ensures { result ≡ mix bytes.now state at other }
@@ -64,15 +74,15 @@ fn long_hash(bytes: &[u8]) -> u64
     let last = len - 32;
     let mut at = 0;
     while at < last {
-        state = mixed(bytes, state, at, at + 8);
-        state = mixed(bytes, state, at + 16, at + 24);
+        state = mixed(bytes, state, at);
+        state = mixed(bytes, state, at + 16);
         at += 32;
     }
     if len - at > 16 {
-        let next = mixed(bytes, state, at, at + 8);
-        return mixed(bytes, next, len - 16, len - 8);
+        let next = mixed(bytes, state, at);
+        return mixed_last(bytes, next, len - 16, len - 8);
     }
-    mixed(bytes, state, len - 16, len - 8)
+    mixed_last(bytes, state, len - 16, len - 8)
 }
 
 /// The whole hash of a string.
@@ -86,11 +96,11 @@ fn wide_hash(string: &[u8]) -> u64
     }
     let state = START.wrapping_add(len as u64);
     if len > 16 {
-        let next = mixed(string, state, 0, 8);
-        return mixed(string, next, len - 16, len - 8);
+        let next = mixed(string, state, 0);
+        return mixed_last(string, next, len - 16, len - 8);
     }
     if len > 8 {
-        return mixed(string, state, 0, len - 8);
+        return mixed_last(string, state, 0, len - 8);
     }
     let mut hasher = FoldHasher::default();
     hasher.write(string);

@@ -14,7 +14,10 @@ const PROBES: usize = 128;
 const FIRST_SIZE: u32 = 1024;
 
 /// At how many then.
-const SOME: u32 = 3 << 14;
+const FEW: u32 = 1 << 14;
+
+/// And then.
+const SOME: u32 = 3 << 15;
 
 /// And then; three times as many after that, and from there on twice as many.
 const MANY: u32 = 1 << 18;
@@ -172,6 +175,8 @@ fn put_over(slots: &mut [Slot], size: u32, hash: u32, behind: u32)
 fn more_than(size: u32) -> u32 {
     if size == 0 {
         FIRST_SIZE
+    } else if size < FEW {
+        FEW
     } else if size < SOME {
         SOME
     } else if size < MANY {

@@ -13,9 +13,8 @@ loop-at-preserved c =
     record {
       whole = omega (arith, c.loop-at.invariant.whole);
       within = omega arith;
-      so_far = mixed_more bytes _ (at + 16) _ _ _ (omega (arith, c.loop-at.invariant.whole))
-          (omega arith) (omega arith)
-          (mixed_more bytes _ at _ _ _ c.loop-at.invariant.whole (omega arith) (omega arith)
+      so_far = mixed_more bytes _ (at + 16) _ _ (omega (arith, c.loop-at.invariant.whole))
+          (omega arith) (mixed_more bytes _ at _ _ c.loop-at.invariant.whole (omega arith)
           c.loop-at.invariant.so_far c.mixed-state.ensures) c.mixed-state-in-loop-at.ensures;
     }
 
@@ -23,13 +22,13 @@ pub returns-then-len-at-gt16 : goal.returns-then-len-at-gt16
 returns-then-len-at-gt16 c =
     let bytes = c.args.bytes.now in
     let at = c.loop-at.at in
-    c.mixed.ensures ∙ mixed_all bytes _ (at + 16) _ (omega arith)
+    c.mixed_last.ensures ∙ mixed_all bytes _ (at + 16) _ (omega arith)
     (omega (arith, c.loop-at.invariant.whole)) (omega arith) (omega arith) (omega arith)
-    (mixed_more bytes _ at _ _ _ c.loop-at.invariant.whole (omega arith) (omega arith)
+    (mixed_more bytes _ at _ _ c.loop-at.invariant.whole (omega arith)
     c.loop-at.invariant.so_far c.mixed-next.ensures)
 
 pub returns : goal.returns
 returns c =
-    c.mixed-2.ensures ∙ mixed_all c.args.bytes.now _ c.loop-at.at _ (omega arith)
+    c.mixed_last-2.ensures ∙ mixed_all c.args.bytes.now _ c.loop-at.at _ (omega arith)
     c.loop-at.invariant.whole c.loop-at.invariant.within (omega arith)
     (omega arith) c.loop-at.invariant.so_far

@@ -5,14 +5,14 @@ use Rattle.dwp_strings.proofs.hash.wide_hash.Goals as goal
 pub returns-then-len-gt16 : goal.returns-then-len-gt16
 returns-then-len-gt16 c =
     let bytes = c.args.string.now in
-    c.mixed.ensures ∙ mixed_all bytes _ 16 _ (omega arith) refl (omega arith) (omega arith)
-    (omega arith) (mixed_more bytes _ 0 _ _ _ refl refl refl (mixed_first bytes _ refl)
+    c.mixed_last.ensures ∙ mixed_all bytes _ 16 _ (omega arith) refl (omega arith) (omega arith)
+    (omega arith) (mixed_more bytes _ 0 _ _ refl refl (mixed_first bytes _ refl)
     c.mixed-next.ensures)
 
 pub returns-then-len-gt8 : goal.returns-then-len-gt8
 returns-then-len-gt8 c =
     let bytes = c.args.string.now in
-    c.mixed-then-len-gt8.ensures ∙ mixed_all bytes _ 0 _ (omega arith) refl (omega arith)
+    c.mixed_last-then-len-gt8.ensures ∙ mixed_all bytes _ 0 _ (omega arith) refl (omega arith)
     (omega arith) (omega arith) (mixed_first bytes _ refl)
 
 pub returns : goal.returns
