@@ -46,7 +46,7 @@ struct Access {
 
 /// What stands at OUT.
 #[derive(Clone, Copy)]
-enum Place {
+enum Standing {
     /// Nothing.
     Free,
     /// A regular file that may be written.
@@ -66,10 +66,10 @@ enum Place {
 /// `Output` where OUT can't be written, `Memory`.
 pub fn write<C: Contents>(rt: &HostRuntime, contents: &C, output: &str) -> Result<(), WriteError> {
     let is_done = match place_of(rt, output)? {
-        Place::Free => is_replaced(rt, contents, output, None)?,
-        Place::File(access) => is_replaced(rt, contents, output, Some(access))?,
-        Place::Link(access) => is_target_replaced(rt, contents, output, access)?,
-        Place::Other => false,
+        Standing::Free => is_replaced(rt, contents, output, None)?,
+        Standing::File(access) => is_replaced(rt, contents, output, Some(access))?,
+        Standing::Link(access) => is_target_replaced(rt, contents, output, access)?,
+        Standing::Other => false,
     };
     if is_done {
         Ok(())
@@ -79,20 +79,20 @@ pub fn write<C: Contents>(rt: &HostRuntime, contents: &C, output: &str) -> Resul
 }
 
 /// What stands at OUT; a regular file there, or behind a link, must be one that may be written.
-fn place_of(rt: &HostRuntime, output: &str) -> Result<Place, WriteError> {
+fn place_of(rt: &HostRuntime, output: &str) -> Result<Standing, WriteError> {
     let Ok(metadata) = fs::symlink_metadata(rt, output) else {
-        return Ok(Place::Free);
+        return Ok(Standing::Free);
     };
     if metadata.is_file() {
         let access = access_to(rt, output, &metadata)?;
-        return Ok(Place::File(access));
+        return Ok(Standing::File(access));
     }
     match fs::metadata(rt, output) {
         Ok(target) if metadata.is_symlink() && target.is_file() => {
             let access = access_to(rt, output, &target)?;
-            Ok(Place::Link(access))
+            Ok(Standing::Link(access))
         }
-        _ => Ok(Place::Other),
+        _ => Ok(Standing::Other),
     }
 }
 

@@ -114,19 +114,19 @@ unit_section kinds.Types = Some places.Types
 unit_section _ = None
 
 -- which sections of units came before
-pub record Met : Type 0 where
+pub record SeenSections : Type 0 where
   pub info : Bool
   pub types : Bool
 
 -- none did
-abbrev pub none_met : Met
+abbrev pub none_met : SeenSections
 none_met = record { info = false; types = false }
 
-abbrev pub is_met : UnitSection → Met → Bool
+abbrev pub is_met : UnitSection → SeenSections → Bool
 is_met places.Info met = met.info
 is_met places.Types met = met.types
 
-abbrev pub with_met : UnitSection → Met → Met
+abbrev pub with_met : UnitSection → SeenSections → SeenSections
 with_met places.Info met = record met { info = true }
 with_met places.Types met = record met { types = true }
 
@@ -136,13 +136,13 @@ second_section places.Info = MultipleDebugInfoSection
 second_section places.Types = MultipleDebugTypesSection
 
 -- a package has one section of units of each kind
-unfoldable pub once_test : Adding → UnitSection → Met → Result (Unit {0}) ErrorValue
+unfoldable pub once_test : Adding → UnitSection → SeenSections → Result (Unit {0}) ErrorValue
 once_test adding place met = if is_package adding.source.indexes && is_met place met
     then Err (second_section place) else Ok tt
 
 -- the units of a section of units
-unfoldable pub with_section_at : Adding → Used → UnitSection → Met × New
-    → Result (Met × New) ErrorValue
+unfoldable pub with_section_at : Adding → Used → UnitSection → SeenSections × New
+    → Result (SeenSections × New) ErrorValue
 with_section_at adding from place before = do
   _ ← once_test adding place before.0
   new ← with_each_read adding from before.1
@@ -150,16 +150,18 @@ with_section_at adding from place before = do
   Ok (with_met place before.0, new)
 
 -- the units of a section; those of other kinds have none
-abbrev pub with_section_in : Adding → Used → Option UnitSection → Met × New
-    → Result (Met × New) ErrorValue
+abbrev pub with_section_in : Adding → Used → Option UnitSection → SeenSections × New
+    → Result (SeenSections × New) ErrorValue
 with_section_in adding from None before = Ok before
 with_section_in adding from (Some place) before = with_section_at adding from place before
 
-unfoldable pub with_section : Adding → Met × New → Used → Result (Met × New) ErrorValue
+unfoldable pub with_section : Adding → SeenSections × New → Used
+    → Result (SeenSections × New) ErrorValue
 with_section adding before from = with_section_in adding from (unit_section from.kind) before
 
 -- those of each of these sections, in file order
-unfoldable pub with_each_section : Adding → Met × New → List Used → Result (Met × New) ErrorValue
+unfoldable pub with_each_section : Adding → SeenSections × New → List Used
+    → Result (SeenSections × New) ErrorValue
 with_each_section adding before [] = Ok before
 with_each_section adding before (from ∷ others) = do
   next ← with_section adding before from

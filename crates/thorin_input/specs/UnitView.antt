@@ -4,7 +4,7 @@ use Rattle.dwp_base.specs.declared.section.SectionKind.{SectionKind}
 use Rattle.thorin_input.specs.declared.new_units.NewUnit.{NewUnit}
 use Rattle.thorin_input.specs.declared.new_units.NewUnits.{NewUnits}
 use Rattle.thorin_input.specs.declared.units.Adding.{Adding}
-use Rattle.thorin_input.specs.declared.units.Met.{Met}
+use Rattle.thorin_input.specs.declared.units.SeenSections.{SeenSections}
 use Rattle.dwp_bytes.specs.Input.{Input}
 use Rattle.dwp_bytes.specs.declared.slice.SliceReader.{SliceReader}
 use Rattle.thorin_input.specs.Held.{held_units}
@@ -42,7 +42,7 @@ adding_of a = record {
   held = held_in a.held;
 }
 
-abbrev pub met_of : Met → spec.Met
+abbrev pub met_of : SeenSections → spec.SeenSections
 met_of m = record { info = m.info; types = m.types }
 
 -- the rows by place are those of both indexes of a source, in its section of a kind

@@ -37,7 +37,7 @@ pub struct Adding<'i, 'a, 'p> {
 
 /// Which sections of units came before, and what was read of abbreviations.
 #[derive(Drop)]
-struct Met<'a> {
+struct SeenSections<'a> {
     info: bool,
     types: bool,
     tables: Tables<'a>,
@@ -67,7 +67,11 @@ fn unit_section(kind: SectionKind) -> Option<UnitSection>
 /// `MultipleDebugInfoSection` or `MultipleDebugTypesSection` where a package has a second section
 /// of info or of types.
 #[tactic(auto, unfolding(crate::specs::NewUnits::once_test))]
-fn test_once(adding: &Adding<'_, '_, '_>, place: UnitSection, met: &Met<'_>) -> Result<(), Error>
+fn test_once(
+    adding: &Adding<'_, '_, '_>,
+    place: UnitSection,
+    met: &SeenSections<'_>,
+) -> Result<(), Error>
     ensures { Gives (λ _. tt) result
         (spec.once_test (adding_of adding.now) place (met_of met.now)) }
 {
@@ -126,7 +130,7 @@ impl<'a> NewUnits<'a> {
             differing: Vec::new(alloc),
             alike: true,
         };
-        let mut met = Met {
+        let mut met = SeenSections {
             info: false,
             types: false,
             tables: Tables::new(alloc, &adding.source.object),
@@ -143,7 +147,7 @@ impl<'a> NewUnits<'a> {
         &mut self,
         alloc: Global,
         adding: &Adding<'_, 'a, '_>,
-        met: &mut Met<'a>,
+        met: &mut SeenSections<'a>,
         section: UsedSection<'a>,
     ) -> Result<(), Error>
         requires tables { met.old.tables ≡ tables_in (view.source adding.now.source.now).object }
@@ -166,7 +170,7 @@ impl<'a> NewUnits<'a> {
         &mut self,
         alloc: Global,
         adding: &Adding<'_, 'a, '_>,
-        met: &mut Met<'a>,
+        met: &mut SeenSections<'a>,
         section: UsedSection<'a>,
         place: UnitSection,
     ) -> Result<(), Error>

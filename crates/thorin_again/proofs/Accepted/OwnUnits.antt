@@ -24,7 +24,7 @@ use Rattle.thorin_input.specs.Rows.{adjusted_contribution, unit_contribution, un
 use Rattle.thorin_again.proofs.Offsets.RewrittenAgain.{at-row, by-passing, used-chosen}
 use Rattle.thorin_again.proofs.Opened.Sections.{and-then, answered, behind, Fares, front}
 use Rattle.thorin_again.proofs.Opened.Sections.{rest-differ, section_of, then-fares, Unless}
-use Rattle.thorin_input.specs.NewUnits.{is_met, kept_bytes, Met, none_met, once_test}
+use Rattle.thorin_input.specs.NewUnits.{is_met, kept_bytes, SeenSections, none_met, once_test}
 use Rattle.thorin_input.specs.NewUnits.{with_each_read, with_each_section, with_met, with_read}
 use Rattle.thorin_input.specs.NewUnits.{with_section, with_section_at, with_section_in, with_unit}
 use Rattle.thorin_again.proofs.Meant.RowByRow.{IsUnitOf, of-section, place-eq, place-is, read-alone}
@@ -145,10 +145,10 @@ rows-differ rows apart i j a b at there differ =
 -- ---- section by section: no section of units comes twice
 
 -- the sections of units that are still to come weren't met
-abbrev Unmet : Met → Contents → Type 0
+abbrev Unmet : SeenSections → Contents → Type 0
 Unmet met cs = (place : UnitSection) → 0 < count_of (kind_of place) cs → is_met place met ≡ false
 
-met-with : (place other : UnitSection) (met : Met)
+met-with : (place other : UnitSection) (met : SeenSections)
     → is_met other (with_met place met) ≡ (same_place place other || is_met other met)
 met-with place other met = grind arith
 
@@ -179,12 +179,13 @@ module _ (Fresh : Type 0) (E : ErrorValue → Type 0)
       × (next.units ≡ new.units ++ (name, unit) ∷ [])
 
   -- and the names of rows in sections that weren't met are free
-  abbrev Open : Met → New → Type 0
+  abbrev Open : SeenSections → New → Type 0
   Open met new = Fresh → (n : ℕ) (row : IndexEntry) → slice_get made.rows n ≡ Some row
       → is_met (place_of row.id row.debug_types) met ≡ false → Free row.id new
 
   -- ---- one section
-  module _ (met : Met) (place : UnitSection) (from : Used) (from_is : from.kind ≡ kind_of place)
+  module _ (met : SeenSections) (place : UnitSection) (from : Used)
+      (from_is : from.kind ≡ kind_of place)
       (address : eqb from.address 0 ≡ true)
       (bytes : from.bytes ≡ content_of (kind_of place) file.contents)
       (unmet : is_met place met ≡ false) where
@@ -258,7 +259,7 @@ module _ (Fresh : Type 0) (E : ErrorValue → Type 0)
 
   each-taken : (cs : Contents) → KindsDiffer cs → ((kind : SectionKind)
       → 0 < length (content_of kind cs) → content_of kind file.contents ≡ content_of kind cs)
-      → (met : Met) (new : New) → Unmet met cs → Open met new
+      → (met : SeenSections) (new : New) → Unmet met cs → Open met new
       → Unless E (with_each_section add (met, new) (written_used cs))
   unfolding with_each_section with_section with_section_at once_test
   each-taken [] differ held met new unmet so = tt
@@ -271,7 +272,7 @@ module _ (Fresh : Type 0) (E : ErrorValue → Type 0)
       later))
     where
       by : (place : Option UnitSection) → unit_section c.0 ≡ place → 0 < length c.1
-          → ((m : Met) (n : New) → Unmet m cs → Open m n
+          → ((m : SeenSections) (n : New) → Unmet m cs → Open m n
           → Unless E (with_each_section add (m, n) (written_used cs)))
           → Unless E (with_section_in add (section_of c) place (met, new) >>= λ next.
           with_each_section add next (written_used cs))

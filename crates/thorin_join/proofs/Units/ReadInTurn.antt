@@ -3,7 +3,8 @@ use Rattle.thorin_join.proofs.Terms
 use Terms.{◌++◌, [], Adding, arith, as_error, bind-was, DwarfObject, ErrorValue, kept_bytes, List}
 use Terms.{name_for, New, new_units, Ok, Option, ParseUnitHeader, refl, Result, same-ok}
 use Terms.{source_units, unit_section, UnitRead, UnitSection, Used, with_unit, ◌∷◌, ◌≡◌}
-use Rattle.thorin_input.specs.NewUnits.{Met, with_read, with_each_read, none_met, with_section_at}
+use Rattle.thorin_input.specs.NewUnits.{SeenSections, with_read, with_each_read, none_met}
+use Rattle.thorin_input.specs.NewUnits.{with_section_at}
 use Rattle.thorin_input.specs.NewUnits.{with_section_in, with_section, with_each_section}
 use Rattle.thorin_join.specs.Meaning.{named_unit, named_each, named_at, named_sections}
 use Rattle.thorin_join.proofs.Units.HeadersRead.{Listed, Reads}
@@ -49,13 +50,13 @@ module _ (adding : Adding) where
         steps = (here.0, record { from = from; kind = refl; is = name.2 }, others.steps);
       }
 
-  section-read : (from : Used) (place : Option UnitSection) (before after : Met × New)
+  section-read : (from : Used) (place : Option UnitSection) (before after : SeenSections × New)
       → with_section_in adding from place before ≡ Ok after
       → AreRead before.1 after.1 (named_at adding.source from place)
   unfolding with_section_at
   section-read from place before after h = grind (arith, each-read from before.1)
 
-  sections-read : (before after : Met × New) (sections : List Used)
+  sections-read : (before after : SeenSections × New) (sections : List Used)
       → with_each_section adding before sections ≡ Ok after
       → AreRead before.1 after.1 (named_sections adding.source sections)
   unfolding with_section with_each_section named_sections

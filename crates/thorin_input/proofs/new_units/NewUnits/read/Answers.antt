@@ -4,7 +4,7 @@ use Rattle.std.proofs.lemmas.List.{drop_more}
 use Rattle.std.proofs.lemmas.Result.{err_from_is_err_and}
 use Rattle.dwp_base.proofs.Steps.{bind-err}
 use Rattle.thorin_errors.specs.Errors.{ErrorValue}
-use Rattle.thorin_input.specs.NewUnits.{Met, New, new_units, none_met, with_each_section}
+use Rattle.thorin_input.specs.NewUnits.{SeenSections, New, new_units, none_met, with_each_section}
 use Rattle.thorin_input.specs.NewUnits.{with_section}
 use Rattle.thorin_input.specs.View.{used}
 use Rattle.thorin_input.specs.declared.object.UsedSection.{UsedSection}
@@ -16,7 +16,8 @@ use Rattle.std.proofs.lemmas.Grind.{common_steps}
 
 -- the first error of a section is that of all
 stopped : (adding : Adding) (sections : List UsedSection) (i : ℕ) (d : UsedSection)
-    (before : Met × New) (error : ErrorValue) → sections ≡ adding.source.now.object.sections.items
+    (before : SeenSections × New) (error : ErrorValue)
+    → sections ≡ adding.source.now.object.sections.items
     → i < length sections → with_each_section (adding_of adding) before
     (map used (drop i adding.source.now.object.sections.items))
     ≡ with_each_section (adding_of adding) (none_met, record { units = []; differing = [] })
