@@ -3,13 +3,15 @@ use Rattle.std.proofs.Common.{◌≡◌, ℕ, Bool, List, [], ◌∷◌, inl, su
 use Rattle.std.specs.Prelude.{Ok, Option}
 use Rattle.clap.specs.Walk.{Text}
 use Rattle.thorin_words.specs.Responses.{Stands}
+use Rattle.thorin_words.specs.declared.responses.ResponseError.{ResponseError}
 use Rattle.thorin_arguments.specs.Asked.{Call, IsCallOf, IsStatusOf}
 use Rattle.thorin_arguments.specs.Peers.{is_peer}
 use Rattle.thorin_cli.specs.Doing.{DoesCall, Runs, State, System}
 use Rattle.thorin_cli.specs.declared.manner.Manner.{Manner}
 
 module _ {F O E : Type 0} (system : System F O E) (text : Text → Option Text → Type 0)
-    (on_terminal : Bool) (program : Text) (line own words : List Text) (whole : Text × List Text)
+    (fails : Text → ResponseError → Type 0) (on_terminal : Bool) (program : Text)
+    (line own words : List Text) (whole : Text × List Text)
     (old new : State F O E) (status : ℕ) (manner : Manner) (files : F) (out : O) (err : E)
     (Files Out Error : Type 0) where
   -- one call was made, and the files and streams that it left are those that are there now
@@ -18,10 +20,10 @@ module _ {F O E : Type 0} (system : System F O E) (text : Text → Option Text �
       → ((call : Call) × IsCallOf words call × IsStatusOf call status
       × ((Files × Out × Error) × DoesCall system manner old call status new))
       → (Files → files ≡ new.files) → (Out → out ≡ new.out) → (Error → err ≡ new.err)
-      → Runs system text on_terminal whole old status
+      → Runs system text fails on_terminal whole old status
       (record { files = files; out = out; err = err })
   ran named is stands manner_is (call, asks, has, ((f, o, e), does)) left_files left_out left_err =
-      subst (λ line. Runs system text on_terminal line old status
+      subst (λ line. Runs system text fails on_terminal line old status
       (record { files = files; out = out; err = err })) named (inl (
         own,
         stands,

@@ -1,17 +1,21 @@
 -- What standard error got stays there when notes follow.
-use Rattle.std.proofs.Common.{◌≡◌, ◌⊎◌, ℕ, List, inl, inr, rules}
-use Rattle.std.specs.Prelude.{Err, IfErr, Ok, Result, Some}
+use Rattle.std.proofs.Common.{◌≡◌, ◌⊎◌, ℕ, List, codes, inl, inr, refl, rules}
+use Rattle.std.specs.Prelude.{Err, IfErr, Ok, Option, Result, Some}
 use Rattle.std.specs.Io.KnownBytes.{Appends}
 use Rattle.thorin_print.specs.Answers.{Grows}
 use Rattle.thorin_print.specs.Failures.{Reports, error_line, failure_text}
 use Rattle.thorin_print.specs.declared.output.Failure.{Failure}
 use Rattle.thorin_print.specs.declared.output.Failure.TheVariants as failures
 use Rattle.thorin_commands.proofs.Lines.{followed, printed}
-use Rattle.thorin_commands.specs.Cause.{Cause, Told, text_of}
+use Rattle.thorin_commands.specs.Cause.{Cause, HasLine, Told, text_of}
 use Rattle.thorin_commands.specs.Failing.{FailsPacking, IsWhy}
 use Rattle.thorin_commands.specs.Packing.{declines, reads}
 use Rattle.thorin_commands.specs.declared.packing.Packing.{Packing}
+use Rattle.thorin_words.specs.Responses.{CannotBeTold}
+use Rattle.thorin_words.specs.declared.responses.ResponseError.{ResponseError}
+use Rattle.thorin_words.specs.declared.responses.ResponseError.TheVariants as errors
 use Rattle.thorin_cli.specs.Doing.{DoesPacking, HasStatus, HasTold, State, System}
+use Rattle.thorin_cli.specs.Telling.{no_memory, response_text}
 
 -- why packing failed, where it is more often known that a line wasn't taken
 more : (known : _) (packing : Packing) (unsplit unwritten cut untold untold' : Type 0)
@@ -26,6 +30,14 @@ more known packing unsplit unwritten cut untold untold' f failures.Input why = w
 more known packing unsplit unwritten cut untold untold' f failures.Output why = why
 more known packing unsplit unwritten cut untold untold' f failures.Memory why = why
 more known packing unsplit unwritten cut untold untold' f _ why = absurd why
+
+-- what is said of a file that can't be read
+pub unreadable : (e : ResponseError) → (e ≡ errors.Unreadable)
+    ⊎ ((e ≡ errors.TooMany) ⊎ (e ≡ errors.NotUtf8))
+    → response_text e ≡ codes "Failed to read response file"
+unreadable e (inl is) = rw is refl
+unreadable e (inr (inl is)) = rw is refl
+unreadable e (inr (inr is)) = rw is refl
 
 module _ {F O E : Type 0} (system : System F O E) (files : F) (out : O) (old new : E) where
   abbrev before : State F O E
@@ -43,17 +55,29 @@ module _ {F O E : Type 0} (system : System F O E) (files : F) (out : O) (old new
   reported failure status (inr (is, untold)) = inr (is, inl untold)
 
   -- an error whose line was printed, unless that couldn't be, and notes behind it
-  pub tried : (middle : E) → (((text : List ℕ)
-      × Appends (system.told old) (system.told middle) (error_line text)) ⊎ system.untold middle)
-      → Grows (system.told middle) (system.told new)
-      → (system.untold middle → system.untold new) → HasTold system after
-  tried middle (inl (text, line)) grows stays =
-      inl (
-        text,
-        followed system.told middle new (Some text)
-            (printed system.told old middle text line) grows,
-      )
-  tried middle (inr untold) grows stays = inr (stays untold)
+  module _ (middle : E) (grows : Grows (system.told middle) (system.told new))
+      (stays : system.untold middle → system.untold new) where
+    abbrev Tried : (text : List ℕ) → Type 0
+    Tried text =
+        Appends (system.told old) (system.told middle) (error_line text) ⊎ system.untold middle
+
+    tried : (text : List ℕ) → Tried text → HasLine system.told new text ⊎ system.untold new
+    tried text (inl line) = inl (followed system.told middle new (Some text)
+        (printed system.told old middle text line) grows)
+    tried text (inr untold) = inr (stays untold)
+
+    -- words can't be told, or memory ran out while that was said
+    pub unread : (text : List ℕ → Option (List ℕ) → Type 0)
+        (fails : List ℕ → ResponseError → Type 0) (words line : List (List ℕ)) (e : ResponseError)
+        → CannotBeTold text fails words e → words ≡ line
+        → Tried (response_text e) ⊎ Tried no_memory → HasTold system text fails line after
+    unread text fails words line e is same (inl told) = record {
+      cause = e;
+      is = rw (← same) is;
+      line = tried (response_text e) told;
+    }
+    unread text fails words line e is same (inr told) =
+        record { cause = errors.Memory; is = tt; line = tried no_memory told }
 
   why_too : (system.untold old → system.untold new) → (packing : Packing) (start : State F O E)
       (answer : Result ℕ Failure)

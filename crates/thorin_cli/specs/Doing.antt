@@ -13,7 +13,8 @@ use Rattle.thorin_find.specs.Finding.{Finds}
 use Rattle.thorin_find.specs.Listing.{Lists}
 use Rattle.thorin_check.specs.Checking.{Checks}
 use Rattle.thorin_reading.specs.Taken.{Takes}
-use Rattle.thorin_words.specs.Responses.{Stands}
+use Rattle.thorin_words.specs.Responses.{CannotBeTold, Stands}
+use Rattle.thorin_words.specs.declared.responses.ResponseError.{ResponseError}
 use Rattle.thorin_output.specs.Files.{Begins, Begun, Put}
 use Rattle.thorin_output.specs.Reads.{Identity}
 use Rattle.thorin_commands.specs.Cause.{HasLine, IsCauseFor, Told}
@@ -28,6 +29,7 @@ use Rattle.thorin_arguments.specs.Asked as calls
 use Rattle.thorin_arguments.specs.Asked.{Call, Does, IsCallOf}
 use Rattle.thorin_arguments.specs.Peers.{is_peer}
 use Rattle.thorin_cli.specs.Settings.{list_form, packing_for, reading_for, words_for}
+use Rattle.thorin_cli.specs.Telling.{response_text}
 use Rattle.thorin_cli.specs.declared.manner.Manner.{Manner}
 
 -- what is known of a system: what a read of a file that is packed may answer, by what it may be
@@ -164,18 +166,21 @@ abbrev pub line_of : List Text → Text × List Text
 line_of [] = (codes "thorin", [])
 line_of (program ∷ line) = named program line
 
--- an error was told, or that couldn't be done
-abbrev pub HasTold : {F O E : Type 0} → System F O E → (new : State F O E) → Type 0
-HasTold system new = ((text : List ℕ) × HasLine system.told new.err text) ⊎ system.untold new.err
+-- words can't be told, and the error of such a cause was, unless that couldn't be done
+pub record HasTold {F O E : Type 0} (system : System F O E) (text : Text → Option Text → Type 0)
+    (fails : Text → ResponseError → Type 0) (words : List Text) (new : State F O E) : Type 0 where
+  pub cause : ResponseError
+  pub is : CannotBeTold text fails words cause
+  pub line : HasLine system.told new.err (response_text cause) ⊎ system.untold new.err
 
 -- the words of response files, which `text` says, stand in the place of their names, and then one
--- call was made that the words ask for; or these can't be told, an error says so, and nothing was
--- touched
+-- call was made that the words ask for; or these can't be told, as `fails` says by which error a
+-- file can't be read, an error says why, and nothing was touched
 abbrev pub Runs : {F O E : Type 0} → System F O E → (text : Text → Option Text → Type 0)
-    → (on_terminal : Bool) → (line : Text × List Text) → (old : State F O E) → (status : ℕ)
-    → (new : State F O E) → Type 0
-Runs system text on_terminal line old status new =
+    → (fails : Text → ResponseError → Type 0) → (on_terminal : Bool) → (line : Text × List Text)
+    → (old : State F O E) → (status : ℕ) → (new : State F O E) → Type 0
+Runs system text fails on_terminal line old status new =
     ((own : List Text) × Stands text [] line.1 (Ok own)
     × Does (DoesCall system (record { of_peer = is_peer line.0; on_terminal = on_terminal }))
     (IsCallOf (line.0 ∷ own)) old status new)
-    ⊎ ((status ≡ 1) × Untouched old new × HasTold system new)
+    ⊎ ((status ≡ 1) × Untouched old new × HasTold system text fails line.1 new)

@@ -1,9 +1,11 @@
 -- What the program holds of a system.
-use Rattle.std.specs.Prelude.{◌≡◌, ℕ, List, Option, IsSome, true}
+use Rattle.std.specs.Prelude.{◌≡◌, ℕ, List, Option, IsSome}
 use Rattle.thorin_output.specs.Files.{Begun}
 use Rattle.thorin_output.specs.Reads.{Identity}
 use Rattle.thorin_commands.specs.Taken.{Offer}
+use Rattle.thorin_print.specs.Watching.{LacksLine}
 use Rattle.thorin_print.specs.declared.line_output.WatchedLines.{WatchedLines}
+use Rattle.thorin_terminal.specs.Watching.{failure_of}
 use Rattle.thorin_terminal.specs.declared.pipes.Watched.{Watched}
 use Rattle.thorin_cli.specs.Doing.{State, System}
 use Rattle.thorin_cli.specs.declared.program.Program.{Program}
@@ -17,9 +19,9 @@ system offer known begun contents told read = record {
   known = known;
   begun = begun;
   contents = λ watched. contents watched.out;
-  failed = λ watched. IsSome watched.failure;
+  failed = λ watched. IsSome (failure_of watched);
   told = λ watched. told watched.writer;
-  untold = λ watched. watched.has_failed ≡ true;
+  untold = λ watched. LacksLine watched;
   read = read;
 }
 

@@ -1,12 +1,16 @@
 //! The program `thorin`, as a function over its words and two writers.
 #![tactic(auto)]
 
-ghost use Rattle.std.specs.Prelude.{◌≡◌, ◌⊎◌, map, IsSome, true};
+ghost use Rattle.std.specs.Prelude.{◌≡◌, map, IfOk, IsSome, string_bytes};
 ghost use Rattle.std.specs.IoError.{error_kind};
 ghost use Rattle.std.specs.declared.io.ErrorKind.TheVariants.{OutOfMemory};
 ghost use Rattle.thorin_print.specs.Answers.{Grows};
+ghost use Rattle.thorin_print.specs.Watching.{LacksLine};
+ghost use Rattle.thorin_print.specs.declared.output.Failure.TheVariants as failures;
+ghost use Rattle.thorin_terminal.specs.Watching.{failure_of};
 ghost use Rattle.thorin_cli.specs.Doing.{Runs, is_name_of_peer, line_of};
-ghost use Rattle.thorin_cli.specs.Telling.{HasTried};
+ghost use Rattle.thorin_cli.specs.Telling.{HasTried, HasTriedOr, inside_text, no_memory};
+ghost use Rattle.thorin_cli.specs.Telling.{ReportsFirst, response_text};
 
 mod manner;
 mod notes;
@@ -15,7 +19,7 @@ mod settings;
 mod system;
 
 pub use crate::manner::{Facts, Manner};
-use crate::notes::{note_not_text, note_unread};
+use crate::notes::{note_not_text, note_unread, put_note};
 use crate::program::Program;
 pub use crate::system::{NotedReader, Readers};
 use std::alloc::{AllocError, Global};
@@ -24,7 +28,7 @@ use std::io::{self, Write};
 use thorin_arguments::is_peer;
 pub use thorin_find::HostReader;
 pub use thorin_print::{Failure, WatchedLines};
-use thorin_print::{Form, print, put_spelled};
+use thorin_print::{Form, put_spelled};
 pub use thorin_terminal::{Console, CountedFiles, HostResponses, Lines, Watched};
 use thorin_terminal::{NotedFiles, NotedResponses};
 use thorin_words::{ResponseError, expanded, printed};
@@ -49,13 +53,14 @@ pub fn run<F: NotedFiles, R: NotedReader, P: NotedResponses, S: AsStr, O: Write,
       known = F.known;
       begun = F.begun;
       contents = λ out. O.contents out.out;
-      failed = λ out. IsSome out.failure;
+      failed = λ out. IsSome (failure_of out);
       told = λ err. E.contents err.writer;
-      untold = λ err. err.has_failed ≡ true;
+      untold = λ err. LacksLine err;
       read = R.offer readers.entry.files.now;
-    }) (P.offer readers.entry.responses.now) facts.entry.on_terminal
-        (line_of (map S.text words.now)) (record { files = files.old; out = out.old; err = err.old })
-        result (record { files = files.new; out = out.new; err = err.new }) }
+    }) (P.offer readers.entry.responses.now) (P.fails readers.entry.responses.now)
+        facts.entry.on_terminal (line_of (map S.text words.now))
+        (record { files = files.old; out = out.old; err = err.old }) result
+        (record { files = files.new; out = out.new; err = err.new }) }
 {
     let (program, line) = named_program(words);
     match expanded(alloc, readers.responses, program, line) {
@@ -110,7 +115,8 @@ fn is_peer_name(word: &str) -> bool
 /// Prints why the words of a command line can't be told, and answers the status.
 fn refuse_response<E: Write>(alloc: Global, err: &mut WatchedLines<E>, error: &ResponseError) -> u8
     ensures status { result ≡ 1 }
-    ensures told { HasTried (E.contents err.old.writer) err.new (E.contents err.new.writer) }
+    ensures told { HasTriedOr no_memory (E.contents err.old.writer) err.new
+        (E.contents err.new.writer) (response_text error.now) }
 {
     match error {
         ResponseError::Inside(name) => refuse_file(alloc, err, name.as_str(), "itself"),
@@ -163,7 +169,8 @@ fn note_bad_text<P: NotedResponses, E: Write>(
 /// Prints that a response file is inside others, and answers the status.
 fn refuse_file<E: Write>(alloc: Global, err: &mut WatchedLines<E>, name: &str, others: &str) -> u8
     ensures status { result ≡ 1 }
-    ensures told { HasTried (E.contents err.old.writer) err.new (E.contents err.new.writer) }
+    ensures told { HasTriedOr no_memory (E.contents err.old.writer) err.new
+        (E.contents err.new.writer) (inside_text name.now others.now) }
 {
     match inside(alloc, name, others) {
         Ok(text) => tell(err, text.as_str()),
@@ -172,7 +179,9 @@ fn refuse_file<E: Write>(alloc: Global, err: &mut WatchedLines<E>, name: &str, o
 }
 
 /// What is said of a response file that is inside others.
-fn inside(alloc: Global, name: &str, others: &str) -> Result<String, AllocError> {
+fn inside(alloc: Global, name: &str, others: &str) -> Result<String, AllocError>
+    ensures { IfOk result (λ text. string_bytes text ≡ inside_text name.now others.now) }
+{
     let name = printed(alloc, name)?;
     format!(in alloc; "Response file {name} is inside {others}")
 }
@@ -180,7 +189,8 @@ fn inside(alloc: Global, name: &str, others: &str) -> Result<String, AllocError>
 /// Prints an error of a text, and answers the status.
 fn tell<E: Write>(err: &mut WatchedLines<E>, text: &str) -> u8
     ensures status { result ≡ 1 }
-    ensures told { HasTried (E.contents err.old.writer) err.new (E.contents err.new.writer) }
+    ensures told { HasTried (E.contents err.old.writer) err.new (E.contents err.new.writer)
+        text.now }
 {
     let _told = err.tell(&text);
     1
@@ -194,19 +204,29 @@ pub fn refuse_words<E: Write>(
     cause: &io::Error,
     word: &[u8],
 ) -> u8
-    ensures status { (result ≡ 1) ⊎ (result ≡ 2) }
-    ensures memory { error_kind cause.now ≡ OutOfMemory → result ≡ 1 }
-    ensures failed { ¬ (error_kind cause.now ≡ OutOfMemory) → result ≡ 1
-        → err.new.has_failed ≡ true }
+    ensures memory { error_kind cause.now ≡ OutOfMemory
+        → ReportsFirst failures.Memory (E.contents err.old.writer) (E.contents err.new.writer)
+        (LacksLine err.new) result }
+    ensures words { ¬ (error_kind cause.now ≡ OutOfMemory)
+        → ReportsFirst failures.BadCommand (E.contents err.old.writer) (E.contents err.new.writer)
+        (LacksLine err.new) result }
 {
     if cause.kind() == io::ErrorKind::OutOfMemory {
         return err.report(&Failure::Memory);
     }
     let status = err.report(&Failure::BadCommand);
-    if let Ok(note) = word_note(alloc, word) {
-        let _ = print(note.as_str(), &mut err.writer);
-    }
+    note_word(alloc, word, &mut err.writer);
     status
+}
+
+/// Prints the note on a word that isn't UTF-8.
+#[tactic(auto, using(thorin_print::proofs::Printed::none_grown))]
+fn note_word<E: Write>(alloc: Global, word: &[u8], err: &mut E)
+    ensures { Grows (E.contents err.old) (E.contents err.new) }
+{
+    if let Ok(note) = word_note(alloc, word) {
+        put_note(note.as_str(), err);
+    }
 }
 
 /// The note on a word that isn't UTF-8.

@@ -1,6 +1,7 @@
 //! The commands, over the files of a system, its clock, and two writers.
 
-ghost use Rattle.std.specs.Prelude.{◌≡◌, Err, true};
+ghost use Rattle.std.specs.Prelude.{◌≡◌, Err};
+ghost use Rattle.thorin_print.specs.Watching.{LacksLine};
 ghost use Rattle.thorin_check.specs.Checking.{Checks};
 ghost use Rattle.thorin_reading.specs.Taken.{Takes};
 ghost use Rattle.thorin_cli.specs.Doing.{Answers, DoesCall, DoesPacking, HasStatus, ListsMissing};
@@ -61,9 +62,9 @@ impl<F: NotedFiles, R: NotedReader, O: Write, E: Write> Program<'_, '_, '_, F, R
             (R.offer self.old.reader.now)) (state_of self.new) (Err failure.now) result }
         ensures kept { (self.new.files ≡ self.old.files) × (self.new.out ≡ self.old.out) }
         ensures place { self.new.err.ghost_name ≡ self.old.err.ghost_name }
-        ensures once { self.old.err.now.has_failed ≡ true → self.new.err.now.has_failed ≡ true }
+        ensures once { LacksLine self.old.err.now → LacksLine self.new.err.now }
     {
-        match self.out.failure {
+        match self.out.failure() {
             Some(cause) if matches!(failure, Failure::Line) => {
                 if cause.kind() == io::ErrorKind::BrokenPipe {
                     return 1;

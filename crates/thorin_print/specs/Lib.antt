@@ -4,3 +4,4 @@ pub mod Lines
 pub mod Shown
 pub mod Spelled
 pub mod Told
+pub mod Watching

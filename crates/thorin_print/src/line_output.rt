@@ -1,11 +1,12 @@
 //! What the lines of a command are printed to, and whether that failed.
 
-ghost use Rattle.std.specs.Prelude.{◌≡◌, ℕ, List, Option, IfErr, IfSome, IsTrue, OnOk, true, false};
+ghost use Rattle.std.specs.Prelude.{◌≡◌, ℕ, List, Option, IfErr, IfSome, IsTrue, OnOk, false};
 ghost use Rattle.std.specs.Prelude.{⊤};
 ghost use Rattle.std.specs.Io.KnownBytes.{Appends};
 ghost use Rattle.std.specs.Io.KnownBytes.{Keeps};
 ghost use Rattle.thorin_print.specs.Answers.{FailsBy, Prints};
 ghost use Rattle.thorin_print.specs.Failures.{Reports, error_line};
+ghost use Rattle.thorin_print.specs.Watching.{LacksLine};
 
 use crate::output::{Failure, flush, print};
 use std::fmt;
@@ -59,13 +60,13 @@ pub struct WatchedLines<W> {
     /// The writer.
     pub writer: W,
     /// Whether that failed.
-    pub has_failed: bool,
+    has_failed: bool,
 }
 
 impl<W: Write> LineOutput for WatchedLines<W> {
     ghost contents = { λ w. W.contents w.writer };
 
-    ghost failed = { λ w. w.has_failed ≡ true };
+    ghost failed = { λ w. LacksLine w };
 
     fn print_text(&mut self, text: &str) -> Result<(), Failure> {
         let printed = print(text, &mut self.writer);
@@ -87,7 +88,8 @@ impl<W: Write> LineOutput for WatchedLines<W> {
 impl<W: Write> WatchedLines<W> {
     /// A writer to which nothing was printed yet.
     pub fn new(writer: W) -> WatchedLines<W>
-        ensures { result.writer ≡ writer }
+        ensures writer { result.writer ≡ writer }
+        ensures whole { ¬ (LacksLine result) }
     {
         WatchedLines {
             writer,
@@ -99,8 +101,8 @@ impl<W: Write> WatchedLines<W> {
     pub fn show<D: fmt::Display>(&mut self, text: &D) -> bool
         ensures shown { IsTrue result → IfSome (D.output text.now)
             (Appends (W.contents self.old.writer) (W.contents self.new.writer)) }
-        ensures failed { result ≡ false → self.new.has_failed ≡ true }
-        ensures once { self.old.has_failed ≡ true → self.new.has_failed ≡ true }
+        ensures failed { result ≡ false → LacksLine self.new }
+        ensures once { LacksLine self.old → LacksLine self.new }
     {
         if write!(self.writer, "{text}").is_ok() {
             return true;
@@ -113,8 +115,8 @@ impl<W: Write> WatchedLines<W> {
     pub fn tell<D: fmt::Display>(&mut self, error: &D) -> bool
         ensures told { IsTrue result → IfSome (D.output error.now) (λ text.
             Appends (W.contents self.old.writer) (W.contents self.new.writer) (error_line text)) }
-        ensures failed { result ≡ false → self.new.has_failed ≡ true }
-        ensures once { self.old.has_failed ≡ true → self.new.has_failed ≡ true }
+        ensures failed { result ≡ false → LacksLine self.new }
+        ensures once { LacksLine self.old → LacksLine self.new }
     {
         if writeln!(self.writer, "error: {error}").is_ok() {
             return true;
@@ -126,8 +128,8 @@ impl<W: Write> WatchedLines<W> {
     /// Tells a failure, and answers its status; 1 where it can't be printed.
     pub fn report(&mut self, failure: &Failure) -> u8
         ensures reports { Reports failure.now (W.contents self.old.writer)
-            (W.contents self.new.writer) (self.new.has_failed ≡ true) result }
-        ensures once { self.old.has_failed ≡ true → self.new.has_failed ≡ true }
+            (W.contents self.new.writer) (LacksLine self.new) result }
+        ensures once { LacksLine self.old → LacksLine self.new }
     {
         if self.tell(failure) {
             failure.status()

@@ -1,6 +1,7 @@
 //! Standard output, of which is kept why it took nothing.
 
-ghost use Rattle.std.specs.Prelude.{◌≡◌};
+ghost use Rattle.std.specs.Prelude.{◌≡◌, None};
+ghost use Rattle.thorin_terminal.specs.Watching.{failure_of};
 
 use std::io::{self, Write};
 
@@ -10,15 +11,24 @@ pub struct Watched<O> {
     /// The writer.
     pub out: O,
     /// Why the last write that failed did, if one did.
-    pub failure: Option<io::Error>,
+    failure: Option<io::Error>,
 }
 
 impl<O: Write> Watched<O> {
     /// A writer that took nothing yet.
     pub fn new(out: O) -> Watched<O>
-        ensures { result.out ≡ out }
+        ensures out { result.out ≡ out }
+        ensures whole { failure_of result ≡ None }
     {
         Watched { out, failure: None }
+    }
+
+    /// Why the last write that failed did, if one did.
+    pub fn failure(&self) -> Option<io::Error>
+        ensures { result ≡ failure_of self.now }
+    {
+        let Watched { failure, .. } = self;
+        *failure
     }
 }
 

@@ -1,7 +1,6 @@
 //! Response files of the system.
 
-ghost use Rattle.std.specs.Prelude.{◌≡◌, None};
-ghost use Rattle.thorin_words.specs.Responses.{refusal_of};
+ghost use Rattle.thorin_words.specs.Responses.{IsOfReading};
 
 use std::cell::Cell;
 use std::{io, str};
@@ -41,6 +40,8 @@ impl<'r> HostResponses<'r> {
 impl ResponseFiles for HostResponses<'_> {
     ghost offer = { λ _ _ _. Unit {0} };
 
+    ghost fails = { λ _ _ _. Unit {0} };
+
     fn text(&self, name: &str, most: u32) -> Result<Option<Vec<u8>>, ResponseError> {
         let rt = self.rt;
         if !thorin_files::is_there(rt, name) {
@@ -77,7 +78,7 @@ impl NotedResponses for HostResponses<'_> {
 
 /// What a failed read of a file is.
 fn read_error(e: &io::Error) -> ResponseError
-    ensures { refusal_of result ≡ None }
+    ensures { IsOfReading result }
 {
     if e.kind() == io::ErrorKind::OutOfMemory {
         ResponseError::Memory

@@ -1,3 +1,4 @@
+pub mod Bare
 pub mod Naming
 pub mod Numerals
 pub mod Splitting

@@ -1,15 +1,19 @@
 -- What words stand for, while they are read one after another.
-use Rattle.std.proofs.Common.{◌≡◌, ℕ, List, [], ◌∷◌, ◌++◌, map, length, take, Option, Some, Ok, Err}
-use Rattle.std.proofs.Common.{IfSome, Vec, String, string_bytes, refl, sym, append_assoc, false}
-use Rattle.std.proofs.Common.{true, ◌<◌, ◌≤◌, ◌+◌, get_or, drop, append-nil, Global}
+use Rattle.std.proofs.Common.{◌≡◌, ◌⊎◌, ℕ, List, [], ◌∷◌, ◌++◌, map, length, take, Option, Some}
+use Rattle.std.proofs.Common.{Ok, Err, Vec, String, string_bytes, refl, sym, append_assoc, false}
+use Rattle.std.proofs.Common.{◌<◌, ◌≤◌, ◌+◌, get_or, drop, append-nil, Global, inl, inr}
+use Rattle.std.proofs.Common.{arith}
+use Rattle.std.proofs.Common.{subst, IsUtf8}
 use Rattle.std.proofs.Math.Seq.{take-append_seam}
 use Rattle.std.proofs.lemmas.List.{map-append, take-map, length-map, drop_more}
-use Rattle.std.proofs.lemmas.Option.{IfSome_then}
 use Rattle.thorin_words.specs.Responses.{Outcome, after, is_among, IsPlain, Stands, End, Plain}
-use Rattle.thorin_words.specs.Responses.{File, Inner, Itself, Deep, refusal_of, words_in, Refusal}
-use Rattle.thorin_words.specs.Responses.{inside_itself, too_deep, most_deep, IsRefused}
+use Rattle.thorin_words.specs.Responses.{File, Inner, Itself, Deep, words_in, most_deep, Leaves}
+use Rattle.thorin_words.specs.Responses.{Refuses, Stops, Here, Later, Within}
+use Rattle.thorin_words.specs.Responses.{Costs, Nothing, Word, Named, IsOfReading}
 use Rattle.thorin_words.specs.Words.{words_of}
+use Rattle.thorin_words.specs.declared.responses.Left.{Left}
 use Rattle.thorin_words.specs.declared.responses.ResponseError.{ResponseError}
+use Rattle.thorin_words.specs.declared.responses.ResponseError.TheVariants as errors
 
 -- ---- lists of words and of names
 
@@ -44,106 +48,221 @@ deep_texts names h = rw (length-map names string_bytes) h
 
 -- ---- a word
 
--- a word inside the files of these names: its words stand behind those that were there
-abbrev IsIn : (List ℕ → Option (List ℕ) → Type 0) → (names : List (List ℕ)) (word : List ℕ)
-    → (old new : List (List ℕ)) → Type 0
-IsIn offer names word old new = (own : List (List ℕ)) × (new ≡ old ++ own)
-    × ((rest : List (List ℕ)) (out : Outcome) → Stands offer names rest out
-    → Stands offer names (word ∷ rest) (after own out))
-
-module _ (offer : List ℕ → Option (List ℕ) → Type 0) (names : List (List ℕ)) (word : List ℕ) where
-  -- a word that stands for itself
-  pub itself : (old new : List (List ℕ)) → IsPlain offer word → new ≡ old ++ word ∷ []
-      → IsIn offer names word old new
-  itself old new is more = (word ∷ [], more, λ rest out stands. Plain names rest word out is stands)
-
-  -- one whose file is among those that were begun, or too deep
-  stands_refused : (refusal : Refusal) → IsRefused offer names word refusal
-      → (rest : List (List ℕ)) → Stands offer names (word ∷ rest) (Err refusal)
-  stands_refused (inside_itself name) k rest = rw k.0 (Itself names rest name k.1)
-  stands_refused (too_deep name) k rest = rw k.0 (Deep names rest name k.3.0 k.1 k.3.1 k.2)
-
-  pub refused : (e : ResponseError) → IfSome (refusal_of e) (IsRefused offer names word)
-      → IfSome (refusal_of e) (λ refusal. (rest : List (List ℕ))
-      → Stands offer names (word ∷ rest) (Err refusal))
-  refused e h = IfSome_then (refusal_of e) h stands_refused
-
-  -- one that names a file
-  module _ {name text : List ℕ} (is : word ≡ 64 ∷ name) (fresh : is_among names name ≡ false)
-      (offered : offer name (Some text)) (flat : length names < most_deep) where
-    pub filed : (old new : List (List ℕ))
-        → (own : List (List ℕ)) × (new ≡ old ++ own)
-        × Stands offer (names ++ name ∷ []) (words_of text) (Ok own)
-        → IsIn offer names word old new
-    filed old new added = (
-      added.0,
-      added.1,
-      λ rest out stands. rw is (File names rest name text added.0 out fresh offered flat
-          added.2 stands),
-    )
-
-    -- one whose file has a file inside itself
-    pub inner : (e : ResponseError) → IfSome (refusal_of e) (λ other.
-        Stands offer (names ++ name ∷ []) (words_of text) (Err other))
-        → IfSome (refusal_of e) (λ other. (rest : List (List ℕ))
-        → Stands offer names (word ∷ rest) (Err other))
-    inner e h = IfSome_then (refusal_of e) h (λ other k rest.
-        rw is (Inner names rest name text other fresh offered flat k))
-
--- ---- words one after another
+after-after : (a b : List (List ℕ)) (out : Outcome) → after (a ++ b) out ≡ after a (after b out)
+after-after a b (Ok words) = rw append_assoc refl
+after-after a b (Err name) = refl
 
 after-none : (out : Outcome) → after [] out ≡ out
 after-none (Ok words) = refl
 after-none (Err name) = refl
 
-after-after : (a b : List (List ℕ)) (out : Outcome) → after (a ++ b) out ≡ after a (after b out)
-after-after a b (Ok words) = rw append_assoc refl
-after-after a b (Err name) = refl
+-- words that cost just that much
+cost : {offer : List ℕ → Option (List ℕ) → Type 0} {words : List (List ℕ)} {n n' m m' : ℕ}
+    → n ≡ n' → m ≡ m' → Costs offer words n m → Costs offer words n' m'
+cost {offer} {words} {n} {n'} {m} {m'} e f c =
+    subst (λ n. Costs offer words n m') e (subst (λ m. Costs offer words n m) f c)
 
--- of `all` words these are left: what the others stand for was added
-pub record SoFar (offer : List ℕ → Option (List ℕ) → Type 0) (names all words : List (List ℕ))
-    (old new : List (List ℕ)) : Type 0 where
-  pub own : List (List ℕ)
-  pub added : new ≡ old ++ own
-  pub continues : (out : Outcome) → Stands offer names words out
-      → Stands offer names all (after own out)
-
-pub begin : {offer : List ℕ → Option (List ℕ) → Type 0} {names all old : List (List ℕ)}
-    → SoFar offer names all all old old
-begin {old = old} = record {
-  own = [];
-  added = sym (append-nil old);
-  continues = λ out stands. rw (after-none out) stands;
-}
-
-module _ {offer : List ℕ → Option (List ℕ) → Type 0} {names all words old middle : List (List ℕ)}
-    (so_far : SoFar offer names all words old middle) where
-  pub ended : words ≡ []
-      → (own : List (List ℕ)) × (middle ≡ old ++ own) × Stands offer names all (Ok own)
-  ended none = (
-    so_far.own,
-    so_far.added,
-    rw (← append-nil so_far.own) (so_far.continues (Ok []) (rw none (End names))),
-  )
-
-  module _ {now rest : List (List ℕ)} {word : List ℕ} (split : words ≡ word ∷ rest)
-      (same : now ≡ names) where
-    pub onward : (new : List (List ℕ)) → IsIn offer now word middle new
-        → SoFar offer names all rest old new
-    onward new added = record {
-      own = so_far.own ++ added.0;
-      added = rw (added.1, so_far.added, append_assoc) refl;
-      continues = λ out stands. rw (after-after so_far.own added.0 out)
-          (so_far.continues _ (rw (split, ← same) (added.2 rest out (rw same stands))));
+module _ (offer : List ℕ → Option (List ℕ) → Type 0) (fails : List ℕ → ResponseError → Type 0) where
+  module _ (names : List (List ℕ)) (word : List ℕ) where
+    -- a word that stands for itself
+    pub itself : (old new : List (List ℕ)) (before now : Left) → IsPlain offer word
+        → new ≡ old ++ word ∷ [] → now.files ≡ before.files → now.bytes + 32 ≡ before.bytes
+        → (rest : List (List ℕ)) → Leaves offer fails names (word ∷ rest) rest old new before now
+    itself old new before now is more fewer less rest = record {
+      own = word ∷ [];
+      files = 0;
+      bytes = 32;
+      added = more;
+      fewer = omega (arith, fewer);
+      less = omega (arith, less);
+      stands = λ out stands. Plain names rest word out is stands;
+      meets = λ e meets. Later word rest meets;
+      costs = λ count size costs. cost (omega arith) refl (Word word rest count size is costs);
     }
 
-    pub stopped : (e : ResponseError) → IfSome (refusal_of e) (λ name. (more : List (List ℕ))
-        → Stands offer now (word ∷ more) (Err name))
-        → IfSome (refusal_of e) (λ name. Stands offer names all (Err name))
-    stopped e h = IfSome_then (refusal_of e) h (λ name stop.
-        so_far.continues (Err name) (rw (split, ← same) (stop rest)))
+    -- one for which there is no room
+    pub unread : (left : Left) → IsPlain offer word → (e : ResponseError)
+        → ((e ≡ errors.TooLong) × (left.bytes < 32)) ⊎ (e ≡ errors.Memory)
+        → (rest : List (List ℕ)) → Refuses offer fails names left.files left.bytes (word ∷ rest) e
+    unread left is e (inl (long, few)) rest =
+        rw long (0, 32 + 0, Word word rest 0 0 is (Nothing rest), omega (arith, few))
+    unread left is e (inr memory) rest = rw memory tt
+
+    -- one whose file isn't read
+    pub refused : (left : Left) (e : ResponseError) → Stops offer fails names word left e
+        → (rest : List (List ℕ)) → Refuses offer fails names left.files left.bytes (word ∷ rest) e
+    refused left errors.NotUtf8 k rest = absurd k
+    refused left errors.Memory k rest = tt
+    refused left (errors.Inside name) k rest = rw k.0 (Itself names rest (string_bytes name) k.1)
+    refused left (errors.TooDeep name) k rest =
+        rw k.0 (Deep names rest (string_bytes name) k.3.0 k.1 k.3.1 k.2)
+    refused left errors.TooMany (none, (name, is, (text, offered))) rest = rw is (
+      1,
+      length text + 0,
+      Named name text rest 0 0 0 0 offered (Nothing (words_of text)) (Nothing rest),
+      omega (arith, none),
+    )
+    refused left errors.TooLong (name, is, (text, offered, few)) rest = rw is (
+      1,
+      length text + 0,
+      Named name text rest 0 0 0 0 offered (Nothing (words_of text)) (Nothing rest),
+      omega (arith, few),
+    )
+    refused left errors.Unreadable k rest = Here word rest k
+
+    -- an error of a read
+    pub of_reading : (left : Left) (name : List ℕ) → word ≡ 64 ∷ name → (e : ResponseError)
+        → fails name e → (e ≡ errors.TooLong
+        → (text : List ℕ) × offer name (Some text) × (left.bytes < length text))
+        → IsOfReading e → Stops offer fails names word left e
+    of_reading left name is errors.Unreadable f long h = (name, is, f)
+    of_reading left name is errors.TooLong f long h = (name, is, long refl)
+    of_reading left name is errors.Memory f long h = tt
+    of_reading left name is _ f long h = absurd h
+
+  -- one that names a file
+  module _ (names : List (List ℕ)) (word name text : List ℕ) (before opened : Left)
+      (is : word ≡ 64 ∷ name) (fresh : is_among names name ≡ false)
+      (offered : offer name (Some text)) (fewer : opened.files + 1 ≡ before.files)
+      (less : opened.bytes + length text ≡ before.bytes) (flat : length names < most_deep) where
+    pub filed : (old new : List (List ℕ)) (now : Left)
+        → Leaves offer fails (names ++ name ∷ []) (words_of text) [] old new opened now
+        → (rest : List (List ℕ)) → Leaves offer fails names (word ∷ rest) rest old new before now
+    filed old new now inner rest = record {
+      own = inner.own;
+      files = 1 + inner.files;
+      bytes = length text + inner.bytes;
+      added = inner.added;
+      fewer = omega (arith, inner.fewer, fewer);
+      less = omega (arith, inner.less, less);
+      stands = λ out stands. rw is (File names rest name text inner.own out fresh offered flat
+          (rw (← append-nil inner.own) (inner.stands (Ok []) (End _))) stands);
+      meets = λ e meets. Later word rest meets;
+      costs = λ count size costs. rw is (cost (omega arith) (omega arith)
+          (Named name text rest (inner.files + 0) (inner.bytes + 0) count size offered
+          (inner.costs 0 0 (Nothing [])) costs));
+    }
+
+    costs_inside : (count size : ℕ) → Costs offer (words_of text) count size
+        → (rest : List (List ℕ)) → Costs offer (word ∷ rest) (1 + count) (length text + size)
+    costs_inside count size costs rest = rw is (cost (omega arith) (omega arith)
+        (Named name text rest count size 0 0 offered costs (Nothing rest)))
+
+    -- one whose words can't be told
+    pub inner : (e : ResponseError)
+        → Refuses offer fails (names ++ name ∷ []) opened.files opened.bytes (words_of text) e
+        → (rest : List (List ℕ))
+        → Refuses offer fails names before.files before.bytes (word ∷ rest) e
+    inner (errors.Inside other) k rest =
+        rw is (Inner names rest name text _ fresh offered flat k)
+    inner (errors.TooDeep other) k rest =
+        rw is (Inner names rest name text _ fresh offered flat k)
+    inner errors.Unreadable k rest = rw is (Within name text rest offered k)
+    inner errors.NotUtf8 k rest = rw is (Within name text rest offered k)
+    inner errors.TooMany (count, size, costs, many) rest = (
+      1 + count,
+      length text + size,
+      costs_inside count size costs rest,
+      omega
+          (arith, many, fewer),
+    )
+    inner errors.TooLong (count, size, costs, long) rest = (
+      1 + count,
+      length text + size,
+      costs_inside count size costs rest,
+      omega (arith, long, less),
+    )
+    inner errors.Memory k rest = tt
+
+-- ---- words one after another
+
+pub begin : {offer : List ℕ → Option (List ℕ) → Type 0} {fails : List ℕ → ResponseError → Type 0}
+    {names all old : List (List ℕ)} {left : Left}
+    → Leaves offer fails names all all old old left left
+begin {old = old} = record {
+  own = [];
+  files = 0;
+  bytes = 0;
+  added = sym (append-nil old);
+  fewer = omega arith;
+  less = omega arith;
+  stands = λ out stands. rw (after-none out) stands;
+  meets = λ e meets. meets;
+  costs = λ count size costs. cost (omega arith) (omega arith) costs;
+}
+
+module _ {offer : List ℕ → Option (List ℕ) → Type 0} {fails : List ℕ → ResponseError → Type 0}
+    {names all words old middle : List (List ℕ)} {before now : Left}
+    (so_far : Leaves offer fails names all words old middle before now) where
+  pub ended : words ≡ [] → Leaves offer fails names all [] old middle before now
+  ended none = subst (λ words. Leaves offer fails names all words old middle before now) none so_far
+
+  -- the rest can't be told
+  pub stopped : (e : ResponseError) → Refuses offer fails names now.files now.bytes words e
+      → Refuses offer fails names before.files before.bytes all e
+  stopped (errors.Inside name) k = so_far.stands _ k
+  stopped (errors.TooDeep name) k = so_far.stands _ k
+  stopped errors.Unreadable k = so_far.meets errors.Unreadable k
+  stopped errors.NotUtf8 k = so_far.meets errors.NotUtf8 k
+  stopped errors.TooMany (count, size, costs, many) = (
+    so_far.files + count,
+    so_far.bytes + size,
+    so_far.costs count size costs,
+    omega (arith, many, so_far.fewer),
+  )
+  stopped errors.TooLong (count, size, costs, long) = (
+    so_far.files + count,
+    so_far.bytes + size,
+    so_far.costs count size costs,
+    omega (arith, long, so_far.less),
+  )
+  stopped errors.Memory k = tt
+
+  -- a word further
+  module _ {inner rest : List (List ℕ)} {word : List ℕ} (split : words ≡ word ∷ rest)
+      (same : inner ≡ names) where
+    pub onward : (new : List (List ℕ)) (later : Left)
+        → ((rest : List (List ℕ)) → Leaves offer fails inner (word ∷ rest) rest
+        middle new now later)
+        → Leaves offer fails names all rest old new before later
+    onward new later read = let more = read rest in record {
+      own = so_far.own ++ more.own;
+      files = so_far.files + more.files;
+      bytes = so_far.bytes + more.bytes;
+      added = rw (more.added, so_far.added, append_assoc) refl;
+      fewer = omega (arith, so_far.fewer, more.fewer);
+      less = omega (arith, so_far.less, more.less);
+      stands = λ out stands. rw (after-after so_far.own more.own out)
+          (so_far.stands _ (rw (split, ← same) (more.stands out (rw same stands))));
+      meets = λ e meets. so_far.meets e (rw split (more.meets e meets));
+      costs = λ count size costs. cost (omega arith) (omega arith)
+          (so_far.costs (more.files + count) (more.bytes + size)
+          (rw split (more.costs count size costs)));
+    }
+
+    pub stopped_at : (e : ResponseError) → ((rest : List (List ℕ))
+        → Refuses offer fails inner now.files now.bytes (word ∷ rest) e)
+        → Refuses offer fails names before.files before.bytes all e
+    stopped_at e k = stopped e (rw (split, ← same) (k rest))
+
+    -- the next word isn't UTF-8
+    pub spoilt : (e : ResponseError) → (e ≡ errors.NotUtf8) × ¬ (IsUtf8 word)
+        → Refuses offer fails names before.files before.bytes all e
+    spoilt e (is, bad) = rw is (so_far.meets errors.NotUtf8 (rw split (Here word rest bad)))
 
 -- ---- the words of a line
+
+-- behind the program's name
+pub told : {offer : List ℕ → Option (List ℕ) → Type 0} {fails : List ℕ → ResponseError → Type 0}
+    {names line old new : List (List ℕ)} {before now : Left} (program : List ℕ)
+    → Leaves offer fails names line [] old new before now → names ≡ [] → old ≡ program ∷ []
+    → (own : List (List ℕ)) × (new ≡ program ∷ own) × Stands offer [] line (Ok own)
+told {offer} {names = names} {line = line} program all none alone = (
+  all.own,
+  rw (all.added, alone) refl,
+  subst (λ names. Stands offer names line (Ok all.own)) none
+      (rw (← append-nil all.own) (all.stands (Ok []) (End names))),
+)
 
 pub texts-drop : {S : Type 0} (text : S → List ℕ) (line : List S) (i : ℕ) (x : S) (word : List ℕ)
     → i < length line → x ≡ get_or line i x → word ≡ text x

@@ -1,10 +1,10 @@
 //! `@FILE` among the words of a command line: a response file, as linkers have it.
 
-ghost use Rattle.std.specs.Prelude.{◌≡◌, ◌≤◌, ◌+◌, ◌++◌, ◌∷◌, [], ℕ, List, Option, Some, None, map};
+ghost use Rattle.std.specs.Prelude.{◌≡◌, ◌≤◌, ◌<◌, ◌+◌, ◌++◌, ◌∷◌, [], ℕ, List, Option, None, map};
 ghost use Rattle.std.specs.Prelude.{length, IfOk, IfErr, OnOk, IfSome, MatchOption, option_map};
-ghost use Rattle.std.specs.Prelude.{string_bytes};
-ghost use Rattle.thorin_words.specs.Responses.{is_among, Answers, IsAdded, AreAdded, Opens};
-ghost use Rattle.thorin_words.specs.Responses.{refusal_of, words_in, name_in};
+ghost use Rattle.std.specs.Prelude.{◌⊎◌, IsUtf8, Some, string_bytes};
+ghost use Rattle.thorin_words.specs.Responses.{is_among, Answers, AreRead, IsOfReading, IsRead};
+ghost use Rattle.thorin_words.specs.Responses.{Opens, words_in, name_in};
 ghost use Rattle.std.specs.List.{list_any};
 ghost use Rattle.std.specs.Str.{bytes_eq};
 ghost use Rattle.thorin_words.specs.Words.{words_of};
@@ -30,8 +30,13 @@ const BYTES_OF_A_WORD: usize = 32;
 
 /// Where response files are read.
 pub trait ResponseFiles {
+    ghost use Rattle.thorin_words.specs.declared.responses.ResponseError.{ResponseError};
+
     // What a read of the file of a name may give: its text, or that there is no such file.
     ghost offer: { Self → List ℕ → Option (List ℕ) → Type 0 };
+
+    // By which errors it may fail.
+    ghost fails: { Self → List ℕ → ResponseError → Type 0 };
 
     /// The text of the file of a name, none where there is no such file.
     ///
@@ -41,7 +46,10 @@ pub trait ResponseFiles {
         ensures offered { IfOk result (λ text. offer self.now name.now
             (option_map (λ bytes. bytes.items) text)) }
         ensures within { IfOk result (λ text. IfSome text (λ bytes. length bytes.items ≤ most)) }
-        ensures outside { IfErr result (λ e. refusal_of e ≡ None) };
+        ensures failed { IfErr result (λ e. fails self.now name.now e) }
+        ensures long { IfErr result (λ e. e ≡ errors.TooLong
+            → (bytes : List ℕ) × offer self.now name.now (Some bytes) × (most < length bytes)) }
+        ensures outside { IfErr result IsOfReading };
 }
 
 /// Why the words of a command line can't be told.
@@ -100,15 +108,18 @@ enum Opened<'w> {
 /// word.
 ///
 /// # Errors
-/// `Inside` where a file is inside itself, `TooDeep` where one is inside 64 others; `Unreadable`,
-/// `TooMany`, `TooLong`, `NotUtf8`, `Memory`.
+/// `Inside` where a file is inside itself, `TooDeep` where one is inside 64 others; `Unreadable`
+/// where one that is named can't be read; `TooMany` where more than 2,000 are named; `TooLong` where
+/// one is too long, or all, each as often as it is named, and 32 for each word that stands for
+/// itself, have more than 67,108,864 bytes; `NotUtf8` where a word of one isn't UTF-8; `Memory`.
 pub fn expanded<S: AsStr, F: ResponseFiles>(
     alloc: Global,
     files: &F,
     program: &str,
     line: &[S],
 ) -> Result<Vec<String>, ResponseError>
-    ensures { Answers (F.offer files.now) program.now (map S.text line.now) result }
+    ensures { Answers (F.offer files.now) (F.fails files.now) program.now (map S.text line.now)
+        result }
 {
     let mut all = begun(alloc, program)?;
     let mut names = Vec::new(alloc);
@@ -124,29 +135,29 @@ pub fn expanded<S: AsStr, F: ResponseFiles>(
 #[tactic(auto, using(crate::proofs::Standing::alone))]
 fn begun(alloc: Global, program: &str) -> Result<Vec<String>, ResponseError>
     ensures words { IfOk result (λ all. words_in all ≡ program.now ∷ []) }
-    ensures outside { IfErr result (λ e. refusal_of e ≡ None) }
+    ensures memory { IfErr result (λ e. e ≡ errors.Memory) }
 {
     let mut all = Vec::new(alloc);
     all.push(String::from_str(alloc, program)?)?;
     Ok(all)
 }
 
-/// Adds the words of a line, with those of files in place of each `@FILE`.
+/// Adds the words of a line, with those of files in place of each `@FILE`. Answers what is left.
 fn add_line<S: AsStr, F: ResponseFiles>(
     files: &F,
     line: &[S],
     names: &mut Vec<String>,
     left: Left,
     all: &mut Vec<String>,
-) -> Result<(), ResponseError>
-    ensures { AreAdded (F.offer files.now) (words_in names.old) (map S.text line.now)
-        (words_in all.old) (words_in all.new) result }
+) -> Result<Left, ResponseError>
+    ensures { AreRead (F.offer files.now) (F.fails files.now) (words_in names.old)
+        (map S.text line.now) [] (words_in all.old) (words_in all.new) left result }
 {
     let mut left = left;
     for word in line {
         left = add_word(files, word.as_str(), names, left, all)?;
     }
-    Ok(())
+    Ok(left)
 }
 
 /// Adds a word, or those of the file that it names. Answers what is left.
@@ -158,8 +169,8 @@ fn add_word<F: ResponseFiles>(
     left: Left,
     all: &mut Vec<String>,
 ) -> Result<Left, ResponseError>
-    ensures added { IsAdded (F.offer files.now) (words_in names.old) word.now (words_in all.old)
-        (words_in all.new) result }
+    ensures read { IsRead (F.offer files.now) (F.fails files.now) (words_in names.old) word.now
+        (words_in all.old) (words_in all.new) left result }
     ensures names { OnOk result (words_in names.new ≡ words_in names.old) }
     ensures files { IfOk result (λ now. now.files ≤ left.files) }
 {
@@ -186,8 +197,9 @@ fn add_file<F: ResponseFiles>(
     left: Left,
     all: &mut Vec<String>,
 ) -> Result<Left, ResponseError>
-    ensures added { AreAdded (F.offer files.now) (words_in names.old ++ string_bytes name ∷ [])
-        (words_of text.items) (words_in all.old) (words_in all.new) result }
+    ensures read { AreRead (F.offer files.now) (F.fails files.now)
+        (words_in names.old ++ string_bytes name ∷ []) (words_of text.items) [] (words_in all.old)
+        (words_in all.new) left result }
     ensures names { OnOk result (words_in names.new ≡ words_in names.old) }
     ensures files { IfOk result (λ now. now.files ≤ left.files) }
 {
@@ -207,8 +219,8 @@ fn add_text<F: ResponseFiles>(
     left: Left,
     all: &mut Vec<String>,
 ) -> Result<Left, ResponseError>
-    ensures added { AreAdded (F.offer files.now) (words_in names.old) (words_of text.now)
-        (words_in all.old) (words_in all.new) result }
+    ensures read { AreRead (F.offer files.now) (F.fails files.now) (words_in names.old)
+        (words_of text.now) [] (words_in all.old) (words_in all.new) left result }
     ensures names { OnOk result (words_in names.new ≡ words_in names.old) }
     ensures files { IfOk result (λ now. now.files ≤ left.files) }
 {
@@ -228,7 +240,7 @@ fn add_text<F: ResponseFiles>(
 fn push_name(names: &mut Vec<String>, name: String) -> Result<(), ResponseError>
     ensures names { OnOk result (words_in names.new
         ≡ words_in names.old ++ string_bytes name ∷ []) }
-    ensures outside { IfErr result (λ e. refusal_of e ≡ None) }
+    ensures memory { IfErr result (λ e. e ≡ errors.Memory) }
 {
     names.push(name)?;
     Ok(())
@@ -239,7 +251,9 @@ fn push_name(names: &mut Vec<String>, name: String) -> Result<(), ResponseError>
 fn add_plain(word: &str, left: Left, all: &mut Vec<String>) -> Result<Left, ResponseError>
     ensures added { OnOk result (words_in all.new ≡ words_in all.old ++ word.now ∷ []) }
     ensures files { IfOk result (λ now. now.files ≡ left.files) }
-    ensures outside { IfErr result (λ e. refusal_of e ≡ None) }
+    ensures bytes { IfOk result (λ now. now.bytes + 32 ≡ left.bytes) }
+    ensures cause { IfErr result (λ e. ((e ≡ errors.TooLong) × (left.bytes < 32))
+        ⊎ (e ≡ errors.Memory)) }
 {
     let left = left_after(left, BYTES_OF_A_WORD)?;
     all.push(String::from_str(*all.allocator(), word)?)?;
@@ -249,7 +263,7 @@ fn add_plain(word: &str, left: Left, all: &mut Vec<String>) -> Result<Left, Resp
 /// A word is UTF-8.
 fn text_of(word: &[u8]) -> Result<&str, ResponseError>
     ensures text { IfOk result (λ text. text.now ≡ word.now) }
-    ensures outside { IfErr result (λ e. refusal_of e ≡ None) }
+    ensures cause { IfErr result (λ e. (e ≡ errors.NotUtf8) × ¬ (IsUtf8 word.now)) }
 {
     match str::from_utf8(word) {
         Ok(text) => Ok(text),
@@ -266,8 +280,8 @@ fn open_word<'w, F: ResponseFiles>(
     names: &[String],
     left: Left,
 ) -> Result<Opened<'w>, ResponseError>
-    ensures { Opens (F.offer files.now) (map string_bytes names.now) word.entry.now left.files
-        result }
+    ensures { Opens (F.offer files.now) (F.fails files.now) (map string_bytes names.now)
+        word.entry.now left result }
 {
     let Some(name) = file_name(word) else {
         return Ok(Opened::Word(word));
@@ -298,7 +312,8 @@ fn file_name(word: &str) -> Option<&str>
 /// What is left where one file more is named.
 fn with_file_less(left: Left) -> Result<Left, ResponseError>
     ensures files { IfOk result (λ now. now.files + 1 ≡ left.files) }
-    ensures outside { IfErr result (λ e. refusal_of e ≡ None) }
+    ensures bytes { IfOk result (λ now. now.bytes ≡ left.bytes) }
+    ensures cause { IfErr result (λ e. (e ≡ errors.TooMany) × (left.files ≡ 0)) }
 {
     if left.files == 0 {
         return Err(ResponseError::TooMany);
@@ -313,7 +328,7 @@ fn with_file_less(left: Left) -> Result<Left, ResponseError>
 fn left_after(left: Left, count: usize) -> Result<Left, ResponseError>
     ensures files { IfOk result (λ now. now.files ≡ left.files) }
     ensures bytes { IfOk result (λ now. now.bytes + count ≡ left.bytes) }
-    ensures outside { IfErr result (λ e. refusal_of e ≡ None) }
+    ensures cause { IfErr result (λ e. (e ≡ errors.TooLong) × (left.bytes < count)) }
 {
     if count > left.bytes as usize {
         return Err(ResponseError::TooLong);

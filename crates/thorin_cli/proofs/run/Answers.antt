@@ -1,13 +1,15 @@
-use Rattle.std.proofs.Common.{◌≡◌, inr, map, refl, rules, true}
+use Rattle.std.proofs.Common.{ap, inr, map, refl, rules}
 use Rattle.std.specs.Prelude.{IsSome}
+use Rattle.thorin_print.specs.Watching.{LacksLine}
+use Rattle.thorin_terminal.specs.Watching.{failure_of}
 use Rattle.thorin_arguments.specs.Asked.{words_in}
 use Rattle.thorin_cli.proofs.Ran.{ran}
-use Rattle.thorin_cli.proofs.Told.{tried}
+use Rattle.thorin_cli.proofs.Told.{unread}
 use Rattle.thorin_cli.proofs.run.Goals as goal
 
 pub returns-in-Ok : goal.returns-in-Ok
 returns-in-Ok g c = record {
-  did = ran _ _ c.args.facts.on_terminal c.named_program.result.0.now
+  did = ran _ _ _ c.args.facts.on_terminal c.named_program.result.0.now
       (map g.S.AsStr.text c.named_program.result.1.now) c.in-Ok.ensures.0
       (words_in c.as_slice.result.now) _ _
       (record {
@@ -25,16 +27,20 @@ returns-in-Err g c = record {
   did = inr (
     c.refuse_response-status.ensures.status,
     (refl, refl),
-    tried (record {
+    unread (record {
       offer = g.F.FileSystem.offer;
       known = g.F.FileSystem.known;
       begun = g.F.FileSystem.begun;
       contents = λ out. g.O.Write.contents out.out;
-      failed = λ out. IsSome out.failure;
+      failed = λ out. IsSome (failure_of out);
       told = λ err. g.E.Write.contents err.writer;
-      untold = λ err. err.has_failed ≡ true;
+      untold = λ err. LacksLine err;
       read = g.R.FileReader.offer c.args.readers.files.now;
     }) c.args.files.now c.args.out.now c.args.err.now _ c.refuse_response-status.new.err
-        c.refuse_response-status.ensures.told c.note_response.ensures (λ h. h),
+        c.note_response.ensures (λ h. h)
+        (g.P.ResponseFiles.offer c.args.readers.responses.now)
+        (g.P.ResponseFiles.fails c.args.readers.responses.now)
+        (map g.S.AsStr.text c.named_program.result.1.now) _ c.in-Err.error c.in-Err.ensures
+        (ap (λ line. line.1) c.named_program.ensures) c.refuse_response-status.ensures.told,
   );
 }

@@ -1,19 +1,27 @@
 use Rattle.std.proofs.Common.{rules, arith, refl, ◌∙◌}
 use Rattle.thorin_words.specs.Responses.{words_in}
-use Rattle.thorin_words.proofs.Standing.{begin, onward, ended, stopped, filed, inner, refused}
-use Rattle.thorin_words.proofs.Standing.{itself}
+use Rattle.thorin_words.proofs.Standing.{begin, onward, ended, stopped_at, filed, inner, refused}
+use Rattle.thorin_words.proofs.Standing.{itself, spoilt, unread}
 use Rattle.thorin_words.proofs.responses.+responses.Goals as goal
 
 pub add_text-loop-word-init : goal.add_text-loop-word-init
 add_text-loop-word-init g t c =
-    record { within = omega arith; fewer = omega arith; same = refl; added = begin }
+    record { within = omega arith; fewer = omega arith; same = refl; read = begin }
 
-pub add_text-returns-in_err-left-clause-added : goal.add_text-returns-in_err-left-clause-added
-add_text-returns-in_err-left-clause-added g t c =
+pub add_text-returns-in_err-word-clause-read : goal.add_text-returns-in_err-word-clause-read
+add_text-returns-in_err-word-clause-read g t c =
+    let next = rw c.in-Some.is at c.in_ok-end.ensures in
+    let split = rw (← c.as_slice.ensures.value) at next.2 in
+    let stop = spoilt c.loop-word.invariant.read split c.loop-word.invariant.same
+    c.in_err-word.field-0.0 c.in_err-word.ensures.cause in
+    search rules
+
+pub add_text-returns-in_err-left-clause-read : goal.add_text-returns-in_err-left-clause-read
+add_text-returns-in_err-left-clause-read g t c =
     let next = rw c.in-Some.is at c.in_ok-end.ensures in
     let split = rw (← c.as_slice.ensures.value, ← c.in_ok-word.ensures.text) at next.2 in
-    let stop = stopped c.loop-word.invariant.added split c.loop-word.invariant.same
-    c.in_err-left.field-0.0 c.in_err-left.ensures.added in
+    let stop = stopped_at c.loop-word.invariant.read split c.loop-word.invariant.same
+    c.in_err-left.field-0.0 c.in_err-left.ensures.read in
     search rules
 
 pub add_text-loop-word-preserved : goal.add_text-loop-word-preserved
@@ -24,37 +32,50 @@ add_text-loop-word-preserved g t c =
       within = next.1;
       fewer = omega (arith, c.in_ok-left.ensures.files, c.loop-word.invariant.fewer);
       same = c.in_ok-left.ensures.names ∙ c.loop-word.invariant.same;
-      added = onward c.loop-word.invariant.added split c.loop-word.invariant.same _
-          c.in_ok-left.ensures.added;
+      read = onward c.loop-word.invariant.read split c.loop-word.invariant.same _ _
+          c.in_ok-left.ensures.read;
     }
 
-pub add_text-returns-clause-added : goal.add_text-returns-clause-added
-add_text-returns-clause-added g t c = ended c.loop-word.invariant.added (search rules)
+pub add_text-returns-clause-read : goal.add_text-returns-clause-read
+add_text-returns-clause-read g t c = ended c.loop-word.invariant.read (search rules)
 
-pub add_word-returns-in_err-word-clause-added : goal.add_word-returns-in_err-word-clause-added
-add_word-returns-in_err-word-clause-added g t c =
-    let stop = refused (g.F.ResponseFiles.offer c.args.files.now) (words_in c.args.names.now)
-    c.args.word.now c.in_err-word.field-0.0 (rw c.as_slice.ensures.value at c.in_err-word.ensures)
+pub add_word-returns-in_err-word-clause-read : goal.add_word-returns-in_err-word-clause-read
+add_word-returns-in_err-word-clause-read g t c = λ rest.
+    let stop = refused (g.F.ResponseFiles.offer c.args.files.now)
+    (g.F.ResponseFiles.fails c.args.files.now) (words_in c.args.names.now) c.args.word.now
+    c.args.left c.in_err-word.field-0.0 (rw c.as_slice.ensures.value at c.in_err-word.ensures) rest
     in
     search rules
 
-pub add_word-returns-in_err-left-in-File-clause-added :
-    goal.add_word-returns-in_err-left-in-File-clause-added
-add_word-returns-in_err-left-in-File-clause-added g t c =
-    let opens = rw (c.in-File.is, c.as_slice.ensures.value) at c.in_ok-word.ensures in
-    let stop = inner (g.F.ResponseFiles.offer c.args.files.now) (words_in c.args.names.now)
-    c.args.word.now opens.0 opens.1 opens.2 opens.4 c.in_err-left-in-File.field-0.0
-    c.in_err-left-in-File.ensures.added in
+pub add_word-returns-in_err-left-in-Word-clause-read :
+    goal.add_word-returns-in_err-left-in-Word-clause-read
+add_word-returns-in_err-left-in-Word-clause-read g t c = λ rest.
+    let opens = rw c.in-Word.is at c.in_ok-word.ensures in
+    let stop = unread (g.F.ResponseFiles.offer c.args.files.now)
+    (g.F.ResponseFiles.fails c.args.files.now) (words_in c.args.names.now) c.args.word.now
+    c.args.left opens.1 c.in_err-left-in-Word.field-0.0 c.in_err-left-in-Word.ensures.cause rest in
     search rules
 
-pub add_word-returns-in_ok-left-in-File-clause-added :
-    goal.add_word-returns-in_ok-left-in-File-clause-added
-add_word-returns-in_ok-left-in-File-clause-added g t c =
+pub add_word-returns-in_err-left-in-File-clause-read :
+    goal.add_word-returns-in_err-left-in-File-clause-read
+add_word-returns-in_err-left-in-File-clause-read g t c = λ rest.
     let opens = rw (c.in-File.is, c.as_slice.ensures.value) at c.in_ok-word.ensures in
-    filed _ _ _ opens.0 opens.1 opens.2 opens.4 _ _ c.in_ok-left-in-File.ensures.added
+    let stop = inner (g.F.ResponseFiles.offer c.args.files.now)
+    (g.F.ResponseFiles.fails c.args.files.now) (words_in c.args.names.now) c.args.word.now _ _
+    c.args.left c.in-File.left opens.0 opens.1 opens.2 opens.3 opens.4 opens.5
+    c.in_err-left-in-File.field-0.0 c.in_err-left-in-File.ensures.read rest in
+    search rules
 
-pub add_word-returns-in_ok-left-in-Word-clause-added :
-    goal.add_word-returns-in_ok-left-in-Word-clause-added
-add_word-returns-in_ok-left-in-Word-clause-added g t c =
+pub add_word-returns-in_ok-left-in-File-clause-read :
+    goal.add_word-returns-in_ok-left-in-File-clause-read
+add_word-returns-in_ok-left-in-File-clause-read g t c =
+    let opens = rw (c.in-File.is, c.as_slice.ensures.value) at c.in_ok-word.ensures in
+    filed _ _ _ _ _ _ _ _ opens.0 opens.1 opens.2 opens.3 opens.4 opens.5 _ _ _
+    c.in_ok-left-in-File.ensures.read
+
+pub add_word-returns-in_ok-left-in-Word-clause-read :
+    goal.add_word-returns-in_ok-left-in-Word-clause-read
+add_word-returns-in_ok-left-in-Word-clause-read g t c =
     let opens = rw c.in-Word.is at c.in_ok-word.ensures in
-    itself _ _ _ _ _ opens.1 (rw opens.0 at c.in_ok-left-in-Word.ensures.added)
+    itself _ _ _ _ _ _ _ _ opens.1 (rw opens.0 at c.in_ok-left-in-Word.ensures.added)
+    c.in_ok-left-in-Word.ensures.files c.in_ok-left-in-Word.ensures.bytes

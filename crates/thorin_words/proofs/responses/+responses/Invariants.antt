@@ -1,7 +1,6 @@
 use Rattle.std.proofs.Common.{◌≡◌, ◌≤◌, ◌+◌, ◌-◌, ◌*◌, length, drop}
-use Rattle.thorin_words.specs.Responses.{words_in}
+use Rattle.thorin_words.specs.Responses.{words_in, Leaves}
 use Rattle.thorin_words.specs.Words.{words_of}
-use Rattle.thorin_words.proofs.Standing.{SoFar}
 use Rattle.thorin_words.proofs.responses.+responses.Given as goal
 
 abbrev pub decreases-add_file : goal.decreases-add_file
@@ -19,8 +18,9 @@ invariant-add_text-loop-word g l = record {
   within : l.at ≤ length l.text;
   fewer : l.left.files ≤ l.fn.left.files;
   same : words_in l.names ≡ words_in l.fn.names;
-  added : SoFar (g.F.ResponseFiles.offer l.files) (words_in l.fn.names) (words_of l.text)
-      (words_of (drop l.at l.text)) (words_in l.fn.all) (words_in l.all);
+  read : Leaves (g.F.ResponseFiles.offer l.files) (g.F.ResponseFiles.fails l.files)
+      (words_in l.fn.names) (words_of l.text) (words_of (drop l.at l.text)) (words_in l.fn.all)
+      (words_in l.all) l.fn.left l.left;
 }
 
 abbrev pub decreases-add_text-loop-word : goal.decreases-add_text-loop-word

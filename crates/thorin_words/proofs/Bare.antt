@@ -1,0 +1,54 @@
+-- Words that name no file are told.
+use Rattle.std.proofs.Common.{◌≡◌, ℕ, List, [], length, Option, Some, None, Ok, Err, refl}
+use Rattle.std.proofs.Common.{rules, sym, ◌≤◌, ◌*◌, arith, IsUtf8}
+use Rattle.std.proofs.lemmas.Option.{none-some}
+use Rattle.thorin_words.specs.Responses.{Outcome, Stands, End, Plain, File, Inner, Itself, Deep}
+use Rattle.thorin_words.specs.Responses.{Refusal, Spoils, Meets, Here, Later, Within}
+use Rattle.thorin_words.specs.Responses.{Costs, Nothing, Word, Named, AreBare, CannotBeTold}
+use Rattle.thorin_words.specs.Responses.{name_in}
+use Rattle.thorin_words.specs.declared.responses.ResponseError.{ResponseError}
+use Rattle.thorin_words.specs.declared.responses.ResponseError.TheVariants as errors
+
+named : {name : List ℕ} → ¬ (Some name ≡ None)
+named {name} is = none-some name (sym is)
+
+module _ (offer : List ℕ → Option (List ℕ) → Type 0) where
+  unmet : (P : List ℕ → Type 0) → ((word : List ℕ) → IsUtf8 word → name_in word ≡ None
+      → ¬ (P word)) → (words : List (List ℕ)) → AreBare words → ¬ (Meets offer P words)
+  unmet P never _ bare (Here word rest is) = never word bare.0 bare.1 is
+  unmet P never _ bare (Later word rest meets) = unmet P never rest bare.2 meets
+  unmet P never _ bare (Within name text rest offered meets) = named bare.1
+
+  unrefused : (names words : List (List ℕ)) (out : Outcome) (refusal : Refusal) → AreBare words
+      → Stands offer names words out → ¬ (out ≡ Err refusal)
+  unrefused _ _ _ refusal bare (End _) is = search (rules, is)
+  unrefused _ _ _ refusal bare (Plain _ _ _ (Ok own) plain stands) is = search (rules, is)
+  unrefused _ _ _ refusal bare (Plain names rest _ (Err other) plain stands) is =
+      unrefused names rest (Err other) other bare.2 stands refl
+  unrefused _ _ _ refusal bare (File _ _ _ _ _ _ fresh offered flat inner stands) is =
+      named bare.1
+  unrefused _ _ _ refusal bare (Inner _ _ _ _ _ fresh offered flat inner) is = named bare.1
+  unrefused _ _ _ refusal bare (Itself _ _ _ among) is = named bare.1
+  unrefused _ _ _ refusal bare (Deep _ _ _ _ fresh offered deep) is = named bare.1
+
+  cheap : (words : List (List ℕ)) (files bytes : ℕ) → AreBare words → Costs offer words files bytes
+      → (files ≡ 0) × (bytes ≤ 32 * length words)
+  cheap _ _ _ bare (Nothing _) = (refl, omega arith)
+  cheap _ _ _ bare (Word _ rest files bytes plain costs) =
+      let k = cheap rest files bytes bare.2 costs in (k.0, omega (arith, k.1))
+  cheap _ _ _ bare (Named _ _ _ _ _ _ _ offered costs more) = absurd (named bare.1)
+
+  module _ (fails : List ℕ → ResponseError → Type 0) (line : List (List ℕ)) (bare : AreBare line)
+      (short : length line ≤ 2097152) where
+    pub told : (e : ResponseError) → CannotBeTold offer fails line e → e ≡ errors.Memory
+    told (errors.Inside name) k = absurd (unrefused [] line _ _ bare k refl)
+    told (errors.TooDeep name) k = absurd (unrefused [] line _ _ bare k refl)
+    told errors.Unreadable k = absurd (unmet (Spoils fails errors.Unreadable)
+        (λ word utf8 none spoils. named (rw spoils.1 at none)) line bare k)
+    told errors.NotUtf8 k =
+        absurd (unmet (Spoils fails errors.NotUtf8) (λ word utf8 none bad. bad utf8) line bare k)
+    told errors.TooMany (count, size, costs, many) =
+        let k = cheap line count size bare costs in absurd (omega (arith, k.0, many))
+    told errors.TooLong (count, size, costs, long) =
+        let k = cheap line count size bare costs in absurd (omega (arith, k.1, long, short))
+    told errors.Memory k = refl
