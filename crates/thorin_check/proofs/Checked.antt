@@ -4,7 +4,7 @@ use Rattle.std.proofs.Common.{Option, Result, Ok, Err, Bor, refl, length, inl, i
 use Rattle.std.proofs.Common.{append_assoc, subst}
 use Rattle.std.specs.declared.io.Error.{Error as IoError}
 use Rattle.std.proofs.KnownBytes.{Appends-trans, Keeps-refl}
-use Rattle.dwp_index.specs.Package.{Package}
+use Rattle.dwp_index.specs.Package.{Package, package_of}
 use Rattle.dwp_index.specs.declared.error.PackageError.{PackageError}
 use Rattle.dwp_index.specs.declared.units.UnitEntry.{UnitEntry}
 use Rattle.thorin_executable.specs.Skeletons.{skeletons_by}
@@ -14,10 +14,10 @@ use Rattle.thorin_check.specs.Executables.{Executables}
 use Rattle.thorin_check.specs.Checking.{TellsExecutable}
 use Rattle.thorin_check.specs.Checking.{TellsPackage, FailsOne, IsOfReading, IsOfChecking}
 use Rattle.thorin_check.specs.Checking.{Finishes}
-use Rattle.thorin_check.specs.Checking.{ChecksIndexed, ChecksPackage, ChecksBytes, Checks}
+use Rattle.thorin_check.specs.Checking.{ChecksIndexed, Checks}
 use Rattle.thorin_check.specs.Faults.{TellsNamed, room_of}
 use Rattle.thorin_find.specs.Listing.{AreByRow}
-use Rattle.thorin_print.specs.Answers.{IsOfPrinting, Grows, Outcome}
+use Rattle.thorin_print.specs.Answers.{IsOfPrinting, Grows, Outcome, Prints}
 use Rattle.thorin_check.specs.Telling.{fault_count, Progress, Told}
 use Rattle.thorin_check.specs.Telling.{TellsOr, Tells}
 use Rattle.thorin_check.specs.declared.executables.Reading.{Reading}
@@ -65,6 +65,12 @@ module _ (offer : Offer) where
 
 -- ---- a package
 
+-- something or nothing was printed
+pub printed_some : (text : List ℕ) (a b : Option (List ℕ)) (result : Outcome)
+    → Prints text a b result → Grows a b
+printed_some text a b (Ok done) p = (text, p)
+printed_some text a b (Err failure) p = p.1
+
 module _ (offer : Offer) (executables : Executables) where
   pub checked : (pack : Package) (entries : List UnitEntry) (a b : Progress)
       (c : Option (List ℕ)) (result : Result ℕ Failure)
@@ -94,26 +100,28 @@ module _ (offer : Offer) (executables : Executables) where
   checked pack entries a b c (Err failure) by_row formed none begun t f =
       stopped_behind c t (of_printing offer executables.paths failure f.0, f.1)
 
-  pub no_memory_left : (pack : Package) (a : Option (List ℕ))
-      → ChecksIndexed offer executables pack a a (Err failures.Memory)
-  no_memory_left pack a = (tt, none_grown a)
+  -- the file was read
+  module _ (path bytes lent : List ℕ) (read : offer path (Ok bytes)) (same : lent ≡ bytes) where
+    pub file_checked : (pack : Package) (a c : Option (List ℕ)) (result : Result ℕ Failure)
+        (b : Bool) → package_of lent ≡ Ok pack → b ≡ has_no_index pack → b ≡ false
+        → ChecksIndexed offer executables pack a c result
+        → Checks offer path executables a c result
+    unfolding Checks
+    file_checked pack a c result b is e f h = inl (bytes, read, rw (← same, is, ← e, f) h)
 
-  pub no_index : (pack : Package) (a : Option (List ℕ)) (b : Bool) → b ≡ has_no_index pack
-      → b ≡ true
-      → ChecksPackage offer executables pack a a (Err failures.NoIndex) (has_no_index pack)
-  no_index pack a b e f = rw (← e, f) (refl, Keeps-refl a)
+    pub file_without_index : (pack : Package) (a : Option (List ℕ)) (b : Bool)
+        → package_of lent ≡ Ok pack → b ≡ has_no_index pack → b ≡ true
+        → Checks offer path executables a a (Err failures.NoIndex)
+    unfolding Checks
+    file_without_index pack a b is e f =
+        inl (bytes, read, rw (← same, is, ← e, f) (refl, Keeps-refl a))
 
-  pub has_index : (pack : Package) (a c : Option (List ℕ)) (result : Result ℕ Failure) (b : Bool)
-      → b ≡ has_no_index pack → b ≡ false
-      → ChecksIndexed offer executables pack a c result
-      → ChecksPackage offer executables pack a c result (has_no_index pack)
-  has_index pack a c result b e f h = rw (← e, f) h
+    pub file_malformed : (cause : PackageError) (a : Option (List ℕ)) → package_of lent ≡ Err cause
+        → Checks offer path executables a a (Err failures.Malformed)
+    unfolding Checks
+    file_malformed cause a is = inl (bytes, read, rw (← same, is) (refl, Keeps-refl a))
 
-  pub malformed : (cause : PackageError) (p : Result Package PackageError)
-      (a : Option (List ℕ)) → p ≡ Err cause
-      → ChecksBytes offer executables p a a (Err failures.Malformed)
-  malformed cause p a e = rw e (refl, Keeps-refl a)
-
+  -- it can't be read, or there is no memory
   pub not_checked : (path : List ℕ) (a : Option (List ℕ)) (failure : Failure)
       → FailsToRead offer path failure
       → Checks offer path executables a a (Err failure)

@@ -1,7 +1,7 @@
 -- What was told of the units that an executable names.
 use Rattle.std.proofs.Common.{◌≡◌, ◌≢◌, List, [], ◌∷◌, ◌++◌, ℕ, Option, Some, None, Result, Ok, Err}
 use Rattle.std.proofs.Common.{◌+◌, ◌<◌, ◌≤◌, length, OnOk, Bool, true, false, arith, refl}
-use Rattle.std.proofs.Common.{append_assoc}
+use Rattle.std.proofs.Common.{append_assoc, append-nil}
 use Rattle.std.proofs.lemmas.Bool.Decides.{nat_tests}
 use Rattle.dwp_index.specs.Package.{Package, FoundUnit, found}
 use Rattle.dwp_index.specs.declared.error.PackageError.{PackageError}
@@ -13,11 +13,10 @@ use Rattle.thorin_errors.specs.declared.error.Error.TheVariants.{Memory}
 use Rattle.thorin_check.specs.Faults.{missing_text, missing_faults, IsBroken, TellsEnd}
 use Rattle.thorin_check.specs.Faults.{longest_path, long_size, long_bytes}
 use Rattle.thorin_check.specs.Faults.{TellsListed, TellsNamed, bare_fault}
-use Rattle.thorin_print.specs.Answers.{Outcome, IsOfPrinting}
+use Rattle.thorin_print.specs.Answers.{Outcome}
 use Rattle.thorin_check.specs.Rendering.{FaultValue, of_unit}
 use Rattle.thorin_check.specs.Telling.{Progress, Told, Tells, Is, IsFault}
-use Rattle.thorin_check.specs.Turns.{TellsNext, answering}
-use Rattle.thorin_check.proofs.Told.{none_told, told_as, told_then, then_or}
+use Rattle.thorin_check.proofs.Told.{told_as, told_then, stopped_behind}
 
 module _ (executable : List ℕ) (named : Named)
     (looked : Result (Option FoundUnit) PackageError) where
@@ -61,14 +60,6 @@ module _ (pack : Package) (executable : List ℕ) where
     all = refl;
   })
 
-  -- the error that a list begins with was told
-  pub read_broken : (room : ℕ) (listed : Listed) (a b : Progress) (error : Error)
-      (result : Outcome) → MemoryAside error (listed ≡ ([], Some (error_of error)))
-      → OnOk result (error ≢ Memory) → Tells (IsBroken executable) a b result
-      → Tells (TellsListed pack executable room listed) a b result
-  read_broken room listed a b error result aside known h =
-      grind (arith, at_end {end = Some (error_of error)} room listed)
-
   -- behind the first of some
   behind_first : (room left : ℕ) (first : Named) (after : Listed) (ms more : List FaultValue)
       → room ≤ left + long_size first.1
@@ -84,105 +75,78 @@ module _ (pack : Package) (executable : List ℕ) where
     all = rw (t.all, k, append_assoc) refl;
   }
 
-  module _ (whole : ℕ) (all : Listed) where
-    -- what is told of those that are left makes, behind these faults, what is told of all
-    pub record GoesOn (room : ℕ) (left : Listed) (faults : List FaultValue) : Type 0 where
-      pub on : (more : List FaultValue) → TellsListed pack executable room left more
-          → TellsListed pack executable whole all (faults ++ more)
-
-    pub on_none : GoesOn whole all []
-    on_none = record { on = λ more t. t }
-
-    on_next : (room left : ℕ) (before after : Listed) (first : Named)
-        → before ≡ (first ∷ after.0, after.1) → room ≤ left + long_size first.1
-        → (ls ms : List FaultValue) → GoesOn room before ls
-        → Is (missing_faults executable first (found pack first.0)) ms
-        → GoesOn left after (ls ++ ms)
-    on_next room left before after first e fits ls ms h k = record {
-      on = λ more t. rw (append_assoc ls ms more) (h.on (ms ++ more)
-          (rw e (behind_first room left first after ms more fits k t)));
-    }
-
-    -- what was told of the next of them
-    module _ (room left : ℕ) (before after : Listed) {a b c : Progress} (more : Bool)
-        (p : Told (GoesOn room before) a b)
-        (t : TellsNext pack executable room left before after b c (Ok more)) where
-      pub told_first : more ≡ true → Told (GoesOn left after) a c
-      told_first one =
-          let h = rw one at t in
-          told_then (on_next room left before after h.first h.split h.fits) p h.told
-
-      pub told_last : more ≡ false → Told (TellsListed pack executable whole all) a c
-      told_last none =
-          let last = rw none at t in told_then (λ ls ms h k. h.on ms k) p last
-
-  -- ---- the next of the units that are left
-
-  module _ (room left : ℕ) (before after : Listed) (a b : Progress) where
-    pub next_first : (first : Named) (told : Outcome) → before ≡ (first ∷ after.0, after.1)
-        → room ≤ left + long_size first.1
-        → Tells (Is (missing_faults executable first (found pack first.0))) a b told
-        → TellsNext pack executable room left before after a b (answering told true)
-    next_first first (Ok done) split fits t =
-        record { first = first; split = split; told = t; fits = fits }
-    next_first first (Err failure) split fits t = t
-
-    -- no more are looked for, since the path of the first of them is too long
-    pub next_long : (first : Named) (told : Outcome) → before ≡ (first ∷ after.0, after.1)
-        → longest_path < length first.1 → room < length first.1
-        → Tells (IsBroken executable) a b told
-        → TellsNext pack executable room left before after a b (answering told false)
-    next_long first (Ok done) split long over t =
-        let size = long_is first.1 long in
-        let all : room < long_bytes (first ∷ []) = omega (arith, size, over) in
-        told_as t (λ faults broken. rw split (record {
-          first = [];
-          left = first ∷ after.0;
-          split = refl;
-          ended = faults;
-          end = (long, all, broken);
-          all = refl;
-        }))
-    next_long first (Err failure) split long over t = t
-
-    pub next_shorter : (more : Bool) → more ≡ true
-        → TellsNext pack executable room left before after a b (Ok more)
-        → length after.0 < length before.0
-    next_shorter more one t = let h = rw one at t in rw h.split (omega arith)
-
-    pub next_broken : (error : Error) (told : Outcome)
-        → MemoryAside error (before ≡ ([], Some (error_of error))) → OnOk told (error ≢ Memory)
-        → Tells (IsBroken executable) a b told
-        → TellsNext pack executable room left before after a b (answering told false)
-    next_broken error (Ok done) aside known t =
-        read_broken room before a b error (Ok done) aside known t
-    next_broken error (Err failure) aside known t = t
-
-  pub next_end : (room left : ℕ) (before after : Listed) (a : Progress) → before ≡ ([], None)
-      → TellsNext pack executable room left before after a a (Ok false)
-  next_end room left before after a e = none_told _ (at_end room before [] e refl) a
-
-  -- ---- the units of an executable
-
-  -- some are left behind the first of them
-  named_listed : (room : ℕ) (listed after : Listed) (first : Named)
-      → listed ≡ (first ∷ after.0, after.1) → (faults : List FaultValue)
+  -- the path of the first of some is too long
+  long_first : (room : ℕ) (first : Named) (after : Listed) (faults : List FaultValue)
+      → longest_path < length first.1 → room < length first.1 → IsBroken executable faults
       → TellsListed pack executable room (first ∷ after.0, after.1) faults
-      → TellsNamed pack executable room listed faults
-  named_listed room listed after first e faults t = rw e t
+  long_first room first after faults long over broken =
+      let size = long_is first.1 long in
+      let all : room < long_bytes (first ∷ []) = omega (arith, size, over) in
+      record {
+        first = [];
+        left = first ∷ after.0;
+        split = refl;
+        ended = faults;
+        end = (long, all, broken);
+        all = refl;
+      }
 
-  pub named_first : (room : ℕ) (listed after : Listed) (a b c : Progress) (first : Named)
-      (result : Outcome) → listed ≡ (first ∷ after.0, after.1)
-      → Told (Is (missing_faults executable first (found pack first.0))) a b
-      → Tells (TellsListed pack executable room after) b c result
-      → Tells (TellsNamed pack executable room listed) a c result
-  named_first room listed after a b c first result e p q =
-      then_or (Is (missing_faults executable first (found pack first.0)))
-      (TellsListed pack executable room after) IsOfPrinting a b c
-      (TellsNamed pack executable room listed)
-      (λ ls ms k t. named_listed room listed after first e (ls ++ ms)
-      (behind_first room room first after ls ms (omega arith) k t))
-      result p q
+  module _ (whole : ℕ) (all : Listed) where
+    -- nothing is told yet; or what is told of those that are left makes, behind these faults, what
+    -- is told of all
+    abbrev pub GoesOn : (is_first : Bool) → (room : ℕ) → (left : Listed) → List FaultValue → Type 0
+    GoesOn true room left faults = (faults ≡ []) × (left ≡ all) × (room ≡ whole)
+    GoesOn false room left faults = (more : List FaultValue)
+        → TellsListed pack executable room left more
+        → TellsNamed pack executable whole all (faults ++ more)
+
+    module _ (is_first : Bool) (room : ℕ) (left after : Listed) (first : Named)
+        (split : left ≡ (first ∷ after.0, after.1)) where
+      on_some : (b : Bool) (ls more : List FaultValue) → GoesOn b room left ls
+          → TellsListed pack executable room (first ∷ after.0, after.1) more
+          → TellsNamed pack executable whole all (ls ++ more)
+      on_some true ls more h t = rw (h.0, ← h.1, ← h.2, split) t
+      on_some false ls more h t = h more (rw split t)
+
+      pub on_next : (less : ℕ) → room ≤ less + long_size first.1 → (ls ms : List FaultValue)
+          → GoesOn is_first room left ls
+          → Is (missing_faults executable first (found pack first.0)) ms
+          → GoesOn false less after (ls ++ ms)
+      on_next less fits ls ms h k = λ more t. rw (append_assoc ls ms more)
+          (on_some is_first ls (ms ++ more) h (behind_first room less first after ms more fits k t))
+
+      pub on_long : longest_path < length first.1 → room < length first.1
+          → (ls ms : List FaultValue) → GoesOn is_first room left ls → IsBroken executable ms
+          → TellsNamed pack executable whole all (ls ++ ms)
+      on_long long over ls ms h broken =
+          on_some is_first ls ms h (long_first room first after ms long over broken)
+
+    module _ (room : ℕ) (left : Listed) where
+      pub on_end : left ≡ ([], None) → (ls : List FaultValue) → GoesOn false room left ls
+          → TellsNamed pack executable whole all ls
+      on_end e ls h = rw append-nil at (h [] (at_end room left [] e refl))
+
+      pub on_bare : left ≡ ([], None) → (ls ms : List FaultValue) → GoesOn true room left ls
+          → IsFault (bare_fault executable) ms → TellsNamed pack executable whole all (ls ++ ms)
+      on_bare e ls ms h is = rw (h.0, ← h.1, e) is
+
+      on_broken : (is_first : Bool) (error : ErrorValue) → left ≡ ([], Some error)
+          → (ls ms : List FaultValue) → GoesOn is_first room left ls → IsBroken executable ms
+          → TellsNamed pack executable whole all (ls ++ ms)
+      on_broken true error e ls ms h broken =
+          rw (h.0, ← h.1, e) (at_end whole ([], Some error) ms refl broken)
+      on_broken false error e ls ms h broken = h ms (at_end room left ms e broken)
+
+      pub broken_behind : (is_first : Bool) {a b : Progress} (c : Progress) (error : Error)
+          (result : Outcome)
+          → Told (GoesOn is_first room left) a b
+          → MemoryAside error (left ≡ ([], Some (error_of error)))
+          → OnOk result (error ≢ Memory) → Tells (IsBroken executable) b c result
+          → Tells (TellsNamed pack executable whole all) a c result
+      broken_behind is_first c error (Ok done) p aside known h =
+          told_then (on_broken is_first (error_of error) (aside known)) p h
+      broken_behind is_first c error (Err failure) p aside known h =
+          stopped_behind c.written p h
 
   -- the error that they begin with was told
   pub named_broken : (room : ℕ) (listed : Listed) (a b : Progress) (error : Error)
@@ -190,11 +154,10 @@ module _ (pack : Package) (executable : List ℕ) where
       → OnOk result (error ≢ Memory) → Tells (IsBroken executable) a b result
       → Tells (TellsNamed pack executable room listed) a b result
   named_broken room listed a b error (Ok done) aside known h = rw (aside known)
-      (read_broken room ([], Some (error_of error)) a b error (Ok done) (λ other. refl) known h)
+      (told_as h (λ faults broken. at_end room ([], Some (error_of error)) faults refl broken))
   named_broken room listed a b error (Err failure) aside known h = h
 
-  -- there are none
-  pub named_none : (room : ℕ) (listed : Listed) (a b : Progress) (result : Outcome)
-      → listed ≡ ([], None) → Tells (IsFault (bare_fault executable)) a b result
-      → Tells (TellsNamed pack executable room listed) a b result
-  named_none room listed a b result e h = rw e h
+-- one that was left is left no more
+pub left_shorter : (left after : Listed) (first : Named) → left ≡ (first ∷ after.0, after.1)
+    → length after.0 < length left.0
+left_shorter left after first e = rw e (omega arith)

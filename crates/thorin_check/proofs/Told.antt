@@ -1,6 +1,6 @@
 -- Faults that were told.
 use Rattle.std.proofs.Common.{◌≡◌, ◌∙◌, ℕ, ◌+◌, ◌-◌, ◌^◌, ◌<◌, ◌≤◌, List, [], ◌∷◌, ◌++◌, length}
-use Rattle.std.proofs.Common.{min, Option, Result, OnOk, take, get_or, refl, sym, arith, rules}
+use Rattle.std.proofs.Common.{min, Option, Ok, Err, take, get_or, refl, sym, arith, rules}
 use Rattle.std.proofs.Common.{append_assoc, append-nil, take_all}
 use Rattle.std.proofs.KnownBytes.{Appends-nil, Appends-trans}
 use Rattle.std.proofs.lemmas.List.{take_more}
@@ -11,15 +11,8 @@ use Rattle.thorin_print.specs.declared.form.Form.{Form}
 use Rattle.thorin_check.specs.Rendering.{FaultValue, fault_text}
 use Rattle.thorin_check.specs.Telling.{counted_on, Progress, Told, TellsOr, Tells, IsFault}
 use Rattle.thorin_print.specs.Answers.{Prints, Outcome}
-use Rattle.thorin_check.specs.Telling.{HandsOver, PassesOn, InTurn, ForEach}
+use Rattle.thorin_check.specs.Telling.{InTurn, ForEach}
 use Rattle.thorin_print.specs.declared.output.Failure.{Failure}
-
--- ---- what was printed
-
--- what waited was handed over, and then nothing waited
-pub handed_over : (a b : Option (List ℕ)) (held lent left : List ℕ) (result : Outcome)
-    → lent ≡ held → left ≡ [] → Prints lent a b result → HandsOver a held b left result
-handed_over a b held lent left result same none p = grind (arith)
 
 -- ---- how many
 
@@ -87,15 +80,40 @@ module _ (P Q : List FaultValue → Type 0) (Stops : Failure → Type 0) (a b c 
       → TellsOr Stops (InTurn P Q) a c result
   in_turn_or result p q = then_or (InTurn P Q) in_turn result p q
 
--- a fault that was added was passed on
-pub passed : (fault : FaultValue) (form : Form) (written : Option (List ℕ)) (held more : List ℕ)
-    (count : ℕ) (new : Progress) {E : Type 0} (put : Result (Unit {0}) E) (result : Outcome)
-    → OnOk put (more ≡ held ++ fault_text form fault)
-    → PassesOn put (record { form = form; written = written; waiting = more; count = count }) new
-    result
-    → Tells (IsFault fault)
-    (record { form = form; written = written; waiting = held; count = count }) new result
-passed fault form written held more count new put result e p = grind (arith, append-nil)
+-- a fault was put behind what waits, and counted
+module _ (fault : FaultValue) (form : Form) (written : Option (List ℕ)) (held more : List ℕ)
+    (count next : ℕ) (put : more ≡ held ++ fault_text form fault)
+    (counted : next ≡ min (count + 1) (2 ^ 64 - 1)) where
+  -- it waits
+  pub one_waits : Told (IsFault fault)
+      (record { form = form; written = written; waiting = held; count = count })
+      (record { form = form; written = written; waiting = more; count = next })
+  one_waits = record {
+    faults = fault ∷ [];
+    are = refl;
+    handed = [];
+    added = Appends-nil written;
+    split = rw (append-nil, put) refl;
+    counted = counted;
+    formed = refl;
+  }
+
+  -- what waits was handed over, and then nothing waits
+  pub one_handed : (new : Option (List ℕ)) (lent left : List ℕ) (result : Outcome) → lent ≡ more
+      → left ≡ [] → Prints lent written new result
+      → Tells (IsFault fault)
+      (record { form = form; written = written; waiting = held; count = count })
+      (record { form = form; written = new; waiting = left; count = next }) result
+  one_handed new lent left (Ok done) same none p = record {
+    faults = fault ∷ [];
+    are = refl;
+    handed = more;
+    added = rw same at p;
+    split = rw (append-nil, none, append-nil, put) refl;
+    counted = counted;
+    formed = refl;
+  }
+  one_handed new lent left (Err failure) same none p = p
 
 -- ---- faults for each of a list
 

@@ -18,4 +18,3 @@ pub mod Sound
 pub mod Strings
 pub mod Telling
 pub mod Texts
-pub mod Turns

@@ -14,7 +14,7 @@ use Rattle.dwp_units.specs.declared.unit.UnitSection.{UnitSection}
 use Rattle.dwp_units.specs.declared.unit.UnitSection.TheVariants.{Info, Types}
 use Rattle.thorin_find.specs.Names.{first_of}
 use Rattle.thorin_check.specs.declared.abbreviations.Own.{Own}
-use Rattle.thorin_check.specs.declared.abbreviations.Place.{Place}
+use Rattle.thorin_check.specs.declared.abbreviations.UnitPlace.{UnitPlace}
 use Rattle.thorin_check.specs.declared.abbreviations.PlaceRead.{PlaceRead}
 use Rattle.thorin_check.specs.declared.abbreviations.Remembered.{Remembered}
 use Rattle.thorin_check.specs.Own.{own_by}
@@ -45,7 +45,7 @@ section_by false = Info
 section_by true = Types
 
 -- where a unit's own bytes and its abbreviations stand
-abbrev pub place_in : DwarfObject → FoundUnit → Place
+abbrev pub place_in : DwarfObject → FoundUnit → UnitPlace
 place_in object unit = record {
   is_in_types = is_in_types (place_of object (range_in unit.row kinds.Types));
   own = numbers_of
@@ -54,7 +54,7 @@ place_in object unit = record {
 }
 
 -- the identifier that the bytes at a place give
-abbrev pub own_at : Package → Place → Option (Option DwarfObject)
+abbrev pub own_at : Package → UnitPlace → Option (Option DwarfObject)
 own_at pack place = own_by
     (section pack.order (bytes_at (content pack.contents Abbrev) place.abbreviations))
     (first_of (units (section_by place.is_in_types) (section pack.order

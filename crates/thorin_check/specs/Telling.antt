@@ -1,6 +1,6 @@
 -- Faults that are told one after the other, and how many these are.
 use Rattle.std.specs.Prelude.{◌≡◌, ℕ, ◌+◌, ◌-◌, ◌^◌, min, List, [], ◌∷◌, ◌++◌, length, Option}
-use Rattle.std.specs.Prelude.{Result, Ok, Err, string_bytes}
+use Rattle.std.specs.Prelude.{Ok, Err, string_bytes}
 use Rattle.std.specs.List.{flat_map}
 use Rattle.std.specs.Io.KnownBytes.{Appends}
 use Rattle.thorin_print.specs.declared.form.Form.{Form}
@@ -8,7 +8,6 @@ use Rattle.thorin_check.specs.Rendering.{FaultValue, fault_text}
 use Rattle.thorin_check.specs.declared.faults.Faults.{Faults}
 use Rattle.thorin_print.specs.Answers.{Outcome, Grows, IsOfPrinting}
 use Rattle.thorin_print.specs.declared.output.Failure.{Failure}
-use Rattle.thorin_print.specs.declared.output.Failure.TheVariants as failures
 
 -- how many faults there are, as far as 64 bits go
 abbrev pub fault_count : List FaultValue → ℕ
@@ -67,31 +66,6 @@ IsNone faults = faults ≡ []
 -- one
 abbrev pub IsFault : FaultValue → List FaultValue → Type 0
 IsFault fault faults = faults ≡ fault ∷ []
-
--- what waits went to a writer, and nothing waits; of a failure only what the writer got is said
-abbrev pub HandsOver : (old : Option (List ℕ)) → (held : List ℕ) → (new : Option (List ℕ))
-    → (left : List ℕ) → Outcome → Type 0
-HandsOver old held new left (Ok done) = Appends old new held × (left ≡ [])
-HandsOver old held new left (Err failure) = IsOfPrinting failure × Grows old new
-
--- a fault that was added to what waits was counted, and what waits went to a writer or waits on
-pub record PassedOn (old new : Progress) : Type 0 where
-  pub handed : List ℕ
-  pub added : Appends old.written new.written handed
-  pub split : old.waiting ≡ handed ++ new.waiting
-  pub counted : new.count ≡ min (old.count + 1) (2 ^ 64 - 1)
-  pub formed : new.form ≡ old.form
-
-abbrev pub PassesFault : (old new : Progress) → Outcome → Type 0
-PassesFault old new (Ok done) = PassedOn old new
-PassesFault old new (Err failure) = IsOfPrinting failure × Grows old.written new.written
-
--- the same, where a fault was added; or there was no memory for that
-abbrev pub PassesOn : {E : Type 0} → Result (Unit {0}) E → (old new : Progress)
-    → Outcome → Type 0
-PassesOn (Ok done) old new result = PassesFault old new result
-PassesOn (Err cause) old new result =
-    (result ≡ Err failures.Memory) × Grows old.written new.written
 
 -- faults of one kind, and behind them those of another
 pub record InTurn (P Q : List FaultValue → Type 0) (faults : List FaultValue) : Type 0 where

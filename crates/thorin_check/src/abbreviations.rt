@@ -1,24 +1,22 @@
 //! The identifiers that units' own bytes give. What was read is remembered: the abbreviations from
 //! unit to unit, and what units that share their bytes have.
 
-ghost use Rattle.std.specs.Prelude.{◌≡◌, ◌≢◌, ◌+◌, ◌≤◌, true, false, length, Option, Some, None, Ok};
-ghost use Rattle.std.specs.Prelude.{IfOk, string_bytes};
+ghost use Rattle.std.specs.Prelude.{◌≡◌, ◌≢◌, ◌+◌, ◌≤◌, true, false, length, Some, None, Ok, IfOk};
 ghost use Rattle.dwp_base.specs.declared.section.Contribution.{Contribution};
 ghost use Rattle.std.specs.Result.{result_ok};
 ghost use Rattle.dwp_bytes.specs.Input.{section};
 ghost use Rattle.dwp_index.specs.Contents.{content};
 ghost use Rattle.dwp_index.specs.Index.{range_in};
-ghost use Rattle.dwp_index.specs.Package.{found};
 ghost use Rattle.dwp_units.specs.Units.{unit_of};
 ghost use Rattle.thorin_identity.specs.Identity.{identity};
+ghost use Rattle.dwp_index.specs.Package.{found};
 ghost use Rattle.thorin_check.specs.Faults.{TellsOwn};
 ghost use Rattle.thorin_check.specs.Texts.{IsTextOf};
-ghost use Rattle.thorin_check.specs.Faults.{own_text, unread_own_text};
 ghost use Rattle.thorin_check.specs.Own.{own_of};
 ghost use Rattle.thorin_check.specs.Remembered.{said_of, numbers_of, bytes_at, place_in};
 ghost use Rattle.thorin_check.specs.Remembered.{Knows};
 
-use crate::faults::some;
+use crate::faults::{error_text, some};
 use crate::turns::TablesByTurns;
 use dwp_base::{Contribution, SectionKind};
 use dwp_dwarf::{Reader, SliceReader, UnitHeader, UnitSection};
@@ -42,7 +40,7 @@ pub(crate) enum Own {
 
 /// Where a unit's own bytes and its abbreviations stand: what its bytes say depends on nothing else.
 #[derive(Clone, Copy)]
-pub(crate) struct Place {
+pub(crate) struct UnitPlace {
     /// Whether its own bytes are in types.
     is_in_types: bool,
     /// Where these begin, and their size.
@@ -51,16 +49,16 @@ pub(crate) struct Place {
     abbreviations: (u64, u64),
 }
 
-impl Place {
+impl UnitPlace {
     /// That of a unit.
-    fn of(unit: &PackagedUnit<'_>, object: DwarfObject) -> Place
+    fn of(unit: &PackagedUnit<'_>, object: DwarfObject) -> UnitPlace
         ensures { result ≡ place_in object unit.now }
     {
         let (is_in_types, kind) = match place_of(object, unit.range(SectionKind::Types)) {
             UnitSection::Info => (false, SectionKind::Info),
             UnitSection::Types => (true, SectionKind::Types),
         };
-        Place {
+        UnitPlace {
             is_in_types,
             own: numbers_of(unit.range(kind)),
             abbreviations: numbers_of(unit.range(SectionKind::Abbrev)),
@@ -68,7 +66,7 @@ impl Place {
     }
 
     /// Whether it is that one.
-    fn is(self, other: Place) -> bool
+    fn is(self, other: UnitPlace) -> bool
         ensures { result ≡ true → self ≡ other }
     {
         self.is_in_types == other.is_in_types
@@ -87,7 +85,7 @@ impl Place {
 /// What was read at a place, of the first unit there.
 #[derive(Drop)]
 pub(crate) struct PlaceRead {
-    place: Place,
+    place: UnitPlace,
     own: Own,
 }
 
@@ -128,34 +126,19 @@ impl<'a> Remembered<'a> {
         ensures knows { Knows pack.now self.new }
     {
         if has_twin {
-            return self.text_once(pack, object, unit);
+            let place = UnitPlace::of(unit, object);
+            if let Some(read) = self.shared.get(&place.key()) {
+                if read.place.is(place) {
+                    return own_fault(self.alloc, &read.own, object);
+                }
+            }
+            let own = read(self.alloc, &mut self.tables, pack, object, unit)?;
+            let text = own_fault(self.alloc, &own, object)?;
+            self.shared.insert(place.key(), PlaceRead { place, own })?;
+            return Ok(text);
         }
         let own = read(self.alloc, &mut self.tables, pack, object, unit)?;
         own_fault(self.alloc, &own, object)
-    }
-
-    /// The same, remembered.
-    fn text_once(
-        &mut self,
-        pack: &PackageFile<'a>,
-        object: DwarfObject,
-        unit: &PackagedUnit<'a>,
-    ) -> Result<Option<String>, AllocError>
-        requires knows { Knows pack.now self.old }
-        requires is_found { found pack.now object ≡ Ok (Some unit.now) }
-        ensures text { IsTextOf (TellsOwn object (own_of object unit.now)) object result }
-        ensures knows { Knows pack.now self.new }
-    {
-        let place = Place::of(unit, object);
-        if let Some(read) = self.shared.get(&place.key()) {
-            if read.place.is(place) {
-                return own_fault(self.alloc, &read.own, object);
-            }
-        }
-        let own = read(self.alloc, &mut self.tables, pack, object, unit)?;
-        let text = own_fault(self.alloc, &own, object)?;
-        self.shared.insert(place.key(), PlaceRead { place, own })?;
-        Ok(text)
     }
 }
 
@@ -205,8 +188,7 @@ fn read_behind<'a>(
 fn unread<D: fmt::Display>(alloc: Global, error: &D) -> Result<Own, AllocError>
     ensures { IfOk result (λ own. said_of own ≡ None) }
 {
-    let cause = format!(in alloc; "{error}")?;
-    Ok(Own::Unread(cause))
+    Ok(Own::Unread(error_text(alloc, error)?))
 }
 
 /// Where a range begins, and its size; an absent one has no bytes.
@@ -220,20 +202,24 @@ fn numbers_of(range: Option<Contribution>) -> (u64, u64)
 }
 
 /// What is told of a unit whose own bytes say this of its identifier, if anything.
-#[tactic(auto, using(crate::proofs::Faulted::made))]
+#[tactic(auto, using(crate::proofs::Faulted::made, thorin_print::proofs::Hex::hex16_written))]
 fn own_fault(alloc: Global, own: &Own, object: DwarfObject) -> Result<Option<String>, AllocError>
     ensures { IsTextOf (TellsOwn object (said_of own.now)) object result }
 {
     match own {
         Own::Is(own) => {
             if is_same(*own, object) {
-                Ok(None)
-            } else {
-                some(own_text(alloc, *own))
+                return Ok(None);
             }
+            let kind = short_kind(*own);
+            let id = own.index();
+            some(format!(in alloc; "its own identifier is {kind} 0x{id:016x}"))
         }
         Own::Nameless => some(format!(in alloc; "it has no identifier of its own")),
-        Own::Unread(cause) => some(unread_text(alloc, cause.as_str())),
+        Own::Unread(cause) => {
+            let cause = cause.as_str();
+            some(format!(in alloc; "its own identifier can't be read: {cause}"))
+        }
     }
 }
 
@@ -247,21 +233,4 @@ fn is_same(a: DwarfObject, b: DwarfObject) -> bool
         (DwarfObject::TypeUnit(a), DwarfObject::TypeUnit(b)) => a.0 == b.0,
         _ => false,
     }
-}
-
-/// What is told of a unit whose own identifier is another.
-#[tactic(auto, using(thorin_print::proofs::Hex::hex16_written))]
-fn own_text(alloc: Global, own: DwarfObject) -> Result<String, AllocError>
-    ensures { IfOk result (λ text. string_bytes text ≡ own_text own) }
-{
-    let kind = short_kind(own);
-    let id = own.index();
-    format!(in alloc; "its own identifier is {kind} 0x{id:016x}")
-}
-
-/// What is told of a unit whose own identifier can't be read.
-fn unread_text(alloc: Global, cause: &str) -> Result<String, AllocError>
-    ensures { IfOk result (λ text. string_bytes text ≡ unread_own_text cause.now) }
-{
-    format!(in alloc; "its own identifier can't be read: {cause}")
 }

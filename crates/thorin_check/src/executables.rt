@@ -1,22 +1,18 @@
 //! The units that executables name, in `thorin check`.
 
-ghost use Rattle.std.specs.Prelude.{◌≡◌, ◌≢◌, ◌<◌, ◌≤◌, ◌+◌, ℕ, List, true, false, length, IfOk};
+ghost use Rattle.std.specs.Prelude.{◌≡◌, ◌≢◌, ◌<◌, ◌≤◌, ◌+◌, true, false, length, IfOk};
 ghost use Rattle.std.specs.Prelude.{OnOk, string_bytes};
 ghost use Rattle.dwp_index.specs.Package.{found};
 ghost use Rattle.thorin_executable.specs.Skeletons.{skeletons_by};
 ghost use Rattle.thorin_errors.specs.declared.error.Error.TheVariants.{Memory};
 ghost use Rattle.thorin_check.specs.Checking.{IsOfChecking, IsOfReading, TellsExecutables};
 ghost use Rattle.thorin_check.specs.Checking.{TellsExecutable};
-ghost use Rattle.thorin_check.specs.Faults.{TellsNamed, TellsListed, missing_text, missing_faults};
-ghost use Rattle.thorin_check.specs.Texts.{IsTextOf};
+ghost use Rattle.thorin_check.specs.Faults.{TellsNamed, missing_text, missing_faults};
 ghost use Rattle.thorin_check.specs.Faults.{IsBroken, bare_fault, longest_path};
 ghost use Rattle.thorin_check.specs.Faults.{long_size, room_of};
-ghost use Rattle.thorin_print.specs.Shown.{shown};
-ghost use Rattle.thorin_words.specs.Printed.{printed};
 ghost use Rattle.thorin_check.specs.Telling.{progress, Tells, TellsOr, Is, IsFault};
-ghost use Rattle.thorin_check.specs.Turns.{TellsNext, answering};
 
-use crate::faults::{Faults, some, tell, tell_fault};
+use crate::faults::{Faults, error_text, some, tell, tell_fault};
 use crate::rendering::Fault;
 use bumpalo::Bump;
 use dwp_bytes::RelocationEntry;
@@ -25,7 +21,7 @@ use dwp_table::DwarfObject;
 use std::alloc::{AllocError, Global};
 use std::io::Write;
 use thorin_errors::Error;
-use thorin_executable::{NamedUnit, NamedUnits, NamelessUnits};
+use thorin_executable::{NamedUnits, NamelessUnits};
 use thorin_find::{FileReader, read_named};
 use thorin_print::{Failure, Form, shown, shown_briefly};
 use thorin_sessions::{BytesSession, Session};
@@ -84,10 +80,7 @@ pub(crate) fn check_executables<F: FileReader, O: Write>(
             pack,
             executable: named.executables[i],
         };
-        match check_executable(alloc, files, naming, named.reading, faults, out) {
-            Ok(()) => {}
-            Err(failure) => return Err(failure),
-        }
+        check_executable(alloc, files, naming, named.reading, faults, out)?;
     }
     Ok(())
 }
@@ -107,38 +100,20 @@ fn check_executable<F: FileReader, O: Write>(
         (progress (O.contents out.old) faults.old) (progress (O.contents out.new) faults.new)
         result }
 {
-    match read_named(files, naming.executable) {
-        Ok(bytes) => check_read(
-            alloc,
-            naming,
-            bytes.as_slice(),
-            reading.nameless,
-            faults,
-            out,
-        ),
-        Err(failure) => Err(failure),
-    }
-}
-
-/// The same of the bytes of an executable.
-fn check_read<O: Write>(
-    alloc: Global,
-    naming: Naming<'_, '_>,
-    bytes: &[u8],
-    nameless: NamelessUnits,
-    faults: &mut Faults,
-    out: &mut O,
-) -> Result<(), Failure>
-    ensures { Tells (TellsNamed naming.entry.pack.now naming.entry.executable.now
-        (room_of bytes.now) (skeletons_by nameless bytes.now)) (progress (O.contents out.old) faults.old)
-        (progress (O.contents out.new) faults.new) result }
-{
+    let bytes = read_named(files, naming.executable)?;
     let bump = Bump::new(alloc);
     let session = BytesSession::new(&bump);
-    check_named(&session, naming, bytes, nameless, faults, out)
+    check_named(
+        &session,
+        naming,
+        bytes.as_slice(),
+        reading.nameless,
+        faults,
+        out,
+    )
 }
 
-/// The same, with a session that holds what is made of them.
+/// The same of the bytes of an executable; the session holds what is made of them.
 fn check_named<'s, Sess: Session<RelocationEntry>, O: Write>(
     session: &'s Sess,
     naming: Naming<'_, '_>,
@@ -154,21 +129,15 @@ fn check_named<'s, Sess: Session<RelocationEntry>, O: Write>(
     let alloc = *faults.waiting.allocator();
     match NamedUnits::read_by(alloc, session, bytes, nameless) {
         Ok(mut units) => {
-            let room = room_of(bytes);
+            let room = bytes.len().max(LEAST_ROOM);
             check_listed(naming, &mut units, room, faults, out)
         }
         Err(error) => tell_error(naming.executable, &error, faults, out),
     }
 }
 
-/// For how many bytes of long paths of an executable there is room.
-fn room_of(bytes: &[u8]) -> usize
-    ensures { result ≡ room_of bytes.now }
-{
-    bytes.len().max(LEAST_ROOM)
-}
-
-/// The same of the units that an executable names, with room for so many bytes of long paths.
+/// The same of the units that an executable names, with room for so many bytes of long paths but the
+/// first; where there is none left for the next, this is told.
 fn check_listed<O: Write>(
     naming: Naming<'_, '_>,
     units: &mut NamedUnits<'_>,
@@ -181,82 +150,38 @@ fn check_listed<O: Write>(
         (progress (O.contents out.old) faults.old) (progress (O.contents out.new) faults.new)
         result }
 {
-    match units.next() {
-        Ok(Some(unit)) => {
-            match check_skeleton(naming, unit.target, units.path(), faults, out) {
-                Ok(()) => check_skeletons(naming, units, room, faults, out),
-                Err(failure) => Err(failure),
-            }
-        }
-        Ok(None) => tell_bare(naming.executable, faults, out),
-        Err(error) => tell_error(naming.executable, &error, faults, out),
-    }
-}
-
-/// The same of the units that are left of those that an executable names.
-fn check_skeletons<O: Write>(
-    naming: Naming<'_, '_>,
-    units: &mut NamedUnits<'_>,
-    room: usize,
-    faults: &mut Faults,
-    out: &mut O,
-) -> Result<(), Failure>
-    ensures { Tells (TellsListed naming.entry.pack.now naming.entry.executable.now room
-        units.old.listed)
-        (progress (O.contents out.old) faults.old) (progress (O.contents out.new) faults.new)
-        result }
-{
     let mut left = room;
+    let mut is_first = true;
     loop {
-        match check_next(naming, units, &mut left, faults, out) {
-            Ok(more) => {
-                if !more {
-                    return Ok(());
+        match units.next() {
+            Ok(Some(unit)) => {
+                let path = units.path();
+                if !has_room(&mut left, unit.is_repeated || is_first, path) {
+                    let cause = "too many paths past 4095 bytes";
+                    return tell_broken(naming.executable, cause, faults, out);
                 }
+                check_skeleton(naming, unit.target, path, faults, out)?;
+                is_first = false;
             }
-            Err(failure) => return Err(failure),
+            Ok(None) => {
+                if is_first {
+                    return tell_bare(naming.executable, faults, out);
+                }
+                return Ok(());
+            }
+            Err(error) => return tell_error(naming.executable, &error, faults, out),
         }
     }
 }
 
-/// The same of the next of them, if there is room for its path; else this is told. Answers whether
-/// more may follow.
-fn check_next<O: Write>(
-    naming: Naming<'_, '_>,
-    units: &mut NamedUnits<'_>,
-    room: &mut usize,
-    faults: &mut Faults,
-    out: &mut O,
-) -> Result<bool, Failure>
-    ensures { TellsNext naming.entry.pack.now naming.entry.executable.now room.old room.new
-        units.old.listed units.new.listed (progress (O.contents out.old) faults.old)
-        (progress (O.contents out.new) faults.new) result }
-{
-    match units.next() {
-        Ok(Some(unit)) => {
-            let path = units.path();
-            if !has_room(room, unit, path) {
-                return answering(tell_long(naming.executable, faults, out), false);
-            }
-            let told = check_skeleton(naming, unit.target, path, faults, out);
-            answering(told, true)
-        }
-        Ok(None) => Ok(false),
-        Err(error) => {
-            let told = tell_error(naming.executable, &error, faults, out);
-            answering(told, false)
-        }
-    }
-}
-
-/// Whether there is room for the path of a unit, which takes some where no system opens one as long
-/// and it isn't that of the unit before.
-fn has_room(room: &mut usize, unit: NamedUnit, path: &str) -> bool
+/// Whether there is room for the path of a unit, which takes some where no system opens one as long,
+/// unless it is free.
+fn has_room(room: &mut usize, is_free: bool, path: &str) -> bool
     ensures long { result ≡ false → longest_path < length path.now }
     ensures over { result ≡ false → room.old < length path.now }
     ensures fits { result ≡ true → room.old ≤ room.new + long_size path.now }
 {
-    if unit.is_repeated || path.len() <= LONGEST_PATH {
+    if is_free || path.len() <= LONGEST_PATH {
         return true;
     }
     match room.checked_sub(path.len()) {
@@ -268,17 +193,9 @@ fn has_room(room: &mut usize, unit: NamedUnit, path: &str) -> bool
     }
 }
 
-/// An answer, unless telling failed.
-fn answering(told: Result<(), Failure>, more: bool) -> Result<bool, Failure>
-    ensures { result ≡ answering told more }
-{
-    match told {
-        Ok(()) => Ok(more),
-        Err(failure) => Err(failure),
-    }
-}
-
-/// A unit that an executable names is in the package.
+/// A unit that an executable names is in the package; what a slot names and can't be read was told
+/// with its unit.
+#[tactic(auto, using(crate::proofs::Told::none_told, crate::proofs::Faulted::made, crate::proofs::Faulted::text_told, crate::proofs::Skeletons::missing_none, crate::proofs::Skeletons::missing_some, crate::proofs::Skeletons::missing_unread))]
 fn check_skeleton<O: Write>(
     naming: Naming<'_, '_>,
     object: DwarfObject,
@@ -290,26 +207,13 @@ fn check_skeleton<O: Write>(
         (found naming.entry.pack.now object))) (progress (O.contents out.old) faults.old)
         (progress (O.contents out.new) faults.new) result }
 {
-    let text = skeleton_text(naming, object, path, &faults.waiting);
-    tell(object, text, faults, out)
-}
-
-/// What is told of a unit that an executable names, where it isn't in the package; what a slot names
-/// and can't be read was told with its unit.
-#[tactic(auto, using(crate::proofs::Faulted::made, crate::proofs::Skeletons::missing_none, crate::proofs::Skeletons::missing_some, crate::proofs::Skeletons::missing_unread))]
-fn skeleton_text(
-    naming: Naming<'_, '_>,
-    object: DwarfObject,
-    path: &str,
-    near: &String,
-) -> Result<Option<String>, AllocError>
-    ensures { IsTextOf (Is (missing_faults naming.entry.executable.now (object, path.now)
-        (found naming.entry.pack.now object))) object result }
-{
     match naming.pack.find(object) {
-        Ok(None) => some(missing_text(*near.allocator(), naming.executable, path)),
-        Ok(Some(_)) => Ok(None),
-        Err(_) => Ok(None),
+        Ok(None) => {
+            let text = missing_text(*faults.waiting.allocator(), naming.executable, path);
+            tell(object, some(text), faults, out)
+        }
+        Ok(Some(_)) => Ok(()),
+        Err(_) => Ok(()),
     }
 }
 
@@ -338,14 +242,6 @@ fn tell_bare<O: Write>(executable: &str, faults: &mut Faults, out: &mut O) -> Re
         }
         Err(_) => Err(Failure::Memory),
     }
-}
-
-/// Tells that an executable isn't read to its end, since its paths are too long.
-fn tell_long<O: Write>(executable: &str, faults: &mut Faults, out: &mut O) -> Result<(), Failure>
-    ensures { Tells (IsBroken executable.now) (progress (O.contents out.old) faults.old)
-        (progress (O.contents out.new) faults.new) result }
-{
-    tell_broken(executable, "too many paths past 4095 bytes", faults, out)
 }
 
 /// Tells why an executable can't be read to its end.
@@ -379,24 +275,13 @@ fn tell_broken<O: Write>(
     ensures { Tells (IsBroken executable.now) (progress (O.contents out.old) faults.old)
         (progress (O.contents out.new) faults.new) result }
 {
-    match broken(*faults.waiting.allocator(), executable, cause) {
-        Ok((name, text)) => {
-            let fault = Fault::Executable(name.as_str(), text.as_str());
-            tell_fault(fault, faults, out)
-        }
-        Err(_) => Err(Failure::Memory),
-    }
-}
-
-/// The name of an executable that isn't read to its end, and why, as they are told.
-fn broken(alloc: Global, executable: &str, cause: &str) -> Result<(String, String), AllocError>
-    ensures name { IfOk result (λ told. string_bytes told.0 ≡ shown executable.now) }
-    ensures text { IfOk result (λ told. (text : List ℕ) × (string_bytes told.1 ≡ printed text)) }
-{
-    let text = printed(alloc, cause)?;
-    Ok((shown(alloc, executable)?, text))
-}
-
-fn error_text(alloc: Global, error: &Error) -> Result<String, AllocError> {
-    format!(in alloc; "{error}")
+    let alloc = *faults.waiting.allocator();
+    let Ok(text) = printed(alloc, cause) else {
+        return Err(Failure::Memory);
+    };
+    let Ok(name) = shown(alloc, executable) else {
+        return Err(Failure::Memory);
+    };
+    let fault = Fault::Executable(name.as_str(), text.as_str());
+    tell_fault(fault, faults, out)
 }

@@ -1,13 +1,13 @@
 //! Faults that are told. What is printed of them waits until it is much, and then goes to a writer.
 
-ghost use Rattle.std.specs.Prelude.{◌≡◌, [], string_bytes};
-ghost use Rattle.thorin_check.specs.Telling.{progress, HandsOver, IsFault, PassesOn, Tells};
+ghost use Rattle.thorin_check.specs.Telling.{progress, IsFault, Tells};
 ghost use Rattle.thorin_check.specs.Texts.{TellsText, TellsWhat, IsSomeText};
 ghost use Rattle.thorin_check.specs.Rendering.{value_of};
 
 use crate::rendering::{Fault, put_fault};
 use dwp_table::DwarfObject;
 use std::alloc::{AllocError, Global};
+use std::fmt;
 use std::io::Write;
 use thorin_print::{Failure, Form, print};
 
@@ -25,64 +25,12 @@ pub(crate) struct Faults {
     pub count: u64,
 }
 
-impl Faults {
-    /// None.
-    pub(crate) fn none(alloc: Global, form: Form) -> Faults
-        ensures form { result.form ≡ form }
-        ensures waiting { string_bytes result.waiting ≡ [] }
-        ensures count { result.count ≡ 0 }
-    {
-        Faults {
-            form,
-            waiting: String::new(alloc),
-            count: 0,
-        }
-    }
-}
-
-/// Hands what waits to the writer: then nothing waits.
+/// Tells a fault: counts it, and hands what waits to the writer where that is much.
 ///
 /// # Errors
-/// `Line` where the writer doesn't take all.
-#[tactic(auto, using(crate::proofs::Told::handed_over))]
-fn hand_over<O: Write>(waiting: &mut String, out: &mut O) -> Result<(), Failure>
-    ensures { HandsOver (O.contents out.old) (string_bytes waiting.old) (O.contents out.new)
-        (string_bytes waiting.new) result }
-{
-    let printed = print(waiting.as_str(), out);
-    waiting.clear();
-    printed
-}
-
-/// Counts a fault that was put behind what waits, and hands that to the writer where it is much.
-///
-/// # Errors
-/// `Memory` where it couldn't be put there, and those of `hand_over`.
-fn pass_on<O: Write>(
-    put: Result<(), AllocError>,
-    faults: &mut Faults,
-    out: &mut O,
-) -> Result<(), Failure>
-    ensures { PassesOn put (progress (O.contents out.old) faults.old)
-        (progress (O.contents out.new) faults.new) result }
-{
-    match put {
-        Ok(()) => {
-            faults.count = faults.count.saturating_add(1);
-            if faults.waiting.len() < MANY {
-                return Ok(());
-            }
-            hand_over(&mut faults.waiting, out)
-        }
-        Err(_) => Err(Failure::Memory),
-    }
-}
-
-/// Tells a fault.
-///
-/// # Errors
-/// `Memory` where there was none for what is printed of it, and those of `pass_on`.
-#[tactic(auto, using(crate::proofs::Told::passed))]
+/// `Memory` where there was none for what is printed of it, `Line` where the writer doesn't take
+/// all.
+#[tactic(auto, using(crate::proofs::Told::one_waits, crate::proofs::Told::one_handed))]
 pub(crate) fn tell_fault<O: Write>(
     fault: Fault<'_>,
     faults: &mut Faults,
@@ -91,8 +39,16 @@ pub(crate) fn tell_fault<O: Write>(
     ensures { Tells (IsFault (value_of fault.entry)) (progress (O.contents out.old) faults.old)
         (progress (O.contents out.new) faults.new) result }
 {
-    let put = put_fault(faults.form, fault, &mut faults.waiting);
-    pass_on(put, faults, out)
+    let Ok(()) = put_fault(faults.form, fault, &mut faults.waiting) else {
+        return Err(Failure::Memory);
+    };
+    faults.count = faults.count.saturating_add(1);
+    if faults.waiting.len() < MANY {
+        return Ok(());
+    }
+    let printed = print(faults.waiting.as_str(), out);
+    faults.waiting.clear();
+    printed
 }
 
 /// Tells a fault of a unit, where there is one: then it has a text.
@@ -138,4 +94,9 @@ pub(crate) fn some(text: Result<String, AllocError>) -> Result<Option<String>, A
     ensures { IsSomeText text result }
 {
     Ok(Some(text?))
+}
+
+/// Why something can't be read.
+pub(crate) fn error_text<D: fmt::Display>(alloc: Global, error: &D) -> Result<String, AllocError> {
+    format!(in alloc; "{error}")
 }

@@ -2,7 +2,7 @@
 
 ghost use Rattle.std.specs.Prelude.{◌≡◌, IfOk, string_bytes, option_copied};
 ghost use Rattle.dwp_table.specs.Columns.{contribution_kinds};
-ghost use Rattle.thorin_check.specs.Indexes.{mixed_versions, versions_text, versions_faults};
+ghost use Rattle.thorin_check.specs.Indexes.{mixed_versions, versions_faults};
 ghost use Rattle.thorin_check.specs.Indexes.{has_column, lacks_column, column_text, column_faults};
 ghost use Rattle.thorin_check.specs.Indexes.{TellsColumns, TellsIndexes};
 ghost use Rattle.thorin_check.specs.Telling.{progress, Tells, Is};
@@ -24,14 +24,12 @@ pub(crate) fn check_indexes<O: Write>(
     ensures { Tells (TellsIndexes pack.now) (progress (O.contents out.old) faults.old)
         (progress (O.contents out.new) faults.new) result }
 {
-    match check_versions(pack, faults, out) {
-        Ok(()) => check_columns(pack, faults, out),
-        Err(failure) => Err(failure),
-    }
+    check_versions(pack, faults, out)?;
+    check_columns(pack, faults, out)
 }
 
 /// Both indexes have one version.
-#[tactic(auto, using(crate::proofs::Told::none_told, crate::proofs::Faulted::what_told))]
+#[tactic(auto, using(crate::proofs::Told::none_told, crate::proofs::Faulted::what_told), unfolding(crate::specs::Indexes::versions_text))]
 fn check_versions<O: Write>(
     pack: &PackageFile<'_>,
     faults: &mut Faults,
@@ -41,13 +39,13 @@ fn check_versions<O: Write>(
         (progress (O.contents out.old) faults.old) (progress (O.contents out.new) faults.new)
         result }
 {
-    match mixed_versions(pack) {
-        None => Ok(()),
-        Some((compilations, types)) => {
-            let text = versions_text(*faults.waiting.allocator(), compilations, types);
-            tell_of_package(text, faults, out)
-        }
-    }
+    let Some((compilations, types)) = mixed_versions(pack) else {
+        return Ok(());
+    };
+    let text = format!(in *faults.waiting.allocator();
+        ".debug_cu_index has version {compilations}, .debug_tu_index version {types}"
+    );
+    tell_of_package(text, faults, out)
 }
 
 /// The versions of both indexes, where they differ.
@@ -63,14 +61,6 @@ fn mixed_versions(pack: &PackageFile<'_>) -> Option<(u16, u16)>
     }
 }
 
-/// What is told of a package whose indexes have these versions.
-#[tactic(auto, unfolding(crate::specs::Indexes::versions_text))]
-fn versions_text(alloc: Global, compilations: u16, types: u16) -> Result<String, AllocError>
-    ensures { IfOk result (λ text. string_bytes text ≡ versions_text compilations types) }
-{
-    format!(in alloc; ".debug_cu_index has version {compilations}, .debug_tu_index version {types}")
-}
-
 /// An index has a column for each section that has bytes.
 fn check_columns<O: Write>(
     pack: &PackageFile<'_>,
@@ -82,10 +72,7 @@ fn check_columns<O: Write>(
         result }
 {
     for kind in &CONTRIBUTION_KINDS {
-        match check_column(pack, *kind, faults, out) {
-            Ok(()) => {}
-            Err(failure) => return Err(failure),
-        }
+        check_column(pack, *kind, faults, out)?;
     }
     Ok(())
 }

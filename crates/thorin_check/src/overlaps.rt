@@ -12,7 +12,7 @@ ghost use Rattle.thorin_check.specs.Overlaps.{slot_range};
 use crate::clashes::{has_units, is_same as is_same_range};
 use crate::indexes::has_column;
 use dwp_base::{Contribution, SectionKind};
-use dwp_index::{PackageFile, Row, UnitEntry, UnitIndex};
+use dwp_index::{PackageFile, Row, UnitEntry};
 use dwp_table::{CONTRIBUTION_KINDS, DwarfObject};
 use std::alloc::{AllocError, Global};
 
@@ -84,14 +84,8 @@ impl Overlaps {
     /// What the ranges of the unit of an entry have in common with those of others.
     pub(crate) fn of(&self, entry: usize) -> Shares {
         Shares {
-            clash: match self.clashes.get(entry) {
-                Some(clash) => *clash,
-                None => None,
-            },
-            has_twin: match self.twins.get(entry) {
-                Some(has_twin) => *has_twin,
-                None => false,
-            },
+            clash: self.clashes.get(entry).copied().flatten(),
+            has_twin: self.twins.get(entry).copied().unwrap_or(false),
         }
     }
 

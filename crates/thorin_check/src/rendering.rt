@@ -1,9 +1,8 @@
 //! Faults and totals as values, and how they are printed: in lines, or as JSON objects (RFC 8259).
 
 ghost use Rattle.std.specs.Prelude.{◌≡◌, ◌++◌, OnOk, string_bytes};
-ghost use Rattle.thorin_check.specs.Rendering.{value_of, fault_text, fault_line, fault_object};
-ghost use Rattle.thorin_check.specs.Rendering.{fault_members, fault_member};
-ghost use Rattle.thorin_check.specs.Rendering.{totals_text, counts_line, count_text};
+ghost use Rattle.thorin_check.specs.Rendering.{value_of, fault_text, fault_line, fault_members};
+ghost use Rattle.thorin_check.specs.Rendering.{fault_member, totals_text, count_text};
 
 use dwp_table::DwarfObject;
 use std::alloc::AllocError;
@@ -29,7 +28,10 @@ pub(crate) fn put_fault(form: Form, fault: Fault<'_>, text: &mut String) -> Resu
 {
     match form {
         Form::Lines => put_line(fault, text),
-        Form::Json => put_in_json(fault, text),
+        Form::Json => {
+            put_members(fault, text)?;
+            text.push_str("\"}\n")
+        }
     }
 }
 
@@ -48,16 +50,7 @@ fn put_line(fault: Fault<'_>, text: &mut String) -> Result<(), AllocError>
     }
 }
 
-/// Adds an object of what is wrong.
-fn put_in_json(fault: Fault<'_>, text: &mut String) -> Result<(), AllocError>
-    ensures { OnOk result (string_bytes text.new
-        ≡ string_bytes text.old ++ fault_object (value_of fault.entry)) }
-{
-    put_members(fault, text)?;
-    text.push_str("\"}\n")
-}
-
-/// Adds that object up to the end of its last string.
+/// Adds an object of what is wrong, up to the end of its last string.
 fn put_members(fault: Fault<'_>, text: &mut String) -> Result<(), AllocError>
     ensures { OnOk result (string_bytes text.new
         ≡ string_bytes text.old ++ fault_members (value_of fault.entry)) }
@@ -101,20 +94,14 @@ pub(crate) fn put_totals(
         ≡ string_bytes text.old ++ totals_text form units faults) }
 {
     match form {
-        Form::Lines => put_counts(units, faults, text),
+        Form::Lines => {
+            put_count(units, "unit", text)?;
+            text.push_str(", ")?;
+            put_count(faults, "fault", text)?;
+            text.push_str("\n")
+        }
         Form::Json => writeln!(text, "{{\"units\":{units},\"faults\":{faults}}}"),
     }
-}
-
-/// Adds the line of how many units and faults there are.
-fn put_counts(units: u64, faults: u64, text: &mut String) -> Result<(), AllocError>
-    ensures { OnOk result (string_bytes text.new
-        ≡ string_bytes text.old ++ counts_line units faults) }
-{
-    put_count(units, "unit", text)?;
-    text.push_str(", ")?;
-    put_count(faults, "fault", text)?;
-    writeln!(text)
 }
 
 /// Adds a number of things of one name: `1 unit`, `2 units`.

@@ -99,10 +99,8 @@ pub(crate) fn check_all_rows<O: Write>(
 {
     let compilations = Rows::of_compilations(pack);
     let types = Rows::of_types(pack);
-    match check_rows(compilations, entries, faults, out) {
-        Ok(()) => check_rows(types, entries, faults, out),
-        Err(failure) => Err(failure),
-    }
+    check_rows(compilations, entries, faults, out)?;
+    check_rows(types, entries, faults, out)
 }
 
 /// A slot names each row of an index: tells each row before that of a slot of its kind, and then
@@ -127,10 +125,8 @@ fn check_rows<O: Write>(
             continue;
         }
         let row = u64::from(entries[i].row);
-        match tell_rows(rows.kind, next, row, faults, out) {
-            Ok(()) => next = row + 1,
-            Err(failure) => return Err(failure),
-        }
+        tell_rows(rows.kind, next, row, faults, out)?;
+        next = row + 1;
     }
     tell_rows(rows.kind, next, rows.end, faults, out)
 }
@@ -150,10 +146,7 @@ fn tell_rows<O: Write>(
 {
     for row in first..end {
         let text = row_text(*faults.waiting.allocator(), kind, row);
-        match tell_of_package(text, faults, out) {
-            Ok(()) => {}
-            Err(failure) => return Err(failure),
-        }
+        tell_of_package(text, faults, out)?;
     }
     Ok(())
 }

@@ -18,7 +18,7 @@ ghost use Rattle.dwp_table.specs.declared.object.DwarfObject.{DwarfObject};
 ghost use Rattle.dwp_index.specs.Contents.{content};
 
 use crate::ends::Ends;
-use crate::faults::{Faults, some, tell};
+use crate::faults::{Faults, error_text, some, tell};
 use dwp_base::SectionKind;
 use dwp_bytes::{Format, ReadError};
 use dwp_index::{PackageFile, PackagedUnit};
@@ -236,10 +236,7 @@ fn check_distinct<O: Write>(
             return Err(Failure::Memory);
         }
         before = Some(strings[i].0);
-        match check_strings_of(pack, ends, strings[i].1, faults, out) {
-            Ok(()) => {}
-            Err(failure) => return Err(failure),
-        }
+        check_strings_of(pack, ends, strings[i].1, faults, out)?;
     }
     Ok(())
 }
@@ -280,10 +277,7 @@ fn check_each_string<O: Write>(
 {
     for i in 0..string_count(unit) {
         let text = string_text(ends, unit, i, &faults.waiting);
-        match tell(object, text, faults, out) {
-            Ok(()) => {}
-            Err(failure) => return Err(failure),
-        }
+        tell(object, text, faults, out)?;
     }
     Ok(())
 }
@@ -311,18 +305,7 @@ fn unread_text(i: u64, error: ReadError, near: &String) -> Result<String, AllocE
     ensures { IfOk result (λ text. (cause : List ℕ) × (string_bytes text ≡ string_text i cause)) }
 {
     let alloc = *near.allocator();
-    let cause = error_text(alloc, error)?;
-    text_with(alloc, i, cause.as_str())
-}
-
-/// Why a string can't be read.
-fn error_text(alloc: Global, error: ReadError) -> Result<String, AllocError> {
-    format!(in alloc; "{error}")
-}
-
-/// What is told of a string, with why it can't be read.
-fn text_with(alloc: Global, i: u64, cause: &str) -> Result<String, AllocError>
-    ensures { IfOk result (λ text. string_bytes text ≡ string_text i cause.now) }
-{
+    let cause = error_text(alloc, &error)?;
+    let cause = cause.as_str();
     format!(in alloc; "string {i} can't be read: {cause}")
 }

@@ -1,13 +1,12 @@
 //! The sections of abbreviations and of strings, and the rows of a package, in `thorin check`.
 
 ghost use Rattle.std.specs.Prelude.{◌≡◌, IfOk, string_bytes};
-ghost use Rattle.thorin_check.specs.Checking.{lacking_text, lacking_faults, TellsRows, TellsTables};
+ghost use Rattle.thorin_check.specs.Checking.{lacking_text, lacking_faults, TellsTables};
 ghost use Rattle.thorin_check.specs.Faults.{has_abbreviations, lacks_abbreviations, lacks_strings};
-ghost use Rattle.thorin_check.specs.Indexes.{TellsIndexes};
-ghost use Rattle.thorin_check.specs.Telling.{progress, Tells, Is, InTurn};
+ghost use Rattle.thorin_check.specs.Telling.{progress, Tells, Is};
 ghost use Rattle.thorin_find.specs.Listing.{AreByRow};
 
-use crate::checking::Opened;
+use crate::checking::IndexedPackage;
 use crate::faults::{Faults, tell_of_package};
 use crate::indexes::check_indexes;
 use crate::rows::check_all_rows;
@@ -44,43 +43,22 @@ fn lacks_strings(pack: &PackageFile<'_>) -> bool
 /// The sections of abbreviations and of strings aren't lacking, both indexes have one version and a
 /// column for each section that has bytes, and a slot names each row of both.
 pub(crate) fn check_tables<O: Write>(
-    opened: Opened<'_, '_>,
+    indexed: IndexedPackage<'_, '_>,
     faults: &mut Faults,
     out: &mut O,
 ) -> Result<(), Failure>
-    requires { AreByRow opened.pack.now opened.entries.now }
-    ensures { Tells (TellsTables opened.entry.pack.now opened.entry.entries.now)
+    requires { AreByRow indexed.pack.now indexed.entries.now }
+    ensures { Tells (TellsTables indexed.entry.pack.now indexed.entry.entries.now)
         (progress (O.contents out.old) faults.old) (progress (O.contents out.new) faults.new)
         result }
 {
-    let no_abbreviations = lacks_abbreviations(opened.pack, opened.entries);
-    let no_strings = lacks_strings(opened.pack);
-    match check_section(SectionKind::Abbrev, no_abbreviations, faults, out) {
-        Ok(()) => match check_section(SectionKind::Str, no_strings, faults, out) {
-            Ok(()) => check_behind(opened, faults, out),
-            Err(failure) => Err(failure),
-        },
-        Err(failure) => Err(failure),
-    }
-}
-
-/// Both indexes have one version, and a column for each section that has bytes, and a slot names each
-/// row of both.
-fn check_behind<O: Write>(
-    opened: Opened<'_, '_>,
-    faults: &mut Faults,
-    out: &mut O,
-) -> Result<(), Failure>
-    requires { AreByRow opened.pack.now opened.entries.now }
-    ensures { Tells (InTurn (TellsIndexes opened.entry.pack.now)
-        (TellsRows opened.entry.pack.now opened.entry.entries.now))
-        (progress (O.contents out.old) faults.old) (progress (O.contents out.new) faults.new)
-        result }
-{
-    match check_indexes(opened.pack, faults, out) {
-        Ok(()) => check_all_rows(opened.pack, opened.entries, faults, out),
-        Err(failure) => Err(failure),
-    }
+    let pack = indexed.pack;
+    let no_abbreviations = lacks_abbreviations(pack, indexed.entries);
+    let no_strings = lacks_strings(pack);
+    check_section(SectionKind::Abbrev, no_abbreviations, faults, out)?;
+    check_section(SectionKind::Str, no_strings, faults, out)?;
+    check_indexes(pack, faults, out)?;
+    check_all_rows(pack, indexed.entries, faults, out)
 }
 
 /// Tells that a section is lacking, where it is.

@@ -1,23 +1,18 @@
 //! The units of a package, in `thorin check`.
 
-ghost use Rattle.std.specs.Prelude.{◌≡◌, ◌++◌, ◌&&◌, ◌==◌, false, None, Some, Ok, codes, is_none};
-ghost use Rattle.std.specs.Prelude.{IfOk, OnOk, string_bytes};
-ghost use Rattle.std.specs.Fmt.{decimal};
-ghost use Rattle.dwp_index.specs.Contents.{content};
+ghost use Rattle.std.specs.Prelude.{◌≡◌, ◌&&◌, ◌==◌, None, Some, Ok, is_none, IfOk, OnOk};
+ghost use Rattle.std.specs.Prelude.{string_bytes};
 ghost use Rattle.dwp_index.specs.Index.{range_in};
 ghost use Rattle.dwp_index.specs.Package.{found};
 ghost use Rattle.thorin_check.specs.Checking.{TellsUnits};
 ghost use Rattle.thorin_check.specs.Faults.{TellsUnit, TellsFound, TellsItself};
 ghost use Rattle.thorin_check.specs.Texts.{IsUnreadText, IsTextOf};
 ghost use Rattle.thorin_check.specs.Faults.{has_abbreviations};
-ghost use Rattle.dwp_table.specs.Columns.{contribution_kinds};
-ghost use Rattle.thorin_check.specs.Apart.{AreApart};
-ghost use Rattle.thorin_check.specs.Reach.{HasEnds};
 ghost use Rattle.thorin_check.specs.Seen.{IsSeen, GoesOn, Gathered, IsGatheredIn, TellsSeen};
 ghost use Rattle.thorin_check.specs.Telling.{progress, Tells, ForEach};
 
 use crate::abbreviations::Remembered;
-use crate::checking::Opened;
+use crate::checking::IndexedPackage;
 use crate::clashes::clash_text;
 use crate::ends::Ends;
 use crate::faults::{Faults, some, tell};
@@ -49,69 +44,39 @@ struct Seen<'a> {
     strings: Strings,
 }
 
-impl<'a> Seen<'a> {
-    /// Nothing, of a package whose strings end so.
-    #[tactic(auto, using(crate::proofs::SharedStrings::nothing_gathered))]
-    fn nothing(alloc: Global, pack: &PackageFile<'a>, ends: Ends) -> Seen<'a>
-        requires { HasEnds ends pack.now.order (content pack.now.contents SectionKind.Str) }
-        ensures { IsSeen pack.now result }
-    {
-        let size = pack.content(SectionKind::StrOffsets).len();
-        Seen {
-            alloc,
-            abbreviations: Remembered::new(alloc, pack),
-            strings: Strings::new(alloc, ends, size),
-        }
-    }
-}
-
-/// Checks each unit that a slot names, then the strings of each range of string offsets.
+/// Checks each unit that a slot names, then the strings of each range of string offsets. That ranges
+/// clash and nothing is told can't be; then this tells of want of memory.
+#[tactic(auto, using(crate::proofs::SharedStrings::nothing_gathered))]
 pub(crate) fn check_units<O: Write>(
-    opened: Opened<'_, '_>,
+    indexed: IndexedPackage<'_, '_>,
     faults: &mut Faults,
     out: &mut O,
 ) -> Result<(), Failure>
-    ensures { Tells (TellsUnits opened.entry.pack.now opened.entry.entries.now)
+    ensures { Tells (TellsUnits indexed.entry.pack.now indexed.entry.entries.now)
         (progress (O.contents out.old) faults.old) (progress (O.contents out.new) faults.new)
         result }
 {
     let alloc = *faults.waiting.allocator();
-    match Overlaps::find(alloc, opened.pack, opened.entries) {
-        Ok(overlaps) => check_all(opened, &overlaps, faults, out),
-        Err(_) => Err(Failure::Memory),
-    }
-}
-
-/// The same with what is known of clashes. That there is one and nothing is told can't be; then this
-/// tells of want of memory.
-fn check_all<O: Write>(
-    opened: Opened<'_, '_>,
-    overlaps: &Overlaps,
-    faults: &mut Faults,
-    out: &mut O,
-) -> Result<(), Failure>
-    requires { overlaps.now.clash ≡ false
-        → AreApart opened.pack.now opened.entries.now contribution_kinds }
-    ensures { Tells (TellsUnits opened.entry.pack.now opened.entry.entries.now)
-        (progress (O.contents out.old) faults.old) (progress (O.contents out.new) faults.new)
-        result }
-{
-    let ends = Ends::of(opened.pack);
-    let mut seen = Seen::nothing(*faults.waiting.allocator(), opened.pack, ends);
+    let pack = indexed.pack;
+    let Ok(overlaps) = Overlaps::find(alloc, pack, indexed.entries) else {
+        return Err(Failure::Memory);
+    };
+    let ends = Ends::of(pack);
+    let mut seen = Seen {
+        alloc,
+        abbreviations: Remembered::new(alloc, pack),
+        strings: Strings::new(alloc, ends, pack.content(SectionKind::StrOffsets).len()),
+    };
     let units = Units {
-        pack: opened.pack,
-        has_abbreviations: has_abbreviations(opened.pack),
+        pack,
+        has_abbreviations: has_abbreviations(pack),
     };
     let count = faults.count;
-    match check_each(units, opened.entries, overlaps, &mut seen, faults, out) {
-        Ok(()) => {
-            if is_untold(overlaps.clash, count, faults.count) {
-                return Err(Failure::Memory);
-            }
-            check_strings(opened.pack, ends, &mut seen.strings.unread, faults, out)
-        }
-        Err(failure) => Err(failure),
+    check_each(units, indexed.entries, &overlaps, &mut seen, faults, out)?;
+    if is_untold(overlaps.clash, count, faults.count) {
+        return Err(Failure::Memory);
     }
+    check_strings(pack, ends, &mut seen.strings.unread, faults, out)
 }
 
 /// Whether ranges clash, and the number of faults stayed.
@@ -139,10 +104,7 @@ fn check_each<'a, O: Write>(
 {
     for i in 0..entries.len() {
         let text = text_of(units, entries[i], overlaps.of(i), seen);
-        match tell(entries[i].object, text, faults, out) {
-            Ok(()) => {}
-            Err(failure) => return Err(failure),
-        }
+        tell(entries[i].object, text, faults, out)?;
     }
     Ok(())
 }
@@ -189,7 +151,7 @@ fn text_of_found<'a>(
 {
     let row = unit.row();
     if row != entry.row {
-        return some(row_text(seen.alloc, row));
+        return some(format!(in seen.alloc; "found in row {row}"));
     }
     if is_bare(units.has_abbreviations, unit) {
         return some(format!(in seen.alloc; "its row has no abbreviations"));
@@ -205,8 +167,9 @@ fn is_bare(has_any: bool, unit: &PackagedUnit<'_>) -> bool
 }
 
 /// What is told of a unit by its ranges and its own bytes, if anything: none of its ranges is to
-/// clash with that of another, and its own identifier is to be that of the slot.
-#[tactic(auto, using(crate::proofs::Faulted::clashed, crate::proofs::Distinct::stays_seen))]
+/// clash with that of another, and its own identifier is to be that of the slot. Then the unit is
+/// gathered for the check of its strings.
+#[tactic(auto, using(crate::proofs::Faulted::clashed, crate::proofs::Faulted::of_its_own, crate::proofs::Distinct::stays_seen))]
 fn text_of_itself<'a>(
     pack: &PackageFile<'a>,
     object: DwarfObject,
@@ -221,43 +184,19 @@ fn text_of_itself<'a>(
     ensures gathered { IfOk result (λ text. text ≡ None
         → Gathered pack.now seen.new.strings.unread.items unit.now) }
 {
-    match clash_text(seen.alloc, pack, unit, shares.clash)? {
-        Some(text) => Ok(Some(text)),
-        None => text_of_own(pack, object, unit, shares.has_twin, seen),
+    if let Some(text) = clash_text(seen.alloc, pack, unit, shares.clash)? {
+        return Ok(Some(text));
     }
-}
-
-/// What is told of a unit by the identifier that its own bytes give. Where that is its own, the unit
-/// is gathered for the check of its strings.
-#[tactic(auto, using(crate::proofs::Faulted::of_its_own))]
-fn text_of_own<'a>(
-    pack: &PackageFile<'a>,
-    object: DwarfObject,
-    unit: &PackagedUnit<'a>,
-    has_twin: bool,
-    seen: &mut Seen<'a>,
-) -> Result<Option<String>, AllocError>
-    requires seen { IsSeen pack.now seen.old }
-    requires is_found { found pack.now object ≡ Ok (Some unit.now) }
-    ensures text { IsTextOf (TellsItself pack.now object unit.now) object result }
-    ensures on { OnOk result (GoesOn pack.now seen.old seen.new) }
-    ensures gathered { IfOk result (λ text. text ≡ None
-        → Gathered pack.now seen.new.strings.unread.items unit.now) }
-{
-    match seen.abbreviations.text_of(pack, object, unit, has_twin)? {
+    match seen
+        .abbreviations
+        .text_of(pack, object, unit, shares.has_twin)?
+    {
         Some(text) => Ok(Some(text)),
         None => {
             seen.strings.add(unit, object)?;
             Ok(None)
         }
     }
-}
-
-/// What is told of a unit that is found in another row.
-fn row_text(alloc: Global, row: u32) -> Result<String, AllocError>
-    ensures { IfOk result (λ text. string_bytes text ≡ codes "found in row " ++ decimal row) }
-{
-    format!(in alloc; "found in row {row}")
 }
 
 /// What is told where what the index says of a unit can't be read.

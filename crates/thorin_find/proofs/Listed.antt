@@ -3,12 +3,12 @@ use Rattle.std.proofs.Common.{◌≡◌, ◌∙◌, ℕ, Bool, true, false, List
 use Rattle.std.proofs.Common.{Err, refl, sym, ap, inl, inr, append-nil, append_assoc}
 use Rattle.std.specs.Io.KnownBytes.{Appends}
 use Rattle.std.proofs.KnownBytes.{Appends-nil, Appends-trans, Keeps-refl}
-use Rattle.dwp_index.specs.Package.{Package}
+use Rattle.dwp_index.specs.Package.{Package, package_of}
 use Rattle.dwp_index.specs.declared.error.PackageError.{PackageError}
 use Rattle.dwp_index.specs.declared.units.UnitEntry.{UnitEntry}
-use Rattle.thorin_find.specs.Files.{Offer, FailsToRead, OrNoMemory}
+use Rattle.thorin_find.specs.Files.{Offer, FailsToRead}
 use Rattle.thorin_find.specs.Listing.{AreByRow, UnitLines, answer_of, IsListedIn, ListsPackage}
-use Rattle.thorin_find.specs.Listing.{ListsBytes, Lists, view_of, lines_of, PrintsLines, Begins}
+use Rattle.thorin_find.specs.Listing.{Lists, view_of, lines_of, PrintsLines, Begins}
 use Rattle.thorin_find.specs.declared.listing.ListForm.{ListForm}
 use Rattle.thorin_find.proofs.Walk.{begun_behind, nothing_begun}
 use Rattle.thorin_print.specs.Answers.{Answer, Comes, HasBeginning, IsOfPrinting}
@@ -16,41 +16,6 @@ use Rattle.thorin_print.specs.declared.output.Failure.{Failure}
 use Rattle.thorin_print.specs.declared.output.Failure.TheVariants as failures
 
 -- ---- what stands behind the lines
-
--- columns
-pub listed_columns : (form : ListForm) (is_all : Bool) (old new : List ℕ) (given : Result ℕ Failure)
-    → form.columns ≡ true → given ≡ answer_of is_all
-    → IsListedIn form.columns form (record { printed = old; is_all = is_all })
-    (record { printed = new; answer = given })
-listed_columns form is_all old new given asked e = rw asked e
-
-module _ (form : ListForm) (is_all : Bool) (old new : List ℕ) (plain : form.columns ≡ false) where
-  -- nothing, up to a unit that can't be looked up
-  pub listed_part : is_all ≡ false → new ≡ old
-      → IsListedIn form.columns form (record { printed = old; is_all = is_all })
-      (record { printed = new; answer = Err failures.Malformed })
-  listed_part ends same = rw plain
-      (record { totals = []; no_totals = λ e. refl; is = rw (ends, same) refl })
-
-  -- nothing, without totals
-  pub listed_plain : is_all ≡ true → new ≡ old
-      → IsListedIn form.columns form (record { printed = old; is_all = is_all })
-      (record { printed = new; answer = Ok 0 })
-  listed_plain goes same = rw plain
-      (record { totals = []; no_totals = λ e. refl; is = rw (goes, same, append-nil) refl })
-
-  -- totals
-  pub listed_sized : is_all ≡ true → form.sizes ≡ true
-      → ((totals : List ℕ) × (new ≡ old ++ totals))
-      → IsListedIn form.columns form (record { printed = old; is_all = is_all })
-      (record { printed = new; answer = Ok 0 })
-  listed_sized goes asked more = rw plain (record {
-    totals = more.0;
-    no_totals = λ e. absurd (cc (sym asked ∙ e));
-    is = rw (goes, more.1) refl;
-  })
-
--- ---- lines that were printed, and what stands behind them
 
 -- nothing behind them
 listed_alone : (columns : Bool) (form : ListForm) (lines : UnitLines) (is_all : Bool)
@@ -62,6 +27,34 @@ listed_alone false form lines true e =
     record { totals = []; no_totals = λ e. refl; is = rw (e, append-nil) refl }
 listed_alone false form lines false e =
     record { totals = []; no_totals = λ e. refl; is = rw e refl }
+
+module _ (form : ListForm) (is_all : Bool) (old new : List ℕ) (given : Result ℕ Failure)
+    (answered : given ≡ answer_of is_all) where
+  -- columns
+  pub listed_columns : form.columns ≡ true
+      → IsListedIn form.columns form (record { printed = old; is_all = is_all })
+      (record { printed = new; answer = given })
+  listed_columns asked = rw asked answered
+
+  -- nothing: a unit can't be looked up, or sizes aren't asked for
+  pub listed_plain : new ≡ old
+      → IsListedIn form.columns form (record { printed = old; is_all = is_all })
+      (record { printed = new; answer = given })
+  listed_plain same = rw (same, answered) (listed_alone form.columns form
+      (record { printed = old; is_all = is_all }) is_all refl)
+
+  -- totals
+  pub listed_sized : form.columns ≡ false → is_all ≡ true → form.sizes ≡ true
+      → ((totals : List ℕ) × (new ≡ old ++ totals))
+      → IsListedIn form.columns form (record { printed = old; is_all = is_all })
+      (record { printed = new; answer = given })
+  listed_sized plain goes asked more = rw plain (record {
+    totals = more.0;
+    no_totals = λ e. absurd (cc (sym asked ∙ e));
+    is = rw (answered, goes, more.1) refl;
+  })
+
+-- ---- lines that were printed, and what stands behind them
 
 -- a front before it all
 abbrev before : List ℕ → Answer → Answer
@@ -156,31 +149,28 @@ module _ (form : ListForm) (pack : Package) (entries : List UnitEntry)
 
 -- ---- what came of it
 
-pub no_memory : (P : Type 0) (a : Option (List ℕ)) → OrNoMemory P a a (Err failures.Memory)
-unfolding OrNoMemory
-no_memory P a = inr (refl, Keeps-refl a)
-
-pub with_memory : (P : Type 0) (a b : Option (List ℕ)) (result : Result ℕ Failure) → P
-    → OrNoMemory P a b result
-unfolding OrNoMemory
-with_memory P a b result h = inl h
-
 pub same_entries : (pack : Package) (entries lent : List UnitEntry) → lent ≡ entries
     → AreByRow pack entries → AreByRow pack lent
 same_entries pack entries lent same h = rw same h
 
-pub bytes_listed : (form : ListForm) (pack : Package) (p : Result Package PackageError)
-    (old new : Option (List ℕ)) (result : Result ℕ Failure) → p ≡ Ok pack
-    → OrNoMemory (ListsPackage form pack old new result) old new result
-    → OrNoMemory (ListsBytes form p old new result) old new result
-bytes_listed form pack p old new result e h = rw e h
+-- the file was read and listed
+pub file_listed : (offer : Offer) (path bytes lent : List ℕ) (form : ListForm) (pack : Package)
+    (old new : Option (List ℕ)) (result : Result ℕ Failure) → offer path (Ok bytes) → lent ≡ bytes
+    → package_of lent ≡ Ok pack → ListsPackage form pack old new result
+    → Lists offer path form old new result
+unfolding Lists
+file_listed offer path bytes lent form pack old new result read same e h =
+    inl (bytes, read, rw (← same, e) h)
 
-pub bytes_malformed : (form : ListForm) (cause : PackageError) (p : Result Package PackageError)
-    (a : Option (List ℕ)) → p ≡ Err cause
-    → OrNoMemory (ListsBytes form p a a (Err failures.Malformed)) a a (Err failures.Malformed)
-unfolding OrNoMemory
-bytes_malformed form cause p a e = inl (rw e (refl, Appends-nil a))
+-- it is no package
+pub file_malformed : (offer : Offer) (path bytes lent : List ℕ) (form : ListForm)
+    (cause : PackageError) (a : Option (List ℕ)) → offer path (Ok bytes) → lent ≡ bytes
+    → package_of lent ≡ Err cause → Lists offer path form a a (Err failures.Malformed)
+unfolding Lists
+file_malformed offer path bytes lent form cause a read same e =
+    inl (bytes, read, rw (← same, e) (refl, Appends-nil a))
 
+-- it can't be read, or there is no memory to do so
 pub not_listed : (offer : Offer) (path : List ℕ) (form : ListForm) (a : Option (List ℕ))
     (failure : Failure) → FailsToRead offer path failure → Lists offer path form a a (Err failure)
 unfolding Lists

@@ -1,36 +1,42 @@
 -- What came of a command that reads a file.
-use Rattle.std.proofs.Common.{◌≡◌, ℕ, List, Option, Result, Ok, Err, inr, arith}
+use Rattle.std.proofs.Common.{◌≡◌, ℕ, List, Option, Result, Ok, Err, inl, inr, arith}
 use Rattle.std.proofs.KnownBytes.{Keeps-refl}
 use Rattle.dwp_table.specs.declared.object.DwarfObject.{DwarfObject}
-use Rattle.thorin_print.specs.Answers.{Answer}
+use Rattle.thorin_print.specs.Answers.{Comes}
 use Rattle.thorin_print.specs.declared.form.Form.{Form}
 use Rattle.thorin_print.specs.declared.output.Failure.{Failure}
 use Rattle.thorin_find.specs.Files.{Offer, Reads, FailsToRead}
-use Rattle.thorin_find.specs.Finding.{Seeks, FindsAsked, find_answer}
-use Rattle.thorin_find.specs.declared.wanted.Sought.{Sought}
+use Rattle.thorin_find.specs.Finding.{FindsAsked, find_answer}
 use Rattle.thorin_find.specs.declared.wanted.Wanted.{Wanted}
 
--- it can't be read
-pub unread : (offer : Offer) (path : List ℕ) (meant : List ℕ → Answer) (a : Option (List ℕ))
-    (failure : Failure) → FailsToRead offer path failure → Reads offer path meant a a (Err failure)
-unfolding Reads
-unread offer path meant a failure h = inr (h, Keeps-refl a)
+module _ (offer : Offer) (path : List ℕ) (form : Form) (a : Option (List ℕ)) where
+  -- the words ask for no unit
+  pub no_object : (asked : Result DwarfObject Failure) (wanted : Result Wanted Failure)
+      (failure : Failure) (result : Result ℕ Failure) → asked ≡ Err failure
+      → result ≡ Err failure → FindsAsked offer path form a a asked wanted result
+  no_object asked wanted failure result e f = rw (e, f) (grind (arith, Keeps-refl a))
 
--- the words ask for a unit, and for something of it
-pub sought_found : (offer : Offer) (path : List ℕ) (form : Form) (a b : Option (List ℕ))
-    (object : Result DwarfObject Failure) (wanted : Result Wanted Failure) (sought : Sought)
-    (result : Result ℕ Failure) → Seeks form object wanted (Ok sought)
-    → Reads offer path (find_answer sought.form sought.wanted sought.object) a b result
-    → FindsAsked offer path form a b object wanted result
-sought_found offer path form a b (Ok object) (Ok wanted) sought result e r =
-    let same : sought ≡ record { object = object; wanted = wanted; form = form } = cc in
-    rw same at r
-sought_found offer path form a b (Ok object) (Err failure) sought result e r = absurd (cc)
-sought_found offer path form a b (Err failure) wanted sought result e r = absurd (cc)
+  -- they ask for nothing of it
+  pub none_wanted : (object : DwarfObject) (asked : Result DwarfObject Failure)
+      (wanted : Result Wanted Failure) (failure : Failure) (result : Result ℕ Failure)
+      → asked ≡ Ok object → wanted ≡ Err failure → result ≡ Err failure
+      → FindsAsked offer path form a a asked wanted result
+  none_wanted object asked wanted failure result e f g = rw (e, f, g) (grind (arith, Keeps-refl a))
 
--- the words ask for no unit, or for nothing of it: nothing was handed over
-pub not_sought : (offer : Offer) (path : List ℕ) (form : Form) (a : Option (List ℕ))
-    (object : Result DwarfObject Failure) (wanted : Result Wanted Failure) (failure : Failure)
-    → Seeks form object wanted (Err failure)
-    → FindsAsked offer path form a a object wanted (Err failure)
-not_sought offer path form a object wanted failure h = grind (arith, Keeps-refl a)
+  module _ (object : DwarfObject) (asked : Result DwarfObject Failure) (wanted : Wanted)
+      (wants : Result Wanted Failure) (is_asked : asked ≡ Ok object) (is_wanted : wants ≡ Ok wanted)
+    where
+      -- the file can't be read
+      pub unread : (failure : Failure) (result : Result ℕ Failure) → FailsToRead offer path failure
+          → result ≡ Err failure → FindsAsked offer path form a a asked wants result
+      unfolding Reads
+      unread failure result h e = rw (is_asked, is_wanted, e) (inr (h, Keeps-refl a))
+
+      -- it was read
+      pub was_read : (b : Option (List ℕ)) (bytes lent : List ℕ) (result : Result ℕ Failure)
+          → offer path (Ok bytes) → lent ≡ bytes
+          → Comes result (find_answer form wanted object lent) a b
+          → FindsAsked offer path form a b asked wants result
+      unfolding Reads
+      was_read b bytes lent result read same h =
+          rw (is_asked, is_wanted) (inl (bytes, read, rw same at h))

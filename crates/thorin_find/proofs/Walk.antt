@@ -1,6 +1,6 @@
 -- The lines of a list, slot by slot: some are printed, the others wait.
-use Rattle.std.proofs.Common.{◌≡◌, ◌∙◌, ℕ, Bool, true, false, List, [], ◌∷◌, ◌++◌, Option, Result}
-use Rattle.std.proofs.Common.{Ok, Err, refl, sym, ap, append-nil, append_assoc, true≢false}
+use Rattle.std.proofs.Common.{◌≡◌, ℕ, Bool, true, false, List, [], ◌∷◌, ◌++◌, Option, Result}
+use Rattle.std.proofs.Common.{Ok, Err, refl, sym, append-nil, append_assoc, true≢false}
 use Rattle.std.proofs.Common.{length, take, drop, take-append-drop}
 use Rattle.std.specs.Io.KnownBytes.{Appends}
 use Rattle.std.proofs.KnownBytes.{Appends-nil, Appends-trans}

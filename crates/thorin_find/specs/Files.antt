@@ -1,5 +1,5 @@
 -- Reading the files that a command line names, and what comes of a command that reads one.
-use Rattle.std.specs.Prelude.{◌≡◌, ℕ, List, Option, Result, Ok, Err, ◌⊎◌}
+use Rattle.std.specs.Prelude.{ℕ, List, Option, Result, Ok, Err, ◌⊎◌}
 use Rattle.std.specs.declared.io.Error.{Error as IoError}
 use Rattle.std.specs.Io.KnownBytes.{Keeps}
 use Rattle.thorin_print.specs.Answers.{Answer, Comes}
@@ -31,7 +31,3 @@ unfoldable pub Reads : Offer → (path : List ℕ) → (List ℕ → Answer)
 Reads offer path meant old new result =
     ((bytes : List ℕ) × offer path (Ok bytes) × Comes result (meant bytes) old new)
     ⊎ (RefusesFile offer path result × Keeps old new)
-
--- the same, or there was no memory to begin with, and nothing was printed
-unfoldable pub OrNoMemory : Type 0 → (old new : Option (List ℕ)) → Result ℕ Failure → Type 0
-OrNoMemory P old new result = P ⊎ ((result ≡ Err failures.Memory) × Keeps old new)

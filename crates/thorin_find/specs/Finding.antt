@@ -31,7 +31,6 @@ use Rattle.thorin_print.specs.declared.form.Form.{Form}
 use Rattle.thorin_print.specs.declared.form.Form.TheVariants.{Lines, Json}
 use Rattle.thorin_print.specs.Spelled.{spelled, spelled_or}
 use Rattle.thorin_find.specs.declared.wanted.FindWords.{FindWords}
-use Rattle.thorin_find.specs.declared.wanted.Sought.{Sought}
 use Rattle.thorin_find.specs.declared.wanted.Wanted.{Wanted}
 use Rattle.thorin_find.specs.declared.wanted.Wanted.TheVariants.{Printed, Bytes}
 use Rattle.thorin_find.specs.declared.wanted.Printing.TheVariants.{AllOf, StringOf}
@@ -218,14 +217,6 @@ FindsAsked offer path form old new (Ok object) wanted result =
     FindsWanted offer path form old new object wanted result
 FindsAsked offer path form old new (Err failure) wanted result =
     (result ≡ Err failure) × Keeps old new
-
--- what words ask for: the unit's are tested first
-abbrev pub Seeks : Form → Result DwarfObject Failure → Result Wanted Failure
-    → Result Sought Failure → Type 0
-Seeks form (Ok object) (Ok wanted) result =
-    result ≡ Ok (record { object = object; wanted = wanted; form = form })
-Seeks form (Ok object) (Err failure) result = result ≡ Err failure
-Seeks form (Err failure) wanted result = result ≡ Err failure
 
 -- the words that ask for a unit, and for something of it
 pub record Words : Type 0 where

@@ -15,6 +15,7 @@ use Rattle.dwp_bytes.specs.StringOffsets.{entry_in, string_at}
 use Rattle.dwp_bytes.specs.declared.error.ReadError.{ReadError}
 use Rattle.dwp_dwarf.specs.Abbreviations.{declaration}
 use Rattle.dwp_dwarf.specs.Entries.{DebugAttribute, DebugEntry, entry, number_read}
+use Rattle.dwp_dwarf.specs.Split.{DW_AT_dwo_name, DW_AT_GNU_dwo_name}
 use Rattle.dwp_units.specs.AbbreviationCodes.{root_code_at}
 use Rattle.dwp_dwarf.specs.Offsets.{from_at}
 use Rattle.dwp_units.specs.Units.{Unit, units}
@@ -108,12 +109,6 @@ string_of order strings unit a = if a.form == 0x08 then short_string_at a.value.
 
 abbrev pub DW_AT_name : ℕ
 DW_AT_name = 0x03
-
-abbrev pub DW_AT_dwo_name : ℕ
-DW_AT_dwo_name = 0x76
-
-abbrev pub DW_AT_GNU_dwo_name : ℕ
-DW_AT_GNU_dwo_name = 0x2130
 
 -- of its source
 abbrev pub source_in : DebugEntry → Option DebugAttribute

@@ -1,12 +1,9 @@
 //! What `thorin find` tells of a unit, plain and in JSON.
 
-ghost use Rattle.std.specs.Prelude.{◌≡◌, ◌++◌, OnOk, string_bytes, codes};
-ghost use Rattle.std.specs.Fmt.{decimal};
-ghost use Rattle.thorin_find.specs.Finding.{width, encoding_line, json_encoding, encoding_text};
-ghost use Rattle.thorin_find.specs.Finding.{range_text};
+ghost use Rattle.std.specs.Prelude.{◌≡◌, ◌++◌, OnOk, string_bytes};
+ghost use Rattle.thorin_find.specs.Finding.{width, json_encoding, encoding_text, range_text};
 ghost use Rattle.thorin_find.specs.Finding.{range_texts, counts_text, all_text};
 ghost use Rattle.thorin_find.specs.Json.{json_unit, json_numbers};
-ghost use Rattle.thorin_print.specs.Lines.{hex, line_end};
 
 use crate::finding::{put_object, short_kind, string_count};
 use dwp_base::{Contribution, SectionKind};
@@ -28,13 +25,14 @@ pub(crate) fn put_all(
     ensures { OnOk result (string_bytes text.new
         ≡ string_bytes text.old ++ all_text form object unit.now slots) }
 {
-    put_encoding_in(form, object, unit.encoding(), text)?;
+    put_encoding(form, object, unit.encoding(), text)?;
     put_ranges(unit, form, text)?;
     put_counts(string_count(unit), slots, form, text)
 }
 
 /// Adds a unit's encoding: a line, or the beginning of an object.
-fn put_encoding_in(
+#[tactic(auto, unfolding(crate::specs::Finding::encoding_line))]
+fn put_encoding(
     form: Form,
     object: DwarfObject,
     encoding: Encoding,
@@ -44,26 +42,15 @@ fn put_encoding_in(
         ≡ string_bytes text.old ++ encoding_text form object encoding) }
 {
     match form {
-        Form::Lines => put_encoding(object, encoding, text),
+        Form::Lines => {
+            put_object(object, text)?;
+            let version = encoding.version;
+            let width = width(encoding.format);
+            let address = encoding.address_size;
+            writeln!(text, " version {version} format {width} address {address}")
+        }
         Form::Json => put_json_encoding(object, encoding, text),
     }
-}
-
-/// Adds the line of a unit's encoding.
-#[tactic(auto, unfolding(crate::specs::Finding::encoding_line))]
-fn put_encoding(
-    object: DwarfObject,
-    encoding: Encoding,
-    text: &mut String,
-) -> Result<(), AllocError>
-    ensures { OnOk result (string_bytes text.new
-        ≡ string_bytes text.old ++ encoding_line object encoding) }
-{
-    put_object(object, text)?;
-    let version = encoding.version;
-    let width = width(encoding.format);
-    let address = encoding.address_size;
-    writeln!(text, " version {version} format {width} address {address}")
 }
 
 /// How many bits an offset has.
@@ -142,32 +129,12 @@ fn put_range(
         return Ok(());
     };
     let name = kind.short_name();
+    let offset = range.offset.0;
+    let size = range.size;
     match form {
-        Form::Lines => put_plain_range(name, range, text),
-        Form::Json => put_json_range(name, range, text),
+        Form::Lines => writeln!(text, "{name} 0x{offset:x} 0x{size:x}"),
+        Form::Json => write!(text, ",\"{name}\":{{\"offset\":{offset},\"size\":{size}}}"),
     }
-}
-
-/// Adds a range of a section of a name to an object.
-fn put_json_range(name: &str, range: Contribution, text: &mut String) -> Result<(), AllocError>
-    ensures { OnOk result (string_bytes text.new ≡ string_bytes text.old
-        ++ (codes ",\"" ++ (name.now ++ (codes "\":{\"offset\":" ++ (decimal range.offset.0
-        ++ (codes ",\"size\":" ++ (decimal range.size ++ codes "}"))))))) }
-{
-    let offset = range.offset.0;
-    let size = range.size;
-    write!(text, ",\"{name}\":{{\"offset\":{offset},\"size\":{size}}}")
-}
-
-/// Adds the line of a range of a section of a name.
-fn put_plain_range(name: &str, range: Contribution, text: &mut String) -> Result<(), AllocError>
-    ensures { OnOk result (string_bytes text.new ≡ string_bytes text.old
-        ++ (name.now ++ (codes " 0x" ++ (hex range.offset.0
-        ++ (codes " 0x" ++ (hex range.size ++ line_end)))))) }
-{
-    let offset = range.offset.0;
-    let size = range.size;
-    writeln!(text, "{name} 0x{offset:x} 0x{size:x}")
 }
 
 /// Adds the numbers of a unit's strings and of slots: in lines, or as the end of the object.

@@ -1,20 +1,17 @@
 //! `thorin find`.
 
-ghost use Rattle.std.specs.Prelude.{◌≡◌, ◌++◌, [], IfOk, OnOk, MatchResult, string_bytes, codes};
-ghost use Rattle.thorin_find.specs.Files.{Reads};
-ghost use Rattle.thorin_print.specs.Answers.{Comes, refused};
-ghost use Rattle.thorin_find.specs.Finding.{Finds, Seeks, string_count, string_line};
-ghost use Rattle.thorin_find.specs.Finding.{string_answer, find_answer, found_answer};
-ghost use Rattle.thorin_find.specs.Finding.{wanted_answer, string_of, words_of};
-ghost use Rattle.dwp_index.specs.Package.{found_counted};
+ghost use Rattle.std.specs.Prelude.{◌≡◌, ◌++◌, OnOk, string_bytes, codes};
+ghost use Rattle.thorin_print.specs.Answers.{Comes};
+ghost use Rattle.thorin_find.specs.Finding.{Finds, string_count, string_line};
+ghost use Rattle.thorin_find.specs.Finding.{find_answer, wanted_answer, words_of};
 ghost use Rattle.dwp_table.specs.Objects.{identifier_of};
 ghost use Rattle.thorin_print.specs.Lines.{hex16};
 ghost use Rattle.thorin_find.specs.Lines.{short_kind};
-ghost use Rattle.thorin_find.specs.declared.wanted.Wanted.TheVariants.{Printed, Bytes};
+ghost use Rattle.thorin_find.specs.declared.wanted.Wanted.TheVariants.{Printed};
 
 use crate::describing::put_all;
 use crate::files::{FileReader, read_named};
-use crate::wanted::{FindWords, Printing, Sought, Wanted, object, wanted_of};
+use crate::wanted::{FindWords, Printing, Wanted, object, wanted_of};
 use dwp_base::SectionKind;
 use dwp_index::{PackageFile, PackagedUnit};
 use dwp_table::{Bucketable, DwarfObject};
@@ -41,260 +38,75 @@ pub fn find_by<F: FileReader, O: Write>(
     ensures { Finds (F.offer files.now) file.now (words_of asked.entry) (O.contents out.old)
         (O.contents out.new) result }
 {
+    let form = asked.form;
     let object = object(asked.kind, asked.id);
-    let wanted = wanted_of(asked.form.string, asked.form.section);
-    match sought(object, wanted, asked.form.form) {
-        Ok(sought) => find_at(alloc, files, file, sought, out),
-        Err(failure) => Err(failure),
-    }
-}
-
-/// What the words ask for.
-fn sought(
-    object: Result<DwarfObject, Failure>,
-    wanted: Result<Wanted, Failure>,
-    form: Form,
-) -> Result<Sought, Failure>
-    ensures { Seeks form object wanted result }
-{
-    Ok(Sought {
-        object: object?,
-        wanted: wanted?,
-        form,
-    })
-}
-
-/// Looks a unit up in a package's file and prints what is wanted of it.
-#[tactic(auto, using(crate::proofs::Sought::unread))]
-fn find_at<F: FileReader, O: Write>(
-    alloc: Global,
-    files: &F,
-    file: &str,
-    sought: Sought,
-    out: &mut O,
-) -> Result<u8, Failure>
-    ensures { Reads (F.offer files.now) file.now
-        (find_answer sought.form sought.wanted sought.object) (O.contents out.old)
-        (O.contents out.new) result }
-{
-    match read_named(files, file) {
-        Ok(bytes) => find_in(alloc, bytes.as_slice(), sought, out),
-        Err(failure) => Err(failure),
-    }
+    let wanted = wanted_of(form.string, form.section);
+    let object = object?;
+    let wanted = wanted?;
+    let bytes = read_named(files, file)?;
+    find_in(alloc, bytes.as_slice(), object, wanted, form.form, out)
 }
 
 /// Looks a unit up in a package's bytes and prints what is wanted of it.
+#[tactic(auto, using(thorin_print::proofs::Printed::nothing), unfolding(crate::specs::Finding::find_answer))]
 fn find_in<O: Write>(
     alloc: Global,
     bytes: &[u8],
-    sought: Sought,
-    out: &mut O,
-) -> Result<u8, Failure>
-    ensures { Comes result (find_answer sought.form sought.wanted sought.object bytes.now)
-        (O.contents out.old) (O.contents out.new) }
-{
-    let object = sought.object;
-    let form = sought.form;
-    match sought.wanted {
-        Wanted::Printed(printing) => print_text(alloc, bytes, object, printing, form, out),
-        Wanted::Bytes(kind) => print_section(bytes, object, kind, form, out),
-    }
-}
-
-/// Prints a text of a unit of a package's bytes.
-#[tactic(auto, using(thorin_print::proofs::Printed::nothing))]
-fn print_text<O: Write>(
-    alloc: Global,
-    bytes: &[u8],
     object: DwarfObject,
-    printing: Printing,
+    wanted: Wanted,
     form: Form,
     out: &mut O,
 ) -> Result<u8, Failure>
-    ensures { Comes result (find_answer form (Printed printing) object bytes.now)
+    ensures { Comes result (find_answer form wanted object bytes.now)
         (O.contents out.old) (O.contents out.new) }
 {
-    let mut text = String::new(alloc);
-    match put_of_bytes(bytes, object, printing, form, &mut text) {
-        Ok(given) => answer(text.as_str(), given, out),
-        Err(_) => Err(Failure::Memory),
-    }
-}
-
-/// Prints the bytes of a unit's range of a section, as they are.
-fn print_section<O: Write>(
-    bytes: &[u8],
-    object: DwarfObject,
-    kind: SectionKind,
-    form: Form,
-    out: &mut O,
-) -> Result<u8, Failure>
-    ensures { Comes result (find_answer form (Bytes kind) object bytes.now)
-        (O.contents out.old) (O.contents out.new) }
-{
-    match section_of_bytes(bytes, object, kind, form) {
-        Ok(section) => answer_bytes(section, Ok(0), out),
-        Err(failure) => Err(failure),
-    }
-}
-
-/// The bytes of a unit's range of a section, in a package's bytes.
-#[tactic(auto, unfolding(crate::specs::Finding::find_answer))]
-fn section_of_bytes(
-    bytes: &[u8],
-    object: DwarfObject,
-    kind: SectionKind,
-    form: Form,
-) -> Result<&[u8], Failure>
-    ensures { MatchResult result (λ section. find_answer form (Bytes kind) object bytes.now
-        ≡ record { printed = section.now; answer = Ok 0 })
-        (λ failure. find_answer form (Bytes kind) object bytes.now ≡ refused failure) }
-{
-    match PackageFile::parse(bytes) {
-        Ok(package) => section_of_package(&package, object, kind, form),
-        Err(_) => Err(Failure::Malformed),
-    }
-}
-
-/// The same of a package.
-fn section_of_package<'a>(
-    pack: &PackageFile<'a>,
-    object: DwarfObject,
-    kind: SectionKind,
-    form: Form,
-) -> Result<&'a [u8], Failure>
-    ensures { MatchResult result (λ section. found_answer form (Bytes kind) object
-        (found_counted pack.now object) ≡ record { printed = section.now; answer = Ok 0 })
-        (λ failure. found_answer form (Bytes kind) object (found_counted pack.now object)
-        ≡ refused failure) }
-{
-    match pack.find_counted(object) {
-        Ok((found, slots)) => section_of_found(object, found, kind, form, slots),
-        Err(_) => Err(Failure::Malformed),
-    }
-}
-
-/// The same of what a look-up found.
-fn section_of_found<'a>(
-    object: DwarfObject,
-    found: Option<PackagedUnit<'a>>,
-    kind: SectionKind,
-    form: Form,
-    slots: u32,
-) -> Result<&'a [u8], Failure>
-    ensures { MatchResult result (λ section. found_answer form (Bytes kind) object
-        (Ok (found.entry, slots)) ≡ record { printed = section.now; answer = Ok 0 })
-        (λ failure. found_answer form (Bytes kind) object (Ok (found.entry, slots))
-        ≡ refused failure) }
-{
+    let Ok(package) = PackageFile::parse(bytes) else {
+        return Err(Failure::Malformed);
+    };
+    let Ok((found, slots)) = package.find_counted(object) else {
+        return Err(Failure::Malformed);
+    };
     let Some(unit) = found else {
         return Err(Failure::NoUnit(object.index()));
     };
-    let section = unit.section(kind);
-    if section.is_empty() {
-        Err(Failure::NoRange(kind))
-    } else {
-        Ok(section)
+    match wanted {
+        Wanted::Printed(printing) => print_text(alloc, object, &unit, slots, printing, form, out),
+        Wanted::Bytes(kind) => {
+            let section = unit.section(kind);
+            if section.is_empty() {
+                return Err(Failure::NoRange(kind));
+            }
+            answer_bytes(section, Ok(0), out)
+        }
     }
 }
 
-/// Makes the text of a unit of a package's bytes. Answers what is to be answered.
-#[tactic(auto, unfolding(crate::specs::Finding::find_answer))]
-fn put_of_bytes(
-    bytes: &[u8],
-    object: DwarfObject,
-    printing: Printing,
-    form: Form,
-    text: &mut String,
-) -> Result<Result<u8, Failure>, AllocError>
-    requires { string_bytes text.old ≡ [] }
-    ensures { IfOk result (λ given. find_answer form (Printed printing) object bytes.now
-        ≡ record { printed = string_bytes text.new; answer = given }) }
-{
-    match PackageFile::parse(bytes) {
-        Ok(package) => put_of_package(&package, object, printing, form, text),
-        Err(_) => Ok(Err(Failure::Malformed)),
-    }
-}
-
-/// The same of a package.
-fn put_of_package(
-    pack: &PackageFile<'_>,
-    object: DwarfObject,
-    printing: Printing,
-    form: Form,
-    text: &mut String,
-) -> Result<Result<u8, Failure>, AllocError>
-    requires { string_bytes text.old ≡ [] }
-    ensures { IfOk result (λ given. found_answer form (Printed printing) object
-        (found_counted pack.now object)
-        ≡ record { printed = string_bytes text.new; answer = given }) }
-{
-    match pack.find_counted(object) {
-        Ok((found, slots)) => put_found(object, found, slots, printing, form, text),
-        Err(_) => Ok(Err(Failure::Malformed)),
-    }
-}
-
-/// The same of what a look-up found.
-fn put_found(
-    object: DwarfObject,
-    found: Option<PackagedUnit<'_>>,
-    slots: u32,
-    printing: Printing,
-    form: Form,
-    text: &mut String,
-) -> Result<Result<u8, Failure>, AllocError>
-    requires { string_bytes text.old ≡ [] }
-    ensures { IfOk result (λ given. found_answer form (Printed printing) object
-        (Ok (found.entry, slots)) ≡ record { printed = string_bytes text.new; answer = given }) }
-{
-    match found {
-        Some(unit) => put_printing(object, &unit, slots, printing, form, text),
-        None => Ok(Err(Failure::NoUnit(object.index()))),
-    }
-}
-
-/// The same of a unit.
-fn put_printing(
+/// Prints a text of a unit.
+#[tactic(auto, using(thorin_print::proofs::Printed::nothing))]
+fn print_text<O: Write>(
+    alloc: Global,
     object: DwarfObject,
     unit: &PackagedUnit<'_>,
     slots: u32,
     printing: Printing,
     form: Form,
-    text: &mut String,
-) -> Result<Result<u8, Failure>, AllocError>
-    requires { string_bytes text.old ≡ [] }
-    ensures { IfOk result (λ given. wanted_answer form (Printed printing) object unit.now slots
-        ≡ record { printed = string_bytes text.new; answer = given }) }
+    out: &mut O,
+) -> Result<u8, Failure>
+    ensures { Comes result (wanted_answer form (Printed printing) object unit.now slots)
+        (O.contents out.old) (O.contents out.new) }
 {
-    match printing {
-        Printing::AllOf => {
-            put_all(object, unit, slots, form, text)?;
-            Ok(Ok(0))
-        }
-        Printing::StringOf(i) => put_string(unit, i, form, text),
-    }
-}
-
-/// Makes the text of a unit's string. Answers what is to be answered.
-fn put_string(
-    unit: &PackagedUnit<'_>,
-    i: u64,
-    form: Form,
-    text: &mut String,
-) -> Result<Result<u8, Failure>, AllocError>
-    requires { string_bytes text.old ≡ [] }
-    ensures { IfOk result (λ given. string_answer form i (string_of unit.now i)
-        ≡ record { printed = string_bytes text.new; answer = given }) }
-{
-    match unit.string(i) {
-        Ok(Some(string)) => {
-            put_string_line(string, form, text)?;
-            Ok(Ok(0))
-        }
-        Ok(None) => Ok(Err(Failure::NoString(i))),
-        Err(_) => Ok(Err(Failure::Malformed)),
+    let mut text = String::new(alloc);
+    let put = match printing {
+        Printing::AllOf => put_all(object, unit, slots, form, &mut text),
+        Printing::StringOf(i) => match unit.string(i) {
+            Ok(Some(string)) => put_string_line(string, form, &mut text),
+            Ok(None) => return Err(Failure::NoString(i)),
+            Err(_) => return Err(Failure::Malformed),
+        },
+    };
+    match put {
+        Ok(()) => answer(text.as_str(), Ok(0), out),
+        Err(_) => Err(Failure::Memory),
     }
 }
 

@@ -1,16 +1,13 @@
 //! `thorin list`.
 
-ghost use Rattle.std.specs.Prelude.{◌≡◌, ℕ, List, [], ◌++◌, Option, IfOk, IfErr, OnOk, string_bytes};
-ghost use Rattle.std.specs.Option.{option_copied};
+ghost use Rattle.std.specs.Prelude.{◌≡◌, [], ◌++◌, IfOk, IfErr, OnOk, string_bytes};
 ghost use Rattle.dwp_index.specs.Entries.{entries_from};
-ghost use Rattle.dwp_index.specs.Package.{package_of, found};
-ghost use Rattle.dwp_index.specs.declared.units.UnitEntry.{UnitEntry};
-ghost use Rattle.thorin_find.specs.Files.{OrNoMemory};
+ghost use Rattle.dwp_index.specs.Package.{found};
 ghost use Rattle.thorin_find.specs.Listing.{place_by, AreByRow, range_size, range_sizes};
-ghost use Rattle.thorin_find.specs.Listing.{front_of, named_by, unit_names, end_of, view_of};
+ghost use Rattle.thorin_find.specs.Listing.{front_of, unit_names, end_of, view_of};
 ghost use Rattle.thorin_find.specs.Listing.{unit_line, AddsLine, lines_of, answer_of, IsListedIn};
 ghost use Rattle.thorin_find.specs.Listing.{PrintsFront, PrintsLines, Begins};
-ghost use Rattle.thorin_find.specs.Listing.{ListsPackage, ListsBytes, Lists};
+ghost use Rattle.thorin_find.specs.Listing.{ListsPackage, Lists};
 
 use crate::columns::{put_total_rows, put_unit_rows};
 use crate::describing::put_json_unit;
@@ -50,7 +47,7 @@ pub struct ListForm {
 /// # Errors
 /// `Input` where the file can't be read, `Malformed` where it is no package or a unit can't be
 /// looked up, `Line` or `Memory`.
-#[tactic(auto, using(crate::proofs::Listed::not_listed))]
+#[tactic(auto, using(crate::proofs::Listed::not_listed, crate::proofs::Listed::same_entries))]
 pub fn list_by<F: FileReader, O: Write>(
     alloc: Global,
     files: &F,
@@ -61,10 +58,19 @@ pub fn list_by<F: FileReader, O: Write>(
     ensures { Lists (F.offer files.now) file.now form (O.contents out.old)
         (O.contents out.new) result }
 {
-    match read_named(files, file) {
-        Ok(bytes) => list_bytes(alloc, bytes.as_slice(), form, out),
-        Err(failure) => Err(failure),
-    }
+    let bytes = read_named(files, file)?;
+    let Ok(package) = PackageFile::parse(bytes.as_slice()) else {
+        return Err(Failure::Malformed);
+    };
+    let Ok(entries) = entries_by_row(alloc, &package) else {
+        return Err(Failure::Memory);
+    };
+    let listed = Listed {
+        pack: &package,
+        file_size: bytes.len(),
+        form,
+    };
+    list_entries(alloc, listed, entries.as_slice(), out)
 }
 
 /// A package that is listed.
@@ -76,42 +82,6 @@ struct Listed<'m, 'a> {
     file_size: usize,
     /// What its lines are to have.
     form: ListForm,
-}
-
-/// Lists a package's bytes.
-#[tactic(auto, using(crate::proofs::Listed::bytes_listed, crate::proofs::Listed::bytes_malformed))]
-fn list_bytes<O: Write>(
-    alloc: Global,
-    bytes: &[u8],
-    form: ListForm,
-    out: &mut O,
-) -> Result<u8, Failure>
-    ensures { OrNoMemory (ListsBytes form (package_of bytes.now) (O.contents out.old)
-        (O.contents out.new) result) (O.contents out.old) (O.contents out.new) result }
-{
-    match PackageFile::parse(bytes) {
-        Ok(package) => {
-            let listed = Listed {
-                pack: &package,
-                file_size: bytes.len(),
-                form,
-            };
-            list_package(alloc, listed, out)
-        }
-        Err(_) => Err(Failure::Malformed),
-    }
-}
-
-/// Lists a package.
-#[tactic(auto, using(crate::proofs::Listed::same_entries, crate::proofs::Listed::with_memory, crate::proofs::Listed::no_memory))]
-fn list_package<O: Write>(alloc: Global, listed: Listed<'_, '_>, out: &mut O) -> Result<u8, Failure>
-    ensures { OrNoMemory (ListsPackage listed.entry.form listed.entry.pack.now (O.contents out.old)
-        (O.contents out.new) result) (O.contents out.old) (O.contents out.new) result }
-{
-    match entries_by_row(alloc, listed.pack) {
-        Ok(entries) => list_entries(alloc, listed, entries.as_slice(), out),
-        Err(_) => Err(Failure::Memory),
-    }
 }
 
 /// Lists the units of a package.
@@ -127,27 +97,11 @@ fn list_entries<O: Write>(
 {
     let mut waiting = String::new(alloc);
     let mut sizes = Sizes::new(alloc);
-    match print_lines(listed, entries, &mut sizes, &mut waiting, out) {
-        Ok(is_all) => print_rest(listed, is_all, &mut sizes, &mut waiting, out),
-        Err(failure) => Err(failure),
-    }
-}
-
-/// Prints the lines that wait, and what stands behind them.
-fn print_rest<O: Write>(
-    listed: Listed<'_, '_>,
-    is_all: bool,
-    sizes: &mut Sizes,
-    waiting: &mut String,
-    out: &mut O,
-) -> Result<u8, Failure>
-    ensures { (entries : List UnitEntry) (first : Option (List ℕ))
-        → AreByRow listed.entry.pack.now entries
-        → PrintsLines (lines_of (view_of listed.entry.form listed.entry.pack.now)
-        listed.entry.pack.now entries) is_all first (O.contents out.old) (string_bytes waiting.old)
-        → ListsPackage listed.entry.form listed.entry.pack.now first (O.contents out.new) result }
-{
-    match put_rest(listed, is_all, sizes, waiting) {
+    let is_all = match print_lines(listed, entries, &mut sizes, &mut waiting, out) {
+        Ok(is_all) => is_all,
+        Err(failure) => return Err(failure),
+    };
+    match put_rest(listed, is_all, &mut sizes, &mut waiting) {
         Ok(given) => answer(waiting.as_str(), given, out),
         Err(_) => Err(Failure::Memory),
     }
@@ -155,7 +109,7 @@ fn print_rest<O: Write>(
 
 /// Adds what stands behind the lines: totals where sizes are asked for, or columns. Answers what is
 /// to be answered.
-#[tactic(auto, using(crate::proofs::Listed::listed_columns, crate::proofs::Listed::listed_part, crate::proofs::Listed::listed_plain, crate::proofs::Listed::listed_sized))]
+#[tactic(auto, using(crate::proofs::Listed::listed_columns, crate::proofs::Listed::listed_plain, crate::proofs::Listed::listed_sized))]
 fn put_rest(
     listed: Listed<'_, '_>,
     is_all: bool,
@@ -166,19 +120,14 @@ fn put_rest(
         (record { printed = string_bytes text.old; is_all = is_all })
         (record { printed = string_bytes text.new; answer = given })) }
 {
+    let given = answer_of(is_all);
     if listed.form.columns {
         put_sheet(listed, is_all, sizes, text)?;
-        return Ok(answer_of(is_all));
+    } else if is_all && listed.form.sizes {
+        let totals = sizes.totals(listed.pack, listed.file_size)?;
+        put_totals(totals.as_slice(), listed.form.form, text)?;
     }
-    if !is_all {
-        return Ok(Err(Failure::Malformed));
-    }
-    if !listed.form.sizes {
-        return Ok(Ok(0));
-    }
-    let totals = sizes.totals(listed.pack, listed.file_size)?;
-    put_totals(totals.as_slice(), listed.form.form, text)?;
-    Ok(Ok(0))
+    Ok(given)
 }
 
 /// What is answered, where all units could be looked up or not.
@@ -381,31 +330,19 @@ fn put_names<'a>(
         ++ unit_names (view_of listed.entry.form listed.entry.pack.now) object unit.now) }
 {
     let (source, name) = Strings::of(listed.pack).names_of(object, unit);
-    put_named(source, name, listed.form.form, text)
-}
-
-/// Adds these names.
-fn put_named(
-    source: Option<&[u8]>,
-    object: Option<&[u8]>,
-    form: Form,
-    text: &mut String,
-) -> Result<(), AllocError>
-    ensures { OnOk result (string_bytes text.new ≡ string_bytes text.old
-        ++ named_by form (option_copied source.entry) (option_copied object.entry)) }
-{
+    let form = listed.form.form;
     match form {
         Form::Lines => {
             text.push_str("\t")?;
             put_spelled_or(source, form, text)?;
             text.push_str("\t")?;
-            put_spelled_or(object, form, text)
+            put_spelled_or(name, form, text)
         }
         Form::Json => {
             text.push_str(",\"name\":")?;
             put_spelled_or(source, form, text)?;
             text.push_str(",\"dwo_name\":")?;
-            put_spelled_or(object, form, text)
+            put_spelled_or(name, form, text)
         }
     }
 }

@@ -1,6 +1,6 @@
 //! The names that a unit's own bytes give: of its source, and of its object.
 
-ghost use Rattle.std.specs.Prelude.{◌≡◌, ◌+◌, ◌==◌, take, option_map};
+ghost use Rattle.std.specs.Prelude.{◌≡◌, ◌==◌, option_map};
 ghost use Rattle.std.specs.Option.{option_copied, option_and_then};
 ghost use Rattle.std.specs.Result.{result_ok};
 ghost use Rattle.dwp_base.specs.Reading.{Answers};
@@ -10,10 +10,9 @@ ghost use Rattle.dwp_dwarf.specs.Declarations.{table_of};
 ghost use Rattle.dwp_units.specs.Units.{unit_of};
 ghost use Rattle.dwp_index.specs.Contents.{content};
 ghost use Rattle.thorin_find.specs.Names as spec;
-ghost use Rattle.thorin_find.specs.Names.{table_at, entry_by, header_in, unit_die, die_of};
+ghost use Rattle.thorin_find.specs.Names.{table_at, header_in, unit_die, die_of};
 ghost use Rattle.thorin_find.specs.Names.{named, short_string_at, string_number, numbered_string};
-ghost use Rattle.thorin_find.specs.Names.{string_of, source_in, object_in, source_name};
-ghost use Rattle.thorin_find.specs.Names.{object_name};
+ghost use Rattle.thorin_find.specs.Names.{string_of, object_in, source_name, object_name};
 
 use dwp_base::{Endianness, SectionKind};
 use dwp_bytes::{ReadError, Reader, SliceReader, StringOffsets, string_at};
@@ -83,7 +82,7 @@ impl<'a> Strings<'a> {
     {
         match die_of(self.order, object, unit) {
             Some(die) => (
-                self.string_of(unit, source_in(&die)),
+                self.string_of(unit, attribute_named(die.attributes, DW_AT_NAME)),
                 self.string_of(unit, object_in(&die)),
             ),
             None => (None, None),
@@ -124,13 +123,6 @@ impl<'a> Strings<'a> {
         let offset = offsets.entry(i)?;
         short_string_at(self.bytes, offset)
     }
-}
-
-/// The attribute that names the source.
-fn source_in<R: Reader>(die: &RootEntry<R>) -> Option<Attribute<R>>
-    ensures { option_map (attribute_of R.input) result ≡ source_in (entry_of R.input die.now) }
-{
-    attribute_named(die.attributes, DW_AT_NAME)
 }
 
 /// The attribute that names the object.
@@ -201,22 +193,9 @@ fn unit_die<R: Reader>(
     ensures { Answers (root_of R.input) result
         (unit_die (R.input abbreviations) (unit_of R.input header.now)) }
 {
-    match header.root_code()? {
-        None => Ok(None),
-        Some((code, values)) => entry_by(abbreviations, header, code, values),
-    }
-}
-
-/// The entry of a code, whose values stand there.
-fn entry_by<R: Reader>(
-    abbreviations: R,
-    header: &UnitHeader<R>,
-    code: u64,
-    values: R,
-) -> Result<Option<RootEntry<R>>, ReadError>
-    ensures { Answers (root_of R.input) result (entry_by (R.input abbreviations)
-        (unit_of R.input header.now) (Some (code, R.input values))) }
-{
+    let Some((code, values)) = header.root_code()? else {
+        return Ok(None);
+    };
     let table = table_at(abbreviations, header.abbrev_offset())?;
     match table.get(code)? {
         None => Ok(None),
@@ -266,17 +245,11 @@ fn string_number<R: Reader>(attribute: &Attribute<R>) -> Option<u64>
 fn short_string_at(strings: &[u8], offset: u64) -> Option<&[u8]>
     ensures { option_copied result ≡ short_string_at strings.now offset }
 {
-    string_at(up_to(strings, offset), offset).ok()
-}
-
-/// The bytes up to an offset, and as many behind it as a name has at most.
-fn up_to(bytes: &[u8], offset: u64) -> &[u8]
-    ensures { result.now ≡ take (offset + spec.most_named) bytes.now }
-{
-    let len = bytes.len() as u64;
-    if offset < len && MOST_NAMED < len - offset {
-        &bytes[..(offset + MOST_NAMED) as usize]
+    let len = strings.len() as u64;
+    let near = if offset < len && MOST_NAMED < len - offset {
+        &strings[..(offset + MOST_NAMED) as usize]
     } else {
-        bytes
-    }
+        strings
+    };
+    string_at(near, offset).ok()
 }

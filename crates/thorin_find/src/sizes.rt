@@ -107,25 +107,15 @@ impl Sizes {
     /// Whether a unit has a range of a section.
     pub(crate) fn has_range_of(&self, kind: SectionKind) -> bool {
         let section = kind.rank();
-        for range in &self.ranges {
-            if range.section == section {
-                return true;
-            }
-        }
-        false
+        self.ranges.iter().any(|range| range.section == section)
     }
 
     /// The size of a unit's range of a section, where it has one; before totals are made.
     pub(crate) fn size_of(&self, unit: UnitSizes, kind: SectionKind) -> Option<u64> {
         let section = kind.rank();
-        for i in unit.first..unit.end {
-            if let Some(range) = self.ranges.get(i) {
-                if range.section == section {
-                    return Some(range.size);
-                }
-            }
-        }
-        None
+        let ranges = self.ranges.get(unit.first..unit.end)?;
+        let range = ranges.iter().find(|range| range.section == section)?;
+        Some(range.size)
     }
 
     /// The totals of a package: of each section that isn't empty its bytes in the file; for a

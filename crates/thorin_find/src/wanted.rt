@@ -3,7 +3,7 @@
 ghost use Rattle.std.specs.Prelude.{◌≡◌, MatchOption};
 ghost use Rattle.std.specs.Option.{option_copied};
 ghost use Rattle.std.specs.Str.Parse.{digits_value};
-ghost use Rattle.thorin_find.specs.Finding.{Asks, AsksFor, AsksString, AsksSection, IsNumber};
+ghost use Rattle.thorin_find.specs.Finding.{Asks, AsksFor, IsNumber};
 
 use crate::identifier::identifier;
 use dwp_base::SectionKind;
@@ -30,14 +30,6 @@ pub struct FindWords<'a> {
     pub id: &'a str,
     /// What is wanted of it, and how it is printed.
     pub form: FindForm<'a>,
-}
-
-/// The unit that is asked for, what is wanted of it, and in which form it is printed.
-#[derive(Clone, Copy)]
-pub(crate) struct Sought {
-    pub object: DwarfObject,
-    pub wanted: Wanted,
-    pub form: Form,
 }
 
 /// What is wanted of a unit.
@@ -73,22 +65,16 @@ pub(crate) fn object(kind: &str, id: &str) -> Result<DwarfObject, Failure>
 pub(crate) fn wanted_of(string: Option<&str>, section: Option<&str>) -> Result<Wanted, Failure>
     ensures { AsksFor (option_copied string.entry) (option_copied section.entry) result }
 {
-    if let Some(text) = string {
-        return string_wanted(text);
-    }
-    match section {
-        Some(text) => section_wanted(text),
-        None => Ok(Wanted::Printed(Printing::AllOf)),
-    }
-}
-
-/// A string of a number.
-fn string_wanted(text: &str) -> Result<Wanted, Failure>
-    ensures { AsksString text.now result }
-{
-    match number(text) {
-        Some(n) => Ok(Wanted::Printed(Printing::StringOf(n))),
-        None => Err(Failure::BadNumber),
+    match (string, section) {
+        (Some(text), _) => match number(text) {
+            Some(n) => Ok(Wanted::Printed(Printing::StringOf(n))),
+            None => Err(Failure::BadNumber),
+        },
+        (None, Some(text)) => match SectionKind::of_short_name(text) {
+            Some(kind) => Ok(Wanted::Bytes(kind)),
+            None => Err(Failure::BadSection),
+        },
+        (None, None) => Ok(Wanted::Printed(Printing::AllOf)),
     }
 }
 
@@ -102,14 +88,4 @@ fn number(text: &str) -> Option<u64>
         return None;
     }
     u64::from_str_radix(text, 10).ok()
-}
-
-/// The bytes of a section.
-fn section_wanted(text: &str) -> Result<Wanted, Failure>
-    ensures { AsksSection text.now result }
-{
-    match SectionKind::of_short_name(text) {
-        Some(kind) => Ok(Wanted::Bytes(kind)),
-        None => Err(Failure::BadSection),
-    }
 }

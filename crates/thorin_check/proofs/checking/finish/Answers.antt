@@ -1,6 +1,24 @@
-use Rattle.std.proofs.Common.{arith}
-use Rattle.thorin_print.proofs.Printed.{none_grown}
+use Rattle.std.proofs.lemmas.Result.{err_from_is_err_and}
+use Rattle.thorin_print.proofs.Printed.{flushed, not_flushed}
 use Rattle.thorin_check.proofs.checking.finish.Goals as goal
 
-pub returns-in-Ok : goal.returns-in-Ok
-returns-in-Ok g c = grind (arith, none_grown)
+pub returns-in_err-print : goal.returns-in_err-print
+returns-in_err-print g c =
+    let p = err_from_is_err_and c.from_residual.result c.from_residual.ensures.1 in
+    rw (p.1, p.2) c.in_err-print.ensures
+
+pub returns-in_err-flush : goal.returns-in_err-flush
+returns-in_err-flush g c =
+    let exit = c.from_residual-in_err-flush in
+    let p = err_from_is_err_and exit.result exit.ensures.1 in
+    rw (p.1, p.2) (
+      c.in_err-flush.ensures.cause,
+      not_flushed _ _ _ _ c.in_ok-print.ensures c.in_err-flush.ensures.kept,
+    )
+
+pub returns : goal.returns
+returns g c = (
+  rw (c.as_str.ensures.value, c.in-Ok.ensures) at
+      (flushed _ _ _ _ c.in_ok-print.ensures c.in_ok-flush.ensures.kept),
+  c.status_of.ensures,
+)

@@ -1,3 +1,4 @@
+use Rattle.std.proofs.lemmas.Result.{err_from_is_err_and}
 use Rattle.std.proofs.Common.{◌∙◌, sym}
 use Rattle.thorin_check.proofs.NamedRows.{covers_none, covers_told, covers_all}
 use Rattle.thorin_check.proofs.Told.{none_told, then_or, stopped_behind}
@@ -9,10 +10,12 @@ loop-i-init g c = none_told _ (covers_none _ _ _ _ c.requires.some) _
 pub loop-i-preserved : goal.loop-i-preserved
 loop-i-preserved g c = covers_told _ _ _ _ c.requires.sorted c.loop-i.i _ _ _ c.loop-i-test.true
     (sym c.is_next.ensures ∙ c.if-not-is_next.false) c.from-row.ensures c.loop-i.invariant
-    c.in-Ok.ensures
+    c.in_ok-tell_rows.ensures
 
-pub returns-in-Err : goal.returns-in-Err
-returns-in-Err g c = stopped_behind _ c.loop-i.invariant c.in-Err.ensures
+pub returns-in_err-tell_rows : goal.returns-in_err-tell_rows
+returns-in_err-tell_rows g c =
+    let p = err_from_is_err_and c.from_residual.result c.from_residual.ensures.1 in
+    rw (p.1, p.2) (stopped_behind _ c.loop-i.invariant c.in_err-tell_rows.ensures)
 
 pub returns : goal.returns
 returns g c =

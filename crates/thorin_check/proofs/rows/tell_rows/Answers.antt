@@ -1,3 +1,4 @@
+use Rattle.std.proofs.lemmas.Result.{err_from_is_err_and}
 use Rattle.std.proofs.Common.{◌≡◌, Ok, Err, arith}
 use Rattle.thorin_check.proofs.NamedRows.{row_or}
 use Rattle.thorin_check.proofs.rows.tell_rows.Goals as goal
@@ -6,13 +7,14 @@ pub loop-row-preserved : goal.loop-row-preserved
 loop-row-preserved g c =
     row_or c.args.kind.now c.args.first c.loop-row.row _ c.row_text-text.result
     (Ok tt) (omega arith)
-    c.loop-row.invariant c.row_text-text.ensures c.in-Ok.ensures
+    c.loop-row.invariant c.row_text-text.ensures c.in_ok-tell_of_package.ensures
 
-pub returns-in-Err : goal.returns-in-Err
-returns-in-Err g c =
-    row_or c.args.kind.now c.args.first c.loop-row.row _ c.row_text-text.result
-    (Err c.in-Err.failure) (omega arith) c.loop-row.invariant c.row_text-text.ensures
-    c.in-Err.ensures
+pub returns-in_err-tell_of_package : goal.returns-in_err-tell_of_package
+returns-in_err-tell_of_package g c =
+    let p = err_from_is_err_and c.from_residual.result c.from_residual.ensures.1 in
+    rw (p.1, p.2) (row_or c.args.kind.now c.args.first c.loop-row.row _ c.row_text-text.result
+    (Err c.in_err-tell_of_package.field-0.0) (omega arith) c.loop-row.invariant
+    c.row_text-text.ensures c.in_err-tell_of_package.ensures)
 
 pub returns : goal.returns
 returns g c =

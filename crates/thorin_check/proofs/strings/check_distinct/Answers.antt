@@ -1,3 +1,4 @@
+use Rattle.std.proofs.lemmas.Result.{err_from_is_err_and}
 use Rattle.thorin_print.proofs.Printed.{none_grown}
 use Rattle.thorin_check.proofs.Distinct.{first_none, first_again, first_more, first_all}
 use Rattle.thorin_check.proofs.Told.{none_told, told_then, told_as, stopped_behind}
@@ -10,15 +11,17 @@ pub loop-i-preserved : goal.loop-i-preserved
 loop-i-preserved g c =
     told_then (first_more _ _ c.loop-i.i _ c.loop-i-test.true _ c.requires.are
     (c.comes_behind.ensures (cc)))
-    c.loop-i.invariant c.in-Ok.ensures
+    c.loop-i.invariant c.in_ok-check_strings_of.ensures
 
 pub loop-i-preserved-then-is_last : goal.loop-i-preserved-then-is_last
 loop-i-preserved-then-is_last g c =
     told_as c.loop-i.invariant (first_again _ _ c.loop-i.i _ c.loop-i-test.true _
     (c.is_last.ensures (cc)))
 
-pub returns-in-Err : goal.returns-in-Err
-returns-in-Err g c = stopped_behind _ c.loop-i.invariant c.in-Err.ensures
+pub returns-in_err-check_strings_of : goal.returns-in_err-check_strings_of
+returns-in_err-check_strings_of g c =
+    let p = err_from_is_err_and c.from_residual.result c.from_residual.ensures.1 in
+    rw (p.1, p.2) (stopped_behind _ c.loop-i.invariant c.in_err-check_strings_of.ensures)
 
 pub returns : goal.returns
 returns g c = told_as c.loop-i.invariant (first_all _ _ c.loop-i.i _ c.loop-i-test.false)

@@ -1,14 +1,32 @@
+use Rattle.std.proofs.lemmas.Result.{err_from_is_err_and}
 use Rattle.thorin_check.proofs.Told.{told_then, in_turn, in_turn_or, stopped_behind}
 use Rattle.thorin_check.proofs.tables.check_tables.Goals as goal
 
-pub returns-in-Ok-check_section : goal.returns-in-Ok-check_section
-returns-in-Ok-check_section g c =
+pub returns-in_err-check_section : goal.returns-in_err-check_section
+returns-in_err-check_section g c =
+    let p = err_from_is_err_and c.from_residual.result c.from_residual.ensures.1 in
+    rw (p.1, p.2) c.in_err-check_section.ensures
+
+pub returns-in_err-check_section-2 : goal.returns-in_err-check_section-2
+returns-in_err-check_section-2 g c =
+    let exit = c.from_residual-in_err-check_section-2 in
+    let p = err_from_is_err_and exit.result exit.ensures.1 in
+    rw (p.1, p.2) (stopped_behind _ c.in_ok-check_section.ensures
+    c.in_err-check_section-2.ensures)
+
+pub returns-in_err-check_indexes : goal.returns-in_err-check_indexes
+returns-in_err-check_indexes g c =
+    let exit = c.from_residual-in_err-check_indexes in
+    let p = err_from_is_err_and exit.result exit.ensures.1 in
+    rw (p.1, p.2) (stopped_behind _ c.in_ok-check_section.ensures
+    (stopped_behind _ c.in_ok-check_section-2.ensures c.in_err-check_indexes.ensures))
+
+pub returns : goal.returns
+returns g c =
     let abbreviations = c.lacks_abbreviations-no_abbreviations.ensures in
     let strings = c.lacks_strings-no_strings.ensures in
-    in_turn_or _ _ _ _ _ _ c.check_behind.result (told_then in_turn
-    (rw abbreviations at c.in-Ok.ensures) (rw strings at c.in-Ok-check_section.ensures))
-    c.check_behind.ensures
-
-pub returns-in-Err-check_section : goal.returns-in-Err-check_section
-returns-in-Err-check_section g c =
-    stopped_behind _ c.in-Ok.ensures c.in-Err-check_section.ensures
+    let result = c.check_all_rows.result in
+    in_turn_or _ _ _ _ _ _ result (told_then in_turn
+    (rw abbreviations at c.in_ok-check_section.ensures)
+    (rw strings at c.in_ok-check_section-2.ensures))
+    (in_turn_or _ _ _ _ _ _ result c.in_ok-check_indexes.ensures c.check_all_rows.ensures)

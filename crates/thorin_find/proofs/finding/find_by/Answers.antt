@@ -1,22 +1,48 @@
-use Rattle.thorin_find.proofs.Sought.{sought_found, not_sought}
+use Rattle.std.proofs.Common.{◌∙◌, ap, Err}
+use Rattle.std.proofs.lemmas.Result.{err_from_is_err_and}
+use Rattle.thorin_find.proofs.Sought.{no_object, none_wanted, unread, was_read}
 use Rattle.thorin_find.proofs.finding.find_by.Goals as goal
 
-pub returns-in-Ok : goal.returns-in-Ok
-returns-in-Ok g c = record {
-  asked = c.object-object.result;
-  asks = c.object-object.ensures;
-  wanted = c.wanted_of-wanted.result;
-  wants = c.wanted_of-wanted.ensures;
-  finds = sought_found _ _ _ _ _ c.object-object.result c.wanted_of-wanted.result c.in-Ok.sought
-      c.find_at.result c.in-Ok.ensures c.find_at.ensures;
-}
+pub returns-in_err-object : goal.returns-in_err-object
+returns-in_err-object g c =
+    let p = err_from_is_err_and c.from_residual.result c.from_residual.ensures.1 in record {
+      asked = c.object-object.result;
+      asks = c.object-object.ensures;
+      wanted = c.wanted_of-wanted.result;
+      wants = c.wanted_of-wanted.ensures;
+      finds = no_object _ _ _ _ _ _ _ _ c.in_err-object.was (p.1 ∙ ap Err p.2);
+    }
 
-pub returns-in-Err : goal.returns-in-Err
-returns-in-Err g c = record {
+pub returns-in_err-wanted : goal.returns-in_err-wanted
+returns-in_err-wanted g c =
+    let exit = c.from_residual-in_err-wanted in
+    let p = err_from_is_err_and exit.result exit.ensures.1 in record {
+      asked = c.object-object.result;
+      asks = c.object-object.ensures;
+      wanted = c.wanted_of-wanted.result;
+      wants = c.wanted_of-wanted.ensures;
+      finds = none_wanted _ _ _ _ _ _ _ _ _ c.in_ok-object.was c.in_err-wanted.was
+          (p.1 ∙ ap Err p.2);
+    }
+
+pub returns-in_err-bytes : goal.returns-in_err-bytes
+returns-in_err-bytes g c =
+    let exit = c.from_residual-in_err-bytes in
+    let p = err_from_is_err_and exit.result exit.ensures.1 in record {
+      asked = c.object-object.result;
+      asks = c.object-object.ensures;
+      wanted = c.wanted_of-wanted.result;
+      wants = c.wanted_of-wanted.ensures;
+      finds = unread _ _ _ _ _ _ _ _ c.in_ok-object.was c.in_ok-wanted.was _ _
+          c.in_err-bytes.ensures.refused (p.1 ∙ ap Err p.2);
+    }
+
+pub returns : goal.returns
+returns g c = record {
   asked = c.object-object.result;
   asks = c.object-object.ensures;
   wanted = c.wanted_of-wanted.result;
   wants = c.wanted_of-wanted.ensures;
-  finds = not_sought _ _ _ _ c.object-object.result c.wanted_of-wanted.result c.in-Err.failure
-      c.in-Err.ensures;
+  finds = was_read _ _ _ _ _ _ _ _ c.in_ok-object.was c.in_ok-wanted.was _ _ _ _
+      c.in_ok-bytes.ensures.read c.as_slice.ensures.value c.find_in.ensures;
 }

@@ -1,15 +1,18 @@
-use Rattle.std.proofs.Common.{inl, inr, ⊎_elim}
-use Rattle.thorin_find.specs.Files.{OrNoMemory}
-use Rattle.thorin_find.specs.Listing.{Lists}
+use Rattle.std.proofs.lemmas.Result.{err_from_is_err_and}
+use Rattle.thorin_find.proofs.Listed.{file_listed, file_malformed, not_listed}
 use Rattle.thorin_find.proofs.listing.list_by.Goals as goal
-use Rattle.std.proofs.Common.{arith}
-use Rattle.thorin_find.proofs.Listed.{not_listed}
 
-pub returns-in-Ok : goal.returns-in-Ok
-unfolding Lists OrNoMemory
-returns-in-Ok g c = ⊎_elim
-    (λ h. inl (c.in-Ok.bytes.items, c.in-Ok.ensures.read, rw c.as_slice.ensures.value at h))
-    (λ h. inr (rw h.0 (tt, h.1))) c.list_bytes.ensures
+pub returns-in_err-bytes : goal.returns-in_err-bytes
+returns-in_err-bytes g c =
+    let p = err_from_is_err_and c.from_residual.result c.from_residual.ensures.1 in
+    rw (p.1, p.2) (not_listed _ _ _ _ _ c.in_err-bytes.ensures.refused)
 
-pub returns-in-Err : goal.returns-in-Err
-returns-in-Err g c = grind (arith, not_listed)
+pub returns-in_default : goal.returns-in_default
+returns-in_default g c =
+    file_malformed _ _ _ _ _ _ _ c.in_ok-bytes.ensures.read c.as_slice.ensures.value
+    c.in_default.ensures
+
+pub returns : goal.returns
+returns g c =
+    file_listed _ _ _ _ _ _ _ _ c.list_entries.result c.in_ok-bytes.ensures.read
+    c.as_slice.ensures.value c.in-Ok.ensures c.list_entries.ensures

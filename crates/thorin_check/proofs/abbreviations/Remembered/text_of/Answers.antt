@@ -1,0 +1,24 @@
+use Rattle.std.proofs.Common.{◌∙◌}
+use Rattle.thorin_check.specs.declared.abbreviations.PlaceRead.{PlaceRead}
+use Rattle.thorin_check.proofs.Own.{known_again, known_more, read_at}
+use Rattle.thorin_check.proofs.abbreviations.Remembered.text_of.Goals as goal
+
+pub returns-then-is-clause-text : goal.returns-then-is-clause-text
+returns-then-is-clause-text c =
+    rw (known_again c.args.pack.now c.args.object c.args.unit.now _ _ c.requires.is_found
+    c.requires.knows.shared c.in-Some.ensures.member
+    (c.is.ensures c.if-is.true ∙ c.of-place.ensures)) at c.own_fault.ensures
+
+pub returns-then-has_twin-clause-knows : goal.returns-then-has_twin-clause-knows
+returns-then-has_twin-clause-knows c =
+    let read : PlaceRead = record {
+      place = c.of-place.result;
+      own = c.in_ok-own.own;
+    } in
+    record {
+      tables = rw c.read.ensures.kept c.requires.knows.tables;
+      shared = known_more _ c.args.pack.now _ _ _ read c.in_ok-insert.ensures.entries
+          c.requires.knows.shared
+          (read_at c.args.pack.now c.args.object c.args.unit.now read c.requires.is_found
+          c.of-place.ensures c.in_ok-own.ensures.own);
+    }

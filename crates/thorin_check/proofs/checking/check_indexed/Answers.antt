@@ -1,0 +1,17 @@
+use Rattle.std.proofs.Common.{refl}
+use Rattle.thorin_check.specs.Executables.{executables_of}
+use Rattle.thorin_check.proofs.Checked.{checked, printed_some}
+use Rattle.thorin_print.proofs.Printed.{grown}
+use Rattle.thorin_check.proofs.checking.check_indexed.Goals as goal
+
+pub returns-in-Ok : goal.returns-in-Ok
+returns-in-Ok g c =
+    checked (g.F.FileReader.offer c.args.files.now) (executables_of c.args.named) _
+    c.args.indexed.entries.now _ _ _ c.finish.result c.requires refl c.new.ensures.bytes refl
+    c.in-Ok.ensures c.finish.ensures
+
+pub returns : goal.returns
+returns g c = (
+  c.in-Err.ensures.0,
+  grown _ _ _ c.in-Err.ensures.1 (printed_some _ _ _ c.print.result c.print.ensures),
+)

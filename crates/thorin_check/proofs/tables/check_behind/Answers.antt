@@ -1,6 +1,0 @@
-use Rattle.thorin_check.proofs.Told.{in_turn_or}
-use Rattle.thorin_check.proofs.tables.check_behind.Goals as goal
-
-pub returns-in-Ok : goal.returns-in-Ok
-returns-in-Ok g c =
-    in_turn_or _ _ _ _ _ _ c.check_all_rows.result c.in-Ok.ensures c.check_all_rows.ensures
