@@ -1,6 +1,11 @@
 -- What is read of a peer's line: its name, and its words with whole names.
 use Rattle.std.proofs.Common.{◌≡◌, ◌∙◌, ◌++◌, ◌==◌, ◌||◌, ◌&&◌, ap, sym, refl, Bool, true, false, ℕ}
-use Rattle.std.proofs.Common.{List, [], ◌∷◌, Option, Some, None, is_some, not, arith}
+use Rattle.std.proofs.Common.{List, [], ◌∷◌, Option, Some, None, MatchOption, is_some, not, arith}
+use Rattle.std.proofs.Common.{◌+◌, ◌<◌, ◌≤◌, ◌≢◌, ap₂, drop, get_or, length, take, take-append-drop}
+use Rattle.std.specs.Borrow.{Bor}
+use Rattle.std.specs.Str.Pattern.{RFindsChar}
+use Rattle.std.proofs.lemmas.Str.Pattern.{NoCharPasses-char, drop_at_char}
+use Rattle.clap.proofs.CutLemmas.{list_any-Lacks}
 use Rattle.std.specs.Prelude.{String, codes, if◌then◌else◌, option_map, string_bytes}
 use Rattle.std.specs.List.{list_any}
 use Rattle.std.specs.Str.{bytes_eq}
@@ -36,6 +41,26 @@ last_part-behind mark part [] rest =
     ap (λ b. last_part_in mark (if b then rest else part) rest) same
 last_part-behind mark part (b ∷ front) rest =
     last_part-behind mark (if b == mark then front ++ mark ∷ rest else part) front rest
+
+-- what stands on both sides of the last of a mark, where there is one
+pub last_part-cut : (mark : ℕ) (text : Text) (r : Option (Bor Text × Bor Text)) → mark < 128
+    → MatchOption r (RFindsChar mark text None) (λ x. (i : ℕ) × (j : ℕ)
+    × RFindsChar mark text (Some (i, j)) × (x.0.now ≡ take i text) × (x.1.now ≡ drop j text)
+    × (i ≤ j) × (length x.0.now ≡ i) × (length x.1.now + j ≡ length text))
+    → MatchOption r (last_part mark text ≡ text) (λ x. (last_part mark text ≡ x.1.now)
+    × (text ≡ x.0.now ++ mark ∷ x.1.now))
+last_part-cut mark text None low h = last_part-none mark text text
+    (list_any-Lacks mark text (λ i. NoCharPasses-char mark text i h low))
+last_part-cut mark text (Some (front, rest)) low h =
+    let parts : text ≡ front.now ++ mark ∷ rest.now = sym (take-append-drop h.0 text)
+    ∙ (ap₂ (λ a b. a ++ b) (sym h.3)
+    (drop_at_char mark text h.0 h.1 h.2.1 low ∙ ap (λ l. mark ∷ l) (sym h.4))) in
+    let lacks : (i : ℕ) → i < length rest.now → get_or rest.now i 0 ≢ mark = λ i.
+    NoCharPasses-char mark rest.now i (rw h.4 h.2.0) low in (
+      ap (last_part_in mark text) parts ∙ last_part-behind mark text front.now rest.now
+          ∙ last_part-none mark rest.now rest.now (list_any-Lacks mark rest.now lacks),
+      parts,
+    )
 
 -- ---- the words of a line
 

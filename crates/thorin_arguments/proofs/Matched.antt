@@ -1,6 +1,6 @@
 -- What comes of reading words by the grammar.
 use Rattle.std.proofs.Common.{◌≡◌, ◌⊎◌, ◌∙◌, ap, sym, refl, inl, inr, Bool, true, false, List, []}
-use Rattle.std.proofs.Common.{ℕ, Option, Some, None, Result, Ok, Err, IsTrue, ◌≢◌, ◌↔◌, is_some}
+use Rattle.std.proofs.Common.{ℕ, Option, Some, None, Ok, Err, IsTrue, ◌≢◌, ◌↔◌, is_some}
 use Rattle.std.proofs.Common.{subst}
 use Rattle.std.specs.Borrow.{Bor}
 use Rattle.clap.proofs.OnLiterals.{clap_on_literals}
@@ -17,9 +17,9 @@ use Rattle.clap.specs.declared.parser.matches.ArgMatches.{ArgMatches}
 use Rattle.thorin_arguments.specs.Grammar.{AreMatched, AreMatchesOf}
 use Rattle.thorin_arguments.specs.Grammar.{IsLine, IsText, peer, read_words, thorin}
 use Rattle.thorin_arguments.specs.Peers.{peer_of}
-use Rattle.thorin_arguments.specs.Reading.{AreReadAs, IsReadAs, IsTested, IsUnread}
+use Rattle.thorin_arguments.specs.Reading.{AreReadAs, IsReadAs, IsTested, IsUnread, are_wrong}
 use Rattle.thorin_arguments.specs.Whole.{is_of_llvm}
-use Rattle.thorin_arguments.specs.Asked.{Asks, Call, Does, IsCallBy, IsCallOf, IsRefusal}
+use Rattle.thorin_arguments.specs.Asked.{Asks, Call, Does, IsCallBy, IsCallOf}
 use Rattle.thorin_arguments.specs.Asked.{IsStatusOf}
 use Rattle.thorin_arguments.specs.Asked as calls
 
@@ -75,14 +75,20 @@ module _ (named : Option Text) (app : App) (is : IsLine named app) (line words :
   }
 
   -- matches that are tested
-  pub read : (m : ArgMatches) (r : Result ArgMatches Error)
+  pub read : (m : ArgMatches)
       → (is_simple_and_free app ≡ true → fault_of app words ≡ []) → HasMatchesOf app words m
-      → IsTested (is_some named) m r → IsReadAs named line r
-  read m (Ok n) none h t =
-      (rw t.0 (matched m (none (free named app is)) h), rw t.0 t.1)
-  read m (Err e) none h (inl k) = inl k
-  read m (Err e) none h (inr w) =
-      inr (inr (w.0, inr (_, _, (matched m (none (free named app is)) h, w.1))))
+      → (are_wrong (is_some named) m ≡ false → IsReadAs named line (Ok m))
+      × ((e : Error) → IsTested (is_some named) m (Err e) → IsReadAs named line (Err e))
+  read m none h = (
+    λ t. (fine, t),
+    λ e t. elim t [
+      | inl k ↦ inl k
+      | inr w ↦ inr (inr (w.0, inr (_, _, (fine, w.1))))
+    ],
+  )
+    where
+      fine : AreMatchesOf named line (rows_of (found_of m)) (subcommand_rows_of m)
+      fine = matched m (none (free named app is)) h
 
   -- words that weren't read
   pub unread : (e : Error) → (is_simple_and_free app ≡ true → HasKind (fault_of app words) e)
@@ -137,21 +143,18 @@ module _ {S : Type 0} (does : S → Call → ℕ → S → Type 0) (named : Opti
   does_lack s d = (calls.LacksMemory, inl tt, s, d)
 
   module _ (e : Error) (h : IsUnread named line e) (other : kind_of e ≢ kinds.OutOfMemory) where
-    pub does_refuse : ¬ IsText (kind_of e) → Does does IsRefusal old status new
-        → Does does (IsCallBy named line) old status new
-    does_refuse n (call, c, s, d) = elim c [
-      | inl is ↦ (
-        calls.Refuses,
-        inl (elim h [
-          | inl k ↦ absurd (other k)
-          | inr (inl t) ↦ absurd (n t.0)
-          | inr (inr r) ↦ r.1
-        ]),
-        rw is at s,
-        rw is at d,
-      )
-      | inr is ↦ does_lack (rw is at s) (rw is at d)
-    ]
+    pub does_refuse : ¬ IsText (kind_of e) → IsStatusOf calls.Refuses status
+        → does old calls.Refuses status new → Does does (IsCallBy named line) old status new
+    does_refuse n s d = (
+      calls.Refuses,
+      inl (elim h [
+        | inl k ↦ absurd (other k)
+        | inr (inl t) ↦ absurd (n t.0)
+        | inr (inr r) ↦ r.1
+      ]),
+      s,
+      d,
+    )
 
     pub does_show : IsText (kind_of e) → IsStatusOf calls.Shows status
         → does old calls.Shows status new → Does does (IsCallBy named line) old status new

@@ -14,9 +14,8 @@ use Rattle.clap.specs.declared.builder.command.Command.{Command}
 use Rattle.clap.proofs.SimpleLemmas.{is_false}
 use Rattle.clap.proofs.WalkLemmas.{both}
 use Rattle.clap.proofs.OnLiterals.{clap_on_literals}
-use Rattle.thorin_arguments.specs.Grammar.{AreKinds, AreManners, chosen, long_names, peer}
-use Rattle.thorin_arguments.specs.Grammar.{peer_words}
-use Rattle.thorin_arguments.specs.Rules.{AreLongNames, AreOwnNames, ArePeerRules, made, rule_in}
+use Rattle.thorin_arguments.specs.Grammar.{long_names, peer, peer_words}
+use Rattle.thorin_arguments.specs.Rules.{AreLongNames, ArePeerWords, made, rule_in}
 use Rattle.thorin_arguments.specs.Whole.{is_of_llvm}
 use Rattle.thorin_arguments.specs.declared.words.Word.{Word}
 use Rattle.thorin_arguments.specs.declared.words.Word.TheVariants as words
@@ -77,23 +76,15 @@ all_simple : (list : List Word) → list_all (λ r. r.is_simple) (map rule_in li
 all_simple [] = refl
 all_simple (word ∷ list) = and-left _ _ (simple word) ∙ all_simple list
 
--- a command whose arguments have these rules
-pub with_rules : (c d : Command) (args : List Arg) (rules : List Rule) → AddsInTurn AddsArg c args d
-    → map rule_of args ≡ rules → list_all (λ r. r.is_simple) rules ≡ true
-    → app_of d ≡ record (app_of c) {
-      top = record (app_of c).top { rules = (app_of c).top.rules ++ rules };
-    }
-with_rules c d args rules h same all =
-    added c d args h (ap (list_all (λ r. r.is_simple)) same ∙ all)
-    ∙ (ap (fold with_rule (app_of c)) same ∙ folded (app_of c) rules)
-
--- those of words
+-- a command with the arguments of words
 pub with_words : (c d : Command) (args : List Arg) (list : List Word) → AddsInTurn AddsArg c args d
     → map rule_of args ≡ map rule_in list
     → app_of d ≡ record (app_of c) {
       top = record (app_of c).top { rules = (app_of c).top.rules ++ map rule_in list };
     }
-with_words c d args list h same = with_rules c d args (map rule_in list) h same (all_simple list)
+with_words c d args list h same =
+    added c d args h (ap (list_all (λ r. r.is_simple)) same ∙ all_simple list)
+    ∙ (ap (fold with_rule (app_of c)) same ∙ folded (app_of c) (map rule_in list))
 
 -- commands that are added in turn
 with_commands : (c d : Command) (xs : List Command) → AddsInTurn AddsSubcommand c xs d
@@ -126,46 +117,6 @@ one_more f g xs x ys i d lt so_far e = map-append f xs (x ∷ [])
 
 -- ---- a peer
 
-pub simple_peer : (of_llvm : Bool) (which how : Bor (List (Bor Text)))
-    → list_all (λ r. r.is_simple) (peer_words of_llvm which how) ≡ true
-simple_peer true which how = refl
-simple_peer false which how = refl
-
--- a peer's rules, as they are made; LLVM's with one more
-abbrev pub text_at_none : Text → Bor Text
-text_at_none text = record { ref_ptr = (0, 0); now = text }
-
-abbrev pub some_manners : Bor (List (Bor Text))
-some_manners = record {
-  ref_ptr = (0, 0);
-  now = text_at_none (codes "continue") ∷ text_at_none (codes "soft-stop") ∷ [];
-}
-
-pub gnu_rules : (of_llvm : Bool) (which : Bor (List (Bor Text))) (args : List Arg)
-    → of_llvm ≡ false → map rule_of args ≡ peer_words false which some_manners → AreKinds which
-    → ArePeerRules of_llvm (map rule_of args)
-gnu_rules of_llvm which args other same kinds = (
-  which,
-  some_manners,
-  kinds,
-  refl,
-  same ∙ ap (λ b. peer_words b which some_manners) (sym other),
-)
-
-pub llvm_rules : (of_llvm : Bool) (which how : Bor (List (Bor Text)))
-    (args now : List Arg) (x : Arg)
-    → of_llvm ≡ true → now ≡ args ++ x ∷ [] → map rule_of args ≡ peer_words false which how
-    → rule_of x ≡ chosen (codes "continue-on-cu-index-overflow") how → AreKinds which
-    → AreManners how → ArePeerRules of_llvm (map rule_of now)
-llvm_rules of_llvm which how args now x llvm items same last kinds manners = (
-  which,
-  how,
-  kinds,
-  manners,
-  ap (map rule_of) items ∙ (map-append rule_of args (x ∷ [])
-      ∙ (ap₂ (λ a r. a ++ r ∷ []) same last ∙ ap (λ b. peer_words b which how) (sym llvm))),
-)
-
 pub two_more : (names one two : List (Bor Text)) (a b : Bor Text) → one ≡ names ++ a ∷ []
     → two ≡ one ++ b ∷ [] → texts two ≡ texts names ++ a.now ∷ b.now ∷ []
 two_more names one two a b e f = ap texts (f ∙ ap (λ l. l ++ b ∷ []) e)
@@ -176,18 +127,19 @@ two_more names one two a b e f = ap texts (f ∙ ap (λ l. l ++ b ∷ []) e)
 abbrev longs : List Rule → List Text
 longs rules = filter_map (λ rule. rule.long) rules
 
--- the names that a peer's grammar has
-own_names : (name : Text) (of_llvm : Bool) (which how : Bor (List (Bor Text)))
+-- the names that a peer's grammar has: those of its words, whatever the values of these are
+own_names : (name : Text) (of_llvm : Bool) (which how kinds manners : Bor (List (Bor Text)))
     → long_names (peer name of_llvm which how)
-    ≡ longs (peer_words of_llvm which how) ++ codes "help" ∷ codes "version" ∷ []
+    ≡ longs (peer_words of_llvm kinds manners) ++ codes "help" ∷ codes "version" ∷ []
 unfolding clap_on_literals peer
-own_names name true which how = refl
-own_names name false which how = refl
+own_names name true which how kinds manners = refl
+own_names name false which how kinds manners = refl
 
-pub are_long_names : (name : Text) (of_llvm : Bool) (own names : List Text)
-    → of_llvm ≡ is_of_llvm name → AreOwnNames of_llvm own
+pub are_long_names : (name : Text) (list : List Word) (own names : List Text)
+    → ArePeerWords (is_of_llvm name) list → own ≡ longs (map rule_in list)
     → names ≡ own ++ codes "help" ∷ codes "version" ∷ [] → AreLongNames name names
-are_long_names name of_llvm own names llvm has is app (which, how, _, _, app_is) =
-    is ∙ (ap (λ l. l ++ codes "help" ∷ codes "version" ∷ []) (has which how)
-    ∙ (sym (own_names name of_llvm which how)
-    ∙ (ap (λ b. long_names (peer name b which how)) llvm ∙ ap long_names (sym app_is))))
+are_long_names name list own names (kinds, manners, _, _, rules) has is app
+    (which, how, _, _, app_is) =
+    is ∙ (ap (λ l. l ++ codes "help" ∷ codes "version" ∷ []) (has ∙ ap longs rules)
+    ∙ (sym (own_names name (is_of_llvm name) which how kinds manners)
+    ∙ ap long_names (sym app_is)))

@@ -112,13 +112,6 @@ abbrev pub Asks : (of_peer : Bool) → List Row → Option (Text × List Row) �
 Asks true rows command call = AsksPeer rows call
 Asks false rows command call = AsksIn command call
 
--- a text is shown; words are refused, or memory ran out for that
-abbrev pub IsShown : Call → Type 0
-IsShown call = call ≡ Shows
-
-abbrev pub IsRefusal : Call → Type 0
-IsRefusal call = (call ≡ Refuses) ⊎ (call ≡ LacksMemory)
-
 -- the status that is answered where no command is called: 2 where words are refused, 0 where a text
 -- is shown, and 1 where that can't be printed, or memory ran out
 abbrev pub IsStatusOf : Call → (status : ℕ) → Type 0

@@ -14,9 +14,9 @@ use Rattle.thorin_arguments.specs.Wrong.{is_wrong_line}
 abbrev pub are_wrong : (of_peer : Bool) → ArgMatches → Bool
 are_wrong of_peer m = is_wrong_line of_peer (rows_of (found_of m)) (subcommand_rows_of m)
 
--- matches whose options go together; or they don't, or memory ran out
-abbrev pub IsTested : (of_peer : Bool) → ArgMatches → Result ArgMatches Error → Type 0
-IsTested of_peer matches (Ok m) = (m ≡ matches) × (are_wrong of_peer matches ≡ false)
+-- whether options of matches go together; they don't, or memory ran out
+abbrev pub IsTested : (of_peer : Bool) → ArgMatches → Result (Unit {0}) Error → Type 0
+IsTested of_peer matches (Ok _) = are_wrong of_peer matches ≡ false
 IsTested of_peer matches (Err e) = (kind_of e ≡ kinds.OutOfMemory)
     ⊎ (¬ IsText (kind_of e) × (are_wrong of_peer matches ≡ true))
 

@@ -1,5 +1,5 @@
 -- The words of a command line as this program lists them, in clap's terms.
-use Rattle.std.specs.Prelude.{◌≡◌, Bool, List, codes, filter_map, map}
+use Rattle.std.specs.Prelude.{◌≡◌, Bool, List, codes, map}
 use Rattle.std.specs.Borrow.{Bor}
 use Rattle.clap.specs.Simple.{App, Shape, shape_of}
 use Rattle.clap.specs.Walk.{Rule, Text}
@@ -21,15 +21,10 @@ rule_in words.Inputs = grammar.places (codes "input")
 rule_in (words.Place name value help) = grammar.place name.now
 
 -- the words of a peer
-abbrev pub ArePeerRules : (of_llvm : Bool) → List Rule → Type 0
-ArePeerRules of_llvm rules = (which : Bor (List (Bor Text))) × (how : Bor (List (Bor Text)))
+abbrev pub ArePeerWords : (of_llvm : Bool) → List Word → Type 0
+ArePeerWords of_llvm list = (which : Bor (List (Bor Text))) × (how : Bor (List (Bor Text)))
     × grammar.AreKinds which × grammar.AreManners how
-    × (rules ≡ grammar.peer_words of_llvm which how)
-
--- the names of its long options
-abbrev pub AreOwnNames : (of_llvm : Bool) → List Text → Type 0
-AreOwnNames of_llvm names = (which how : Bor (List (Bor Text)))
-    → names ≡ filter_map (λ rule. rule.long) (grammar.peer_words of_llvm which how)
+    × (map rule_in list ≡ grammar.peer_words of_llvm which how)
 
 -- the names of the long options of each grammar of the peer of this name
 abbrev pub AreLongNames : (peer : Text) → List Text → Type 0
@@ -41,3 +36,8 @@ made command = shape_of command
 
 unfoldable pub shape_in : Line → Shape
 shape_in line = grammar.command line.name.now (map rule_in line.words.now)
+
+-- the lines of the commands
+abbrev pub AreLines : List Line → Type 0
+AreLines lines = (which : Bor (List (Bor Text))) × grammar.AreKinds which
+    × (map shape_in lines ≡ (grammar.thorin which).subs)

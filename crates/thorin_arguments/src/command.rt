@@ -2,21 +2,21 @@
 
 ghost use Rattle.std.specs.Prelude.{◌≡◌, IfOk, map, string_bytes};
 ghost use Rattle.clap.specs.Walk.{texts};
-ghost use Rattle.clap.specs.Words.{app_of, new_app, rule_of};
+ghost use Rattle.clap.specs.Words.{app_of, new_app};
 ghost use Rattle.thorin_arguments.specs.Grammar as grammar;
-ghost use Rattle.thorin_arguments.specs.Rules.{AreLongNames, AreOwnNames, ArePeerRules};
-ghost use Rattle.thorin_arguments.specs.Rules.{made, shape_in};
+ghost use Rattle.thorin_arguments.specs.Rules.{AreLines, AreLongNames, ArePeerWords, made};
+ghost use Rattle.thorin_arguments.specs.Rules.{shape_in};
 ghost use Rattle.thorin_arguments.specs.Versions.{version_with};
 
 use crate::texts::{
     CHECK_EXAMPLES, EXAMPLES, FIND_EXAMPLES, LIST_EXAMPLES, PACK_EXAMPLES, PEER_NOTES,
 };
 use crate::whole::is_of_llvm;
-use crate::words::{Word, arg_of, args_of, is_named, names_of};
-use clap::{Arg, Command};
+use crate::words::{Word, args_of, is_named, names_of};
+use clap::Command;
 use std::alloc::{AllocError, Global};
 
-const VERSION: &'static str = "1.2.0";
+pub(crate) const VERSION: &'static str = "1.2.0";
 
 /// A command: its names, what it does, what stands below its options, and its words.
 #[derive(Clone, Copy)]
@@ -185,8 +185,10 @@ const COMMANDS: [Line; 4] = [
     },
 ];
 
-/// The words of a peer: those of `pack`, some of which say what a peer does in any case.
-const PEER: [Word; 17] = [
+/// The words of LLVM's peer: those of `pack`, some of which say what a peer does in any case, and at
+/// the end one that only it has. Past 2^32 bytes that would write a package that can't be read, or
+/// leave inputs out, where this program refuses; so help leaves it out.
+const PEER: [Word; 18] = [
     Word::Output,
     PACKED,
     Word::Flag("verify-only", "Check the package OUT instead of writing it"),
@@ -204,26 +206,25 @@ const PEER: [Word; 17] = [
     WARNINGS,
     Word::Verbose,
     Word::Inputs,
+    Word::Choice(
+        "continue-on-cu-index-overflow",
+        "HOW",
+        "",
+        &["continue", "soft-stop"],
+    ),
 ];
 
-/// What LLVM's alone takes: past 2^32 bytes it would write a package that can't be read, or leave
-/// inputs out, where this program refuses. Help leaves it out.
-const OVERFLOW: Word = Word::Choice(
-    "continue-on-cu-index-overflow",
-    "HOW",
-    "No effect: a package that is too large is refused",
-    &["continue", "soft-stop"],
-);
-
-/// What `--version` prints behind the program's name: the version, and the commit where one is
-/// named.
-pub(crate) fn version_of(alloc: Global, commit: &str) -> Result<String, AllocError> {
-    version_with(alloc, VERSION, commit)
+/// The words of a peer: those of LLVM's, or all but the last.
+fn peer_words(of_llvm: bool) -> &'static [Word]
+    ensures { ArePeerWords of_llvm result.now }
+{
+    if of_llvm { &PEER } else { &PEER[..17] }
 }
 
-/// A version, and the commit behind it where one is named.
+/// What `--version` prints behind the program's name: this version, and the commit where one is
+/// named.
 #[tactic(auto, unfolding(crate::specs::Versions::version_with))]
-fn version_with(alloc: Global, version: &str, commit: &str) -> Result<String, AllocError>
+pub(crate) fn version_with(alloc: Global, version: &str, commit: &str) -> Result<String, AllocError>
     ensures { IfOk result (λ text. string_bytes text ≡ version_with version.now commit.now) }
 {
     let mut text = String::from_str(alloc, version)?;
@@ -235,11 +236,18 @@ fn version_with(alloc: Global, version: &str, commit: &str) -> Result<String, Al
     Ok(text)
 }
 
+/// The commands.
+fn lines() -> &'static [Line; 4]
+    ensures { AreLines result.now }
+{
+    &COMMANDS
+}
+
 /// The program's command line: `pack`, `find`, `list` and `check`.
 pub(crate) fn command<'a>(alloc: Global, version: &'a str) -> Result<Command<'a>, AllocError>
     ensures { IfOk result (λ c. grammar.IsThorin (app_of c)) }
 {
-    let commands = commands_of(alloc, &COMMANDS)?;
+    let commands = commands_of(alloc, lines())?;
     titled(
         alloc,
         "thorin",
@@ -254,16 +262,17 @@ pub(crate) fn command<'a>(alloc: Global, version: &'a str) -> Result<Command<'a>
 
 /// The command line of one of the commands alone, as its usage is shown.
 pub(crate) fn part<'a>(alloc: Global, name: &str) -> Result<Command<'a>, AllocError> {
-    match COMMANDS.iter().find(|line| line.name == name) {
+    let lines = lines();
+    match lines.iter().find(|line| line.name == name) {
         Some(line) => command_of(alloc, line)?.bin_name(line.full_name),
-        None => command_of(alloc, &COMMANDS[0]),
+        None => command_of(alloc, &lines[0]),
     }
 }
 
 /// The names of the commands that take an option, `-v` or `--verbose` say; none where it is of none.
 pub(crate) fn takers_of(alloc: Global, option: &str) -> Result<String, AllocError> {
     let mut names = String::new(alloc);
-    for line in &COMMANDS {
+    for line in lines() {
         if line.words.iter().any(|word| is_named(*word, option)) {
             names.push_str(if names.is_empty() { "" } else { ", " })?;
             names.push_str(line.name)?;
@@ -276,20 +285,9 @@ pub(crate) fn takers_of(alloc: Global, option: &str) -> Result<String, AllocErro
 pub(crate) fn long_names(alloc: Global, peer: &str) -> Result<Vec<&'static str>, AllocError>
     ensures { IfOk result (λ names. AreLongNames peer.now (texts names.items)) }
 {
-    let mut names = own_names(alloc, is_of_llvm(peer))?;
+    let mut names = names_of(alloc, peer_words(is_of_llvm(peer)))?;
     names.push("help")?;
     names.push("version")?;
-    Ok(names)
-}
-
-/// The names of a peer's long options.
-fn own_names(alloc: Global, of_llvm: bool) -> Result<Vec<&'static str>, AllocError>
-    ensures { IfOk result (λ names. AreOwnNames of_llvm (texts names.items)) }
-{
-    let mut names = names_of(alloc, &PEER)?;
-    if of_llvm {
-        names.push("continue-on-cu-index-overflow")?;
-    }
     Ok(names)
 }
 
@@ -302,7 +300,7 @@ pub(crate) fn peer<'a>(
 ) -> Result<Command<'a>, AllocError>
     ensures { IfOk result (λ c. grammar.IsPeer name.entry.now (app_of c)) }
 {
-    let words = peer_args(alloc, is_of_llvm(name))?;
+    let args = args_of(alloc, peer_words(is_of_llvm(name)))?;
     titled(
         alloc,
         name,
@@ -311,19 +309,8 @@ pub(crate) fn peer<'a>(
     )
     .version(version)
     .args_override_self(true)
-    .args(words)?
+    .args(args)?
     .bin_name(name)
-}
-
-/// A peer's words in clap's terms.
-fn peer_args<'a>(alloc: Global, of_llvm: bool) -> Result<Vec<Arg<'a>>, AllocError>
-    ensures { IfOk result (λ args. ArePeerRules of_llvm (map rule_of args.items)) }
-{
-    let mut args = args_of(alloc, &PEER)?;
-    if of_llvm {
-        args.push(arg_of(alloc, OVERFLOW).hide(true))?;
-    }
-    Ok(args)
 }
 
 /// A peer's command line as errors show it: the value of LLVM's option may be left out.

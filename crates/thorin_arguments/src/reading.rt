@@ -3,15 +3,15 @@
 ghost use Rattle.std.specs.Prelude.{◌≡◌, IfOk, List, Option, is_some, option_map};
 ghost use Rattle.clap.specs.Walk.{Text};
 ghost use Rattle.clap.specs.Words.{app_of, kind_of};
-ghost use Rattle.thorin_arguments.specs.Asked.{Does, IsCallBy, IsCallOf, IsRefusal, words_in};
+ghost use Rattle.thorin_arguments.specs.Asked.{Does, IsCallBy, IsCallOf, words_in};
 ghost use Rattle.thorin_arguments.specs.Grammar.{IsLine, IsText};
-ghost use Rattle.thorin_arguments.specs.Peers.{last_part, peer_of};
+ghost use Rattle.thorin_arguments.specs.Peers.{peer_of};
 ghost use Rattle.thorin_arguments.specs.Reading.{AreReadAs, IsReadAs, IsTested};
 
 use crate::asking::Commands;
 use crate::command;
 use crate::commands::dispatch;
-use crate::peers::is_peer;
+use crate::peers::{is_peer, last_part};
 use crate::whole::completed;
 use crate::wrong::{Wrong, wrong_in, wrong_in_peer};
 use clap::error::ErrorKind;
@@ -31,13 +31,13 @@ const EXEC_TIP: &'static str = "an executable is named behind '-e'";
 pub fn run<C: Commands>(alloc: Global, words: &[String], commit: &str, commands: &mut C) -> u8
     ensures called { Does C.does (IsCallOf (words_in words.now)) commands.old result commands.new }
 {
-    match command::version_of(alloc, commit) {
+    match command::version_with(alloc, command::VERSION, commit) {
         Ok(version) => run_version(alloc, words, version.as_str(), commands),
         Err(AllocError) => commands.lack_memory(),
     }
 }
 
-/// The same of a program of this version.
+/// Does what a command line asks for, in a program of this version.
 fn run_version<C: Commands>(alloc: Global, words: &[String], version: &str, commands: &mut C) -> u8
     ensures { Does C.does (IsCallOf (words_in words.now)) commands.old result commands.new }
 {
@@ -50,7 +50,7 @@ fn run_version<C: Commands>(alloc: Global, words: &[String], version: &str, comm
     }
 }
 
-/// The same of a peer's name, where that is the program's.
+/// Does what the words of a peer's line ask for, or those of `thorin` where no peer is named.
 fn run_as<C: Commands>(
     alloc: Global,
     peer: Option<&str>,
@@ -66,44 +66,37 @@ fn run_as<C: Commands>(
     match read(alloc, peer, version, words) {
         Ok(matches) => dispatch(&matches, peer.is_some(), commands),
         Err(error) if error.kind() == ErrorKind::OutOfMemory => commands.lack_memory(),
-        Err(error) if error.use_stderr() => refuse(alloc, words, version, &error, commands),
+        Err(error) if error.use_stderr() => match refusal(alloc, words, version, &error) {
+            Ok(text) => commands.refuse(&text),
+            Err(AllocError) => commands.lack_memory(),
+        },
         Err(error) => commands.show(&error),
     }
 }
 
-/// Refuses words, and prints why: what is said of them as they are printed, since some may have
-/// characters that aren't.
-fn refuse<C: Commands>(
-    alloc: Global,
-    words: &[String],
-    version: &str,
-    error: &Error,
-    commands: &mut C,
-) -> u8
-    ensures { Does C.does IsRefusal commands.old result commands.new }
-{
-    match printed_words(alloc, words) {
-        Ok(shown) => match refusal(alloc, shown.as_slice(), version, error) {
-            Ok(text) => commands.refuse(&text),
-            Err(AllocError) => commands.lack_memory(),
-        },
-        Err(AllocError) => commands.lack_memory(),
-    }
-}
-
-/// Why words are refused, with a tip where there is one; this error where they aren't.
+/// Why words are refused, with a tip where there is one: what is said of them as they are printed,
+/// since some may have characters that aren't; this error where they aren't refused then.
 fn refusal(
     alloc: Global,
     words: &[String],
     version: &str,
     error: &Error,
 ) -> Result<String, AllocError> {
-    let peer = peer_name(words);
+    let mut shown = Vec::with_capacity(alloc, words.len())?;
+    for word in words {
+        shown.push(printed(alloc, word.as_str())?)?;
+    }
+    let peer = peer_name(shown.as_slice());
     let mut command = command::shown(command_line(alloc, peer, version)?)?;
-    match read_by(alloc, &mut command, peer.is_some(), words) {
-        Ok(_matches) => format!(in alloc; "{error}"),
+    let again = read_by(alloc, &mut command, peer.is_some(), shown.as_slice());
+    drop(command);
+    match again {
+        Ok(matches) => {
+            drop(matches);
+            format!(in alloc; "{error}")
+        }
         Err(own) if own.kind() == ErrorKind::OutOfMemory => Err(AllocError),
-        Err(own) => with_tip(alloc, words, &own),
+        Err(own) => with_tip(alloc, shown.as_slice(), &own),
     }
 }
 
@@ -147,15 +140,6 @@ fn tip_on(alloc: Global, said: &str, usage: &str) -> Result<String, AllocError> 
     format!(in alloc; "'{word}' is an option of {takers}")
 }
 
-/// Words as they are printed.
-fn printed_words(alloc: Global, words: &[String]) -> Result<Vec<String>, AllocError> {
-    let mut shown = Vec::with_capacity(alloc, words.len())?;
-    for word in words {
-        shown.push(printed(alloc, word.as_str())?)?;
-    }
-    Ok(shown)
-}
-
 /// Reads the words as a command line, of a peer where one is named.
 fn read<'a>(
     alloc: Global,
@@ -168,7 +152,9 @@ fn read<'a>(
         → IsReadAs (option_map (λ s. s.now) peer.entry) line result }
 {
     let mut command = command_line(alloc, peer, version)?;
-    read_by(alloc, &mut command, peer.is_some(), words)
+    let matches = read_by(alloc, &mut command, peer.is_some(), words);
+    drop(command);
+    matches
 }
 
 /// Reads the words by a command line, of a peer where it is one.
@@ -183,32 +169,38 @@ fn read_by<'a>(
         → IsReadAs peer line result }
 {
     match command.try_get_matches_from_mut(words) {
-        Ok(matches) => tested(alloc, command, is_peer, matches),
+        Ok(matches) => match tested(alloc, command, is_peer, &matches) {
+            Ok(()) => Ok(matches),
+            Err(error) => {
+                drop(matches);
+                Err(error)
+            }
+        },
         Err(error) => Err(error),
     }
 }
 
-/// The matches, unless something is wrong with them beside what clap tests.
-fn tested<'a>(
+/// Whether nothing is wrong with the matches beside what clap tests.
+fn tested(
     alloc: Global,
-    command: &mut Command<'a>,
+    command: &mut Command<'_>,
     is_peer: bool,
-    matches: ArgMatches<'a>,
-) -> Result<ArgMatches<'a>, Error>
-    ensures { IsTested is_peer matches.entry result }
+    matches: &ArgMatches<'_>,
+) -> Result<(), Error>
+    ensures { IsTested is_peer matches.now result }
 {
     if is_peer {
-        return match wrong_in_peer(&matches) {
+        return match wrong_in_peer(matches) {
             Some(wrong) => Err(told(command, wrong)?),
-            None => Ok(matches),
+            None => Ok(()),
         };
     }
     match matches.subcommand() {
         Some((name, words)) => match wrong_in(name, words) {
             Some(wrong) => Err(error_of(alloc, name, wrong)?),
-            None => Ok(matches),
+            None => Ok(()),
         },
-        None => Ok(matches),
+        None => Ok(()),
     }
 }
 
@@ -217,14 +209,20 @@ fn error_of(alloc: Global, name: &str, wrong: Wrong) -> Result<Error, AllocError
     ensures { IfOk result (λ error. ¬ IsText (kind_of error)) }
 {
     let mut command = command::part(alloc, name)?;
-    told(&mut command, wrong)
+    let error = told(&mut command, wrong);
+    drop(command);
+    error
 }
 
 /// What is said of wrong words of a command line, with its usage.
 fn told(command: &mut Command<'_>, wrong: Wrong) -> Result<Error, AllocError>
     ensures { IfOk result (λ error. ¬ IsText (kind_of error)) }
 {
-    command.error(wrong.kind(), wrong.text())
+    match wrong {
+        Wrong::Lacks(text) => command.error(ErrorKind::MissingRequiredArgument, text),
+        Wrong::Value(text) => command.error(ErrorKind::ValueValidation, text),
+        Wrong::Clash(text) => command.error(ErrorKind::ArgumentConflict, text),
+    }
 }
 
 fn command_line<'a>(
@@ -247,19 +245,8 @@ fn peer_name(words: &[String]) -> Option<&str>
 {
     let path = words.first()?.as_str();
     if is_peer(path) {
-        Some(without_folders(path))
+        Some(last_part(path, '/'))
     } else {
         None
     }
-}
-
-/// What stands behind the last `/` of a path, all where there is none.
-fn without_folders(path: &str) -> &str
-    ensures { result.now ≡ last_part 47 path.now }
-{
-    let mut name = path;
-    while let Some((_folder, rest)) = name.split_once('/') {
-        name = rest;
-    }
-    name
 }

@@ -1,7 +1,7 @@
 //! The words of a peer's line: long options that are cut short become whole.
 
 ghost use Rattle.std.specs.Prelude.{◌≡◌, IfOk, Some, option_map, string_bytes};
-ghost use Rattle.clap.specs.Lexer.{long_of, name_and_value, strip_byte};
+ghost use Rattle.clap.specs.Lexer.{long_of, strip_byte};
 ghost use Rattle.clap.specs.Walk.{texts};
 ghost use Rattle.thorin_arguments.specs.Asked.{words_in};
 ghost use Rattle.thorin_arguments.specs.Reading.{AreReadAs};
@@ -58,7 +58,7 @@ fn whole_word(
     ensures { IfOk result (λ text. string_bytes text
         ≡ spec.whole_word of_llvm (texts names.now) word.now) }
 {
-    if of_llvm && has_one_dash(word) {
+    if of_llvm && (word == "-version" || word == "-help" || begins(OVERFLOW, word)) {
         let mut dashed = String::from_str(alloc, "-")?;
         dashed.push_str(word)?;
         whole_long(alloc, names, dashed.as_str())
@@ -77,7 +77,7 @@ fn whole_long(alloc: Global, names: &[&str], word: &str) -> Result<String, Alloc
     }
 }
 
-/// `--NAME` or `--NAME=VALUE`.
+/// `--NAME` or `--NAME=VALUE`; LLVM's option takes a value that is left out.
 fn long_word(alloc: Global, name: &str, value: Option<&str>) -> Result<String, AllocError>
     ensures { IfOk result (λ text. string_bytes text
         ≡ spec.long_word name.now (option_map (λ s. s.now) value.entry)) }
@@ -89,19 +89,10 @@ fn long_word(alloc: Global, name: &str, value: Option<&str>) -> Result<String, A
             text.push_str("=")?;
             text.push_str(value)?;
         }
-        None => text.push_str(default_value(name))?,
+        None if name == "continue-on-cu-index-overflow" => text.push_str("=continue")?,
+        None => {}
     }
     Ok(text)
-}
-
-/// What stands for a value that is left out: LLVM's option takes that.
-fn default_value(name: &str) -> &'static str
-    ensures { result.now ≡ spec.default_value name.now }
-{
-    match name {
-        "continue-on-cu-index-overflow" => "=continue",
-        _ => "",
-    }
 }
 
 /// The one of these names that begins so; this name where none does, or several.
@@ -129,13 +120,6 @@ pub(crate) fn is_of_llvm(name: &str) -> bool
     begins("llvm-", name)
 }
 
-/// Whether a word is one of LLVM's long options behind one dash.
-fn has_one_dash(word: &str) -> bool
-    ensures { result ≡ spec.has_one_dash word.now }
-{
-    word == "-version" || word == "-help" || begins(OVERFLOW, word)
-}
-
 /// Whether a text begins so.
 fn begins(start: &str, text: &str) -> bool
     ensures { result ≡ spec.begins start.now text.now }
@@ -151,7 +135,10 @@ fn long_of(word: &str) -> Option<(&str, Option<&str>)>
     if rest.is_empty() {
         return None;
     }
-    Some(split_value(rest))
+    match rest.split_once('=') {
+        Some((name, value)) => Some((name, Some(value))),
+        None => Some((rest, None)),
+    }
 }
 
 /// What stands behind a dash.
@@ -159,14 +146,4 @@ fn behind_dash(word: &str) -> Option<&str>
     ensures { option_map (λ s. s.now) result ≡ strip_byte 45 word.now }
 {
     word.strip_prefix('-')
-}
-
-/// What stands before the first `=`, and what stands behind it.
-fn split_value(text: &str) -> (&str, Option<&str>)
-    ensures { (result.0.now, option_map (λ s. s.now) result.1) ≡ name_and_value text.now }
-{
-    match text.split_once('=') {
-        Some((name, value)) => (name, Some(value)),
-        None => (text, None),
-    }
 }

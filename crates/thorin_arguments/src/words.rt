@@ -1,13 +1,17 @@
 //! The words that a command line may have, and what clap makes of them.
 
-ghost use Rattle.std.specs.Prelude.{◌≡◌, IfOk, codes, filter_map, map, option_map};
+ghost use Rattle.std.specs.Prelude.{◌≡◌, IfOk, Some, filter_map, map, option_map};
 ghost use Rattle.clap.specs.Walk.{texts};
-ghost use Rattle.clap.specs.Words.{rule_of};
+ghost use Rattle.clap.specs.Words.{new_rule, rule_of};
 ghost use Rattle.thorin_arguments.specs.Grammar as grammar;
 ghost use Rattle.thorin_arguments.specs.Rules.{rule_in};
 
 use clap::{Arg, ArgAction};
 use std::alloc::{AllocError, Global};
+
+const OUTPUT: &'static str = "The package to write; - for standard output";
+
+const INPUTS: &'static str = "Objects to pack, in order";
 
 /// A word that a command line may have.
 #[derive(Clone, Copy)]
@@ -25,6 +29,7 @@ pub(crate) enum Word {
     /// An option with a value, as often as one likes: its name, how help shows the value, its help.
     Values(&'static str, &'static str, &'static str),
     /// An option with one of some values: its name, how help shows the value, its help, the values.
+    /// Help leaves it out where it has no help.
     Choice(&'static str, &'static str, &'static str, &'static [&'static str]),
     /// `INPUT`, as often as one likes.
     Inputs,
@@ -92,98 +97,47 @@ pub(crate) fn arg_of<'a>(alloc: Global, word: Word) -> Arg<'a>
     ensures { rule_of result ≡ rule_in word }
 {
     match word {
-        Word::Output => output(alloc),
-        Word::Executables(help) => executables(alloc, help),
+        Word::Output => valued(alloc, "output", "OUT", OUTPUT, ArgAction::Set)
+            .long("output")
+            .short('o'),
+        Word::Executables(help) => valued(alloc, "exec", "EXEC", help, ArgAction::Append)
+            .long("exec")
+            .short('e'),
         Word::Verbose => flag(alloc, "verbose", "Report each input").short('v'),
         Word::Flag(name, help) => flag(alloc, name, help),
-        Word::Value(name, value, help) => value_of(alloc, name, value, help),
-        Word::Values(name, value, help) => values(alloc, name, value, help),
-        Word::Choice(name, value, help, values) => choice(alloc, name, value, help, values),
-        Word::Inputs => inputs(alloc),
-        Word::Place(name, value, help) => place(alloc, name, value, help),
+        Word::Value(name, value, help) => {
+            valued(alloc, name, value, help, ArgAction::Set).long(name)
+        }
+        Word::Values(name, value, help) => {
+            valued(alloc, name, value, help, ArgAction::Append).long(name)
+        }
+        Word::Choice(name, value, help, values) => valued(alloc, name, value, help, ArgAction::Set)
+            .long(name)
+            .value_parser(values)
+            .hide_possible_values(true)
+            .hide(help.is_empty()),
+        Word::Inputs => valued(alloc, "input", "INPUT", INPUTS, ArgAction::Append).num_args(0..),
+        Word::Place(name, value, help) => {
+            valued(alloc, name, value, help, ArgAction::Set).required(true)
+        }
     }
 }
 
-fn output<'a>(alloc: Global) -> Arg<'a>
-    ensures { rule_of result ≡ grammar.also 111 (grammar.valued (codes "output")) }
-{
-    option(
-        alloc,
-        "output",
-        'o',
-        "OUT",
-        "The package to write; - for standard output",
-    )
-    .action(ArgAction::Set)
-}
-
-fn executables<'a>(alloc: Global, help: &'a str) -> Arg<'a>
-    ensures { rule_of result ≡ grammar.exec }
-{
-    option(alloc, "exec", 'e', "EXEC", help).action(ArgAction::Append)
-}
-
-fn inputs<'a>(alloc: Global) -> Arg<'a>
-    ensures { rule_of result ≡ grammar.places (codes "input") }
-{
-    Arg::new(alloc, "input")
-        .value_name("INPUT")
-        .help("Objects to pack, in order")
-        .num_args(0..)
-        .action(ArgAction::Append)
-}
-
-/// An option with a value, under a long name and a short one.
-fn option<'a>(alloc: Global, name: &'a str, short: char, value: &'a str, help: &'a str) -> Arg<'a>
-    ensures { rule_of result
-        ≡ record (grammar.also short (grammar.valued name.entry.now)) { action = None } }
-{
-    Arg::new(alloc, name)
-        .short(short)
-        .long(name)
-        .value_name(value)
-        .help(help)
-}
-
-/// An option with any value.
-fn value_of<'a>(alloc: Global, name: &'a str, value: &'a str, help: &'a str) -> Arg<'a>
-    ensures { rule_of result ≡ grammar.valued name.entry.now }
-{
-    Arg::new(alloc, name)
-        .long(name)
-        .value_name(value)
-        .help(help)
-        .action(ArgAction::Set)
-}
-
-/// An option with a value, as often as one likes.
-fn values<'a>(alloc: Global, name: &'a str, value: &'a str, help: &'a str) -> Arg<'a>
-    ensures { rule_of result ≡ grammar.repeated name.entry.now }
-{
-    Arg::new(alloc, name)
-        .long(name)
-        .value_name(value)
-        .help(help)
-        .action(ArgAction::Append)
-}
-
-/// An option with one of some values.
-fn choice<'a>(
+/// A word that is a value or has one, which help shows so.
+fn valued<'a>(
     alloc: Global,
     name: &'a str,
     value: &'a str,
     help: &'a str,
-    values: &'a [&'a str],
+    action: ArgAction,
 ) -> Arg<'a>
-    ensures { rule_of result ≡ grammar.chosen name.entry.now values.entry }
+    ensures { rule_of result
+        ≡ record (new_rule name.entry.now) { value_names = 1; action = Some action } }
 {
     Arg::new(alloc, name)
-        .long(name)
         .value_name(value)
         .help(help)
-        .value_parser(values)
-        .hide_possible_values(true)
-        .action(ArgAction::Set)
+        .action(action)
 }
 
 /// An option without a value.
@@ -194,15 +148,4 @@ fn flag<'a>(alloc: Global, name: &'a str, help: &'a str) -> Arg<'a>
         .long(name)
         .help(help)
         .action(ArgAction::SetTrue)
-}
-
-/// A word that a command line must have at its place.
-fn place<'a>(alloc: Global, name: &'a str, value: &'a str, help: &'a str) -> Arg<'a>
-    ensures { rule_of result ≡ grammar.place name.entry.now }
-{
-    Arg::new(alloc, name)
-        .value_name(value)
-        .help(help)
-        .required(true)
-        .action(ArgAction::Set)
 }

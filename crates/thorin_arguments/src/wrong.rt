@@ -1,16 +1,13 @@
 //! Options that don't go together, which clap takes.
 
 ghost use Rattle.std.specs.Prelude.{◌≡◌, ◌||◌, is_some};
-ghost use Rattle.std.specs.List.{list_any};
 ghost use Rattle.clap.specs.Words.{found_of, rows_of};
-ghost use Rattle.thorin_arguments.specs.Grammar.{IsText};
 ghost use Rattle.thorin_arguments.specs.Wrong.{is_wrong_by, is_wrong_find, is_wrong_list};
-ghost use Rattle.thorin_arguments.specs.Wrong.{is_wrong_pack, is_wrong_packing, lacks_mark};
+ghost use Rattle.thorin_arguments.specs.Wrong.{is_wrong_pack, is_wrong_packing};
 ghost use Rattle.thorin_arguments.specs.Wrong.{is_given, is_wrong_peer, lack_marks, lacks_output};
 
 use crate::commands::{has_flag, value_of, values_of};
 use clap::ArgMatches;
-use clap::error::ErrorKind;
 
 const NO_OUTPUT: &'static str =
     "the following required arguments were not provided:\n  --output <OUT>";
@@ -43,26 +40,6 @@ pub(crate) enum Wrong {
     Value(&'static str),
     /// Two don't go together.
     Clash(&'static str),
-}
-
-impl Wrong {
-    /// What clap calls it.
-    pub(crate) fn kind(self) -> ErrorKind
-        ensures { ¬ IsText result }
-    {
-        match self {
-            Wrong::Lacks(_) => ErrorKind::MissingRequiredArgument,
-            Wrong::Value(_) => ErrorKind::ValueValidation,
-            Wrong::Clash(_) => ErrorKind::ArgumentConflict,
-        }
-    }
-
-    /// What is said of it.
-    pub(crate) fn text(self) -> &'static str {
-        match self {
-            Wrong::Lacks(text) | Wrong::Value(text) | Wrong::Clash(text) => text,
-        }
-    }
 }
 
 /// What is wrong with the words of a command of this name, if anything is.
@@ -99,7 +76,7 @@ fn wrong_in_pack(matches: &ArgMatches<'_>) -> Option<Wrong>
     wrong_in_packing(matches)
 }
 
-/// The same but for the package's name.
+/// What is wrong with the words of `pack` beside the package's name, if anything is.
 fn wrong_in_packing(matches: &ArgMatches<'_>) -> Option<Wrong>
     ensures { is_some result ≡ is_wrong_packing (rows_of (found_of matches.now)) }
 {
@@ -132,28 +109,10 @@ fn is_given(matches: &ArgMatches<'_>, name: &str) -> bool
 fn lack_marks(matches: &ArgMatches<'_>) -> bool
     ensures { result ≡ lack_marks (rows_of (found_of matches.now)) }
 {
-    match values_of(matches, "prefix-map") {
-        Some(words) => lack_mark(words),
-        None => false,
-    }
-}
-
-/// Whether one of these words has no `=`.
-fn lack_mark(words: &[&str]) -> bool
-    ensures { result ≡ list_any (λ word. lacks_mark word.now) words.now }
-{
-    for word in words {
-        if has_no_mark(word) {
-            return true;
-        }
-    }
-    false
-}
-
-fn has_no_mark(word: &str) -> bool
-    ensures { result ≡ lacks_mark word.now }
-{
-    !word.as_bytes().contains(&b'=')
+    values_of(matches, "prefix-map")
+        .unwrap_or(&[])
+        .iter()
+        .any(|word| !word.as_bytes().contains(&b'='))
 }
 
 /// What is wrong with the words of `find`, if anything is.

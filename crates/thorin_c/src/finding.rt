@@ -5,7 +5,7 @@ ghost use Rattle.dwp_base.specs.Reading.{Answers};
 ghost use Rattle.dwp_bytes.specs.Encoding.{offset_size};
 ghost use Rattle.dwp_index.specs.Package.{package_of};
 ghost use Rattle.thorin_c.specs.Finding.{object_of, section_of, as_status, range_of, ranges_of};
-ghost use Rattle.thorin_c.specs.Finding.{row_of, unit_of, looked, unit_found};
+ghost use Rattle.thorin_c.specs.Finding.{row_of, looked, unit_found};
 ghost use Rattle.thorin_c.specs.Finding.{content_found, string_found, Fills, FillsEach};
 
 use crate::inside::{thorin_content_in, thorin_string_in};
@@ -14,7 +14,7 @@ use crate::status::{ABSENT, DONE, NO_SUCH_KIND, NO_SUCH_SECTION, status_of};
 use crate::types::{ThorinBytes, ThorinLookup, ThorinRange, ThorinUnit};
 use dwp_base::{Contribution, SectionKind};
 use dwp_bytes::Encoding;
-use dwp_index::{PackageFile, PackagedUnit, Row};
+use dwp_index::{PackageFile, Row};
 use dwp_table::{CONTRIBUTION_KINDS, DebugTypeSignature, DwarfObject, DwoId};
 
 /// Looks a unit up: `kind` is 1 for a compilation unit and 2 for a type unit. Answers 0 and fills
@@ -119,15 +119,10 @@ fn read_ahead(file: &PackageFile<'_>, lookups: &mut [ThorinLookup], start: usize
 {
     let end = lookups.len().min(start.saturating_add(AHEAD));
     for i in start..end {
-        lookups[i].status = ahead(file, lookups[i].kind, lookups[i].id);
-    }
-}
-
-/// The first byte of a unit, where there is one.
-fn ahead(file: &PackageFile<'_>, kind: u8, id: u64) -> i32 {
-    match object_of(kind, id) {
-        Ok(object) => i32::from(file.first_byte(object).unwrap_or(0)),
-        Err(status) => status,
+        lookups[i].status = match object_of(lookups[i].kind, lookups[i].id) {
+            Ok(object) => i32::from(file.first_byte(object).unwrap_or(0)),
+            Err(status) => status,
+        };
     }
 }
 
@@ -149,7 +144,8 @@ fn fill(file: &PackageFile<'_>, kind: u8, id: u64, found: &mut ThorinUnit) -> i3
     };
     match &file.find_counted(object) {
         Ok((Some(unit), slots)) => {
-            write_unit(unit, *slots, found);
+            write_row(unit.ranges(), unit.row(), *slots, found);
+            write_encoding(unit.encoding(), found);
             DONE
         }
         Ok((None, _)) => ABSENT,
@@ -178,14 +174,6 @@ pub(crate) fn section_of(number: u8) -> Result<SectionKind, i32>
         Some(kind) => Ok(*kind),
         None => Err(NO_SUCH_SECTION),
     }
-}
-
-/// Writes a unit with its ranges and its encoding.
-fn write_unit(unit: &PackagedUnit<'_>, slots: u32, found: &mut ThorinUnit)
-    ensures { found.new ≡ unit_of unit.now slots }
-{
-    write_row(unit.ranges(), unit.row(), slots, found);
-    write_encoding(unit.encoding(), found);
 }
 
 /// Writes an encoding.

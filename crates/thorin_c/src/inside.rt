@@ -3,8 +3,7 @@
 
 ghost use Rattle.std.specs.Prelude.{◌≡◌};
 ghost use Rattle.dwp_base.specs.Reading.{Answers};
-ghost use Rattle.dwp_index.specs.Package.{found_counted};
-ghost use Rattle.thorin_c.specs.Finding.{as_status, unit_in, unit_found, looked_up};
+ghost use Rattle.thorin_c.specs.Finding.{as_status, unit_found, looked_up};
 ghost use Rattle.thorin_c.specs.Finding.{row_found_in, content_found, string_found};
 ghost use Rattle.thorin_c.specs.Finding.{Fills};
 ghost use Rattle.thorin_c.specs.Listing.{count_in, Lists};
@@ -17,7 +16,6 @@ use crate::status::{ABSENT, DONE, MALFORMED_STRING, NO_SUCH_STRING, status_of};
 use crate::types::{ThorinBytes, ThorinName, ThorinPackage, ThorinUnit};
 use crate::unit::Found;
 use dwp_base::Endianness;
-use dwp_table::DwarfObject;
 
 /// `thorin_find` in a package that is open: its sections are where `places` says, whatever that
 /// says. So after `thorin_open` of the same bytes the answer is that of `thorin_find`; any other
@@ -58,6 +56,7 @@ pub extern "C" fn thorin_find_row_in(
 }
 
 /// `thorin_content` in a package that is open.
+#[tactic(auto, unfolding(crate::specs::Finding::content_found))]
 #[unsafe(no_mangle)]
 pub extern "C" fn thorin_content_in<'a>(
     places: &ThorinPackage,
@@ -71,9 +70,13 @@ pub extern "C" fn thorin_content_in<'a>(
         (as_status (package_in places.now bytes.now)) kind id section) found.old found.new
         result }
 {
-    match content(places, bytes, kind, id, section) {
-        Ok(content) => {
-            found.bytes = content;
+    let (unit, _) = match look_up(places, bytes, kind, id) {
+        Ok(unit) => unit,
+        Err(status) => return status,
+    };
+    match section_of(section) {
+        Ok(section) => {
+            found.bytes = unit.section(section);
             DONE
         }
         Err(status) => status,
@@ -81,6 +84,7 @@ pub extern "C" fn thorin_content_in<'a>(
 }
 
 /// `thorin_string` in a package that is open.
+#[tactic(auto, unfolding(crate::specs::Finding::string_found))]
 #[unsafe(no_mangle)]
 pub extern "C" fn thorin_string_in<'a>(
     places: &ThorinPackage,
@@ -93,12 +97,17 @@ pub extern "C" fn thorin_string_in<'a>(
     ensures { Fills (λ lent. lent.bytes.now) (string_found
         (as_status (package_in places.now bytes.now)) kind id index) found.old found.new result }
 {
-    match string(places, bytes, kind, id, index) {
-        Ok(string) => {
+    let (unit, _) = match look_up(places, bytes, kind, id) {
+        Ok(unit) => unit,
+        Err(status) => return status,
+    };
+    match unit.string(index) {
+        Ok(Some(string)) => {
             found.bytes = string;
             DONE
         }
-        Err(status) => status,
+        Ok(None) => NO_SUCH_STRING,
+        Err(_) => MALFORMED_STRING,
     }
 }
 
@@ -194,7 +203,7 @@ fn opened<'p, 'a>(places: &'p ThorinPackage, bytes: &'a [u8]) -> Result<Opened<'
 }
 
 /// The unit of a name, and how many slots were looked at.
-#[tactic(auto, unfolding(crate::specs::Finding::looked_up))]
+#[tactic(auto, unfolding(crate::specs::Finding::looked_up, crate::specs::Finding::unit_in))]
 fn look_up<'p, 'a>(
     places: &'p ThorinPackage,
     bytes: &'a [u8],
@@ -205,64 +214,12 @@ fn look_up<'p, 'a>(
         id) }
 {
     let pack = opened(places, bytes)?;
-    look_up_in(&pack, kind, id)
-}
-
-#[tactic(auto, unfolding(crate::specs::Finding::unit_in))]
-fn look_up_in<'p, 'a>(pack: &Opened<'p, 'a>, kind: u8, id: u64) -> Result<(Found<'p, 'a>, u32), i32>
-    ensures { Answers (λ x. x) result (unit_in pack.now kind id) }
-{
     let object = object_of(kind, id)?;
-    let (unit, slots) = find(pack, object)?;
-    match unit {
-        Some(unit) => Ok((unit, slots)),
-        None => Err(ABSENT),
-    }
-}
-
-fn find<'p, 'a>(
-    pack: &Opened<'p, 'a>,
-    object: DwarfObject,
-) -> Result<(Option<Found<'p, 'a>>, u32), i32>
-    ensures { Answers (λ x. x) result (as_status (found_counted pack.now object)) }
-{
     match pack.find_counted(object) {
-        Ok(found) => Ok(found),
+        Ok((found, slots)) => match found {
+            Some(unit) => Ok((unit, slots)),
+            None => Err(ABSENT),
+        },
         Err(error) => Err(status_of(error)),
-    }
-}
-
-#[tactic(auto, unfolding(crate::specs::Finding::content_found))]
-fn content<'a>(
-    places: &ThorinPackage,
-    bytes: &'a [u8],
-    kind: u8,
-    id: u64,
-    section: u8,
-) -> Result<&'a [u8], i32>
-    ensures { Answers (λ lent. lent.now) result (content_found
-        (as_status (package_in places.now bytes.now)) kind id section) }
-{
-    let (unit, _) = look_up(places, bytes, kind, id)?;
-    let section = section_of(section)?;
-    Ok(unit.section(section))
-}
-
-#[tactic(auto, unfolding(crate::specs::Finding::string_found))]
-fn string<'a>(
-    places: &ThorinPackage,
-    bytes: &'a [u8],
-    kind: u8,
-    id: u64,
-    index: u64,
-) -> Result<&'a [u8], i32>
-    ensures { Answers (λ lent. lent.now) result (string_found
-        (as_status (package_in places.now bytes.now)) kind id index) }
-{
-    let (unit, _) = look_up(places, bytes, kind, id)?;
-    match unit.string(index) {
-        Ok(Some(string)) => Ok(string),
-        Ok(None) => Err(NO_SUCH_STRING),
-        Err(_) => Err(MALFORMED_STRING),
     }
 }

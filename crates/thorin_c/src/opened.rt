@@ -4,7 +4,7 @@ ghost use Rattle.std.specs.Prelude.{◌≡◌};
 ghost use Rattle.std.specs.Option.{option_copied};
 ghost use Rattle.dwp_base.specs.Reading.{Answers};
 ghost use Rattle.dwp_index.specs.Entries.{units_left, entries_from};
-ghost use Rattle.dwp_index.specs.Package.{as_error, index_for, unit_in, encoding_in};
+ghost use Rattle.dwp_index.specs.Package.{as_error, index_for, unit_in};
 ghost use Rattle.dwp_index.specs.Package.{found_counted};
 ghost use Rattle.dwp_index.specs.declared.error.PackageError.TheVariants as errors;
 ghost use Rattle.thorin_c.specs.ByIndex.{row_named, row_asked, row_encoding};
@@ -17,7 +17,6 @@ use crate::types::ThorinPackage;
 use crate::unit::{Found, encoding_of};
 use dwp_base::{Endianness, SectionKind};
 use dwp_bytes::Encoding;
-use dwp_dwarf::UnitSection;
 use dwp_index::{PackageError, Row, UnitIndex, Units, kind_of, place_of, read_index, read_row};
 use dwp_table::{Bucketable, DwarfObject};
 use std::marker::Model;
@@ -129,7 +128,7 @@ impl<'p, 'a> Opened<'p, 'a> {
     {
         let place = place_of(object, row.range(SectionKind::Types));
         let bytes = self.sections.row_bytes(row, kind_of(place));
-        read_encoding(bytes, self.order, place)
+        encoding_of(bytes, self.order, place)
     }
 
     /// The row of an identifier in the index of its kind, and how many slots were looked at.
@@ -159,7 +158,7 @@ impl<'p, 'a> Opened<'p, 'a> {
         }
         let place = place_of(object, row.range(SectionKind::Types));
         let bytes = self.sections.row_bytes(&row, kind_of(place));
-        let encoding = read_encoding(bytes, self.order, place)?;
+        let encoding = encoding_of(bytes, self.order, place)?;
         Ok(Found {
             order: self.order,
             sections: self.sections,
@@ -197,19 +196,5 @@ pub(crate) fn order_of(big_endian: u64) -> Endianness
         Endianness::Little
     } else {
         Endianness::Big
-    }
-}
-
-#[inline(always)]
-fn read_encoding(
-    bytes: &[u8],
-    order: Endianness,
-    place: UnitSection,
-) -> Result<Encoding, PackageError>
-    ensures { Answers (λ x. x) result (as_error errors.Unit (encoding_in order place bytes.now)) }
-{
-    match encoding_of(bytes, order, place) {
-        Ok(encoding) => Ok(encoding),
-        Err(e) => Err(PackageError::Unit(e)),
     }
 }

@@ -3,12 +3,10 @@
 ghost use Rattle.std.specs.Prelude.{◌≡◌, pos, Err, Some, IfOk, IfErr, IfSome, find};
 ghost use Rattle.std.specs.Prelude.{slice_get};
 ghost use Rattle.dwp_base.specs.Reading.{Answers};
-ghost use Rattle.dwp_elf_read.specs.Elf.{elf_of};
 ghost use Rattle.dwp_elf_read.specs.View.{elf, section, bytes_of, file_bytes};
 ghost use Rattle.dwp_index.specs.Contents.{is_of_kind, used_bytes, content_among, contents_of};
 ghost use Rattle.dwp_index.specs.Firsts.{first_in, found_in};
-ghost use Rattle.dwp_index.specs.Package.{as_error, package_of};
-ghost use Rattle.dwp_index.specs.declared.error.PackageError.TheVariants as errors;
+ghost use Rattle.dwp_index.specs.Package.{package_of};
 ghost use Rattle.thorin_c.specs.Opening.{bytes_at, order_of, sections_at, package_in, opened};
 ghost use Rattle.thorin_c.specs.Opening.{IsPlaceIn, LieIn};
 ghost use Rattle.thorin_c.specs.Finding.{as_status, Fills};
@@ -32,25 +30,16 @@ pub extern "C" fn thorin_open(bytes: &[u8], places: &mut ThorinPackage) -> i32
         (as_status (opened (package_of bytes.now))) places.old places.new result }
     ensures inside { result ≡ pos 0 → LieIn bytes.now places.new }
 {
-    match places_of(bytes) {
-        Ok(found) => {
+    let found = match placed(bytes) {
+        Ok(found) => found,
+        Err(error) => return status_of(error),
+    };
+    match Opened::at(&found, bytes, order_of(found.big_endian)) {
+        Ok(_) => {
             *places = found;
             DONE
         }
         Err(error) => status_of(error),
-    }
-}
-
-/// The places of a package's sections, once its indexes are read.
-fn places_of(bytes: &[u8]) -> Result<ThorinPackage, PackageError>
-    ensures read { Answers (λ found. package_in found bytes.now) result
-        (opened (package_of bytes.now)) }
-    ensures inside { IfOk result (LieIn bytes.now) }
-{
-    let places = placed(bytes)?;
-    match Opened::at(&places, bytes, order_of(places.big_endian)) {
-        Ok(_) => Ok(places),
-        Err(error) => Err(error),
     }
 }
 
@@ -61,19 +50,12 @@ pub(crate) fn placed(bytes: &[u8]) -> Result<ThorinPackage, PackageError>
     ensures fails { IfErr result (λ error. package_of bytes.now ≡ Err error) }
     ensures inside { IfOk result (LieIn bytes.now) }
 {
-    let file = read_file(bytes)?;
+    let file = match ElfFile::parse(bytes) {
+        Ok(file) => file,
+        Err(e) => return Err(PackageError::Elf(e)),
+    };
     match section_places(&file) {
         Ok(places) => Ok(places),
-        Err(e) => Err(PackageError::Elf(e)),
-    }
-}
-
-fn read_file(bytes: &[u8]) -> Result<ElfFile<'_>, PackageError>
-    ensures exact { Answers elf result (as_error errors.Elf (elf_of bytes.now)) }
-    ensures of_bytes { IfOk result (λ file. bytes_of file ≡ bytes.now) }
-{
-    match ElfFile::parse(bytes) {
-        Ok(file) => Ok(file),
         Err(e) => Err(PackageError::Elf(e)),
     }
 }

@@ -1,7 +1,6 @@
 //! The sections of an open package at places that are known, and whether a row lies inside them.
 
 ghost use Rattle.std.specs.Prelude.{◌≡◌};
-ghost use Rattle.dwp_elf_read.specs.Layout.{is_inside};
 ghost use Rattle.dwp_index.specs.Contents.{content};
 ghost use Rattle.dwp_index.specs.Index.{range_in};
 ghost use Rattle.dwp_index.specs.Package.{row_bytes, first_outside, is_outside};
@@ -19,21 +18,13 @@ pub(crate) struct PlacedSections<'p, 'a> {
     pub(crate) bytes: &'a [u8],
 }
 
-/// Whether `size` bytes from a place on are inside the bytes.
-#[inline(always)]
-fn is_inside(bytes: &[u8], place: u64, size: u64) -> bool
-    ensures { result ≡ is_inside bytes.now place size }
-{
-    let len = bytes.len() as u64;
-    place <= len && size <= len - place
-}
-
 /// The bytes of a place; none where it isn't inside.
 #[inline(always)]
 fn bytes_at(bytes: &[u8], place: ThorinRange) -> &[u8]
     ensures { result.now ≡ bytes_at bytes.now place }
 {
-    if !is_inside(bytes, place.offset, place.size) {
+    let len = bytes.len() as u64;
+    if place.offset > len || place.size > len - place.offset {
         return &[];
     }
     let start = place.offset as usize;

@@ -7,13 +7,14 @@ ghost use Rattle.dwp_base.specs.declared.section.SectionKind.TheVariants as kind
 ghost use Rattle.dwp_bytes.specs.StringOffsets.{string_in};
 ghost use Rattle.dwp_units.specs.declared.unit.UnitSection.{UnitSection};
 ghost use Rattle.dwp_index.specs.Contents.{content};
-ghost use Rattle.dwp_index.specs.Package.{row_bytes, encoding_in};
+ghost use Rattle.dwp_index.specs.Package.{as_error, row_bytes, encoding_in};
+ghost use Rattle.dwp_index.specs.declared.error.PackageError.TheVariants as errors;
 
 use crate::sections::PlacedSections;
 use dwp_base::{Endianness, SectionKind};
 use dwp_bytes::{Encoding, Format, ReadError, StringOffsets};
 use dwp_dwarf::UnitSection;
-use dwp_index::{Row, encoding_in};
+use dwp_index::{PackageError, Row, encoding_in};
 use std::marker::Model;
 
 /// A unit of an open package, with its ranges.
@@ -68,12 +69,15 @@ pub(crate) fn encoding_of(
     bytes: &[u8],
     order: Endianness,
     place: UnitSection,
-) -> Result<Encoding, ReadError>
-    ensures { Answers (λ x. x) result (encoding_in order place bytes.now) }
+) -> Result<Encoding, PackageError>
+    ensures { Answers (λ x. x) result (as_error errors.Unit (encoding_in order place bytes.now)) }
 {
-    match split_encoding(bytes, order) {
-        Some(encoding) => Ok(encoding),
-        None => any_encoding(bytes, order, place),
+    if let Some(encoding) = split_encoding(bytes, order) {
+        return Ok(encoding);
+    }
+    match any_encoding(bytes, order, place) {
+        Ok(encoding) => Ok(encoding),
+        Err(e) => Err(PackageError::Unit(e)),
     }
 }
 

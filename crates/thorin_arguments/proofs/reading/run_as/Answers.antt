@@ -12,16 +12,16 @@ returns-in-Ok g c = λ line are. does_asked g.C.Commands.does
     (c.in-Ok.ensures line are)
     (rw (c.is_some.ensures ∙ kept (λ s. s.now) c.args.peer) at c.dispatch.ensures.asked)
 
-pub returns-in-Err-2 : goal.returns-in-Err-2
-returns-in-Err-2 g c = λ line are. does_refuse g.C.Commands.does
-    (option_map (λ s. s.now) c.args.peer) line c.args.commands.now c.refuse.new.commands
+pub returns-in-Ok-refusal : goal.returns-in-Ok-refusal
+returns-in-Ok-refusal g c = λ line are. does_refuse g.C.Commands.does
+    (option_map (λ s. s.now) c.args.peer) line c.args.commands.now c.refuse.new.self
     c.refuse.result c.in-Err.error (c.in-Err.ensures line are) (λ k.
     let is = rw (c.kind.ensures ∙ k) at (sym c.eq.ensures ∙ c.if-eq.false) in absurd cc)
     ((by_stream c.use_stderr.result (kind_of c.in-Err.error) c.use_stderr.ensures).0
-    c.if-use_stderr.true) c.refuse.ensures
+    c.if-use_stderr.true) c.refuse.ensures.status c.refuse.ensures.does
 
-pub returns-in-Err-3 : goal.returns-in-Err-3
-returns-in-Err-3 g c = λ line are. does_show g.C.Commands.does
+pub returns : goal.returns
+returns g c = λ line are. does_show g.C.Commands.does
     (option_map (λ s. s.now) c.args.peer) line c.args.commands.now c.show.new.self
     c.show.result c.in-Err.error (c.in-Err.ensures line are) (λ k.
     let is = rw (c.kind.ensures ∙ k) at (sym c.eq.ensures ∙ c.if-eq.false) in absurd cc)

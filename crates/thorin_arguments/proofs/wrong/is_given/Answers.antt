@@ -1,10 +1,6 @@
-use Rattle.std.proofs.Common.{◌≡◌, ◌∙◌, ap, is_some, refl, Option, Some, None}
-use Rattle.std.specs.Prelude.{option_map}
+use Rattle.std.proofs.Common.{◌∙◌, ap, is_some}
+use Rattle.thorin_arguments.proofs.Completing.{kept}
 use Rattle.thorin_arguments.proofs.wrong.is_given.Goals as goal
-
-kept : {X Y : Type 0} (f : X → Y) (o : Option X) → is_some o ≡ is_some (option_map f o)
-kept f (Some x) = refl
-kept f None = refl
 
 pub returns : goal.returns
 returns c = c.is_some.ensures

@@ -1,7 +1,10 @@
-use Rattle.std.proofs.Common.{◌≡◌, ◌∙◌, ◌||◌, ap, sym, refl, List, [], ◌∷◌, Bool, map}
-use Rattle.std.specs.Prelude.{unwrap_or}
+use Rattle.std.proofs.Common.{◌≡◌, ◌∙◌, ◌||◌, ap, sym, refl, List, [], ◌∷◌, Bool, map, rules}
+use Rattle.std.proofs.Common.{tests}
+use Rattle.std.specs.Prelude.{Option, None, Some, option_map, unwrap_or}
 use Rattle.std.specs.Borrow.{Bor}
 use Rattle.std.specs.List.{list_any}
+use Rattle.std.proofs.lemmas.Iterator.{YieldsList-from_slice}
+use Rattle.std.proofs.lemmas.Iterator.Search.{any_from_yields_List}
 use Rattle.clap.specs.Walk.{Text}
 use Rattle.thorin_arguments.specs.Wrong.{lacks_mark}
 use Rattle.thorin_arguments.proofs.wrong.lack_marks.Goals as goal
@@ -11,7 +14,17 @@ any_mapped : {X Y : Type 0} (p : Y → Bool) (f : X → Y) (xs : List X)
 any_mapped p f [] = refl
 any_mapped p f (x ∷ xs) = ap (λ b. p (f x) || b) (any_mapped p f xs)
 
-pub returns-in-Some : goal.returns-in-Some
-returns-in-Some c = c.lack_mark.ensures ∙ (sym (any_mapped lacks_mark (λ (v : Bor Text). v.now)
-    c.in-Some.words.now)
-    ∙ ap (λ o. list_any lacks_mark (unwrap_or o [])) (rw c.in-Some.is at c.values_of.ensures))
+in_values : (o : Option (Bor (List (Bor Text)))) (none : Bor (List (Bor Text)))
+    (all : Option (List Text)) → option_map (λ s. map (λ v. v.now) s.now) o ≡ all → none.now ≡ []
+    → list_any (λ v. lacks_mark v.now) (unwrap_or o none).now
+    ≡ list_any lacks_mark (unwrap_or all [])
+in_values (Some s) none all e f = sym (any_mapped lacks_mark (λ (v : Bor Text). v.now) s.now)
+    ∙ ap (λ a. list_any lacks_mark (unwrap_or a [])) e
+in_values None none all e f = ap (λ (l : List (Bor Text)). list_any (λ v. lacks_mark v.now) l) f
+    ∙ ap (λ a. list_any lacks_mark (unwrap_or a [])) e
+
+pub returns : goal.returns
+returns c = any_from_yields_List (λ (v : Bor Text). lacks_mark v.now) _ _ _ c.any.ensures.ran
+    (YieldsList-from_slice c.unwrap_or.result.now cc) (λ x b q k. search (rules, tests))
+    ∙ (ap (λ (s : Bor (List (Bor Text))). list_any (λ v. lacks_mark v.now) s.now)
+    c.unwrap_or.ensures ∙ in_values c.values_of.result _ _ c.values_of.ensures refl)
