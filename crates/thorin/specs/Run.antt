@@ -1,5 +1,5 @@
 -- A run of inputs, and what is written after it.
-use Rattle.std.specs.Prelude.{◌≡◌, ℕ, List, [], ◌∷◌, ◌++◌, Result, Ok, Err, ◌⊎◌}
+use Rattle.std.specs.Prelude.{◌≡◌, ℕ, Bool, true, List, [], ◌∷◌, ◌++◌, Result, Ok, Err, ◌⊎◌}
 use Rattle.std.specs.Path.{path_bytes}
 use Rattle.std.specs.declared.io.Error.{Error as IoError}
 use Rattle.dwp_elf.specs.FileText.{Object as File, file_text}
@@ -16,7 +16,8 @@ use Rattle.thorin.specs.declared.packing.Input.TheVariants as inputs
 use Rattle.thorin_join.specs.Builder.{State, finish_test, IsFinishedState}
 use Rattle.thorin_builder.specs.Taking.{Outcome, Takes, accepted_of, TakesFile, TakesExecutable}
 use Rattle.thorin_builder.specs.Taking.{TakesExecutableSkippingNameless, Step}
-use Rattle.thorin_builder.specs.Reading.{DeclinesSome}
+use Rattle.thorin_builder.specs.Taking.{all_named, nameless_skipped}
+use Rattle.thorin_builder.specs.Reading.{DeclinesExecutable}
 
 -- what came of an input of a list, and the bytes that were accepted
 abbrev pub TakesInput : (List ℕ → Result (List ℕ) IoError → Type 0) → Input → State → Outcome
@@ -37,15 +38,16 @@ pub record Took (offer : List ℕ → Result (List ℕ) IoError
   pub accepted : List (List ℕ)
   pub takes : TakesInput offer input old outcome new accepted
 
--- an input is declined for a reason: the file at its path is, or of an executable that of some
--- path;
--- bytes aren't
-abbrev pub DeclinesInput : {D : Type 0} → (declines : List ℕ → D → Type 0) → Input → D → Type 0
-DeclinesInput declines (inputs.Object path) why = declines (path_bytes path) why
-DeclinesInput declines (inputs.Bytes bytes) why = ⊥
-DeclinesInput declines (inputs.Executable path missing) why = DeclinesSome declines why
-DeclinesInput declines (inputs.ExecutableSkippingNameless path missing) why =
-    DeclinesSome declines why
+-- an input is declined for a reason: the file at its path is, or of an executable that or the
+-- object of a unit that it names; bytes aren't
+abbrev pub DeclinesInput : {D : Type 0} → (offer : List ℕ → Result (List ℕ) IoError → Type 0)
+    → (declines : (own : Bool) → List ℕ → D → Type 0) → Input → State → D → Type 0
+DeclinesInput offer declines (inputs.Object path) old why = declines true (path_bytes path) why
+DeclinesInput offer declines (inputs.Bytes bytes) old why = ⊥
+DeclinesInput offer declines (inputs.Executable path missing) old why =
+    DeclinesExecutable (all_named missing) offer declines (path_bytes path) old why
+DeclinesInput offer declines (inputs.ExecutableSkippingNameless path missing) old why =
+    DeclinesExecutable (nameless_skipped missing) offer declines (path_bytes path) old why
 
 -- a run: each input in order, refused ones passed over; and the bytes of all that were accepted, in
 -- order

@@ -107,7 +107,8 @@ pub fn take_input<'o, 's: 'o, Sess: Session<RelocationEntry>, R: InputReader>(
 ) -> Result<(), NotTaken<Error, R::Refusal>>
     ensures taken { Took (R.offer reader.now) input.entry builder.old.state (outcome_of result)
         builder.new.state }
-    ensures declined { OnDeclined result (DeclinesInput (R.declines reader.now) input.entry) }
+    ensures declined { OnDeclined result (DeclinesInput (R.offer reader.now)
+        (R.declines reader.now) input.entry builder.old.state) }
     ensures session { builder.new.session ≡ builder.old.session }
 {
     match input {

@@ -1,7 +1,8 @@
 -- What an input adds that adds no unit is the same over more strings, and beside more units.
 use Rattle.thorin_builder.proofs.Terms
 use Terms.{[], Bool, Contents, DwarfObject, Err, ErrorValue, first, IndexEntry, kept_bytes}
-use Terms.{kept_more, length, List, lookup, Met, New, new_units, NewUnit, none_met, Ok, Option}
+use Terms.{kept_more, length, List, lookup, SeenSections, New, new_units, NewUnit, none_met, Ok}
+use Terms.{Option}
 use Terms.{or_held, parts_of, Result, rules, same_name, Some, Source, suc, take, take-append_seam}
 use Terms.{take-length, Used, with_each_read, with_each_section, with_first, with_section, zero, ℕ}
 use Terms.{◌++◌, ◌+◌, ◌∙◌, ◌∷◌, ◌≡◌}
@@ -163,14 +164,14 @@ module _ (source : Source) (whole other : IndexEntry) (held more : List (DwarfOb
   each-alone from (read ∷ rest) before =
       grind (rules, read-alone from read before, each-alone from rest)
 
-  section-alone : (from : Used) (place : Option UnitSection) (before : Met × New)
+  section-alone : (from : Used) (place : Option UnitSection) (before : SeenSections × New)
       → Alone (λ at. at.1) before.1 (with_section_in here from place before)
       (with_section_in there from place before)
   unfolding with_section_at once_test
   section-alone from place before =
       grind (rules, λ (reads : List (Result Header ReadError)). each-alone from reads before.1)
 
-  sections-alone : (sections : List Used) (before : Met × New)
+  sections-alone : (sections : List Used) (before : SeenSections × New)
       → Alone (λ at. at.1) before.1 (with_each_section here before sections)
       (with_each_section there before sections)
   unfolding with_each_section with_section

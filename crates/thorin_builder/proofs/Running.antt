@@ -1,6 +1,7 @@
 -- The units that an executable refers to, one after the other.
 use Rattle.thorin_builder.proofs.Terms
-use Terms.{◌++◌, [], ap, append_assoc, DwarfObject, Err, Error, error_of, ErrorValue, keys, length}
+use Terms.{◌++◌, [], ap, append-nil, append_assoc, Bool, DwarfObject, Err, Error, error_of}
+use Terms.{ErrorValue, false, keys, length}
 use Terms.{List, MemoryAside, names_in, None, Ok, Option, refl, Result, rules, Some, State, subst}
 use Terms.{sym, take, take-append-add, take-length, units_in, ℕ, ◌∙◌, ◌∷◌, ◌≡◌, ◌≢◌}
 use Rattle.std.proofs.lemmas.List.{length-append}
@@ -13,8 +14,8 @@ use Rattle.thorin_errors.specs.declared.error.MissingReferencedObjectBehaviour.{
 use Rattle.thorin_executable.specs.Skeletons.{Listed}
 use Rattle.thorin_builder.specs.Taking.{came, MayRead, Outcome, TakesNamed, TakesSkeleton}
 use Rattle.thorin_builder.specs.Taking.{TakesSkeletons}
-use Rattle.thorin_builder.specs.Reading.{DeclinesSome, error_in, input_error_in, IsRead, OnDeclined}
-use Rattle.thorin_builder.specs.Reading.{outcome_of, unread}
+use Rattle.thorin_builder.specs.Reading.{DeclinesNamed, error_in, input_error_in, IsRead}
+use Rattle.thorin_builder.specs.Reading.{OnDeclined, outcome_of, unread}
 use Rattle.thorin_builder.specs.declared.reader.NotTaken.{NotTaken}
 use Rattle.thorin_builder.specs.declared.reader.NotTaken.TheVariants.{Failed, Declined}
 use Rattle.thorin_errors.specs.Inputs.{input_error}
@@ -96,6 +97,23 @@ module _ (offer : Offer) (missing : MissingReferencedObjectBehaviour) (all : Lis
         (ap (λ (l : Listed). take (length (n ∷ rest.0)) l.0) first ∙ take-length (n ∷ rest.0))
         (record { middle = new; here = here; later = [] }, Err e, took, (refl, refl, refl))
 
+    -- the object of one is declined
+    pub next-declined : {D : Type 0} {declines : Bool → List ℕ → D → Type 0}
+        (rest : Listed) (n : DwarfObject × List ℕ) → left ≡ (n ∷ rest.0, rest.1) → (why : D)
+        → declines false n.1 why
+        → DeclinesNamed offer declines missing all old why
+    next-declined rest n first why declined = record {
+      front = so_far.done;
+      named = n;
+      rest = rest.0;
+      list_is = ap (λ (l : Listed). l.0) (sym (whole (n ∷ rest.0, rest.1) first));
+      state = middle;
+      accepted = so_far.before;
+      took = rw (append-nil so_far.done, append-nil so_far.before) at
+          (so_far.goes_on [] None (Ok tt) middle [] (refl, (refl, refl)));
+      declined = declined;
+    }
+
     -- the list ended, or with an error
     pub list-ended : left ≡ ([], None)
         → (accepted : List (List ℕ)) × TakesNamed offer missing all old
@@ -144,10 +162,9 @@ module _ {D : Type 0} where
   on-ok-taken (Ok x) outcome is P h = rw (← is) at h
   on-ok-taken (Err why) outcome is P h = tt
 
-  -- at a path
-  pub declined-some : (result : Result (Unit {0}) (NotTaken Error D))
-      (declines : List ℕ → D → Type 0) (path : List ℕ) → OnDeclined result (declines path)
-      → OnDeclined result (DeclinesSome declines)
-  declined-some (Ok x) declines path h = tt
-  declined-some (Err (Failed e)) declines path h = tt
-  declined-some (Err (Declined why)) declines path h = (path, h)
+  -- for a reason that is one of others
+  pub declined-as : {P Q : D → Type 0} (result : Result (Unit {0}) (NotTaken Error D))
+      → ((why : D) → P why → Q why) → OnDeclined result P → OnDeclined result Q
+  declined-as (Ok x) f h = tt
+  declined-as (Err (Failed e)) f h = tt
+  declined-as (Err (Declined why)) f h = f why h

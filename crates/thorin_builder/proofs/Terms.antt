@@ -31,7 +31,7 @@ pub use Rattle.dwp_elf.specs.Growing.{IsGrown}
 unfoldable pub use Rattle.thorin_join.proofs.Terms.{new_units, with_input}
 unfoldable pub use Rattle.thorin_join.proofs.Terms.{with_new_units, with_parts, with_source}
 pub use Rattle.thorin_input.specs.Names.{with_name}
-pub use Rattle.thorin_input.specs.NewUnits.{Met, none_met, or_held}
+pub use Rattle.thorin_input.specs.NewUnits.{SeenSections, none_met, or_held}
 unfoldable pub use Rattle.thorin_input.specs.NewUnits.{with_each_read, with_each_section}
 unfoldable pub use Rattle.thorin_input.specs.NewUnits.{with_first, with_section}
 pub use Rattle.thorin_input.specs.UnitView.{new_of}

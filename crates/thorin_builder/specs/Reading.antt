@@ -1,5 +1,6 @@
 -- What a reader of inputs answers, and what comes of a call that reads by it.
-use Rattle.std.specs.Prelude.{ℕ, List, Result, Ok, Err}
+use Rattle.std.specs.Prelude.{◌≡◌, ◌⊎◌, ◌∷◌, ◌++◌, ℕ, Bool, true, false, List, None, Result, Ok}
+use Rattle.std.specs.Prelude.{Err}
 use Rattle.std.specs.Borrow.{Bor}
 use Rattle.std.specs.declared.io.Error.{Error as IoError}
 use Rattle.thorin_errors.specs.declared.error.Error.{Error}
@@ -7,8 +8,11 @@ use Rattle.thorin_errors.specs.declared.error.Error.TheVariants as error
 use Rattle.thorin_errors.specs.declared.error.InputError.{InputError}
 use Rattle.thorin_errors.specs.declared.error.InputError.TheVariants as input
 use Rattle.thorin_errors.specs.Inputs.{input_error}
+use Rattle.thorin_errors.specs.declared.error.MissingReferencedObjectBehaviour.{MissingReferencedObjectBehaviour}
+use Rattle.thorin_executable.specs.Skeletons.{Listed, Named}
+use Rattle.thorin_join.specs.Builder.{State}
 use Rattle.thorin_sessions.specs.Sessions.{IsOffered}
-use Rattle.thorin_builder.specs.Taking.{Outcome}
+use Rattle.thorin_builder.specs.Taking.{Manner, Outcome, TakesSkeletons, came}
 use Rattle.thorin_builder.specs.declared.reader.NotTaken.{NotTaken}
 use Rattle.thorin_builder.specs.declared.reader.NotTaken.TheVariants.{Failed, Declined}
 
@@ -31,9 +35,28 @@ IsRead offered declines (Ok bytes) = offered (Ok bytes.now)
 IsRead offered declines (Err (Failed e)) = IsOffered offered (Err e)
 IsRead offered declines (Err (Declined why)) = declines why
 
--- the file at some path is declined for a reason
-abbrev pub DeclinesSome : {D : Type 0} → (declines : List ℕ → D → Type 0) → D → Type 0
-DeclinesSome declines why = (path : List ℕ) × declines path why
+-- the object of a unit that an executable names is declined for a reason: of the units that are
+-- listed those before it were taken
+pub record DeclinesNamed {D : Type 0} (offer : List ℕ → Result (List ℕ) IoError → Type 0)
+    (declines : (own : Bool) → List ℕ → D → Type 0) (missing : MissingReferencedObjectBehaviour)
+    (listed : Listed) (old : State) (why : D) : Type 0 where
+  pub front : List Named
+  pub named : Named
+  pub rest : List Named
+  pub list_is : listed.0 ≡ front ++ named ∷ rest
+  pub state : State
+  pub accepted : List (List ℕ)
+  pub took : TakesSkeletons offer missing front None old (came (Ok tt) state accepted)
+  pub declined : declines false named.1 why
+
+-- an executable is declined for a reason: the file at its path is; or that was read, and the object
+-- of a unit that its bytes name is
+abbrev pub DeclinesExecutable : {D : Type 0} → Manner
+    → (offer : List ℕ → Result (List ℕ) IoError → Type 0)
+    → (declines : (own : Bool) → List ℕ → D → Type 0) → (path : List ℕ) → State → D → Type 0
+DeclinesExecutable manner offer declines path old why = declines true path why
+    ⊎ ((bytes : List ℕ) × offer path (Ok bytes)
+    × DeclinesNamed offer declines manner.missing (manner.names bytes) old why)
 
 -- why an input wasn't taken that wasn't read
 abbrev pub unread : {D : Type 0} → NotTaken InputError D → NotTaken Error D

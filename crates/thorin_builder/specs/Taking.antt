@@ -205,14 +205,19 @@ pub record TakesExecutableBy (manner : Manner) (offer : List ℕ → Result (Lis
       (came outcome new accepted)
 
 -- where a unit that names no object is an error
+abbrev pub all_named : MissingReferencedObjectBehaviour → Manner
+all_named missing = record { names = skeletons_of; missing = missing }
+
 abbrev pub TakesExecutable : (offer : List ℕ → Result (List ℕ) IoError → Type 0) → List ℕ
     → MissingReferencedObjectBehaviour → State → Outcome → State → Type 0
-TakesExecutable offer path missing =
-    TakesExecutableBy (record { names = skeletons_of; missing = missing }) offer path
+TakesExecutable offer path missing = TakesExecutableBy (all_named missing) offer path
 
 -- where such a unit is passed over
+abbrev pub nameless_skipped : MissingReferencedObjectBehaviour → Manner
+nameless_skipped missing = record { names = named_skeletons_of; missing = missing }
+
 abbrev pub TakesExecutableSkippingNameless : (offer : List ℕ → Result (List ℕ) IoError
     → Type 0) → List ℕ
     → MissingReferencedObjectBehaviour → State → Outcome → State → Type 0
 TakesExecutableSkippingNameless offer path missing =
-    TakesExecutableBy (record { names = named_skeletons_of; missing = missing }) offer path
+    TakesExecutableBy (nameless_skipped missing) offer path

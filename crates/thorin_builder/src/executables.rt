@@ -1,12 +1,14 @@
 //! Executables as inputs: the executable is read, then each object that it names is read and added,
 //! passed over, or refused (DWARF 5, 3.1.2; the GNU page DebugFission).
 
-ghost use Rattle.std.specs.Prelude.{◌≡◌, ℕ, List, IsTrue, IfErr, Option, OnOk};
+ghost use Rattle.std.specs.Prelude.{◌≡◌, ℕ, false, List, IsTrue, IfErr, Option, OnOk};
 ghost use Rattle.std.specs.Path.{path_bytes};
 ghost use Rattle.thorin_builder.specs.Taking.{TakesExecutable, TakesExecutableSkippingNameless};
 ghost use Rattle.thorin_builder.specs.Taking.{TakesExecutableBy, TakesNamed, TakesSkeleton};
 ghost use Rattle.thorin_builder.specs.Taking.{TakesReferredFile, Takes, IsUnread, came, is_there};
-ghost use Rattle.thorin_builder.specs.Reading.{DeclinesSome, OnDeclined, outcome_of};
+ghost use Rattle.thorin_builder.specs.Taking.{all_named, nameless_skipped};
+ghost use Rattle.thorin_builder.specs.Reading.{DeclinesExecutable, DeclinesNamed, OnDeclined};
+ghost use Rattle.thorin_builder.specs.Reading.{outcome_of};
 ghost use Rattle.thorin_builder.specs.Repeated.{AddsAgainTo, AreTaken, IsLaterBegun, Remembers};
 ghost use Rattle.thorin_join.specs.State.{InProgress};
 ghost use Rattle.thorin_executable.specs.Skeletons.{skeletons_by};
@@ -39,7 +41,7 @@ struct Named<'u> {
 
 /// Whether the path of a unit may be tried: that of the unit before was asked for with it.
 fn admit_named<R: InputReader>(reader: &R, unit: NamedUnit, path: &str) -> Result<(), R::Refusal>
-    ensures { IfErr result (R.declines reader.now path.now) }
+    ensures { IfErr result (R.declines reader.now false path.now) }
 {
     if unit.is_repeated {
         return Ok(());
@@ -124,7 +126,8 @@ impl<'output, 'session: 'output, Sess: Session<RelocationEntry>> DwarfPackage<
     ) -> Result<(), NotTaken<Error, R::Refusal>>
         ensures taken { TakesExecutable (R.offer reader.now) (path_bytes path.entry) missing
             self.old.state (outcome_of result) self.new.state }
-        ensures declined { OnDeclined result (DeclinesSome (R.declines reader.now)) }
+        ensures declined { OnDeclined result (DeclinesExecutable (all_named missing)
+            (R.offer reader.now) (R.declines reader.now) (path_bytes path.entry) self.old.state) }
         ensures session { self.new.session ≡ self.old.session }
     {
         self.add_executable_as(reader, room, path, missing, NamelessUnits::Refused)
@@ -145,7 +148,8 @@ impl<'output, 'session: 'output, Sess: Session<RelocationEntry>> DwarfPackage<
     ) -> Result<(), NotTaken<Error, R::Refusal>>
         ensures taken { TakesExecutableSkippingNameless (R.offer reader.now)
             (path_bytes path.entry) missing self.old.state (outcome_of result) self.new.state }
-        ensures declined { OnDeclined result (DeclinesSome (R.declines reader.now)) }
+        ensures declined { OnDeclined result (DeclinesExecutable (nameless_skipped missing)
+            (R.offer reader.now) (R.declines reader.now) (path_bytes path.entry) self.old.state) }
         ensures session { self.new.session ≡ self.old.session }
     {
         self.add_executable_as(reader, room, path, missing, NamelessUnits::PassedOver)
@@ -163,11 +167,13 @@ impl<'output, 'session: 'output, Sess: Session<RelocationEntry>> DwarfPackage<
         ensures taken { TakesExecutableBy
             (record { names = skeletons_by nameless; missing = missing }) (R.offer reader.now)
             (path_bytes path.entry) self.old.state (outcome_of result) self.new.state }
-        ensures declined { OnDeclined result (DeclinesSome (R.declines reader.now)) }
+        ensures declined { OnDeclined result (DeclinesExecutable
+            (record { names = skeletons_by nameless; missing = missing }) (R.offer reader.now)
+            (R.declines reader.now) (path_bytes path.entry) self.old.state) }
         ensures session { self.new.session ≡ self.old.session }
     {
         let mut executable = Vec::new(self.allocator());
-        let bytes = reader.read_into(path, &mut executable)?;
+        let bytes = reader.read_into(true, path, &mut executable)?;
         self.add_named(reader, room, bytes, missing, nameless)
     }
 
@@ -183,7 +189,8 @@ impl<'output, 'session: 'output, Sess: Session<RelocationEntry>> DwarfPackage<
         ensures taken { (accepted : List (List ℕ)) × TakesNamed (R.offer reader.now) missing
             (skeletons_by nameless bytes.now) self.old.state
             (came (outcome_of result) self.new.state accepted) }
-        ensures declined { OnDeclined result (DeclinesSome (R.declines reader.now)) }
+        ensures declined { OnDeclined result (DeclinesNamed (R.offer reader.now)
+            (R.declines reader.now) missing (skeletons_by nameless bytes.now) self.old.state) }
         ensures session { self.new.session ≡ self.old.session }
     {
         let session = self.session();
@@ -205,7 +212,8 @@ impl<'output, 'session: 'output, Sess: Session<RelocationEntry>> DwarfPackage<
     ) -> Result<(), NotTaken<Error, R::Refusal>>
         ensures taken { (accepted : List (List ℕ)) × TakesNamed (R.offer reader.now) missing
             units.old.listed self.old.state (came (outcome_of result) self.new.state accepted) }
-        ensures declined { OnDeclined result (DeclinesSome (R.declines reader.now)) }
+        ensures declined { OnDeclined result (DeclinesNamed (R.offer reader.now)
+            (R.declines reader.now) missing units.old.listed self.old.state) }
         ensures session { self.new.session ≡ self.old.session }
     {
         let mut known = Known {
@@ -250,7 +258,8 @@ impl<'output, 'session: 'output, Sess: Session<RelocationEntry>> DwarfPackage<
         ensures taken { (accepted : List (List ℕ)) × TakesSkeleton (R.offer reader.now) missing
             (named.entry.target, named.entry.path.now) self.old.state
             (came (outcome_of result) self.new.state accepted) }
-        ensures declined { OnDeclined result (R.declines reader.now named.entry.path.now) }
+        ensures declined { OnDeclined result
+            (R.declines reader.now false named.entry.path.now) }
         ensures unread { IsUnread (R.offer reader.now named.entry.path.now) missing
             known.new.is_unread }
         ensures known { OnOk result (AreTaken (R.offer reader.now) known.new.taken.entries
@@ -301,14 +310,15 @@ impl<'output, 'session: 'output, Sess: Session<RelocationEntry>> DwarfPackage<
             self.old.state.begun }
         ensures taken { TakesReferredFile (R.offer reader.now named.entry.path.now) missing
             self.old.state (outcome_of result) self.new.state }
-        ensures declined { OnDeclined result (R.declines reader.now named.entry.path.now) }
+        ensures declined { OnDeclined result
+            (R.declines reader.now false named.entry.path.now) }
         ensures unread { IsUnread (R.offer reader.now named.entry.path.now) missing
             known.new.is_unread }
         ensures known { OnOk result (AreTaken (R.offer reader.now) known.new.taken.entries
             self.new.state.begun) }
         ensures session { self.new.session ≡ self.old.session }
     {
-        match reader.read_into(Path::new(named.path), room) {
+        match reader.read_into(false, Path::new(named.path), room) {
             Ok(bytes) => tried(self.add_and_remember(bytes, named, &mut known.taken)),
             Err(NotTaken::Failed(InputError::Io(e))) => match missing {
                 MissingReferencedObjectBehaviour::Skip => {

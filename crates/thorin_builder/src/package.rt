@@ -2,6 +2,7 @@
 //! calls for executables are in `executables`.
 
 ghost use Rattle.std.specs.Prelude.{◌≡◌, ℕ, List, map, filter, length, IsTrue, IfOk, IfErr, OnOk};
+ghost use Rattle.std.specs.Prelude.{true};
 ghost use Rattle.std.specs.Prelude.{OnErr, IfSome, Option, []};
 ghost use Rattle.dwp_bytes.specs.declared.encoding.Encoding.{Encoding as OwnEncoding};
 ghost use Rattle.thorin_errors.specs.Answers.{Gives};
@@ -134,10 +135,10 @@ impl<'output, 'session: 'output, Sess: Session<RelocationEntry>> DwarfPackage<
     ) -> Result<(), NotTaken<Error, R::Refusal>>
         ensures taken { TakesFile (R.offer reader.now (path_bytes path.entry)) self.old.state
             (outcome_of result) self.new.state }
-        ensures declined { OnDeclined result (R.declines reader.now (path_bytes path.entry)) }
+        ensures declined { OnDeclined result (R.declines reader.now true (path_bytes path.entry)) }
         ensures session { self.new.session ≡ self.old.session }
     {
-        let bytes = reader.read_into(path, room)?;
+        let bytes = reader.read_into(true, path, room)?;
         tried(self.add_object_bytes(bytes))
     }
 

@@ -1,6 +1,6 @@
 //! What reads the inputs that paths name, and why an input isn't taken.
 
-ghost use Rattle.std.specs.Prelude.{◌≡◌, ℕ, List, Result, IfErr};
+ghost use Rattle.std.specs.Prelude.{◌≡◌, ℕ, Bool, false, List, Result, IfErr};
 ghost use Rattle.std.specs.Path.{path_bytes};
 ghost use Rattle.std.specs.declared.io.Error.{Error as IoError};
 ghost use Rattle.thorin_sessions.specs.Sessions.{IsNoWantOfMemory};
@@ -87,21 +87,24 @@ pub trait InputReader {
     // What a read of the file at a path may answer.
     ghost offer: { Self → List ℕ → Result (List ℕ) IoError → Type 0 };
 
-    // The reasons for which the file at a path is declined.
-    ghost declines: { Self → List ℕ → Self.Refusal → Type 0 };
+    // The reasons for which the file at a path is declined: an input's own path, or else one that an
+    // executable names.
+    ghost declines: { Self → (own : Bool) → List ℕ → Self.Refusal → Type 0 };
 
-    /// Reads the file at a path, into the room or elsewhere.
+    /// Reads the file at a path, into the room or elsewhere: at an input's own path, or else at one
+    /// that an executable names.
     ///
     /// # Errors
     /// `Failed` where the file couldn't be read; where memory ran out, it is always
     /// `InputError::Memory`. `Declined` where it could, and isn't to be taken.
     fn read_into<'b>(
         &'b self,
+        is_own: bool,
         path: Path<'_>,
         room: &'b mut Vec<u8>,
     ) -> Result<&'b [u8], NotTaken<InputError, Self::Refusal>>
         ensures read { IsRead (offer self.now (path_bytes path.entry))
-            (declines self.now (path_bytes path.entry)) result }
+            (declines self.now is_own (path_bytes path.entry)) result }
         ensures memory { OnFailed result IsNoWantOfMemory };
 
     /// Whether an object may be added once more, or a path tried that no system opens. A reader may
@@ -110,7 +113,7 @@ pub trait InputReader {
     /// # Errors
     /// Why it declines the object.
     fn admit(&self, repetition: Repetition<'_>) -> Result<(), Self::Refusal>
-        ensures { IfErr result (declines self.now (path_bytes repetition.entry.path)) };
+        ensures { IfErr result (declines self.now false (path_bytes repetition.entry.path)) };
 
     /// Is called in place of a read at the path that was read last: that read failed, and objects
     /// that can't be read are passed over.
@@ -135,10 +138,11 @@ impl<S: Session<RelocationEntry>> InputReader for S {
 
     ghost offer = { λ session. S.offer session };
 
-    ghost declines = { λ session path why. ⊥ };
+    ghost declines = { λ session own path why. ⊥ };
 
     fn read_into<'b>(
         &'b self,
+        _is_own: bool,
         path: Path<'_>,
         _room: &'b mut Vec<u8>,
     ) -> Result<&'b [u8], NotTaken<InputError, Infallible>> {
@@ -159,7 +163,7 @@ impl<S: Session<RelocationEntry>> InputReader for S {
 /// # Errors
 /// Why the reader declines it.
 pub fn admit_path<R: InputReader>(reader: &R, path: &str) -> Result<(), R::Refusal>
-    ensures { IfErr result (R.declines reader.now path.now) }
+    ensures { IfErr result (R.declines reader.now false path.now) }
 {
     if path.len() <= LONGEST_PATH {
         return Ok(());

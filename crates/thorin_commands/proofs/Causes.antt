@@ -96,7 +96,7 @@ reason_by outcome h cause u = record { why = u.why; is = u.is; reason = rw u.rea
 pub refused : (offer : Offer) (declines : Reasons) (input : Input) (old new : State)
     (outcome : Result (Unit {0}) (NotTaken Error Growth))
     → Took offer input old (outcome_of outcome) new
-    → OnDeclined outcome (DeclinesInput declines input)
+    → OnDeclined outcome (DeclinesInput offer declines input old)
     → IfErr outcome (IsRefused offer declines input old)
 refused offer declines input old new (Ok x) took declined = tt
 refused offer declines input old new (Err why) took declined =
@@ -300,7 +300,7 @@ one_stops contents writer {content = content} {state = state} why h line = recor
 pub bytes_refused : (offer : Offer) (declines : Reasons) (bytes : Bor (List ℕ)) (old new : State)
     (outcome : Result (Unit {0}) (NotTaken Error Growth))
     → Took offer (inputs.Bytes bytes) old (outcome_of outcome) new
-    → OnDeclined outcome (DeclinesInput declines (inputs.Bytes bytes))
+    → OnDeclined outcome (DeclinesInput offer declines (inputs.Bytes bytes) old)
     → IfErr outcome (AreRefused offer declines bytes.now old)
 bytes_refused offer declines bytes old new (Ok x) took declined = tt
 bytes_refused offer declines bytes old new (Err why) took declined = record {
@@ -324,7 +324,7 @@ module _ {manner : Manner} {offer : Offer} {declines : Reasons} {file : List ℕ
 pub unread_told : {W : Type 0} (contents : W → Option (List ℕ)) (writer : W) {opens : Bool}
     {manner : Manner} {offer : Offer} {declines : Reasons} {path : Path} {state : State}
     → opens ≡ true → (e : NotTaken InputError Growth)
-    → IsRead (offer (path_bytes path)) (declines (path_bytes path)) (Err e)
+    → IsRead (offer (path_bytes path)) (declines true (path_bytes path)) (Err e)
     → (why : NotTaken Error Growth) → why ≡ unread e → Tells contents writer (refusal_text why)
     → Told contents writer (IsNotTaken opens manner offer declines (inputs.Object path) state)
 unread_told contents writer {path = path} {state = state} opened e read why is line = record {

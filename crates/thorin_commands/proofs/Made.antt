@@ -1,22 +1,26 @@
 -- What was made of inputs, and what was told of that.
 use Rattle.std.proofs.Common.{◌≡◌, ℕ, Bool, true, false, List, ◌++◌, refl, ap, ◌∙◌}
-use Rattle.std.proofs.Common.{inr}
+use Rattle.std.proofs.Common.{inl, inr}
 use Rattle.std.specs.Prelude.{Option, Some, Result, Ok, Err, IfOk, IfErr, OnOk, map}
 use Rattle.std.proofs.lemmas.List.{append_assoc}
 use Rattle.dwp_elf.specs.FileText.{Object as File, file_text}
 use Rattle.dwp_table.specs.declared.object.DebugTypeSignature.{DebugTypeSignature}
+use Rattle.thorin_errors.specs.Errors.{NoOutputObjectCreated as NoPackage}
 use Rattle.thorin_errors.specs.declared.error.Error.{Error}
-use Rattle.thorin_join.specs.Builder.{State, differing_in}
+use Rattle.thorin_errors.specs.declared.error.Error.TheVariants.{NoOutputObjectCreated}
+use Rattle.thorin_join.specs.Builder.{State, differing_in, finish_test}
 use Rattle.thorin.specs.declared.packing.Input.{Input}
 use Rattle.thorin_output.specs.Warnings.{IsPrinted, IsWarning}
 use Rattle.thorin_output.specs.declared.warnings.Warned.{Warned}
 use Rattle.thorin_commands.specs.Cause.{Alone, Among, Archive, Bad, Cause, IsNotTaken, Plain}
-use Rattle.thorin_commands.specs.Cause.{Reasons, Refuses, StopsAt, StopsIn, Unfinished, Unread}
-use Rattle.thorin_commands.specs.Made.{IsMade, IsMadeFor, IsReady, TellsSome}
-use Rattle.thorin_commands.specs.Packing.{AreAsked, asked, asks, left, manner_of, out_of, reads}
+use Rattle.thorin_commands.specs.Cause.{IsUnfinished, Reasons, Refuses, StopsAt, StopsIn}
+use Rattle.thorin_commands.specs.Cause.{Unfinished, Unread}
+use Rattle.thorin_commands.specs.Made.{IsMade, IsMadeFor, IsReady}
+use Rattle.thorin_commands.specs.Opened.{added_in, left}
+use Rattle.thorin_commands.specs.Packing.{AreAsked, asked, asks, manner_of, out_of, reads}
 use Rattle.thorin_commands.specs.Taken.{Manner, Offer}
 use Rattle.thorin_commands.specs.Warned.{PacksTelling, TellsInputs, TellsMacros, TellsTaken, names}
-use Rattle.thorin_commands.specs.Warned.{others}
+use Rattle.thorin_commands.specs.Warned.{TellsUnsplitRun, others}
 use Rattle.thorin_commands.specs.declared.packing.Packing.{Packing}
 use Rattle.thorin_commands.specs.declared.refusal.Refusal.{Refusal}
 use Rattle.thorin_commands.specs.declared.refusal.Refusal.TheVariants as refusals
@@ -57,11 +61,12 @@ never_empty opens manner offer declines list old contents failed writer refusals
 never_empty opens manner offer declines list old contents failed writer (refusals.Command failure)
     h e = absurd cc
 
--- what was told of a run
-pub told_some : {verbose warns partial : Bool} {list : List Input} (state : State)
-    (a b : Option (List ℕ)) → IsPrinted a b (TellsTaken verbose warns partial list state)
-    → IsPrinted a b (TellsSome verbose warns partial list)
-told_some state a b p = printed_as (λ x t. (state, t)) p
+-- a package that can't be finished since no input began it
+pub none_began : {state : State} → IsUnfinished state (Unfinished NoOutputObjectCreated)
+    → finish_test state ≡ Err NoPackage
+none_began u =
+    let same : u.error ≡ NoOutputObjectCreated = cc in
+    elim ((rw same at u.refuses) (λ m. absurd cc)) [ inl h ↦ h | inr h ↦ absurd cc ]
 
 -- what is known of all that was made
 pub if_made : {X E K : Type 0} {A B C D M : X → Type 0} (r : Result X E)
@@ -75,19 +80,20 @@ pub if_ok_as : {X E : Type 0} {P Q : X → Type 0} (r : Result X E) → ((x : X)
 if_ok_as (Ok x) f h = f x h
 if_ok_as (Err e) f h = tt
 
-pub if_refused : {X E : Type 0} {P Q : E → Type 0} (r : Result X E) → ((e : E) → P e → Q e)
-    → IfErr r P → IfErr r Q
-if_refused (Ok x) f h = tt
-if_refused (Err e) f h = f e h
+pub if_refused : {X E : Type 0} {P Q R : E → Type 0} (r : Result X E)
+    → ((e : E) → P e → Q e → R e) → IfErr r P → IfErr r Q → IfErr r R
+if_refused (Ok x) f p q = tt
+if_refused (Err e) f p q = f e p q
 
 -- of just the inputs that were asked for
-pub made_for : (Tells : List Input → State → (text : List ℕ) → Type 0) {offer : Offer}
-    (packing : Packing) {verbose warns named opens : Bool} {manner : Manner} (list : List Input)
-    {a b : Option (List ℕ)} {object : File} {differing : List DebugTypeSignature}
-    {lines : List ℕ} → opens ≡ packing.opens_archives → manner ≡ manner_of packing
-    → named ≡ names packing.verbose packing.warnings → AreAsked packing list
-    → ((state : State) (text : List ℕ) → TellsTaken verbose warns packing.partial list state text
-    → Tells list state text)
+pub made_for : (Tells : List Input → (added : List ℕ) → State → (text : List ℕ) → Type 0)
+    {offer : Offer} (packing : Packing) {verbose warns named opens : Bool} {manner : Manner}
+    (list : List Input) {a b : Option (List ℕ)} {object : File}
+    {differing : List DebugTypeSignature} {lines : List ℕ} → opens ≡ packing.opens_archives
+    → manner ≡ manner_of packing → named ≡ names packing.verbose packing.warnings
+    → AreAsked packing list
+    → ((added : List ℕ) (state : State) (text : List ℕ)
+    → TellsTaken verbose warns packing.partial list added state text → Tells list added state text)
     → IsMade verbose warns packing.partial named opens manner offer list a b object differing lines
     → IsMadeFor Tells offer packing a b object differing lines
 made_for Tells {offer} packing {verbose} {warns} list {a} {b} {object} {differing} {lines} o m n are
@@ -96,28 +102,29 @@ made_for Tells {offer} packing {verbose} {warns} list {a} {b} {object} {differin
     packing.opens_archives (manner_of packing) offer list a b object differing lines =
     rw (o, m, n) at made in record {
       is = record { list = list; are = are; packed = it.packed };
-      told = printed_as (f it.packed.packed.state) it.told;
+      told = printed_as (f (added_in it.packed.took) it.packed.state) it.told;
       differ = it.differ;
       names_are = it.names_are;
     }
 
 -- behind a run that began no package
-pub made_twice : {offer : Offer} (packing : Packing) (list : List Input)
-    (a b c : Option (List ℕ)) {object : File} {differing : List DebugTypeSignature}
-    {lines : List ℕ} → packing.lets_empty ≡ true → map asked list ≡ asks packing
-    → IsPrinted a b (TellsSome packing.verbose true packing.partial list)
+pub made_twice : {offer : Offer} (packing : Packing) {opens : Bool} {manner : Manner}
+    (list : List Input) (a b c : Option (List ℕ)) {object : File}
+    {differing : List DebugTypeSignature} {lines : List ℕ} → opens ≡ packing.opens_archives
+    → manner ≡ manner_of packing → packing.lets_empty ≡ true → map asked list ≡ asks packing
+    → IsPrinted a b (TellsUnsplitRun packing.verbose true packing.partial opens manner offer list)
     → IsMadeFor (TellsTaken false false packing.partial) offer packing b c object differing lines
-    → IsMadeFor (TellsInputs packing) offer packing a c object differing lines
-made_twice packing list a b c lets are p made = record {
+    → IsMadeFor (TellsInputs offer packing) offer packing a c object differing lines
+made_twice {offer} packing list a b c o m lets are p made = record {
   is = made.is;
-  told = printed_then {R = TellsInputs packing made.is.list made.is.packed.packed.state}
+  told = printed_then {R = TellsInputs offer packing made.is.list
+      (added_in made.is.packed.took) made.is.packed.state}
       (λ x y t u. inr (record {
         lets = lets;
         inputs = list;
         are = are;
-        first = t.0;
         before = x;
-        before_are = t.1;
+        before_are = rw (o, m) at t;
         behind = y;
         behind_are = u;
         text_is = refl;
@@ -130,7 +137,8 @@ made_twice packing list a b c lets are p made = record {
 pub made_ready : {X : Type 0} (offers : X → Offer) (x y : X) (reading packing : Packing)
     {a b : Option (List ℕ)} {object : File} {differing : List DebugTypeSignature}
     (named lines : List ℕ) → x ≡ y → reading ≡ packing
-    → IsMadeFor (TellsInputs packing) (reads reading (offers x)) packing a b object differing named
+    → IsMadeFor (TellsInputs (reads reading (offers x)) packing) (reads reading (offers x)) packing
+    a b object differing named
     → (macros : List ℕ) × TellsMacros reading.warns_of_macros macros × (lines ≡ macros ++ named)
     → IsReady (reads packing (offers y)) packing a b object differing lines
 made_ready offers x y reading packing {a} {b} {object} {differing} named lines f p made more =

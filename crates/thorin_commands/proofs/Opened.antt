@@ -1,16 +1,21 @@
 -- Inputs that stand for others, taken one after the other.
-use Rattle.std.proofs.Common.{◌≡◌, ℕ, Bool, true, false, List, [], ◌∷◌, ◌++◌, refl, sym, Ok, inl}
-use Rattle.std.proofs.Common.{inr}
+use Rattle.std.proofs.Common.{◌≡◌, ℕ, ◌-◌, Bool, true, false, List, [], ◌∷◌, ◌++◌, ap, refl, sym}
+use Rattle.std.proofs.Common.{Ok, inl, inr, map}
 use Rattle.std.specs.Path.{path_bytes}
 use Rattle.std.specs.declared.path.Path.{Path}
 use Rattle.std.proofs.lemmas.List.{append_assoc, append-nil}
 use Rattle.thorin_join.specs.Builder.{State}
+use Rattle.thorin_join.specs.Join.{JoinAll}
+use Rattle.thorin_join.specs.Represents.{units_in}
+use Rattle.thorin_builder.specs.Taking.{Outcome}
 use Rattle.thorin.specs.declared.packing.Input.{Input}
 use Rattle.thorin.specs.declared.packing.Input.TheVariants as inputs
-use Rattle.thorin.specs.Run.{Took}
-use Rattle.thorin_commands.specs.Archives.{AreTakenFor, StandsFor, StandFor, is_archive}
-use Rattle.thorin_commands.specs.Opened.{TookAll, TookInputs, TookEach, TookMembers, TookBytes}
-use Rattle.thorin_commands.specs.Packing.{AreAllAccepted}
+use Rattle.thorin.specs.Run.{Ran, Took}
+use Rattle.thorin.proofs.Running.{join-append}
+use Rattle.thorin_commands.specs.Archives.{AreTakenFor, StandsFor, is_archive}
+use Rattle.thorin_commands.specs.Opened.{AreAllAccepted, TookAll, TookInputs, TookNone, TookNext}
+use Rattle.thorin_commands.specs.Opened.{TookEach, TookMembers, TookBytes, accepted_in, added_in}
+use Rattle.thorin_commands.specs.Opened.{unit_count}
 use Rattle.thorin_commands.specs.Taken.{IsTakenFor, Manner, Offer}
 
 -- a run, and one behind it
@@ -34,21 +39,6 @@ ran_one offer input old new took = (
   took.takes,
   (refl, refl),
   sym (append-nil took.accepted),
-)
-
--- what stands for inputs, and for one behind them
-stand_append : (opens : Bool) (manner : Manner) (offer : Offer) (all : List Input) (input : Input)
-    (list front : List Input) → StandFor opens manner offer all list
-    → StandsFor opens manner offer input front
-    → StandFor opens manner offer (all ++ input ∷ []) (list ++ front)
-stand_append opens manner offer [] input list front so stands =
-    (front, [], stands, refl, rw (so, append-nil front) refl)
-stand_append opens manner offer (x ∷ xs) input list front so stands = (
-  so.0,
-  so.1 ++ front,
-  so.2,
-  stand_append opens manner offer xs input so.1 front so.3 stands,
-  rw (so.4, append_assoc) refl,
 )
 
 -- what is taken for contents, and for more behind them
@@ -112,12 +102,29 @@ module _ {opens : Bool} {manner : Manner} {offer : Offer} where
       → TookInputs opens manner offer all old middle
       → TookAll opens manner offer input middle new
       → TookInputs opens manner offer (all ++ input ∷ []) old new
-  took_more {all} {input} {old} {middle} {new} so one = record {
-    list = so.list ++ one.list;
-    stand = stand_append opens manner offer all input so.list one.list so.stand one.stands;
-    accepted = so.accepted ++ one.accepted;
-    ran = ran_append offer so.list one.list old middle new so.accepted one.accepted so.ran one.ran;
-  }
+  took_more TookNone one = TookNext one TookNone
+  took_more (TookNext first rest) one = TookNext first (took_more rest one)
+
+  pub added_more : {all : List Input} {input : Input} {old middle new : State}
+      → (so : TookInputs opens manner offer all old middle)
+      → (one : TookAll opens manner offer input middle new)
+      → added_in (took_more so one) ≡ added_in so ++ (unit_count new - unit_count middle) ∷ []
+  unfolding took_more
+  added_more TookNone one = refl
+  added_more (TookNext {old = a} {middle = b} first rest) one =
+      ap (λ added. (unit_count b - unit_count a) ∷ added) (added_more rest one)
+
+  -- what was read of them is joined
+  pub all_joined : ((inputs : List Input) (old new : State) (outcomes : List Outcome)
+      (accepted : List (List ℕ)) → Ran offer inputs old outcomes new accepted
+      → JoinAll accepted (units_in old) (units_in new)) → {list : List Input} {old new : State}
+      → (took : TookInputs opens manner offer list old new)
+      → JoinAll (accepted_in took) (units_in old) (units_in new)
+  all_joined law TookNone = refl
+  all_joined law (TookNext {old = old} {middle = middle} {new = new} one rest) =
+      join-append one.accepted (accepted_in rest) (units_in old) (units_in middle) (units_in new)
+      (law one.list old middle (map {B = Outcome} (λ input. Ok tt) one.list) one.accepted one.ran)
+      (all_joined law rest)
 
 module _ {manner : Manner} {offer : Offer} where
   pub each_none : {state : State} → TookEach manner offer [] state state

@@ -1,5 +1,5 @@
 -- Where a path is read.
-use Rattle.std.proofs.Common.{◌≡◌, ℕ, List, [], ◌∷◌, Bool, refl, ◌⊎◌, inl, inr}
+use Rattle.std.proofs.Common.{◌≡◌, ℕ, List, [], ◌∷◌, refl, ◌⊎◌, inl, inr}
 use Rattle.std.specs.Prelude.{Result, Ok, Err}
 use Rattle.std.specs.declared.io.Error.{Error as IoError}
 use Rattle.std.specs.Borrow.{Bor}
@@ -15,12 +15,12 @@ use Rattle.thorin_commands.specs.Taken.{IsReadInto, Offer}
 
 -- where a path is read
 module _ (objects executables : List (Bor (List ℕ))) (offer : Offer) (path : List ℕ)
-    (allows : Bool) (room : List ℕ) (result : Result (Unit {0}) (NotTaken InputError Growth))
+    (repeats : Type 0) (room : List ℕ) (result : Result (Unit {0}) (NotTaken InputError Growth))
   where
     over : (Offers Offers' : Result (List ℕ) IoError → Type 0)
         → ((answer : Result (List ℕ) IoError) → Offers answer → Offers' answer)
         → (result : Result (Unit {0}) (NotTaken InputError Growth))
-        → IsReadInto Offers allows room result → IsReadInto Offers' allows room result
+        → IsReadInto Offers repeats room result → IsReadInto Offers' repeats room result
     over Offers Offers' f (Ok x) h = f (Ok room) h
     over Offers Offers' f (Err (Failed (input.Io cause))) h = f (Err cause) h
     over Offers Offers' f (Err (Failed input.Memory)) h = tt
@@ -32,15 +32,15 @@ module _ (objects executables : List (Bor (List ℕ))) (offer : Offer) (path : L
 
     -- where there are no words FROM=TO, as it is
     pub through_none : (words : List (Bor (List ℕ))) → words ≡ []
-        → IsReadInto (offer path) allows room result
-        → IsReadInto (through words objects executables offer path) allows room result
+        → IsReadInto (offer path) repeats room result
+        → IsReadInto (through words objects executables offer path) repeats room result
     through_none words e h = rw e h
 
     -- one that the command line names
     pub through_given : (words : List (Bor (List ℕ)))
         → IsAmong objects path ⊎ IsAmong executables path → IsReadInto (offer path)
-        allows room result
-        → IsReadInto (through words objects executables offer path) allows room result
+        repeats room result
+        → IsReadInto (through words objects executables offer path) repeats room result
     through_given [] given h = h
     through_given (word ∷ words) given h =
         over (offer path) (through (word ∷ words) objects executables offer path)
@@ -48,8 +48,8 @@ module _ (objects executables : List (Bor (List ℕ))) (offer : Offer) (path : L
 
     -- and one whose prefix is replaced
     pub through_mapped : (words : List (Bor (List ℕ))) (other : List ℕ) → other ≡ mapped words path
-        → (words ≡ [] → ⊥) → IsReadInto (offer other) allows room result
-        → IsReadInto (through words objects executables offer path) allows room result
+        → (words ≡ [] → ⊥) → IsReadInto (offer other) repeats room result
+        → IsReadInto (through words objects executables offer path) repeats room result
     through_mapped [] other e some h = absurd (some refl)
     through_mapped (word ∷ words) other e some h =
         over (offer other) (through (word ∷ words) objects executables offer path)

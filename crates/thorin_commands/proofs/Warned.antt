@@ -1,28 +1,28 @@
 -- What was told where a package was made.
 use Rattle.std.proofs.Common.{◌≡◌, ◌⊎◌, ℕ, ◌+◌, ◌-◌, ◌≤◌, ◌<◌, Bool, true, false, List, [], ◌∷◌}
 use Rattle.std.proofs.Common.{◌++◌, refl, sym, ap, ◌∙◌, inl, inr, length, take, get_or, arith}
-use Rattle.std.specs.Prelude.{Option, Some, None, Ok, Err, OnOk, map, sum}
+use Rattle.std.specs.Prelude.{Option, Some, None, Ok, Err, OnOk, map}
 use Rattle.std.specs.Io.KnownBytes.{Appends}
 use Rattle.std.proofs.KnownBytes.{Appends-nil, Appends-trans}
-use Rattle.std.proofs.lemmas.List.{append_assoc, append-nil, length-append, map-append, take_all}
-use Rattle.std.proofs.lemmas.List.{take_more}
-use Rattle.std.proofs.lemmas.List.Sums.{sum_by_push}
+use Rattle.std.proofs.lemmas.List.{append_assoc, append-nil, map-append, take_all, take_more}
 use Rattle.dwp_table.specs.declared.object.DebugTypeSignature.{DebugTypeSignature}
 use Rattle.dwp_table.specs.declared.object.DwarfObject.{DwarfObject}
 use Rattle.thorin_join.specs.Builder.{State}
-use Rattle.thorin_join.specs.Join.{JoinAll}
-use Rattle.thorin_join.specs.Meaning.{Members}
 use Rattle.thorin.specs.declared.packing.Input.{Input}
 use Rattle.thorin_print.specs.Answers.{Outcome, Prints}
 use Rattle.thorin_print.specs.Told.{taken_line}
 use Rattle.thorin_inputs.specs.declared.notes.Lack.{Lack}
 use Rattle.thorin_inputs.specs.declared.notes.Lack.TheVariants.{Types}
 use Rattle.thorin_output.specs.Warnings.{IsPrinted}
+use Rattle.thorin_commands.specs.Made.{TookTelling}
+use Rattle.thorin_commands.specs.Opened.{TookAll, TookNone, added_in, unit_count}
+use Rattle.thorin_commands.specs.Taken.{Manner, Offer}
 use Rattle.thorin_commands.specs.Warned.{AreLacks, InTurn, IsLeftLine, TellLeft, TellNamed}
 use Rattle.thorin_commands.specs.Warned.{TellUnsplit, TellUnsplitBy, TellsAdded, TellsLeft}
 use Rattle.thorin_commands.specs.Warned.{TellsMacros, TellsNamed, TellsTaken, TellsTaking}
 use Rattle.thorin_commands.specs.Warned.{TellsUnsplit, left_line}
-use Rattle.thorin_commands.specs.Warned.{missing_in, named_line, path_of, unit_count, unsplit_line}
+use Rattle.thorin_commands.specs.Warned.{missing_in, named_line, path_of, unsplit_line}
+use Rattle.thorin_commands.proofs.Opened.{added_more, took_more}
 
 -- ---- one text after the other
 
@@ -104,15 +104,6 @@ added_told true (Some path) name added all a b v e h =
     let same : path ≡ name = cc in
     rw same (record { text = taken_line name added all; is = (all, refl); added = h })
 
--- a package only grows
-pub joined_grows : (accepted : List (List ℕ)) (before now : Members) → JoinAll accepted before now
-    → length before ≤ length now
-joined_grows [] before now e = rw e (omega arith)
-joined_grows (bytes ∷ rest) before now j =
-    let one : length j.0 ≡ length before + length j.1.added =
-    ap length j.1.is ∙ length-append before j.1.added in
-    omega (arith, one, joined_grows rest j.0 now j.2)
-
 lacks_more : (added : List ℕ) (lacks : List Lack) (own : ℕ) (lack : Lack) → AreLacks added lacks
     → (lack ≡ Types → own ≡ 0) → AreLacks (added ++ own ∷ []) (lacks ++ lack ∷ [])
 lacks_more [] [] own lack h is = (is, tt)
@@ -127,39 +118,43 @@ lacks_lengths [] (x ∷ lacks) h = absurd h
 lacks_lengths (n ∷ added) [] h = absurd h
 lacks_lengths (n ∷ added) (x ∷ lacks) h = omega (arith, lacks_lengths added lacks h.1)
 
-adds : (b s m a : ℕ) → b + s ≡ m → m ≤ a → b + (s + (a - m)) ≡ a
-adds b s m a e le = omega arith
+module _ {verbose opens : Bool} {manner : Manner} {offer : Offer} {a : Option (List ℕ)} where
+  pub taking_begins : {state : State}
+      → TookTelling verbose opens manner offer [] state state a a []
+  taking_begins =
+      record { took = TookNone; told = none_printed a (record { lines = refl; lacking = tt }) }
 
-pub taking_begins : (verbose : Bool) (before : ℕ) (a : Option (List ℕ))
-    → IsPrinted a a (TellsTaking verbose [] before before [])
-taking_begins verbose before a =
-    none_printed a (record { added = []; together = omega arith; lines = refl; lacking = tt })
+  pub taking_more : {xs ys : List Input} {input : Input} {old middle new : State}
+      {lacks more : List Lack} {lack : Lack} {b c : Option (List ℕ)} → ys ≡ xs ++ input ∷ []
+      → more ≡ lacks ++ lack ∷ []
+      → (lack ≡ Types → unit_count new - unit_count middle ≡ 0)
+      → TookTelling verbose opens manner offer xs old middle a b lacks
+      → TookAll opens manner offer input middle new
+      → IsPrinted b c
+      (TellsAdded verbose (path_of input) (unit_count new - unit_count middle))
+      → TookTelling verbose opens manner offer ys old new a c more
+  taking_more {xs} {input = input} {middle = middle} {new = new} {lacks} {lack = lack} same is none
+      so one line =
+      let own = unit_count new - unit_count middle in
+      rw (same, is) (record {
+        took = took_more so.took one;
+        told = rw (added_more so.took one) (printed_then {R = TellsTaking verbose (xs ++ input ∷ [])
+            (added_in so.took ++ own ∷ []) (lacks ++ lack ∷ [])} (λ x y t l. record {
+              lines = turn_more (λ input own. TellsAdded verbose (path_of input) own) xs
+                  (added_in so.took) input own x y t.lines l;
+              lacking = lacks_more (added_in so.took) lacks own lack t.lacking none;
+            }) so.told line);
+      })
 
-pub taking_more : (verbose : Bool) (xs ys : List Input) (input : Input) (before middle after : ℕ)
-    (lacks more : List Lack) (lack : Lack) (a b c : Option (List ℕ)) → ys ≡ xs ++ input ∷ []
-    → more ≡ lacks ++ lack ∷ [] → middle ≤ after → (lack ≡ Types → after - middle ≡ 0)
-    → IsPrinted a b (TellsTaking verbose xs before middle lacks)
-    → IsPrinted b c (TellsAdded verbose (path_of input) (after - middle))
-    → IsPrinted a c (TellsTaking verbose ys before after more)
-taking_more verbose xs ys input before middle after lacks more lack a b c same is le none p q =
-    rw (same, is) (printed_then {R = TellsTaking verbose (xs ++ input ∷ []) before after
-    (lacks ++ lack ∷ [])} (λ x y t line. record {
-      added = t.added ++ (after - middle) ∷ [];
-      together = ap (λ n. before + n) (sum_by_push (λ n. n) t.added (after - middle))
-          ∙ adds before (sum t.added) middle after t.together le;
-      lines = turn_more (λ input own. TellsAdded verbose (path_of input) own) xs t.added input
-          (after - middle) x y t.lines line;
-      lacking = lacks_more t.added lacks (after - middle) lack t.lacking none;
-    }) p q)
-
--- each input has a lack
-pub lack_count : {verbose : Bool} {list : List Input} {before after : ℕ} {lacks : List Lack}
-    {a b : Option (List ℕ)} → IsPrinted a b (TellsTaking verbose list before after lacks)
-    → length lacks ≡ length list
-lack_count {verbose} {list} {lacks = lacks} p =
-    lacks_lengths p.is.added lacks p.is.lacking
-    ∙ turn_lengths (λ input own. TellsAdded verbose (path_of input) own) list p.is.added p.text
-    p.is.lines
+  -- each input has a lack
+  pub lack_count : {list : List Input} {old new : State} {lacks : List Lack}
+      {b : Option (List ℕ)} → TookTelling verbose opens manner offer list old new a b lacks
+      → length lacks ≡ length list
+  lack_count {list} {lacks = lacks} so =
+      let added = added_in so.took in
+      lacks_lengths added lacks so.told.is.lacking
+      ∙ turn_lengths (λ input own. TellsAdded verbose (path_of input) own) list added so.told.text
+      so.told.is.lines
 
 -- ---- inputs without split units
 
@@ -308,25 +303,20 @@ with_names false differing text e h = absurd cc
 
 -- ---- all of inputs that were taken
 
-zero_before : (b s t : ℕ) → b ≡ 0 → b + s ≡ t → s ≡ t
-zero_before b s t e h = omega arith
-
-pub taken_told : (verbose warns partial : Bool) (list : List Input) (state : State) (before : ℕ)
-    (lacks : List Lack) (a b c d : Option (List ℕ)) → before ≡ 0
-    → IsPrinted a b (TellsTaking verbose list before (unit_count state) lacks)
+pub taken_told : (verbose warns partial : Bool) (list : List Input) (added : List ℕ)
+    (state : State) (lacks : List Lack) (a b c d : Option (List ℕ))
+    → IsPrinted a b (TellsTaking verbose list added lacks)
     → IsPrinted b c (TellUnsplitBy warns (unit_count state ≡ 0) list lacks)
     → IsPrinted c d (TellsLeft partial state)
-    → IsPrinted a d (TellsTaken verbose warns partial list state)
-taken_told verbose warns partial list state before lacks a b c d zero p q r = record {
+    → IsPrinted a d (TellsTaken verbose warns partial list added state)
+taken_told verbose warns partial list added state lacks a b c d p q r = record {
   text = p.text ++ (q.text ++ r.text);
   is = record {
-    added = p.is.added;
-    together = zero_before before (sum p.is.added) (unit_count state) zero p.is.together;
     taken = p.text;
     taken_are = p.is.lines;
     unsplit = q.text;
     unsplit_are = unsplit_told_by warns (unit_count state ≡ 0) (unit_count state) (λ e. e) list
-        lacks p.is.added q.text p.is.lacking q.is;
+        lacks added q.text p.is.lacking q.is;
     missing = r.text;
     missing_are = r.is;
     text_is = refl;

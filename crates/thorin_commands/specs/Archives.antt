@@ -1,5 +1,5 @@
 -- What inputs stand for where archives are opened.
-use Rattle.std.specs.Prelude.{◌≡◌, ℕ, List, [], ◌∷◌, ◌++◌, Bool, true, false, ◌||◌, map, filter}
+use Rattle.std.specs.Prelude.{◌≡◌, ℕ, List, [], ◌∷◌, Bool, true, false, ◌||◌, map, filter}
 use Rattle.std.specs.Prelude.{codes, find, is_some, nat_eq, Result, Ok, Err, ◌⊎◌}
 use Rattle.std.specs.Borrow.{Bor}
 use Rattle.std.specs.List.{starts_with}
@@ -65,10 +65,3 @@ abbrev pub StandsFor : (opens : Bool) → Manner → Offer → Input → List In
 StandsFor true manner offer (inputs.Object path) list =
     IsNoArchive offer (path_bytes path) list ⊎ IsArchive offer manner (path_bytes path) list
 StandsFor opens manner offer input list = list ≡ input ∷ []
-
--- what inputs stand for, one after the other
-abbrev pub StandFor : (opens : Bool) → Manner → Offer → List Input → List Input → Type 0
-StandFor opens manner offer [] list = list ≡ []
-StandFor opens manner offer (input ∷ rest) list =
-    (front : List Input) × (back : List Input) × StandsFor opens manner offer input front
-    × StandFor opens manner offer rest back × (list ≡ front ++ back)

@@ -31,8 +31,8 @@ use Rattle.thorin_print.specs.declared.output.Failure.TheVariants as failures
 use Rattle.thorin_inputs.specs.Growth.{growth_text}
 use Rattle.thorin_inputs.specs.declared.growth.Growth.{Growth}
 use Rattle.thorin_commands.specs.Archives.{StandsFor, is_archive, split_contents}
-use Rattle.thorin_commands.specs.Opened.{TookEach, TookInputs}
-use Rattle.thorin_commands.specs.Packing.{AreAsked, left, manner_of}
+use Rattle.thorin_commands.specs.Opened.{TookEach, TookInputs, left}
+use Rattle.thorin_commands.specs.Packing.{AreAsked, manner_of}
 use Rattle.thorin_commands.specs.Taken.{DeclinesBytes, IsTakenFor, Manner, Offer}
 use Rattle.thorin_commands.specs.declared.packing.Packing.{Packing}
 use Rattle.thorin_commands.specs.declared.refusal.Refusal.{Refusal}
@@ -78,16 +78,17 @@ text_of (Untaken why) = refusal_text why
 text_of (Malformed error) = Some (archive_text error)
 text_of (Unfinished error) = told_text (error_of error)
 
--- why the file at a path may be declined
+-- why the file at a path may be declined, an input's own or one that an executable names
 abbrev pub Reasons : Type 1
-Reasons = (path : List ℕ) → Growth → Type 0
+Reasons = (own : Bool) → (path : List ℕ) → Growth → Type 0
 
--- an input was refused: by its first error, want of memory aside; or a file of it is declined
+-- an input was refused: by its first error, want of memory aside; or its file is declined, or that
+-- of a unit that an executable names
 pub record IsRefused (offer : Offer) (declines : Reasons) (input : Input) (state : State)
     (why : NotTaken Error Growth) : Type 0 where
   pub new : State
   pub took : Took offer input state (Err (error_in why)) new
-  pub declined : OnDeclined {X = Unit {0}} (Err why) (DeclinesInput declines input)
+  pub declined : OnDeclined {X = Unit {0}} (Err why) (DeclinesInput offer declines input state)
 
 -- the same of bytes
 pub record AreRefused (offer : Offer) (declines : Reasons) (bytes : List ℕ) (state : State)
@@ -138,7 +139,7 @@ pub data IsNotTaken (opens : Bool) (manner : Manner) (offer : Offer) (declines :
       → IsRefused offer declines input state why
       → IsNotTaken opens manner offer declines input state (Untaken why)
   Unread : (path : Path) (state : State) (why : NotTaken InputError Growth) → opens ≡ true
-      → IsRead (offer (path_bytes path)) (declines (path_bytes path)) (Err why)
+      → IsRead (offer (path_bytes path)) (declines true (path_bytes path)) (Err why)
       → IsNotTaken opens manner offer declines (inputs.Object path) state (Untaken (unread why))
   Plain : (path : Path) (state : State) (file : List ℕ) (why : NotTaken Error Growth)
       → opens ≡ true → offer (path_bytes path) (Ok file) → is_archive file ≡ false

@@ -1,6 +1,6 @@
 -- What the program packs, and what comes of it.
 use Rattle.std.specs.Prelude.{◌≡◌, ℕ, List, [], ◌∷◌, ◌++◌, map, codes, Option, Some, None, Result}
-use Rattle.std.specs.Prelude.{Ok, Err, ◌⊎◌, ◌≢◌, All, Bool, true, false, take}
+use Rattle.std.specs.Prelude.{Ok, Err, ◌⊎◌, ◌≢◌, All, Bool, true, take}
 use Rattle.std.specs.Borrow.{Bor}
 use Rattle.std.specs.Path.{path_bytes}
 use Rattle.std.specs.declared.io.Error.{Error as IoError}
@@ -11,18 +11,15 @@ use Rattle.thorin_executable.specs.declared.listing.NamelessUnits.TheVariants.{R
 use Rattle.thorin_join.specs.Builder.{State, start, finish_test, IsFinishedState}
 use Rattle.thorin_join.specs.Join.{JoinAll, IsPackageOf}
 use Rattle.thorin_join.specs.Represents.{units_in}
-use Rattle.thorin_builder.specs.Missing.{without_targets}
-use Rattle.thorin_builder.specs.Taking.{Outcome}
 use Rattle.thorin.specs.declared.packing.Input.{Input}
 use Rattle.thorin.specs.declared.packing.Input.TheVariants as inputs
-use Rattle.thorin.specs.Run.{Ran}
 use Rattle.thorin_print.specs.declared.output.Failure.{Failure}
 use Rattle.thorin_inputs.specs.Given.{StandsAt}
 use Rattle.thorin_inputs.specs.declared.growth.Growth.{Growth}
 use Rattle.thorin_inputs.specs.Prefixes.{mapped}
 use Rattle.thorin_output.specs.Files.{IsOfWriting}
 use Rattle.thorin_output.specs.Reads.{Identity}
-use Rattle.thorin_commands.specs.Archives.{StandFor}
+use Rattle.thorin_commands.specs.Opened.{TookInputs, accepted_in, left}
 use Rattle.thorin_commands.specs.Taken.{Manner, Offer, OffersTaken, Declines}
 use Rattle.thorin_commands.specs.declared.packing.Packing.{Packing}
 use Rattle.thorin_commands.specs.declared.refusal.Refusal.{Refusal}
@@ -106,7 +103,7 @@ abbrev pub reads : Packing → Offer → Offer
 reads packing offer = OffersTaken (manner_of packing) (read_through packing offer)
 
 -- and why it is declined
-abbrev pub declines : Packing → Offer → (path : List ℕ) → Growth → Type 0
+abbrev pub declines : Packing → Offer → (own : Bool) → (path : List ℕ) → Growth → Type 0
 declines packing offer = Declines (manner_of packing) (read_through packing offer)
 
 -- ---- where it is written
@@ -130,36 +127,16 @@ pub record IsNoInput (known : List ℕ → Identity → Type 0) (packing : Packi
 
 -- ---- what is made of that
 
--- what is finished after the inputs: where missing units are left out, the package without a list
--- of units that executables refer to
-abbrev pub left : Bool → State → State
-left true state = without_targets state
-left false state = state
-
--- each input was taken, in order, and none was refused; and the bytes that were read of them
-abbrev pub AreAllAccepted : (List ℕ → Result (List ℕ) IoError → Type 0) → List Input
-    → (old new : State) → List (List ℕ) → Type 0
-AreAllAccepted offer list old new accepted =
-    Ran offer list old (map {B = Outcome} (λ input. Ok tt) list) new accepted
-
 -- all inputs were taken; the state after that has the units of the bytes that were read, joined;
 -- the object is finished from it, and its file is a package of these units
-pub record IsPackedOf (partial : Bool) (offer : List ℕ → Result (List ℕ) IoError
-    → Type 0) (list : List Input) (object : File) : Type 0 where
+pub record IsPackedFrom (partial opens : Bool) (manner : Manner) (offer : Offer)
+    (list : List Input) (object : File) : Type 0 where
   pub state : State
-  pub accepted : List (List ℕ)
-  pub ran : AreAllAccepted offer list start state accepted
-  pub joined : JoinAll accepted [] (units_in state)
+  pub took : TookInputs opens manner offer list start state
+  pub joined : JoinAll (accepted_in took) [] (units_in state)
   pub tested : finish_test (left partial state) ≡ Ok tt
   pub finished : IsFinishedState (left partial state) object
   pub package_of : IsPackageOf (units_in state) (file_text object)
-
--- the same of what inputs stand for
-pub record IsPackedFrom (partial opens : Bool) (manner : Manner) (offer : Offer)
-    (list : List Input) (object : File) : Type 0 where
-  pub taken : List Input
-  pub stand : StandFor opens manner offer list taken
-  pub packed : IsPackedOf partial offer taken object
 
 -- just the inputs that were asked for; where an empty package may come of it, behind them the first
 -- executable as an object

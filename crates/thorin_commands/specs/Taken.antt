@@ -58,15 +58,18 @@ pub record OffersTaken (manner : Manner) (offer : Offer) (path : List ℕ)
 
 -- ---- what is declined
 
--- a read into room answered what may be answered there, want of memory aside; or it was declined as
--- one of a file that was read before
-abbrev pub IsReadInto : (Result (List ℕ) IoError → Type 0) → (allows_overlap : Bool)
+-- a file is declined as one that was read before: no input's own, where that isn't allowed without
+-- bounds
+abbrev pub MayRepeat : (allows_overlap own : Bool) → Type 0
+MayRepeat allows_overlap own = (own ≡ false) × (allows_overlap ≡ false)
+
+-- a read into room answered what may be answered there, want of memory aside; or it was declined so
+abbrev pub IsReadInto : (Result (List ℕ) IoError → Type 0) → (may_repeat : Type 0)
     → (room : List ℕ) → Result (Unit {0}) (NotTaken InputError Growth) → Type 0
-IsReadInto offered allows_overlap room (Ok x) = offered (Ok room)
-IsReadInto offered allows_overlap room (Err (Failed e)) = IsReadOver offered room (Err e)
-IsReadInto offered allows_overlap room (Err (Declined growth.Repetition)) =
-    allows_overlap ≡ false
-IsReadInto offered allows_overlap room (Err (Declined why)) = ⊥
+IsReadInto offered may_repeat room (Ok x) = offered (Ok room)
+IsReadInto offered may_repeat room (Err (Failed e)) = IsReadOver offered room (Err e)
+IsReadInto offered may_repeat room (Err (Declined growth.Repetition)) = may_repeat
+IsReadInto offered may_repeat room (Err (Declined why)) = ⊥
 
 -- sections overlap: those that are used, or those that are to be decompressed
 abbrev pub HasOverlap : Manner → List ℕ → Type 0
@@ -92,9 +95,9 @@ DeclinesBytes manner bytes growth.Plain =
 DeclinesBytes manner bytes why =
     (plain : List ℕ) × IsPlainFor manner.decompresses bytes plain × DeclinesPlain manner plain why
 
--- the file at a path is declined: it is one that was read before, where that isn't allowed without
--- bounds; or its bytes are
-abbrev pub Declines : Manner → Offer → (path : List ℕ) → Growth → Type 0
-Declines manner offer path growth.Repetition = manner.allows_overlap ≡ false
-Declines manner offer path why =
+-- the file at a path is declined, an input's own or one that an executable names: it is one that
+-- was read before; or its bytes are
+abbrev pub Declines : Manner → Offer → (own : Bool) → (path : List ℕ) → Growth → Type 0
+Declines manner offer own path growth.Repetition = MayRepeat manner.allows_overlap own
+Declines manner offer own path why =
     (bytes : List ℕ) × offer path (Ok bytes) × DeclinesBytes manner bytes why

@@ -1,14 +1,14 @@
 -- What `pack` tells on standard error where it makes a package.
-use Rattle.std.specs.Prelude.{◌≡◌, ◌⊎◌, ℕ, ◌+◌, List, [], ◌∷◌, ◌++◌, Bool, true, false, codes}
-use Rattle.std.specs.Prelude.{length}
-use Rattle.std.specs.Prelude.{sum, filter, map, Option, Some, None}
+use Rattle.std.specs.Prelude.{◌≡◌, ◌⊎◌, ℕ, List, [], ◌∷◌, ◌++◌, Bool, true, false, codes}
+use Rattle.std.specs.Prelude.{filter, map, Option, Some, None, Err}
 use Rattle.std.specs.Path.{path_bytes}
 use Rattle.dwp_table.specs.Objects.{identifier_of}
 use Rattle.dwp_table.specs.declared.object.DebugTypeSignature.{DebugTypeSignature}
 use Rattle.dwp_table.specs.declared.object.DwarfObject.{DwarfObject}
+use Rattle.thorin_errors.specs.Errors.{NoOutputObjectCreated}
 use Rattle.thorin_errors.specs.Text.{hex8}
-use Rattle.thorin_join.specs.Builder.{State, differing_in, is_missing, names_in}
-use Rattle.thorin_join.specs.Represents.{units_in}
+use Rattle.thorin_join.specs.Builder.{State, differing_in, finish_test, is_missing, names_in}
+use Rattle.thorin_join.specs.Builder.{start}
 use Rattle.thorin.specs.declared.packing.Input.{Input}
 use Rattle.thorin.specs.declared.packing.Input.TheVariants as inputs
 use Rattle.thorin_print.specs.Lines.{line_end}
@@ -19,8 +19,9 @@ use Rattle.thorin_inputs.specs.declared.notes.Lack.TheVariants.{Types}
 use Rattle.thorin_output.specs.Warnings.{AreLines, IsPrinted}
 use Rattle.thorin_output.specs.declared.warnings.Warnings.{Warnings}
 use Rattle.thorin_output.specs.declared.warnings.Warnings.TheVariants.{Each, Once, Never}
-use Rattle.thorin_commands.specs.Packing.{Packs, asked, asks}
-use Rattle.thorin_commands.specs.Taken.{Offer}
+use Rattle.thorin_commands.specs.Opened.{TookInputs, added_in, left, unit_count}
+use Rattle.thorin_commands.specs.Packing.{Packs, asked, asks, manner_of}
+use Rattle.thorin_commands.specs.Taken.{Manner, Offer}
 use Rattle.thorin_commands.specs.declared.packing.Packing.{Packing}
 
 -- a text for each of a list, by what stands beside it in another
@@ -39,10 +40,6 @@ path_of (inputs.Object path) = Some (path_bytes path)
 path_of (inputs.Bytes bytes) = None
 path_of (inputs.Executable path missing) = Some (path_bytes path)
 path_of (inputs.ExecutableSkippingNameless path missing) = Some (path_bytes path)
-
--- how many units a package has
-abbrev pub unit_count : State → ℕ
-unit_count state = length (units_in state)
 
 -- with `verbose` a line tells how many units an input added; of how many it has isn't said
 abbrev pub TellsAdded : (verbose : Bool) → (path : Option (List ℕ)) → (added : ℕ) → (text : List ℕ)
@@ -80,11 +77,9 @@ AreLacks [] [] = Unit {0}
 AreLacks (own ∷ added) (lack ∷ lacks) = (lack ≡ Types → own ≡ 0) × AreLacks added lacks
 AreLacks added lacks = ⊥
 
--- what is told while inputs are taken, and what each of them lacks; they added some units each
-pub record TellsTaking (verbose : Bool) (list : List Input) (before after : ℕ) (lacks : List Lack)
+-- what is told while inputs are taken that added as many units each, and what each of them lacks
+pub record TellsTaking (verbose : Bool) (list : List Input) (added : List ℕ) (lacks : List Lack)
     (text : List ℕ) : Type 0 where
-  pub added : List ℕ
-  pub together : before + sum added ≡ after
   pub lines : InTurn (λ input own. TellsAdded verbose (path_of input) own) list added text
   pub lacking : AreLacks added lacks
 
@@ -118,12 +113,10 @@ TellsLeft false state text = text ≡ []
 
 -- ---- before the package is written
 
--- of inputs that were taken, and of the package's state then: lines of these, warnings of those
--- without split units, and warnings of units that aren't there
-pub record TellsTaken (verbose warns partial : Bool) (list : List Input) (state : State)
-    (text : List ℕ) : Type 0 where
-  pub added : List ℕ
-  pub together : sum added ≡ unit_count state
+-- of inputs that were taken and added as many units each, and of the package's state then: lines of
+-- these, warnings of those without split units, and warnings of units that aren't there
+pub record TellsTaken (verbose warns partial : Bool) (list : List Input) (added : List ℕ)
+    (state : State) (text : List ℕ) : Type 0 where
   pub taken : List ℕ
   pub taken_are : InTurn (λ input own. TellsAdded verbose (path_of input) own) list added taken
   pub unsplit : List ℕ
@@ -132,24 +125,35 @@ pub record TellsTaken (verbose warns partial : Bool) (list : List Input) (state 
   pub missing_are : TellsLeft partial state missing
   pub text_is : text ≡ taken ++ (unsplit ++ missing)
 
--- where nothing of the inputs that were asked for is split, the lines of these stand before those
--- of a second run, which tells only of units that aren't there
-pub record TellsTwice (packing : Packing) (list : List Input) (state : State) (text : List ℕ)
-    : Type 0 where
+-- of inputs that were taken, and none of which began a package: nothing is split
+pub record TellsUnsplitRun (verbose warns partial opens : Bool) (manner : Manner) (offer : Offer)
+    (list : List Input) (text : List ℕ) : Type 0 where
+  pub state : State
+  pub took : TookInputs opens manner offer list start state
+  pub unbegun : finish_test (left partial state) ≡ Err NoOutputObjectCreated
+  pub tells : TellsTaken verbose warns partial list (added_in took) state text
+
+-- where that is so of the inputs that were asked for, their lines stand before those of a second
+-- run, which tells only of units that aren't there
+pub record TellsTwice (offer : Offer) (packing : Packing) (list : List Input) (added : List ℕ)
+    (state : State) (text : List ℕ) : Type 0 where
   pub lets : packing.lets_empty ≡ true
   pub inputs : List Input
   pub are : map asked inputs ≡ asks packing
-  pub first : State
   pub before : List ℕ
-  pub before_are : TellsTaken packing.verbose true packing.partial inputs first before
+  pub before_are : TellsUnsplitRun packing.verbose true packing.partial packing.opens_archives
+      (manner_of packing) offer inputs before
   pub behind : List ℕ
-  pub behind_are : TellsTaken false false packing.partial list state behind
+  pub behind_are : TellsTaken false false packing.partial list added state behind
   pub text_is : text ≡ before ++ behind
 
-abbrev pub TellsInputs : Packing → List Input → State → (text : List ℕ) → Type 0
-TellsInputs packing list state text = TellsTaken packing.verbose true
-    packing.partial list state text
-    ⊎ TellsTwice packing list state text
+-- of just the inputs that were asked for; or of a second run
+abbrev pub TellsInputs : Offer → Packing → List Input → (added : List ℕ) → State
+    → (text : List ℕ) → Type 0
+TellsInputs offer packing list added state text =
+    ((map asked list ≡ asks packing)
+    × TellsTaken packing.verbose true packing.partial list added state text)
+    ⊎ TellsTwice offer packing list added state text
 
 -- ---- behind the package
 
@@ -195,10 +199,10 @@ pub record TellsDiffering (verbose : Bool) (warnings : Warnings) (state : State)
   pub text_is : text ≡ named ++ lines
 
 -- all that is told
-pub record TellsPacking (packing : Packing) (list : List Input) (state : State) (text : List ℕ)
-    : Type 0 where
+pub record TellsPacking (offer : Offer) (packing : Packing) (list : List Input) (added : List ℕ)
+    (state : State) (text : List ℕ) : Type 0 where
   pub inputs : List ℕ
-  pub inputs_are : TellsInputs packing list state inputs
+  pub inputs_are : TellsInputs offer packing list added state inputs
   pub macros : List ℕ
   pub macros_are : TellsMacros packing.warns_of_macros macros
   pub differing : List ℕ
@@ -210,5 +214,5 @@ pub record TellsPacking (packing : Packing) (list : List Input) (state : State) 
 pub record PacksTelling (offer : Offer) (packing : Packing) (Puts : (name text : List ℕ) → Type 0)
     (old new : Option (List ℕ)) : Type 0 where
   pub packs : Packs offer packing Puts
-  pub told : IsPrinted old new
-      (TellsPacking packing packs.is.list packs.is.packed.packed.state)
+  pub told : IsPrinted old new (TellsPacking offer packing packs.is.list
+      (added_in packs.is.packed.took) packs.is.packed.state)

@@ -11,7 +11,8 @@ ghost use Rattle.thorin_commands.specs.Cause.{AreRefused, IsNotTaken, IsTakenNot
 ghost use Rattle.thorin_commands.specs.Cause.{IsMalformed, IsUntaken, Refuses, StopsAmong};
 ghost use Rattle.thorin_commands.specs.Cause.{Malformed, StopsIn, Tells, refusal_text, text_of};
 ghost use Rattle.thorin_commands.specs.Opened.{TookAll, TookEach, TookMembers, TookBytes};
-ghost use Rattle.thorin_commands.specs.Warned.{TellsAdded, path_of, unit_count};
+ghost use Rattle.thorin_commands.specs.Opened.{unit_count};
+ghost use Rattle.thorin_commands.specs.Warned.{TellsAdded, path_of};
 
 use crate::origins::{Holding, Origin, now_in, place_of_refused, unit_count};
 use crate::reading::Inputs;
@@ -77,7 +78,7 @@ pub(crate) fn take_opened<'o, 's: 'o, Sess: Session<RelocationEntry>, I: Inputs,
         (Object path.entry) builder.old.state)) }
 {
     inputs.begin(Input::Object(path));
-    match inputs.read_into(path, room) {
+    match inputs.read_into(true, path, room) {
         Ok(bytes) => {
             let place = Place { path, telling };
             take_read(inputs, builder, bytes, place, err)

@@ -1,6 +1,6 @@
 //! The object of a package, made of the inputs.
 
-ghost use Rattle.std.specs.Prelude.{◌≡◌, [], map, Ok, OnOk, IfOk, IfErr, string_bytes};
+ghost use Rattle.std.specs.Prelude.{◌≡◌, map, Ok, OnOk, IfOk, IfErr, string_bytes};
 ghost use Rattle.dwp_elf.specs.FileText.{file_text};
 ghost use Rattle.dwp_elf.specs.Numbers.{Fits};
 ghost use Rattle.dwp_elf_read.specs.declared.error.WriteError.TheVariants as writer;
@@ -11,8 +11,9 @@ ghost use Rattle.thorin_join.specs.Meaning.{Members};
 ghost use Rattle.thorin_join.specs.Represents.{units_in};
 ghost use Rattle.thorin_commands.specs.Cause.{IsCauseOf, IsUnfinished, Refuses, StopsAt};
 ghost use Rattle.thorin_commands.specs.Cause.{Unfinished};
-ghost use Rattle.thorin_commands.specs.Made.{FillsTelling, IsMade, TellsSome};
+ghost use Rattle.thorin_commands.specs.Made.{FillsTelling, IsMade};
 ghost use Rattle.thorin_commands.specs.declared.refusal.Refusal.TheVariants.{Empty};
+ghost use Rattle.thorin_commands.specs.Warned.{TellsUnsplitRun};
 ghost use Rattle.thorin_output.specs.Warnings.{IsPrinted};
 
 use crate::differences::lines_of_differing;
@@ -46,7 +47,8 @@ pub(crate) fn packed_inputs<I: Inputs, E: LineOutput>(
         (E.contents err.old) (E.contents err.new) made.0 made.1.items (string_bytes made.2)) }
     ensures tried { IfErr result (λ refusal. refusal ≡ Empty
         → IsPrinted (E.contents err.old) (E.contents err.new)
-        (TellsSome telling.verbose telling.warns telling.partial list.now)) }
+        (TellsUnsplitRun telling.verbose telling.warns telling.partial (I.opens inputs.now)
+        (I.manner inputs.now) (I.offer inputs.now) list.now)) }
     ensures told { IfErr result (Refuses E.contents E.failed err.new (IsCauseOf telling.partial
         (I.opens inputs.now) (I.manner inputs.now) (I.offer inputs.now) (I.declines inputs.now)
         list.now)) }
@@ -69,7 +71,8 @@ fn packed_over<'s, Sess: Session<RelocationEntry>, I: Inputs, E: LineOutput>(
         (E.contents err.old) (E.contents err.new) made.0 made.1.items (string_bytes made.2)) }
     ensures tried { IfErr result (λ refusal. refusal ≡ Empty
         → IsPrinted (E.contents err.old) (E.contents err.new)
-        (TellsSome telling.verbose telling.warns telling.partial list.now)) }
+        (TellsUnsplitRun telling.verbose telling.warns telling.partial (I.opens inputs.now)
+        (I.manner inputs.now) (I.offer inputs.now) list.now)) }
     ensures told { IfErr result (Refuses E.contents E.failed err.new (IsCauseOf telling.partial
         (I.opens inputs.now) (I.manner inputs.now) (I.offer inputs.now) (I.declines inputs.now)
         list.now)) }
@@ -95,7 +98,6 @@ fn fill<'o, 's: 'o, Sess: Session<RelocationEntry>, I: Inputs, E: LineOutput>(
     telling: Telling,
     err: &mut E,
 ) -> Result<String, Refusal>
-    requires { units_in builder.old.state ≡ [] }
     ensures fills { IfOk result (λ lines. FillsTelling telling.verbose telling.warns telling.partial
         telling.names (I.opens inputs.now) (I.manner inputs.now) (I.offer inputs.now) list.now
         builder.old.state builder.new.state (E.contents err.old) (E.contents err.new)

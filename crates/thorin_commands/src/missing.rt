@@ -4,7 +4,7 @@
 ghost use Rattle.std.specs.Prelude.{◌≡◌, ◌≤◌, OnOk, IfOk, IfErr};
 ghost use Rattle.thorin_output.specs.Warnings.{IsPrinted};
 ghost use Rattle.thorin_print.specs.Answers.{FailsBy};
-ghost use Rattle.thorin_commands.specs.Packing.{left};
+ghost use Rattle.thorin_commands.specs.Opened.{left};
 ghost use Rattle.thorin_commands.specs.Warned.{IsLeftLine, TellLeft, TellsLeft, missing_in};
 
 use crate::packing::{Packing, paths_in};
@@ -192,7 +192,7 @@ fn list_of<I: Inputs, W: Write>(
     let path = Path::new(executable);
     let mut room = Vec::new(alloc);
     inputs.begin(Input::Executable(path, MissingReferencedObjectBehaviour::Skip));
-    let listed = match inputs.read_into(path, &mut room) {
+    let listed = match inputs.read_into(true, path, &mut room) {
         Ok(bytes) => list_read(alloc, inputs, bytes, nameless, seen, lines),
         Err(why) => Err(Unlisted::Refused(NotTaken::from(why), None)),
     };

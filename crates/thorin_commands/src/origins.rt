@@ -1,7 +1,7 @@
 //! Which input brought a unit of the package.
 
 ghost use Rattle.std.specs.Prelude.{◌≡◌};
-ghost use Rattle.thorin_commands.specs.Warned.{unit_count};
+ghost use Rattle.thorin_commands.specs.Opened.{unit_count};
 
 use dwp_bytes::RelocationEntry;
 use dwp_table::{DebugTypeSignature, DwarfObject, DwoId};

@@ -361,9 +361,9 @@ fn packed_by<I: Inputs, E: LineOutput>(
     requires asked { map asked list.now ≡ asks packing.now }
     requires opens { I.opens inputs.now ≡ packing.now.opens_archives }
     requires manner { I.manner inputs.now ≡ manner_of packing.now }
-    ensures made { IfOk result (λ made. IsMadeFor (TellsInputs packing.now) (I.offer inputs.now)
-        packing.now (E.contents err.old) (E.contents err.new) made.0 made.1.items
-        (string_bytes made.2)) }
+    ensures made { IfOk result (λ made. IsMadeFor
+        (TellsInputs (I.offer inputs.now) packing.now) (I.offer inputs.now) packing.now
+        (E.contents err.old) (E.contents err.new) made.0 made.1.items (string_bytes made.2)) }
     ensures told { IfErr result (Refuses E.contents E.failed err.new (IsCauseFor
         (I.offer inputs.now) (I.declines inputs.now) packing.now)) }
 {

@@ -12,7 +12,7 @@ ghost use Rattle.thorin_inputs.specs.Prefixes.{mapped as mapped_path};
 ghost use Rattle.thorin_commands.specs.Packing.{IsAmong, declines, manner_of, paths_in};
 ghost use Rattle.thorin_commands.specs.Packing.{read_through, reads};
 ghost use Rattle.thorin_commands.specs.Taken.{DeclinesBytes, DeclinesPlain, HasOverlap, IsPlainFor};
-ghost use Rattle.thorin_commands.specs.Taken.{IsReadInto};
+ghost use Rattle.thorin_commands.specs.Taken.{IsReadInto, MayRepeat};
 ghost use Rattle.thorin_commands.specs.Warned.{TellsMacros};
 
 use crate::asked::{executable_of, given_places};
@@ -49,8 +49,6 @@ pub(crate) struct InputFiles<'f, F> {
     places: Places<'f>,
     /// What is warned of where several of an object's sections of macros count.
     macros: MacroWarnings,
-    /// Whether the next read is that of an input's own path.
-    begins: Cell<bool>,
     /// The input's own path; that of the object that it names and that was read last, unless it was
     /// taken; and why the last read failed, if it did.
     own: Cell<Option<String>>,
@@ -89,7 +87,6 @@ impl<'f, F: FileSystem> InputFiles<'f, F> {
             prefixes,
             places,
             macros: MacroWarnings::new(alloc, packing.warns_of_macros),
-            begins: Cell::new(false),
             own: Cell::new(None),
             named: Cell::new(None),
             failure: Cell::new(None),
@@ -128,17 +125,18 @@ impl<'f, F: FileSystem> InputFiles<'f, F> {
         room: &mut Vec<u8>,
     ) -> Result<(), NotTaken<InputError, Growth>>
         ensures offered { IsReadInto (read_through self.now.packing.now (F.offer self.now.files.now)
-            (path_bytes path.entry)) self.now.packing.now.allows_overlap room.new.items result }
+            (path_bytes path.entry)) (MayRepeat self.now.packing.now.allows_overlap is_own)
+            room.new.items result }
         ensures memory { OnFailed result IsNoWantOfMemory }
     {
         if paths_in(self.packing.prefix_maps).is_empty() {
             return self.read_at(is_own, path, room);
         }
         if is_own && self.is_given(path.path_text()) {
-            return self.read_at(true, path, room);
+            return self.read_at(is_own, path, room);
         }
         let mapped = self.with_prefix_replaced(path.path_text())?;
-        self.read_at(false, Path::new(mapped.as_str()), room)
+        self.read_at(is_own, Path::new(mapped.as_str()), room)
     }
 
     /// Reads the file at a path, and keeps for notes what becomes of that.
@@ -149,7 +147,7 @@ impl<'f, F: FileSystem> InputFiles<'f, F> {
         room: &mut Vec<u8>,
     ) -> Result<(), NotTaken<InputError, Growth>>
         ensures offered { IsReadInto (F.offer self.now.files.now (path_bytes path.entry))
-            self.now.packing.now.allows_overlap room.new.items result }
+            (MayRepeat self.now.packing.now.allows_overlap is_own) room.new.items result }
         ensures memory { OnFailed result IsNoWantOfMemory }
     {
         self.keep_path(is_own, path.path_text());
@@ -168,14 +166,14 @@ impl<'f, F: FileSystem> InputFiles<'f, F> {
         }
     }
 
-    /// Whether a file that was read may be added: an object of an executable may be one that was
-    /// read before by another path.
+    /// Whether a file that was read may be added: the input's own always; an object of an executable
+    /// may be one that was read before by another path.
     ///
     /// # Errors
     /// Want of memory.
     fn admits_file(&self, is_own: bool, path: &str, file: &[u8]) -> Result<bool, AllocError>
         ensures { IfOk result (λ admits.
-            admits ≡ false → self.now.packing.now.allows_overlap ≡ false) }
+            admits ≡ false → MayRepeat self.now.packing.now.allows_overlap is_own) }
     {
         if self.packing.allows_overlap {
             return Ok(true);
@@ -353,10 +351,10 @@ impl<F: FileSystem> InputReader for InputFiles<'_, F> {
 
     fn read_into<'b>(
         &'b self,
+        is_own: bool,
         path: Path<'_>,
         room: &'b mut Vec<u8>,
     ) -> Result<&'b [u8], NotTaken<InputError, Growth>> {
-        let is_own = self.begins.replace(false);
         let is_executable = is_own && self.is_executable.get();
         self.read(is_own, path, room)?;
         let plain = self.plain(is_executable, room)?;
@@ -425,7 +423,6 @@ impl<F: FileSystem> Inputs for InputFiles<'_, F> {
     }
 
     fn begin(&self, input: Input<'_>) {
-        self.begins.set(true);
         self.named.set(None);
         self.failure.set(None);
         let mut absent = self.absent_units();

@@ -18,8 +18,8 @@ use thorin_print::Failure;
 /// What reads inputs, and tells of them. It declines those that would make the package larger than
 /// its files.
 pub(crate) trait Inputs: InputReader<Refusal = Growth> {
-    /// Begins an input: the next read is that of its own path. Those behind it are of objects that
-    /// the input names, and these must be regular files: a read of another may wait for ever.
+    /// Begins an input. The objects that it names must be regular files: a read of another may wait
+    /// for ever.
     fn begin(&self, input: Input<'_>);
 
     // Whether archives are opened, and how inputs are taken.

@@ -1,5 +1,7 @@
 //! Which files may be added that are named again: what was counted is kept behind a `&`.
 
+ghost use Rattle.std.specs.Prelude.{◌≡◌, false, IfOk};
+
 use std::alloc::{AllocError, Global};
 use std::cell::Cell;
 use thorin_inputs::Repetitions;
@@ -39,16 +41,17 @@ impl Repeated {
         is_own: bool,
         path: &str,
         file: &[u8],
-    ) -> Result<bool, AllocError> {
+    ) -> Result<bool, AllocError>
+        ensures { IfOk result (λ admits. admits ≡ false → is_own ≡ false) }
+    {
         let mut repetitions = self.take();
-        let admits = if is_own {
-            match repetitions.count_own(files.identity(path), file.len()) {
-                Ok(()) => Ok(true),
-                Err(AllocError) => Err(AllocError),
-            }
-        } else {
-            repetitions.admits_object(files.object_identity(path), file.len())
-        };
+        if is_own {
+            let counted = repetitions.count_own(files.identity(path), file.len());
+            self.counted.set(repetitions);
+            counted?;
+            return Ok(true);
+        }
+        let admits = repetitions.admits_object(files.object_identity(path), file.len());
         self.counted.set(repetitions);
         admits
     }

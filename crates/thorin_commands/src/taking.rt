@@ -8,8 +8,9 @@ ghost use Rattle.thorin_output.specs.Warnings.{IsPrinted};
 ghost use Rattle.thorin_print.specs.Answers.{FailsBy};
 ghost use Rattle.thorin_commands.specs.Cause.{IsNotTaken, IsRefused, IsUntaken, Refuses};
 ghost use Rattle.thorin_commands.specs.Cause.{StopsAt};
-ghost use Rattle.thorin_commands.specs.Opened.{TookAll, TookInputs};
-ghost use Rattle.thorin_commands.specs.Warned.{TellsAdded, TellsTaking, path_of, unit_count};
+ghost use Rattle.thorin_commands.specs.Made.{TookTelling};
+ghost use Rattle.thorin_commands.specs.Opened.{TookAll, unit_count};
+ghost use Rattle.thorin_commands.specs.Warned.{TellsAdded, path_of};
 
 use crate::archives::take_opened;
 use crate::origins::{Holding, Origin, now_in, place_of_refused, unit_count};
@@ -19,7 +20,6 @@ use crate::telling::{Refused, Telling, lack_of, tell_refused, told};
 use dwp_bytes::RelocationEntry;
 use std::alloc::AllocError;
 use std::path::AsPath;
-use thorin::laws::runs_go_on;
 use thorin::{DwarfPackage, Input, NotTaken, take_input};
 use thorin_errors::Error;
 use thorin_inputs::{Growth, Lack};
@@ -35,16 +35,13 @@ pub(crate) fn take_all<'o, 's: 'o, Sess: Session<RelocationEntry>, I: Inputs, E:
     telling: Telling,
     err: &mut E,
 ) -> Result<Vec<Lack>, Refusal>
-    ensures took { OnOk result (TookInputs (I.opens inputs.now) (I.manner inputs.now)
-        (I.offer inputs.now) list.now builder.old.state builder.new.state) }
-    ensures lines { IfOk result (λ lacks. IsPrinted (E.contents err.old) (E.contents err.new)
-        (TellsTaking telling.verbose list.now (unit_count builder.old.state)
-        (unit_count builder.new.state) lacks.items)) }
+    ensures took { IfOk result (λ lacks. TookTelling telling.verbose (I.opens inputs.now)
+        (I.manner inputs.now) (I.offer inputs.now) list.now builder.old.state builder.new.state
+        (E.contents err.old) (E.contents err.new) lacks.items) }
     ensures told { IfErr result (Refuses E.contents E.failed err.new (StopsAt (I.opens inputs.now)
         (I.manner inputs.now) (I.offer inputs.now) (I.declines inputs.now) list.now
         builder.old.state)) }
 {
-    runs_go_on(inputs);
     let mut room = Vec::new(telling.alloc);
     let mut lacks = Vec::new(telling.alloc);
     for input in list {

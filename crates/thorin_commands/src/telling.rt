@@ -9,8 +9,9 @@ ghost use Rattle.thorin_inputs.specs.declared.notes.Lack.TheVariants.{Types};
 ghost use Rattle.thorin_output.specs.Warnings.{IsPrinted};
 ghost use Rattle.thorin_print.specs.Answers.{FailsBy, Grows};
 ghost use Rattle.thorin_commands.specs.Cause.{HasLine, Tells, refusal_text, told_text};
+ghost use Rattle.thorin_commands.specs.Opened.{unit_count};
 ghost use Rattle.thorin_commands.specs.Warned.{TellUnsplitBy, TellsAdded, TellsUnsplit};
-ghost use Rattle.thorin_commands.specs.Warned.{path_of, unit_count, unit_line, unsplit_line};
+ghost use Rattle.thorin_commands.specs.Warned.{path_of, unit_line, unsplit_line};
 
 use crate::asked::executable_of;
 use crate::origins::unit_count;
@@ -114,7 +115,7 @@ fn lack_at<I: Inputs>(alloc: Global, inputs: &I, input: Input<'_>, path: Path<'_
     }
     let mut room = Vec::new(alloc);
     inputs.begin(input);
-    match inputs.read_into(path, &mut room) {
+    match inputs.read_into(true, path, &mut room) {
         Ok(bytes) => Lack::of(bytes, true),
         Err(_) => Lack::Unknown,
     }

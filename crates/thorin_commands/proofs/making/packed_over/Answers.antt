@@ -1,20 +1,18 @@
-use Rattle.std.proofs.Common.{◌≡◌, ◌∙◌, Bool, true, false, refl, Ok, ap, map}
-use Rattle.thorin_join.specs.Builder.{State, start, differing_in}
+use Rattle.std.proofs.Common.{◌≡◌, ◌∙◌, Bool, true, false, refl, ap}
+use Rattle.thorin_join.specs.Builder.{State, differing_in}
 use Rattle.thorin_join.specs.Represents.{units_in}
-use Rattle.thorin_builder.specs.Taking.{Outcome}
-use Rattle.thorin.specs.declared.packing.Input.{Input}
-use Rattle.thorin_commands.specs.Packing.{left}
+use Rattle.thorin_commands.specs.Opened.{left}
 use Rattle.thorin_commands.proofs.Causes.{err_by, finishing, refuses_by, taking}
-use Rattle.thorin_commands.proofs.Made.{differing_left, if_made, if_refused, never_empty, told_some}
+use Rattle.thorin_commands.proofs.Made.{differing_left, if_made, if_refused, never_empty}
+use Rattle.thorin_commands.proofs.Made.{none_began}
+use Rattle.thorin_commands.proofs.Opened.{all_joined}
+use Rattle.thorin_commands.proofs.Warned.{printed_as}
 use Rattle.thorin_commands.proofs.making.packed_over.Goals as goal
 
 -- a package without the list of units that executables refer to has the same units
 units_left : (partial : Bool) (state : State) → units_in (left partial state) ≡ units_in state
 units_left true state = refl
 units_left false state = refl
-
-pub fill-requires : goal.fill-requires
-fill-requires g c = rw c.new-builder.ensures.state refl
 
 pub returns-in-Ok-clause-made : goal.returns-in-Ok-clause-made
 returns-in-Ok-clause-made g c =
@@ -23,7 +21,6 @@ returns-in-Ok-clause-made g c =
     let state = filled.fills.state in
     let done = c.fill.new.builder.state in
     let partial = c.args.telling.partial in
-    let outcome : Input → Outcome = λ i. Ok tt in
     let now : done ≡ left partial state = filled.fills.rest in
     let units : units_in done ≡ units_in state = ap units_in now ∙ units_left partial state in
     let differ : differing_in done ≡ differing_in state =
@@ -31,18 +28,12 @@ returns-in-Ok-clause-made g c =
     if_made c.finished.result
     (λ made finished packaged differing lines kept. record {
       packed = record {
-        taken = took.list;
-        stand = took.stand;
-        packed = record {
-          state = state;
-          accepted = took.accepted;
-          ran = took.ran;
-          joined = c.runs_go_on.ensures.joined took.list start state (map outcome took.list)
-              took.accepted took.ran;
-          tested = rw now at finished.0;
-          finished = rw now at finished.1;
-          package_of = rw units at packaged;
-        };
+        state = state;
+        took = took;
+        joined = all_joined c.runs_go_on.ensures.joined took;
+        tested = rw now at finished.0;
+        finished = rw now at finished.1;
+        package_of = rw units at packaged;
       };
       told = rw kept filled.told;
       differ = differing ∙ differ;
@@ -55,8 +46,13 @@ pub returns-in-Ok-clause-tried : goal.returns-in-Ok-clause-tried
 returns-in-Ok-clause-tried g c =
     let filled = rw c.new-builder.ensures.state at c.in-Ok.ensures.fills in
     if_refused c.finished.result
-    (λ refusal kept e. rw (kept e) (told_some filled.fills.state _ _ filled.told))
-    c.finished.ensures.empty
+    (λ refusal kept told e. rw (kept e) (printed_as (λ x t. record {
+      state = filled.fills.state;
+      took = filled.fills.took;
+      unbegun = none_began (rw (e, filled.fills.rest) at told);
+      tells = t;
+    }) filled.told))
+    c.finished.ensures.empty c.finished.ensures.told
 
 pub returns-in-Ok-clause-told : goal.returns-in-Ok-clause-told
 returns-in-Ok-clause-told g c =

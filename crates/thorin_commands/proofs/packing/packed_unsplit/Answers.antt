@@ -16,7 +16,8 @@ returns-clause-made g c =
     if_ok_as c.packed_inputs.result (λ made it. made_for
     (TellsTaken false false c.args.packing.now.partial) c.args.packing.now c.as_slice.result.now
     c.requires.opens c.requires.manner c.tells_differences.ensures
-    (inr (c.requires.allowed, rw first are)) (λ state text t. t) it) c.packed_inputs.ensures.made
+    (inr (c.requires.allowed, rw first are)) (λ added state text t. t) it)
+    c.packed_inputs.ensures.made
 
 pub returns-clause-told : goal.returns-clause-told
 returns-clause-told g c = told_unsplit g.E.LineOutput.contents g.E.LineOutput.failed

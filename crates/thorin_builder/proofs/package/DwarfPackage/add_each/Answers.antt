@@ -1,6 +1,6 @@
-use Rattle.thorin_builder.proofs.Terms.{err_from_is_err_and, inr, refl, rules, ◌∙◌}
+use Rattle.thorin_builder.proofs.Terms.{Err, err_from_is_err_and, inr, refl, rules, ◌∙◌}
 use Rattle.thorin_builder.proofs.Running.{none-taken, next-taken, next-refused, list-ended}
-use Rattle.thorin_builder.proofs.Running.{list-error}
+use Rattle.thorin_builder.proofs.Running.{declined-as, list-error, next-declined}
 use Rattle.thorin_builder.proofs.package.DwarfPackage.add_each.Goals as goal
 
 pub loop-known-init : goal.loop-known-init
@@ -45,3 +45,18 @@ pub returns-clause-taken : goal.returns-clause-taken
 returns-clause-taken g c =
     let end = rw c.in_default.is at c.in_ok-unit.ensures.next in
     list-ended _ _ _ _ _ _ c.loop-known.invariant.0 end.0
+
+pub returns-in-Err-clause-declined : goal.returns-in-Err-clause-declined
+returns-in-Err-clause-declined g c =
+    let first = rw c.in-Some.is at c.in_ok-unit.ensures.next in
+    next-declined _ _ _ _ _ _ c.loop-known.invariant.0 _ _ first c.in-Err.why
+    (rw c.path.ensures at c.in-Err.ensures)
+
+pub returns-in_err-add_skeleton-clause-declined : goal.returns-in_err-add_skeleton-clause-declined
+returns-in_err-add_skeleton-clause-declined g c =
+    let first = rw c.in-Some.is at c.in_ok-unit.ensures.next in
+    let p = err_from_is_err_and c.from_residual-in_err-add_skeleton.result
+    c.from_residual-in_err-add_skeleton.ensures.1 in
+    rw (p.1, p.2) (declined-as (Err c.in_err-add_skeleton.field-0.0)
+    (next-declined _ _ _ _ _ _ c.loop-known.invariant.0 _ _ first)
+    (rw c.path.ensures at c.in_err-add_skeleton.ensures.declined))

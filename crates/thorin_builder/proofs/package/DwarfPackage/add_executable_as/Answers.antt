@@ -1,6 +1,6 @@
-use Rattle.thorin_builder.proofs.Terms.{[], Err, err_from_is_err_and, Ok, refl}
+use Rattle.thorin_builder.proofs.Terms.{[], Err, err_from_is_err_and, inl, inr, Ok, refl, true}
 use Rattle.std.specs.Path.{path_bytes}
-use Rattle.thorin_builder.proofs.Running.{declined-some, may-read, unread-declined, unread-error}
+use Rattle.thorin_builder.proofs.Running.{declined-as, may-read, unread-declined, unread-error}
 use Rattle.thorin_builder.specs.Reading.{input_error_in, unread}
 use Rattle.thorin_builder.proofs.package.DwarfPackage.add_executable_as.Goals as goal
 
@@ -12,7 +12,7 @@ returns-in_err-bytes-clause-taken g c =
     rw (p.1, p.2, unread-error why) (record {
       read = Err (input_error_in why);
       within = may-read (g.R.InputReader.offer c.args.reader.now path)
-          (g.R.InputReader.declines c.args.reader.now path) why c.in_err-bytes.ensures.read;
+          (g.R.InputReader.declines c.args.reader.now true path) why c.in_err-bytes.ensures.read;
       accepted = [];
       taken = (refl, (refl, refl));
     })
@@ -21,9 +21,9 @@ pub returns-in_err-bytes-clause-declined : goal.returns-in_err-bytes-clause-decl
 returns-in_err-bytes-clause-declined g c =
     let path = path_bytes c.args.path in
     let why = c.in_err-bytes.field-0.0 in
-    let declines = g.R.InputReader.declines c.args.reader.now in
+    let declines = g.R.InputReader.declines c.args.reader.now true in
     let p = err_from_is_err_and c.from_residual.result c.from_residual.ensures.1 in
-    rw (p.1, p.2) (declined-some (Err (unread why)) declines path
+    rw (p.1, p.2) (declined-as (Err (unread why)) (λ d h. inl h)
     (unread-declined (g.R.InputReader.offer c.args.reader.now path) (declines path) why
     c.in_err-bytes.ensures.read))
 
@@ -34,3 +34,8 @@ returns-clause-taken g c = record {
   accepted = c.add_named.ensures.taken.0;
   taken = c.add_named.ensures.taken.1;
 }
+
+pub returns-clause-declined : goal.returns-clause-declined
+returns-clause-declined g c = declined-as c.add_named.result
+    (λ why h. inr (c.in_ok-bytes.bytes.now, c.in_ok-bytes.ensures.read, h))
+    c.add_named.ensures.declined

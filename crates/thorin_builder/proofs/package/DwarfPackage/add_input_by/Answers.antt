@@ -1,5 +1,5 @@
 use Rattle.thorin_builder.proofs.Terms
-use Terms.{[], accepted_of, Err, err_from_is_err_and, Ok, refl, rules}
+use Terms.{[], accepted_of, Err, err_from_is_err_and, Ok, refl, rules, true}
 use Rattle.std.specs.Path.{path_bytes}
 use Rattle.thorin_builder.proofs.Running.{may-read, unread-declined, unread-error}
 use Rattle.thorin_builder.specs.Reading.{input_error_in}
@@ -13,7 +13,7 @@ returns-in_err-bytes-clause-taken g c =
     rw (p.1, p.2, unread-error why) (record {
       read = Err (input_error_in why);
       within = may-read (g.R.InputReader.offer c.args.reader.now path)
-          (g.R.InputReader.declines c.args.reader.now path) why c.in_err-bytes.ensures.read;
+          (g.R.InputReader.declines c.args.reader.now true path) why c.in_err-bytes.ensures.read;
       accepted = [];
       taken = (refl, (refl, refl));
     })
@@ -23,7 +23,7 @@ returns-in_err-bytes-clause-declined g c =
     let path = path_bytes c.args.path in
     let p = err_from_is_err_and c.from_residual.result c.from_residual.ensures.1 in
     rw (p.1, p.2) (unread-declined (g.R.InputReader.offer c.args.reader.now path)
-    (g.R.InputReader.declines c.args.reader.now path) c.in_err-bytes.field-0.0
+    (g.R.InputReader.declines c.args.reader.now true path) c.in_err-bytes.field-0.0
     c.in_err-bytes.ensures.read)
 
 pub returns-clause-taken : goal.returns-clause-taken
