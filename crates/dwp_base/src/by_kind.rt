@@ -14,7 +14,7 @@ pub struct ByKind<T> {
 }
 
 impl<T: Copy> ByKind<T> {
-    /// The same value for each kind.
+    /// One value for every kind.
     #[inline(always)]
     pub fn same(value: T) -> ByKind<T>
         ensures values { values_of result ≡ replicate 13 value }

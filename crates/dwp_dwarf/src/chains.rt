@@ -404,7 +404,7 @@ impl Chains {
     }
 }
 
-/// The same number, where 32 bits are enough for it.
+/// A number in 32 bits, where these are enough for it.
 fn in_32_bits(number: u64) -> Option<u32>
     ensures { IfSome result (λ same. same ≡ number) }
 {

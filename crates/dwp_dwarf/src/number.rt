@@ -28,7 +28,7 @@ pub(crate) fn number_read<R: Reader>(
     Ok(None)
 }
 
-/// The same by a list of the attributes.
+/// The first number of an attribute of a name, where the attributes are a list.
 pub(crate) fn number_listed<R: Reader>(
     list: &[AttributeSpecification],
     encoding: Encoding,

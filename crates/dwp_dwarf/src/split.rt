@@ -92,7 +92,7 @@ pub(crate) fn split_read<R: Reader>(
     Ok(found)
 }
 
-/// The same by a list of the attributes.
+/// Those of an entry whose attributes are a list, up to the first error.
 #[tactic(auto, unfolding(crate::specs::Split::split_in))]
 pub(crate) fn split_listed<R: Reader>(
     list: &[AttributeSpecification],

@@ -89,7 +89,7 @@ pub fn append_to(
     }
 }
 
-/// The same of bytes that are moved: where they are the first of their kind, nothing is copied.
+/// What `append_to` does, of bytes that are moved: the first of their kind are not copied.
 pub fn move_to(
     sections: &mut Vec<(SectionKind, Vec<u8>)>,
     kind: SectionKind,

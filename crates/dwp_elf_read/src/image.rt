@@ -36,7 +36,7 @@ pub(crate) fn entry_size_of(class: Class) -> usize
 }
 
 impl<'a> Image<'a> {
-    /// The same for other bytes of the file.
+    /// An image of other bytes of the file, of its class and byte order.
     pub fn with_bytes<'b>(&self, bytes: &'b [u8]) -> Image<'b>
         ensures { result ≡ record {
           class = self.now.class;

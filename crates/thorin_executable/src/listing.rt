@@ -123,7 +123,7 @@ fn skeleton_of<R: Reader>(
     }
 }
 
-/// The same of the unit that was read next.
+/// The skeleton of the unit that was read next.
 #[tactic(auto, unfolding(crate::specs::Skeletons::skeleton_read))]
 fn skeleton_read<R: Reader>(
     last: &mut LastPath,
@@ -247,7 +247,7 @@ impl<R: Reader> UnitsLeft<R> {
         self.last.text.as_str()
     }
 
-    /// The same, handed out.
+    /// The path, handed out.
     fn take_path(&mut self) -> String
         ensures path { string_bytes result ≡ self.old.path }
         ensures listed { self.new.listed ≡ self.old.listed }

@@ -134,7 +134,7 @@ fn root_identifier<R: Reader>(
     entry_identifier(abbreviation.entry(header.encoding(), values))
 }
 
-/// The same by what is remembered.
+/// The identifier in the root entry of a compile unit, by the abbreviations that are remembered.
 fn root_identifier_remembering<R: Reader>(
     debug_abbrev: &mut AbbreviationCache<R>,
     header: &UnitHeader<R>,
@@ -201,7 +201,8 @@ fn part_of<R: Reader>(section: R, start: usize, end: usize) -> R
     part
 }
 
-/// The same of a unit whose abbreviations stand at that offset of the section, not at its own.
+/// The identifier in the root entry of a compile unit whose abbreviations stand at that offset of
+/// the section, not at its own.
 #[tactic(auto, unfolding(crate::specs::Identity::root_identity))]
 fn root_identifier_at<R: Reader>(
     debug_abbrev: &mut AbbreviationCache<R>,

@@ -166,7 +166,7 @@ impl<'a> RangeTables<'a> {
         }
     }
 
-    /// The same by the tables of the range.
+    /// What `identifier` says of a unit that its root entry names, by the tables of the range.
     fn by_tables(
         &mut self,
         start: usize,

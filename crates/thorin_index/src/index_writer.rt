@@ -55,7 +55,7 @@ pub fn write_index(
     write_rows(alloc, endianness, &rows)
 }
 
-/// The same of rows.
+/// Writes the index of rows, as `write_index` that of entries.
 ///
 /// # Errors
 /// Those of `write_index`.

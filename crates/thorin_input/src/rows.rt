@@ -194,7 +194,7 @@ pub fn unit_row(
     }
 }
 
-/// The same in a package.
+/// The row of a unit of a package, as `unit_row` says.
 fn packaged_row(indexes: &Indexes<'_>, whole: &Whole, unit: Numbered) -> Result<IndexEntry, Error>
     requires number { unit.number
         ≡ looked_up (index_for (view.indexes indexes.now) unit.name) (identifier_of unit.name) }

@@ -42,7 +42,7 @@ pub fn remap_packaged_offsets(
     rewritten(alloc, strings, &ranges, section)
 }
 
-/// The same of ranges that passed the tests.
+/// Rewrites the ranges, which passed the tests.
 fn rewritten(
     alloc: Global,
     strings: &mut PackageStringTable,
