@@ -290,7 +290,8 @@ impl<'a> SkeletonUnits<'a> {
         Self::read_by(alloc, session, bytes, NamelessUnits::Refused)
     }
 
-    /// The same, where a unit that names no object is refused or passed over, as is asked for.
+    /// Begins as `read` does, where a unit that names no object is refused or passed over, as is
+    /// asked for.
     ///
     /// # Errors
     /// Those of `read`.
