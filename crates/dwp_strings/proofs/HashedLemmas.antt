@@ -31,26 +31,24 @@ abbrev pub IsFoundIn : Entries → ℕ → ℕ → Type 0
 IsFoundIn e h n = IsFound e.places.slots.items e.places.size e.places.is_full e.ordered h n
 
 -- there are no more strings than bytes, so that one more can be counted
-pub entries_few : (e : Entries) → IsHashed e → (e.count + 1 < 2 ^ 64)
-    × (length e.ordered + 1 < 2 ^ 64)
-entries_few e table =
+pub entries_few : (e : Entries) → IsHashed e → length e.bytes < 2 ^ 63
+    → (e.count + 1 < 2 ^ 64) × (length e.ordered + 1 < 2 ^ 64)
+entries_few e table small =
     let ended = ap length table.findable.indexed.ended in
-    let long : length (held e) ≤ e.bytes.len =
-    omega (arith, strings_few (held e), ended, e.bytes.ok.0) in
-    let small = e.bytes.small in
+    let few : length (held e) ≤ length e.bytes = omega (arith, strings_few (held e), ended) in
     (omega (arith, table.counted), omega (arith, positions_few _ _ table.findable.indexed))
 
 module _ (e : Entries) (table : IsHashed e) where
   -- a string of the section stands where its offset says
-  stands_there : (s : List ℕ) → Contains (held e) s → BeginsAt e.bytes.items (offset_of (held e) s)
-      × (string_from e.bytes.items (offset_of (held e) s) ≡ s)
+  stands_there : (s : List ℕ) → Contains (held e) s → BeginsAt e.bytes (offset_of (held e) s)
+      × (string_from e.bytes (offset_of (held e) s) ≡ s)
   stands_there s there =
-      let free = All-contains IsZeroFree (held e) s (zero_free-strings_in e.bytes.items) there in
+      let free = All-contains IsZeroFree (held e) s (zero_free-strings_in e.bytes) there in
       let begins = begins_there (held e) s free in
       grind (arith, table.findable.indexed.ended, begins, has_Decides (held e) s)
 
   -- a string begins where one is said to
-  pub begins_at_offset : (p : ℕ) → Contains (offsets_from 0 (held e)) p → BeginsAt e.bytes.items p
+  pub begins_at_offset : (p : ℕ) → Contains (offsets_from 0 (held e)) p → BeginsAt e.bytes p
   begins_at_offset p there =
       let ss = held e in
       let at = offset_of-at ss 0 there.0 [] p table.findable.indexed.distinct in
@@ -73,17 +71,17 @@ module _ (e : Entries) (table : IsHashed e) (s : List ℕ) (h : ℕ) (is_hash : 
 
   -- nor one that doesn't stand at the place of its hash, where strings don't share that
   pub misplaced : (p : ℕ) → place_in e h ≡ Some p → p ≢ shared
-      → (BeginsAt e.bytes.items p × (string_from e.bytes.items p ≡ s) → ⊥) → Contains (held e) s → ⊥
+      → (BeginsAt e.bytes p × (string_from e.bytes p ≡ s) → ⊥) → Contains (held e) s → ⊥
   misplaced p has own other there =
       grind (arith, found_at there, stands_there e table s there, other)
 
   -- nor one that isn't among those in order, where it is looked for there
   pub unordered : (r : ℕ) → IsOrdered e.places.slots.items e.places.size e.places.is_full h
-      → StandsAt e.bytes.items e.ordered s r → Contains (held e) s → ⊥
+      → StandsAt e.bytes e.ordered s r → Contains (held e) s → ⊥
   unordered r leads stands there =
       let here = stands_there e table s there in
       let apart : Contains e.ordered (offset_of (held e) s) → ⊥ =
-      λ among. stands_apart e.bytes.items e.ordered s r _ stands among here.1 in
+      λ among. stands_apart e.bytes e.ordered s r _ stands among here.1 in
       grind (arith, found_at there, leads, apart)
 
 -- what is found among entries is so among others
@@ -125,9 +123,15 @@ found_each e new table more = λ k less.
     let among = Contains-get_or offsets k 0 in
     grind (arith, next, among, length-map, length-offsets_from, table.findable.found k)
 
+-- bytes without those that were appended
+pub taken_back : (bytes more longer now : List ℕ) (n : ℕ) → longer ≡ bytes ++ more
+    → n ≡ length bytes → now ≡ take n longer → now ≡ bytes
+taken_back bytes more longer now n is long taken =
+    taken ∙ ap (take n) is ∙ take_at bytes more n (sym long)
+
 -- the strings stay, and are found in another way
-pub hashed_kept : (e new : Entries) → IsHashed e → new.bytes.items ≡ e.bytes.items
-    → new.count ≡ e.count → IsIndexed e.bytes.items new.ordered → Carries e new → IsHashed new
+pub hashed_kept : (e new : Entries) → IsHashed e → new.bytes ≡ e.bytes
+    → new.count ≡ e.count → IsIndexed e.bytes new.ordered → Carries e new → IsHashed new
 hashed_kept e new table is_new is_count indexed more = record {
   findable = rw is_new (record { indexed = indexed; found = found_each e new table more });
   counted = grind (arith, is_count, table.counted, is_new);
@@ -146,17 +150,16 @@ pub record IsAdded (e new : Entries) (s : List ℕ) (n : ℕ) : Type 0 where
   pub kept : take (length (held e)) (held new) ≡ held e
 
 pub added : (e new : Entries) (s : List ℕ) (h n : ℕ) → IsHashed e → IsZeroFree s → h ≡ hash s
-    → (Contains (held e) s → ⊥) → new.bytes.items ≡ e.bytes.items ++ terminated s
-    → n ≡ e.bytes.len → new.count ≡ e.count + 1
-    → IsIndexed (e.bytes.items ++ terminated s) new.ordered → Carries e new → IsFoundIn new h n
+    → (Contains (held e) s → ⊥) → new.bytes ≡ e.bytes ++ terminated s
+    → n ≡ length e.bytes → new.count ≡ e.count + 1
+    → IsIndexed (e.bytes ++ terminated s) new.ordered → Carries e new → IsFoundIn new h n
     → IsAdded e new s n
 added e new s h n table free is_hash absent is_new is_long is_count indexed more last =
     let ss = held e in
     let ended = table.findable.indexed.ended in
     let push : held new ≡ ss ++ s ∷ [] = ap strings_in is_new
-    ∙ (strings_push e.bytes.items s ended free).0 in
-    let long : n ≡ length e.bytes.items = omega (arith, is_long, e.bytes.ok.0) in
-    let far : 0 + length (data_of ss) ≡ n = omega (arith, ap length ended, long) in
+    ∙ (strings_push e.bytes s ended free).0 in
+    let far : 0 + length (data_of ss) ≡ n = omega (arith, ap length ended, is_long) in
     let related = related_push (IsFoundIn new) (map hash ss) (offsets_from 0 ss) h n
     (length-offsets_from 0 ss ∙ sym (length-map ss hash)) (found_each e new table more) last in
     record {
@@ -167,7 +170,7 @@ added e new s h n table free is_hash absent is_new is_long is_count indexed more
         };
         counted = grind (arith, is_count, table.counted, push, length-append);
       };
-      placed = used_new e.bytes.items new.bytes.items s n ended free is_new long absent;
+      placed = used_new e.bytes new.bytes s n ended free is_new is_long absent;
       kept = grind (arith, push, take_at);
     }
 

@@ -1,5 +1,6 @@
 pub mod Terms
 pub mod CompareLemmas
+pub mod CopyLemmas
 pub mod StringLemmas
 pub mod OffsetLemmas
 pub mod TableLemmas

@@ -13,3 +13,7 @@ pub record IsNear (bytes : List ℕ) (rounds end : ℕ) : Type 0 where
   pub few : steps ≤ rounds
   pub within : steps * 64 ≤ length bytes
   pub before : end < steps * 64
+
+-- a byte is the same in a copy
+abbrev pub IsCopied : List ℕ → List ℕ → ℕ → Type 0
+IsCopied bytes copy k = slice_index copy k ≡ slice_index bytes k

@@ -13,10 +13,10 @@ pub record IsFindable (bytes : List ℕ) (slots : List Slot) (size : ℕ) (is_fu
 
 -- the strings of entries
 abbrev pub held : Entries → List (List ℕ)
-held e = strings_in e.bytes.items
+held e = strings_in e.bytes
 
 -- they are found, and so many
 pub record IsHashed (e : Entries) : Type 0 where
-  pub findable : IsFindable e.bytes.items e.places.slots.items e.places.size e.places.is_full
+  pub findable : IsFindable e.bytes e.places.slots.items e.places.size e.places.is_full
       e.ordered
   pub counted : e.count ≡ length (held e)

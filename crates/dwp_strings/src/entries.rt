@@ -7,7 +7,7 @@ ghost use Rattle.dwp_strings.specs.Strings.{IsZeroFree, BeginsAt, IsPlaced};
 ghost use Rattle.dwp_strings.specs.Hashed.{held, IsHashed};
 ghost use Rattle.dwp_strings.specs.Places.{hash as hash_of, place_of, shared, IsNext, IsOrdered};
 
-use crate::ends::ends_at;
+use crate::buffer::Buffer;
 use crate::places::HashedPlaces;
 use crate::positions::Positions;
 use crate::search::{begins_at, search};
@@ -22,7 +22,7 @@ use std::alloc::{AllocError, Global};
 #[derive(Drop)]
 pub(crate) struct Entries {
     /// Each string and a zero byte.
-    pub bytes: Vec<u8>,
+    pub bytes: Buffer,
     pub count: usize,
     pub places: HashedPlaces,
     /// Where those begin that are found by their order, in that order.
@@ -33,10 +33,10 @@ impl Entries {
     /// No strings, which take no memory.
     pub fn new(alloc: Global) -> Self
         ensures table { IsHashed result }
-        ensures none { result.bytes.items ≡ [] }
+        ensures none { result.bytes ≡ [] }
     {
         Entries {
-            bytes: Vec::new(alloc),
+            bytes: Buffer::new(alloc),
             count: 0,
             places: HashedPlaces::new(alloc),
             ordered: Positions::new(alloc),
@@ -68,12 +68,11 @@ impl Entries {
         ensures err { OnErr result (held self.new ≡ held self.old) }
     {
         let place = self.bytes.len();
-        self.bytes.reserve(string.len() + 1)?;
+        self.bytes.append(string)?;
         if !self.places.enter(hash, next, place) {
+            self.bytes.truncate(place);
             return Ok(None);
         }
-        self.bytes.extend_from_slice(string).unwrap();
-        self.bytes.push(0).unwrap();
         self.count += 1;
         Ok(Some(place))
     }
@@ -105,12 +104,11 @@ impl Entries {
             return Ok(None);
         }
         let last = self.bytes.len();
-        self.bytes.reserve(string.len() + 1)?;
+        self.bytes.append(string)?;
         if !self.places.give(hash, last) {
+            self.bytes.truncate(last);
             return Ok(None);
         }
-        self.bytes.extend_from_slice(string).unwrap();
-        self.bytes.push(0).unwrap();
         self.count += 1;
         Ok(Some(last))
     }
@@ -134,11 +132,13 @@ impl Entries {
         ensures kept { take (length (held self.old)) (held self.new) ≡ held self.old }
         ensures none { IsNone result → held self.new ≡ held self.old }
     {
-        if self.places.is_full || !ends_at(rest, end) {
+        if self.places.is_full {
             return None;
         }
         let place = self.bytes.len();
-        self.bytes.extend_from_slice(&rest[..end + 1]).ok()?;
+        if !self.bytes.append_guessed(rest, end) {
+            return None;
+        }
         if !self.places.enter(hash, next, place) {
             self.bytes.truncate(place);
             return None;
@@ -151,10 +151,10 @@ impl Entries {
     fn keep_ordered(&mut self, place: usize) -> Result<(), AllocError>
         requires table { IsHashed self.old }
         ensures table { IsHashed self.new }
-        ensures bytes { self.new.bytes.items ≡ self.old.bytes.items }
+        ensures bytes { self.new.bytes ≡ self.old.bytes }
         ensures places { self.new.places ≡ self.old.places }
         ensures count { self.new.count ≡ self.old.count }
-        ensures there { OnOk result (BeginsAt self.new.bytes.items place
+        ensures there { OnOk result (BeginsAt self.new.bytes place
             → Contains self.new.ordered place) }
     {
         let bytes = self.bytes.as_slice();
@@ -202,10 +202,11 @@ impl Entries {
             Err(rank) => rank,
         };
         let place = self.bytes.len();
-        self.bytes.reserve(string.len() + 1)?;
-        self.ordered.insert(rank, place as u64)?;
-        self.bytes.extend_from_slice(string).unwrap();
-        self.bytes.push(0).unwrap();
+        self.bytes.append(string)?;
+        if self.ordered.insert(rank, place as u64).is_err() {
+            self.bytes.truncate(place);
+            return Err(AllocError);
+        }
         self.count += 1;
         Ok(place)
     }

@@ -1,6 +1,7 @@
 //! The strings of a package, each kept once, and found by its hash, or else by its order.
 #![tactic(auto)]
 
+mod buffer;
 mod ends;
 mod entries;
 mod hash;

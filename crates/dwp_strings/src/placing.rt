@@ -32,7 +32,7 @@ impl StringTable {
         ensures err { OnErr result (self.new ≡ self.old) }
     {
         let next = self.next as usize;
-        if stands_at(&self.entries.bytes, next, string) {
+        if stands_at(self.entries.bytes.as_slice(), next, string) {
             self.next = behind(next, string.len());
             return Ok(next);
         }
@@ -40,7 +40,7 @@ impl StringTable {
         match self.entries.places.seek(hash) {
             Ok(place) if place == SHARED => {}
             Ok(place) => {
-                if stands_at(&self.entries.bytes, place, string) {
+                if stands_at(self.entries.bytes.as_slice(), place, string) {
                     self.next = behind(place, string.len());
                     return Ok(place);
                 }
@@ -77,7 +77,7 @@ impl StringTable {
     {
         if self.is_next {
             let next = self.next as usize;
-            if begins_alike(&self.entries.bytes, next, bytes, end) {
+            if begins_alike(self.entries.bytes.as_slice(), next, bytes, end) {
                 self.next = behind(next, end);
                 return Some(next);
             }
@@ -85,7 +85,7 @@ impl StringTable {
         let hash = hash_here(&bytes[..end]);
         let next = match self.entries.places.seek(hash) {
             Ok(place) => {
-                if begins_alike(&self.entries.bytes, place, bytes, end) {
+                if begins_alike(self.entries.bytes.as_slice(), place, bytes, end) {
                     self.is_next = place == self.next as usize;
                     self.next = behind(place, end);
                     return Some(place);

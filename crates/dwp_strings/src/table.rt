@@ -82,7 +82,7 @@ impl StringTable {
         ensures whole { result.now ≡ data_of self.now }
         ensures table { IsTable self.now }
     {
-        &self.entries.bytes
+        self.entries.bytes.as_slice()
     }
 
     /// The offset of a string, where the table has it, and how many strings were compared.
@@ -109,7 +109,7 @@ impl StringTable {
                 Err(_) => (None, found.compared),
             };
         }
-        if stands_at(&self.entries.bytes, place, string) {
+        if stands_at(self.entries.bytes.as_slice(), place, string) {
             (Some(place), 1)
         } else {
             (None, 1)
@@ -146,6 +146,6 @@ impl StringTable {
     {
         let StringTable { entries, .. } = self;
         let Entries { bytes, .. } = entries;
-        bytes
+        bytes.finish()
     }
 }

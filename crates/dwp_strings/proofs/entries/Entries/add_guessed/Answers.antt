@@ -6,29 +6,32 @@ use Rattle.dwp_strings.proofs.entries.Entries.add_guessed.Goals as goal
 use Rattle.std.proofs.lemmas.Grind.{common_steps, elements}
 
 pub overflow_add-self : goal.overflow_add-self
-overflow_add-self c = omega (arith, (entries_few c.args.self.now c.requires.table).0)
+overflow_add-self c = omega (
+  arith,
+  (entries_few c.args.self.now c.requires.table
+      c.len-place.ensures.small).0,
+)
 
 pub returns : goal.returns
 returns c =
     let e = c.args.self.now in
-    let bytes = c.extend_from_slice.new.self in
+    let bytes = c.append_guessed.new.self in
     let new = record e { bytes = bytes; count = e.count + 1; places = c.enter.new.self } in
     let s = take c.args.end c.args.rest.now in
     let table = c.requires.table in
-    let first : IsFirstZero c.args.rest.now c.args.end = c.if-not-ends_at.ensures refl in
+    let first : IsFirstZero c.args.rest.now c.args.end =
+    c.if-not-append_guessed.ensures.first refl in
     let free = ended_free c.args.rest.now c.args.end first in
     let ended = ended_take c.args.rest.now c.args.end first in
     let absent = unplaced e table s c.args.hash c.requires.hashed c.if-self.false c.requires.none in
     let done = added e new s c.args.hash _ table free c.requires.hashed absent
-    (grind (arith, ended, c.in_ok-ok.ensures.value)) c.len-place.ensures refl
-    (indexed_push e.bytes.items e.ordered s table.findable.indexed free absent)
+    (grind (arith, ended, c.if-not-append_guessed.ensures.appended refl))
+    c.len-place.ensures.value refl
+    (indexed_push e.bytes e.ordered s table.findable.indexed free absent)
     (carried_kept e new c.if-self.false c.enter.ensures.kept refl)
     (inl (c.if-not-enter.ensures.entered refl, c.if-not-enter.ensures.fits refl)) in
     let placed = rw (← ended_front c.args.rest.now c.args.end first) at done.placed in
     search rules
-
-pub ends_at-requires-clause-long : goal.ends_at-requires-clause-long
-ends_at-requires-clause-long c = search rules
 
 pub returns-then-not-enter-clause-kept : goal.returns-then-not-enter-clause-kept
 returns-then-not-enter-clause-kept c = grind (arith, common_steps)
@@ -38,6 +41,3 @@ returns-then-not-enter-clause-none c = grind (arith, common_steps)
 
 pub returns-then-self-clause-kept : goal.returns-then-self-clause-kept
 returns-then-self-clause-kept c = grind (arith, elements)
-
-pub returns-in_err-ok-clause-kept : goal.returns-in_err-ok-clause-kept
-returns-in_err-ok-clause-kept c = grind (arith, elements)

@@ -1,27 +1,36 @@
 use Rattle.std.proofs.lemmas.Grind.{elements}
 use Rattle.dwp_strings.proofs.Terms
-use Terms.{append_assoc, arith, BeginsAt, false≢true, inl, refl, rules, sym, ◌+◌, ◌∙◌}
+use Terms.{arith, BeginsAt, false≢true, inl, refl, rules, sym, ◌+◌, ◌∙◌}
 use Rattle.dwp_strings.proofs.HashedLemmas.{added, entries_few, misplaced, carried_over}
-use Rattle.dwp_strings.proofs.HashedLemmas.{begins_at_offset}
+use Rattle.dwp_strings.proofs.HashedLemmas.{begins_at_offset, taken_back}
 use Rattle.dwp_strings.proofs.TableLemmas.{indexed_push}
 use Rattle.dwp_strings.proofs.entries.Entries.add_over.Goals as goal
 
 pub overflow_add-self : goal.overflow_add-self
-overflow_add-self c = omega (arith, (entries_few c.args.self.now c.requires.table).0)
+overflow_add-self c = omega (
+  arith,
+  (entries_few c.args.self.now c.requires.table
+      c.len-last.ensures.small).0,
+)
 
 pub returns : goal.returns
 returns c =
     let e = c.args.self.now in
-    let new = record e { bytes = c.push.new.self; count = e.count + 1; places = c.give.new.self } in
+    let new = record e {
+      bytes = c.append.new.self;
+      count = e.count + 1;
+      places =
+          c.give.new.self;
+    } in
     let s = c.args.string.now in
     let table = c.requires.table in
-    let gone : BeginsAt e.bytes.items c.args.place → ⊥ = λ begins. false≢true
+    let gone : BeginsAt e.bytes c.args.place → ⊥ = λ begins. false≢true
     (sym c.if-begins_at.false ∙ c.begins_at.ensures.1 (rw c.as_slice.ensures.value begins)) in
     let absent = misplaced e table s c.args.hash c.requires.hashed c.args.place c.requires.has
     c.requires.own (λ here. gone here.0) in
     let done = added e new s c.args.hash _ table c.requires.zero_free c.requires.hashed absent
-    (grind (arith, append_assoc)) c.len-last.ensures refl
-    (indexed_push e.bytes.items e.ordered s table.findable.indexed c.requires.zero_free absent)
+    c.in_ok-append.ensures.ok c.len-last.ensures.value refl
+    (indexed_push e.bytes e.ordered s table.findable.indexed c.requires.zero_free absent)
     (carried_over e new c.args.hash c.args.place c.give.ensures.full refl c.requires.has
     c.give.ensures.others c.requires.own (λ begun. gone (begins_at_offset e table _ begun)))
     (inl (c.if-not-give.ensures.given refl _ c.requires.has, c.if-not-give.ensures.fits refl)) in
@@ -30,8 +39,11 @@ returns c =
 pub returns-then-begins_at-clause-kept : goal.returns-then-begins_at-clause-kept
 returns-then-begins_at-clause-kept c = grind (arith, elements)
 
-pub returns-in_err-reserve-clause-kept : goal.returns-in_err-reserve-clause-kept
-returns-in_err-reserve-clause-kept c = grind (arith, elements)
+pub returns-in_err-append-clause-kept : goal.returns-in_err-append-clause-kept
+returns-in_err-append-clause-kept c = grind (arith, elements)
 
 pub returns-then-not-give-clause-kept : goal.returns-then-not-give-clause-kept
-returns-then-not-give-clause-kept c = grind (arith, elements)
+returns-then-not-give-clause-kept c =
+    let back = taken_back c.args.self.now.bytes _ _ _ _ c.in_ok-append.ensures.ok
+    c.len-last.ensures.value c.truncate.ensures in
+    grind (arith, elements, back)

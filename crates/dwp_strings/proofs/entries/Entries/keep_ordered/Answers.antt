@@ -8,7 +8,8 @@ use Rattle.dwp_strings.proofs.Named.{string_was}
 use Rattle.dwp_strings.proofs.entries.Entries.keep_ordered.Goals as goal
 
 pub insert-requires-clause-small : goal.insert-requires-clause-small
-insert-requires-clause-small c = (entries_few c.args.self.now c.requires.table).1
+insert-requires-clause-small c = (entries_few c.args.self.now c.requires.table
+    c.as_slice-bytes.ensures.small).1
 
 pub returns-in-Ok-place-clause-there : goal.returns-in-Ok-place-clause-there
 returns-in-Ok-place-clause-there c = λ begins.
@@ -18,7 +19,7 @@ returns-in-Ok-place-clause-there c = λ begins.
     let found = rw (c.in-Ok-place.is, c.as_slice-bytes.ensures.value) at c.search.ensures.found in
     let among = rw c.in-Ok-place.is at c.search.ensures.there in
     let is = rw c.as_slice-bytes.ensures.value at (string_was _ _ _ c.in-Ok.ensures.meaning) in
-    let known = known_place_in e.bytes.items s c.args.place table.ended table.distinct begins is in
+    let known = known_place_in e.bytes s c.args.place table.ended table.distinct begins is in
     rw (found.1 ∙ sym known.1) at among
 
 pub returns-in-Err-clause-table : goal.returns-in-Err-clause-table
@@ -26,13 +27,13 @@ returns-in-Err-clause-table c =
     let e = c.args.self.now in
     let table = c.requires.table in
     let s = c.in-Ok.string.now in
-    let stands = absent_there e.bytes.items _ e.ordered s c.in-Err.rank c.search.result.place
+    let stands = absent_there e.bytes _ e.ordered s c.in-Err.rank c.search.result.place
     c.as_slice-bytes.ensures.value c.in-Err.is c.search.ensures.absent in
     let is = rw c.as_slice-bytes.ensures.value at (string_was _ _ _ c.in-Ok.ensures.meaning) in
     let begins = rw c.as_slice-bytes.ensures.value at (c.begins_at.ensures.0
     c.if-not-begins_at.false) in
-    let now = inserted_or e.bytes.items e.ordered s c.in-Err.rank c.args.place _ c.insert.result
-    table.findable.indexed stands (offset_there e.bytes.items c.args.place begins) is
+    let now = inserted_or e.bytes e.ordered s c.in-Err.rank c.args.place _ c.insert.result
+    table.findable.indexed stands (offset_there e.bytes c.args.place begins) is
     c.insert.ensures.ok c.insert.ensures.err in
     let new = record e { ordered = c.insert.new.self } in
     hashed_kept e new table refl refl now.0 (carried_among e new refl now.1)

@@ -14,7 +14,7 @@ is_absent absent = (λ e. absurd (false≢true e), λ there. absurd (absent ther
 pub returns-then-is_some-clause-found : goal.returns-then-is_some-clause-found
 returns-then-is_some-clause-found c = rw (← c.self.view_is) (is_absent (λ there. zero_within _ _
     c.memchr.ensures (sym c.is_some.ensures ∙ c.if-is_some.true) (All-contains IsZeroFree _ _
-    (zero_free-strings_in c.self.inside.entries.bytes.items) there)))
+    (zero_free-strings_in c.self.inside.entries.bytes) there)))
 
 pub returns-in-Err-2-clause-found : goal.returns-in-Err-2-clause-found
 returns-in-Err-2-clause-found c = rw (← c.self.view_is) (is_absent (unplaced _ c.self.invariant
@@ -31,7 +31,7 @@ returns-in-Err-place-clause-count c = λ k few.
 pub returns-in-Err-place-clause-found : goal.returns-in-Err-place-clause-found
 returns-in-Err-place-clause-found c =
     let e = c.self.inside.entries in
-    let stands = absent_there e.bytes.items _ e.ordered c.args.string.now _
+    let stands = absent_there e.bytes _ e.ordered c.args.string.now _
     c.search-found.result.place c.as_slice.ensures.value c.in-Err-place.is
     c.search-found.ensures.absent in
     rw (← c.self.view_is) (is_absent (unordered e c.self.invariant c.args.string.now c.hash.result
@@ -41,7 +41,7 @@ returns-in-Err-place-clause-found c =
 known : (c : goal.Then-stands_at) → Contains (held c.self.inside.entries) c.args.string.now
     × (c.match-seek.place ≡ offset_of (held c.self.inside.entries) c.args.string.now)
 known c =
-    let here = rw c.deref.ensures.value at (c.stands_at.ensures.0 c.if-stands_at.true) in
+    let here = rw c.as_slice-2.ensures.value at (c.stands_at.ensures.0 c.if-stands_at.true) in
     let table = c.self.invariant.findable.indexed in
     known_place_in _ _ _ table.ended table.distinct here.0 here.1
 

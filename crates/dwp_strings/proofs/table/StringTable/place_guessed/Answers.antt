@@ -6,12 +6,12 @@ use Rattle.std.proofs.Common.{rules, arith}
 pub returns-then-begins_alike-clause-placed : goal.returns-then-begins_alike-clause-placed
 returns-then-begins_alike-clause-placed c =
     rw (← c.self.view_is) (used_there _ _ _ _ c.self.invariant.findable.indexed
-    (rw c.deref.ensures.value at (c.begins_alike.ensures c.if-begins_alike.true)))
+    (rw c.as_slice.ensures.value at (c.begins_alike.ensures c.if-begins_alike.true)))
 
 pub returns-then-begins_alike-2-clause-placed : goal.returns-then-begins_alike-2-clause-placed
 returns-then-begins_alike-2-clause-placed c =
     rw (← c.self.view_is) (used_there _ _ _ _ c.self.invariant.findable.indexed
-    (rw c.deref-in-Ok.ensures.value at (c.begins_alike-in-Ok.ensures c.if-begins_alike-2.true)))
+    (rw c.as_slice-in-Ok.ensures.value at (c.begins_alike-in-Ok.ensures c.if-begins_alike-2.true)))
 
 pub returns-then-begins_alike-2-clause-fits : goal.returns-then-begins_alike-2-clause-fits
 returns-then-begins_alike-2-clause-fits c = search rules

@@ -1,0 +1,72 @@
+-- What a vector that is stored makes of a copy.
+use Rattle.dwp_strings.proofs.Terms
+use Terms.{ap, arith, cases_eq, cases_lt, drop, get_or, length, length-append, List, set, sym, take}
+use Terms.{Vec, with_items_is, ℕ, ◌++◌, ◌∙◌, ◌+◌, ◌-◌, ◌<◌, ◌≡◌, ◌≤◌}
+use Rattle.std.specs.Vec.{with_items}
+use Rattle.dwp_strings.proofs.LaneLemmas.{same_fronts}
+use Rattle.std.proofs.Math.Seq.{take-append-add}
+use Rattle.std.proofs.lemmas.Grind.{elements}
+use Rattle.std.proofs.lemmas.List.{length-drop, length-take-le, take-append-le}
+use Rattle.std.specs.Simd.Lanes.{put_chunk}
+use Rattle.std.proofs.lemmas.Simd.{length-chunk, get_or-chunk, get_or-put_chunk_at}
+use Rattle.std.proofs.lemmas.Simd.{get_or-put_chunk_above, get_or-put_chunk_below}
+
+-- so many bytes of a place
+module _ (bytes room : List ℕ) (at n : ℕ) (within : at + n ≤ length bytes)
+    (fits : at + n ≤ length room) where
+  abbrev next : List ℕ
+  next = take n (drop at bytes)
+
+  long : length next ≡ n
+  long = length-chunk at n bytes within
+
+  -- these are the same then
+  pub stored_there : (k : ℕ) → at ≤ k → k < at + n
+      → get_or (put_chunk at room next) k 0 ≡ get_or bytes k 0
+  stored_there k low less =
+      let put = get_or-put_chunk_at at room next (k - at) 0 in
+      let got = get_or-chunk at n bytes (k - at) 0 in
+      grind (arith, put, got, long)
+
+  -- and those that were
+  pub stored_kept : (k : ℕ) → get_or room k 0 ≡ get_or bytes k 0
+      → get_or (put_chunk at room next) k 0 ≡ get_or bytes k 0
+  stored_kept k was =
+      let below = get_or-put_chunk_below at room next k 0 in
+      let above = get_or-put_chunk_above at room next k 0 in
+      grind (arith, below, above, stored_there k, long, cases_lt k at, cases_lt k (at + n))
+
+-- a zero is the same once it is set
+pub zero_set : (bytes room : List ℕ) (at : ℕ) → at < length room → get_or bytes at 0 ≡ 0
+    → get_or (set room at 0) at 0 ≡ get_or bytes at 0
+zero_set bytes room at within is_zero = grind (arith, elements)
+
+-- fronts of which each byte is the same, and the one behind them
+pub fronts_copied : (bytes copy : List ℕ) (end : ℕ) → end < length bytes → end < length copy
+    → ((k : ℕ) → k < end → get_or copy k 0 ≡ get_or bytes k 0)
+    → get_or copy end 0 ≡ get_or bytes end 0 → take (end + 1) copy ≡ take (end + 1) bytes
+fronts_copied bytes copy end within fits before last =
+    same_fronts copy bytes (end + 1) (omega arith) (omega arith)
+    (λ k less. grind (arith, before k, last, cases_eq k end))
+
+-- room of a list, once it is written to
+pub room_long : (items room : List ℕ) (used k : ℕ) → used ≤ length items
+    → length room ≡ length items - used → k ≡ length items - used
+    → length (take used items ++ (room ++ drop k (drop used items))) ≡ length items
+room_long items room used k within long is =
+    grind (arith, length-append, length-take-le, length-drop)
+
+-- what stands in it is behind what is used
+pub in_room : {Z : Type 0} (v : Vec ℕ Z) (items room : List ℕ) (used k n : ℕ)
+    → length items ≡ v.len → used ≤ length items → length room ≡ length items - used
+    → k ≡ length items - used → n ≤ length room
+    → take (used + n) (with_items v (take used items ++ (room ++ drop k (drop used items)))).items
+    ≡ take used items ++ take n room
+in_room v items room used k n whole within long is fits =
+    let front = take used items in
+    let behind = drop k (drop used items) in
+    ap (take (used + n)) (with_items_is v (front ++ (room ++ behind))
+    (room_long items room used k within long is ∙ whole))
+    ∙ ap (λ u. take (u + n) (front ++ (room ++ behind))) (sym (length-take-le used items within))
+    ∙ take-append-add front (room ++ behind) n
+    ∙ ap (λ l. front ++ l) (take-append-le n room behind fits)

@@ -1,0 +1,15 @@
+use Rattle.dwp_strings.proofs.Terms.{arith, refl, ◌+◌, ◌++◌, ◌∙◌}
+use Rattle.std.proofs.Common.{ap₂}
+use Rattle.std.proofs.lemmas.Grind.{elements}
+use Rattle.dwp_strings.proofs.CopyLemmas.{in_room}
+use Rattle.dwp_strings.proofs.buffer.Buffer.append_guessed.Goals as goal
+
+pub returns-clause-appended : goal.returns-clause-appended
+returns-clause-appended c = λ is.
+    let copy = c.if-not-copy_ended.ensures in
+    let room = c.if-not-has_room.ensures in
+    in_room c.has_room.new.items c.deref_mut.result.now c.copy_ended.new.room c.self.inside.used _
+    (c.args.end + 1) c.deref_mut.ensures.len (grind arith) (grind (arith, elements, copy.long)) refl
+    (grind (arith, elements, copy.long))
+    ∙ ap₂ (λ a b. a ++ b) (rw c.deref_mut.ensures.value (room.kept ∙ c.self.view_is))
+    (copy.copied refl)

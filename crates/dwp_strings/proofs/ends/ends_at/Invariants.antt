@@ -1,8 +1,0 @@
-use Rattle.dwp_strings.proofs.Terms.{◌-◌, ◌<◌, slice_index, ℕ, ◌≢◌}
-use Rattle.dwp_strings.proofs.ends.ends_at.Given as goal
-
-abbrev pub invariant-loop-at : goal.invariant-loop-at
-invariant-loop-at l = (k : ℕ) → k < l.at → slice_index l.bytes k ≢ 0
-
-abbrev pub decreases-loop-at : goal.decreases-loop-at
-decreases-loop-at l = l.last - l.at
