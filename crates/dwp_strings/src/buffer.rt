@@ -112,7 +112,7 @@ fn copy_many_some(room: &mut [u8], bytes: &[u8], at: usize, other: usize) -> boo
     first.simd_min(second).simd_eq(u8x64::splat(0)).to_bitmask() == 0
 }
 
-/// The same of 32.
+/// Copies the next 32 bytes of two places; whether none of them is zero.
 #[inline(always)]
 fn copy_some(room: &mut [u8], bytes: &[u8], at: usize, other: usize) -> bool
     requires first { at + 32 ≤ length bytes.now }

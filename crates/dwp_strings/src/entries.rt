@@ -77,7 +77,7 @@ impl Entries {
         Ok(Some(place))
     }
 
-    /// The same where the hash has a place already at which no string begins: strings that were
+    /// Adds a string whose hash has a place already at which no string begins: strings that were
     /// there were forgotten. None else, and where four bytes don't hold the new place; it has the
     /// old one then.
     pub fn add_over(
@@ -113,8 +113,8 @@ impl Entries {
         Ok(Some(last))
     }
 
-    /// The same of the string that some bytes begin with, of which one is zero, which is guessed to
-    /// be its end. None where it isn't, where its hash gets no place, and for want of memory.
+    /// Adds the string that some bytes begin with, of which one is zero, which is guessed to be its
+    /// end. None where it isn't, where its hash gets no place, and for want of memory.
     #[inline(always)]
     pub fn add_guessed(&mut self, rest: &[u8], end: usize, hash: u32, next: usize) -> Option<usize>
         requires table { IsHashed self.old }

@@ -234,7 +234,7 @@ impl HashedPlaces {
         seek(&self.slots, self.size, hash)
     }
 
-    /// The same in more slots, with one more. None where they don't fit or there is no memory.
+    /// The places in more slots, with one more. None where they don't fit or there is no memory.
     fn grown(&self, slot: Slot) -> Option<HashedPlaces>
         requires some { slot.behind ≢ 0 }
         ensures entered { IfSome result (λ new. (n : ℕ) → n + 1 ≡ slot.behind

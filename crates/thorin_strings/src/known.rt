@@ -50,7 +50,7 @@ fn known_string(debug_str: &[u8], offset: u64) -> Option<&[u8]>
     Some(&rest[..end])
 }
 
-/// The same of a short string.
+/// The string at an offset, where it can be read and is short.
 #[inline(always)]
 fn short_string(debug_str: &[u8], offset: u64) -> Option<&[u8]>
     ensures meaning { IfSome result (λ string. string_read debug_str.now offset ≡ Ok string.now) }
@@ -148,7 +148,7 @@ impl PackageStringTable {
         Some(offset)
     }
 
-    /// The same, of the offset that an entry has; None also where the entry couldn't be read.
+    /// As `offset_told`, of the offset that an entry has; None also where it couldn't be read.
     #[inline(always)]
     pub(crate) fn entry_told(
         &mut self,

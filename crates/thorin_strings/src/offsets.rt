@@ -145,7 +145,7 @@ pub(crate) fn string_read(debug_str: &[u8], offset: u64) -> Result<&[u8], Error>
     }
 }
 
-/// The same encoding, of which the compiler knows the format.
+/// An encoding, of which the compiler knows the format then.
 #[inline(always)]
 pub(crate) fn dwarf32(encoding: Encoding) -> Encoding
     requires { encoding.format ≡ Dwarf32 }
@@ -222,8 +222,8 @@ impl PackageStringTable {
         result
     }
 
-    /// The same, but that a refusal leaves what was added before it. (What nearly all ranges have
-    /// is known to the compiler in a loop of its own.)
+    /// As `remap_repeating`, but that a refusal leaves what was added before it. (What nearly all
+    /// ranges have is known to the compiler in a loop of its own.)
     #[inline(never)]
     fn remapped_by_form(
         &mut self,
@@ -254,8 +254,8 @@ impl PackageStringTable {
         }
     }
 
-    /// The same for one form: the order and the encoding, which stand apart from the range, so that
-    /// the compiler knows them where they are constants.
+    /// As `remapped_by_form`, for one form: the order and the encoding, which stand apart from the
+    /// range, so that the compiler knows them where they are constants.
     #[inline(always)]
     #[tactic(auto, unfolding(crate::specs::StringOffsets::remapped))]
     fn remapped(

@@ -122,8 +122,8 @@ impl Repeats {
         }
     }
 
-    /// The same for many ranges that name strings of a section: short ones are remembered too, as
-    /// far as there is memory for their cells.
+    /// Nothing yet, for many ranges that name strings of a section: short ones are remembered too,
+    /// as far as there is memory for their cells.
     pub fn of_ranges(alloc: Global, section: &[u8]) -> Self
         ensures { result ≡ [] }
     {
@@ -171,7 +171,7 @@ impl Repeats {
         self.enter_short(offset, known)
     }
 
-    /// The same of a string whose cell is free.
+    /// Remembers a short string, where its cell is free.
     #[inline(never)]
     fn enter_short(&mut self, offset: u64, known: u64) -> Result<(), AllocError>
         ensures { (section : List ℕ) (strings : List (List ℕ)) → AreKnown section strings self.old
@@ -185,7 +185,7 @@ impl Repeats {
         Ok(())
     }
 
-    /// The same of a long string.
+    /// Remembers a long string.
     #[inline(never)]
     fn enter_long(&mut self, offset: u64, known: u64) -> Result<(), AllocError>
         ensures { (section : List ℕ) (strings : List (List ℕ)) → AreKnown section strings self.old
