@@ -2,9 +2,9 @@
 
 ghost use Rattle.std.specs.Prelude.{◌≡◌, ◌≤◌, ◌<◌, ◌*◌, ◌/◌, ◌^◌, length, drop};
 ghost use Rattle.byteorder.specs.Endian.{little_number};
-ghost use Rattle.dwp_zstd.specs.Checksum.{plus, round, start, behind_stripe, behind_stripes};
-ghost use Rattle.dwp_zstd.specs.Checksum.{Four, merged, joined, with_lanes, with_four, with_bytes};
-ghost use Rattle.dwp_zstd.specs.Checksum.{with_lane, with_byte, with_rest, mixed, of_stripes, xxh64, accumulators_of};
+ghost use Rattle.dwp_zstd.specs.Checksum.{round, behind_stripe, behind_stripes, merged, joined};
+ghost use Rattle.dwp_zstd.specs.Checksum.{with_lanes, with_bytes, with_rest, of_stripes, xxh64};
+ghost use Rattle.dwp_zstd.specs.Checksum.{accumulators_of};
 
 use byteorder::{ByteOrder, LittleEndian};
 
@@ -62,8 +62,7 @@ fn behind_stripes(four: Accumulators, bytes: &[u8]) -> Accumulators
     let mut rest = bytes;
     for _ in 0..bytes.len() / 32 {
         all = behind_stripe(all, rest);
-        let (_stripe, more) = rest.split_at(32);
-        rest = more;
+        rest = rest.split_at(32).1;
     }
     all
 }
@@ -112,92 +111,63 @@ fn of_stripes(bytes: &[u8]) -> u64
     joined(behind_stripes(start, bytes))
 }
 
-/// One lane more behind the last stripe.
-#[tactic(auto, unfolding(crate::specs::Checksum::with_lane, crate::specs::Checksum::plus, crate::specs::Checksum::times, crate::specs::Checksum::turn, crate::specs::Checksum::prime1, crate::specs::Checksum::prime4))]
-fn with_lane(h: u64, lane: u64) -> u64
-    ensures { result ≡ with_lane h lane }
-{
-    (h ^ round(0, lane))
-        .rotate_left(27)
-        .wrapping_mul(PRIME_1)
-        .wrapping_add(PRIME_4)
-}
-
 /// The lanes behind the last stripe.
+#[tactic(auto, unfolding(crate::specs::Checksum::with_lanes, crate::specs::Checksum::with_lane, crate::specs::Checksum::plus, crate::specs::Checksum::times, crate::specs::Checksum::turn, crate::specs::Checksum::prime1, crate::specs::Checksum::prime4), using(crate::proofs::Loops::rounds))]
 fn with_lanes(h: u64, bytes: &[u8]) -> u64
     ensures { result ≡ with_lanes (length bytes.now / 8) h bytes.now }
 {
     let mut sum = h;
     let mut rest = bytes;
     for _ in 0..bytes.len() / 8 {
-        sum = with_lane(sum, LittleEndian::read_u64(rest));
-        let (_lane, more) = rest.split_at(8);
-        rest = more;
+        sum = (sum ^ round(0, LittleEndian::read_u64(rest)))
+            .rotate_left(27)
+            .wrapping_mul(PRIME_1)
+            .wrapping_add(PRIME_4);
+        rest = rest.split_at(8).1;
     }
     sum
 }
 
-/// Four bytes more.
-#[tactic(auto, unfolding(crate::specs::Checksum::with_four, crate::specs::Checksum::plus, crate::specs::Checksum::times, crate::specs::Checksum::turn, crate::specs::Checksum::prime1, crate::specs::Checksum::prime2, crate::specs::Checksum::prime3))]
-fn with_four(h: u64, four: u64) -> u64
-    ensures { result ≡ with_four h four }
-{
-    (h ^ four.wrapping_mul(PRIME_1))
-        .rotate_left(23)
-        .wrapping_mul(PRIME_2)
-        .wrapping_add(PRIME_3)
-}
-
-/// A byte more.
-#[tactic(auto, unfolding(crate::specs::Checksum::with_byte, crate::specs::Checksum::times, crate::specs::Checksum::turn, crate::specs::Checksum::prime1, crate::specs::Checksum::prime5))]
-fn with_byte(h: u64, byte: u64) -> u64
-    ensures { result ≡ with_byte h byte }
-{
-    (h ^ byte.wrapping_mul(PRIME_5))
-        .rotate_left(11)
-        .wrapping_mul(PRIME_1)
-}
-
 /// The last bytes.
+#[tactic(auto, unfolding(crate::specs::Checksum::with_bytes, crate::specs::Checksum::with_byte, crate::specs::Checksum::times, crate::specs::Checksum::turn, crate::specs::Checksum::prime1, crate::specs::Checksum::prime5))]
 fn with_bytes(h: u64, bytes: &[u8]) -> u64
     ensures { result ≡ with_bytes h bytes.now }
 {
     let mut sum = h;
     for byte in bytes {
-        sum = with_byte(sum, *byte as u64);
+        sum = (sum ^ (*byte as u64).wrapping_mul(PRIME_5))
+            .rotate_left(11)
+            .wrapping_mul(PRIME_1);
     }
     sum
 }
 
 /// The bytes behind the last lane.
-#[tactic(auto, unfolding(crate::specs::Checksum::with_rest))]
+#[tactic(auto, unfolding(crate::specs::Checksum::with_rest, crate::specs::Checksum::with_four, crate::specs::Checksum::plus, crate::specs::Checksum::times, crate::specs::Checksum::turn, crate::specs::Checksum::prime1, crate::specs::Checksum::prime2, crate::specs::Checksum::prime3))]
 fn with_rest(h: u64, bytes: &[u8]) -> u64
     ensures { result ≡ with_rest h bytes.now }
 {
     if bytes.len() < 4 {
         return with_bytes(h, bytes);
     }
-    let h = with_four(h, LittleEndian::read_u32(bytes) as u64);
+    let four = LittleEndian::read_u32(bytes) as u64;
+    let h = (h ^ four.wrapping_mul(PRIME_1))
+        .rotate_left(23)
+        .wrapping_mul(PRIME_2)
+        .wrapping_add(PRIME_3);
     with_bytes(h, &bytes[4..])
 }
 
-/// The last mixing.
-#[tactic(auto, unfolding(crate::specs::Checksum::mixed, crate::specs::Checksum::times, crate::specs::Checksum::prime2, crate::specs::Checksum::prime3))]
-fn mixed(h: u64) -> u64
-    ensures { result ≡ mixed h }
-{
-    let h = (h ^ (h >> 33)).wrapping_mul(PRIME_2);
-    let h = (h ^ (h >> 29)).wrapping_mul(PRIME_3);
-    h ^ (h >> 32)
-}
-
 /// XXH64 of bytes, with seed 0.
-#[tactic(auto, unfolding(crate::specs::Checksum::xxh64, crate::specs::Checksum::plus))]
+#[tactic(auto, unfolding(crate::specs::Checksum::xxh64, crate::specs::Checksum::mixed, crate::specs::Checksum::plus, crate::specs::Checksum::times, crate::specs::Checksum::prime2, crate::specs::Checksum::prime3))]
 pub fn xxh64(bytes: &[u8]) -> u64
     ensures { result ≡ xxh64 bytes.now }
 {
     let rest = &bytes[bytes.len() / 32 * 32..];
     let h = of_stripes(bytes).wrapping_add(bytes.len() as u64);
     let h = with_lanes(h, rest);
-    mixed(with_rest(h, &rest[rest.len() / 8 * 8..]))
+    let h = with_rest(h, &rest[rest.len() / 8 * 8..]);
+    let h = (h ^ (h >> 33)).wrapping_mul(PRIME_2);
+    let h = (h ^ (h >> 29)).wrapping_mul(PRIME_3);
+    h ^ (h >> 32)
 }
