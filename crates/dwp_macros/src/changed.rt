@@ -1,6 +1,6 @@
 //! From an object to one in which macros of some sections don't count.
 
-ghost use Rattle.std.specs.Prelude.{◌≡◌, option_map, is_some, Ok, IsTrue, IfOk, OnErr, IsSome};
+ghost use Rattle.std.specs.Prelude.{◌≡◌, option_map, is_some, Ok, IfOk, OnErr, IsSome};
 ghost use Rattle.dwp_elf_read.specs.Elf.{elf_of};
 ghost use Rattle.dwp_elf_read.specs.View.{elf};
 ghost use Rattle.dwp_macros.specs.Kept.{kept_file, kept_macros_of};
@@ -13,16 +13,6 @@ use crate::sections::is_changed;
 use dwp_elf_read::ElfFile;
 use std::alloc::Global;
 
-/// Whether the reader says of bytes what they are to mean.
-fn means(bytes: &[u8], old: &ElfFile<'_>, kept: KeptMacros) -> bool
-    ensures { IsTrue result → elf_of bytes.now ≡ Ok (kept_file kept (elf old.now)) }
-{
-    match ElfFile::parse(bytes) {
-        Ok(new) => agrees(old, &new, kept),
-        Err(_) => false,
-    }
-}
-
 /// The file with the macros that are kept, read again.
 fn changed(
     alloc: Global,
@@ -34,10 +24,9 @@ fn changed(
 {
     let mut out = bytes.to_vec(alloc)?;
     empty_all(file, kept, &mut out);
-    if means(&out, file, kept) {
-        Ok(out)
-    } else {
-        Err(MacrosError::Unrepresentable)
+    match ElfFile::parse(&out) {
+        Ok(new) if agrees(file, &new, kept) => Ok(out),
+        _ => Err(MacrosError::Unrepresentable),
     }
 }
 
