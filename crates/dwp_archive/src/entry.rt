@@ -1,9 +1,9 @@
 //! Entries of an archive: members, the table of names, and tables of symbols.
 
-ghost use Rattle.std.specs.Prelude.{◌≡◌, ◌%◌, ◌≤◌, drop, length};
+ghost use Rattle.std.specs.Prelude.{◌≡◌, ◌≤◌, length};
 ghost use Rattle.dwp_base.specs.Reading.{Answers};
 ghost use Rattle.dwp_archive.specs.Entries.{is_symbols, member_named, long_at, own_at, members_at};
-ghost use Rattle.dwp_archive.specs.Entries.{content_at, entry_at};
+ghost use Rattle.dwp_archive.specs.Entries.{entry_at};
 ghost use Rattle.dwp_archive.specs.Names.{short_name};
 ghost use Rattle.dwp_archive.specs.View.{listed, entry};
 
@@ -111,44 +111,20 @@ fn member_at<'a>(
     Ok(short(field, content))
 }
 
-/// The table of names from an entry on, and the member that the entry is.
-#[tactic(auto, unfolding(crate::specs::Entries::content_at))]
-fn content_at<'a>(
-    names: &'a [u8],
-    field: &'a [u8],
-    content: &'a [u8],
-) -> Result<(&'a [u8], Option<Member<'a>>), ArchiveError>
-    requires { length field.now ≡ 16 }
-    ensures { Answers (λ found. (found.0.now, listed found.1)) result
-        (content_at names.now field.now content.now) }
-{
-    if is_padded(field, b"//") {
-        return Ok((content, None));
-    }
-    let member = member_at(names, field, content)?;
-    Ok((names, member))
-}
-
-/// What stands behind a content, without the byte that makes its size even.
-fn behind(size: usize, rest: &[u8]) -> &[u8]
-    ensures { result.now ≡ drop (size % 2) rest.now }
-{
-    if size % 2 == 0 || rest.is_empty() {
-        return rest;
-    }
-    rest.split_at(1).1
-}
-
 /// The entry that the bytes begin with, by the table of names so far.
-#[tactic(auto, unfolding(crate::specs::Entries::entry_at))]
+#[tactic(auto, unfolding(crate::specs::Entries::entry_at, crate::specs::Entries::content_at), using(std::proofs::lemmas::List::drop_min))]
 pub fn entry_at<'a>(names: &'a [u8], bytes: &'a [u8]) -> Result<Entry<'a>, ArchiveError>
     ensures { Answers entry result (entry_at names.now bytes.now) }
 {
     let size = size_at(bytes)?;
     let field = bytes.split_at(16).0;
     let (content, rest) = bytes.split_at(60).1.split_at(size);
-    let (names, member) = content_at(names, field, content)?;
-    let rest = behind(size, rest);
+    let (names, member) = if is_padded(field, b"//") {
+        (content, None)
+    } else {
+        (names, member_at(names, field, content)?)
+    };
+    let (_even, rest) = rest.split_at((size % 2).min(rest.len()));
     Ok(Entry {
         names,
         member,

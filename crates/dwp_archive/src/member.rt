@@ -37,14 +37,11 @@ fn up_to(bytes: &[u8], end: u8) -> &[u8]
 }
 
 /// As many bytes from the beginning, or all where there are fewer.
+#[tactic(auto, using(std::proofs::lemmas::List::take_min))]
 fn front(bytes: &[u8], count: usize) -> &[u8]
     ensures { result.now ≡ take count bytes.now }
 {
-    if count < bytes.len() {
-        bytes.split_at(count).0
-    } else {
-        bytes
-    }
+    bytes.split_at(count.min(bytes.len())).0
 }
 
 /// The name that stands in a header.

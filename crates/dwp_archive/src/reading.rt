@@ -1,9 +1,8 @@
 //! The members of an archive.
 
 ghost use Rattle.std.specs.Prelude.{◌≡◌, ◌++◌, [], map, OnOk};
-ghost use Rattle.dwp_base.specs.Reading.{Answers};
 ghost use Rattle.dwp_archive.specs.Answers.{Gives};
-ghost use Rattle.dwp_archive.specs.Members.{entries_of, members_from, members_of};
+ghost use Rattle.dwp_archive.specs.Members.{members_from, members_of};
 ghost use Rattle.dwp_archive.specs.View.{member, listed};
 
 use crate::entry::entry_at;
@@ -11,18 +10,21 @@ use crate::error::ArchiveError;
 use crate::member::Member;
 use std::alloc::{AllocError, Global};
 
-/// What stands behind an archive's first line.
-#[tactic(auto, unfolding(crate::specs::Members::entries_of))]
-fn entries_of(bytes: &[u8]) -> Result<&[u8], ArchiveError>
-    ensures { Answers (λ entries. entries.now) result (entries_of bytes.now) }
+/// The members of an archive, in order, as bytes of it. Tables of symbols and of names are none.
+///
+/// # Errors
+/// The first error, and `Memory`.
+#[tactic(auto, unfolding(crate::specs::Members::members_of, crate::specs::Members::entries_of))]
+pub fn members(alloc: Global, bytes: &[u8]) -> Result<Vec<Member<'_>>, ArchiveError>
+    ensures { Gives (λ members. map member members.items) result (members_of bytes.now) }
 {
-    if bytes.starts_with(b"!<arch>\n") {
-        return Ok(bytes.split_at(8).1);
+    if !bytes.starts_with(b"!<arch>\n") {
+        if bytes.starts_with(b"!<thin>\n") {
+            return Err(ArchiveError::Thin);
+        }
+        return Err(ArchiveError::NotArchive);
     }
-    if bytes.starts_with(b"!<thin>\n") {
-        return Err(ArchiveError::Thin);
-    }
-    Err(ArchiveError::NotArchive)
+    members_in(alloc, bytes.len(), bytes.split_at(8).1)
 }
 
 /// Adds a member, if there is one.
@@ -54,16 +56,4 @@ fn members_in(alloc: Global, most: usize, entries: &[u8]) -> Result<Vec<Member<'
         rest = entry.rest;
     }
     Ok(members)
-}
-
-/// The members of an archive, in order, as bytes of it. Tables of symbols and of names are none.
-///
-/// # Errors
-/// The first error, and `Memory`.
-#[tactic(auto, unfolding(crate::specs::Members::members_of))]
-pub fn members(alloc: Global, bytes: &[u8]) -> Result<Vec<Member<'_>>, ArchiveError>
-    ensures { Gives (λ members. map member members.items) result (members_of bytes.now) }
-{
-    let entries = entries_of(bytes)?;
-    members_in(alloc, bytes.len(), entries)
 }
