@@ -1,20 +1,14 @@
 -- Which compressed sections become plain: all of them, or those that readers of units ask for.
-use Rattle.std.specs.Prelude.{ℕ, List, codes, Bool, true, false, ◌||◌, Option, Some, None}
+use Rattle.std.specs.Prelude.{ℕ, List, codes, Bool, true, ◌||◌, Option, is_some}
 use Rattle.std.specs.Option.{option_and_then}
 use Rattle.dwp_base.specs.Sections.{kind_named}
-use Rattle.dwp_base.specs.declared.section.SectionKind.{SectionKind}
 use Rattle.dwp_elf_read.specs.Elf.{SectionMeaning, is_named}
 use Rattle.dwp_decompress.specs.declared.asked.Asked.{Asked}
 use Rattle.dwp_decompress.specs.declared.asked.Asked.TheVariants.{All, OfUnits}
 
--- there is a kind
-abbrev pub is_a_kind : Option SectionKind → Bool
-is_a_kind None = false
-is_a_kind (Some kind) = true
-
 -- a name is that of a kind of section of split DWARF, in either spelling
 abbrev pub is_of_kind : Option (List ℕ) → Bool
-is_of_kind name = is_a_kind (option_and_then kind_named name)
+is_of_kind name = is_some (option_and_then kind_named name)
 
 -- a section has one of two names
 abbrev pub is_either : SectionMeaning → List ℕ → List ℕ → Bool

@@ -1,12 +1,12 @@
 //! Whether a file means what the decompressed one is to mean.
 
-ghost use Rattle.std.specs.Prelude.{◌≡◌, ◌+◌, ◌++◌, ◌<◌, codes, take, drop, slice_get, Some};
+ghost use Rattle.std.specs.Prelude.{◌≡◌, ◌++◌, ◌<◌, codes, take, drop, slice_get, Some};
 ghost use Rattle.std.specs.Prelude.{IsTrue, option_map, length};
 ghost use Rattle.dwp_elf_read.specs.View as view;
 ghost use Rattle.dwp_elf_read.specs.View.{elf};
 ghost use Rattle.dwp_decompress.specs.Names.{plain_name};
-ghost use Rattle.dwp_decompress.specs.Result.{plain_flags, with_plain, with_names, result_section};
-ghost use Rattle.dwp_decompress.specs.Result.{result_sections, plain_contents};
+ghost use Rattle.dwp_decompress.specs.Result.{with_plain, with_names, result_section, result_sections};
+ghost use Rattle.dwp_decompress.specs.Result.{plain_contents};
 ghost use Rattle.dwp_decompress.specs.Agreement.{AgreesAt, expected_file};
 
 use crate::compressed::is_older;
@@ -21,32 +21,6 @@ pub struct Expected<'a> {
     pub added: &'a [u8],
     /// The plain contents of the sections, in order.
     pub contents: &'a Vec<Option<Vec<u8>>>,
-}
-
-/// Whether the flags are the same but for that of compressed sections.
-#[tactic(auto, unfolding(crate::specs::Result::plain_flags))]
-fn plain_flags(old: &Section<'_>, new: &Section<'_>) -> bool
-    ensures { IsTrue result
-        → (view.section new.now).flags ≡ plain_flags (view.section old.now).flags }
-{
-    new.flags() == old.flags() & 0xffff_ffff_ffff_f7ff
-}
-
-/// Whether a number is the sum of two others.
-fn is_sum(sum: u64, a: u64, b: u64) -> bool
-    ensures { IsTrue result → sum ≡ a + b }
-{
-    if sum < a {
-        return false;
-    }
-    sum - a == b
-}
-
-/// Whether the size has grown by this.
-fn grown_size(old: &Section<'_>, new: &Section<'_>, added: usize) -> bool
-    ensures { IsTrue result → (view.section new.now).size ≡ (view.section old.now).size + added }
-{
-    is_sum(new.size(), old.size(), added as u64)
 }
 
 /// Whether a name begins as plain ones do, and goes on as an older one.
@@ -106,14 +80,14 @@ fn grown_content(old: &Section<'_>, new: &Section<'_>, added: &[u8]) -> bool
 }
 
 /// Whether a section is another with its plain content.
-#[tactic(auto, unfolding(crate::specs::Result::with_plain), using(dwp_elf_read::proofs::Compared::is_own))]
+#[tactic(auto, unfolding(crate::specs::Result::with_plain, crate::specs::Result::plain_flags), using(dwp_elf_read::proofs::Compared::is_own))]
 fn is_plain(old: &Section<'_>, new: &Section<'_>, plain: &[u8]) -> bool
     ensures { IsTrue result
         → view.section new.now ≡ with_plain (view.section old.now) plain.now }
 {
     new.has_numbers_of(old)
         && plain_name(old, new)
-        && plain_flags(old, new)
+        && new.flags() == old.flags() & 0xffff_ffff_ffff_f7ff
         && new.size() == plain.len() as u64
         && new.has_content(plain)
 }
@@ -127,7 +101,8 @@ fn has_names(old: &Section<'_>, new: &Section<'_>, added: &[u8]) -> bool
     new.has_numbers_of(old)
         && new.has_name_of(old)
         && new.flags() == old.flags()
-        && grown_size(old, new, added.len())
+        && new.size() >= old.size()
+        && new.size() - old.size() == added.len() as u64
         && grown_content(old, new, added)
 }
 

@@ -3,7 +3,7 @@
 ghost use Rattle.std.specs.Prelude.{◌≡◌, ◌||◌};
 ghost use Rattle.dwp_elf_read.specs.Elf.{is_named};
 ghost use Rattle.dwp_elf_read.specs.View as view;
-ghost use Rattle.dwp_decompress.specs.Asked.{is_of_kind, is_of_executable, is_asked};
+ghost use Rattle.dwp_decompress.specs.Asked.{is_of_executable, is_asked};
 
 use dwp_elf_read::Section;
 
@@ -26,16 +26,6 @@ fn is_either(section: &Section<'_>, name: &str, older: &str) -> bool
     section.is_called(name) || section.is_called(older)
 }
 
-/// Whether a section has the name of a kind, in either spelling.
-fn is_of_kind(section: &Section<'_>) -> bool
-    ensures { result ≡ is_of_kind (view.section section.now).name }
-{
-    match section.section_kind() {
-        Some(_kind) => true,
-        None => false,
-    }
-}
-
 /// Whether a section has a name that the reader of an executable asks for.
 fn is_of_executable(section: &Section<'_>) -> bool
     ensures { result ≡ is_of_executable (view.section section.now) }
@@ -54,6 +44,6 @@ pub fn is_asked(asked: Asked, section: &Section<'_>) -> bool
 {
     match asked {
         Asked::All => true,
-        Asked::OfUnits => is_of_kind(section) || is_of_executable(section),
+        Asked::OfUnits => section.section_kind().is_some() || is_of_executable(section),
     }
 }

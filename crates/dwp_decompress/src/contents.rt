@@ -50,7 +50,7 @@ fn content(
 }
 
 /// The plain contents of all sections, in order, of a file of that class and byte order.
-fn contents_in(
+pub fn contents(
     alloc: Global,
     asked: Asked,
     class: Class,
@@ -68,16 +68,4 @@ fn contents_in(
         }
     }
     Ok(contents)
-}
-
-/// The plain contents of all sections, in order.
-pub fn contents(
-    alloc: Global,
-    asked: Asked,
-    file: &ElfFile<'_>,
-) -> Result<Vec<Option<Vec<u8>>>, DecompressError>
-    ensures { Gives (λ contents. plain_contents contents.items) result
-        (contents_of asked (elf file.now).class (elf file.now).order (elf file.now).sections) }
-{
-    contents_in(alloc, asked, file.class(), file.endianness(), file)
 }

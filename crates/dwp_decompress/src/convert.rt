@@ -18,20 +18,11 @@ use crate::compressed::has_compressed;
 use crate::contents::contents;
 use crate::error::{DecompressError, NotConverted};
 use crate::file::Change;
+use crate::header::NumberForm;
 use crate::names::{added_names, names_number};
 use crate::sizes::length;
 use dwp_elf_read::ElfFile;
 use std::alloc::Global;
-
-/// Whether the reader says of bytes what they are to mean.
-fn means(bytes: &[u8], old: &ElfFile<'_>, expected: &Expected<'_>) -> bool
-    ensures { IsTrue result → elf_of bytes.now ≡ Ok (expected_file expected.now (elf old.now)) }
-{
-    match ElfFile::parse(bytes) {
-        Ok(new) => expected.agrees(old, &new),
-        Err(_) => false,
-    }
-}
 
 /// The file with these contents, read again. It is to have so many bytes.
 fn written(
@@ -46,11 +37,19 @@ fn written(
     ensures long { IfOk result (λ out. length_of_list out.items ≡ length) }
 {
     let mut out = Vec::with_capacity(alloc, length as usize)?;
-    Change::new(bytes, *file, *expected).write(&mut out)?;
-    if out.len() as u64 == length && means(&out, file, expected) {
-        Ok(out)
-    } else {
-        Err(NotConverted::TooLarge)
+    let change = Change {
+        bytes,
+        file: *file,
+        expected: *expected,
+        form: NumberForm {
+            class: file.class(),
+            order: file.endianness(),
+        },
+    };
+    change.write(&mut out)?;
+    match ElfFile::parse(&out) {
+        Ok(new) if out.len() as u64 == length && expected.agrees(file, &new) => Ok(out),
+        _ => Err(NotConverted::TooLarge),
     }
 }
 
@@ -71,7 +70,7 @@ fn with_plain(
         → result ≡ Err Unrepresentable }
 {
     let length = length(asked, bytes, file)?;
-    let contents = contents(alloc, asked, file)?;
+    let contents = contents(alloc, asked, file.class(), file.endianness(), file)?;
     let added = added_names(alloc, asked, file)?;
     let Some(names) = names_number(bytes, file) else {
         return Err(DecompressError::Unrepresentable);

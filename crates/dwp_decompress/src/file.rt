@@ -4,7 +4,7 @@
 use crate::agree::Expected;
 use crate::compressed::is_older;
 use crate::error::NotConverted;
-use crate::header::{Header, Manner};
+use crate::header::{HeaderFields, NumberForm};
 use dwp_base::Class;
 use dwp_elf_read::{ElfFile, Section};
 
@@ -19,70 +19,44 @@ struct Next {
 /// A file, and what it is to become.
 #[derive(Clone, Copy)]
 pub struct Change<'a> {
-    bytes: &'a [u8],
-    file: ElfFile<'a>,
-    expected: Expected<'a>,
-    manner: Manner,
+    pub bytes: &'a [u8],
+    pub file: ElfFile<'a>,
+    pub expected: Expected<'a>,
+    pub form: NumberForm,
 }
 
 impl<'a> Change<'a> {
-    /// What the file is to become.
-    pub fn new(bytes: &'a [u8], file: ElfFile<'a>, expected: Expected<'a>) -> Change<'a> {
-        let manner = Manner {
-            class: file.class(),
-            order: file.endianness(),
-        };
-        Change {
-            bytes,
-            file,
-            expected,
-            manner,
-        }
-    }
-
-    /// How many bytes the table of names has before names are added.
-    fn names_size(&self) -> u64 {
-        match self.file.section(self.expected.names) {
-            Some(names) => names.size(),
-            None => 0,
-        }
-    }
-
     /// Where the name of a plain section stands, and how far the next new one is.
     fn plain_name(&self, section: &Section<'_>, old: u32, next: &mut Next) -> u32 {
-        let Ok(name) = section.name() else {
-            return old;
-        };
-        if !is_older(name) {
-            return old;
+        match section.name() {
+            Ok(name) if is_older(name) => {
+                let place = u32::try_from(next.name).unwrap_or(u32::MAX);
+                next.name = next.name.saturating_add(name.len() as u64);
+                place
+            }
+            _ => old,
         }
-        let place = u32::try_from(next.name).unwrap_or(u32::MAX);
-        next.name = next.name.saturating_add(name.len() as u64);
-        place
     }
 
     /// The alignment of a plain content, where its header says one.
     fn plain_alignment(&self, section: &Section<'_>, old: u64) -> u64 {
-        if !section.is_compressed() {
-            return old;
+        match section.data() {
+            Ok(content) if section.is_compressed() => self.form.alignment(content).unwrap_or(old),
+            _ => old,
         }
-        let Ok(content) = section.data() else {
-            return old;
-        };
-        self.manner.alignment(content).unwrap_or(old)
     }
 
     /// The header of a section that gets its plain content.
     fn plain_header(
         &self,
         section: &Section<'_>,
-        old: &Header,
+        old: &HeaderFields,
         size: u64,
         next: &mut Next,
-    ) -> Header {
+    ) -> HeaderFields {
         let offset = next.content;
         next.content = offset.saturating_add(size);
-        Header {
+        HeaderFields {
             name: self.plain_name(section, old.name, next),
             flags: old.flags & 0xffff_ffff_ffff_f7ff,
             offset,
@@ -93,10 +67,10 @@ impl<'a> Change<'a> {
 
     /// The header of a section that stays: what couldn't be read can't be read in the longer file
     /// either, and the table of names is where it is written again, if names are added.
-    fn kept_header(&self, section: &Section<'_>, old: &Header, names: u64) -> Header {
+    fn kept_header(&self, section: &Section<'_>, old: &HeaderFields, names: u64) -> HeaderFields {
         let mut header = *old;
         if section.data().is_err() {
-            header.offset = match self.manner.class {
+            header.offset = match self.form.class {
                 Class::Elf32 => 0xffff_ffff,
                 Class::Elf64 => 0xffff_ffff_ffff_ffff,
             };
@@ -122,19 +96,18 @@ impl<'a> Change<'a> {
         next: &mut Next,
         out: &mut Vec<u8>,
     ) -> Result<(), NotConverted> {
-        let Some(raw) = self.manner.raw_header(self.bytes, i) else {
+        let Some(raw) = self.form.raw_header(self.bytes, i) else {
             return Err(NotConverted::TooLarge);
         };
         let Some(section) = self.file.section(i) else {
             return Err(NotConverted::TooLarge);
         };
-        let old = self.manner.header(raw);
-        let size = self.expected.plain_size(i);
-        let header = match size {
+        let old = self.form.header(raw);
+        let header = match self.expected.plain_size(i) {
             Some(size) => self.plain_header(&section, &old, size, next),
             None => self.kept_header(&section, &old, names),
         };
-        self.manner.add_header(&header, raw, out)
+        self.form.add_header(&header, raw, out)
     }
 
     /// Writes the table of names again, with those that are added.
@@ -149,18 +122,6 @@ impl<'a> Change<'a> {
             out.extend_from_slice(table)?;
         }
         out.extend_from_slice(self.expected.added)?;
-        Ok(())
-    }
-
-    /// Writes the section headers.
-    fn add_headers(&self, names: u64, out: &mut Vec<u8>) -> Result<(), NotConverted> {
-        let mut next = Next {
-            content: self.bytes.len() as u64,
-            name: self.names_size(),
-        };
-        for i in 0..self.file.section_count() {
-            self.add_header(i, names, &mut next, out)?;
-        }
         Ok(())
     }
 
@@ -179,7 +140,16 @@ impl<'a> Change<'a> {
             out.extend_from_slice([0; 8].split_at(8 - over).0)?;
         }
         let headers = out.len() as u64;
-        self.add_headers(names, out)?;
-        self.manner.set_table(headers, out)
+        let mut next = Next {
+            content: self.bytes.len() as u64,
+            name: match self.file.section(self.expected.names) {
+                Some(table) => table.size(),
+                None => 0,
+            },
+        };
+        for i in 0..self.file.section_count() {
+            self.add_header(i, names, &mut next, out)?;
+        }
+        self.form.set_table(headers, out)
     }
 }

@@ -9,14 +9,14 @@ use dwp_base::{Class, Endianness};
 
 /// How numbers stand in a file.
 #[derive(Clone, Copy)]
-pub struct Manner {
+pub struct NumberForm {
     pub class: Class,
     pub order: Endianness,
 }
 
 /// What may change in a section's header.
 #[derive(Clone, Copy)]
-pub struct Header {
+pub struct HeaderFields {
     /// Where the name stands in the table of names.
     pub name: u32,
     /// The section's flags.
@@ -29,13 +29,13 @@ pub struct Header {
     pub alignment: u64,
 }
 
-impl Manner {
+impl NumberForm {
     /// The header that these bytes are.
-    pub fn header(self, raw: &[u8]) -> Header
+    pub fn header(self, raw: &[u8]) -> HeaderFields
         requires { length raw.now ≡ 16 + 6 * word_size self.class }
     {
         let word = word_size_of(self.class);
-        Header {
+        HeaderFields {
             name: self.order.read_u32(raw),
             flags: word_at(self.class, self.order, raw, 8),
             offset: word_at(self.class, self.order, raw, 8 + 2 * word),
@@ -61,7 +61,7 @@ impl Manner {
     /// Writes a header; what doesn't change is that of the bytes.
     pub fn add_header(
         self,
-        header: &Header,
+        header: &HeaderFields,
         raw: &[u8],
         out: &mut Vec<u8>,
     ) -> Result<(), NotConverted>

@@ -32,14 +32,12 @@ pub fn names_number(bytes: &[u8], file: &ElfFile<'_>) -> Option<usize>
 }
 
 /// What stands behind the beginning of an older name.
+#[tactic(auto, using(std::proofs::lemmas::List::drop_min))]
 fn after_older(name: &str) -> &[u8]
     ensures { result.now ≡ drop 8 name.now }
 {
     let bytes = name.as_bytes();
-    if bytes.len() < 8 {
-        return &[];
-    }
-    bytes.split_at(8).1
+    bytes.split_at(8usize.min(bytes.len())).1
 }
 
 /// Adds the plain name of a section that has an older one.

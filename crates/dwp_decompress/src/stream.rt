@@ -122,20 +122,13 @@ impl CompressedStream<'_> {
     pub fn told(&self) -> Result<u64, DecompressError>
         ensures { Answers (λ size. size) result (told_by (packed self.now)) }
     {
-        let n = self.bytes.len() as u64;
-        match self.kind {
-            Kind::Zlib => {
-                if self.size > n.saturating_mul(1032) {
-                    return Err(DecompressError::Zlib(InflateError::Unreachable));
-                }
-                Ok(self.size)
-            }
-            Kind::Zstd => {
-                if self.size > n.saturating_mul(32768) {
-                    return Err(DecompressError::Zstd(ZstdError::Unreachable));
-                }
-                Ok(self.size)
-            }
+        let (most, error) = match self.kind {
+            Kind::Zlib => (1032, DecompressError::Zlib(InflateError::Unreachable)),
+            Kind::Zstd => (32768, DecompressError::Zstd(ZstdError::Unreachable)),
+        };
+        if self.size > (self.bytes.len() as u64).saturating_mul(most) {
+            return Err(error);
         }
+        Ok(self.size)
     }
 }
