@@ -44,7 +44,7 @@ names kind None e = absurd cc
 names kind (Some name) e = found-passes (is_named name) all_kinds kind e
 
 -- a section is of no kind but the one that its name belongs to
-of-other : (kind : SectionKind) (s : SectionMeaning)
+pub of-other : (kind : SectionKind) (s : SectionMeaning)
     → (option_and_then kind_named s.name ≡ Some kind → ⊥) → is_of_kind kind s ≡ false
 unfolding is_of_kind
 of-other kind s other = by-bool (is_of_kind kind s ≡ false) (is_of_kind kind s)

@@ -24,7 +24,7 @@ unfolding unit_at initial_length_at number_at
 no_unit place i e = rw e refl
 
 -- it is what is read of the bytes
-encoding-first : (order : Endianness) (place : UnitSection) (bytes : List ℕ)
+pub encoding-first : (order : Endianness) (place : UnitSection) (bytes : List ℕ)
     (all : List (Result Unit ReadError)) → units place (section order bytes) ≡ all
     → encoding_in order place bytes ≡ first_encoding all
 unfolding encoding_in
@@ -35,17 +35,3 @@ encoding-first order place bytes all e =
     rw (no_unit place i (eqb-true _ _ none)) (ap first_encoding (sym empty ∙ e)))
     (λ some. let more = rw some at (units-cases place i) in
     sym (listed-first (unit_at place i) (units place)) ∙ ap first_encoding (sym more ∙ e))
-
-pub encoding-none : (order : Endianness) (place : UnitSection) (bytes : List ℕ)
-    → units place (section order bytes) ≡ [] → encoding_in order place bytes ≡ Err UnexpectedEof
-encoding-none order place bytes = encoding-first order place bytes []
-
-pub encoding-err : (order : Endianness) (place : UnitSection) (bytes : List ℕ) (x : ReadError)
-    (rest : List (Result Unit ReadError)) → units place (section order bytes) ≡ Err x ∷ rest
-    → encoding_in order place bytes ≡ Err x
-encoding-err order place bytes x rest = encoding-first order place bytes (Err x ∷ rest)
-
-pub encoding-ok : (order : Endianness) (place : UnitSection) (bytes : List ℕ) (u : Unit)
-    (rest : List (Result Unit ReadError)) → units place (section order bytes) ≡ Ok u ∷ rest
-    → encoding_in order place bytes ≡ Ok u.encoding
-encoding-ok order place bytes u rest = encoding-first order place bytes (Ok u ∷ rest)

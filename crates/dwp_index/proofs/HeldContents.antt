@@ -1,51 +1,30 @@
 -- Reading the contents of a file whose sections hold them as they stand.
-use Rattle.std.proofs.Common.{◌≡◌, ℕ, zero, suc, ◌<◌, Bool, false, not, ◌||◌, inl, inr, List, []}
-use Rattle.std.proofs.Common.{◌∷◌, length, refl, sym, ap, subst, ◌∙◌, arith, Option, Some, None, Ok}
-use Rattle.std.proofs.Common.{slice_get, find, ne_eqb}
+use Rattle.std.proofs.Common.{◌≡◌, ℕ, ◌<◌, false, inl, inr, List, [], ◌∷◌, length, refl, sym, ap}
+use Rattle.std.proofs.Common.{subst, ◌∙◌, arith, Option, Some, None, Ok, ne_eqb}
 use Rattle.dwp_index.proofs.Terms
-use Terms.{all_kinds, at-rank, by-bool, content, content_among, contents_of, each-read, Endianness}
-use Terms.{every-two, has_name, Index, index_of, is-false, is-same, is_of_kind, name_of}
-use Terms.{named-itself, not-older, same_kind, SectionKind, used_bytes, value-of}
-use Rattle.std.proofs.lemmas.Bool.{and_right}
-use Rattle.dwp_base.specs.Sections.{is_named, kind_named, rank_of}
+use Terms.{all_kinds, by-bool, content, content_among, contents_of, each-read, Endianness, Index}
+use Terms.{index_of, is-same, is_of_kind, name_of, named-itself, not-older, same-self, same_kind}
+use Terms.{same_Some, SectionKind, used_bytes, value-of}
+use Rattle.std.proofs.lemmas.Bool.{false≢true}
+use Rattle.dwp_base.proofs.EveryKind.{kind-named}
+use Rattle.dwp_base.specs.Sections.{kind_named}
 use Rattle.dwp_base.specs.declared.section.SectionKind.TheVariants.{CuIndex, TuIndex}
 use Rattle.dwp_elf_read.specs.Elf.{Elf, SectionMeaning, SHT_NOBITS, elf_of}
 use Rattle.dwp_index.specs.Package.{index_in_section, package_of}
+use Rattle.dwp_index.proofs.FirstOfKind.{of-other}
 use Rattle.dwp_index.specs.Holding.{Holds, HasContent, HoldsInOrder, held_of, sections_of}
 
--- ---- names
-
-abbrev apart : SectionKind → SectionKind → Bool
-apart a b = same_kind a b || not (is_named (name_of a) b)
-
-other_name : (a b : SectionKind) → same_kind a b ≡ false → is_named (name_of a) b ≡ false
-other_name a b e = is-false (is_named (name_of a) b) (rw e at (every-two apart refl a b))
-
 -- ---- which sections are of a kind
-nameless : (kind : SectionKind) (section : SectionMeaning) → has_name kind section.name ≡ false
-    → is_of_kind kind section ≡ false
-unfolding is_of_kind
-nameless kind section e = and_right _ _ e
-
 pub another_kind : (section : SectionMeaning) (kind other : SectionKind) → section.name ≡ Some
     (name_of other) → same_kind other kind ≡ false → is_of_kind kind section ≡ false
-another_kind section kind other e ne = nameless kind section (ap (has_name kind) e ∙
-    other_name other kind ne)
-
-pub found-none : {X : Type 0} (p : X → Bool) (xs : List X) (i : ℕ) (x : X) → find p xs ≡ None
-    → slice_get xs i ≡ Some x → p x ≡ false
-found-none p [] i x none at = absurd cc
-found-none p (y ∷ ys) zero x none at = by-bool (p x ≡ false) (p y)
-    (λ yes. absurd (let some = rw yes at none in cc))
-    (λ no. let same : y ≡ x = cc in ap p (sym same) ∙ no)
-found-none p (y ∷ ys) (suc i) x none at = by-bool (p x ≡ false) (p y)
-    (λ yes. absurd (let some = rw yes at none in cc))
-    (λ no. found-none p ys i x (rw no at none) at)
+another_kind section kind other e ne = of-other kind section (λ named.
+    let same = same_Some other kind (sym (kind-named other) ∙ rw e at named) in
+    false≢true (sym ne ∙ rw same (same-self kind)))
 
 pub foreign : (section : SectionMeaning) (kind : SectionKind) (name : List ℕ) → section.name ≡ Some
     name → kind_named name ≡ None → is_of_kind kind section ≡ false
-foreign section kind name e none = nameless kind section (ap (has_name kind) e ∙ found-none
-    (is_named name) all_kinds (rank_of kind) kind none (at-rank kind))
+foreign section kind name e none = of-other kind section (λ named.
+    cc (sym none ∙ rw e at named))
 
 pub empty : (section : SectionMeaning) (kind : SectionKind) → section.size ≡ 0
     → is_of_kind kind section ≡ false

@@ -4,6 +4,7 @@ pub mod NumberLists
 pub mod Views
 pub mod FirstOfKind
 pub mod FirstUnit
+pub mod SplitHeaders
 pub mod PackageLookUp
 pub mod RowsOfUnits
 pub mod TwoPlaces

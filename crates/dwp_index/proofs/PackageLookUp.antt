@@ -1,18 +1,16 @@
 -- What looking a unit up in a package gives.
-use Rattle.std.proofs.Common.{◌≡◌, ℕ, ◌+◌, ◌≤◌, Bool, false, not, List, [], ◌∷◌, length, refl, sym}
-use Rattle.std.proofs.Common.{ap, subst, ◌∙◌, arith, Option, Some, None, Result, Ok, Err, IfOk}
+use Rattle.std.proofs.Common.{◌≡◌, ℕ, ◌+◌, ◌≤◌, Bool, false, not, List, [], ◌∷◌, length, refl}
+use Rattle.std.proofs.Common.{ap, arith, Option, Some, None, Ok}
 use Rattle.std.proofs.Common.{slice_range, find, le-leb}
 use Rattle.dwp_index.proofs.Terms
-use Terms.{Answers, bind-was, content, contribution_kinds, DwarfObject, Encoding, encoding_in}
+use Terms.{content, contribution_kinds, DwarfObject, Encoding, encoding_in}
 use Terms.{FindsExactly, found_row, identifier_of, Index, index_for, IsIndex, look_count, Package}
-use Terms.{range_in, Ranges, row_in, same-ok, same_Some, SectionKind, Sections}
+use Terms.{range_in, Ranges, row_in, SectionKind, Sections}
 use Rattle.dwp_base.specs.declared.section.Contribution.{Contribution}
-use Rattle.dwp_index.specs.declared.error.PackageError.{PackageError}
-use Rattle.dwp_index.specs.Package.{FoundUnit, as_error, is_outside, first_outside, all_inside}
+use Rattle.dwp_index.specs.Package.{FoundUnit, is_outside, first_outside}
 use Rattle.dwp_index.specs.Package.{row_bytes, unit_in, unit_at_row, found_counted, found}
 use Rattle.dwp_index.specs.Finding.{own_place, own_bytes, LiesInside, unit_of, HasIndex, IsUnitOf}
-use Rattle.dwp_index.specs.Finding.{IsNotNamed, GivesWithin, row_number}
-use Rattle.dwp_index.specs.declared.error.PackageError.TheVariants as errors
+use Rattle.dwp_index.specs.Finding.{IsNotNamed, GivesWithin}
 
 -- ---- the ranges
 not_outside : (bytes : List ℕ) (range : Option Contribution) → ((c : Contribution) → range ≡ Some c
@@ -97,31 +95,3 @@ pub row_bytes-absent : (contents : Sections) (row : Ranges) (kind : SectionKind)
     → range_in row kind ≡ None → row_bytes contents row kind ≡ []
 unfolding row_bytes
 row_bytes-absent contents row kind e = rw e refl
-
--- ---- a look-up that was answered
-
--- what holds of the number of a row and of a count holds of what was answered
-pub answered : (pack : Package) (object : DwarfObject) (index : Index) (number count : ℕ)
-    (P : Option ℕ → ℕ → Type 0) (r : Result (Option FoundUnit × ℕ) PackageError)
-    → Answers (λ y. y) r (unit_at_row pack object index number count) → P (Some number) count
-    → IfOk r (λ y. P (row_number y.0) y.1)
-unfolding unit_at_row unit_in
-answered pack object index number count P (Ok y) h p =
-    let row = bind-was (as_error errors.Index (row_in index number)) _ _ h in
-    let made = bind-was (unit_in pack object number row.0) _ _ row.2 in
-    let inside = bind-was (all_inside (first_outside pack.contents row.0)) _ _ made.1 in
-    let read = bind-was (as_error errors.Unit (encoding_in pack.order (own_place object row.0)
-    (own_bytes pack.contents object row.0))) _ _ inside.2 in
-    subst (λ (a : Option FoundUnit × ℕ). P (row_number a.0) a.1) (same-ok _ _ made.2)
-    (subst (λ (u : FoundUnit). P (Some u.number) count) (same-ok _ _ read.2) p)
-answered pack object index number count P (Err e) h p = tt
-
--- what holds of the slots of the index of an object holds of the slots of its every index
-pub slots_of : (pack : Package) (object : DwarfObject) (index : Index) (P : List ℕ → Type 0)
-    → index_for pack object ≡ Some index
-    → ((ids : List ℕ) → IsIndex ids index.signatures index.rows → P ids)
-    → (ids : List ℕ) (other : Index) → index_for pack object ≡ Some other
-    → IsIndex ids other.signatures other.rows → P ids
-slots_of pack object index P there holds ids other e slots =
-    holds ids (subst (λ (i : Index). IsIndex ids i.signatures i.rows)
-    (same_Some other index (sym e ∙ there)) slots)

@@ -1,9 +1,9 @@
 -- The names that proofs of this crate cite most, passed on from one place. Declares nothing.
 pub use Rattle.std.proofs.lemmas.Option.{same_Some}
 pub use Rattle.std.specs.List.{list_any, position_from, range_with_len}
-pub use Rattle.dwp_base.proofs.Bools.{by-bool, is-false}
-pub use Rattle.dwp_base.proofs.EveryKind.{at-rank, every-two, is-same, named-itself, not-older}
-pub use Rattle.dwp_base.proofs.EveryKind.{same-each, same-self, value-of}
+pub use Rattle.dwp_base.proofs.Bools.{by-bool}
+pub use Rattle.dwp_base.proofs.EveryKind.{is-same, named-itself, not-older, same-each, same-self}
+pub use Rattle.dwp_base.proofs.EveryKind.{value-of}
 pub use Rattle.dwp_base.proofs.Steps.{bind-was, each-read, same-ok}
 pub use Rattle.dwp_base.specs.Numbers.{number}
 pub use Rattle.dwp_base.specs.Reading.{Answers, ◌>>=◌}

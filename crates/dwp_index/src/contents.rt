@@ -1,10 +1,10 @@
 //! The contents of a package's sections (DWARF 5, 7.3.5).
 
-ghost use Rattle.std.specs.Prelude.{◌≡◌, Some, IsTrue, IfSome, option_map, slice_get};
+ghost use Rattle.std.specs.Prelude.{◌≡◌, Some, IsTrue, IfSome, slice_get};
 ghost use Rattle.std.specs.List.{find};
 ghost use Rattle.dwp_base.specs.Reading.{Answers};
 ghost use Rattle.dwp_elf_read.specs.View.{elf, section};
-ghost use Rattle.dwp_index.specs.Contents.{content, is_of_kind, used_bytes, bytes_of, contents_of};
+ghost use Rattle.dwp_index.specs.Contents.{content, is_of_kind, bytes_of, contents_of};
 ghost use Rattle.dwp_index.specs.Firsts.{first_in, found_in, found_with};
 ghost use Rattle.dwp_base.specs.declared.section.SectionKind.{SectionKind};
 ghost use Rattle.dwp_index.specs.ContentFields.{contents_in};
@@ -16,17 +16,6 @@ use dwp_elf_read::{ElfFile, ReadError, Section};
 #[derive(Clone, Copy)]
 pub(crate) struct Contents<'a> {
     by_kind: ByKind<&'a [u8]>,
-}
-
-/// The content of a section that is used.
-#[tactic(auto, unfolding(crate::specs::Contents::used_bytes))]
-fn used_bytes<'a>(used: &Section<'a>, kind: SectionKind) -> Result<&'a [u8], ReadError>
-    ensures { Answers (λ bytes. bytes.now) result (used_bytes kind (section used.now)) }
-{
-    if used.is_compressed() || used.has_older_name(kind) {
-        return Err(ReadError::Compressed);
-    }
-    used.data()
 }
 
 /// The first section of each kind that has bytes, and its number, by one walk over the sections.
@@ -64,16 +53,20 @@ fn meet<'a>(firsts: &mut ByKind<Option<(usize, Section<'a>)>>, number: usize, ne
 }
 
 /// The content of the section of a kind that was met first; none where there is no such section.
+#[tactic(auto, unfolding(crate::specs::Contents::used_bytes))]
 fn content_of_first<'a>(
     firsts: &ByKind<Option<(usize, Section<'a>)>>,
     kind: SectionKind,
 ) -> Result<&'a [u8], ReadError>
     ensures { Answers (λ bytes. bytes.now) result (bytes_of kind (first_in firsts.now kind)) }
 {
-    match firsts.get(kind) {
-        None => Ok(&[]),
-        Some((_, used)) => used_bytes(&used, kind),
+    let Some((_, used)) = firsts.get(kind) else {
+        return Ok(&[]);
+    };
+    if used.is_compressed() || used.has_older_name(kind) {
+        return Err(ReadError::Compressed);
     }
+    used.data()
 }
 
 impl<'a> Contents<'a> {

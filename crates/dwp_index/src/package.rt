@@ -1,11 +1,9 @@
 //! Packages: the units that their indexes name, with all that belongs to each.
 
-ghost use Rattle.std.specs.Prelude.{◌≡◌, ◌≤◌, ◌+◌, ℕ, List, length, IfOk, Ok};
+ghost use Rattle.std.specs.Prelude.{◌≡◌, ◌≤◌, ◌+◌, ℕ, List, length, IfOk};
 ghost use Rattle.std.specs.Option.{option_copied};
 ghost use Rattle.dwp_base.specs.Reading.{Answers};
-ghost use Rattle.dwp_elf_read.specs.Elf.{elf_of};
-ghost use Rattle.dwp_elf_read.specs.View.{elf};
-ghost use Rattle.dwp_index.specs.Contents.{content, contents_of};
+ghost use Rattle.dwp_index.specs.Contents.{content};
 ghost use Rattle.dwp_index.specs.ContentFields.{contents_in};
 ghost use Rattle.dwp_table.specs.Objects.{identifier_of};
 ghost use Rattle.dwp_table.specs.declared.object.DwarfObject.TheVariants.{Compilation, TypeUnit};
@@ -13,9 +11,8 @@ ghost use Rattle.dwp_table.specs.Table.{IsIndex, FindsExactly};
 ghost use Rattle.dwp_index.specs.Finding.{row_number, slots_for};
 ghost use Rattle.dwp_index.specs.Index.{Index, row_in, range_in};
 ghost use Rattle.dwp_index.specs.Package.{as_error, is_outside, package_of, index_in_section};
-ghost use Rattle.dwp_index.specs.Package.{index_for, first_outside, encoding_in, unit_in};
-ghost use Rattle.dwp_index.specs.Package.{unit_at_row, found_counted, found, first_byte};
-ghost use Rattle.dwp_index.specs.Package.{first_byte_of, row_inside, row_counted};
+ghost use Rattle.dwp_index.specs.Package.{index_for, first_outside, unit_in, found_counted, found};
+ghost use Rattle.dwp_index.specs.Package.{first_byte, row_counted};
 ghost use Rattle.dwp_index.specs.declared.error.PackageError.TheVariants as errors;
 
 use crate::contents::Contents;
@@ -24,10 +21,8 @@ use crate::unit::{PackagedUnit, encoding_in, kind_of, lies_inside, place_of, row
 use crate::unit_index::{Row, UnitIndex};
 use crate::units::Units;
 use dwp_base::{Endianness, SectionKind};
-use dwp_bytes::Encoding;
 use dwp_elf_read::ElfFile;
 use dwp_table::{Bucketable, CONTRIBUTION_KINDS, DebugTypeSignature, DwarfObject, DwoId};
-use dwp_units::UnitSection;
 use std::marker::Model;
 
 /// A package file: its sections, and the indexes that say which parts of them belong to which unit
@@ -64,8 +59,14 @@ impl<'a> PackageFile<'a> {
     pub fn parse(bytes: &'a [u8]) -> Result<PackageFile<'a>, PackageError>
         ensures { Answers (λ x. x) result (package_of bytes.now) }
     {
-        let file = read_file(bytes)?;
-        let contents = read_contents(&file)?;
+        let file = match ElfFile::parse(bytes) {
+            Ok(file) => file,
+            Err(e) => return Err(PackageError::Elf(e)),
+        };
+        let contents = match Contents::read(&file) {
+            Ok(contents) => contents,
+            Err(e) => return Err(PackageError::Elf(e)),
+        };
         let order = file.endianness();
         let compilations = read_index(contents.of(SectionKind::CuIndex), order)?;
         let types = read_index(contents.of(SectionKind::TuIndex), order)?;
@@ -150,7 +151,7 @@ impl<'a> PackageFile<'a> {
     ///
     /// # Errors
     /// Those of `find`.
-    #[tactic(auto, unfolding(crate::specs::Package::found_counted))]
+    #[tactic(auto, unfolding(crate::specs::Package::found_counted, crate::specs::Package::unit_at_row))]
     pub fn find_counted(
         &self,
         object: DwarfObject,
@@ -174,7 +175,11 @@ impl<'a> PackageFile<'a> {
                 let (found, count) = index.find_counted(object.index());
                 match found {
                     None => Ok((None, count)),
-                    Some(number) => self.unit_at_row(object, index, number, count),
+                    Some(number) => {
+                        let row = read_row(index, number)?;
+                        let unit = self.unit_in(object, number, row)?;
+                        Ok((Some(unit), count))
+                    }
                 }
             }
         }
@@ -199,7 +204,11 @@ impl<'a> PackageFile<'a> {
         let Some(number) = found else {
             return Ok((None, count));
         };
-        self.row_inside(number, count, read_row(index, number)?)
+        let row = read_row(index, number)?;
+        match first_outside(&self.contents, &row) {
+            None => Ok((Some((number, row)), count)),
+            Some(kind) => Err(PackageError::Range(kind)),
+        }
     }
 
     /// The first byte of an identifier's unit; only that range is looked at. None where the index
@@ -211,10 +220,12 @@ impl<'a> PackageFile<'a> {
     {
         let index = self.index_for(object)?;
         let number = index.find(object.index())?;
-        match index.row(number) {
-            Ok(row) => self.first_byte_of(object, &row),
-            Err(_) => None,
-        }
+        let Ok(row) = index.row(number) else {
+            return None;
+        };
+        let kind = kind_of(place_of(object, row.range(SectionKind::Types)));
+        let range = row.range(kind)?;
+        self.contents.of(kind).get(range.offset.0 as usize).copied()
     }
 
     /// The units that the slots of both indexes name, in order of slot, those of the compilation
@@ -240,46 +251,6 @@ impl<'a> PackageFile<'a> {
         }
     }
 
-    /// The first byte of the unit of a row.
-    fn first_byte_of(&self, object: DwarfObject, row: &Row<'a>) -> Option<u8>
-        ensures { result ≡ first_byte_of self.now object (Ok row.now) }
-    {
-        let kind = kind_of(place_of(object, row.range(SectionKind::Types)));
-        let range = row.range(kind)?;
-        self.contents.of(kind).get(range.offset.0 as usize).copied()
-    }
-
-    /// A row whose ranges lie inside their sections.
-    fn row_inside(
-        &self,
-        number: u32,
-        count: u32,
-        row: Row<'a>,
-    ) -> Result<(Option<(u32, Row<'a>)>, u32), PackageError>
-        ensures { Answers (λ x. x) result (row_inside self.now number count row.entry) }
-    {
-        match first_outside(&self.contents, &row) {
-            None => Ok((Some((number, row)), count)),
-            Some(kind) => Err(PackageError::Range(kind)),
-        }
-    }
-
-    /// The unit of a row number.
-    #[tactic(auto, unfolding(crate::specs::Package::unit_at_row))]
-    fn unit_at_row(
-        &self,
-        object: DwarfObject,
-        index: &UnitIndex<'a>,
-        number: u32,
-        count: u32,
-    ) -> Result<(Option<PackagedUnit<'a>>, u32), PackageError>
-        ensures { Answers (λ x. x) result (unit_at_row self.now object index.now number count) }
-    {
-        let row = read_row(index, number)?;
-        let unit = self.unit_in(object, number, row)?;
-        Ok((Some(unit), count))
-    }
-
     /// The unit of a row.
     #[tactic(auto, unfolding(crate::specs::Package::unit_in))]
     fn unit_in(
@@ -288,14 +259,18 @@ impl<'a> PackageFile<'a> {
         number: u32,
         row: Row<'a>,
     ) -> Result<PackagedUnit<'a>, PackageError>
-        ensures { Answers (λ x. x) result (unit_in self.now object number row.entry) }
+        ensures unit { Answers (λ x. x) result (unit_in self.now object number row.entry) }
+        ensures number { IfOk result (λ unit. unit.number ≡ number) }
     {
         if let Some(kind) = first_outside(&self.contents, &row) {
             return Err(PackageError::Range(kind));
         }
         let place = place_of(object, row.range(SectionKind::Types));
         let bytes = row_bytes(&self.contents, &row, kind_of(place));
-        let encoding = read_encoding(bytes, self.order, place)?;
+        let encoding = match encoding_in(bytes, self.order, place) {
+            Ok(encoding) => encoding,
+            Err(e) => return Err(PackageError::Unit(e)),
+        };
         Ok(PackagedUnit {
             order: self.order,
             contents: self.contents,
@@ -304,25 +279,6 @@ impl<'a> PackageFile<'a> {
             bytes,
             encoding,
         })
-    }
-}
-
-fn read_file(bytes: &[u8]) -> Result<ElfFile<'_>, PackageError>
-    ensures { Answers elf result (as_error errors.Elf (elf_of bytes.now)) }
-{
-    match ElfFile::parse(bytes) {
-        Ok(file) => Ok(file),
-        Err(e) => Err(PackageError::Elf(e)),
-    }
-}
-
-fn read_contents<'a>(file: &ElfFile<'a>) -> Result<Contents<'a>, PackageError>
-    ensures { Answers contents_in result
-        (as_error errors.Elf (contents_of (elf file.now).sections)) }
-{
-    match Contents::read(file) {
-        Ok(contents) => Ok(contents),
-        Err(e) => Err(PackageError::Elf(e)),
     }
 }
 
@@ -358,19 +314,6 @@ pub fn read_row<'a>(index: &UnitIndex<'a>, number: u32) -> Result<Row<'a>, Packa
     match index.row(number) {
         Ok(row) => Ok(row),
         Err(e) => Err(PackageError::Index(e)),
-    }
-}
-
-fn read_encoding(
-    bytes: &[u8],
-    order: Endianness,
-    place: UnitSection,
-) -> Result<Encoding, PackageError>
-    ensures { Answers (λ x. x) result (as_error errors.Unit (encoding_in order place bytes.now)) }
-{
-    match encoding_in(bytes, order, place) {
-        Ok(encoding) => Ok(encoding),
-        Err(e) => Err(PackageError::Unit(e)),
     }
 }
 

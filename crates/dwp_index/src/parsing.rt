@@ -39,15 +39,6 @@ pub(crate) fn read_u32_at(bytes: &[u8], order: Endianness, at: usize) -> u32
     order.read_u32(tail(bytes, at))
 }
 
-/// The number in the eight bytes at a place.
-#[inline(always)]
-pub(crate) fn read_u64_at(bytes: &[u8], order: Endianness, at: usize) -> u64
-    requires { at + 8 ≤ length bytes.now }
-    ensures { result ≡ number order 8 (drop at bytes.now) }
-{
-    order.read_u64(tail(bytes, at))
-}
-
 /// The version of an index: 2 or 5.
 #[tactic(auto, unfolding(crate::specs::IndexBytes::version_of))]
 #[inline(always)]

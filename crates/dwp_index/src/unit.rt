@@ -1,9 +1,10 @@
 //! Units of a package, with all that belongs to each (DWARF 5, 7.3.5).
 
-ghost use Rattle.std.specs.Prelude.{◌≡◌};
+ghost use Rattle.std.specs.Prelude.{◌≡◌, IfSome, Ok};
 ghost use Rattle.std.specs.Option.{option_copied};
 ghost use Rattle.dwp_base.specs.Reading.{Answers};
 ghost use Rattle.dwp_bytes.specs.StringOffsets.{string_in};
+ghost use Rattle.dwp_units.specs.declared.unit.UnitSection.{UnitSection};
 ghost use Rattle.dwp_index.specs.Contents.{content};
 ghost use Rattle.dwp_index.specs.ContentFields.{contents_in};
 ghost use Rattle.dwp_index.specs.Index.{range_in};
@@ -13,7 +14,7 @@ ghost use Rattle.dwp_index.specs.Package.{encoding_in};
 use crate::contents::Contents;
 use crate::unit_index::Row;
 use dwp_base::{Contribution, Endianness, SectionKind};
-use dwp_bytes::{Encoding, ReadError, SliceReader, StringOffsets};
+use dwp_bytes::{Encoding, Format, ReadError, SliceReader, StringOffsets};
 use dwp_table::DwarfObject;
 use dwp_units::{UnitHeaders, UnitSection};
 use std::marker::Model;
@@ -168,11 +169,48 @@ pub fn kind_of(place: UnitSection) -> SectionKind
 ///
 /// # Errors
 /// That of the header where it can't be read, `UnexpectedEof` where there are no bytes.
+#[inline(always)]
 pub fn encoding_in(
     bytes: &[u8],
     order: Endianness,
     place: UnitSection,
 ) -> Result<Encoding, ReadError>
+    ensures { Answers (λ x. x) result (encoding_in order place bytes.now) }
+{
+    match split_encoding(bytes, order) {
+        Some(encoding) => Ok(encoding),
+        None => any_encoding(bytes, order, place),
+    }
+}
+
+/// The encoding of a split compilation unit of DWARF 5 in the 32-bit format whose addresses have 8
+/// bytes, which is what look-ups find most often; None for any other unit.
+#[inline(always)]
+fn split_encoding(bytes: &[u8], order: Endianness) -> Option<Encoding>
+    ensures { IfSome result (λ encoding. (place : UnitSection)
+        → encoding_in order place bytes.now ≡ Ok encoding) }
+{
+    if bytes.len() < 20 {
+        return None;
+    }
+    let length = order.read_u32(bytes);
+    if length < 16 || length >= 0xfffffff0 || bytes.len() as u64 - 4 < u64::from(length) {
+        return None;
+    }
+    let body = &bytes[4..4 + length as usize];
+    if order.read_u16(body) != 5 || body[2] != 5 || body[3] != 8 {
+        return None;
+    }
+    Some(Encoding {
+        version: 5,
+        format: Format::Dwarf32,
+        address_size: 8,
+    })
+}
+
+/// The encoding of a unit of any form.
+#[inline(never)]
+fn any_encoding(bytes: &[u8], order: Endianness, place: UnitSection) -> Result<Encoding, ReadError>
     ensures { Answers (λ x. x) result (encoding_in order place bytes.now) }
 {
     match UnitHeaders::new(SliceReader::new(bytes, order), place).next() {

@@ -4,12 +4,10 @@ ghost use Rattle.std.specs.Prelude.{◌≡◌, ◌<◌, ◌≤◌, ◌+◌, ℕ,
 ghost use Rattle.dwp_base.specs.Reading.{Answers};
 ghost use Rattle.dwp_table.specs.Probing.{found_row, look_count};
 ghost use Rattle.dwp_table.specs.Table.{IsIndex, FindsExactly};
-ghost use Rattle.dwp_index.specs.Index.{row_in, column_place, contribution, range_in};
+ghost use Rattle.dwp_index.specs.Index.{row_in, column_place, range_in};
 ghost use Rattle.dwp_index.specs.IndexBytes.{index_of};
 
-use crate::parsing::{
-    after, after_rows, counts_of, read_columns, read_u32_at, read_u64_at, tail, version_of,
-};
+use crate::parsing::{after, after_rows, counts_of, read_columns, read_u32_at, tail, version_of};
 use dwp_base::{ByKind, Contribution, ContributionOffset, Endianness, SectionKind};
 use dwp_bytes::ReadError;
 use dwp_table::laws::look_up_finds_exactly;
@@ -218,7 +216,7 @@ impl<'a> UnitIndex<'a> {
     {
         let slot = slot as usize;
         (
-            read_u64_at(self.signatures, self.order, 8 * slot),
+            self.order.read_u64(tail(self.signatures, 8 * slot)),
             read_u32_at(self.rows, self.order, 4 * slot),
         )
     }
@@ -235,22 +233,13 @@ impl<'a> Row<'a> {
             return None;
         }
         let at = 4 * place as usize;
-        contribution(
-            read_u32_at(self.offsets, self.order, at),
-            read_u32_at(self.sizes, self.order, at),
-        )
+        let size = read_u32_at(self.sizes, self.order, at);
+        if size == 0 {
+            return None;
+        }
+        Some(Contribution {
+            offset: ContributionOffset(read_u32_at(self.offsets, self.order, at) as u64),
+            size: size as u64,
+        })
     }
-}
-
-#[inline(always)]
-fn contribution(offset: u32, size: u32) -> Option<Contribution>
-    ensures { result ≡ contribution offset size }
-{
-    if size == 0 {
-        return None;
-    }
-    Some(Contribution {
-        offset: ContributionOffset(offset as u64),
-        size: size as u64,
-    })
 }

@@ -1,12 +1,21 @@
-use Rattle.std.proofs.Common.{sym, ◌∙◌, arith}
+use Rattle.std.proofs.Common.{sym, ◌∙◌, ◌*◌, arith, length-drop}
 use Rattle.dwp_index.proofs.NumberLists.{get_or-numbers}
 use Rattle.dwp_index.proofs.Views.{slots-length}
 use Rattle.dwp_index.proofs.unit_index.UnitIndex.slot.Goals as goal
 
-pub read_u64_at-requires : goal.read_u64_at-requires
-read_u64_at-requires c =
+pub tail-requires : goal.tail-requires
+tail-requires c =
     let slots = slots-length c.self.inside c.args.self.now c.self.view_is in
     omega (arith, c.self.invariant.signatures)
+
+pub read_u64-requires : goal.read_u64-requires
+read_u64-requires c =
+    let slots = slots-length c.self.inside c.args.self.now c.self.view_is in
+    rw c.tail.ensures (omega (
+      arith,
+      c.self.invariant.signatures,
+      length-drop (8 * c.args.slot) c.self.inside.signatures.now,
+    ))
 
 pub read_u32_at-requires : goal.read_u32_at-requires
 read_u32_at-requires c =
@@ -16,7 +25,8 @@ read_u32_at-requires c =
 pub returns-clause-signature : goal.returns-clause-signature
 returns-clause-signature c =
     let slots = slots-length c.self.inside c.args.self.now c.self.view_is in
-    c.read_u64_at.ensures ∙ rw (← c.self.view_is) (sym (get_or-numbers c.self.inside.order 8
+    c.read_u64.ensures ∙ rw (c.tail.ensures, ← c.self.view_is)
+        (sym (get_or-numbers c.self.inside.order 8
     c.self.inside.slot_count c.self.inside.signatures.now c.args.slot 0 (omega arith)))
 
 pub returns-clause-row : goal.returns-clause-row
