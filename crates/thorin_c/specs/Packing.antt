@@ -1,8 +1,7 @@
 -- What the exports that pack answer.
-use Rattle.std.specs.Prelude.{◌≡◌, ◌≢◌, ℕ, ℤ, pos, ◌<◌, ◌≤◌, if◌then◌else◌, List, [], ◌∷◌, map}
+use Rattle.std.specs.Prelude.{◌≡◌, ◌≢◌, ℕ, ℤ, pos, ◌<◌, ◌≤◌, if◌then◌else◌, List, [], map}
 use Rattle.std.specs.Prelude.{take, drop, length, Result, Ok, Err, ◌⊎◌}
 use Rattle.std.specs.List.{HoldsAt}
-use Rattle.dwp_base.specs.Reading.{◌>>=◌}
 use Rattle.thorin_errors.specs.Answers.{MemoryAside}
 use Rattle.thorin_errors.specs.Errors.{ErrorValue, error_of}
 use Rattle.thorin_errors.specs.declared.error.Error.{Error}
@@ -13,11 +12,12 @@ use Rattle.thorin_join.specs.Meaning.{Members}
 use Rattle.thorin_again.specs.Own.{packs_again}
 use Rattle.thorin_join.specs.Represents.{units_in}
 use Rattle.thorin.specs.Again.{IsTakenAgain}
+use Rattle.thorin.specs.Groups.{taken_each}
 use Rattle.thorin.specs.Run.{IsWritten, RefusesToWrite}
 use Rattle.thorin_c.specs.Errors.{Tells}
 use Rattle.thorin_c.specs.Listing.{written_over}
-use Rattle.thorin_c.specs.declared.packing.Refusal.{Refusal}
-use Rattle.thorin_c.specs.declared.packing.Refusal.TheVariants as refusals
+use Rattle.thorin_c.specs.declared.packing.PackingFailure.{PackingFailure}
+use Rattle.thorin_c.specs.declared.packing.PackingFailure.TheVariants as refusals
 use Rattle.thorin_c.specs.declared.types.ThorinBytes.{ThorinBytes}
 use Rattle.thorin_c.specs.declared.types.ThorinReport.{ThorinReport}
 use Rattle.std.specs.declared.io.Error.{Error as IoError}
@@ -31,14 +31,9 @@ no_files path (Err cause) = Unit {0}
 abbrev pub bytes_of : List ThorinBytes → List (List ℕ)
 bytes_of inputs = map (λ input. input.bytes.now) inputs
 
--- the state once each input was taken, or the first error
-abbrev pub all_taken : List ThorinBytes → State → Result State ErrorValue
-all_taken [] state = Ok state
-all_taken (input ∷ rest) state = taken input.bytes.now state >>= λ next. all_taken rest next
-
 -- each input is taken, and its units are joined to those before
 pub record Accepts (inputs : List ThorinBytes) (old new : State) : Type 0 where
-  pub taken : all_taken inputs old ≡ Ok new
+  pub taken : taken_each (bytes_of inputs) old ≡ Ok new
   pub joined : JoinAll (bytes_of inputs) (units_in old) (units_in new)
 
 -- the input of this number is refused for this error, and those before it are accepted
@@ -93,7 +88,7 @@ pub record Leaves (inputs : List ThorinBytes) (error : Error) : Type 0 where
   pub memory : error ≡ errors.Memory → 0 < length inputs
 
 -- what stands in a refusal
-abbrev pub IsRefusal : List ThorinBytes → Refusal → Type 0
+abbrev pub IsRefusal : List ThorinBytes → PackingFailure → Type 0
 IsRefusal inputs (refusals.Input input) = StopsAt inputs start input.number input.error
 IsRefusal inputs (refusals.Package error) = Leaves inputs error
 

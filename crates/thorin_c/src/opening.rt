@@ -11,7 +11,7 @@ ghost use Rattle.thorin_c.specs.Opening.{bytes_at, order_of, sections_at, packag
 ghost use Rattle.thorin_c.specs.Opening.{IsPlaceIn, LieIn};
 ghost use Rattle.thorin_c.specs.Finding.{as_status, Fills};
 
-use crate::opened::{Opened, order_of};
+use crate::opened::{OpenPackage, order_of};
 use crate::status::{DONE, status_of};
 use crate::types::{ThorinPackage, ThorinRange};
 use dwp_base::{ByKind, Endianness, SectionKind};
@@ -34,7 +34,7 @@ pub extern "C" fn thorin_open(bytes: &[u8], places: &mut ThorinPackage) -> i32
         Ok(found) => found,
         Err(error) => return status_of(error),
     };
-    match Opened::at(&found, bytes, order_of(found.big_endian)) {
+    match OpenPackage::at(&found, bytes, order_of(found.big_endian)) {
         Ok(_) => {
             *places = found;
             DONE

@@ -27,7 +27,7 @@ use thorin_errors::Error;
 /// A package's bytes, how many type units were passed over that differ from those kept, and whether
 /// it is sure to be taken as an input again.
 #[derive(Drop)]
-struct Packed {
+struct FinishedPackage {
     file: Vec<u8>,
     differing: u64,
     packs_again: bool,
@@ -42,7 +42,7 @@ struct RefusedInput {
 
 /// Why inputs weren't packed.
 #[derive(Drop)]
-enum Refusal {
+enum PackingFailure {
     /// An input was refused.
     Input(RefusedInput),
     /// The package can't be finished or written.
@@ -91,8 +91,8 @@ pub extern "C" fn thorin_pack(
             DONE
         }
         Err(refusal) => match refusal {
-            Refusal::Input(input) => refused(input, report),
-            Refusal::Package(error) => unfinished(error, inputs.len(), report),
+            PackingFailure::Input(input) => refused(input, report),
+            PackingFailure::Package(error) => unfinished(error, inputs.len(), report),
         },
     }
 }
@@ -101,6 +101,7 @@ pub extern "C" fn thorin_pack(
 /// those of the unit that is kept: 0, as many as there is room for in `types`, in the order of
 /// passing over, and how many there are in `report.differing`. 11 and 13 as `thorin_pack`, and then
 /// `types` is left as it is, as are the other fields of `report` always.
+#[tactic(auto, using(crate::proofs::Taking::refuses, crate::proofs::Taking::differs, crate::proofs::Taking::runs_out_at))]
 #[unsafe(no_mangle)]
 pub extern "C" fn thorin_differing_types(
     alloc: Global,
@@ -117,35 +118,18 @@ pub extern "C" fn thorin_differing_types(
 {
     let session = NoFiles {};
     let mut builder = DwarfPackage::new(alloc, &session);
-    let status = tell_differing(&mut builder, inputs, types, report);
-    drop(builder);
-    status
-}
-
-// Tells of those that a new builder passes over.
-#[tactic(auto, using(crate::proofs::Taking::refuses, crate::proofs::Taking::differs, crate::proofs::Taking::runs_out_at))]
-fn tell_differing<'o, 's: 'o>(
-    builder: &mut DwarfPackage<'o, 's, NoFiles>,
-    inputs: &[ThorinBytes<'_>],
-    types: &mut [u64],
-    report: &mut ThorinReport,
-) -> i32
-    requires { builder.old.state ≡ start }
-    ensures done { result ≡ pos 0 → Differ inputs.now report.new types.old types.new }
-    ensures refused { result ≡ pos 11 → Refuses inputs.now report.new }
-    ensures memory { result ≡ pos 13 → RunsOutAt inputs.now report.new.input }
-    ensures status { IsDifferingStatus result }
-    ensures unchanged { result ≢ pos 0 → types.new ≡ types.old }
-    ensures alone { TellsAlone TellsOfDiffering result report.old report.new }
-{
-    match add_all(builder, inputs) {
+    match add_all(&mut builder, inputs) {
         Ok(()) => {
             let differing = builder.differing_types();
             report.differing = differing.len() as u64;
             write_signatures(differing, types);
+            drop(builder);
             DONE
         }
-        Err(refusal) => refused(refusal, report),
+        Err(refusal) => {
+            drop(builder);
+            refused(refusal, report)
+        }
     }
 }
 
@@ -185,7 +169,7 @@ fn unfinished(error: Error, count: usize, report: &mut ThorinReport) -> i32
 
 // The package of inputs.
 #[tactic(auto, using(crate::proofs::Taking::none_fails))]
-fn package_of(alloc: Global, inputs: &[ThorinBytes<'_>]) -> Result<Packed, Refusal>
+fn package_of(alloc: Global, inputs: &[ThorinBytes<'_>]) -> Result<FinishedPackage, PackingFailure>
     ensures packed { IfOk result (λ packed. IsPackage inputs.now packed.differing
         (if packed.packs_again then 1 else 0) packed.file.items) }
     ensures again { IfOk result (λ packed. packed.packs_again ≡ true
@@ -193,7 +177,7 @@ fn package_of(alloc: Global, inputs: &[ThorinBytes<'_>]) -> Result<Packed, Refus
     ensures refused { IfErr result (IsRefusal inputs.now) }
 {
     if inputs.is_empty() {
-        return Err(Refusal::Package(Error::NoOutputObjectCreated));
+        return Err(PackingFailure::Package(Error::NoOutputObjectCreated));
     }
     let session = NoFiles {};
     let mut builder = DwarfPackage::new(alloc, &session);
@@ -201,7 +185,7 @@ fn package_of(alloc: Global, inputs: &[ThorinBytes<'_>]) -> Result<Packed, Refus
         Ok(()) => finish(inputs, builder),
         Err(refusal) => {
             drop(builder);
-            Err(Refusal::Input(refusal))
+            Err(PackingFailure::Input(refusal))
         }
     }
 }
@@ -210,7 +194,7 @@ fn package_of(alloc: Global, inputs: &[ThorinBytes<'_>]) -> Result<Packed, Refus
 fn finish<'o, 's: 'o>(
     inputs: &[ThorinBytes<'_>],
     builder: DwarfPackage<'o, 's, NoFiles>,
-) -> Result<Packed, Refusal>
+) -> Result<FinishedPackage, PackingFailure>
     requires some { 0 < length inputs.now }
     requires accepted { Accepts inputs.now start builder.state }
     ensures packed { IfOk result (λ packed. IsPackage inputs.now packed.differing
@@ -223,16 +207,17 @@ fn finish<'o, 's: 'o>(
     let differing = builder.differing_types().len() as u64;
     let packs_again = builder.packs_again();
     match written(builder) {
-        Ok(file) => Ok(Packed {
+        Ok(file) => Ok(FinishedPackage {
             file,
             differing,
             packs_again,
         }),
-        Err(error) => Err(Refusal::Package(error)),
+        Err(error) => Err(PackingFailure::Package(error)),
     }
 }
 
 // Adds inputs in order, up to the first that isn't taken: its number and its error.
+#[tactic(auto, unfolding(thorin::specs::Groups::taken_each))]
 fn add_all<'o, 's: 'o>(
     builder: &mut DwarfPackage<'o, 's, NoFiles>,
     inputs: &[ThorinBytes<'_>],

@@ -5,7 +5,7 @@ use Rattle.std.specs.Prelude.{ℤ, Result, Ok, Err}
 use Rattle.std.proofs.lemmas.List.{take_more_set, drop_more, drop-set-lt, drop-map, drop_all}
 use Rattle.std.proofs.lemmas.List.{append_assoc, append-nil, map-set, get_or-map, set-get_or}
 use Rattle.dwp_index.specs.Package.{Package}
-use Rattle.thorin_c.specs.Finding.{told, looked, unit_found}
+use Rattle.thorin_c.specs.Finding.{told, looked}
 use Rattle.thorin_c.specs.declared.types.ThorinLookup.{ThorinLookup}
 use Rattle.thorin_c.specs.declared.types.ThorinUnit.{ThorinUnit}
 
@@ -32,16 +32,16 @@ module _ {A : Type 0} (f : A → A) where
       rw (front, ← drop-map f i now, same, drop-map f i old) done
 
 -- a status that was left before makes no difference
-pub status_left : (pack : Package) (lookups : List ThorinLookup) (i : ℕ) (d : ThorinLookup) (s : ℤ)
-    → i < length lookups
-    → map (looked pack) (set lookups i (record (get_or lookups i d) { status = s })) ≡ map
-    (looked pack) lookups
-status_left pack lookups i d s h =
+pub status_left : (find : Result Package ℤ → ℕ → ℕ → Result ThorinUnit ℤ) (pack : Package)
+    (lookups : List ThorinLookup) (i : ℕ) (d : ThorinLookup) (s : ℤ) → i < length lookups
+    → map (looked find pack) (set lookups i (record (get_or lookups i d) { status = s }))
+    ≡ map (looked find pack) lookups
+status_left find pack lookups i d s h =
     let asked = get_or lookups i d in
     rw (
       map-set,
-      untold asked (unit_found (Ok pack) asked.kind asked.id),
-      ← get_or-map (looked pack) lookups i d d h,
+      untold asked (find (Ok pack) asked.kind asked.id),
+      ← get_or-map (looked find pack) lookups i d d h,
       set-get_or,
     ) refl
   where
