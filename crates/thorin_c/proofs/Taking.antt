@@ -10,6 +10,7 @@ use Rattle.thorin_errors.specs.declared.error.Error.{Error}
 use Rattle.thorin_errors.specs.declared.error.Error.TheVariants as errors
 use Rattle.thorin.specs.Run.{IsWritten, RefusesToWrite}
 use Rattle.dwp_table.specs.declared.object.DebugTypeSignature.{DebugTypeSignature}
+use Rattle.thorin_c.specs.Errors.{Tells}
 use Rattle.thorin_c.specs.Listing.{written_over}
 use Rattle.thorin_c.specs.declared.packing.RefusedInput.{RefusedInput}
 use Rattle.thorin_c.specs.declared.types.ThorinReport.{ThorinReport}
@@ -22,7 +23,7 @@ use Rattle.thorin.specs.Again.{IsTakenAgain}
 use Rattle.thorin.specs.Groups.{taken_each}
 use Rattle.thorin.proofs.Running.{taken-then, each-taken, join-append}
 use Rattle.thorin_c.specs.Packing.{bytes_of, Accepts, StopsAt, Leaves}
-use Rattle.thorin_c.specs.Packing.{TellsRefused, TellsLeft, TellsUnfinished, Refuses, RunsOutAt}
+use Rattle.thorin_c.specs.Packing.{TellsRefused, TellsUnfinished, Refuses, RunsOutAt}
 use Rattle.thorin_c.specs.Packing.{RunsOutAfter, IsPackage, ArePackedAgain, Differ}
 use Rattle.thorin_c.specs.declared.types.ThorinBytes.{ThorinBytes}
 use Rattle.dwp_base.proofs.Steps.{bind-ok}
@@ -71,19 +72,20 @@ runs_out_at inputs old refusal number is at here = rw here
 
 -- and of a package that can't be finished
 pub unfinished : (inputs : List ThorinBytes) (error : Error) (report : ThorinReport)
-    → Leaves inputs error → TellsLeft error report → TellsUnfinished inputs report
-unfinished inputs error report is told = record {
+    → Leaves inputs error → Tells (error_of error) report → (error ≡ errors.Memory → ⊥)
+    → TellsUnfinished inputs report
+unfinished inputs error report is told not_memory = record {
   error = error_of error;
-  is = record { state = is.state; accepted = is.accepted; refused = is.refused told.not_memory };
-  told = told.told;
+  is = record { state = is.state; accepted = is.accepted; refused = is.refused not_memory };
+  told = told;
 }
 
 -- and of one for which memory ran out
 pub runs_out_after : (inputs : List ThorinBytes) (error : Error) (number : ℕ) → Leaves inputs error
-    → (error ≡ errors.Memory) × (number ≡ length inputs) → RunsOutAfter inputs number
-runs_out_after inputs error number is out = record {
-  some = rw out.1 (is.memory out.0);
-  all = out.1;
+    → error ≡ errors.Memory → number ≡ length inputs → RunsOutAfter inputs number
+runs_out_after inputs error number is out all = record {
+  some = rw all (is.memory out);
+  all = all;
   state = is.state;
   accepted = is.accepted;
 }

@@ -17,7 +17,7 @@ use Rattle.thorin.specs.Run.{IsWritten, RefusesToWrite}
 use Rattle.thorin_c.specs.Errors.{Tells}
 use Rattle.thorin_c.specs.Listing.{written_over}
 use Rattle.thorin_c.specs.declared.packing.PackingFailure.{PackingFailure}
-use Rattle.thorin_c.specs.declared.packing.PackingFailure.TheVariants as refusals
+use Rattle.thorin_c.specs.declared.packing.PackingFailure.TheVariants as failures
 use Rattle.thorin_c.specs.declared.types.ThorinBytes.{ThorinBytes}
 use Rattle.thorin_c.specs.declared.types.ThorinReport.{ThorinReport}
 use Rattle.std.specs.declared.io.Error.{Error as IoError}
@@ -87,19 +87,14 @@ pub record Leaves (inputs : List ThorinBytes) (error : Error) : Type 0 where
   pub refused : MemoryAside error (RefusesToWrite state (error_of error))
   pub memory : error ≡ errors.Memory → 0 < length inputs
 
--- what stands in a refusal
-abbrev pub IsRefusal : List ThorinBytes → PackingFailure → Type 0
-IsRefusal inputs (refusals.Input input) = StopsAt inputs start input.number input.error
-IsRefusal inputs (refusals.Package error) = Leaves inputs error
+-- why inputs weren't packed
+abbrev pub IsFailure : List ThorinBytes → PackingFailure → Type 0
+IsFailure inputs (failures.Input input) = StopsAt inputs start input.number input.error
+IsFailure inputs (failures.Package error) = Leaves inputs error
 
--- what is told of a refused input, and of a package that can't be finished or written; never of
--- want of memory
+-- what is told of a refused input; never want of memory
 pub record TellsRefused (number : ℕ) (error : Error) (report : ThorinReport) : Type 0 where
   pub input : report.input ≡ number
-  pub told : Tells (error_of error) report
-  pub not_memory : error ≢ errors.Memory
-
-pub record TellsLeft (error : Error) (report : ThorinReport) : Type 0 where
   pub told : Tells (error_of error) report
   pub not_memory : error ≢ errors.Memory
 

@@ -7,8 +7,8 @@ ghost use Rattle.thorin_join.specs.Represents.{units_in};
 ghost use Rattle.thorin_join.specs.Join.{IsPackageOf};
 ghost use Rattle.thorin.specs.Run.{Writes};
 ghost use Rattle.thorin_c.specs.Listing.{written_over};
-ghost use Rattle.thorin_c.specs.Packing.{Accepts, StopsAt, IsPackage, IsRefusal, TellsRefused};
-ghost use Rattle.thorin_c.specs.Packing.{ArePackedAgain, TellsLeft, Packs, Needs, Refuses};
+ghost use Rattle.thorin_c.specs.Packing.{Accepts, StopsAt, IsPackage, IsFailure, TellsRefused};
+ghost use Rattle.thorin_c.specs.Packing.{ArePackedAgain, Packs, Needs, Refuses};
 ghost use Rattle.thorin_c.specs.Packing.{TellsUnfinished, RunsOutAt, RunsOutAfter, Differ};
 ghost use Rattle.thorin_c.specs.Packing.{IsPackingStatus, IsDifferingStatus, TellsAlone};
 ghost use Rattle.thorin_c.specs.Packing.{TellsOfPackage, TellsOfInput, TellsOfError, TellsOfMemory};
@@ -58,7 +58,6 @@ enum PackingFailure {
 /// ran out at the input `report.input`, or, at their number, while the package was finished and
 /// written. Under 11 and 12 the error's number and text stand in `report`. The other fields of
 /// `report` are left as they are.
-#[tactic(auto, using(crate::proofs::Taking::refuses, crate::proofs::Taking::unfinished, crate::proofs::Taking::runs_out_at, crate::proofs::Taking::runs_out_after))]
 #[unsafe(no_mangle)]
 pub extern "C" fn thorin_pack(
     alloc: Global,
@@ -90,10 +89,7 @@ pub extern "C" fn thorin_pack(
             out[..len].copy_from_slice(packed.file.as_slice());
             DONE
         }
-        Err(refusal) => match refusal {
-            PackingFailure::Input(input) => refused(input, report),
-            PackingFailure::Package(error) => unfinished(error, inputs.len(), report),
-        },
+        Err(failure) => tell_failure(failure, inputs, report),
     }
 }
 
@@ -151,20 +147,34 @@ fn refused(refusal: RefusedInput, report: &mut ThorinReport) -> i32
     REFUSED
 }
 
-// Tells of a package that can't be finished or written, of so many inputs.
-fn unfinished(error: Error, count: usize, report: &mut ThorinReport) -> i32
-    ensures told { result ≡ pos 12 → TellsLeft error report.new }
-    ensures memory { result ≡ pos 13 → (error ≡ Error.Memory) × (report.new.input ≡ count) }
-    ensures status { (result ≡ pos 12) ⊎ (result ≡ pos 13) }
+// Tells why inputs weren't packed.
+#[tactic(auto, using(crate::proofs::Taking::refuses, crate::proofs::Taking::unfinished, crate::proofs::Taking::runs_out_at, crate::proofs::Taking::runs_out_after))]
+fn tell_failure(
+    failure: PackingFailure,
+    inputs: &[ThorinBytes<'_>],
+    report: &mut ThorinReport,
+) -> i32
+    requires { IsFailure inputs.now failure }
+    ensures refused { result ≡ pos 11 → Refuses inputs.now report.new }
+    ensures unfinished { result ≡ pos 12 → TellsUnfinished inputs.now report.new }
+    ensures memory { result ≡ pos 13 → RunsOutAt inputs.now report.new.input
+        ⊎ RunsOutAfter inputs.now report.new.input }
+    ensures status { (result ≡ pos 11) ⊎ ((result ≡ pos 12) ⊎ (result ≡ pos 13)) }
+    ensures input_alone { result ≡ pos 11 → TellsOfInput report.old report.new }
     ensures error_alone { result ≡ pos 12 → TellsOfError report.old report.new }
     ensures memory_alone { result ≡ pos 13 → TellsOfMemory report.old report.new }
 {
-    if matches!(error, Error::Memory) {
-        report.input = count as u64;
-        return NO_MEMORY;
+    match failure {
+        PackingFailure::Input(input) => refused(input, report),
+        PackingFailure::Package(error) => {
+            if matches!(error, Error::Memory) {
+                report.input = inputs.len() as u64;
+                return NO_MEMORY;
+            }
+            tell(error, report);
+            UNFINISHED
+        }
     }
-    tell(error, report);
-    UNFINISHED
 }
 
 // The package of inputs.
@@ -174,7 +184,7 @@ fn package_of(alloc: Global, inputs: &[ThorinBytes<'_>]) -> Result<FinishedPacka
         (if packed.packs_again then 1 else 0) packed.file.items) }
     ensures again { IfOk result (λ packed. packed.packs_again ≡ true
         → ArePackedAgain inputs.now packed.file.items) }
-    ensures refused { IfErr result (IsRefusal inputs.now) }
+    ensures refused { IfErr result (IsFailure inputs.now) }
 {
     if inputs.is_empty() {
         return Err(PackingFailure::Package(Error::NoOutputObjectCreated));
@@ -201,7 +211,7 @@ fn finish<'o, 's: 'o>(
         (if packed.packs_again then 1 else 0) packed.file.items) }
     ensures again { IfOk result (λ packed. packed.packs_again ≡ true
         → ArePackedAgain inputs.now packed.file.items) }
-    ensures refused { IfErr result (IsRefusal inputs.now) }
+    ensures refused { IfErr result (IsFailure inputs.now) }
 {
     written_packages_are_taken_again();
     let differing = builder.differing_types().len() as u64;
