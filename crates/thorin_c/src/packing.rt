@@ -2,7 +2,6 @@
 
 ghost use Rattle.std.specs.Prelude.{◌≡◌, ◌≢◌, ◌<◌, true, map, take, length, IfOk, IfErr, OnOk, pos, ◌⊎◌};
 ghost use Rattle.std.specs.Prelude.{if◌then◌else◌};
-ghost use Rattle.thorin_join.specs.Builder.{start};
 ghost use Rattle.thorin_join.specs.Represents.{units_in};
 ghost use Rattle.thorin_join.specs.Join.{IsPackageOf};
 ghost use Rattle.thorin.specs.Run.{Writes};
@@ -189,31 +188,13 @@ fn package_of(alloc: Global, inputs: &[ThorinBytes<'_>]) -> Result<FinishedPacka
     if inputs.is_empty() {
         return Err(PackingFailure::Package(Error::NoOutputObjectCreated));
     }
+    written_packages_are_taken_again();
     let session = NoFiles {};
     let mut builder = DwarfPackage::new(alloc, &session);
-    match add_all(&mut builder, inputs) {
-        Ok(()) => finish(inputs, builder),
-        Err(refusal) => {
-            drop(builder);
-            Err(PackingFailure::Input(refusal))
-        }
+    if let Err(refusal) = add_all(&mut builder, inputs) {
+        drop(builder);
+        return Err(PackingFailure::Input(refusal));
     }
-}
-
-// The package of inputs that were all accepted.
-fn finish<'o, 's: 'o>(
-    inputs: &[ThorinBytes<'_>],
-    builder: DwarfPackage<'o, 's, NoFiles>,
-) -> Result<FinishedPackage, PackingFailure>
-    requires some { 0 < length inputs.now }
-    requires accepted { Accepts inputs.now start builder.state }
-    ensures packed { IfOk result (λ packed. IsPackage inputs.now packed.differing
-        (if packed.packs_again then 1 else 0) packed.file.items) }
-    ensures again { IfOk result (λ packed. packed.packs_again ≡ true
-        → ArePackedAgain inputs.now packed.file.items) }
-    ensures refused { IfErr result (IsFailure inputs.now) }
-{
-    written_packages_are_taken_again();
     let differing = builder.differing_types().len() as u64;
     let packs_again = builder.packs_again();
     match written(builder) {

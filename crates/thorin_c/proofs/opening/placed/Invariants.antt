@@ -2,7 +2,7 @@ use Rattle.std.proofs.Common.{◌≡◌, length}
 use Rattle.dwp_base.proofs.KindsRead.{ReadBelow}
 use Rattle.dwp_elf_read.specs.View.{elf, bytes_of}
 use Rattle.thorin_c.proofs.PlacesRead.{IsPlaceOf}
-use Rattle.thorin_c.proofs.opening.section_places.Given as goal
+use Rattle.thorin_c.proofs.opening.placed.Given as goal
 
 abbrev pub invariant-loop-kind : goal.invariant-loop-kind
 invariant-loop-kind l =
