@@ -2,8 +2,7 @@
 
 ghost use Rattle.std.specs.Prelude.{◌≡◌};
 ghost use Rattle.dwp_index.specs.Contents.{content};
-ghost use Rattle.dwp_index.specs.Index.{range_in};
-ghost use Rattle.dwp_index.specs.Package.{row_bytes, first_outside, is_outside};
+ghost use Rattle.dwp_index.specs.Package.{row_bytes, first_outside};
 ghost use Rattle.thorin_c.specs.Opening.{sections_at};
 
 use crate::types::ThorinPackage;
@@ -52,19 +51,9 @@ impl<'p, 'a> PlacedSections<'p, 'a> {
         CONTRIBUTION_KINDS
             .iter()
             .copied()
-            .find(|kind| self.is_outside(row, *kind))
-    }
-
-    /// Whether a row has a range of a kind that isn't inside the section.
-    #[inline(always)]
-    fn is_outside(&self, row: &Row<'_>, kind: SectionKind) -> bool
-        ensures { result
-            ≡ is_outside (content (sections_at self.now.places.now self.now.bytes.now) kind)
-            (range_in row.now kind) }
-    {
-        match row.range(kind) {
-            None => false,
-            Some(range) => !lies_inside(self.of(kind), range),
-        }
+            .find(|kind| match row.range(*kind) {
+                None => false,
+                Some(range) => !lies_inside(self.of(*kind), range),
+            })
     }
 }
