@@ -9,8 +9,8 @@ ghost use Rattle.dwp_table.specs.Objects.{identifier_of};
 ghost use Rattle.dwp_table.specs.declared.object.DwarfObject.TheVariants.{Compilation, TypeUnit};
 ghost use Rattle.dwp_table.specs.Table.{IsIndex, FindsExactly};
 ghost use Rattle.dwp_index.specs.Finding.{row_number, slots_for};
-ghost use Rattle.dwp_index.specs.Index.{Index, row_in, range_in};
-ghost use Rattle.dwp_index.specs.Package.{as_error, is_outside, package_of, index_in_section};
+ghost use Rattle.dwp_index.specs.Index.{Index, row_in};
+ghost use Rattle.dwp_index.specs.Package.{as_error, package_of, index_in_section};
 ghost use Rattle.dwp_index.specs.Package.{index_for, first_outside, unit_in, found_counted, found};
 ghost use Rattle.dwp_index.specs.Package.{first_byte, row_counted};
 ghost use Rattle.dwp_index.specs.declared.error.PackageError.TheVariants as errors;
@@ -326,16 +326,8 @@ fn first_outside(contents: &Contents<'_>, row: &Row<'_>) -> Option<SectionKind>
     CONTRIBUTION_KINDS
         .iter()
         .copied()
-        .find(|kind| is_outside(contents, row, *kind))
-}
-
-#[inline(always)]
-fn is_outside(contents: &Contents<'_>, row: &Row<'_>, kind: SectionKind) -> bool
-    ensures { result
-        ≡ is_outside (content (contents_in contents.now) kind) (range_in row.now kind) }
-{
-    match row.range(kind) {
-        None => false,
-        Some(range) => !lies_inside(contents.of(kind), range),
-    }
+        .find(|kind| match row.range(*kind) {
+            None => false,
+            Some(range) => !lies_inside(contents.of(*kind), range),
+        })
 }

@@ -26,7 +26,7 @@ pub returns-clause-signature : goal.returns-clause-signature
 returns-clause-signature c =
     let slots = slots-length c.self.inside c.args.self.now c.self.view_is in
     c.read_u64.ensures ∙ rw (c.tail.ensures, ← c.self.view_is)
-        (sym (get_or-numbers c.self.inside.order 8
+    (sym (get_or-numbers c.self.inside.order 8
     c.self.inside.slot_count c.self.inside.signatures.now c.args.slot 0 (omega arith)))
 
 pub returns-clause-row : goal.returns-clause-row
