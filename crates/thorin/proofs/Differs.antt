@@ -14,7 +14,7 @@ use Rattle.thorin.specs.Differing.{Bytes, read_bytes, or_there, differing_by, di
 use Rattle.thorin.specs.Differing.{object_units, input_units}
 use Rattle.thorin_join.specs.Builder.{differing_begun, differing_in}
 use Rattle.thorin_join.specs.State.{adding as adding_to, abbreviations_test}
-use Rattle.thorin_join.proofs.Joined.Taken.{takes}
+use Rattle.thorin_join.proofs.Joined.{takes}
 use Rattle.thorin_join.proofs.Units.ReadInTurn.{Steps, units-read}
 use Rattle.thorin.proofs.Running.{begun-then}
 

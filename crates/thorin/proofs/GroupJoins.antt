@@ -17,8 +17,8 @@ use Rattle.std.proofs.lemmas.Map.Entries.{none_past_head}
 use Rattle.std.proofs.lemmas.Map.Keys.{IsDistinct-IsPermutation, IsDistinct-from_apart}
 use Rattle.std.proofs.lemmas.Map.Keys.{IsDistinct-tail}
 use Rattle.std.proofs.lemmas.Map.Views.{Contains-from_lookup, lookup-from_Contains}
-use Rattle.thorin_join.proofs.Units.NamesApart.{same_name-self, same_name-true, same_name-sym}
-use Rattle.thorin_join.proofs.Units.NamesApart.{apart-none, joined_distinct}
+use Rattle.thorin_join.proofs.Units.InRows.{apart-none, joined_distinct, same_name-self}
+use Rattle.thorin_join.proofs.Units.InRows.{same_name-sym, same_name-true}
 
 names-equal : IsEquivalence same_name
 names-equal = record {

@@ -28,9 +28,9 @@ use Rattle.thorin_join.specs.Builder.{compilations, finish_test, indexes_test, i
 use Rattle.thorin_join.specs.Builder.{none_missing, targets_test, type_units}
 use Rattle.thorin_join.specs.Represents.{IsSound, LieInside}
 use Rattle.thorin_join.specs.StandApart.{contents_begun, EachRow}
-use Rattle.thorin_join.proofs.Joined.Taken.{takes}
+use Rattle.thorin_join.proofs.Joined.{takes}
 use Rattle.thorin_join.proofs.Rows.StandApart.{sound-inside}
-use Rattle.thorin_join.proofs.Units.HeadersRead.{each-all}
+use Rattle.thorin_join.proofs.Units.ReadInTurn.{each-all}
 use Rattle.thorin_again.specs.InFormat.{AreInFormat, HasEncodingOfOne, HaveEncodingsOf, IsInFormat}
 use Rattle.thorin.specs.Unfinished.{AreMixed, HasLongSection, IsIndexNumber, IsUnfinished}
 use Rattle.thorin.specs.Unfinished.{LacksInput, LacksTarget}

@@ -2,4 +2,3 @@
 pub mod EachUnit
 pub mod OneEncoding
 pub mod Names
-pub mod InFormat

@@ -1,4 +1,437 @@
--- What lists of inputs make of a new builder.
-pub mod InOrder
-pub mod OneEncoding
-pub mod InFormat
+-- What a new builder holds once it took some inputs, and what stays so as they are taken in order:
+-- its one encoding, by these inputs; its rows are in the format; and where all units of each input
+-- have one encoding, the header of each unit has the encoding that is recorded of it, wherever its
+-- bytes are read again, each has its strings, and what is written has the encoding, as an input.
+use Rattle.thorin_again.proofs.Terms
+use Terms.{All, All-cons, All-head, All-map, All-nil, All-tail, All-weaker, all_there, AllOf, ap}
+use Terms.{AreRowsOf, AreTaken, arith, bind-was, content_of, Contents, Dwarf32, DwarfObject}
+use Terms.{each-all, EachAdds, EachRow, Elf, elf_of, Encoding, encoding_of, Endianness, File}
+use Terms.{file_encoding, file_text, finish_test, finished-is, finished-order, finished-own}
+use Terms.{first_encoding, GivesNone, GivesUnit, has_sections, Header, header_at, HoldsOwn}
+use Terms.{HoldsPlain, IfSome, IndexEntry, inl, InProgress, Input, input-keeps, input_encoding, inr}
+use Terms.{IsFinished, IsFinishedState, IsInFormat, IsOfPlainObjects, IsPlain, IsPlainOf, IsSound}
+use Terms.{IsSoundBegun, Joins, kind_of, KindsDiffer, length, length-append, length-map, List}
+use Terms.{list_all, look_limit, lookup, made-order, map, MatchOption, Meaning, meaning_at, Members}
+use Terms.{members, names_in, NamesItself, None, Ok, older_at, one_answer, opened, Option, order_of}
+use Terms.{own_encoding, package_or_new, packs_again, place_of, ReadError, Reads, refl, same-begun}
+use Terms.{same-ok, same_name, section, section_has, sections-are, slice_get-get_or, Some, Source}
+use Terms.{source-made, source_units, start, State, subst, sym, taken, takes, TakesUnits, true}
+use Terms.{unit_at, unit_bytes, units, units_begun, units_in, units_of, units_within, UnitSection}
+use Terms.{WasRead, with_input, written_elf, written_object, ℕ, [], ◌+◌, ◌<◌, ◌↔◌, ◌∙◌, ◌∷◌, ◌≡◌}
+use Rattle.std.proofs.Common.{unwrap_or}
+use Rattle.thorin_again.proofs.Kept.OneEncoding.{Before, begun-all, begun-now, CanMean, own-adds}
+use Rattle.thorin_again.proofs.Kept.OneEncoding.{taken-holds, taken-plain, units-hold, units-names}
+use Rattle.thorin_again.specs.InFormat.{AreInFormat, HasEncodingOfOne, HaveEncodingsOf, IsOneOf}
+use Rattle.thorin_again.proofs.Kept.EachUnit.{input-rows, of-one, OfOne, order-added}
+use Rattle.dwp_index.specs.Package.{encoding_in, found_counted, Package, package_of, unit_at_row}
+use Rattle.dwp_index.specs.Package.{unit_in}
+use Rattle.std.proofs.lemmas.Map.Views.{IfSome-lookup_from_All}
+use Rattle.thorin_again.specs.OneEncoding.{AnswersAs, AnswersOnceWritten, GivesWhole}
+use Rattle.thorin_again.specs.OneEncoding.{HaveEncodingOnceWritten, IsOfEncoding, IsOfOneEncoding}
+use Rattle.thorin_again.proofs.Opened.Sections.{first-written, input-encoding}
+use Rattle.thorin_again.proofs.Kept.Names.{HasInfo, info-there}
+use Rattle.thorin_again.proofs.Meant.RowByRow.{of-section, read-alone}
+use Rattle.dwp_index.specs.Package as index
+use Rattle.dwp_units.specs.declared.unit.UnitSection.TheVariants as places
+
+-- what stays so of a builder, whatever executables refer to, as inputs of this kind are taken
+in-order : (Q : List ℕ → Type 0) (P : State → Type 0)
+    → ((state : State) (targets : List DwarfObject) → P state
+    → P (record state { targets = targets }))
+    → ((bytes : List ℕ) (old new : State) → Q bytes → P old → taken bytes old ≡ Ok new → P new)
+    → (accepted : List (List ℕ)) (old new : State) → AreTaken accepted old new → All Q accepted
+    → P old → P new
+in-order Q P free step [] old new are all h = subst P (sym are.1) (free old are.0 h)
+in-order Q P free step (bytes ∷ rest) old new are all h =
+    in-order Q P free step rest are.1 new are.3 (All-tail Q bytes rest all)
+    (step bytes (record old { targets = are.0 }) are.1 (All-head Q bytes rest all)
+    (free old are.0 h) are.2)
+
+-- what stays so of a sound package
+pub packages-in-order : (Q : List ℕ → Type 0) (P : Option InProgress → Type 0)
+    → ((bytes : List ℕ) (begun now : Option InProgress) → Q bytes
+    → Joins bytes (units_begun begun) (units_begun now) → with_input bytes begun ≡ Ok now
+    → P begun → P now)
+    → (accepted : List (List ℕ)) (state : State) → AreTaken accepted start state
+    → All Q accepted → P None → IsSoundBegun state.begun × P state.begun
+packages-in-order Q P step accepted state are all none =
+    in-order Q (λ s. IsSoundBegun s.begun × P s.begun) (λ s targets h. h)
+    (λ bytes old new q h took.
+    let now = begun-now bytes old new took in
+    let keeps = input-keeps bytes old.begun new.begun h.0 now in
+    (keeps.sound, step bytes old.begun new.begun q keeps.joins now h.1))
+    accepted start state are all (tt, none)
+
+-- what a builder holds
+pub record Holds (state : State) : Type 0 where
+  pub sound : IsSoundBegun state.begun
+  pub own : HoldsOwn state
+  pub plain : HoldsPlain state
+
+pub inputs-hold : (accepted : List (List ℕ)) (state : State) → AreTaken accepted start state
+    → Holds state
+inputs-hold accepted state are =
+    in-order (λ bytes. Unit {0}) Holds (λ s targets h. assumption) (λ bytes old new q h took.
+    let own = taken-holds bytes old new h.sound h.own took in
+    let plain = taken-plain bytes old new h.sound h.plain took in
+    let keeps = input-keeps bytes old.begun new.begun h.sound (begun-now bytes old new took) in
+    assumption (keeps.sound, own, plain)) accepted start state are (λ k d within. tt) (grind arith)
+
+-- ---- plain objects of one encoding
+
+plain-is : (bytes : List ℕ) (e : Encoding)
+    → (own_encoding bytes ≡ Ok (Some e)) ↔ IsPlainOf e bytes
+unfolding own_encoding file_encoding
+plain-is bytes e = (λ found. grind arith, λ p. grind (arith, p))
+
+-- ---- joins are one
+
+-- a unit with all that belongs to it, or with nothing
+abbrev pub meant_or : DwarfObject × Option Meaning → DwarfObject × Meaning
+meant_or u =
+    let none : Encoding = record { version = 0; format = Dwarf32; address_size = 0 } in (
+      u.0,
+      unwrap_or u.1 (record {
+        bytes = [];
+        contributions = λ k c. [];
+        strings = [];
+        encoding = none;
+      }),
+    )
+
+pub there-back : (us : Members) → map meant_or (all_there us) ≡ us
+there-back [] = refl
+there-back (u ∷ us) = ap (λ l. u ∷ l) (there-back us)
+
+joins-more : (bytes : List ℕ) (old : State) (now : Option InProgress) (before : Members)
+    → before ≡ units_begun now → (j : Joins bytes (units_in old) before)
+    → length (names_in now) ≡ length (names_in old.begun) + length j.added
+joins-more bytes old now before same j =
+    let long = length-append (units_in old) j.added in
+    grind (arith, j.is, long, units-names old.begun, units-names now)
+
+-- ---- inputs in order
+
+record Each (e : Encoding) (accepted : List (List ℕ)) (old new : State) : Type 0 where
+  plain : All (IsPlainOf e) accepted
+  adds : EachAdds accepted (units_in old) (units_in new)
+  before : Before old.begun old.own e
+
+-- what holds at the end says what each input was, and the other way round
+exactly : (e : Encoding) (accepted : List (List ℕ)) (old new : State) → IsSoundBegun old.begun
+    → AreTaken accepted old new → Before new.begun new.own e ↔ Each e accepted old new
+exactly e [] old new fine are = (
+  λ h. assumption (All-nil (IsPlainOf e), ap units_in are.1, rw are.1 at h),
+  λ each. rw are.1 each.before,
+)
+exactly e (bytes ∷ rest) old new fine are =
+    let from : State = record old { targets = are.0 } in
+    let next = are.1 in
+    let took : taken bytes from ≡ Ok next = are.2 in
+    let now = begun-now bytes from next took in
+    let keeps = input-keeps bytes old.begun next.begun fine now in
+    let j = keeps.joins in
+    let others = exactly e rest next new keeps.sound are.3 in (
+      λ h.
+          let later = others.0 h in
+          let t = takes bytes old.begun next.begun now in
+          let begun : (made : InProgress) × (next.begun ≡ Some made) = grind (arith, t.does) in
+          let a = (own-adds bytes from next e took).0 (later.before begun.0 begun.1) in
+          let more : 0 < length j.added =
+          omega (arith, joins-more bytes from next.begun (units_in next) refl j, a.more) in
+          record {
+            plain = All-cons (IsPlainOf e) bytes rest ((plain-is bytes e).0 a.found) later.plain;
+            adds = (units_in next, j, more, later.adds);
+            before = a.before;
+          },
+      λ each.
+          let here = each.adds.1 in
+          let same : each.adds.0 ≡ units_in next =
+          grind (arith, here, j, there-back here.added, there-back j.added) in
+          let more : length (names_in old.begun) < length (names_in next.begun) =
+          omega (arith, joins-more bytes from next.begun each.adds.0 same here, each.adds.2) in
+          let found = (plain-is bytes e).1 (All-head (IsPlainOf e) bytes rest each.plain) in
+          let own = (own-adds bytes from next e took).1 (assumption (found, more)) in
+          let plain = All-tail (IsPlainOf e) bytes rest each.plain in
+          let adds = subst (λ m. EachAdds rest m (units_in new)) same each.adds.3 in
+          others.1 (assumption (plain, adds, own)),
+    )
+
+-- ---- from a new builder
+
+pub again-exactly : (accepted : List (List ℕ)) (state : State)
+    → AreTaken accepted start state → (packs_again state ≡ true) ↔ IsOfPlainObjects accepted state
+again-exactly accepted state are = (
+  λ h.
+      let own : (e : Encoding) × (state.own ≡ Some e)
+      × (has_sections state.begun ≡ true) = grind (arith, h) in
+      let each = (exactly own.0 accepted start state tt are).0 (λ made is. own.1) in
+      record { encoding = own.0; plain = each.plain; adds = each.adds; sections = own.2 },
+  λ is.
+      let before = (exactly is.encoding accepted start state tt are).1 (record {
+        plain = is.plain;
+        adds = is.adds;
+        before = λ made none. absurd cc;
+      }) in
+      grind (arith, before, is.sections),
+)
+
+-- ---- rows in the format
+
+pub rows-taken : (accepted : List (List ℕ)) (state : State) → AreTaken accepted start state
+    → AreInFormat state.begun × HaveEncodingsOf accepted state.begun
+rows-taken accepted state are =
+    (packages-in-order (IsOneOf accepted)
+    (λ begun. AreInFormat begun × HaveEncodingsOf accepted begun)
+    (λ bytes begun now among joins took h. (
+      input-rows IsInFormat bytes begun now (λ row format read. format) took h.0,
+      input-rows (HasEncodingOfOne accepted) bytes begun now
+          (λ row format read. (bytes, among, read)) took h.1,
+    )) accepted state are (λ i d less. (i, slice_get-get_or accepted i d less)) (tt, tt)).1
+
+-- ---- where all units of each input have one encoding
+
+-- ---- a header has one encoding, in whichever section it is read
+
+places-encoding : (p q : UnitSection) (i : Input) (u v : Header × Input) → unit_at p i ≡ Ok u
+    → unit_at q i ≡ Ok v → u.0.encoding ≡ v.0.encoding
+unfolding unit_at header_at older_at
+places-encoding p q i u v h k = grind (arith, h, k)
+
+-- the header that stands in a unit's bytes, in whichever section, has the encoding that is recorded
+abbrev pub IsEncoded : Endianness → Meaning → Type 0
+IsEncoded order unit = (place : UnitSection) (found : Header) (rest : Input)
+    → unit_at place (section order unit.bytes) ≡ Ok (found, rest) → found.encoding ≡ unit.encoding
+
+-- what the units of an input of one encoding mean is encoded
+read-encoded : (source : Source) (all : Reads)
+    → list_all (section_has source.encoding source.object.order) source.object.sections ≡ true
+    → source_units source ≡ Ok all → CanMean (IsEncoded source.object.order) source all
+read-encoded source all has h =
+    let order = source.object.order in
+    All-weaker (WasRead source (OfOne source)) _ (λ r w unit made place found rest is.
+    let a = w.so.0.0 in
+    places-encoding place w.place (section order r.1.unit.whole.bytes) (found, rest)
+    (a.alone, a.rest) (ap (λ l. unit_at place (section order l)) (sym made.1) ∙ is) a.read
+    ∙ a.encoding ∙ w.so.1 ∙ sym made.0)
+    all (sections-are source (OfOne source) source.object.sections all
+    (of-one source source.object.sections has) h)
+
+-- so of units with all that belongs to each
+abbrev pub AreEncoded : Endianness → Members → Type 0
+AreEncoded order units = All (λ (u : DwarfObject × Meaning). IsEncoded order u.1) units
+
+-- ---- a package keeps its byte order
+
+new-order : (file : Elf) (begun : Option InProgress) → (package_or_new file begun).file.order
+    ≡ order_of begun file.order
+new-order file = same-begun (λ b. order_of b file.order) file refl
+
+-- the byte order of a package after an input: that before, or the input's own
+pub input-order : (bytes : List ℕ) (file : Elf) (begun now : Option InProgress) (order : Endianness)
+    → opened bytes ≡ Ok file → with_input bytes begun ≡ Ok now
+    → order_of now order ≡ order_of begun file.order
+input-order bytes file begun now order opens h =
+    let t = takes bytes begun now h in
+    elim t.does as (λ d. order_of now order ≡ (package_or_new t.file begun).file.order) [
+      | inl w ↦ ap (λ b. order_of b order) (sym w.1.is)
+          ∙ order-added (source-made w.1.source _ w.1.made w.1.with)
+      | inr none ↦ ap (λ b. order_of b order) (sym none.1)
+    ] ∙ new-order t.file begun
+    ∙ ap (λ (e : Elf). order_of begun e.order) (one_answer (opened bytes) t.opens opens)
+
+-- ---- one input
+
+-- the header of each unit has the encoding that is recorded of it, in the package's byte order
+abbrev Encoded : Option InProgress → Type 0
+Encoded begun = (made : InProgress) → begun ≡ Some made
+    → AreEncoded made.file.order (units_of made)
+
+input-encoded : (bytes : List ℕ) (begun now : Option InProgress)
+    → IsOfOneEncoding bytes → Joins bytes (units_begun begun) (units_begun now)
+    → with_input bytes begun ≡ Ok now → Encoded begun → Encoded now
+input-encoded bytes begun now one j h before made is =
+    let t = takes bytes begun now h in
+    let order = made.file.order in
+    let own : order_of begun t.file.order ≡ order =
+    sym (input-order bytes t.file begun now t.file.order t.opens h)
+    ∙ ap (λ b. order_of b t.file.order) is in
+    subst (λ b. AreEncoded order (units_begun b)) is (units-hold (IsEncoded order) j t
+    (λ u all read. subst (λ o. CanMean (IsEncoded o) u.source all)
+    (made-order t.file u.source.object begun u.object_is u.order_is ∙ new-order t.file begun ∙ own)
+    (read-encoded u.source all
+    (one t.file u.source.object u.source.encoding t.opens u.object_is u.encoding_is) read))
+    (begun-all (IsEncoded order) begun (λ old was. subst (λ o. AreEncoded o (units_of old))
+    (ap (λ b. order_of b t.file.order) (sym was) ∙ own) (before old was))))
+
+-- ---- look-ups
+
+-- the header of a unit that was found
+found-header : (pack : Package) (name : DwarfObject) (found : index.FoundUnit) (count : ℕ)
+    → found_counted pack name ≡ Ok (Some found, count) → (place : UnitSection)
+    × (encoding_in pack.order place found.bytes ≡ Ok found.encoding)
+unfolding found_counted unit_at_row unit_in
+found-header pack name found count h = grind arith
+
+-- what look-ups of these units give
+abbrev pub Finds : Package → Members → Type 0
+Finds pack units = (name : DwarfObject) → MatchOption (lookup (same_name name) units)
+    (GivesNone pack name (look_limit units name)) (GivesUnit pack name (look_limit units name))
+
+-- look-ups give all strings
+pub answers-whole : (order : Endianness) (units : Members) (file : File)
+    → elf_of (file_text file) ≡ Ok (written_elf file) → file.order ≡ order
+    → AreEncoded order units → (pack : Package) → package_of (file_text file) ≡ Ok pack
+    → Finds pack units → AnswersAs units (file_text file)
+unfolding encoding_in package_of
+answers-whole order units file back same are pack parsed finds = record {
+  pack = pack;
+  parsed = parsed;
+  finds = λ name. by name (lookup (same_name name) units) (IfSome-lookup_from_All (IsEncoded order)
+      (same_name name) units (All-map (IsEncoded order) (λ (u : DwarfObject × Meaning). u.1) units
+      are)) (finds name);
+}
+  where
+    by : (name : DwarfObject) (found : Option Meaning) → IfSome found (IsEncoded order)
+        → MatchOption found (GivesNone pack name (look_limit units name))
+        (GivesUnit pack name (look_limit units name))
+        → MatchOption found (GivesNone pack name (look_limit units name))
+        (GivesWhole pack name (look_limit units name))
+    by name None is h = h
+    by name (Some unit) is g =
+        let p = found-header pack name g.found g.count g.counted in
+        let order_is : pack.order ≡ order = grind (arith, back, parsed, same) in
+        let u = bind-was (unit_at p.0 (section order unit.bytes)) _ g.found.encoding
+        ((λ i. encoding_in (sym order_is i) p.0 (sym g.is.bytes i)) ∙ p.1) in
+        let encoding : g.found.encoding ≡ unit.encoding =
+        sym (same-ok {E = ReadError} _ _ u.2) ∙ is p.0 u.0.0 u.0.1 u.1 in
+        record { gives = g; encoding = encoding; string = g.is.string encoding }
+
+pub inputs-whole : (accepted : List (List ℕ)) (state : State)
+    → AreTaken accepted start state → All IsOfOneEncoding accepted → (file : File)
+    → finish_test state ≡ Ok tt → IsFinishedState state file
+    → AnswersOnceWritten (units_in state) file
+inputs-whole accepted state are one file tested f differ back =
+    let is = packages-in-order IsOfOneEncoding Encoded input-encoded accepted state are one
+    (λ made none. absurd cc) in
+    let p = finished-is state file is.0 tested f differ back in
+    answers-whole f.made.file.order (units_in state) file back
+    (finished-order f.made file f.finished) (rw f.begun (is.1 f.made f.begun)) p.pack p.parsed
+    p.finds
+
+-- ---- own packages
+
+module _ (order : Endianness) (encoding : Encoding) (contents : Contents)
+    (strings : List (List ℕ)) where
+  abbrev unit_of : IndexEntry → DwarfObject × Meaning
+  unit_of row = (row.id, meaning_at order contents strings row)
+
+  abbrev Is : DwarfObject × Meaning → Type 0
+  Is u = IsEncoded order u.1
+
+  rows-encoded : (rows : List IndexEntry)
+      → AreRowsOf order contents strings rows (map {B = DwarfObject × Meaning} unit_of rows)
+      → EachRow (NamesItself order encoding contents) rows
+      → AllOf encoding (map {B = DwarfObject × Meaning} unit_of rows)
+      → All Is (map {B = DwarfObject × Meaning} unit_of rows)
+  unfolding encoding_in
+  rows-encoded [] are names all = All-nil Is
+  rows-encoded (r ∷ rs) are names all =
+      let owns = are.0.owns in
+      let bytes = unit_bytes contents r in
+      let u = bind-was (unit_at owns.place (section order bytes)) _ owns.encoding owns.header in
+      let named = names.0 u.0.0 u.0.1 (ap (λ p. unit_at p (section order bytes))
+      (sym owns.place_is) ∙ u.1) in
+      let has = λ (u : DwarfObject × Meaning). u.1.encoding ≡ encoding in
+      let units = map {B = DwarfObject × Meaning} unit_of rs in
+      All-cons Is (unit_of r) units (λ place found rest is. places-encoding place owns.place
+      (section order bytes) (found, rest) u.0 is u.1 ∙ named.0
+      ∙ sym (All-head has (unit_of r) units all))
+      (rows-encoded rs are.1 names.1 (All-tail has (unit_of r) units all))
+
+-- the units of an own package
+pub own-encoded : (made : InProgress) (encoding : Encoding) → IsSound made → IsPlain encoding made
+    → AllOf encoding (units_of made) → AreEncoded made.file.order (units_of made)
+own-encoded made encoding sound plain all = rows-encoded made.file.order encoding made.file.contents
+    made.strings made.rows sound.units.rows plain.units all
+
+-- ---- the encoding of what is written
+
+-- a unit is encoded, and has the encoding
+abbrev pub IsAlike : Endianness → Encoding → DwarfObject × Meaning → Type 0
+IsAlike order encoding u = IsEncoded order u.1 × (u.1.encoding ≡ encoding)
+
+-- where there are bytes, something is read of them
+units-there : (order : Endianness) (bytes : List ℕ) → 0 < length bytes
+    → units places.Info (section order bytes) ≡ [] → ⊥
+unfolding units units_within
+units-there order bytes some none = grind arith
+
+-- so has the first unit that is read of info
+pub first-of : (made : InProgress) (file : File) (encoding : Encoding)
+    → IsSound made → IsFinished made file → KindsDiffer file.contents
+    → All (IsAlike made.file.order encoding) (units_of made)
+    → 0 < length (content_of (kind_of places.Info) file.contents)
+    → encoding_of (written_object file) ≡ Ok encoding
+unfolding encoding_of
+first-of made file encoding sound fin differ alike some =
+    let order = made.file.order in
+    let contents = made.file.contents in
+    let mean : IndexEntry → Meaning = λ row. meaning_at order contents made.strings row in
+    let Is = IsAlike order encoding in
+    let own = finished-own made file fin places.Info in
+    let held = first-written (kind_of places.Info) file.contents differ ∙ own in
+    (λ i. first_encoding (units places.Info (section (finished-order made file fin i) (held i))))
+    ∙ of-section order contents places.Info made.rows
+    (λ todo got. All Is (members mean todo) → (got ≡ [] → ⊥) → first_encoding got ≡ Ok encoding)
+    (λ are none. absurd (none refl))
+    (λ r rs got other later are. later (All-tail Is (r.id, mean r) (members mean rs) are))
+    (λ r rs h got u later are none.
+    let is = All-head Is (r.id, mean r) (members mean rs) are in
+    ap Ok (u.shifted.encoding ∙ is.0 (place_of r.id r.debug_types) u.alone u.rest (read-alone u)
+    ∙ is.1))
+    sound.laid.once sound.laid.info alike (units-there order _ (rw own at some))
+
+-- ---- inputs of this encoding
+
+-- all units have the encoding too, and info has bytes where there are units
+abbrev Filled : Encoding → Option InProgress → Type 0
+Filled e begun = AllOf e (units_begun begun)
+    × ((made : InProgress) → begun ≡ Some made → 0 < length made.rows → HasInfo made)
+
+input-filled : (e : Encoding) (bytes : List ℕ) (begun now : Option InProgress)
+    → IsOfEncoding e bytes → Joins bytes (units_begun begun) (units_begun now)
+    → with_input bytes begun ≡ Ok now → Filled e begun → Filled e now
+unfolding input_encoding
+input-filled e bytes begun now one j h before =
+    let t = takes bytes begun now h in
+    let old = package_or_new t.file begun in
+    let info : 0 < length old.rows → HasInfo old = grind (arith, before.1) in
+    let there = λ (u : TakesUnits t.file begun now).
+    info-there (source-made u.source old u.made u.with) u.encoding_is info in (
+      units-hold (λ unit. unit.encoding ≡ e) j t
+          (λ u all read. each-all _ (λ r unit made. made.0
+          ∙ one.1 u.source.encoding (rw (t.opens, u.object_is) u.encoding_is)) all)
+          before.0,
+      λ made is. grind (arith, t.does, is, info, there),
+    )
+
+pub inputs-alike : (e : Encoding) (accepted : List (List ℕ)) (state : State)
+    → AreTaken accepted start state → All (IsOfEncoding e) accepted → (file : File)
+    → IsFinishedState state file → HaveEncodingOnceWritten (units_in state) file
+inputs-alike e accepted state are one file f differ back k d within =
+    let units = All-nil (λ (u : DwarfObject × Meaning). u.1.encoding ≡ e) in
+    let is = packages-in-order (IsOfEncoding e) (λ begun. Encoded begun × Filled e begun)
+    (λ bytes begun now q j h before. let encoded = input-encoded bytes begun now q.0 j h before.0 in
+    (encoded, input-filled e bytes begun now q j h before.1)) accepted state are one
+    (λ made none. absurd cc, (units, λ made none. absurd cc)) in
+    let made = f.made in
+    let filled = is.1.1 in
+    let encoded = is.1.0 made f.begun in
+    let all : AllOf e (units_of made) = subst (AllOf e) (ap units_begun f.begun) filled.0 in
+    let long = ap (λ b. length (units_begun b)) f.begun ∙ length-map made.rows _ in
+    let some = filled.1 made f.begun (omega (arith, long, within)) in
+    let first = first-of made file e (subst IsSoundBegun f.begun is.0) f.finished differ
+    (λ k d within. (encoded k d within, all k d within))
+    (subst (λ l. 0 < length l) (sym (finished-own made file f.finished places.Info)) some) in
+    input-encoding file differ back ∙ first ∙ ap Ok (sym (filled.0 k d within))

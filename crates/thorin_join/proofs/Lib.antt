@@ -1,6 +1,5 @@
 pub mod Chosen
 pub mod Terms
-pub mod EachKind
 pub mod Moved
 pub mod Parts
 pub mod Rows

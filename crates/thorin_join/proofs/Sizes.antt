@@ -1,28 +1,25 @@
 -- How large a package becomes: inputs add to its contents at most the bytes of their used sections,
 -- and finishing adds the strings and both indexes.
 use Rattle.thorin_join.proofs.Terms
-use Terms.{[], Adding, adding, All, ap, appended, arith, begun_by, bind-was, bytes_of_contents}
+use Terms.{Adding, adding, All, ap, appended, arith, begun_by, bind-was, bytes_of_contents}
 use Terms.{bytes_of_strings, Contents, data_of, DwarfObject, Elf, Endianness, ErrorValue, every}
 use Terms.{File, file_text, first, flat_map-map, Header, IndexEntry, InProgress, IsFinished}
-use Terms.{IsIndexOf, joining, KindsDiffer, leb-true, length, length-append, length-map, List, map}
-use Terms.{name_of, nat_le, nat_tests, NewUnit, None, offsets_used, Ok, Option, refl, same-ok}
-use Terms.{SectionKind, Some, Source, Str, strings_begun, suc, sum_by, sym, unit_section, UnitRead}
+use Terms.{IsIndexOf, joining, KindsDiffer, leb-true, length, length-append, length-KindsDiffer}
+use Terms.{length-map, List, map, name_of, named_at, named_sections, nat_le, nat_tests, NewUnit}
+use Terms.{None, offsets_used, Ok, Option, refl, same-ok, SectionKind, Some, Source, Str}
+use Terms.{strings_begun, suc, sum_by, sum_by-append, sum_by-cons, sym, unit_section, UnitRead}
 use Terms.{units_whole, UnitSection, Used, with_bytes, with_input, with_new_units, with_parts}
-use Terms.{with_source, ℕ, ◌*◌, ◌++◌, ◌+◌, ◌∙◌, ◌∷◌, ◌≡◌, ◌≤◌}
+use Terms.{with_source, ℕ, [], ◌*◌, ◌++◌, ◌+◌, ◌∙◌, ◌∷◌, ◌≡◌, ◌≤◌}
 use Rattle.std.proofs.lemmas.List.Concat.{length-flat_map}
-use Rattle.std.proofs.lemmas.List.Sums.{sum_by-append, sum_by-cons, sum_by-le-sum_by}
+use Rattle.std.proofs.lemmas.List.Sums.{sum_by-le-sum_by}
 use Rattle.dwp_units.specs.Units.{unit_bytes as bytes_of_unit}
-use Rattle.thorin_join.specs.Meaning.{named_at, named_sections}
 use Rattle.thorin_join.specs.Sizes.{bytes_begun, bytes_of_index, carried, carried_size}
 use Rattle.thorin_join.specs.Sizes.{container_most, IsSizeFinished, IsSizeOfIndex, sections_in}
 use Rattle.thorin_join.specs.Sizes.{sections_of_input, used_size, with_inputs}
-use Rattle.thorin_join.proofs.Joined.Source.{source-made}
-use Rattle.thorin_join.proofs.Joined.Taken.{same-begun, source-brings, takes}
-use Rattle.thorin_join.proofs.Parts.FirstUses.{each-brings, each-unit, long, part_bytes, used-most}
-use Rattle.thorin_join.proofs.Units.JoinedByName.{AreAdded, units-joined}
-use Rattle.thorin_join.proofs.Units.HeadersRead.{each-named, News, Reads}
+use Rattle.thorin_join.proofs.Joined.{same-begun, source-brings, source-made, takes}
+use Rattle.thorin_join.proofs.Parts.Added.{each-brings, each-unit, long, part_bytes, used-most}
+use Rattle.thorin_join.proofs.Units.ReadInTurn.{AreAdded, each-named, News, Reads, units-joined}
 use Rattle.dwp_elf.specs.FileText.{content_bytes, names_of}
-use Rattle.dwp_elf.proofs.KindCounts.{length-KindsDiffer}
 use Rattle.dwp_elf.proofs.Limits.{length-file_text, length-number_bytes}
 use Rattle.thorin_index.specs.IndexText.{index_bytes}
 

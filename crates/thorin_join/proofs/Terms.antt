@@ -1,25 +1,25 @@
 -- The names that proofs of this crate cite most, passed on from one place. Declares nothing.
 pub use Rattle.std.proofs.ByRecursion.{All-append, All-weaker}
-pub use Rattle.std.proofs.Common.{[], add_assoc, All, AllPairs, ap, append-nil}
-pub use Rattle.std.proofs.Common.{append_assoc, arith, Bool, codes, cond, drop, eqb}
-pub use Rattle.std.proofs.Common.{Err, false, filter, if◌then◌else◌, inl, inr, is_none}
-pub use Rattle.std.proofs.Common.{is_some, IsOk, le-leb, leb, leb-false, leb-true, length}
-pub use Rattle.std.proofs.Common.{length-append, length-drop, length-take, length-take-le, List}
-pub use Rattle.std.proofs.Common.{map, MatchOption, nat_eq, nat_le, nat_lt, ne_eqb}
-pub use Rattle.std.proofs.Common.{None, not, Ok, Option, refl, Result, slice_get, slice_index}
-pub use Rattle.std.proofs.Common.{slice_range, Some, subst, suc, sym, take, take-append-drop}
-pub use Rattle.std.proofs.Common.{take-take, take_all, true, true≢false, zero, ℕ, ℤ}
-pub use Rattle.std.proofs.Common.{⊎_elim, ◌&&◌, ◌*◌, ◌++◌, ◌+◌, ◌-◌, ◌/◌, ◌<◌, ◌^◌, ◌||◌, ◌∙◌}
-pub use Rattle.std.proofs.Common.{◌∷◌, ◌≡◌, ◌≤◌, ◌⊎◌}
+pub use Rattle.std.proofs.Common.{add_assoc, All, AllPairs, ap, append-nil, append_assoc, arith}
+pub use Rattle.std.proofs.Common.{Bool, codes, cond, drop, eqb, Err, false, filter, if◌then◌else◌}
+pub use Rattle.std.proofs.Common.{inl, inr, is_none, is_some, IsOk, le-leb, leb, leb-false}
+pub use Rattle.std.proofs.Common.{leb-true, length, length-append, length-drop, length-take}
+pub use Rattle.std.proofs.Common.{length-take-le, List, map, MatchOption, nat_eq, nat_le, nat_lt}
+pub use Rattle.std.proofs.Common.{ne_eqb, None, not, Ok, Option, refl, Result, slice_get}
+pub use Rattle.std.proofs.Common.{slice_index, slice_range, Some, subst, suc, sym, take}
+pub use Rattle.std.proofs.Common.{take-append-drop, take_all, true, true≢false, zero, ℕ, ℤ, []}
+pub use Rattle.std.proofs.Common.{⊎_elim, ◌&&◌, ◌*◌, ◌++◌, ◌+◌, ◌-◌, ◌/◌, ◌<◌, ◌^◌, ◌||◌, ◌∙◌, ◌∷◌}
+pub use Rattle.std.proofs.Common.{◌≡◌, ◌≤◌, ◌⊎◌}
 pub use Rattle.std.proofs.Math.Seq.{drop-append-add, drop-append_seam, take-length}
 pub use Rattle.std.proofs.lemmas.Bool.{eqb-false, false_from_ne_true}
 pub use Rattle.std.proofs.lemmas.Bool.Decides.{nat_tests}
-pub use Rattle.std.proofs.lemmas.List.{drop-append-le, length-map, map-append, take-append-le}
+pub use Rattle.std.proofs.lemmas.List.{drop-append-le, length-map, map-append, nil_from_length}
+pub use Rattle.std.proofs.lemmas.List.{take-append-le}
 pub use Rattle.std.proofs.lemmas.List.Elements.{filter-append, filter_passes}
 pub use Rattle.std.proofs.lemmas.List.Folds.{flat_map-map, list_any-append, list_any_at}
 pub use Rattle.std.proofs.lemmas.Option.{none-some, same_Some}
-pub use Rattle.std.specs.List.{AllByRecursion as Each, find, list_all, list_any}
-pub use Rattle.std.specs.List.{position_or_len, sum_by}
+pub use Rattle.std.specs.List.{AllByRecursion as Each, find, list_all, list_any, position_or_len}
+pub use Rattle.std.specs.List.{sum_by}
 pub use Rattle.std.specs.Map.{lookup}
 pub use Rattle.std.specs.Option.{ok_or}
 pub use Rattle.std.specs.Result.{result_unwrap_or}
@@ -64,8 +64,7 @@ pub use Rattle.dwp_table.specs.Table.{AreDistinct}
 pub use Rattle.dwp_table.specs.declared.object.DwarfObject.{DwarfObject}
 pub use Rattle.dwp_table.specs.declared.object.DwarfObject.TheVariants.{Compilation, TypeUnit}
 pub use Rattle.thorin_errors.specs.Answers.{as_error}
-pub use Rattle.thorin_errors.specs.Errors.{ErrorValue}
-pub use Rattle.thorin_errors.specs.Errors.{ParseUnitHeader}
+pub use Rattle.thorin_errors.specs.Errors.{ErrorValue, ParseUnitHeader}
 pub use Rattle.thorin_identity.specs.Identity.{first_identifier}
 unfoldable pub use Rattle.thorin_identity.specs.Identity.{entry_identity, identity, root_identity}
 pub use Rattle.thorin_index.specs.Entries.{contribution_to, entry_by}
@@ -75,7 +74,8 @@ pub use Rattle.thorin_index.specs.ReadRows.{HasEntries}
 pub use Rattle.thorin_index.specs.declared.entry.IndexEntry.{IndexEntry}
 pub use Rattle.thorin_input.specs.Format.{is_copied, is_shared}
 pub use Rattle.dwp_elf.specs.Growing.{Contents, contribution_put, HasFront, with_bytes}
-pub use Rattle.thorin_input.specs.Parts.{joined_parts}
+pub use Rattle.thorin_input.specs.Parts.{has_part, joined_parts, Parts, parts_of, stands_once}
+unfoldable pub use Rattle.thorin_input.specs.Parts.{with_each_part, with_offsets, with_part}
 unfoldable pub use Rattle.thorin_input.specs.Parts.{with_parts}
 pub use Rattle.thorin_input.specs.Indexes.{Indexes, indexes_of, is_package, Source}
 unfoldable pub use Rattle.thorin_input.specs.InputStrings.{rewritten}
@@ -83,8 +83,6 @@ pub use Rattle.thorin_input.specs.Names.{is_compilation, same_name}
 pub use Rattle.thorin_input.specs.NewUnits.{Adding, kept_bytes, New, NewUnit, place_for}
 pub use Rattle.thorin_input.specs.NewUnits.{unit_section}
 unfoldable pub use Rattle.thorin_input.specs.NewUnits.{name_for, new_units, with_unit}
-pub use Rattle.thorin_input.specs.Parts.{has_part, Parts, parts_of, stands_once}
-unfoldable pub use Rattle.thorin_input.specs.Parts.{with_each_part, with_offsets, with_part}
 unfoldable pub use Rattle.thorin_input.specs.Rows.{row_test, unit_row}
 pub use Rattle.thorin_input.specs.Used.{first, has_info, InputFile, opened, Used}
 unfoldable pub use Rattle.thorin_input.specs.Used.{input_file_of}
@@ -94,7 +92,7 @@ unfoldable pub use Rattle.thorin_package_input.specs.PackagedOffsets.{packaged_o
 pub use Rattle.thorin_package_input.specs.PackagedReading.{range_bytes}
 pub use Rattle.thorin_package_input.specs.ReadStrings.{ReadsAlike}
 pub use Rattle.thorin_strings.proofs.NamedEntries.{range_named}
-unfoldable pub use Rattle.thorin_strings.specs.StringOffsets.{remapped}
+unfoldable pub use Rattle.thorin_strings.specs.StringOffsets.{remapped, remapped_entries}
 pub use Rattle.thorin_join.proofs.Chosen.{is_chosen, rows_of}
 pub use Rattle.thorin_join.specs.Builder.{begun_by, IdentifiersFit, IsFinished, package_or_new}
 unfoldable pub use Rattle.thorin_join.specs.Builder.{order_test, with_input}
@@ -102,12 +100,19 @@ pub use Rattle.thorin_join.specs.FirstUse.{named_in, strings_begun, with_strings
 pub use Rattle.thorin_join.specs.Join.{GivesNone, GivesUnit, IsPackageOnceWritten, IsUnit, Joins}
 pub use Rattle.thorin_join.specs.Join.{limit_of, same_sort}
 pub use Rattle.thorin_join.specs.Laid.{IsWhole, name_signature, type_signature}
-pub use Rattle.thorin_join.specs.Meaning.{joining, keys, Meaning, Members, source_units, UnitRead}
+pub use Rattle.thorin_join.specs.Meaning.{can_join, contributions_by, joining, keys, Meaning}
+pub use Rattle.thorin_join.specs.Meaning.{Members, named_at, source_units, UnitRead, whole_entries}
 pub use Rattle.thorin_join.specs.Represents.{AreApart, AreRowsOf, IsRowOf, IsSound, IsSoundBegun}
 pub use Rattle.thorin_join.specs.Represents.{LieInside, meaning_at, Owns, Represents, Shares}
 pub use Rattle.thorin_join.specs.Represents.{units_begun, units_in, units_of}
 pub use Rattle.thorin_join.specs.Sizes.{bytes_of_contents, bytes_of_strings, offsets_used}
-pub use Rattle.thorin_join.specs.State.{adding, InProgress, row_at, with_unit_added}
+pub use Rattle.thorin_join.specs.State.{adding, InProgress, names_of, row_at, with_unit_added}
 unfoldable pub use Rattle.thorin_join.specs.State.{with_new_unit, with_new_units, with_source}
 pub use Rattle.thorin_join.specs.Strings.{each_from, offset_of_entry, strings_of}
 unfoldable pub use Rattle.thorin_join.specs.Strings.{strings_at}
+pub use Rattle.thorin_input.specs.Held.{unit_bytes}
+pub use Rattle.std.proofs.lemmas.List.Sums.{sum_by-append, sum_by-cons}
+unfoldable pub use Rattle.thorin_join.specs.Meaning.{named_sections}
+pub use Rattle.dwp_elf.proofs.KindCounts.{length-KindsDiffer}
+pub use Rattle.thorin_join.specs.StandApart.{LieBehind}
+pub use Rattle.thorin_strings.proofs.RemapLemmas.{kept_more}

@@ -1,8 +1,4 @@
 -- The units of an input, and their names.
-pub mod NamesApart
-pub mod JoinedByName
-pub mod HeadersRead
-pub mod InRows
-pub mod Sorts
-pub mod Whole
 pub mod ReadInTurn
+pub mod Whole
+pub mod InRows

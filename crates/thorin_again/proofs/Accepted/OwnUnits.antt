@@ -1,30 +1,31 @@
 -- The units of a written package of plain objects are taken as those of an input, and each gets a
 -- row: by a package without units all of them, since no name comes twice; by any other unless a
 -- compilation unit is there already.
-use Rattle.thorin_join.proofs.Rows.OfUnits.{adjustor, own-index, some-index, whole-part}
+use Rattle.thorin_join.proofs.Rows.OfUnits.{adjustor, own-index, some-index}
 use Rattle.thorin_again.proofs.Terms
-use Terms.{[], Adding, adding, all_kept_by, all_kinds, and-false, ap, AreApart, arith, Bool}
-use Terms.{both_ways, by-bool, content_of, Contents, Contribution, contribution_put}
-use Terms.{contribution_to, count_of, DuplicateUnit, DwarfObject, EachRow, Encoding, eqb, eqb-false}
-use Terms.{ErrorValue, false, File, finished-grows, finished-order, get_or-map}
-use Terms.{get_or_from_slice_get, HasRows, Header, identifier_of, identity-shifted, Index}
-use Terms.{IndexEntry, Indexes, InProgress, is_at, is_chosen, is_shared, is_some, is_used, IsPlain}
-use Terms.{IsTable, joined_parts, kind-place, kind_of, KindsDiffer, length, length-map, LieInside}
-use Terms.{List, lookup, map, name_for, NamesItself, New, new_units, NewUnit, None, Ok, Option}
-use Terms.{own_source, part-there, parts_of, place-put, place_of, range-none, range_in, ReadError}
-use Terms.{refl, row_of, row_test, rows_of, same-self, same_name, same_name-sym, same_place}
-use Terms.{section, SectionKind, slice_get_within, Some, sound-inside, Source, StrOffsets, subst}
-use Terms.{sym, true, unit_section, units, UnitSection, Used, with_first, written_used, ℕ, ◌<◌}
-use Terms.{◌>>=◌, ◌||◌, ◌∙◌, ◌∷◌, ◌≡◌}
-use Rattle.std.proofs.Common.{le-leb, length-append, Result, slice_get, ◌++◌, ◌+◌, ◌≢◌, ◌≤◌, ◌⊎◌}
+use Terms.{Adding, adding, adjusted, adjusted_contribution, all_kept_by, all_kinds, and-false, ap}
+use Terms.{AreApart, arith, Bool, both_ways, by-bool, content_of, Contents, Contribution}
+use Terms.{contribution_put, contribution_to, count_of, DuplicateUnit, DwarfObject, EachRow}
+use Terms.{Encoding, eqb, eqb-false, ErrorValue, false, File, finished-grows, finished-order}
+use Terms.{get_or-map, get_or_from_slice_get, HasRows, Header, identifier_of, identity-shifted}
+use Terms.{Index, IndexEntry, Indexes, InProgress, is_at, is_chosen, is_shared, is_some, is_used}
+use Terms.{IsPlain, IsTable, joined_parts, kind-place, kind_of, KindsDiffer, length, length-append}
+use Terms.{length-map, LieInside, List, lookup, map, moved, name_for, NamesItself, New, new_units}
+use Terms.{NewUnit, None, Ok, Option, own_source, part-there, parts_of, place-put, place_of}
+use Terms.{range-none, range_in, ReadError, refl, Result, row_of, row_test, rows_of, same-self}
+use Terms.{same_name, same_name-sym, same_place, section, SectionKind, slice_get, slice_get_within}
+use Terms.{Some, sound-inside, Source, StrOffsets, subst, sym, true, unit_section, units}
+use Terms.{UnitSection, Used, whole-part, with_first, written_used, ℕ, [], ◌++◌, ◌+◌, ◌<◌, ◌>>=◌}
+use Terms.{◌||◌, ◌∙◌, ◌∷◌, ◌≡◌, ◌≢◌, ◌≤◌, ◌⊎◌}
+use Rattle.std.proofs.Common.{le-leb}
 use Rattle.dwp_base.specs.Reading.{read_each}
-use Rattle.thorin_input.specs.Adjusting.{adjusted, Adjustor, has_column_for, moved, moved_range}
-use Rattle.thorin_input.specs.Adjusting.{other_index, own_index, without_column}
-use Rattle.thorin_input.specs.Rows.{adjusted_contribution, unit_contribution, unit_row}
+use Rattle.thorin_input.specs.Adjusting.{Adjustor, has_column_for, moved_range, other_index}
+use Rattle.thorin_input.specs.Adjusting.{own_index, without_column}
+use Rattle.thorin_input.specs.Rows.{unit_contribution, unit_row}
 use Rattle.thorin_again.proofs.Offsets.RewrittenAgain.{at-row, by-passing, used-chosen}
 use Rattle.thorin_again.proofs.Opened.Sections.{and-then, answered, behind, Fares, front}
 use Rattle.thorin_again.proofs.Opened.Sections.{rest-differ, section_of, then-fares, Unless}
-use Rattle.thorin_input.specs.NewUnits.{is_met, kept_bytes, SeenSections, none_met, once_test}
+use Rattle.thorin_input.specs.NewUnits.{is_met, kept_bytes, none_met, once_test, SeenSections}
 use Rattle.thorin_input.specs.NewUnits.{with_each_read, with_each_section, with_met, with_read}
 use Rattle.thorin_input.specs.NewUnits.{with_section, with_section_at, with_section_in, with_unit}
 use Rattle.thorin_again.proofs.Meant.RowByRow.{IsUnitOf, of-section, place-eq, place-is, read-alone}
@@ -33,8 +34,8 @@ use Rattle.thorin_again.proofs.Opened.Indexes.{finished-shared, IsReadOf, lie-ke
 use Rattle.thorin_again.proofs.Meant.OneRow.{found-range, found-row, named-again, parts, row-lies}
 use Rattle.thorin_again.proofs.Meant.OneRow.{row-tested}
 use Rattle.thorin_again.proofs.Kept.Names.{keep-names}
-use Rattle.thorin_join.proofs.Parts.OfPackages.{parts-first, rows-read}
-use Rattle.thorin_join.proofs.EachKind.{copied-or-offsets}
+use Rattle.thorin_join.proofs.Parts.ReadAlike.{parts-first, rows-read}
+use Rattle.thorin_join.proofs.Parts.Added.{copied-or-offsets}
 
 -- ---- a unit's part is moved
 

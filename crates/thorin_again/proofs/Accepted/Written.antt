@@ -1,32 +1,30 @@
 -- A written package of plain objects of one encoding is accepted: by any package of its byte
 -- order, unless it is foreseen otherwise, and by a new one.
 use Rattle.thorin_again.proofs.Terms
-use Terms.{[], abbreviations_test, adding, All-from_recursion, all_meant, AllOf, ap, arith, Bool}
-use Terms.{both, cond, content_of, counts_once, data_of, DwarfObject, elf_of, Encoding, ErrorValue}
-use Terms.{false, File, file_encoding, file_text, finished-is, finished-order, finished-own}
-use Terms.{finished-strings, has_content, has_sections, HaveEncodingOf, HoldsOwn, HoldsPlain}
-use Terms.{Indexes, indexes_of, inl, InProgress, input-keeps, inr, is_used, IsEquivalence}
-use Terms.{IsFinishedState, IsForeseen, IsOwn, IsPermutation-map, IsPlain, IsSoundBegun, joining}
-use Terms.{Joins, keys, keys-units, KindsDiffer, length, length-filter, length-map, limit_of, List}
-use Terms.{list_any-append, list_any_none, look_limit, Meaning, Members, new-sound, new_units, None}
-use Terms.{Ok, Option, order_of, own_encoding, own_source, package_or_new, packs_again, Parts}
-use Terms.{parts_of, refl, rewritten, same_name, same_name-self, same_name-true, same_sort}
-use Terms.{SectionKind, Some, start, subst, sym, true, units_begun, units_in, units_of}
-use Terms.{UnlessStringOffset, with_source, with_source_or_new, written_elf, written_object, ℕ, ◌<◌}
-use Terms.{◌||◌, ◌∙◌, ◌∷◌, ◌≡◌}
-use Rattle.thorin_again.proofs.Lists.InOrder.{meant_or, there-back}
-use Rattle.std.proofs.Common.{append_assoc, IsPermutation, length-append, ltb-true, nat_lt, not}
-use Rattle.std.proofs.Common.{Result, ◌++◌}
-use Rattle.thorin_join.specs.Builder.{begun_by, finish_test, State, taken}
+use Terms.{abbreviations_test, adding, All-from_recursion, all_meant, AllOf, ap, append_assoc}
+use Terms.{arith, Bool, both, cond, content_of, counts_once, data_of, DwarfObject, elf_of, Encoding}
+use Terms.{ErrorValue, false, File, file_encoding, file_text, finish_test, finished-is}
+use Terms.{finished-order, finished-own, finished-strings, has_content, has_sections}
+use Terms.{HaveEncodingOf, HoldsOwn, HoldsPlain, Indexes, indexes_of, inl, InProgress, input-keeps}
+use Terms.{input_meaning, inr, is_used, IsEquivalence, IsFinishedState, IsForeseen, IsOwn}
+use Terms.{IsPermutation, IsPermutation-map, IsPlain, IsSoundBegun, joining, Joins, keys}
+use Terms.{keys-units, KindsDiffer, length, length-append, length-filter, length-map, limit_of}
+use Terms.{List, list_any-append, list_any_none, look_limit, Meaning, Members, nat_tests, new-sound}
+use Terms.{new_units, None, not, Ok, Option, order_of, own_encoding, own_source, package_or_new}
+use Terms.{packs_again, Parts, parts_of, refl, rewritten, same_name, same_name-self, same_name-true}
+use Terms.{same_sort, SectionKind, Some, start, State, subst, sym, taken, true, units_begun}
+use Terms.{units_in, units_of, with_source, with_source_or_new, written_elf, written_object, ℕ, []}
+use Terms.{◌++◌, ◌<◌, ◌||◌, ◌∙◌, ◌∷◌, ◌≡◌}
+use Rattle.thorin_again.proofs.Lists.{answers-whole, AreEncoded, Finds, first-of, input-order}
+use Rattle.thorin_again.proofs.Lists.{meant_or, own-encoded, there-back}
+use Rattle.std.proofs.Common.{ltb-true, nat_lt}
+use Rattle.thorin_join.specs.Builder.{begun_by}
 use Rattle.std.proofs.lemmas.List.Sorted.{IsPermutation-middle, sum_by-IsPermutation}
-use Rattle.thorin_join.specs.Meaning.{input_meaning}
 use Rattle.std.specs.List.{IsDistinct}
 use Rattle.std.proofs.lemmas.Simd.{map-map}
 use Rattle.std.proofs.lemmas.Map.Keys.{IsDistinct-from_apart, IsDistinct-IsPermutation}
 use Rattle.indexmap.proofs.MapLemmas.{lookup_permutation}
 use Rattle.thorin_join.specs.Join.{IsPackageOf}
-use Rattle.thorin_again.proofs.Lists.OneEncoding.{answers-whole, AreEncoded, Finds, first-of}
-use Rattle.thorin_again.proofs.Lists.OneEncoding.{input-order, own-encoded}
 use Rattle.thorin_again.proofs.Accepted.OwnUnits.{flips, taken-all}
 use Rattle.thorin_again.specs.OwnAccepted.{IsAccepted, IsAcceptedByNew}
 use Rattle.thorin_again.proofs.Opened.Indexes.{finished-shared, in-format, lie-kept, lie-used}
@@ -39,7 +37,6 @@ use Rattle.thorin_again.proofs.Kept.OneEncoding.{begun-now}
 use Rattle.thorin_again.proofs.Meant.Package.{again-is}
 use Rattle.dwp_base.specs.declared.section.SectionKind.TheVariants as kinds
 use Rattle.dwp_units.specs.declared.unit.UnitSection.TheVariants as places
-use Rattle.std.proofs.lemmas.Bool.Decides.{nat_tests}
 
 -- ---- names
 
@@ -95,10 +92,6 @@ alone-finds us vs bytes perm distinct p name =
     rw (limit, ← same) (p.finds name)
 
 -- ---- what the state of a written file has
-
--- the refusal of a string's offset is foreseen
-foreseen : {X : Type 0} (r : Result X ErrorValue) → UnlessStringOffset r → Unless IsForeseen r
-foreseen r h = grind arith
 
 data-there : (strings : List (List ℕ)) → 0 < length strings → 0 < length (data_of strings)
 data-there [] h = absurd (omega (arith, h))
@@ -206,7 +199,7 @@ module _ (state : State) (file : File) (sound : IsSoundBegun state.begun) (holds
       let table = (new-sound (written_elf file) before.begun fine).units.table in
       let units = taken-all ⊥ IsForeseen (inr (λ id. inr (id, refl))) is plain now
       (λ never. absurd never) in
-      (foreseen _ (own-offsets is plain now.strings), λ p e. units p.0 p.1 table e))
+      (grind (arith, own-offsets is plain now.strings), λ p e. units p.0 p.1 table e))
 
   -- a new one takes them
   new-accepted : (after : State) × (taken (file_text file) start ≡ Ok after)

@@ -1,35 +1,32 @@
 -- What holds of each unit of an input of one encoding, and of those that are added to a package in
--- turn. Each section that units share has a part that a row names, where plain objects add units.
+-- turn: each section that units share has a part that a row names, where plain objects add units;
+-- and rows have contributions only to sections in the format of their input's version.
 use Rattle.thorin_again.proofs.Terms
-use Terms.{[], Adding, adding, All-weaker, AllPass-from_list_all, AllSo, ap, arith, by-bool, common}
-use Terms.{content-with_bytes, content-with_parts, content_of, Contents, Contribution}
-use Terms.{contribution_put, contribution_to, DwarfObject, Each, each-all, each-joining, Encoding}
-use Terms.{eqb, eqb-true, ErrorValue, false, get_or_from_slice_get, Goes, has_encoding}
-use Terms.{HasNamedParts, Header, IndexEntry, InProgress, is_package, is_shared, is_some, is_used}
-use Terms.{IsKnown, joined_parts, joining, keys, kind_of, known-in, length, List, list_all}
-use Terms.{list_any, list_any-append, Made, News, NewUnit, Ok, Option, or-right, Reads}
-use Terms.{recursion_from_All, refl, row_at, same-ok, same_encoding, same_kind, section}
-use Terms.{section_has, SectionKind, sections-are, slice_get_within, Some, Source, subst, sym, true}
-use Terms.{UnitRead, units, units-go, UnitSection, Used, WasRead, with_all_parts, with_new_units}
-use Terms.{with_unit_added, ℕ, ◌<◌, ◌∙◌, ◌∷◌, ◌≡◌}
-use Rattle.std.proofs.Common.{length-append, ◌++◌}
-use Rattle.thorin_join.proofs.Parts.FirstUses.{each-unit as unit-by-unit}
-use Rattle.thorin_join.proofs.Units.JoinedByName.{AreAdded, IsAdded, units-joined, UnitsJoined}
-use Rattle.thorin_join.proofs.Rows.OfUnits.{adjusted-plain, is-unit_row, whole-part}
-use Rattle.std.proofs.lemmas.Bool.Decides.{nat_tests}
+use Terms.{Adding, adding, adjusted, All-weaker, AllPass-from_list_all, AllSo, ap, AreAdded, arith}
+use Terms.{bind-was, by-bool, content-with_bytes, content-with_parts, content_of, Contents}
+use Terms.{Contribution, contribution_put, contribution_to, DwarfObject, Each, each-all}
+use Terms.{each-joining, EachRow, Encoding, eqb, eqb-true, ErrorValue, false, get_or_from_slice_get}
+use Terms.{Goes, has_encoding, HasNamedParts, Header, IndexEntry, inl, InProgress, input_encoding}
+use Terms.{inr, is-same, is_in_format, is_package, is_shared, is_some, is_used, IsAdded, IsInFormat}
+use Terms.{IsKnown, joined_parts, joined_parts-other, joining, keys, kind-place, kind_of, known-in}
+use Terms.{length, length-append, List, list_all, list_any, list_any-append, Made, moved, nat_tests}
+use Terms.{News, NewUnit, None, Ok, Option, or-right, package_or_new, Parts, Reads}
+use Terms.{recursion_from_All, refl, row_at, same-begun, same-ok, same_encoding, section}
+use Terms.{section_has, SectionKind, sections-are, slice_get_within, Source, source-made, subst}
+use Terms.{sym, takes, true, UnitRead, units, units-go, UnitSection, Used, WasRead, whole-part}
+use Terms.{with_all_parts, with_each_part, with_input, with_new_units, with_part, with_unit_added}
+use Terms.{ℕ, [], ◌++◌, ◌<◌, ◌∙◌, ◌∷◌, ◌≡◌}
+use Rattle.thorin_join.proofs.Parts.Added.{each-unit as unit-by-unit, step}
+use Rattle.thorin_join.proofs.Units.ReadInTurn.{units-joined, UnitsJoined}
+use Rattle.thorin_join.proofs.Rows.OfUnits.{adjusted-plain, is-unit_row, IsUnitRow, whole-else}
+use Rattle.thorin_join.specs.StandApart.{rows_begun}
+use Rattle.thorin_join.proofs.Rows.OneAdded.{row-part}
+use Rattle.std.proofs.ByRecursion.{All-append}
 
 -- ---- encodings that are alike are one
 
-encoding-eq : (a b : Encoding) → same_encoding a b ≡ true → a ≡ b
+pub encoding-eq : (a b : Encoding) → same_encoding a b ≡ true → a ≡ b
 encoding-eq a b h = grind (arith, nat_tests)
-
--- the one encoding of two groups is that of either
-pub common-are : (a b : Option Encoding) (own : Encoding) → common a b ≡ Some own → (a ≡ Some own)
-    × (b ≡ Some own)
-common-are a b own h = grind (arith, nat_tests, encoding-eq)
-
-pub common-self : (e : Encoding) → common (Some e) (Some e) ≡ Some e
-common-self e = grind (arith, nat_tests)
 
 -- what is known of a unit of an input of one encoding
 abbrev pub OfOne : Source → UnitSection → Header → Type 0
@@ -70,11 +67,6 @@ pub each-added : (P : InProgress → Type 0) (Q : DwarfObject × NewUnit → Typ
 each-added P Q keeps = unit-by-unit (λ p us now. Each Q us → P p → P now) (λ p are h. h)
     (λ p u us now later are h. later are.1 h)
     (λ p u us now later are h. later are.1 (keeps p u are.0 h))
-
--- units' own bytes go to other sections
-shared-apart : (place : UnitSection) (kind : SectionKind) → is_shared kind ≡ true
-    → same_kind (kind_of place) kind ≡ false
-shared-apart place kind shared = grind arith
 
 -- the row of a unit has what it shares
 pub shared-row : (shared : IndexEntry) (c : Contents) (name : DwarfObject) (x : List ℕ)
@@ -132,8 +124,8 @@ module _ {source : Source} {before now : InProgress} (a : Made source before now
   content-added kind shared = with-any
       (λ p. content_of kind p.file.contents ≡ content_of kind before.file.contents ++ joined_parts
       kind a.parts)
-      (λ p u h. content-with_bytes kind (kind_of u.1.place) u.1.bytes p.file.contents
-      ∙ rw (shared-apart u.1.place kind shared) h)
+      (λ p u h. let put = content-with_bytes kind (kind_of u.1.place) u.1.bytes p.file.contents in
+      grind (arith, put, h, shared))
       (content-with_parts kind a.parts before.file.contents)
 
   -- what a unit more makes so, where one was added
@@ -183,3 +175,114 @@ module _ {source : Source} {before now : InProgress} (a : Made source before now
       (λ there. once-more more (λ p. is_used p.rows kind ≡ true) (RowHas (λ row. test row ≡ true))
       (λ p u has. last p u ∙ or-right (list_any test p.rows) _ (rw (has p.file.contents) refl))
       (rows-share plain kind shared (λ o. is_some o ≡ true) (rw there refl)))
+
+-- ---- sections in the format
+
+-- a section of this place is in the format
+abbrev pub InFormat : Source → UnitSection → Header → Type 0
+InFormat source place unit = is_in_format source.encoding (kind_of place) ≡ true
+
+pub each-format : (source : Source) (sections : List Used) (before after : Parts)
+    → with_each_part source before sections ≡ Ok after
+    → Each (AllSo source (InFormat source)) sections
+unfolding with_each_part with_part
+each-format source [] before after h = tt
+each-format source (s ∷ ss) before after h =
+    let next = bind-was (with_part source before s) _ after h in (
+      λ place here k unit there. grind (arith, next.1, kind-place s.kind place here),
+      each-format source ss next.0 after next.2,
+    )
+
+-- ---- sections outside the format have no parts
+
+module _ (source : Source) (kind : SectionKind)
+    (none : is_in_format source.encoding kind ≡ false) where
+  part-outside : (before : Parts) (s : Used) (next : Parts) → with_part source before s ≡ Ok next
+      → joined_parts kind next.0 ≡ joined_parts kind before.0
+  unfolding with_part
+  part-outside before s next h =
+      let adds = (step source before s next h).adds in
+      let there : is_in_format source.encoding s.kind ≡ true = grind arith in
+      grind (arith, adds, none, is-same, joined_parts-other kind before.0)
+
+  parts-outside : (sections : List Used) (before after : Parts)
+      → with_each_part source before sections ≡ Ok after
+      → joined_parts kind after.0 ≡ joined_parts kind before.0
+  unfolding with_each_part
+  parts-outside [] before after h = grind arith
+  parts-outside (s ∷ ss) before after h =
+      let next = bind-was (with_part source before s) _ after h in
+      parts-outside ss next.0 after next.2 ∙ part-outside before s next.0 next.1
+
+-- ---- the row of a unit
+
+module _ {source : Source} {before now : InProgress} (a : Made source before now) where
+  module _ (n : DwarfObject × NewUnit) (r : DwarfObject × UnitRead)
+      (is : IsAdded (adding source before a.parts) n r) where
+    abbrev whole : IndexEntry
+    whole = (adding source before a.parts).whole
+
+    made : IsUnitRow source.indexes whole r.0 n.1.row
+    made = is-unit_row source.indexes whole r.0 n.1.row is.row
+
+    -- of a section outside the format it has nothing
+    nothing-outside : (kind : SectionKind) → is_in_format source.encoding kind ≡ false
+        → contribution_to kind n.1.row ≡ None
+    unfolding adjusted moved
+    nothing-outside kind none =
+        let else = whole-else source.encoding before.file.contents a.parts in
+        by-bool _ (is_shared kind)
+        (λ shared.
+        let parts = parts-outside source kind none source.object.sections _ _ a.parts_are in
+        let put = whole-part source.encoding before.file.contents a.parts kind shared in
+        let absent : contribution_to kind whole ≡ None = put ∙ rw parts refl in
+        let given = rw absent at (made.parts kind shared) in grind (arith, given))
+        (λ apart. grind (arith, made.info, made.types, else))
+
+    new-encoding : RowHas (λ row. row.encoding ≡ source.encoding) n
+    new-encoding c =
+        grind (arith, made.encoding, whole-else source.encoding before.file.contents a.parts)
+
+    new-format : WasRead source (InFormat source) r → RowHas IsInFormat n
+    new-format w c kind some =
+        let row = row_with c n in
+        let own : is_in_format source.encoding (kind_of n.1.place) ≡ true =
+        grind (arith, is.place, w.from, w.so) in
+        let format : is_in_format source.encoding kind ≡ true =
+        grind (arith, row-part n.1.row c n.0 n.1.bytes n.1.place kind, nothing-outside kind, some)
+        in
+        grind (arith, new-encoding c, some, format)
+
+  -- what holds of rows in the format with the input's encoding stays so of all rows
+  pub rows-kept : (P : IndexEntry → Type 0)
+      → ((row : IndexEntry) → IsInFormat row → row.encoding ≡ source.encoding → P row)
+      → EachRow P before.rows → EachRow P now.rows
+  rows-kept P new old =
+      with-each a (λ p. EachRow P p.rows) (RowHas P)
+      (λ p u has all. All-append P p.rows (row_with p.file.contents u ∷ [])
+      all (has p.file.contents, tt))
+      (news-are a (InFormat source)
+      (each-format source source.object.sections _ _ a.parts_are) (RowHas P)
+      (λ n r is goes w c. new (row_with c n) (new-format n r is w c) (new-encoding n r is c))) old
+
+-- ---- an input
+
+pub input-rows : (P : IndexEntry → Type 0) (bytes : List ℕ) (begun now : Option InProgress)
+    → ((row : IndexEntry) → IsInFormat row → input_encoding bytes ≡ Ok row.encoding → P row)
+    → with_input bytes begun ≡ Ok now → EachRow P (rows_begun begun) → EachRow P (rows_begun now)
+unfolding input_encoding
+input-rows P bytes begun now new h old =
+    let t = takes bytes begun now h in
+    let before = package_or_new t.file begun in
+    let was : EachRow P before.rows =
+    subst (EachRow P) (sym (same-begun rows_begun t.file refl begun)) old in
+    elim t.does [
+      | inl w ↦
+          let u = w.1 in
+          let read : input_encoding bytes ≡ Ok u.source.encoding =
+          rw (t.opens, u.object_is, u.encoding_is) refl in
+          let kept = rows-kept (source-made u.source before u.made u.with) P
+          (λ row format encoding. new row format (read ∙ ap (λ e. Ok e) (sym encoding))) was in
+          subst (λ b. EachRow P (rows_begun b)) u.is kept
+      | inr none ↦ subst (λ b. EachRow P (rows_begun b)) none.1 was
+    ]

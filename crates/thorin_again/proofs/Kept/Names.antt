@@ -3,45 +3,42 @@
 -- package has bytes, where it has units: the first unit of an object stands in info, with the
 -- object's encoding, and its name's unit goes there.
 use Rattle.thorin_again.proofs.Terms
-use Terms.{[], abbreviations_for, adding, AllSo, ap, append-nil, arith, bind-was, by-bool}
+use Terms.{abbreviations_for, adding, ap, append-nil, append_assoc, arith, bind-was, by-bool}
 use Terms.{content-put, content-with_bytes, content-with_parts, content_of, Contents}
 use Terms.{contribution_to, drop-append-le, DwarfObject, Each, each-all, each-named, EachRow}
 use Terms.{Encoding, encoding_of, Endianness, ErrorValue, false, first, first_encoding, front-long}
-use Terms.{Goes, goes-alone, grows-with_parts, HasFront, HasNamedUnits, Header, identity-shifted}
-use Terms.{identity-sort, IndexEntry, InProgress, Input, is-same, is_in_format, is_package, IsSound}
-use Terms.{joined_parts, joining, keys, keys-held, kind-place, kind_of, known-in, length, LieInside}
-use Terms.{List, list_all, list_any, list_any-append, Listed, Made, map, map-append, more}
-use Terms.{name-identity, name_for, name_signature, names_of, NamesItself, newer-five, News}
-use Terms.{NewUnit, no-bytes, None, Ok, older_at, Option, or-right, own-place, part_of, Parts}
-use Terms.{parts-copied, place_for, place_of, ReadError, Reads, refl, row-name, row-own, row_at}
-use Terms.{same-ok, same_kind, same_name, same_name-self, same_name-true, section, section_has}
-use Terms.{SectionKind, Some, sound-inside, Source, subst, sym, true, type_signature, unit_at}
-use Terms.{unit_bytes, unit_section, UnitRead, units, units_within, UnitSection, Used, WasRead}
-use Terms.{whole_behind, with_bytes, with_new_units, with_parts, with_unit_added, ℕ, ◌<◌, ◌∙◌, ◌∷◌}
-use Terms.{◌≡◌}
+use Terms.{Goes, goes-alone, grows-with_parts, HasFront, HasNamedUnits, Header, header_at, identity}
+use Terms.{identity-shifted, identity-sort, IndexEntry, InProgress, Input, is-same, is_package}
+use Terms.{IsAdded, IsSound, joined_parts, joining, keys, keys-held, kind_of, known-in, length}
+use Terms.{length-append, LieInside, List, list_all, list_any, list_any-append, Listed, Made, map}
+use Terms.{map-append, more, name-identity, name_for, name_signature, named_each, named_sections}
+use Terms.{names_of, NamesItself, newer-five, News, NewUnit, nil_from_length, None, Ok, older_at}
+use Terms.{Option, or-right, own-place, part_of, parts-copied, place_for, place_of, ReadError}
+use Terms.{Reads, refl, row-name, row-own, row_at, same-ok, same_kind, same_name, same_name-self}
+use Terms.{same_name-true, section, section_has, SectionKind, slice_get, Some, sound-inside, Source}
+use Terms.{subst, sym, true, type_signature, unit_at, unit_bytes, unit_section, UnitRead, units}
+use Terms.{units_within, Used, WasRead, whole_behind, with_bytes, with_new_units, with_parts}
+use Terms.{with_unit_added, ℕ, [], ◌++◌, ◌<◌, ◌∙◌, ◌∷◌, ◌≡◌, ◌⊎◌}
 use Rattle.dwp_units.proofs.Readings.{takes_more}
-use Rattle.std.proofs.Common.{append_assoc, length-append, slice_get, ◌++◌, ◌⊎◌}
-use Rattle.dwp_units.specs.Units.{header_at, older_type_at}
-use Rattle.std.proofs.ByRecursion.{All-append}
-use Rattle.thorin_input.specs.Parts.{with_each_part, with_part}
-use Rattle.thorin_join.proofs.Rows.Stay.{Grows, grows-trans, grows-with_bytes, keep-part}
+use Rattle.dwp_units.specs.Units.{older_type_at}
+use Rattle.thorin_join.proofs.Rows.OneAdded.{Grows, grows-trans, grows-with_bytes, keep-part}
 use Rattle.dwp_dwarf.proofs.Tables.{next_takes, said}
 use Rattle.dwp_dwarf.proofs.Offsets.{from_is, from_within}
 use Rattle.dwp_dwarf.specs.Offsets.{from_at}
 use Rattle.dwp_dwarf.specs.Grammar.{DeclarationsLie, IsBehindOthers}
 use Rattle.dwp_dwarf.specs.Abbreviations.{Declaration, declaration}
-use Rattle.thorin_identity.specs.Identity.{identity, root_identity}
-use Rattle.thorin_join.specs.Meaning.{joined_content, named_at, named_each, named_sections}
+use Rattle.thorin_identity.specs.Identity.{root_identity}
+use Rattle.thorin_join.specs.Meaning.{joined_content, named_at}
 use Rattle.thorin_join.specs.State.{with_new_unit}
-use Rattle.thorin_join.proofs.Units.JoinedByName.{added-keys, IsAdded}
-use Rattle.thorin_again.proofs.Kept.EachUnit.{each-added, joined, news-are, of-one, OfOne}
-use Rattle.thorin_again.proofs.Kept.EachUnit.{order-added, parted, plain-part, shared-row, with-any}
-use Rattle.thorin_again.proofs.Kept.EachUnit.{with-each}
+use Rattle.thorin_join.proofs.Units.ReadInTurn.{added-keys}
+use Rattle.thorin_again.proofs.Kept.EachUnit.{each-added, each-format, InFormat, joined, news-are}
+use Rattle.thorin_again.proofs.Kept.EachUnit.{of-one, OfOne, order-added, parted, plain-part}
+use Rattle.thorin_again.proofs.Kept.EachUnit.{shared-row, with-any, with-each}
 use Rattle.thorin_again.proofs.Meant.RowByRow.{part-middle}
-use Rattle.thorin_join.proofs.Rows.LieInTurn.{can-lie}
-use Rattle.thorin_join.proofs.Rows.AllAdded.{AllNew, joined-new, names-added}
+use Rattle.thorin_join.proofs.Rows.AllAdded.{AllNew, can-lie, joined-new, names-added}
 use Rattle.dwp_base.specs.declared.section.SectionKind.TheVariants as kinds
 use Rattle.dwp_units.specs.declared.unit.UnitSection.TheVariants as places
+use Rattle.std.proofs.ByRecursion.{All-append}
 
 -- ---- what is read of a table of abbreviations stays where more bytes follow
 
@@ -99,7 +96,7 @@ put-stays : (front x : List ℕ) {own whole : List ℕ} → own ≡ front ++ x �
     → part_of whole (whole_behind front x) ≡ x
 put-stays front x {whole = whole} same h =
     let middle = part-middle front x h.rest whole (length front) in
-    grind (arith, no-bytes x, append_assoc front x h.rest, middle, h.is)
+    grind (arith, nil_from_length x, append_assoc front x h.rest, middle, h.is)
 
 -- ---- rows name their units, however contents grow
 
@@ -263,23 +260,6 @@ module _ (source : Source) (encoding : Encoding) where
       (head.0, there ∙ rw head.1 refl, goes))
       (λ other. let l = first-named rest b.0 b.1 (rw other at e) in
       (l.0, list_any-append (same_name l.0) (keys a.0) (keys b.0) ∙ or-right _ _ l.1, l.2)))
-
--- ---- where units of that name go
-
--- a section of this place is in the format
-abbrev pub InFormat : Source → UnitSection → Header → Type 0
-InFormat source place unit = is_in_format source.encoding (kind_of place) ≡ true
-
-pub each-format : (source : Source) (sections : List Used) (before after : Parts)
-    → with_each_part source before sections ≡ Ok after
-    → Each (AllSo source (InFormat source)) sections
-unfolding with_each_part with_part
-each-format source [] before after h = tt
-each-format source (s ∷ ss) before after h =
-    let next = bind-was (with_part source before s) _ after h in (
-      λ place here k unit there. grind (arith, next.1, kind-place s.kind place here),
-      each-format source ss next.0 after next.2,
-    )
 
 -- ---- units that are added
 

@@ -1,22 +1,18 @@
 -- What holds of all units of a package once an input was taken; all units of plain objects of one
 -- encoding have it; and a builder's package stays one of such objects.
 use Rattle.thorin_again.proofs.Terms
-use Terms.{[], All, All-append, All-cons, All-nil, All-weaker, all_there, ap, arith, bind-was}
-use Terms.{CuIndex, data_of, DwarfObject, Each, each-all, each-joining, each-mapped, Elf, Encoding}
+use Terms.{All, All-append, All-cons, All-nil, All-weaker, all_there, ap, arith, bind-was, CuIndex}
+use Terms.{data_of, DwarfObject, Each, each-all, each-joining, each-mapped, Elf, Encoding}
 use Terms.{ErrorValue, false, file_encoding, first, has_info, HasTiledOffsets, HoldsOwn, HoldsPlain}
 use Terms.{IfSome, IfSome_then, index_in, IndexEntry, Indexes, indexes_of, inl, InProgress}
-use Terms.{input-keeps, InputFile, inr, is_index, is_package, is_plain, IsPlain, IsSoundBegun}
-use Terms.{Joins, keys, length, length-map, List, list_all, list_any, made-order, Meaning, Members}
-use Terms.{new-sound, new-units, None, Ok, Option, own_encoding, package_or_new, Ranges, Reads}
-use Terms.{refl, same-ok, same_Some, section_has, Some, Source, source-made, source_units, subst}
-use Terms.{sym, Takes, takes, TakesUnits, true, TuIndex, UnitRead, units_begun, units_of, Used, ℕ}
-use Terms.{◌<◌, ◌∙◌, ◌∷◌, ◌≡◌}
-use Rattle.std.proofs.Common.{◌↔◌}
-use Rattle.std.proofs.lemmas.Bool.Decides.{nat_tests}
-use Rattle.thorin_join.specs.Builder.{names_in, State, taken, with_input}
-use Rattle.thorin_join.specs.Meaning.{input_meaning, meaning_by, meant, object_meaning}
-use Rattle.thorin_join.specs.Meaning.{source_meaning, unit_meaning}
-use Rattle.thorin_again.proofs.Kept.EachUnit.{common-are, common-self, named-kept}
+use Terms.{input-keeps, input_meaning, InputFile, inr, is_index, is_package, is_plain, IsPlain}
+use Terms.{IsSoundBegun, Joins, keys, length, length-map, List, list_all, list_any, made-order}
+use Terms.{Meaning, meaning_by, meant, Members, names_in, nat_tests, new-sound, new-units, None}
+use Terms.{object_meaning, Ok, Option, own_encoding, package_or_new, Ranges, Reads, refl, same-ok}
+use Terms.{same_Some, section_has, Some, Source, source-made, source_meaning, source_units, State}
+use Terms.{subst, sym, taken, Takes, takes, TakesUnits, true, TuIndex, unit_meaning, UnitRead}
+use Terms.{units_begun, units_of, Used, with_input, ℕ, [], ◌<◌, ◌↔◌, ◌∙◌, ◌∷◌, ◌≡◌}
+use Rattle.thorin_again.proofs.Kept.EachUnit.{encoding-eq, named-kept}
 use Rattle.thorin_again.proofs.Kept.Names.{info-there, names-kept}
 use Rattle.thorin_again.proofs.Offsets.RewrittenAgain.{no-turn}
 use Rattle.thorin_again.proofs.Offsets.Tiled.{tiled-kept}
@@ -121,8 +117,8 @@ pub own-adds : (bytes : List ℕ) (old new : State) (e : Encoding) → taken byt
     → (new.own ≡ Some e) ↔ AddsOwn bytes old new e
 unfolding taken
 own-adds bytes old new e h = (
-  λ k. grind (arith, nat_tests, common-are old.own),
-  λ a. grind (arith, nat_tests, common-self e, a),
+  λ k. grind (arith, nat_tests, encoding-eq),
+  λ a. grind (arith, nat_tests, a),
 )
 
 pub units-names : (begun : Option InProgress) → length (units_begun begun) ≡ length (names_in begun)

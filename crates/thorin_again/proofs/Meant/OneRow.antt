@@ -1,19 +1,19 @@
 -- What a unit of a written package means as an input: just what was joined.
 use Rattle.thorin_again.proofs.Terms
-use Terms.{[], abbreviations_for, All-filter, AllOf, ap, AreRowsOf, arith, Bool, by-bool}
+use Terms.{abbreviations_for, All-filter, AllOf, ap, ap₂, AreRowsOf, arith, Bool, by-bool}
 use Terms.{content_of, Contents, Contribution, contribution_to, contributions-same, DwarfObject}
 use Terms.{Encoding, Endianness, entry_ids, eqb-true, false, File, filter-append, FindsExactly}
 use Terms.{first, get_or_append_left, HasContributions, HasEntries, HasRows, Header, id-at}
-use Terms.{identifier_of, identity-sort, Index, index_for, IndexEntry, Indexes, InProgress, Input}
-use Terms.{is_chosen, is_compilation, is_outside, IsRowOf, kind_of, length, lie_inside, LieInside}
-use Terms.{List, looked_up, Meaning, meaning_at, members, name-identity, name_for, name_signature}
-use Terms.{nat_eq, nat_tests, None, none-some, not-outside, Ok, Option, own_source, part-there}
-use Terms.{part_of, range_in, Ranges, refl, row_abbreviations, row_of, row_test, rows_of, section}
-use Terms.{SectionKind, slice_get-get_or, slice_get_within, Some, Source, strings_of, sym}
-use Terms.{take-length, true, UnitSection, zero, ℕ, ◌<◌, ◌∙◌, ◌∷◌, ◌≡◌}
-use Rattle.std.proofs.Common.{ap₂, find, get_or, is_none, slice_get, suc, ◌++◌, ◌+◌, ◌≢◌, ◌≤◌}
-use Rattle.thorin_join.specs.Meaning.{meaning_by, meaning_with, shared_kinds, unit_meaning}
-use Rattle.thorin_identity.specs.Identity.{identity}
+use Terms.{identifier_of, identity, identity-sort, Index, index_for, IndexEntry, Indexes}
+use Terms.{InProgress, Input, is_chosen, is_compilation, is_outside, IsRowOf, kind_of, length}
+use Terms.{lie_inside, LieInside, List, looked_up, Meaning, meaning_at, meaning_by, members}
+use Terms.{name-identity, name_for, name_signature, nat_eq, nat_tests, None, none-some, not-outside}
+use Terms.{Ok, Option, own_source, part-there, part_of, range_in, Ranges, refl, row_abbreviations}
+use Terms.{row_of, row_test, rows_of, section, SectionKind, slice_get, slice_get-get_or}
+use Terms.{slice_get_within, Some, Source, strings_of, suc, sym, take-length, true, unit_meaning}
+use Terms.{UnitSection, zero, ℕ, [], ◌++◌, ◌+◌, ◌<◌, ◌∙◌, ◌∷◌, ◌≡◌, ◌≢◌, ◌≤◌}
+use Rattle.std.proofs.Common.{find, get_or, is_none}
+use Rattle.thorin_join.specs.Meaning.{meaning_with, shared_kinds}
 use Rattle.dwp_index.specs.Index.{row_in}
 use Rattle.dwp_table.specs.Probing.{found_row, look_count}
 use Rattle.thorin_package_input.specs.RowPlaces.{row_by_place}
@@ -21,7 +21,7 @@ use Rattle.thorin_input.specs.Rows.{numbered_abbreviations, own_contribution}
 use Rattle.thorin_again.proofs.Meant.RowByRow.{at-seam, bytes-own, IsBelow, IsUnitOf, range_at}
 use Rattle.thorin_package_input.proofs.FirstRow.{first_found}
 use Rattle.dwp_table.proofs.Tables.{finds_exactly}
-use Rattle.thorin_join.proofs.Parts.StringLists.{strings-are}
+use Rattle.thorin_join.proofs.Parts.Ranges.{strings-are}
 use Rattle.thorin_again.proofs.Opened.Indexes.{IsReadOf, rows-kept}
 use Rattle.dwp_base.specs.declared.section.SectionKind.TheVariants as kinds
 

@@ -1,27 +1,24 @@
 -- A finished package, taken as an input, means the units that were joined in it.
 use Rattle.thorin_again.proofs.Terms
-use Terms.{[], Adding, adding, All, All-drop, All-from_recursion, All-head, All-tail, All-take}
-use Terms.{all_meant, AllOf, Any-from_list_any, ap, append-nil, arith, bind-was, by-bool}
-use Terms.{content_of, Contents, drop-append_seam, DwarfObject, Each, elf_of, Encoding, encoding_of}
-use Terms.{eqb-suc-zero, ErrorValue, File, file_text, first, has_info, HaveEncodingOf, IndexEntry}
-use Terms.{Indexes, indexes_of, InProgress, is_at, is_compilation, IsFinishedState, IsOwn}
+use Terms.{Adding, adding, All, All-drop, All-from_recursion, All-head, All-tail, All-take}
+use Terms.{all_meant, AllOf, Any-from_list_any, ap, append-nil, ap₂, AreAdded, arith, bind-was}
+use Terms.{by-bool, content_of, Contents, drop-append_seam, DwarfObject, Each, elf_of, Encoding}
+use Terms.{encoding_of, eqb-suc-zero, ErrorValue, File, file_text, finish_test, first, has_info}
+use Terms.{HaveEncodingOf, IndexEntry, Indexes, indexes_of, InProgress, input_meaning, is_at}
+use Terms.{is_compilation, IsFinishedState, IsOwn, IsPermutation, IsPermutation-filter_both}
 use Terms.{IsPermutation-map, IsSound, IsSoundBegun, joining, kind_of, KindsDiffer, length}
-use Terms.{length-map, List, map, map-append, Meaning, meaning_at, MeansWhereTaken, Members}
-use Terms.{members, name_for, NewUnit, no-bytes, Ok, opened, Option, order_of, own_source}
-use Terms.{package_or_new, Reads, refl, row_test, rows_at, same-ok, section, SectionKind, Source}
-use Terms.{source-made, source_units, subst, sym, take-append_seam, true, unit_section, UnitRead}
-use Terms.{units, units_in, units_of, units_within, UnitSection, with_source, with_source_or_new}
-use Terms.{with_units, written_elf, written_object, written_used, ℕ, ◌<◌, ◌∙◌, ◌∷◌, ◌≡◌}
-use Rattle.std.proofs.Common.{ap₂, IsPermutation, Result, ◌++◌, ◌≢◌}
-use Rattle.thorin_join.specs.Builder.{finish_test, order_test, source_for, State, taken}
-use Rattle.thorin_join.specs.Builder.{with_input}
+use Terms.{length-map, List, map, map-append, Meaning, meaning_at, MeansWhereTaken, meant, Members}
+use Terms.{members, name_for, named_each, named_sections, NewUnit, nil_from_length, object_meaning}
+use Terms.{Ok, opened, Option, order_of, order_test, own_source, package_or_new, Reads, refl}
+use Terms.{Result, row_test, rows_at, same-ok, section, SectionKind, Source, source-made}
+use Terms.{source_for, source_meaning, source_units, State, subst, sym, take-append_seam, taken}
+use Terms.{true, unit_section, UnitRead, units, units_in, units_of, units_within, UnitSection}
+use Terms.{with_input, with_source, with_source_or_new, with_units, written_elf, written_object}
+use Terms.{written_used, ℕ, [], ◌++◌, ◌<◌, ◌∙◌, ◌∷◌, ◌≡◌, ◌≢◌}
 use Rattle.std.proofs.lemmas.List.Sorted.{All-permutation, IsPermutation-append_comm}
-use Rattle.std.proofs.lemmas.List.Sorted.{IsPermutation-append_right, IsPermutation-filter_both}
-use Rattle.std.proofs.lemmas.List.Sorted.{IsPermutation-refl, IsPermutation-sym}
-use Rattle.std.proofs.lemmas.List.Sorted.{IsPermutation-trans}
-use Rattle.thorin_join.specs.Meaning.{can_join, input_meaning, meant, named_at, named_each}
-use Rattle.thorin_join.specs.Meaning.{named_sections, named_unit, object_meaning, source_meaning}
-use Rattle.thorin_join.proofs.Units.JoinedByName.{AreAdded}
+use Rattle.std.proofs.lemmas.List.Sorted.{IsPermutation-append_right, IsPermutation-refl}
+use Rattle.std.proofs.lemmas.List.Sorted.{IsPermutation-sym, IsPermutation-trans}
+use Rattle.thorin_join.specs.Meaning.{can_join, named_at, named_unit}
 use Rattle.thorin_again.proofs.Opened.Sections.{empty-first, first-written, input-encoding, no-info}
 use Rattle.thorin_again.proofs.Opened.Sections.{none-behind, object-written, opened-elf}
 use Rattle.thorin_again.proofs.Opened.Sections.{rest-differ, section_of}
@@ -185,7 +182,8 @@ module _ (state : State) (file : File) (begun : IsSoundBegun state.begun)
       let held = content_of kinds.Info file.contents in
       let sound : IsSound fin.made = rw fin.begun at begun in
       let info : 0 < length held =
-      let none : length held ≢ 0 = λ none. encoding-none file encoding differ (no-bytes held none)
+      let none : length held ≢ 0 = λ none. encoding-none file encoding differ
+      (nil_from_length held none)
       first in omega (arith, none) in
       let lie = lie-kept fin.made file sound.laid fin.finished places.Info in
       let used = Any-from_list_any _ fin.made.rows

@@ -1,14 +1,14 @@
 -- What the rows of a written package are for an input, and which begin before a place. A section of
 -- units of such a package is read as the units of its rows, one after another.
 use Rattle.thorin_again.proofs.Terms
-use Terms.{[], after, All, All-nil, ap, arith, by-bool, content_of, Contents, Contribution}
-use Terms.{contribution_to, data_of, drop-append_seam, Endianness, false, first, HasRows}
-use Terms.{HaveOneRange, Header, IndexEntry, Input, is_at, is_package, IsShifted, IsTable, kind_of}
-use Terms.{length, Lie, List, name_signature, ne_eqb, Ok, part-inside, part_of, place_of, plain}
-use Terms.{ReadError, refl, rows_at, rows_of, same_place, section, SectionKind, Some, Source, sym}
-use Terms.{take-append_seam, true, type_signature, unit-moves, unit_at, unit_bytes, units}
-use Terms.{units_within, UnitSection, zero, ℕ, ◌-◌, ◌<◌, ◌∙◌, ◌∷◌, ◌≡◌}
-use Rattle.std.proofs.Common.{append_assoc, length-append, Result, slice_get, suc, ◌++◌, ◌+◌, ◌≤◌}
+use Terms.{after, All, All-nil, ap, append_assoc, arith, by-bool, content_of, Contents}
+use Terms.{Contribution, contribution_to, data_of, drop-append_seam, Endianness, false, first}
+use Terms.{HasRows, HaveOneRange, Header, IndexEntry, Input, is_at, is_package, IsShifted, IsTable}
+use Terms.{kind_of, length, length-append, Lie, List, name_signature, ne_eqb, Ok, part-inside}
+use Terms.{part_of, place_of, plain, ReadError, refl, Result, rows_at, rows_of, same_place, section}
+use Terms.{SectionKind, slice_get, Some, Source, suc, sym, take-append_seam, true, type_signature}
+use Terms.{unit-moves, unit_at, unit_bytes, units, units_within, UnitSection, zero, ℕ, [], ◌++◌}
+use Terms.{◌+◌, ◌-◌, ◌<◌, ◌∙◌, ◌∷◌, ◌≡◌, ◌≤◌}
 use Rattle.std.proofs.lemmas.List.Elements.{All-push, All-weaker}
 use Rattle.dwp_base.specs.declared.section.SectionKind.TheVariants as kinds
 

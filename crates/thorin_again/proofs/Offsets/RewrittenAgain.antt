@@ -3,31 +3,29 @@
 -- are rewritten unless the offset of a string doesn't fit; those that were rewritten, once more
 -- from the same strings on, give the same strings.
 use Rattle.thorin_again.proofs.Terms
-use Terms.{[], add-mul, All-from_recursion, all_kept_by, Any-from_list_any, arith, bind-was, Bool}
+use Terms.{add-mul, All-from_recursion, all_kept_by, Any-from_list_any, arith, bind-was, Bool}
 use Terms.{Contribution, contribution_to, count-again, drop-append-add, drop-append-le, Each}
-use Terms.{EachRow, Encoding, Endianness, entry_in, false, get_or_from_slice_get, HasContributions}
-use Terms.{HasOneOf, HasRows, header_size, Index, IndexEntry, inl, inr, is_chosen, is_some, is_used}
-use Terms.{IsAmong, IsOfSome, IsWholeRange, length, length-drop, List, list_any, list_any-append}
-use Terms.{map, named_at, nat_tests, no_header, None, number_front, offset_size, Ok, Option}
-use Terms.{range-front, range_bytes, range_with_len, recursion_from_All, refl, rows_of, SectionKind}
-use Terms.{slice_get_cases, slice_get_read, slice_get_within, Some, string_at, string_in}
-use Terms.{StrOffsets, subst, sym, Tile, true, UnlessStringOffset, zero, ℕ, ⊎_elim, ◌*◌, ◌<◌, ◌>>=◌}
-use Terms.{◌∙◌, ◌∷◌, ◌≡◌}
-use Rattle.std.proofs.Common.{drop, length-append, slice_get, slice_range, suc, ◌++◌, ◌+◌, ◌^◌, ◌≤◌}
-use Rattle.std.proofs.Common.{◌⊎◌}
-use Rattle.dwp_bytes.specs.declared.encoding.Format.{Format}
+use Terms.{EachRow, Encoding, Endianness, entry_bytes, entry_in, false, get_or_from_slice_get}
+use Terms.{HasContributions, HasOneOf, HasRows, header_size, Index, IndexEntry, inl, inr, is_chosen}
+use Terms.{is_some, is_used, IsAmong, IsOfSome, IsPermutation-filter_both, IsWholeRange, length}
+use Terms.{length-append, length-drop, List, list_any, list_any-append, map, named_at, nat_tests}
+use Terms.{no_header, None, number_front, offset_size, Ok, Option, range-front, range_bytes}
+use Terms.{range_with_len, recursion_from_All, refl, remapped, remapped_entries, rewritten_from}
+use Terms.{rows_of, SectionKind, slice_get, slice_get_cases, slice_get_read, slice_get_within, Some}
+use Terms.{string_at, string_in, StrOffsets, subst, suc, sym, Tile, true, UnlessStringOffset, zero}
+use Terms.{ℕ, [], ⊎_elim, ◌*◌, ◌++◌, ◌+◌, ◌<◌, ◌>>=◌, ◌∙◌, ◌∷◌, ◌≡◌, ◌≤◌, ◌⊎◌}
+use Rattle.std.proofs.Common.{drop, slice_range}
 use Rattle.std.specs.BTreeSet.{insert_key}
 use Rattle.std.proofs.lemmas.List.FromFn.{get_or-map-range_with_len, length-map-range_with_len}
-use Rattle.std.proofs.lemmas.List.Sorted.{IsPermutation-filter_both, list_any-IsPermutation}
+use Rattle.std.proofs.lemmas.List.Sorted.{list_any-IsPermutation}
 use Rattle.thorin_package_input.specs.PackagedOffsets.{offset_ranges, place_cmp, ranges_test}
-use Rattle.thorin_package_input.specs.PackagedOffsets.{rewritten_from, with_ranges, with_rows}
+use Rattle.thorin_package_input.specs.PackagedOffsets.{with_ranges, with_rows}
 use Rattle.thorin_package_input.specs.RowPlaces.{is_range, range_of_row, ranges_of}
 use Rattle.thorin_package_input.proofs.FirstRow.{range_is, range_of_found}
 use Rattle.thorin_package_input.proofs.RowRanges.{compilation_there, type_there}
 use Rattle.std.proofs.lemmas.Nat.{row_fits}
 use Rattle.dwp_base.specs.Numbers.{number}
-use Rattle.thorin_strings.specs.StringOffsets.{entry_bytes, fitting_offset, offset_at, offset_limit}
-use Rattle.thorin_strings.specs.StringOffsets.{remapped, remapped_entries, remapped_entry}
+use Rattle.thorin_strings.specs.StringOffsets.{fitting_offset, offset_at, remapped_entry}
 
 -- ---- the rows of compilation units and those of type units
 
@@ -211,16 +209,13 @@ module _ (order : Endianness) (encoding : Encoding) where
     AreNamed n = (k : ℕ) → k < n → (string : List ℕ)
         × (named_at order encoding section bytes k ≡ Ok string)
 
-    past-limit : (format : Format) (offset : ℕ) → offset_limit format < offset → 2 ^ 32 ≤ offset
-    past-limit format offset h = grind arith
-
     entries-rewritten : (n : ℕ) (strings : List (List ℕ)) → AreNamed n
         → UnlessStringOffset (remapped_entries order encoding section bytes n strings)
     unfolding remapped_entries remapped_entry fitting_offset
     entries-rewritten zero strings named = tt
     entries-rewritten (suc n) strings named =
         let rest = entries-rewritten n strings (λ k less. named k (omega (arith, less))) in
-        grind (arith, nat_tests, rest, named n (omega arith), past-limit encoding.format)
+        grind (arith, nat_tests, rest, named n (omega arith))
 
     -- entries of all the bytes that a reader of packages reads
     pub are-named : (size : ℕ) → size ≡ length bytes → (whole : IsWholeRange order encoding size)

@@ -1,26 +1,27 @@
 -- The ranges of string offsets fill their section, where plain objects of one encoding are added:
 -- what each gives to string offsets is nothing, or a whole range.
 use Rattle.thorin_again.proofs.Terms
-use Terms.{[], add-mul, Added, All-weaker, ap, arith, Bool, by-bool, content_of, Contents}
+use Terms.{add-mul, Added, Adds, All-weaker, ap, arith, Bool, by-bool, content_of, Contents}
 use Terms.{Contribution, contribution_put, count-again, data_of, EachRow, Encoding, Endianness}
-use Terms.{entry_count, eqb, eqb-false, eqb-true, false, first, GiveStrings, has_part, HasOneOf}
-use Terms.{HasTiledOffsets, header_size, IndexEntry, inl, InProgress, inr, is-same, is_package}
-use Terms.{IsAmong, IsOfSome, IsTable, IsWholeRange, joined_parts, joined_parts-more, kept_more}
-use Terms.{length, List, no-entries, no_header, none-some, offset_size, Ok, own-bytes, Parts}
-use Terms.{parts_of, place-put, range-of, range_for, refl, rewritten-plain, same_Some, Some, Source}
-use Terms.{source-made, Str, StrOffsets, subst, sym, take-length, Tile, true, true≢false}
-use Terms.{units-strings, Used, with_source, zero-mul, ℕ, ⊎_elim, ◌&&◌, ◌*◌, ◌<◌, ◌∙◌, ◌∷◌, ◌≡◌}
-use Rattle.std.proofs.Common.{leb, leb-false, length-append, lt-ltb, take, ◌++◌, ◌+◌, ◌⊎◌}
-use Rattle.std.proofs.ByRecursion.{All-append}
+use Terms.{entry_bytes, entry_count, eqb, eqb-false, eqb-true, false, first, GiveStrings, has_part}
+use Terms.{HasOneOf, HasTiledOffsets, header_size, IndexEntry, inl, InProgress, inr, is-same}
+use Terms.{is_package, IsAmong, IsOfSome, IsTable, IsWholeRange, joined_parts, joined_parts-more}
+use Terms.{joined_parts-other, kept_more, length, length-append, List, no-entries, no_header}
+use Terms.{none-some, offset_size, Ok, own-bytes, Parts, parts_of, place-put, range-of, range_for}
+use Terms.{refl, remapped, remapped_entries, rewritten-plain, same_Some, Some, Source, source-made}
+use Terms.{Str, StrOffsets, subst, sym, take-length, Tile, true, true≢false, units-strings, Used}
+use Terms.{with_source, zero-mul, ℕ, [], ⊎_elim, ◌&&◌, ◌*◌, ◌++◌, ◌+◌, ◌<◌, ◌∙◌, ◌∷◌, ◌≡◌, ◌⊎◌}
+use Rattle.std.proofs.Common.{leb, leb-false, lt-ltb, take}
 use Rattle.thorin_input.specs.Parts.{stands_once}
-use Rattle.thorin_strings.specs.StringOffsets.{entry_bytes, header_of, remapped, remapped_entries}
+use Rattle.thorin_strings.specs.StringOffsets.{header_of}
 use Rattle.thorin_again.proofs.Offsets.RewrittenAgain.{entries-alike, grown, InTurn, Lead}
 use Rattle.thorin_again.proofs.Offsets.RewrittenAgain.{leads-joined, no-turn, turn, whole-remapped}
-use Rattle.thorin_join.proofs.Parts.Appended.{Adds, each-part, joined_parts-other, Rewritten}
-use Rattle.thorin_join.proofs.Parts.OffsetLaws.{names-same}
-use Rattle.thorin_join.proofs.Parts.PlainOffsets.{has-more, has-other}
+use Rattle.thorin_join.proofs.Parts.Added.{each-part, Rewritten}
+use Rattle.thorin_join.proofs.Parts.Ranges.{names-same}
+use Rattle.thorin_join.proofs.Parts.ReadAlike.{has-more, has-other}
 use Rattle.thorin_again.proofs.Kept.EachUnit.{content-added, once-more, order-added, parted}
 use Rattle.thorin_again.proofs.Kept.EachUnit.{row_with, RowHas, rows-share, with-any, with-each}
+use Rattle.std.proofs.ByRecursion.{All-append}
 
 -- the part of string offsets that a plain object makes is whole
 module _ (source : Source) (plain : is_package source.indexes ≡ false) (start : List (List ℕ)) where

@@ -2,23 +2,24 @@
 -- sections are in the format of its units. A written package of plain objects is read again: its
 -- indexes, and its string offsets.
 use Rattle.thorin_again.proofs.Terms
-use Terms.{[], All, All-filter, All-tail, AllOf, ap, AreDistinct, AreRowsOf, arith, Bool, cond}
+use Terms.{All, All-filter, All-tail, AllOf, ap, AreDistinct, AreRowsOf, arith, Bool, cond}
 use Terms.{content_of, Contents, Contribution, counts_once, data_of, DwarfObject, Encoding}
 use Terms.{Endianness, entry_ids, false, File, file_text, finished-grows, finished-order}
 use Terms.{finished-own, finished-strings, finished-types, first, get_or-map, HasRows}
 use Terms.{HasTiledOffsets, Index, index_in, index_tests, IndexEntry, Indexes, indexes_of, inl}
 use Terms.{InProgress, inr, is_chosen, is_in_format, is_of_units, is_package, is_shared, is_some}
-use Terms.{is_used, IsIndexOf, IsLaid, IsOfSome, IsOwn, IsPlain, IsSound, IsTable, IsWholeRange}
-use Terms.{keep-rows, kind_of, KindsDiffer, length, length-map, Lie, List, Meaning, meaning_at}
-use Terms.{Members, names_of, nat_tests, nil_from_length, None, Ok, Option, order_of, own_source}
-use Terms.{part-inside, range_bytes, refl, rewritten, rewritten-package, rows_at, rows_of}
-use Terms.{same-each, same-ok, same_Some, SectionKind, slice-long, Some, subst, sym, take-length}
+use Terms.{is_used, IsFinished, IsIndexOf, IsLaid, IsOfSome, IsOwn, IsPlain, IsSound, IsTable}
+use Terms.{IsWholeRange, keep-rows, kind_of, KindsDiffer, length, length-map, Lie, List, Meaning}
+use Terms.{meaning_at, Members, names_of, nat_tests, nil_from_length, None, not, Ok, Option}
+use Terms.{order_of, order_test, own_source, part-inside, range_bytes, refl, rewritten}
+use Terms.{rewritten-package, rewritten_from, rows_at, rows_of, same-each, same-ok, same_Some}
+use Terms.{SectionKind, slice-long, slice_get, Some, source_for, State, subst, sym, take-length}
 use Terms.{TakesUpToParts, Tested, true, units_of, UnitSection, UnlessStringOffset, version_test}
-use Terms.{with_units, written_elf, written_object, ℕ, ◌<◌, ◌||◌, ◌∙◌, ◌∷◌, ◌≡◌}
-use Rattle.std.proofs.Common.{not, slice_get, slice_index, ◌^◌}
-use Rattle.thorin_join.specs.Builder.{IsFinished, order_test, same_order, source_for, State}
-use Rattle.thorin_join.specs.Builder.{with_input}
-use Rattle.thorin_join.proofs.Files.Indexes.{chosen-fit, no-bytes}
+use Terms.{with_input, with_units, written_elf, written_object, ℕ, [], ◌<◌, ◌^◌, ◌||◌, ◌∙◌, ◌∷◌}
+use Terms.{◌≡◌}
+use Rattle.std.proofs.Common.{slice_index}
+use Rattle.thorin_join.specs.Builder.{same_order}
+use Rattle.thorin_join.proofs.Files.Contents.{chosen-fit, no-bytes}
 use Rattle.dwp_bytes.specs.Encoding.{index_version_of}
 use Rattle.thorin_index.proofs.Each.{have_passed, used_known}
 use Rattle.thorin_index.proofs.ReadAgain.{index_is_read}
@@ -27,12 +28,12 @@ use Rattle.thorin_again.proofs.Opened.Sections.{first-written, info-written, obj
 use Rattle.thorin_again.proofs.Opened.Sections.{opened-elf}
 use Rattle.thorin_join.proofs.Files.Finished.{finished-compilations, finished-content, tested-state}
 use Rattle.dwp_table.specs.Columns.{column_of}
-use Rattle.thorin_join.proofs.Units.NamesApart.{distinct_chosen}
+use Rattle.thorin_join.proofs.Units.InRows.{distinct_chosen}
 use Rattle.thorin_again.proofs.Meant.RowByRow.{IsAgain}
 use Rattle.thorin_again.proofs.Offsets.RewrittenAgain.{all-rewritten, are-named, CanRewrite}
 use Rattle.thorin_again.proofs.Offsets.RewrittenAgain.{ranges-are, tile-lies, tile-tested}
 use Rattle.thorin_again.proofs.Offsets.RewrittenAgain.{used-chosen}
-use Rattle.thorin_package_input.specs.PackagedOffsets.{packaged_offsets, rewritten_from}
+use Rattle.thorin_package_input.specs.PackagedOffsets.{packaged_offsets}
 use Rattle.dwp_base.specs.declared.section.SectionKind.TheVariants as kinds
 use Rattle.dwp_units.specs.declared.unit.UnitSection.TheVariants as places
 

@@ -2,17 +2,16 @@
 -- under its name. The sections are taken as parts, or refused with an error of some sort, where
 -- string offsets are.
 use Rattle.thorin_again.proofs.Terms
-use Terms.{[], ap, append-nil, arith, Bool, CanTake, cond, content_of, Contents, count_of, Elf}
-use Terms.{elf_of, encoding_of, Err, ErrorValue, false, File, file_text, first, found-any, has_info}
-use Terms.{has_part, Info, input_file_of, is-same, is_in_format, KindsDiffer, length, List}
-use Terms.{list_any, list_any-append, name_of, name_table, nat_tests, nil_from_length, Ok, opened}
-use Terms.{or_right, Parts, parts_of, plain_section, refl, rewritten, same-self, same_kind}
-use Terms.{SectionKind, Source, StrOffsets, subst, sym, TakesParts, true, Used, used_kind}
-use Terms.{written_elf, written_object, written_sections, written_used, ℕ, ◌<◌, ◌>>=◌, ◌∙◌, ◌∷◌}
-use Terms.{◌≡◌}
-use Rattle.thorin_again.specs.Again.{input_encoding}
-use Rattle.thorin_input.specs.Parts.{with_each_part, with_offsets, with_part}
-use Rattle.std.proofs.Common.{append_assoc, bytes_eq, Result, ◌++◌, ◌+◌, ◌≤◌}
+use Terms.{ap, append-nil, append_assoc, arith, Bool, CanTake, cond, content_of, Contents, count_of}
+use Terms.{Elf, elf_of, encoding_of, Err, ErrorValue, false, File, file_text, first, found-any}
+use Terms.{has_info, has_part, Info, input_encoding, input_file_of, is-same, is_in_format}
+use Terms.{KindsDiffer, length, List, list_any, list_any-append, name_of, name_table, nat_tests}
+use Terms.{nil_from_length, Ok, opened, or_right, Parts, parts_of, plain_section, refl, Result}
+use Terms.{rewritten, same-self, same_kind, SectionKind, Source, StrOffsets, subst, sym, TakesParts}
+use Terms.{true, Used, used_kind, with_each_part, with_part, written_elf, written_object}
+use Terms.{written_sections, written_used, ℕ, [], ◌++◌, ◌+◌, ◌<◌, ◌>>=◌, ◌∙◌, ◌∷◌, ◌≡◌, ◌≤◌}
+use Rattle.thorin_input.specs.Parts.{with_offsets}
+use Rattle.std.proofs.Common.{bytes_eq}
 use Rattle.dwp_base.proofs.EveryKind.{every, kind-named, not-older}
 use Rattle.dwp_elf_read.specs.Elf.{is_named, is_of, SectionMeaning}
 use Rattle.dwp_elf_read.specs.Identification.{identity_of}

@@ -1,19 +1,25 @@
--- A written file is read as the package of its contents.
+-- A written file is read as the package of its contents, with its indexes.
 use Rattle.thorin_join.proofs.Terms
-use Terms.{[], arith, by-bool, Class, codes, content_of, count_of, elf_of, Endianness, file_text}
-use Terms.{Index, inl, inr, is-same, KindsDiffer, List, Ok, Option, package_of, refl, same_kind}
-use Terms.{SectionKind, ℕ, ◌+◌, ◌<◌, ◌^◌, ◌∷◌, ◌≡◌, ◌≤◌}
+use Terms.{AreDistinct, arith, Bool, by-bool, Class, codes, content_of, count_of, elf_of}
+use Terms.{Endianness, entry_ids, Err, file_text, HasEntries, IdentifiersFit, Index}
+use Terms.{index_in_section, index_tests, index_version_of, IndexEntry, inl, inr, is-same}
+use Terms.{IsIndexOf, KindsDiffer, length, length-KindsDiffer, List, None, Ok, Option, package_of}
+use Terms.{refl, rows_of, same_kind, SectionKind, slice_index, Some, UnexpectedEof, ℕ, [], ◌+◌, ◌<◌}
+use Terms.{◌^◌, ◌∷◌, ◌≡◌, ◌≤◌}
 use Rattle.dwp_base.specs.declared.class.Class.TheVariants.{Elf32, Elf64}
 use Rattle.dwp_base.specs.declared.section.SectionKind.TheVariants.{CuIndex, TuIndex}
 use Rattle.dwp_elf_read.specs.Layout.{word_size}
-use Rattle.dwp_elf.specs.FileText.{Object, headers_place, name_table}
+use Rattle.dwp_elf.specs.FileText.{headers_place, name_table, Object}
 use Rattle.dwp_elf.specs.Numbers.{Fits}
-use Rattle.dwp_elf.specs.Written.{written_sections, written_elf}
+use Rattle.dwp_elf.specs.Written.{written_elf, written_sections}
 use Rattle.dwp_index.specs.Holding.{HasContent}
-use Rattle.dwp_index.proofs.HeldContents.{package_is, another_kind, foreign, empty}
-use Rattle.dwp_elf.proofs.KindCounts.{length-KindsDiffer}
+use Rattle.dwp_index.proofs.HeldContents.{another_kind, empty, foreign, index_missing, index_there}
+use Rattle.dwp_index.proofs.HeldContents.{package_is}
 use Rattle.dwp_elf.proofs.ReadingBack.{elf_of-file_text}
 use Rattle.thorin_join.specs.WrittenPackage.{IsIndexIn, package_with}
+use Rattle.dwp_index.specs.IndexBytes.{index_of, version_of}
+use Rattle.thorin_index.proofs.ReadAgain.{index_is_read}
+use Rattle.thorin_index.proofs.RowsAgain.{written_rows}
 
 -- ---- the headers' place
 
@@ -75,3 +81,46 @@ package_read o h machine fits =
     package_held (file_text o) o h (elf_of-file_text o machine
     (fitting o.class o.machine o.order o.contents fits)
     (omega (arith, length-KindsDiffer o.contents h)))
+
+-- ---- the indexes
+
+-- what is read of the index of these rows
+abbrev pub HasRows : Option Index → List IndexEntry → Type 0
+HasRows None rows = rows ≡ []
+HasRows (Some index) rows = (version : ℕ) × HasEntries version rows index × (0 < length rows)
+
+pub record IndexRead (order : Endianness) (rows : List IndexEntry) (bytes : List ℕ) : Type 0 where
+  pub index : Option Index
+  pub read : index_in_section order bytes ≡ Ok index
+  pub has : HasRows index rows
+
+pub no-bytes : (order : Endianness) → index_of order [] ≡ Err UnexpectedEof
+unfolding index_of version_of
+no-bytes order = refl
+
+some-bytes : (order : Endianness) (bytes : List ℕ) (index : Index) → index_of order bytes ≡ Ok index
+    → 0 < length bytes
+some-bytes order [] index h = let none = no-bytes order in absurd cc
+some-bytes order (b ∷ bs) index h = omega arith
+
+pub index-read : (order : Endianness) (rows : List IndexEntry) (bytes : List ℕ)
+    → IsIndexOf order rows bytes → index_tests rows ≡ Ok tt → AreDistinct (entry_ids rows)
+    → ((r : ℕ) → slice_index (entry_ids rows) r < 2 ^ 64)
+    → IndexRead order rows bytes
+index-read order [] bytes text tested distinct fit =
+    record { index = None; read = index_missing order bytes text; has = refl }
+index-read order (row ∷ rows) bytes text tested distinct fit =
+    let read = index_is_read order row.encoding (row ∷ rows) bytes tested fit text in
+    let entries = written_rows order row.encoding (row ∷ rows) bytes tested distinct fit text _
+    read in
+    record {
+      index = Some _;
+      read = index_there order bytes _ (some-bytes order bytes _ read) read;
+      has = (index_version_of row.encoding.version, entries, omega arith);
+    }
+
+-- the identifiers of chosen rows have 64 bits
+pub chosen-fit : (b : Bool) (rows : List IndexEntry) → IdentifiersFit rows → (r : ℕ)
+    → slice_index (entry_ids (rows_of b rows)) r < 2 ^ 64
+chosen-fit b [] h r = omega arith
+chosen-fit b (row ∷ rows) h r = grind (arith, chosen-fit b rows h.1)

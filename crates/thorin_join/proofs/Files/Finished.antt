@@ -1,21 +1,198 @@
--- The file of a finished package means the units that stand in the ranges of its rows.
+-- The file of a finished package means the units that stand in the ranges of its rows: the row of
+-- a name is found, or the name has none.
 use Rattle.thorin_join.proofs.Terms
-use Terms.{[], ap, AreRowsOf, arith, Bool, cond, content_of, data_of, false, File, file_text}
-use Terms.{IdentifiersFit, index_tests, InProgress, is_compilation, IsFinished}
-use Terms.{IsPackageOnceWritten, IsSound, IsSoundBegun, kind_of, List, meaning_at, not, Ok, refl}
-use Terms.{rows_of, same_kind, SectionKind, Some, take-length, true, units_in, units_of}
-use Terms.{UnitSection, with_bytes, ℕ, ◌++◌, ◌≡◌}
-use Rattle.thorin_join.specs.State.{names_of}
+use Terms.{ap, AreRowsOf, arith, Bool, by-bool, cond, content_of, Contents, Contribution}
+use Terms.{contribution_to, data_of, DwarfObject, Endianness, entry_ids, false, File, file_text}
+use Terms.{filter, GivesNone, GivesUnit, HasEntries, identifier_of, IdentifiersFit, Index}
+use Terms.{index_tests, IndexEntry, InProgress, is_chosen, is_compilation, IsFinished, IsNotNamed}
+use Terms.{IsPackageOnceWritten, IsRowOf, IsSound, IsSoundBegun, IsTable, IsUnit, IsUnitOf, kind_of}
+use Terms.{length, length-map, limit_of, List, lookup, map, MatchOption, Meaning, meaning_at}
+use Terms.{Members, names_of, nat_tests, None, not, Ok, Option, own_bytes, own_place, Package}
+use Terms.{part_of, range_in, refl, row_bytes, rows_of, same_kind, same_name, same_sort}
+use Terms.{SectionKind, sections_of, slice_get, slice_index, Some, suc, sym, take-length, true}
+use Terms.{unit_of, units_in, units_of, UnitSection, with_bytes, zero, ℕ, [], ◌++◌, ◌+◌, ◌<◌, ◌∙◌}
+use Terms.{◌∷◌, ◌≡◌, ◌≤◌}
+use Rattle.thorin_join.proofs.Units.InRows.{chosen-sort, distinct_chosen, same-sort, same_name-true}
+use Rattle.dwp_table.proofs.Tables.{finds_exactly}
+use Rattle.dwp_index.specs.Contents.{content}
+use Rattle.dwp_index.specs.Package.{index_for}
+use Rattle.dwp_index.proofs.HeldContents.{held_content}
+use Rattle.dwp_index.proofs.PackageLookUp.{absent_unit, no_index, present_unit}
+use Rattle.thorin_index.specs.ReadRows.{HasContributions, non_empty}
+use Rattle.thorin_join.proofs.Files.Contents.{chosen-fit, HasRows, index-read, package_held}
+use Rattle.dwp_base.specs.declared.section.SectionKind.TheVariants as kinds
 use Rattle.dwp_index.proofs.UsedOnce.{entries_once}
 use Rattle.thorin_join.specs.Builder.{finish_test, indexes_test, IsFinishedState, State}
-use Rattle.thorin_join.proofs.Files.Indexes.{chosen-fit, index-read}
-use Rattle.thorin_join.proofs.Units.NamesApart.{distinct_chosen}
-use Rattle.thorin_join.proofs.Rows.Stay.{Grows, grows-trans, grows-with_bytes, keep-rows}
-use Rattle.thorin_join.proofs.Files.UnitsFound.{package-finds}
-use Rattle.thorin_join.proofs.Parts.Appended.{content-with_bytes}
-use Rattle.thorin_join.proofs.Files.Contents.{package_held}
-use Rattle.thorin_join.proofs.Files.RowsFound.{ids-chosen, members}
-use Rattle.dwp_base.specs.declared.section.SectionKind.TheVariants as kinds
+use Rattle.thorin_join.proofs.Rows.OneAdded.{Grows, grows-trans, grows-with_bytes, keep-rows}
+use Rattle.thorin_join.proofs.Parts.Added.{content-with_bytes}
+
+-- the identifier at the place of a row
+pub id-at : (rows : List IndexEntry) (place : ℕ) (row : IndexEntry) → slice_get rows place ≡ Some
+    row → (place < length (entry_ids rows))
+    × (slice_index (entry_ids rows) place ≡ identifier_of row.id)
+id-at [] place row h = absurd cc
+id-at (r ∷ rs) zero row h = grind arith
+id-at (r ∷ rs) (suc place) row h = let rest = id-at rs place row h in (omega arith, rest.1)
+
+-- the units of rows, each of which means so much
+abbrev pub members : (IndexEntry → Meaning) → List IndexEntry → Members
+members of rows = map {B = DwarfObject × Meaning} (λ row. (row.id, of row)) rows
+
+-- the identifiers of the rows of a sort are those of the units
+pub ids-chosen : (of : IndexEntry → Meaning) (passes : DwarfObject → Bool) (rows : List IndexEntry)
+    → entry_ids (filter (λ r. passes r.id) rows)
+    ≡ map (λ u. identifier_of u.0) (filter (λ u. passes u.0) (members of rows))
+ids-chosen of passes [] = refl
+ids-chosen of passes (r ∷ rs) = grind (arith, ids-chosen of passes rs)
+
+-- there are as many rows of a name's sort as units
+pub rows-counted : (of : IndexEntry → Meaning) (rows : List IndexEntry) (name : DwarfObject)
+    → length (entry_ids (rows_of (is_compilation name) rows))
+    ≡ length (filter (λ u. same_sort name u.0) (members of rows))
+rows-counted of [] name = refl
+rows-counted of (r ∷ rs) name = grind (arith, rows-counted of rs name)
+
+module _ (order : Endianness) (contents : Contents) (strings : List (List ℕ))
+    (name : DwarfObject) where
+  -- where the row of a unit of the name stands among these
+  pub record RowFound (own : List IndexEntry) (unit : Meaning) : Type 0 where
+    pub place : ℕ
+    pub row : IndexEntry
+    pub at : slice_get own place ≡ Some row
+    pub is : IsRowOf order contents strings row (name, unit)
+
+  -- what a look-up of the name tells of them
+  abbrev pub Looked : List IndexEntry → Option Meaning → Type 0
+  Looked own found = MatchOption found (IsNotNamed name (entry_ids own)) (RowFound own)
+
+  another : (r : IndexEntry) (own : List IndexEntry) → is_compilation r.id ≡ is_compilation name
+      → same_name name r.id ≡ false → (found : Option Meaning) → Looked own found
+      → Looked (r ∷ own) found
+  another r own sort other None none = λ p within same. grind (arith, same-sort name r.id, none)
+  another r own sort other (Some unit) f =
+      record { place = suc f.place; row = f.row; at = f.at; is = f.is }
+
+  pub looked : (of : IndexEntry → Meaning) (rows : List IndexEntry)
+      → AreRowsOf order contents strings rows (members of rows)
+      → Looked (rows_of (is_compilation name) rows) (lookup (same_name name) (members of rows))
+  looked of [] are = λ r within same. absurd (omega arith)
+  looked of (r ∷ rs) are =
+      by-bool _ (same_name name r.id)
+      (λ same. let is = same_name-true name r.id same in
+      let chosen : is_chosen (is_compilation name) r ≡ true = grind arith in
+      rw (same, chosen) (record { place = 0; row = r; at = refl; is = rw is are.0 }))
+      (λ other. rw other (by-bool _ (is_chosen (is_compilation name) r)
+      (λ chosen. rw chosen (another r _ (chosen-sort (is_compilation name) r chosen) other _
+      (looked of rs are.1)))
+      (λ passed. rw passed (looked of rs are.1))))
+
+-- ---- the unit of a row
+
+pub part-there : (part : Option Contribution) → ((range : Contribution) → part ≡ Some range
+    → 0 < range.size) → non_empty part ≡ part
+part-there part some = grind (arith, some, nat_tests)
+
+-- a package that was read of contents, whose index of each sort has the rows of the sort
+module _ (order : Endianness) (contents : Contents) (compilations types : Option Index)
+    (strings : List (List ℕ)) (strings_are : content_of kinds.Str contents ≡ data_of strings)
+    (table : IsTable strings) (rows : List IndexEntry) (name : DwarfObject) where
+  abbrev pack : Package
+  pack = record {
+    order = order;
+    contents = sections_of (λ kind. content_of kind contents);
+    compilations = compilations;
+    types = types;
+  }
+
+  abbrev own : List IndexEntry
+  own = rows_of (is_compilation name) rows
+
+  held-is : (kind : SectionKind) → content pack.contents kind ≡ content_of kind contents
+  held-is kind = held_content (λ k. content_of k contents) kind
+
+  module _ (unit : Meaning) (f : RowFound order contents strings name own unit) (index : Index)
+      (version : ℕ) (has : HasEntries version own index) where
+    parts : HasContributions index (f.place + 1) f.row
+    parts = has.each f.place f.row f.at
+
+    -- the range of the row in a section is the entry's part
+    range-is : (kind : SectionKind) → range_in parts.row kind ≡ contribution_to kind f.row
+    range-is kind =
+        parts.contributions kind ∙ part-there (contribution_to kind f.row) (f.is.lie.some kind)
+
+    bytes-are : (kind : SectionKind) → row_bytes pack.contents parts.row kind ≡ part_of
+        (content_of kind contents) (contribution_to kind f.row)
+    unfolding row_bytes
+    bytes-are kind = rw (held-is kind, range-is kind)
+
+    place-is : own_place name parts.row ≡ f.is.owns.place
+    place-is = rw (range-is kinds.Types) (sym f.is.owns.place_is)
+
+    own-are : own_bytes pack.contents name parts.row ≡ unit.bytes
+    own-are = rw (place-is, bytes-are (kind_of f.is.owns.place)) f.is.owns.bytes
+
+    found-unit : IsUnitOf pack name (entry_ids own) index f.place parts.row f.is.owns.encoding
+    found-unit = record {
+      within = (id-at own f.place f.row f.at).0;
+      named = (id-at own f.place f.row f.at).1 ∙ ap identifier_of f.is.name;
+      row_is = parts.there;
+      inside = λ kind range h. rw (held-is kind)
+          (f.is.lie.inside kind range (sym (range-is kind) ∙ h));
+      header = rw (own-are, place-is) f.is.owns.header;
+    }
+
+    found-is : IsUnit (unit_of pack name (f.place + 1) parts.row f.is.owns.encoding) unit
+    unfolding row_bytes
+    found-is = record {
+      bytes = own-are;
+      content = λ kind copied. bytes-are kind ∙ f.is.shares.content kind copied;
+      string = λ same i. rw (held-is kinds.Str, strings_are, bytes-are kinds.StrOffsets, same)
+          (f.is.shares.string strings table (take-length strings) i);
+    }
+
+  module _ (of : IndexEntry → Meaning)
+      (are : AreRowsOf order contents strings rows (members of rows))
+      (compilation_rows : HasRows compilations (rows_of true rows))
+      (type_rows : HasRows types (rows_of false rows)) where
+    abbrev units : ℕ
+    units = length (filter (λ u. same_sort name u.0) (members of rows))
+
+    abbrev Gives : Option Meaning → Type 0
+    Gives found = MatchOption found (GivesNone pack name (limit_of units))
+        (GivesUnit pack name (limit_of units))
+
+    -- by the index of the name's sort, and by what the units have under it
+    gives : (index : Option Index) → index_for pack name ≡ index → HasRows index own
+        → (found : Option Meaning) → Looked order contents strings name own found → Gives found
+    gives None there has None absent =
+        let g = no_index pack name there in
+        record { count = g.count; few = omega (arith, g.few); counted = g.counted }
+    gives None there has (Some unit) f = let at = rw has at f.at in absurd cc
+    gives (Some i) there has None absent =
+        let g = absent_unit finds_exactly pack name (entry_ids own) i
+        (record { index_is = there; slots = has.1.slots }) absent in
+        let many = length-map own (λ (row : IndexEntry). identifier_of row.id) in
+        let few : g.count ≤ limit_of units =
+        grind (arith, rows-counted of rows name, many, has.2, g.few) in
+        record { count = g.count; few = few; counted = g.counted }
+    gives (Some i) there has (Some unit) f =
+        let found = found-unit unit f i has.0 has.1 in
+        let g = present_unit finds_exactly pack name (entry_ids own) i f.place _ f.is.owns.encoding
+        (record { index_is = there; slots = has.1.slots }) found in
+        record {
+          found = _;
+          count = g.count;
+          few = grind (arith, rows-counted of rows name, found.within, g.few);
+          counted = g.counted;
+          is = found-is unit f i has.0 has.1;
+        }
+
+    pub package-finds : Gives (lookup (same_name name) (members of rows))
+    package-finds =
+        let has : HasRows (index_for pack name) own = grind arith in
+        gives (index_for pack name) refl has _ (looked order contents strings name of rows are)
+
+-- ---- a finished package
 
 -- the tests of finishing
 pub record Tested (made : InProgress) : Type 0 where

@@ -2,35 +2,30 @@
 -- each of its ranges was put behind the contents before: a unit that passed the tests stands in its
 -- row.
 use Rattle.thorin_join.proofs.Terms
-use Terms.{[], all_kinds, ap, arith, bind-was, Bool, by-bool, content_of, Contents, Contribution}
-use Terms.{contribution_put, contribution_to, data_of, DwarfObject, Encoding, entry_by, false, find}
-use Terms.{first, identifier_of, Index, IndexEntry, Indexes, is_copied, is_none, is_package}
-use Terms.{is_shared, is_some, IsTable, joined_parts, length, LieInside, List, list_all, Meaning}
-use Terms.{None, Ok, Option, part_of, parts_of, range_in, Ranges, read_each, ReadsAlike, refl}
-use Terms.{row_in, row_test, SectionKind, Shares, Some, Source, Str, StrOffsets, sym, take}
-use Terms.{take-length, true, unit_row, UnitRead, with_parts, ℕ, ◌&&◌, ◌+◌, ◌||◌, ◌∙◌, ◌∷◌, ◌≡◌}
-use Terms.{◌≤◌}
+use Terms.{all_kinds, ap, arith, bind-was, Bool, by-bool, content_of, Contents, Contribution}
+use Terms.{contribution_put, contribution_to, contributions_by, data_of, DwarfObject, Encoding}
+use Terms.{entry_by, false, find, first, identifier_of, Index, IndexEntry, Indexes, is_copied}
+use Terms.{is_none, is_package, is_shared, is_some, IsTable, joined_parts, length, LieBehind}
+use Terms.{LieInside, List, list_all, Meaning, None, Ok, Option, part_of, parts_of, range_in}
+use Terms.{Ranges, read_each, ReadsAlike, refl, row_in, row_test, SectionKind, Shares, Some, Source}
+use Terms.{Str, StrOffsets, sym, take, take-length, true, unit_row, UnitRead, with_parts, ℕ, []}
+use Terms.{◌&&◌, ◌+◌, ◌||◌, ◌∙◌, ◌∷◌, ◌≡◌, ◌≤◌}
 use Rattle.dwp_base.specs.ByKind.{value_of}
 use Rattle.dwp_base.proofs.KindsRead.{read-kind}
 use Rattle.dwp_base.specs.declared.section.SectionKind.TheVariants.{Abbrev, Info, Types}
 use Rattle.thorin_input.specs.Adjusting.{adjusted, Adjustor, contribution_by_row, has_column_for}
 use Rattle.thorin_input.specs.Adjusting.{other_index, own_index, row_of}
 use Rattle.thorin_input.specs.Indexes.{index_for}
-use Rattle.thorin_join.specs.Meaning.{contribution_by, contributions_by, lie_inside, meaning_by}
-use Rattle.thorin_join.specs.Meaning.{offsets_by, placed_row, shared_kinds, unit_meaning}
+use Rattle.thorin_join.specs.Meaning.{contribution_by, lie_inside, meaning_by, offsets_by}
+use Rattle.thorin_join.specs.Meaning.{placed_row, shared_kinds, unit_meaning}
 use Rattle.thorin_input.specs.Rows.{adjusted_contribution, own_contribution, unit_contribution}
 use Rattle.thorin_input.specs.Rows.{whole_row}
-use Rattle.thorin_join.proofs.Parts.OfPackages.{parts-first, rows-read, RowsRead}
-use Rattle.thorin_join.proofs.Rows.Ranges.{Lies, lies-whole, not-outside, Placed, placed-by}
-use Rattle.thorin_join.proofs.Rows.Ranges.{range-none, range-some}
-use Rattle.thorin_join.proofs.Parts.StringLists.{strings-there}
-use Rattle.thorin_join.proofs.Parts.Appended.{content-with_parts, parts-copied}
-use Rattle.thorin_join.proofs.Parts.OffsetRanges.{empty-alike}
-use Rattle.thorin_join.proofs.Parts.PlainOffsets.{parts-read}
-use Rattle.thorin_join.proofs.Parts.FirstUses.{parts-follow}
-use Rattle.thorin_join.proofs.EachKind.{copied-or-offsets}
-use Rattle.thorin_join.proofs.Rows.Stay.{part-inside}
-use Rattle.thorin_join.specs.StandApart.{LieBehind}
+use Rattle.thorin_join.proofs.Parts.ReadAlike.{parts-first, parts-read, rows-read, RowsRead}
+use Rattle.thorin_join.proofs.Rows.OneAdded.{Lies, lies-whole, not-outside, part-inside, Placed}
+use Rattle.thorin_join.proofs.Rows.OneAdded.{placed-by, range-none, range-some}
+use Rattle.thorin_join.proofs.Parts.Ranges.{empty-alike, strings-there}
+use Rattle.thorin_join.proofs.Parts.Added.{content-with_parts, copied-or-offsets, parts-copied}
+use Rattle.thorin_join.proofs.Parts.Added.{parts-follow}
 
 -- an entry by parts has each of those that it can have
 entry-part : (encoding : Encoding) (id : DwarfObject) (part : SectionKind → Option Contribution)

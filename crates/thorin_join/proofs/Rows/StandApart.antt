@@ -1,20 +1,16 @@
 -- The ranges of an input's units lie behind those of the inputs before it.
 use Rattle.thorin_join.proofs.Terms
-use Terms.{[], adding, append-nil, append_assoc, AreRowsOf, arith, content_of, Contents, Endianness}
-use Terms.{IndexEntry, inl, InProgress, inr, IsSound, IsSoundBegun, kind_of, LieInside, List, map}
-use Terms.{Members, Ok, Option, package_or_new, refl, row_at, same_Some, Some, Source, subst, sym}
-use Terms.{with_input, with_new_units, with_unit_added, ℕ, ◌++◌, ◌∙◌, ◌∷◌, ◌≡◌}
-use Rattle.thorin_join.specs.StandApart.{contents_begun, EachRow, LieBehind, rows_begun, StandApart}
-use Rattle.thorin_join.proofs.Units.JoinedByName.{AreAdded, units-joined}
-use Rattle.thorin_join.proofs.Rows.Stay.{front-long, Grows, grows-trans, grows-with_bytes}
+use Terms.{adding, append-nil, append_assoc, AreRowsOf, arith, content_of, Contents, Endianness}
+use Terms.{IndexEntry, inl, InProgress, inr, IsSound, IsSoundBegun, kind_of, LieBehind, LieInside}
+use Terms.{List, map, Members, Ok, Option, package_or_new, refl, row_at, same_Some, Some, Source}
+use Terms.{subst, sym, with_input, with_new_units, with_unit_added, ℕ, [], ◌++◌, ◌∙◌, ◌∷◌, ◌≡◌}
+use Rattle.thorin_join.specs.StandApart.{contents_begun, EachRow, rows_begun, StandApart}
+use Rattle.thorin_join.proofs.Units.ReadInTurn.{AreAdded, News, Reads, units-joined}
+use Rattle.thorin_join.proofs.Rows.OneAdded.{front-long, Grows, grows-trans, grows-with_bytes}
+use Rattle.thorin_join.proofs.Rows.OneAdded.{lies-whole, row-part}
 use Rattle.thorin_join.proofs.Rows.OfUnits.{is-unit_row, row-behind}
-use Rattle.thorin_join.proofs.Joined.Source.{grows-with_parts, source-made}
-use Rattle.thorin_join.proofs.Rows.OneAdded.{row-part}
-use Rattle.thorin_join.proofs.Joined.Taken.{same-begun, takes}
-use Rattle.thorin_join.proofs.Joined.Input.{new-sound}
-use Rattle.thorin_join.proofs.Rows.Ranges.{lies-whole}
-use Rattle.thorin_join.proofs.Parts.FirstUses.{each-unit}
-use Rattle.thorin_join.proofs.Units.HeadersRead.{News, Reads}
+use Rattle.thorin_join.proofs.Joined.{grows-with_parts, new-sound, same-begun, source-made, takes}
+use Rattle.thorin_join.proofs.Parts.Added.{each-unit}
 
 -- ---- units that are added
 abbrev EachNew : Contents → News → Type 0

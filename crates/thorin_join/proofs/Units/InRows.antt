@@ -1,13 +1,78 @@
--- The units that a package represents are those that stand in the ranges of its rows.
+-- Names of units that are apart: no two places have one name. The units that a package represents
+-- are those that stand in the ranges of its rows.
 use Rattle.thorin_join.proofs.Terms
-use Terms.{[], ap, AreRowsOf, arith, content_of, Contents, contribution_to, data_of, DwarfObject}
-use Terms.{Endianness, IndexEntry, InProgress, is_copied, IsRowOf, IsTable, keys, List, map}
-use Terms.{Meaning, meaning_at, Members, Ok, part_of, refl, Represents, result_unwrap_or}
-use Terms.{SectionKind, strings_of, StrOffsets, sym, take-length, true, units_of, ℕ, ◌∷◌, ◌≡◌}
-use Rattle.thorin_input.specs.Held.{unit_bytes}
-use Rattle.thorin_join.specs.State.{names_of}
-use Rattle.thorin_join.specs.Meaning.{Contributions, contributions_by}
-use Rattle.thorin_join.proofs.Parts.StringLists.{strings-are}
+use Terms.{All, AllPairs, ap, append-nil, append_assoc, AreApart, AreDistinct, AreRowsOf, arith}
+use Terms.{Bool, content_of, Contents, contribution_to, contributions_by, data_of, DwarfObject}
+use Terms.{Endianness, entry_ids, false, filter_passes, identifier_of, IndexEntry, InProgress}
+use Terms.{is_chosen, is_compilation, is_copied, IsRowOf, IsTable, joining, keys, length-map, List}
+use Terms.{list_any, list_any_at, map, Meaning, meaning_at, Members, names_of, Ok, part_of, refl}
+use Terms.{Represents, result_unwrap_or, rows_of, same_name, SectionKind, strings_of, StrOffsets}
+use Terms.{sym, take-length, true, unit_bytes, units_of, ℕ, [], ◌++◌, ◌∷◌, ◌≡◌}
+use Rattle.std.proofs.lemmas.List.Kept.{AllPairs-filter}
+use Rattle.std.proofs.lemmas.List.Quantifiers.{all_pairs_push}
+use Rattle.std.proofs.lemmas.List.{get_or-map as get_or-at}
+use Rattle.thorin_join.specs.Meaning.{Contributions}
+use Rattle.thorin_join.proofs.Parts.Ranges.{strings-are}
+
+-- one name is the other
+
+pub same_name-true : (a b : DwarfObject) → same_name a b ≡ true → a ≡ b
+same_name-true a b h = grind arith
+
+pub same_name-self : (a : DwarfObject) → same_name a a ≡ true
+same_name-self a = grind arith
+
+pub same_name-sym : (a b : DwarfObject) → same_name a b ≡ true → same_name b a ≡ true
+same_name-sym a b h = grind arith
+
+pub apart-more : (names : List DwarfObject) (name : DwarfObject) → AreApart names
+    → list_any (same_name name) names ≡ false → AreApart (names ++ name ∷ [])
+apart-more names name h e = all_pairs_push (λ a b. same_name a b ≡ false) names name h
+    (λ k d within. grind (arith, list_any_at (same_name name) names k d within, same_name-sym))
+
+pub apart-none : AreApart []
+apart-none i j d before within = absurd (omega arith)
+
+-- names that are apart stay so when units are joined to them
+pub joined_distinct : {X : Type 0} (names : List DwarfObject) (all : List (DwarfObject × X))
+    → AreApart names → AreApart (names ++ map (λ u. u.0) (joining names all))
+joined_distinct names [] h = rw (append-nil names) h
+joined_distinct names (u ∷ rest) h =
+    let new = λ (n : list_any (same_name u.0) names ≡ false). rw append_assoc at
+    (joined_distinct (names ++ u.0 ∷ []) rest (apart-more names u.0 h n)) in
+    grind (arith, joined_distinct names rest h, new)
+
+-- two rows of one kind with one identifier have one name
+
+pub same-sort : (a b : DwarfObject) → is_compilation a ≡ is_compilation b
+    → identifier_of a ≡ identifier_of b → same_name a b ≡ true
+same-sort a b sort e = grind arith
+
+-- rows of one sort have names of it
+pub chosen-sort : (b : Bool) (row : IndexEntry) → is_chosen b row ≡ true → is_compilation row.id ≡ b
+chosen-sort b row h = grind arith
+
+-- the identifiers of rows of one kind with names that are apart are distinct
+chosen-distinct : (b : Bool) (rows : List IndexEntry) → All (λ r. is_chosen b r ≡ true) rows
+    → AllPairs (λ r s. same_name r.id s.id ≡ false) rows → AreDistinct (entry_ids rows)
+chosen-distinct b [] chosen apart i j hi hj h = absurd (omega arith)
+chosen-distinct b (d ∷ rest) chosen apart i j hi hj h =
+    let long = length-map rest (λ (r : IndexEntry). identifier_of r.id) in
+    let at = get_or-at (λ (r : IndexEntry). identifier_of r.id) (d ∷ rest) in
+    let sort = chosen-sort b in
+    grind (arith, long, at i d 0, at j d 0, chosen, sort, same-sort, apart i j d, apart j i d)
+
+-- rows whose names are apart: those of one kind have distinct identifiers
+pub distinct_chosen : (b : Bool) (rows : List IndexEntry) (names : List DwarfObject)
+    → map (λ r. r.id) rows ≡ names → AreApart names → AreDistinct (entry_ids (rows_of b rows))
+distinct_chosen b rows names h apart =
+    chosen-distinct b (rows_of b rows) (filter_passes (is_chosen b) rows)
+    (AllPairs-filter (λ r s. same_name r.id s.id ≡ false) (is_chosen b) rows
+    (λ i j d before within. let at = get_or-at (λ (r : IndexEntry). r.id) rows in
+    let long = length-map rows (λ (r : IndexEntry). r.id) in
+    grind (arith, h, long, at i d d.id, at j d d.id, apart i j d.id)))
+
+-- ---- units in rows
 
 -- the contributions of a unit, where each kind's bytes are its contribution
 pub contributions-same : (bytes : SectionKind → List ℕ) (contributions : Contributions)

@@ -1,13 +1,108 @@
--- The units of an input are read one after another, and each is added to what those before it gave.
+-- The units of an input: their names and headers, and what holds of each; they are read one after
+-- another, each added to what those before it gave, and so joined to the names that are there.
 use Rattle.thorin_join.proofs.Terms
-use Terms.{◌++◌, [], Adding, arith, as_error, bind-was, DwarfObject, ErrorValue, kept_bytes, List}
-use Terms.{name_for, New, new_units, Ok, Option, ParseUnitHeader, refl, Result, same-ok}
-use Terms.{source_units, unit_section, UnitRead, UnitSection, Used, with_unit, ◌∷◌, ◌≡◌}
-use Rattle.thorin_input.specs.NewUnits.{SeenSections, with_read, with_each_read, none_met}
-use Rattle.thorin_input.specs.NewUnits.{with_section_at}
-use Rattle.thorin_input.specs.NewUnits.{with_section_in, with_section, with_each_section}
-use Rattle.thorin_join.specs.Meaning.{named_unit, named_each, named_at, named_sections}
-use Rattle.thorin_join.proofs.Units.HeadersRead.{Listed, Reads}
+use Terms.{Adding, All-append, ap, append-nil, append_assoc, arith, as_error, bind-was, can_join}
+use Terms.{DwarfObject, Each, ErrorValue, Header, identity, Input, is_some, joining, kept_bytes}
+use Terms.{keys, kind_of, List, list_any, list_any-append, map-append, name_for, named_at}
+use Terms.{named_sections, New, new_units, NewUnit, None, Ok, Option, ParseUnitHeader, place_for}
+use Terms.{ReadError, refl, Result, row_test, same-ok, same_name, section, SectionKind, slice_get}
+use Terms.{Some, Source, source_units, suc, sym, true, unit_row, unit_section, UnitRead, units}
+use Terms.{UnitSection, Used, with_unit, ℕ, [], ◌++◌, ◌∙◌, ◌∷◌, ◌≡◌}
+use Rattle.thorin_join.specs.Meaning.{named_each, named_unit}
+use Rattle.thorin_input.specs.NewUnits.{none_met, SeenSections, with_each_read, with_each_section}
+use Rattle.thorin_input.specs.NewUnits.{with_first, with_read, with_section, with_section_at}
+use Rattle.thorin_input.specs.NewUnits.{with_section_in}
+use Rattle.std.proofs.lemmas.Map.Made.{is_some-lookup}
+
+abbrev pub Listed : Type 0
+Listed = List (Result Header ReadError)
+
+abbrev pub Reads : Type 0
+Reads = List (DwarfObject × UnitRead)
+
+abbrev pub News : Type 0
+News = List (DwarfObject × NewUnit)
+
+-- ---- the units of an object
+
+-- what holds of none, and with one more that was read and named before others, holds of those of a
+-- section
+pub each-named : (source : Source) (kind : SectionKind) (P : Listed → Reads → Type 0) → P [] []
+    → ((unit : Header) (name : DwarfObject) (reads : Listed) (us : Reads)
+    → name_for source kind unit ≡ Ok name → P reads us
+    → P (Ok unit ∷ reads) ((name, record { from = kind; unit = unit }) ∷ us))
+    → (reads : Listed) (us : Reads) → named_each source kind reads ≡ Ok us → P reads us
+unfolding named_each named_unit
+each-named source kind P none more [] us h = grind (arith, none)
+each-named source kind P none more (read ∷ rest) us h =
+    grind (arith, more, each-named source kind P none more rest)
+
+pub kind-place : (kind : SectionKind) (place : UnitSection) → unit_section kind ≡ Some place
+    → kind ≡ kind_of place
+kind-place kind place at = grind arith
+
+-- a name is the identity that a unit has with some abbreviations
+pub name-identity : (source : Source) (kind : SectionKind) (unit : Header) (name : DwarfObject)
+    → name_for source kind unit ≡ Ok name → (abbreviations : Input)
+    × (identity abbreviations unit ≡ Ok (Some name))
+unfolding name_for
+name-identity source kind unit name h = grind arith
+
+-- ---- what holds of each
+
+pub each-all : {X : Type 0} (P : X → Type 0) → ((x : X) → P x) → (xs : List X) → Each P xs
+each-all P f [] = tt
+each-all P f (x ∷ xs) = (f x, each-all P f xs)
+
+-- those that are joined are among them
+pub each-joining : {X : Type 0} (P : DwarfObject × X → Type 0) (names : List DwarfObject)
+    (us : List (DwarfObject × X)) → Each P us → Each P (joining names us)
+each-joining P names [] h = tt
+each-joining P names (u ∷ us) h =
+    grind (arith, each-joining P names us h.1, each-joining P (names ++ u.0 ∷ []) us h.1)
+
+-- a unit was read, under its name, of a section of this place, and this is so of it
+pub record WasRead (source : Source) (T : UnitSection → Header → Type 0)
+    (r : DwarfObject × UnitRead) : Type 0 where
+  pub place : UnitSection
+  pub from : r.1.from ≡ kind_of place
+  pub so : T place r.1.unit
+  pub named : name_for source r.1.from r.1.unit ≡ Ok r.0
+
+module _ (source : Source) (T : UnitSection → Header → Type 0) where
+  -- it is so of each unit that is read of a section
+  abbrev pub AllSo : Used → Type 0
+  AllSo used = (place : UnitSection) → unit_section used.kind ≡ Some place → (k : ℕ)
+      (unit : Header) → slice_get (units place (section source.object.order used.bytes)) k
+      ≡ Some (Ok unit) → T place unit
+
+  section-are : (used : Used) → AllSo used → (place : Option UnitSection)
+      → unit_section used.kind ≡ place → (us : Reads) → named_at source used place ≡ Ok us
+      → Each (WasRead source T) us
+  section-are used so None at us h = grind arith
+  section-are used so (Some place) at us h =
+      each-named source used.kind (λ reads us. ((k : ℕ) (unit : Header)
+      → slice_get reads k ≡ Some (Ok unit) → T place unit) → Each (WasRead source T) us) (λ _. tt)
+      (λ unit name reads us named others so. (
+        record {
+          place = place;
+          from = kind-place used.kind place at;
+          so = so 0 unit refl;
+          named = named;
+        },
+        others (λ k. so (suc k)),
+      )) _ us h (so place at)
+
+  pub sections-are : (sections : List Used) (us : Reads) → Each AllSo sections
+      → named_sections source sections ≡ Ok us → Each (WasRead source T) us
+  unfolding named_sections
+  sections-are [] us so h = grind arith
+  sections-are (used ∷ rest) us so h =
+      let here = section-are used so.0 (unit_section used.kind) refl in
+      let there = λ (others : Reads). sections-are rest others so.1 in
+      grind (arith, All-append (WasRead source T), here, there)
+
+-- ---- one after another
 
 module _ (adding : Adding) where
   -- a unit that was read is added to what was there, or passed over
@@ -74,3 +169,93 @@ module _ (adding : Adding) where
   unfolding new_units
   units-read new h =
       grind (arith, sections-read (none_met, record { units = []; differing = [] }))
+
+-- ---- joined to the names that are there
+
+-- ---- units that are added for units that were read
+
+-- a unit is added for one that was read, with its row
+pub record IsAdded (adding : Adding) (new : DwarfObject × NewUnit) (read : DwarfObject
+    × UnitRead) : Type 0 where
+  pub name : new.0 ≡ read.0
+  pub bytes : new.1.bytes ≡ read.1.unit.whole.bytes
+  pub place : new.1.place ≡ place_for read.0 read.1.from
+  pub tested : row_test adding.source.indexes read.1.from read.0 read.1.unit ≡ Ok tt
+  pub row : unit_row adding.source.indexes adding.whole read.0 ≡ Ok new.1.row
+
+abbrev pub AreAdded : Adding → News → Reads → Type 0
+AreAdded adding [] [] = Unit {0}
+AreAdded adding (n ∷ ns) (r ∷ rs) = IsAdded adding n r × AreAdded adding ns rs
+AreAdded adding _ _ = ⊥
+
+pub added-keys : (adding : Adding) (ns : News) (rs : Reads) → AreAdded adding ns rs
+    → keys ns ≡ keys rs
+added-keys adding [] [] h = refl
+added-keys adding (n ∷ ns) (r ∷ rs) h = λ i. h.0.name i ∷ added-keys adding ns rs h.1 i
+added-keys adding _ _ h = absurd h
+
+-- ---- one more unit
+
+-- the names that were there before some units
+abbrev before_names : Adding → New → List DwarfObject
+before_names adding new = keys adding.held ++ keys new.units
+
+-- units that were read are joined to those before
+record AreJoined (adding : Adding) (before after : New) (all : Reads) : Type 0 where
+  added : News
+  units : after.units ≡ before.units ++ added
+  are : AreAdded adding added (joining (before_names adding before) all)
+  defined : can_join (before_names adding before) all ≡ true
+
+steps-joined : (adding : Adding) (before after : New) (us : Reads)
+    → Steps adding before us after → AreJoined adding before after us
+unfolding with_unit with_first
+steps-joined adding before after [] same = record {
+  added = [];
+  units = ap (λ (n : New). n.units) (sym same) ∙ sym (append-nil before.units);
+  are = tt;
+  defined = refl;
+}
+steps-joined adding before after (u ∷ us) h =
+    let named = same_name u.0 in
+    let there = is_some-lookup named before.units in
+    let held = is_some-lookup named adding.held in
+    by (kept_bytes adding.held before.units u.0)
+    (grind (arith, there, held, list_any-append named (keys adding.held))) h.1.is
+    (steps-joined adding h.0 after us h.2)
+  where
+    by : (kept : Option (List ℕ))
+        → is_some kept ≡ list_any (same_name u.0) (before_names adding before)
+        → with_unit kept adding h.1.from u.0 u.1.unit before ≡ Ok h.0
+        → AreJoined adding h.0 after us → AreJoined adding before after (u ∷ us)
+    by (Some bytes) e is later = record {
+      added = later.added;
+      units = grind (arith, is, later.units);
+      are = grind (arith, e, is, later.are);
+      defined = grind (arith, e, is, later.defined);
+    }
+    by None e is later =
+        let new : (new : DwarfObject × NewUnit) × (h.0.units ≡ before.units ++ new ∷ [])
+        × IsAdded adding new u = grind (arith, is, h.1.kind) in
+        let names : before_names adding h.0 ≡ before_names adding before ++ u.0 ∷ [] =
+        simp (new.1, new.2.name, map-append, append_assoc) in
+        record {
+          added = new.0 ∷ later.added;
+          units = rw (new.1, append_assoc) at later.units;
+          are = rw (← e) (new.2, rw names at later.are);
+          defined = rw (← e) (rw names at later.defined);
+        }
+
+-- the units that an input adds are its units, joined to the names that are held
+pub record UnitsJoined (adding : Adding) (new : New) : Type 0 where
+  pub all : Reads
+  pub is : source_units adding.source ≡ Ok all
+  pub are : AreAdded adding new.units (joining (keys adding.held) all)
+  pub defined : can_join (keys adding.held) all ≡ true
+
+pub units-joined : (adding : Adding) (new : New) → new_units adding ≡ Ok new
+    → UnitsJoined adding new
+units-joined adding new h =
+    let read = units-read adding new h in
+    let j = steps-joined adding (record { units = []; differing = [] }) new read.all read.steps in
+    grind (arith, read.is, j, append-nil (keys adding.held))

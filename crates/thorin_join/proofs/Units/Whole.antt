@@ -1,19 +1,31 @@
--- The units of an input are whole units of their names, wherever their bytes come to stand.
+-- The name of a unit has the sort, and of a type unit the signature, that its header says; and the
+-- units of an input are whole units of their names, wherever their bytes come to stand.
 use Rattle.thorin_join.proofs.Terms
-use Terms.{[], All-weaker, ap, arith, bind-was, Bool, cond, drop, DwarfObject, Each, encoding_in}
-use Terms.{Endianness, Header, inl, Input, inr, IsWhole, kind_of, length, List, listed}
-use Terms.{name_signature, nat_eq, Ok, place_for, ReadError, Result, same-ok, section, slice_get}
-use Terms.{Some, Source, source_units, suc, sym, take-append-drop, type_signature, unit_at}
-use Terms.{unit_taken, UnitRead, units, UnitSection, zero, ℕ, ◌++◌, ◌+◌, ◌-◌, ◌∙◌, ◌≡◌, ◌⊎◌}
+use Terms.{All-weaker, ap, arith, bind-was, Bool, cond, DebugAttribute, drop, DwarfObject, Each}
+use Terms.{encoding_in, Endianness, entry_identity, first_identifier, Header, identity, inl, Input}
+use Terms.{inr, IsWhole, kind_of, length, List, listed, name_signature, nat_eq, None, Ok, place_for}
+use Terms.{ReadError, Result, root_identity, same-ok, section, slice_get, Some, Source}
+use Terms.{source_units, suc, sym, take-append-drop, type_signature, unit_at, unit_taken, UnitRead}
+use Terms.{units, UnitSection, zero, ℕ, [], ◌++◌, ◌+◌, ◌-◌, ◌∙◌, ◌∷◌, ◌≡◌, ◌⊎◌}
 use Rattle.dwp_units.specs.Units.{units_within}
 use Rattle.dwp_index.proofs.TwoPlaces.{units_alone}
-use Rattle.thorin_join.proofs.Units.HeadersRead.{each-all, Listed, name-identity, Reads}
-use Rattle.thorin_join.proofs.Units.HeadersRead.{sections-are, WasRead}
-use Rattle.thorin_join.proofs.Units.Sorts.{identity-sort}
-use Rattle.thorin_join.proofs.Moved.RootEntries.{IsShifted}
-use Rattle.thorin_join.proofs.Moved.Readings.{plain}
-use Rattle.thorin_join.proofs.Moved.Units.{FiveOrType, unit-anywhere, unit-five, unit-moves}
+use Rattle.thorin_join.proofs.Units.ReadInTurn.{each-all, Listed, name-identity, Reads}
+use Rattle.thorin_join.proofs.Units.ReadInTurn.{sections-are, WasRead}
+use Rattle.thorin_join.proofs.Moved.{FiveOrType, IsShifted, plain, unit-anywhere, unit-five}
+use Rattle.thorin_join.proofs.Moved.{unit-moves}
 use Rattle.dwp_units.specs.declared.unit.UnitSection.TheVariants as places
+
+first-none : (attributes : List (Result DebugAttribute ReadError)) (name : DwarfObject)
+    → first_identifier attributes ≡ Ok (Some name) → name_signature name ≡ None
+first-none [] name h = absurd cc
+first-none (a ∷ others) name h = grind (arith, first-none others name)
+
+pub identity-sort : (section : Input) (unit : Header) (name : DwarfObject) → identity section unit ≡
+    Ok (Some name) → type_signature unit.unit_type ≡ name_signature name
+unfolding identity root_identity entry_identity
+identity-sort section unit name h = grind (arith, first-none)
+
+-- ---- whole units
 
 -- a unit as it is read of its own bytes alone
 pub record ReadsAlone (order : Endianness) (place : UnitSection) (unit : Header) : Type 0 where

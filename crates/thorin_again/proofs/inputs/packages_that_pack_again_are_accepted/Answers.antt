@@ -1,5 +1,5 @@
 use Rattle.thorin_again.proofs.Accepted.Written.{own-all, own-by-new}
-use Rattle.thorin_again.proofs.Lists.InOrder.{inputs-hold}
+use Rattle.thorin_again.proofs.Lists.{inputs-hold}
 use Rattle.thorin_again.proofs.inputs.packages_that_pack_again_are_accepted.Goals as goal
 
 pub returns-clause-accepted : goal.returns-clause-accepted

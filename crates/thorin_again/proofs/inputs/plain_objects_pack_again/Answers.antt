@@ -1,4 +1,4 @@
-use Rattle.thorin_again.proofs.Lists.InOrder.{again-exactly}
+use Rattle.thorin_again.proofs.Lists.{again-exactly}
 use Rattle.thorin_again.proofs.inputs.plain_objects_pack_again.Goals as goal
 
 pub returns : goal.returns

@@ -1,5 +1,5 @@
 use Rattle.thorin_join.proofs.Terms.{Some}
-use Rattle.thorin_join.proofs.Joined.Taken.{uses-strings}
+use Rattle.thorin_join.proofs.Joined.{uses-strings}
 use Rattle.thorin_join.proofs.beside.strings_stand_in_order_of_first_use.Goals as goal
 
 pub returns : goal.returns

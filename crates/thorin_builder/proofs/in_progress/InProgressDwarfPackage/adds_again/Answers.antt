@@ -8,7 +8,7 @@ use Rattle.thorin_join.proofs.Terms.{content_of, contribution_to, kind_of, part_
 use Rattle.thorin_input.specs.Encodings.{encoding_of}
 use Rattle.thorin_join.specs.Builder.{source_for}
 use Rattle.dwp_elf_read.specs.View.{elf}
-use Rattle.thorin_join.proofs.Parts.Appended.{content-with_parts, parts-none}
+use Rattle.thorin_join.proofs.Parts.Added.{content-with_parts, parts-none}
 use Rattle.thorin_join.proofs.Rows.OneAdded.{not-shared}
 use Rattle.thorin_builder.specs.Repeated.{AddsNoUnit}
 use Rattle.thorin_builder.proofs.AddedAgain.{later-refl, with_again}

@@ -1,30 +1,170 @@
--- What the sections of an input bring: the strings that their string offsets name, in order of
--- first use, how many bytes these have, and the parts.
+-- What the parts of an input are for the contents that they are added to; and what its sections
+-- bring: the strings that their string offsets name, in order of first use, how many bytes these
+-- have, and the parts.
 use Rattle.thorin_join.proofs.Terms
-use Terms.{SectionKind, ◌*◌, ◌+◌, ◌++◌, ◌-◌, ◌<◌, [], arith, bind-was, by-bool, nat_tests}
-use Terms.{bytes_of_contents, bytes_of_strings, cond, Contents, Contribution, drop, DwarfObject}
-use Terms.{each_from, Encoding, Endianness, entry_count, eqb, ErrorValue, first, header_size}
-use Terms.{if◌then◌else◌, inl, InProgress, inr, is_copied, is_package, IsTable, IsZeroFree, length}
-use Terms.{length-append, length-drop, length-take, List, list_any, named_in, NewUnit}
-use Terms.{offset_of_entry, offsets_used, Ok, packaged_offsets, Parts, parts_of, position_or_len}
-use Terms.{refl, remapped, result_unwrap_or, rewritten, same-ok, same_kind, slice_range, Source}
-use Terms.{Str, string_at, strings_at, strings_of, StrOffsets, subst, suc, sum_by, take}
-use Terms.{take-length, true, Used, with_each_part, with_new_unit, with_new_units, with_string}
-use Terms.{with_strings, with_unit_added, zero, ℕ, ◌∷◌, ◌≡◌, ◌≤◌}
+use Terms.{ap, append-nil, append_assoc, appended, arith, bind-was, by-bool, bytes_of_contents}
+use Terms.{bytes_of_strings, cond, content_of, Contents, Contribution, drop, DwarfObject, each_from}
+use Terms.{Encoding, Endianness, entry_count, eqb, ErrorValue, false, false_from_ne_true, first}
+use Terms.{has_part, header_size, if◌then◌else◌, inl, InProgress, inr, is-same, is_copied}
+use Terms.{is_package, IsTable, IsZeroFree, joined_parts, kept_more, length, length-append}
+use Terms.{length-drop, length-take, List, list_any, list_any-append, named_in, nat_tests, NewUnit}
+use Terms.{nil_from_length, offset_of_entry, offsets_used, Ok, packaged_offsets, Parts, parts_of}
+use Terms.{position_or_len, refl, remapped, remapped_entries, result_unwrap_or, rewritten, same-ok}
+use Terms.{same-self, same_kind, SectionKind, slice_range, Source, stands_once, Str, string_at}
+use Terms.{strings_at, strings_of, StrOffsets, subst, suc, sum_by, sum_by-append, sum_by-cons, sym}
+use Terms.{take, take-length, true, Used, with_bytes, with_each_part, with_new_unit, with_new_units}
+use Terms.{with_offsets, with_part, with_parts, with_string, with_strings, with_unit_added, zero, ℕ}
+use Terms.{[], ◌&&◌, ◌*◌, ◌++◌, ◌+◌, ◌-◌, ◌<◌, ◌||◌, ◌∙◌, ◌∷◌, ◌≡◌, ◌≤◌, ◌⊎◌}
+use Rattle.thorin_join.specs.Meaning.{joined_content}
 use Rattle.std.proofs.Math.Nat.{mul-le-mul_right}
-use Rattle.std.proofs.lemmas.List.Sums.{sum_by-cons, sum_by-append, sum_by_push}
-use Rattle.thorin_strings.specs.StringOffsets.{offset_at, named_at, fitting_offset, remapped_entry}
-use Rattle.thorin_strings.specs.StringOffsets.{remapped_entries}
+use Rattle.std.proofs.lemmas.List.Sums.{sum_by_push}
+use Rattle.thorin_strings.specs.StringOffsets.{fitting_offset, named_at, offset_at, remapped_entry}
 use Rattle.dwp_strings.proofs.Named.{read_free, string_was, used}
-use Rattle.thorin_strings.proofs.RemapLemmas.{kept_more}
 use Rattle.thorin_strings.proofs.NamedBytes.{entries_long, header_long}
 use Rattle.thorin_package_input.specs.PackagedOffsets.{ranges_test, rewritten_from}
 use Rattle.thorin_package_input.proofs.RewriteSteps.{next_passed}
 use Rattle.thorin_join.specs.FirstUse.{named_by_ranges, named_by_section}
-use Rattle.thorin_join.proofs.Parts.Appended.{Adds, each-part}
-use Rattle.thorin_join.proofs.Parts.OffsetRanges.{range-of, count-fits, count-none}
-use Rattle.thorin_join.proofs.Units.HeadersRead.{News}
+use Rattle.thorin_join.proofs.Parts.Ranges.{count-fits, count-none, range-of}
+use Rattle.thorin_join.proofs.Units.ReadInTurn.{News}
 pub use Rattle.thorin_strings.proofs.NamedEntries.{as_error_ok as error-inv}
+
+pub differ : (a b : SectionKind) → (a ≡ b → ⊥) → same_kind a b ≡ false
+differ a b apart = false_from_ne_true _ (λ same. apart (is-same a b same))
+
+-- ---- bytes that are added to a section
+pub content-appended : (kind k : SectionKind) (bytes : List ℕ) (c : Contents)
+    → content_of kind (appended k bytes c) ≡ cond (same_kind k kind) (content_of kind c ++ bytes)
+    (content_of kind c)
+content-appended kind k bytes [] = refl
+content-appended kind k bytes (d ∷ ds) =
+    by-bool _ (same_kind d.0 k)
+    (λ same. rw (same, ← is-same d.0 k same)
+    (by-bool _ (same_kind d.0 kind) (λ here. rw here) (λ later. rw later)))
+    (λ other. rw other (by-bool _ (same_kind d.0 kind) (λ here. rw here (grind arith))
+    (λ later. rw (later, content-appended kind k bytes ds))))
+
+pub content-with_bytes : (kind k : SectionKind) (bytes : List ℕ) (c : Contents)
+    → content_of kind (with_bytes k bytes c) ≡ (if same_kind k kind then content_of kind c ++ bytes
+    else content_of kind c)
+content-with_bytes kind k bytes c =
+    let none = nil_from_length bytes in
+    grind (arith, content-appended kind k bytes c, none, append-nil (content_of kind c))
+
+pub content-with_parts : (kind : SectionKind) (parts c : Contents)
+    → content_of kind (with_parts parts c) ≡ content_of kind c ++ joined_parts kind parts
+unfolding with_parts
+content-with_parts kind [] c = sym (append-nil (content_of kind c))
+content-with_parts kind (p ∷ ps) c =
+    grind (arith, content-with_parts kind ps, content-with_bytes kind p.0 p.1, append_assoc {A = ℕ})
+
+-- ---- what a section adds to the parts
+-- joined parts with one more
+pub joined_parts-more : (kind : SectionKind) (a : Contents) (k : SectionKind) (bytes : List ℕ)
+    → joined_parts kind (a ++ (k, bytes) ∷ []) ≡ joined_parts kind a ++ cond
+    (same_kind k kind) bytes []
+joined_parts-more kind [] k bytes = ap (λ v. cond (same_kind k kind) v []) (append-nil bytes)
+joined_parts-more kind (p ∷ ps) k bytes =
+    rw (joined_parts-more kind ps k bytes) (by-bool _ (same_kind p.0 kind)
+    (λ same. rw same (sym (append_assoc p.1 (joined_parts kind ps) _))) (λ other. rw other))
+
+pub joined_parts-other : (kind : SectionKind) (a : Contents) (k : SectionKind) (bytes : List ℕ)
+    → same_kind k kind ≡ false
+    → joined_parts kind (a ++ (k, bytes) ∷ []) ≡ joined_parts kind a
+joined_parts-other kind a k bytes other =
+    joined_parts-more kind a k bytes ∙ rw other (append-nil (joined_parts kind a))
+
+-- whether there is a part of a kind, with one more
+pub has_part-more : (kind : SectionKind) (a : Contents) (k : SectionKind) (bytes : List ℕ)
+    → has_part kind (a ++ (k, bytes) ∷ []) ≡ (has_part kind a || (same_kind k kind || false))
+has_part-more kind a k bytes = list_any-append (λ part. same_kind part.0 kind) a ((k, bytes) ∷ [])
+
+module _ (source : Source) where
+  -- string offsets were rewritten
+  pub record Rewritten (before : Parts) (bytes : List ℕ) (next : Parts) : Type 0 where
+    pub written : List ℕ × List (List ℕ)
+    pub rewrites : rewritten source bytes before.1 ≡ Ok written
+    pub is : next ≡ (before.0 ++ (StrOffsets, written.0) ∷ [], written.1)
+
+  -- a section's part is made of its string offsets, is the section as it is, or isn't there
+  abbrev pub Adds : Parts → Used → Parts → Type 0
+  Adds before s next =
+      ((same_kind s.kind StrOffsets ≡ true) × Rewritten before s.bytes next)
+      ⊎ (((same_kind s.kind StrOffsets ≡ false) × (is_copied s.kind ≡ true)
+      × (next ≡ (before.0 ++ (s.kind, s.bytes) ∷ [], before.1)))
+      ⊎ ((same_kind s.kind StrOffsets ≡ false) × (is_copied s.kind ≡ false) × (next ≡ before)))
+
+  -- the section doesn't stand twice where it may not
+  pub record Step (before : Parts) (s : Used) (next : Parts) : Type 0 where
+    pub once : (stands_once source s.kind && has_part s.kind before.0) ≡ false
+    pub adds : Adds before s next
+
+  pub step : (before : Parts) (s : Used) (next : Parts) → with_part source before s ≡ Ok next
+      → Step before s next
+  unfolding with_part with_offsets
+  step before s next h = grind arith
+
+  -- ---- all sections
+  -- what holds of no sections, and with one more before others, holds of those of an input
+  pub each-part : (P : Parts → List Used → Parts → Type 0) → ((parts : Parts) → P parts [] parts)
+      → ((before : Parts) (s : Used) (next : Parts) (ss : List Used) (after : Parts)
+      → Step before s next → with_each_part source next ss ≡ Ok after → P next ss after
+      → P before (s ∷ ss) after)
+      → (sections : List Used) (before after : Parts)
+      → with_each_part source before sections ≡ Ok after → P before sections after
+  unfolding with_each_part
+  each-part P none more [] before after h = grind (arith, none before)
+  each-part P none more (s ∷ ss) before after h =
+      let next = bind-was (with_part source before s) _ after h in
+      more before s next.0 ss after (step before s next.0 next.1) next.2
+      (each-part P none more ss next.0 after next.2)
+
+module _ (source : Source) (strings : List (List ℕ)) (parts : Contents) (after : List (List ℕ))
+    (h : parts_of source strings ≡ Ok (parts, after)) (kind : SectionKind) where
+  parts-plain : same_kind StrOffsets kind ≡ false → joined_parts kind parts
+      ≡ cond (is_copied kind) (joined_content kind source.object.sections) []
+  parts-plain apart =
+      each-part source (λ before ss next. joined_parts kind next.0 ≡ joined_parts kind before.0
+      ++ cond (is_copied kind) (joined_content kind ss) [])
+      (λ parts. grind (arith, append-nil (joined_parts kind parts.0)))
+      (λ before s next ss last made rest later.
+      grind (arith, joined_parts-more kind, is-same s.kind kind, append_assoc {A = ℕ}, same-self))
+      source.object.sections ([], strings) (parts, after) h
+
+  -- sections that are copied, joined
+  pub parts-copied : is_copied kind ≡ true
+      → joined_parts kind parts ≡ joined_content kind source.object.sections
+  parts-copied copied = grind (arith, is-same StrOffsets kind, parts-plain)
+
+  -- of units, strings and indexes there is no part
+  pub parts-none : is_copied kind ≡ false → same_kind StrOffsets kind ≡ false
+      → joined_parts kind parts ≡ []
+  parts-none none apart = grind (arith, parts-plain apart)
+
+-- ---- kinds that units share
+
+-- what holds of the kinds that are copied, and of string offsets
+pub copied-or-offsets : (P : SectionKind → Type 0) → ((kind : SectionKind) → is_copied kind ≡ true
+    → P kind) → P StrOffsets → (kind : SectionKind)
+    → (is_copied kind || same_kind kind StrOffsets) ≡ true → P kind
+copied-or-offsets P copied offsets kind shared =
+    by-bool _ (is_copied kind) (copied kind)
+    (λ other. subst P (sym (is-same kind StrOffsets (rw other at shared))) offsets)
+
+-- ---- how string offsets are rewritten
+
+-- string offsets of a package are rewritten range by range, others as one range
+module _ (source : Source) (bytes : List ℕ) (strings : List (List ℕ)) where
+  pub rewritten-package : is_package source.indexes ≡ true → rewritten source bytes strings
+      ≡ packaged_offsets source.object.order source.encoding source.indexes.compilations
+      source.indexes.types (first Str source.object.sections) bytes strings
+  unfolding rewritten
+  rewritten-package h = rw h refl
+
+  pub rewritten-plain : is_package source.indexes ≡ false → rewritten source bytes strings
+      ≡ remapped source.object.order source.encoding (first Str source.object.sections) bytes
+      (length bytes) strings
+  unfolding rewritten
+  rewritten-plain h = rw h refl
 
 -- ---- strings that are used
 with-append : (strings a b : List (List ℕ)) → with_strings strings (a ++ b) ≡ with_strings
