@@ -1,17 +1,17 @@
 -- What an input adds that adds no unit, however often it is taken.
 use Rattle.thorin_builder.proofs.Terms
-use Terms.{[], ap, append-nil, append_assoc, AreTaken, arith, begun_of, by-bool, bytes_eq}
-use Terms.{DwarfObject, Encoding, false, Global, held_units, in_progress_of, IndexEntry, inl}
-use Terms.{InProgress, InProgressDwarfPackage, inr, IsLater, IsTaken, kept_more, le-ltb, length}
-use Terms.{List, lookup, map, map-append, Meaning, meaning_at, names_in, None, none-some, Ok}
-use Terms.{Option, own_after, own_encoding, part, refl, Remembers, Repeated, rules, same_Some, Some}
-use Terms.{State, String, string_bytes, string_eq, sym, take-length, taken, true≢false, units_begun}
-use Terms.{units_of, with_input, with_more, ℕ, ◌++◌, ◌∙◌, ◌∷◌, ◌≡◌, ◌⊎◌}
+use Terms.{ap, append-nil, append_assoc, AreTaken, arith, begun_of, by-bool, bytes_eq, DwarfObject}
+use Terms.{Encoding, false, Global, held_units, in_progress_of, IndexEntry, inl, InProgress}
+use Terms.{InProgressDwarfPackage, inr, IsLater, IsTaken, kept_more, le-ltb, length, List, lookup}
+use Terms.{map, map-append, Meaning, meaning_at, names_in, None, none-some, Ok, Option, own_after}
+use Terms.{own_encoding, part, refl, Remembers, rules, same_Some, Some, State, String, string_bytes}
+use Terms.{string_eq, sym, take-length, taken, true≢false, UnitlessInput, units_begun, units_of}
+use Terms.{with_input, with_more, ℕ, [], ◌++◌, ◌∙◌, ◌∷◌, ◌≡◌, ◌⊎◌}
 use Rattle.thorin_join.proofs.Terms.{is_some, Joins}
 use Rattle.std.proofs.lemmas.Simd.{map-map}
 use Rattle.std.proofs.lemmas.Slice.Eq.{bytes_eq-Decides}
 use Rattle.indexmap.specs.IndexMap.{insert_entry}
-use Rattle.thorin_builder.specs.Repeated.{IsLaterBegun, ExtendsBegun, AddsAgain, AddsAgainTo}
+use Rattle.thorin_builder.specs.Repeated.{AddsAgain, AddsAgainTo, ExtendsBegun, IsLaterBegun}
 use Rattle.thorin_builder.specs.Taking.{with_target}
 use Rattle.thorin_builder.proofs.Extending.{extends-refl}
 use Rattle.thorin_builder.proofs.Running.{Offer}
@@ -35,11 +35,11 @@ later-trans a b c h k = record {
 }
 
 -- a package with what is remembered more
-abbrev pub with_again : Repeated → InProgress → InProgress
+abbrev pub with_again : UnitlessInput → InProgress → InProgress
 with_again again = with_more (map part again.parts.items) (map (λ s. s.0) again.differing.items)
 
 -- what is added to a package is added to what it becomes
-again-later : (bytes : List ℕ) (again : Repeated) (begun now : Option InProgress)
+again-later : (bytes : List ℕ) (again : UnitlessInput) (begun now : Option InProgress)
     → IsLaterBegun begun now → AddsAgainTo bytes again begun → AddsAgainTo bytes again now
 again-later bytes again None now h adds = absurd adds
 again-later bytes again (Some made) None h adds = absurd h
@@ -84,7 +84,7 @@ pub target-kept : (target : DwarfObject) (old new : State) → new ≡ with_targ
 target-kept target old new added = grind rules
 
 module _ (offer : Offer) where
-  pub are-taken-later : (es : List (String Global × Repeated)) (begun now : Option InProgress)
+  pub are-taken-later : (es : List (String Global × UnitlessInput)) (begun now : Option InProgress)
       → IsLaterBegun begun now → AreTaken offer es begun → AreTaken offer es now
   are-taken-later [] begun now h k = tt
   are-taken-later (e ∷ es) begun now h k = (
@@ -93,8 +93,8 @@ module _ (offer : Offer) where
   )
 
   -- what is found by a path is of that path
-  pub taken-found : (es : List (String Global × Repeated)) (begun : Option InProgress)
-      (path : List ℕ) (again : Repeated)
+  pub taken-found : (es : List (String Global × UnitlessInput)) (begun : Option InProgress)
+      (path : List ℕ) (again : UnitlessInput)
       → AreTaken offer es begun → lookup (λ k. bytes_eq path (string_bytes k)) es ≡ Some again
       → IsTaken (offer path) again begun
   taken-found [] begun path again k h = absurd (none-some again h)
@@ -107,8 +107,8 @@ module _ (offer : Offer) where
       (λ other. taken-found es begun path again k.1 (rw other at h))
 
   -- and with one more
-  taken-more : (es : List (String Global × Repeated)) (begun : Option InProgress)
-      (key : String Global) (again : Repeated)
+  taken-more : (es : List (String Global × UnitlessInput)) (begun : Option InProgress)
+      (key : String Global) (again : UnitlessInput)
       → AreTaken offer es begun → IsTaken (offer (string_bytes key)) again begun
       → AreTaken offer (insert_entry string_eq es key again) begun
   taken-more [] begun key again k one = (one, tt)
@@ -121,7 +121,8 @@ module _ (offer : Offer) where
       (λ other. rw other (k.0, taken-more es begun key again k.1 one))
 
   -- and with what bytes that may be read at a path add
-  pub taken-remembered : (old new : List (String Global × Repeated)) (begun : Option InProgress)
+  pub taken-remembered : (old new : List (String Global × UnitlessInput))
+      (begun : Option InProgress)
       (path bytes : List ℕ)
       → offer path (Ok bytes) → AreTaken offer old begun → Remembers bytes begun path old new
       → AreTaken offer new begun
@@ -140,7 +141,7 @@ pub taken-as : (bytes : List ℕ) (old : State) (now : Option InProgress)
 unfolding taken
 taken-as bytes old now found own h k e = rw (h, k, e) refl
 
-module _ (bytes : List ℕ) (again : Repeated) (old : State) (made now : InProgress)
+module _ (bytes : List ℕ) (again : UnitlessInput) (old : State) (made now : InProgress)
     (begun : old.begun ≡ Some made) (known : AddsAgainTo bytes again old.begun)
     (added : now ≡ with_again again made) where
   known-of : AddsAgain bytes again made

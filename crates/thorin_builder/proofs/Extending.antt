@@ -1,11 +1,11 @@
 -- A package that loses nothing of what it had.
 use Rattle.thorin_builder.proofs.Terms
-use Terms.{◌++◌, [], append-nil, Contents, Extends, false, File, InProgress, IsGrown, length, List}
-use Terms.{map, map-append, New, new_units, Ok, parts_of, refl, Result, rules, Source, sym, take}
-use Terms.{take-append_seam, take-length, true, with_all, with_source, ℕ, ◌∷◌, ◌≡◌}
-use Rattle.dwp_table.specs.declared.object.DebugTypeSignature.{DebugTypeSignature}
-use Rattle.std.proofs.Common.{arith, length-take, take-take}
-use Rattle.std.specs.Result.{OnOk, OnErr, is_err}
+use Terms.{append-nil, arith, Contents, DebugTypeSignature, Extends, false, File, InProgress}
+use Terms.{IsGrown, length, List, map, map-append, New, new_units, Ok, parts_of, refl, Result}
+use Terms.{rules, Source, sym, take, take-append_seam, take-length, true, with_all, with_source, ℕ}
+use Terms.{[], ◌++◌, ◌∷◌, ◌≡◌}
+use Rattle.std.proofs.Common.{length-take, take-take}
+use Rattle.std.specs.Result.{is_err, OnErr, OnOk}
 use Rattle.dwp_elf.specs.Growing.{Begins}
 use Rattle.thorin_join.specs.State.{abbreviations_test, adding}
 

@@ -1,25 +1,23 @@
 -- The units that an executable refers to, one after the other.
 use Rattle.thorin_builder.proofs.Terms
-use Terms.{◌++◌, [], ap, append-nil, append_assoc, Bool, DwarfObject, Err, Error, error_of}
-use Terms.{ErrorValue, false, keys, length}
-use Terms.{List, MemoryAside, names_in, None, Ok, Option, refl, Result, rules, Some, State, subst}
-use Terms.{sym, take, take-append-add, take-length, units_in, ℕ, ◌∙◌, ◌∷◌, ◌≡◌, ◌≢◌}
+use Terms.{ap, append-nil, append_assoc, Bool, came, DwarfObject, Err, Error, error_of, ErrorValue}
+use Terms.{false, input_error_in, keys, length, List, MemoryAside, names_in, None, Ok, Option}
+use Terms.{Outcome, outcome_of, refl, Result, rules, Some, State, subst, sym, take, take-append-add}
+use Terms.{take-length, TakesSkeleton, units_in, unread, ℕ, [], ◌++◌, ◌∙◌, ◌∷◌, ◌≡◌, ◌≢◌}
 use Rattle.std.proofs.lemmas.List.{length-append}
 use Rattle.std.specs.Prelude.{OnOk}
 use Rattle.std.specs.declared.io.Error.{Error as IoError}
-use Rattle.thorin_errors.specs.Errors.{Memory}
 use Rattle.thorin_errors.specs.declared.error.InputError.{InputError}
 use Rattle.thorin_errors.specs.declared.error.InputError.TheVariants as input
 use Rattle.thorin_errors.specs.declared.error.MissingReferencedObjectBehaviour.{MissingReferencedObjectBehaviour}
 use Rattle.thorin_executable.specs.Skeletons.{Listed}
-use Rattle.thorin_builder.specs.Taking.{came, MayRead, Outcome, TakesNamed, TakesSkeleton}
-use Rattle.thorin_builder.specs.Taking.{TakesSkeletons}
-use Rattle.thorin_builder.specs.Reading.{DeclinesNamed, error_in, input_error_in, IsRead}
-use Rattle.thorin_builder.specs.Reading.{OnDeclined, outcome_of, unread}
+use Rattle.thorin_builder.specs.Taking.{MayRead, TakesNamed, TakesSkeletons}
+use Rattle.thorin_builder.specs.Reading.{DeclinesNamed, error_in, IsRead, OnDeclined}
 use Rattle.thorin_builder.specs.declared.reader.NotTaken.{NotTaken}
-use Rattle.thorin_builder.specs.declared.reader.NotTaken.TheVariants.{Failed, Declined}
+use Rattle.thorin_builder.specs.declared.reader.NotTaken.TheVariants.{Declined, Failed}
 use Rattle.thorin_errors.specs.Inputs.{input_error}
 use Rattle.thorin_join.proofs.Units.InRows.{keys-units}
+use Rattle.thorin_errors.specs.Errors.{Memory}
 
 abbrev pub Offer : Type 1
 Offer = List ℕ → Result (List ℕ) IoError → Type 0

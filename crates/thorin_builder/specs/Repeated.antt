@@ -15,7 +15,7 @@ use Rattle.thorin_input.specs.Parts.{parts_of}
 use Rattle.thorin_input.specs.View.{part}
 use Rattle.thorin_join.specs.Builder.{with_input}
 use Rattle.thorin_join.specs.State.{InProgress, Extends, held_units, adding}
-use Rattle.thorin_builder.specs.declared.repeated.Repeated.{Repeated}
+use Rattle.thorin_builder.specs.declared.repeated.UnitlessInput.{UnitlessInput}
 
 -- a package that another one became: of its byte order, with its strings and its units in front
 pub record IsLater (made later : InProgress) : Type 0 where
@@ -53,25 +53,25 @@ pub record AddsAlone (bytes : List ℕ) (parts : Contents) (differing : List ℕ
   pub stays : (later : InProgress) → IsLater later (with_more parts differing later)
 
 -- the same of what is remembered
-abbrev pub AddsAgain : List ℕ → Repeated → InProgress → Type 0
+abbrev pub AddsAgain : List ℕ → UnitlessInput → InProgress → Type 0
 AddsAgain bytes again made = AddsAlone bytes (map part again.parts.items)
     (map (λ s. s.0) again.differing.items) made
 
 -- and of a package that was begun
-abbrev pub AddsAgainTo : List ℕ → Repeated → Option InProgress → Type 0
+abbrev pub AddsAgainTo : List ℕ → UnitlessInput → Option InProgress → Type 0
 AddsAgainTo bytes again None = ⊥
 AddsAgainTo bytes again (Some made) = AddsAgain bytes again made
 
 -- an input whose sections, encoding and indexes are known adds no unit and no string to a package,
 -- and else what is remembered
-pub record AddsNoUnit (source : Source) (again : Repeated) (made : InProgress) : Type 0 where
+pub record AddsNoUnit (source : Source) (again : UnitlessInput) (made : InProgress) : Type 0 where
   pub parts : parts_of source made.strings ≡ Ok (map part again.parts.items, made.strings)
   pub abbreviations : source.object.has_abbreviations ≡ true
   pub units : new_units (adding source made (map part again.parts.items))
       ≡ Ok (record { units = []; differing = map (λ s. s.0) again.differing.items })
 
 -- bytes that may be read at a path add what is remembered
-pub record IsTaken (offered : Result (List ℕ) IoError → Type 0) (again : Repeated)
+pub record IsTaken (offered : Result (List ℕ) IoError → Type 0) (again : UnitlessInput)
     (begun : Option InProgress) : Type 0 where
   pub bytes : List ℕ
   pub may : offered (Ok bytes)
@@ -79,13 +79,14 @@ pub record IsTaken (offered : Result (List ℕ) IoError → Type 0) (again : Rep
 
 -- nothing more is remembered, or what bytes that were read at a path add
 abbrev pub Remembers : List ℕ → Option InProgress → (path : List ℕ)
-    → (old new : List (String Global × Repeated)) → Type 0
-Remembers bytes begun path old new = (new ≡ old) ⊎ ((key : String Global) × (again : Repeated)
+    → (old new : List (String Global × UnitlessInput)) → Type 0
+Remembers bytes begun path old new = (new ≡ old) ⊎ ((key : String Global) × (again : UnitlessInput)
     × (string_bytes key ≡ path) × AddsAgainTo bytes again begun
     × (new ≡ insert_entry string_eq old key again))
 
 -- so do bytes at each of these paths what is remembered there
-abbrev pub AreTaken : (List ℕ → Result (List ℕ) IoError → Type 0) → List (String Global × Repeated)
+abbrev pub AreTaken : (List ℕ → Result (List ℕ) IoError → Type 0)
+    → List (String Global × UnitlessInput)
     → Option InProgress → Type 0
 AreTaken offer [] begun = Unit {0}
 AreTaken offer (e ∷ es) begun =

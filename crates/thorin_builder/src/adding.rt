@@ -27,30 +27,8 @@ fn begun_by(alloc: Global, file: &ElfFile<'_>) -> InProgressDwarfPackage
     InProgressDwarfPackage::new(alloc, file.class(), file.machine(), file.endianness())
 }
 
-/// The byte order of the package, where one is begun, else that of an input.
-fn order_of(in_progress: &Option<InProgressDwarfPackage>, order: Endianness) -> Endianness
-    ensures { result ≡ spec.order_of (begun_of in_progress.now) order }
-{
-    match in_progress {
-        Some(package) => package.endianness(),
-        None => order,
-    }
-}
-
-/// `MixedInputEncodings` where an input has another byte order than the package.
-#[tactic(auto, unfolding(thorin_join::specs::Builder::order_test))]
-fn test_order(held: Endianness, order: Endianness) -> Result<(), Error>
-    ensures { Gives (λ _. tt) result (spec.order_test held order) }
-{
-    if held == order {
-        Ok(())
-    } else {
-        Err(Error::MixedInputEncodings)
-    }
-}
-
 /// An input with its encoding and its indexes, for a package of this byte order.
-#[tactic(auto, unfolding(thorin_join::specs::Builder::source_for))]
+#[tactic(auto, unfolding(thorin_join::specs::Builder::source_for, thorin_join::specs::Builder::order_test))]
 pub(crate) fn source_for<'a>(held: Endianness, object: InputObject<'a>) -> Result<Source<'a>, Error>
     ensures meaning { Gives view.source result
         (spec.source_for held (view.object object.entry)) }
@@ -60,7 +38,9 @@ pub(crate) fn source_for<'a>(held: Endianness, object: InputObject<'a>) -> Resul
         encoding_of (view.source source).object ≡ Ok source.encoding) }
 {
     let encoding = object.encoding()?;
-    test_order(held, object.order)?;
+    if held != object.order {
+        return Err(Error::MixedInputEncodings);
+    }
     let indexes = Indexes::read(&object, encoding)?;
     Ok(Source {
         object,
@@ -116,7 +96,11 @@ fn add_input_with_units(
     ensures extends { OnOk result
         (ExtendsBegun (begun_of in_progress.old) (begun_of in_progress.new)) }
 {
-    let source = source_for(order_of(in_progress, object.order), object)?;
+    let held = match in_progress {
+        Some(package) => package.object.endianness(),
+        None => object.order,
+    };
+    let source = source_for(held, object)?;
     let alike = add_source(alloc, in_progress, file, &source)?;
     Ok(source.object.one_encoding(source.encoding, alike))
 }

@@ -1,7 +1,7 @@
 //! Executables as inputs: the executable is read, then each object that it names is read and added,
 //! passed over, or refused (DWARF 5, 3.1.2; the GNU page DebugFission).
 
-ghost use Rattle.std.specs.Prelude.{◌≡◌, ℕ, false, List, IsTrue, IfErr, Option, OnOk};
+ghost use Rattle.std.specs.Prelude.{◌≡◌, ℕ, false, List, Option, OnOk};
 ghost use Rattle.std.specs.Path.{path_bytes};
 ghost use Rattle.thorin_builder.specs.Taking.{TakesExecutable, TakesExecutableSkippingNameless};
 ghost use Rattle.thorin_builder.specs.Taking.{TakesExecutableBy, TakesNamed, TakesSkeleton};
@@ -15,38 +15,21 @@ ghost use Rattle.thorin_executable.specs.Skeletons.{skeletons_by};
 
 use crate::package::DwarfPackage;
 use crate::reader::{InputReader, NotTaken, admit_path, tried, undeclined};
-use crate::repeated::Repeated;
+use crate::repeated::UnitlessInput;
 use dwp_bytes::RelocationEntry;
 use dwp_table::DwarfObject;
 use indexmap::IndexMap;
 use std::alloc::Global;
 use std::path::Path;
 use thorin_errors::{Error, InputError, MissingReferencedObjectBehaviour};
-use thorin_executable::{NamedUnit, NamedUnits, NamelessUnits};
+use thorin_executable::{NamedUnits, NamelessUnits};
 use thorin_sessions::Session;
-
-/// Whether what was known of the path of the unit before is known of a unit's path.
-fn is_still(was_known: bool, unit: NamedUnit) -> bool
-    ensures { IsTrue result → IsTrue was_known × IsTrue unit.is_repeated }
-{
-    was_known && unit.is_repeated
-}
 
 /// A split unit that an executable names, and the path of its object.
 #[derive(Clone, Copy)]
-struct Named<'u> {
+struct NamedObject<'u> {
     target: DwarfObject,
     path: &'u str,
-}
-
-/// Whether the path of a unit may be tried: that of the unit before was asked for with it.
-fn admit_named<R: InputReader>(reader: &R, unit: NamedUnit, path: &str) -> Result<(), R::Refusal>
-    ensures { IfErr result (R.declines reader.now false path.now) }
-{
-    if unit.is_repeated {
-        return Ok(());
-    }
-    admit_path(reader, path)
 }
 
 /// What is known of the objects of the units so far.
@@ -56,7 +39,7 @@ struct Known {
     is_unread: bool,
     /// What each of those adds, by its path, that adds no unit and no string when it is taken
     /// again.
-    taken: IndexMap<String, Repeated>,
+    taken: IndexMap<String, UnitlessInput>,
 }
 
 impl<'output, 'session: 'output, Sess: Session<RelocationEntry>> DwarfPackage<
@@ -83,8 +66,8 @@ impl<'output, 'session: 'output, Sess: Session<RelocationEntry>> DwarfPackage<
             missing self.old.state result self.new.state }
         ensures session { self.new.session ≡ self.old.session }
     {
-        let session = self.session();
-        let mut room = Vec::new(self.allocator());
+        let session = self.session;
+        let mut room = Vec::new(self.alloc);
         undeclined(self.add_executable_by(session, &mut room, path, missing))
     }
 
@@ -104,8 +87,8 @@ impl<'output, 'session: 'output, Sess: Session<RelocationEntry>> DwarfPackage<
             (path_bytes path.entry) missing self.old.state result self.new.state }
         ensures session { self.new.session ≡ self.old.session }
     {
-        let session = self.session();
-        let mut room = Vec::new(self.allocator());
+        let session = self.session;
+        let mut room = Vec::new(self.alloc);
         undeclined(self.add_executable_skipping_nameless_by(session, &mut room, path, missing))
     }
 
@@ -133,8 +116,8 @@ impl<'output, 'session: 'output, Sess: Session<RelocationEntry>> DwarfPackage<
         self.add_executable_as(reader, room, path, missing, NamelessUnits::Refused)
     }
 
-    /// The same as `add_executable_skipping_nameless`, where a reader reads the files, as for
-    /// `add_executable_by`.
+    /// Adds the objects that an executable names, as `add_executable_skipping_nameless` does, but a
+    /// reader reads the files, as for `add_executable_by`.
     ///
     /// # Errors
     /// `Failed` by those of `add_executable_skipping_nameless`; `Declined` where the reader
@@ -172,7 +155,7 @@ impl<'output, 'session: 'output, Sess: Session<RelocationEntry>> DwarfPackage<
             (R.declines reader.now) (path_bytes path.entry) self.old.state) }
         ensures session { self.new.session ≡ self.old.session }
     {
-        let mut executable = Vec::new(self.allocator());
+        let mut executable = Vec::new(self.alloc);
         let bytes = reader.read_into(true, path, &mut executable)?;
         self.add_named(reader, room, bytes, missing, nameless)
     }
@@ -193,8 +176,8 @@ impl<'output, 'session: 'output, Sess: Session<RelocationEntry>> DwarfPackage<
             (R.declines reader.now) missing (skeletons_by nameless bytes.now) self.old.state) }
         ensures session { self.new.session ≡ self.old.session }
     {
-        let session = self.session();
-        let alloc = self.allocator();
+        let session = self.session;
+        let alloc = self.alloc;
         let mut units = NamedUnits::read_by(alloc, session, bytes, nameless)?;
         let added = self.add_each(reader, room, &mut units, missing);
         drop(units);
@@ -218,16 +201,19 @@ impl<'output, 'session: 'output, Sess: Session<RelocationEntry>> DwarfPackage<
     {
         let mut known = Known {
             is_unread: false,
-            taken: IndexMap::new(self.allocator()),
+            taken: IndexMap::new(self.alloc),
         };
         while let Some(unit) = units.next()? {
-            known.is_unread = is_still(known.is_unread, unit);
-            let named = Named {
+            known.is_unread &= unit.is_repeated;
+            let named = NamedObject {
                 target: unit.target,
                 path: units.path(),
             };
-            if let Err(why) = admit_named(reader, unit, named.path) {
-                return Err(NotTaken::Declined(why));
+            // (the path of the unit before was asked for with it)
+            if !unit.is_repeated {
+                if let Err(why) = admit_path(reader, named.path) {
+                    return Err(NotTaken::Declined(why));
+                }
             }
             self.add_skeleton(reader, room, named, missing, &mut known)?;
             let contained = self.contained_units();
@@ -248,7 +234,7 @@ impl<'output, 'session: 'output, Sess: Session<RelocationEntry>> DwarfPackage<
         &mut self,
         reader: &R,
         room: &mut Vec<u8>,
-        named: Named<'_>,
+        named: NamedObject<'_>,
         missing: MissingReferencedObjectBehaviour,
         known: &mut Known,
     ) -> Result<(), NotTaken<Error, R::Refusal>>
@@ -301,7 +287,7 @@ impl<'output, 'session: 'output, Sess: Session<RelocationEntry>> DwarfPackage<
         &mut self,
         reader: &R,
         room: &mut Vec<u8>,
-        named: Named<'_>,
+        named: NamedObject<'_>,
         missing: MissingReferencedObjectBehaviour,
         known: &mut Known,
     ) -> Result<(), NotTaken<Error, R::Refusal>>
@@ -339,8 +325,8 @@ impl<'output, 'session: 'output, Sess: Session<RelocationEntry>> DwarfPackage<
     fn add_and_remember(
         &mut self,
         bytes: &[u8],
-        named: Named<'_>,
-        taken: &mut IndexMap<String, Repeated>,
+        named: NamedObject<'_>,
+        taken: &mut IndexMap<String, UnitlessInput>,
     ) -> Result<(), Error>
         ensures takes { Takes bytes.now self.old.state result self.new.state }
         ensures later { OnOk result
@@ -352,7 +338,7 @@ impl<'output, 'session: 'output, Sess: Session<RelocationEntry>> DwarfPackage<
         self.add_bytes(bytes)?;
         if !self.is_there(named.target) {
             if let Some(again) = self.again_of(bytes) {
-                remember(self.allocator(), taken, named.path, again);
+                remember(self.alloc, taken, named.path, again);
             }
         }
         Ok(())
@@ -360,7 +346,12 @@ impl<'output, 'session: 'output, Sess: Session<RelocationEntry>> DwarfPackage<
 }
 
 /// Remembers what the object at a path adds. Without memory for it nothing is remembered.
-fn remember(alloc: Global, taken: &mut IndexMap<String, Repeated>, path: &str, again: Repeated)
+fn remember(
+    alloc: Global,
+    taken: &mut IndexMap<String, UnitlessInput>,
+    path: &str,
+    again: UnitlessInput,
+)
     ensures { (bytes : List ℕ) (begun : Option InProgress) → AddsAgainTo bytes again begun
         → Remembers bytes begun path.now taken.old.entries taken.new.entries }
 {

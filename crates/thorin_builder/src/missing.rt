@@ -9,29 +9,9 @@ use indexmap::IndexSet;
 /// The units that executables refer to and that aren't contained, in order of insertion.
 #[derive(Drop)]
 pub struct MissingTargets<'a> {
-    contained: &'a IndexSet<DwarfObject>,
-    targets: &'a IndexSet<DwarfObject>,
-    next: usize,
-}
-
-impl<'a> MissingTargets<'a> {
-    ghost use Rattle.std.specs.Prelude.{◌≡◌, filter};
-    ghost use Rattle.thorin_join.specs.Builder.{is_missing};
-    ghost use Rattle.thorin_builder.specs.Missing.{missing_left};
-
-    /// Those of these targets.
-    pub(crate) fn new(
-        contained: &'a IndexSet<DwarfObject>,
-        targets: &'a IndexSet<DwarfObject>,
-    ) -> MissingTargets<'a>
-        ensures { missing_left result ≡ filter (is_missing contained.now.keys) targets.now.keys }
-    {
-        MissingTargets {
-            contained,
-            targets,
-            next: 0,
-        }
-    }
+    pub(crate) contained: &'a IndexSet<DwarfObject>,
+    pub(crate) targets: &'a IndexSet<DwarfObject>,
+    pub(crate) next: usize,
 }
 
 impl Iterator for MissingTargets<'_> {

@@ -25,7 +25,7 @@ use crate::adding::add_input;
 use crate::in_progress::InProgressDwarfPackage;
 use crate::missing::MissingTargets;
 use crate::reader::{InputReader, NotTaken, tried, undeclined};
-use crate::repeated::Repeated;
+use crate::repeated::UnitlessInput;
 use dwp_bytes::RelocationEntry;
 use dwp_dwarf::Encoding;
 use dwp_elf::WritableObject;
@@ -47,8 +47,8 @@ use thorin_sessions::Session;
 /// A package in the making: it takes one input after another. The session keeps what is read.
 #[derive(Drop)]
 pub struct DwarfPackage<'output, 'session: 'output, Sess: Session<RelocationEntry>> {
-    alloc: Global,
-    session: &'session Sess,
+    pub(crate) alloc: Global,
+    pub(crate) session: &'session Sess,
     in_progress: Option<InProgressDwarfPackage>,
     // Empty: the names that are contained where no input has begun a package.
     no_units: IndexSet<DwarfObject>,
@@ -168,7 +168,7 @@ impl<'output, 'session: 'output, Sess: Session<RelocationEntry>> DwarfPackage<
         self.add_bytes(bytes)
     }
 
-    /// The same, and what the package had is kept.
+    /// Adds an object or a finished package. What the package had is kept.
     #[tactic(auto, unfolding(thorin_join::specs::Builder::taken))]
     pub(crate) fn add_bytes(&mut self, bytes: &[u8]) -> Result<(), Error>
         ensures meaning { Gives (λ _. self.new.state) result (spec.taken bytes.now self.old.state) }
@@ -198,7 +198,7 @@ impl<'output, 'session: 'output, Sess: Session<RelocationEntry>> DwarfPackage<
     /// Adds what an object adds that was added before, where that is no unit and no string. It
     /// refuses for memory alone.
     #[tactic(auto, unfolding(thorin_join::specs::Builder::taken))]
-    pub(crate) fn add_again(&mut self, again: &Repeated) -> Result<(), Error>
+    pub(crate) fn add_again(&mut self, again: &UnitlessInput) -> Result<(), Error>
         requires known { (bytes : List ℕ) × AddsAgainTo bytes again.now self.old.state.begun }
         ensures takes { (bytes : List ℕ) → AddsAgainTo bytes again.now self.old.state.begun
             → Takes bytes self.old.state result self.new.state }
@@ -218,7 +218,7 @@ impl<'output, 'session: 'output, Sess: Session<RelocationEntry>> DwarfPackage<
 
     /// What an object adds, where that is no unit and no string; None where it isn't, and where it
     /// can't be told. The package stays as it is.
-    pub(crate) fn again_of(&mut self, bytes: &[u8]) -> Option<Repeated>
+    pub(crate) fn again_of(&mut self, bytes: &[u8]) -> Option<UnitlessInput>
         ensures state { self.new.state ≡ self.old.state }
         ensures again { IfSome result (λ again.
             AddsAgainTo bytes.now again self.old.state.begun) }
@@ -228,18 +228,6 @@ impl<'output, 'session: 'output, Sess: Session<RelocationEntry>> DwarfPackage<
             Some(package) => package.adds_again(bytes).unwrap_or(None),
             None => None,
         }
-    }
-
-    /// The session, which keeps what is read.
-    pub(crate) fn session(&self) -> &'session Sess
-        ensures { result.now ≡ self.now.session }
-    {
-        self.session
-    }
-
-    /// What allocates for the package.
-    pub(crate) fn allocator(&self) -> Global {
-        self.alloc
     }
 
     /// Adds a compilation unit to the targets. It refuses for memory alone, and then changes
@@ -314,7 +302,7 @@ impl<'output, 'session: 'output, Sess: Session<RelocationEntry>> DwarfPackage<
         ensures sound { IsSoundBegun self.now.state.begun }
     {
         match &self.in_progress {
-            Some(package) => package.names(),
+            Some(package) => &package.names,
             None => &self.no_units,
         }
     }
@@ -325,7 +313,7 @@ impl<'output, 'session: 'output, Sess: Session<RelocationEntry>> DwarfPackage<
         ensures { map (λ s. s.0) result.now ≡ spec.differing_in self.now.state }
     {
         match &self.in_progress {
-            Some(package) => package.differing(),
+            Some(package) => &package.differing,
             None => &[],
         }
     }
@@ -359,7 +347,11 @@ impl<'output, 'session: 'output, Sess: Session<RelocationEntry>> DwarfPackage<
         ensures { missing_left result
             ≡ filter (spec.is_missing (spec.names_in self.now.state.begun)) self.now.state.targets }
     {
-        MissingTargets::new(self.contained_units(), &self.targets)
+        MissingTargets {
+            contained: self.contained_units(),
+            targets: &self.targets,
+            next: 0,
+        }
     }
 }
 
@@ -372,7 +364,7 @@ fn contained_in<'p>(
     ensures { result.now.keys ≡ spec.names_in (begun_of in_progress.now) }
 {
     match in_progress {
-        Some(package) => package.names(),
+        Some(package) => &package.names,
         None => no_units,
     }
 }
@@ -401,7 +393,7 @@ fn finished_begun(
     match in_progress {
         Some(package) => match tested {
             Ok(()) => package.into_finished(),
-            Err(e) => (Err(e), package.into_differing()),
+            Err(e) => (Err(e), package.differing),
         },
         None => match tested {
             Ok(()) => (Err(Error::NoOutputObjectCreated), Vec::new(alloc)),
@@ -415,7 +407,7 @@ fn unit_count(in_progress: &Option<InProgressDwarfPackage>) -> usize
     ensures { result ≡ length (spec.names_in (begun_of in_progress.now)) }
 {
     match in_progress {
-        Some(package) => package.names().len(),
+        Some(package) => package.names.len(),
         None => 0,
     }
 }

@@ -186,7 +186,7 @@ pub fn tried<D>(outcome: Result<(), Error>) -> Result<(), NotTaken<Error, D>>
     }
 }
 
-/// The same of a call whose reader declines nothing.
+/// What came of an input, as calls answer it whose reader declines nothing.
 pub fn undeclined(taken: Result<(), NotTaken<Error, Infallible>>) -> Result<(), Error>
     ensures { result ≡ outcome_of taken }
 {

@@ -23,12 +23,12 @@ use thorin_input::{Part, PartBytes, Source, Walked, opened, parts_of};
 /// What an input adds to a package each time that it is taken, where that is no unit and no string:
 /// parts of sections, and the signatures of its type units that differ from those kept.
 #[derive(Drop)]
-pub(crate) struct Repeated {
+pub(crate) struct UnitlessInput {
     pub parts: Vec<Part<'static>>,
     pub differing: Vec<DebugTypeSignature>,
 }
 
-impl Repeated {
+impl UnitlessInput {
     /// What is added once more of the object at a path.
     pub fn repetition<'p>(&self, path: Path<'p>) -> Repetition<'p>
         ensures { result.path ≡ path.entry }
@@ -79,26 +79,27 @@ fn copied(alloc: Global, parts: &[Part<'_>]) -> Result<Vec<Part<'static>>, Error
 impl InProgressDwarfPackage {
     /// What an input adds, where that is no unit and no string; else None, or the input's first
     /// error. The package stays as it is.
-    pub(crate) fn adds_again(&mut self, bytes: &[u8]) -> Result<Option<Repeated>, Error>
+    pub(crate) fn adds_again(&mut self, bytes: &[u8]) -> Result<Option<UnitlessInput>, Error>
         ensures same { in_progress_of self.new ≡ in_progress_of self.old }
         ensures found { IfOk result (λ found. IfSome found (λ again.
             AddsAgain bytes.now again (in_progress_of self.old))) }
     {
         let file = opened(bytes)?;
-        let walked = Walked::over(self.alloc, &file);
-        if !walked.with_units {
-            return Ok(Some(Repeated {
+        let Walked { with_units, input } = Walked::over(self.alloc, &file);
+        if !with_units {
+            drop(input);
+            return Ok(Some(UnitlessInput {
                 parts: Vec::new(self.alloc),
                 differing: Vec::new(self.alloc),
             }));
         }
-        let object = walked.input?;
-        let source = source_for(self.endianness(), object)?;
+        let object = input?;
+        let source = source_for(self.object.endianness(), object)?;
         self.source_adds_again(&source)
     }
 
-    /// The same of an input whose sections, encoding and indexes are known.
-    fn source_adds_again(&mut self, source: &Source<'_>) -> Result<Option<Repeated>, Error>
+    /// What an input adds whose sections, encoding and indexes are known, as `adds_again`.
+    fn source_adds_again(&mut self, source: &Source<'_>) -> Result<Option<UnitlessInput>, Error>
         ensures same { in_progress_of self.new ≡ in_progress_of self.old }
         ensures found { IfOk result (λ found. IfSome found (λ again.
             AddsNoUnit (view.source source.now) again (in_progress_of self.old))) }
@@ -109,8 +110,8 @@ impl InProgressDwarfPackage {
         found
     }
 
-    /// The same, but it may leave strings behind those before.
-    fn try_again(&mut self, source: &Source<'_>) -> Result<Option<Repeated>, Error>
+    /// What `source_adds_again` gives, but it may leave strings behind those before.
+    fn try_again(&mut self, source: &Source<'_>) -> Result<Option<UnitlessInput>, Error>
         ensures found { IfOk result (λ found. IfSome found (λ again.
             AddsNoUnit (view.source source.now) again (in_progress_of self.old))) }
         ensures extends { spec.Extends (in_progress_of self.old) (in_progress_of self.new) }
@@ -125,7 +126,7 @@ impl InProgressDwarfPackage {
         if !new.units.is_empty() {
             return Ok(None);
         }
-        Ok(Some(Repeated {
+        Ok(Some(UnitlessInput {
             parts: copied(alloc, &parts)?,
             differing: new.differing,
         }))
@@ -133,7 +134,7 @@ impl InProgressDwarfPackage {
 
     /// Adds what an input adds that adds no unit and no string. An `Err` leaves the package as it
     /// was; it is for memory alone.
-    pub(crate) fn add_repeated(&mut self, again: &Repeated) -> Result<(), Error>
+    pub(crate) fn add_repeated(&mut self, again: &UnitlessInput) -> Result<(), Error>
         ensures added { OnOk result (in_progress_of self.new
             ≡ with_more (map view.part again.now.parts.items)
             (map (λ s. s.0) again.now.differing.items) (in_progress_of self.old)) }
@@ -150,8 +151,8 @@ impl InProgressDwarfPackage {
         added
     }
 
-    /// The same, but an `Err` may leave more than there was.
-    fn try_add_repeated(&mut self, again: &Repeated) -> Result<(), Error>
+    /// Adds what such an input adds, but an `Err` may leave more than there was.
+    fn try_add_repeated(&mut self, again: &UnitlessInput) -> Result<(), Error>
         ensures added { OnOk result (in_progress_of self.new
             ≡ with_more (map view.part again.now.parts.items)
             (map (λ s. s.0) again.now.differing.items) (in_progress_of self.old)) }

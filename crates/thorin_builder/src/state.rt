@@ -16,7 +16,7 @@ ghost use Rattle.thorin_again.specs.Own.{has_sections};
 ghost use Rattle.thorin_join.specs.State as spec;
 ghost use Rattle.thorin_builder.specs.RowsByIndex.{is_of_compilations, rows_in};
 ghost use Rattle.thorin_builder.specs.StateView.{amount_in, in_progress_of};
-ghost use Rattle.thorin_input.specs.UnitView.{held_in, new_of};
+ghost use Rattle.thorin_input.specs.UnitView.{new_of};
 ghost use Rattle.thorin_input.specs.View as view;
 
 use crate::in_progress::InProgressDwarfPackage;
@@ -62,34 +62,6 @@ impl InProgressDwarfPackage {
         }
     }
 
-    /// The byte order of the package.
-    pub(crate) fn endianness(&self) -> Endianness
-        ensures { result ≡ (in_progress_of self.now).file.order }
-    {
-        self.object.endianness()
-    }
-
-    /// The names of its units, in order of acceptance.
-    pub(crate) fn names(&self) -> &IndexSet<DwarfObject>
-        ensures { result.now.keys ≡ spec.names_of (in_progress_of self.now) }
-    {
-        &self.names
-    }
-
-    /// The signatures of type units that were passed over and differ from those that are kept.
-    pub(crate) fn differing(&self) -> &[DebugTypeSignature]
-        ensures { map (λ s. s.0) result.now ≡ (in_progress_of self.now).differing }
-    {
-        &self.differing
-    }
-
-    /// The same, moved out.
-    pub(crate) fn into_differing(self) -> Vec<DebugTypeSignature>
-        ensures { result.items ≡ self.differing.items }
-    {
-        self.differing
-    }
-
     /// Whether there are abbreviations and, where there are string offsets, strings.
     pub(crate) fn has_sections(&self) -> bool
         ensures { result ≡ has_sections (Some (in_progress_of self.now)) }
@@ -97,17 +69,6 @@ impl InProgressDwarfPackage {
         let has_offsets = !self.object.content(SectionKind::StrOffsets).is_empty();
         !self.object.content(SectionKind::Abbrev).is_empty()
             && (!has_offsets || self.strings.len() > 0)
-    }
-
-    /// What it has, for the units of an input to be added to.
-    fn held(&self) -> Held<'_>
-        ensures { held_in result ≡ spec.held_units (in_progress_of self.now) }
-    {
-        Held {
-            object: &self.object,
-            names: &self.names,
-            rows: &self.rows,
-        }
     }
 
     /// The units that an input of these parts adds, or the first error of the parts' places and of
@@ -122,7 +83,11 @@ impl InProgressDwarfPackage {
         ensures alike { IfOk result (λ new. new.alike ≡ are_alike (view.source source.now)) }
     {
         let whole = Whole::of(source.encoding, &self.object, parts)?;
-        let held = self.held();
+        let held = Held {
+            object: &self.object,
+            names: &self.names,
+            rows: &self.rows,
+        };
         let adding = Adding {
             source,
             whole,
@@ -150,7 +115,7 @@ impl InProgressDwarfPackage {
         added
     }
 
-    /// The same, but an `Err` may leave more than there was.
+    /// Adds the units of an input, but an `Err` may leave more than there was.
     #[tactic(auto, unfolding(thorin_join::specs::State::with_source, thorin_join::specs::State::abbreviations_test))]
     fn try_add(&mut self, source: &Source<'_>) -> Result<bool, Error>
         ensures alike { IfOk result (λ alike. alike ≡ are_alike (view.source source.now)) }

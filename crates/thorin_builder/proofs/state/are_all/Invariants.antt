@@ -1,5 +1,4 @@
-use Rattle.thorin_builder.proofs.Terms.{drop, IdentifiersFit, ◌≡◌}
-use Rattle.thorin_builder.specs.RowsByIndex.{rows_in}
+use Rattle.thorin_builder.proofs.Terms.{drop, IdentifiersFit, rows_in, ◌≡◌}
 use Rattle.thorin_builder.proofs.state.are_all.Given as goal
 
 -- all are chosen where those that are left are; all identifiers have 64 bits where those have

@@ -1,9 +1,9 @@
 use Rattle.thorin_builder.proofs.Terms
-use Terms.{[], ap, append-nil, Contents, DwarfObject, file_encoding, held_units, IfOk-weaker}
+use Terms.{ap, append-nil, Contents, DwarfObject, file_encoding, held_units, IfOk-weaker}
 use Terms.{IfSome_then, in_progress_of, IndexEntry, InProgress, input_file_of, IsLater, List, map}
-use Terms.{New, None, Ok, one_encoding, own_encoding, parts_of, refl, Repeated, rules, Source, sym}
-use Terms.{take-length, unit_bytes, with_all, with_input, with_more, with_new_units, with_parts}
-use Terms.{with_source, with_source_or_new, with_units, ℕ, ◌∙◌, ◌≡◌}
+use Terms.{New, None, Ok, one_encoding, own_encoding, parts_of, refl, rules, Source, sym}
+use Terms.{take-length, unit_bytes, UnitlessInput, with_all, with_input, with_more, with_new_units}
+use Terms.{with_parts, with_source, with_source_or_new, with_units, ℕ, [], ◌∙◌, ◌≡◌}
 use Rattle.thorin_join.proofs.Terms.{content_of, contribution_to, kind_of, part_of, place_of}
 use Rattle.thorin_input.specs.Encodings.{encoding_of}
 use Rattle.thorin_join.specs.Builder.{source_for}
@@ -22,12 +22,12 @@ nothing-more : (made : InProgress) → with_more [] [] made ≡ made
 unfolding with_parts
 nothing-more made = ap (λ d. record made { differing = d }) (append-nil made.differing)
 
-pub returns-then-not-walked-clause-found : goal.returns-then-not-walked-clause-found
+pub returns-then-not-with_units-clause-found : goal.returns-then-not-with_units-clause-found
 unfolding own_encoding with_input
-returns-then-not-walked-clause-found c =
+returns-then-not-with_units-clause-found c =
     let given = c.in_ok-file.ensures in
-    let none = sym c.over-walked.ensures.units ∙ c.if-not-walked.true in
-    rw (c.new.ensures.items, c.new-then-not-walked.ensures.items) (record {
+    let none = sym c.over-with_units.ensures.units ∙ c.if-not-with_units.true in
+    rw (c.new.ensures.items, c.new-then-not-with_units.ensures.items) (record {
       own = None;
       own_is = rw (given, none) refl;
       adds = λ later after. rw (given, none, nothing-more later) refl;
@@ -35,7 +35,7 @@ returns-then-not-walked-clause-found c =
     })
 
 -- an input that adds no unit adds the same to each package that this one becomes
-source-again : (source : Source) (again : Repeated) (made later : InProgress)
+source-again : (source : Source) (again : UnitlessInput) (made later : InProgress)
     → AddsNoUnit source again made → IsLater made later
     → with_source source later ≡ Ok (with_again again later)
 unfolding with_all with_new_units
@@ -69,9 +69,14 @@ returns-clause-found c =
     let made = in_progress_of c.args.self.now in
     let source = view.source c.in_ok-source.source in
     let given = c.in_ok-file.ensures in
-    let units = sym c.over-walked.ensures.units ∙ c.if-not-walked.false in
+    let units = sym c.over-with_units.ensures.units ∙ c.if-not-with_units.false in
     let object : input_file_of (elf c.in_ok-file.file) ≡ Ok source.object =
-    search (rules, c.over-walked.ensures.input, c.in_ok-object.was, c.in_ok-source.ensures.object)
+    search (
+      rules,
+      c.over-with_units.ensures.input,
+      c.in_ok-object.was,
+      c.in_ok-source.ensures.object,
+    )
     in
     let encoding : encoding_of source.object ≡ Ok source.encoding =
     c.in_ok-source.ensures.encoding in

@@ -1,7 +1,6 @@
-use Rattle.thorin_builder.proofs.Terms.{at_least, take-append-le, take-append_seam, ◌∙◌}
+use Rattle.thorin_builder.proofs.Terms.{arith, at_least, common_steps, take-append-le}
+use Rattle.thorin_builder.proofs.Terms.{take-append_seam, ◌∙◌}
 use Rattle.thorin_builder.proofs.in_progress.InProgressDwarfPackage.append_unit.Goals as goal
-use Rattle.std.proofs.Common.{arith}
-use Rattle.std.proofs.lemmas.Grind.{common_steps}
 use Rattle.thorin_join.specs.State.{with_new_unit}
 
 pub returns-in-Ok-clause-extends : goal.returns-in-Ok-clause-extends

@@ -1,5 +1,5 @@
-use Rattle.thorin_builder.proofs.Terms.{ap, DwarfObject, IndexEntry, length, map, sym, take, ℕ, ◌∙◌}
-use Rattle.dwp_table.specs.declared.object.DebugTypeSignature.{DebugTypeSignature}
+use Rattle.thorin_builder.proofs.Terms.{ap, DebugTypeSignature, DwarfObject, IndexEntry, length}
+use Rattle.thorin_builder.proofs.Terms.{map, sym, take, ℕ, ◌∙◌}
 use Rattle.std.specs.List.{take-map}
 use Rattle.thorin_builder.proofs.in_progress.InProgressDwarfPackage.restore.Goals as goal
 

@@ -1,8 +1,6 @@
-use Rattle.thorin_builder.proofs.Terms.{rules, take-length}
+use Rattle.thorin_builder.proofs.Terms.{arith, common_steps, rules, take-length}
 use Rattle.thorin_builder.proofs.Extending.{grown-extends, signatures-kept}
 use Rattle.thorin_builder.proofs.in_progress.InProgressDwarfPackage.try_add_repeated.Goals as goal
-use Rattle.std.proofs.Common.{arith}
-use Rattle.std.proofs.lemmas.Grind.{common_steps}
 
 pub returns-in_err-put_each-clause-extends : goal.returns-in_err-put_each-clause-extends
 returns-in_err-put_each-clause-extends c =

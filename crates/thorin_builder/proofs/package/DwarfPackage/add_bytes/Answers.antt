@@ -1,10 +1,9 @@
 use Rattle.thorin_builder.proofs.Terms
 use Terms.{begun_of, Bool, building, common, cond, Encoding, InProgressDwarfPackage, le-ltb, lt-ltb}
-use Terms.{not, Option, own_after, rules, State, sym, with_own, ◌∙◌, ◌≡◌}
+use Terms.{not, Option, own_after, rules, State, sym, taken, with_own, ◌∙◌, ◌≡◌}
 use Rattle.std.specs.Prelude.{is_some}
 use Rattle.thorin_builder.proofs.AddedAgain.{joined-later, taken-as}
 use Rattle.thorin_builder.proofs.package.DwarfPackage.add_bytes.Goals as goal
-use Rattle.thorin_join.specs.Builder.{taken}
 
 -- the first input has its own encoding, a later one what all have
 with-own : (p : Option InProgressDwarfPackage) (first : Bool) (own found : Option Encoding)

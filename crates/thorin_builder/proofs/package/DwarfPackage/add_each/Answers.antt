@@ -1,4 +1,5 @@
 use Rattle.thorin_builder.proofs.Terms.{Err, err_from_is_err_and, inr, refl, rules, ◌∙◌}
+use Rattle.dwp_base.proofs.Bools.{both}
 use Rattle.thorin_builder.proofs.Running.{none-taken, next-taken, next-refused, list-ended}
 use Rattle.thorin_builder.proofs.Running.{declined-as, list-error, next-declined}
 use Rattle.thorin_builder.proofs.package.DwarfPackage.add_each.Goals as goal
@@ -14,8 +15,8 @@ returns-in_err-unit-clause-taken g c =
 pub add_skeleton-requires-clause-unread : goal.add_skeleton-requires-clause-unread
 add_skeleton-requires-clause-unread g c =
     let after = rw c.in-Some.is at c.in_ok-unit.ensures.path in
-    λ t. rw (c.path.ensures ∙ after (c.is_still.ensures t).1)
-    (c.loop-known.invariant.2 (c.is_still.ensures t).0)
+    λ t. let still = both _ _ t in
+    rw (c.path.ensures ∙ after still.1) (c.loop-known.invariant.2 still.0)
 
 pub returns-in-Err-clause-taken : goal.returns-in-Err-clause-taken
 returns-in-Err-clause-taken g c =

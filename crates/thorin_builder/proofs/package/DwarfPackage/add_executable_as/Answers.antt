@@ -1,7 +1,6 @@
-use Rattle.thorin_builder.proofs.Terms.{[], Err, err_from_is_err_and, inl, inr, Ok, refl, true}
-use Rattle.std.specs.Path.{path_bytes}
+use Rattle.thorin_builder.proofs.Terms.{Err, err_from_is_err_and, inl, input_error_in, inr, Ok}
+use Rattle.thorin_builder.proofs.Terms.{path_bytes, refl, true, unread, []}
 use Rattle.thorin_builder.proofs.Running.{declined-as, may-read, unread-declined, unread-error}
-use Rattle.thorin_builder.specs.Reading.{input_error_in, unread}
 use Rattle.thorin_builder.proofs.package.DwarfPackage.add_executable_as.Goals as goal
 
 pub returns-in_err-bytes-clause-taken : goal.returns-in_err-bytes-clause-taken

@@ -1,8 +1,7 @@
 use Rattle.thorin_builder.proofs.Terms
-use Terms.{[], accepted_of, Err, err_from_is_err_and, Ok, refl, rules, true}
-use Rattle.std.specs.Path.{path_bytes}
+use Terms.{accepted_of, Err, err_from_is_err_and, input_error_in, Ok, path_bytes, refl, rules, true}
+use Terms.{[]}
 use Rattle.thorin_builder.proofs.Running.{may-read, unread-declined, unread-error}
-use Rattle.thorin_builder.specs.Reading.{input_error_in}
 use Rattle.thorin_builder.proofs.package.DwarfPackage.add_input_by.Goals as goal
 
 pub returns-in_err-bytes-clause-taken : goal.returns-in_err-bytes-clause-taken

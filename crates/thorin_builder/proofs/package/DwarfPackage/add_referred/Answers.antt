@@ -1,6 +1,6 @@
 use Rattle.thorin_builder.proofs.Terms
-use Terms.{[], accepted_of, AreTaken, Err, Io, Memory, Ok, Outcome, refl, rules, TakesReferredFile}
-use Rattle.std.specs.Path.{path_bytes}
+use Terms.{accepted_of, AreTaken, Err, Io, Memory, Ok, Outcome, path_bytes, refl, rules}
+use Terms.{TakesReferredFile, []}
 use Rattle.thorin_builder.specs.Taking.{PassesOver}
 use Rattle.thorin_builder.proofs.AddedAgain.{are-taken-later, taken-remembered}
 use Rattle.thorin_builder.proofs.Extending.{on_ok-both}

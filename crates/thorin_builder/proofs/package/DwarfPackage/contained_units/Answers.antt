@@ -6,4 +6,4 @@ pub returns-in-Some-clause-names : goal.returns-in-Some-clause-names
 returns-in-Some-clause-names g c =
     let begun : c.args.self.now.state.begun ≡ Some (in_progress_of c.in-Some.package) =
     search (rules, c.self.view_is, c.in-Some.is) in
-    c.names.ensures ∙ ap names_in (sym begun) ∙ sym (names-begun c.args.self.now.state)
+    c.in-Some.package.named ∙ ap names_in (sym begun) ∙ sym (names-begun c.args.self.now.state)

@@ -1,7 +1,6 @@
-use Rattle.thorin_builder.proofs.Terms.{Error, File, finish_test, Gives, IfOk, IsFinishedState, Ok}
-use Rattle.thorin_builder.proofs.Terms.{Result, rules, State, units_in, ◌≡◌}
-use Rattle.thorin_builder.specs.StateView.{begun_of}
-use Rattle.thorin_again.specs.OwnAccepted.{IsAcceptedOnceWritten, IsAcceptedByNewOnceWritten}
+use Rattle.thorin_builder.proofs.Terms.{begun_of, Error, File, finish_test, Gives, IfOk}
+use Rattle.thorin_builder.proofs.Terms.{IsFinishedState, Ok, Result, rules, State, units_in, ◌≡◌}
+use Rattle.thorin_again.specs.OwnAccepted.{IsAcceptedByNewOnceWritten, IsAcceptedOnceWritten}
 use Rattle.thorin_join.specs.Join.{IsPackageOnceWritten}
 use Rattle.thorin_builder.proofs.package.DwarfPackage.finish_with_differing.Goals as goal
 

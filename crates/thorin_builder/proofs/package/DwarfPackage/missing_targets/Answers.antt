@@ -3,6 +3,6 @@ use Rattle.thorin_builder.proofs.Running.{names-begun}
 use Rattle.thorin_builder.proofs.package.DwarfPackage.missing_targets.Goals as goal
 
 pub returns : goal.returns
-returns g c = c.new.ensures ∙ ap₂ (λ names targets. filter (is_missing names) targets)
+returns g c = ap₂ (λ names targets. filter (is_missing names) targets)
     (c.contained_units.ensures.names ∙ names-begun c.args.self.now.state)
     (search (rules, c.self.view_is))

@@ -1,9 +1,8 @@
 use Rattle.thorin_builder.proofs.Terms
-use Terms.{building, Encoding, None, Option, refl, Some, State, sym, true, ◌∙◌, ◌≡◌}
+use Terms.{building, Encoding, None, Option, refl, rules, Some, State, sym, true, ◌∙◌, ◌≡◌}
 use Rattle.std.specs.Option.{is_some}
-use Rattle.thorin_again.specs.OwnUnits.{HoldsOwn, HasOneEncoding}
+use Rattle.thorin_again.specs.OwnUnits.{HasOneEncoding, HoldsOwn}
 use Rattle.thorin_builder.proofs.package.DwarfPackage.packs_again.Goals as goal
-use Rattle.std.proofs.Common.{rules}
 
 -- a builder whose inputs have one encoding
 one-of : (state : State) (own : Option Encoding) → state.own ≡ own → is_some own ≡ true
