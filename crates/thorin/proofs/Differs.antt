@@ -1,20 +1,19 @@
 -- The type units that an input's steps pass over and find to differ are those of its list of units.
 use Rattle.thorin.proofs.Terms
-use Terms.{◌++◌, [], ap, append-nil, append_assoc, bind-was, Compilation, DwarfObject, Elf, inl}
-use Terms.{InProgress, inr, List, lookup, map, map-append, Meaning, None, Ok, Option, refl, rules}
-use Terms.{same-ok, same_name, Some, Source, source_units, State, sym, taken, TypeUnit, UnitRead}
-use Terms.{units_in, Used, ℕ, ◌∙◌, ◌∷◌, ◌≡◌}
+use Terms.{ap, append-nil, append_assoc, bind-was, Compilation, DwarfObject, Elf, inl, InProgress}
+use Terms.{inr, List, lookup, map, map-append, Meaning, None, Ok, Option, refl, rules, same-ok}
+use Terms.{same_name, Some, Source, source_units, State, sym, taken, takes, TypeUnit, UnitRead}
+use Terms.{units_in, Used, ℕ, [], ◌++◌, ◌∙◌, ◌∷◌, ◌≡◌}
 use Rattle.thorin_join.proofs.Terms.{Adding, IndexEntry, kept_bytes, meaning_at, New, new_units}
 use Rattle.thorin_join.proofs.Terms.{NewUnit, package_or_new, parts_of, units_begun, with_new_unit}
 use Rattle.thorin_join.proofs.Terms.{with_new_units, with_source, with_unit, with_unit_added}
 use Rattle.thorin_builder.proofs.Terms.{held_units, or_held, with_all, with_first}
 use Rattle.std.proofs.lemmas.Simd.{map-map}
 use Rattle.dwp_units.specs.Units.{Unit as Header}
-use Rattle.thorin.specs.Differing.{Bytes, read_bytes, or_there, differing_by, differing, own_bytes}
-use Rattle.thorin.specs.Differing.{object_units, input_units}
+use Rattle.thorin.specs.Differing.{Bytes, differing, differing_by, input_units, object_units}
+use Rattle.thorin.specs.Differing.{or_there, own_bytes, read_bytes}
 use Rattle.thorin_join.specs.Builder.{differing_begun, differing_in}
-use Rattle.thorin_join.specs.State.{adding as adding_to, abbreviations_test}
-use Rattle.thorin_join.proofs.Joined.{takes}
+use Rattle.thorin_join.specs.State.{abbreviations_test, adding as adding_to}
 use Rattle.thorin_join.proofs.Units.ReadInTurn.{Steps, units-read}
 use Rattle.thorin.proofs.Running.{begun-then}
 

@@ -1,20 +1,21 @@
 -- What packing in groups means: the join of all inputs at once.
 use Rattle.thorin.proofs.Terms
-use Terms.{◌++◌, [], ap, append-nil, append_assoc, AreJoined, ArePackedAlone, AreTaken, bind-was}
-use Terms.{both-true, can_join, drop, DwarfObject, File, finish_test, flat_map, HaveTheirEncodings}
-use Terms.{InProgress, input_meaning, inputs_of, IsFinishedState, IsPackageOf, IsPackageOfAll}
-use Terms.{IsPackedInGroups, IsPermutation, IsPermutation-sym, IsSoundBegun, JoinAll, joining, keys}
-use Terms.{length, length-map, List, map, map-append, map-set, Meaning, Members, Ok, Option, refl}
-use Terms.{rules, Some, start, State, subst, swap, sym, take, take-append-drop, taken, taken_each}
-use Terms.{true, units_in, with_input, ℕ, ◌∙◌, ◌∷◌, ◌≡◌}
+use Terms.{ap, append-nil, append_assoc, AreJoined, ArePackedAlone, AreTaken, bind-was, both-true}
+use Terms.{can_join, drop, DwarfObject, File, finish_test, flat_map, HaveEncodingOf}
+use Terms.{HaveTheirEncodings, InProgress, input_meaning, inputs_of, IsFinishedState, IsPackageOf}
+use Terms.{IsPackageOfAll, IsPackedInGroups, IsPermutation, IsPermutation-sym, IsSoundBegun}
+use Terms.{JoinAll, joining, keys, length, length-map, List, map, map-append, map-set, Meaning}
+use Terms.{MeansWhereTaken, Members, Ok, Option, refl, rules, Some, start, State, subst, swap, sym}
+use Terms.{take, take-append-drop, taken, taken_each, true, units_in, with_input, ℕ, [], ◌++◌, ◌∙◌}
+use Terms.{◌∷◌, ◌≡◌}
 use Rattle.std.proofs.Math.ListN.{get_or-map}
-use Rattle.std.specs.List.{take-map, drop-map}
+use Rattle.std.specs.List.{drop-map, take-map}
 use Rattle.std.specs.List.Sorted.{apply_swaps}
 use Rattle.std.proofs.lemmas.Map.Made.{keys_of-map_values}
-use Rattle.thorin_again.specs.Again.{HaveEncodingOf, all_meant, MeansWhereTaken, MeansOnceWritten}
-use Rattle.thorin.proofs.GroupJoins.{groups-defined, groups-joined, joined-apart, found-again}
+use Rattle.thorin_again.specs.Again.{all_meant, MeansOnceWritten}
+use Rattle.thorin.proofs.GroupJoins.{found-again, groups-defined, groups-joined, joined-apart}
 use Rattle.thorin.proofs.GroupJoins.{joined-append}
-use Rattle.thorin.proofs.Running.{begun-then, each-taken, as-written}
+use Rattle.thorin.proofs.Running.{as-written, begun-then, each-taken}
 use Rattle.std.proofs.Math.Seq.{drop-append_seam, take-append_seam}
 
 -- ---- inputs, and the list of all their units

@@ -1,23 +1,18 @@
 -- Rows of many units have a long section: a unit has at least six bytes, those of its length and of
 -- its version.
 use Rattle.thorin.proofs.Terms
-use Terms.{[], ap, arith, bind-was, InProgress, length, length-append, List, Ok, ℕ, ◌+◌, ◌<◌}
-use Terms.{◌∷◌, ◌≡◌}
-use Rattle.std.proofs.Common.{drop, length-drop, length-take-le, nat_le, not, ◌*◌, ◌-◌, ◌^◌, ◌≤◌}
-use Rattle.std.proofs.lemmas.Bool.Decides.{nat_tests}
-use Rattle.std.proofs.lemmas.List.Filters.{length-filter_both}
+use Terms.{ap, arith, bind-was, content_of, drop, Endianness, IndexEntry, InProgress, length}
+use Terms.{length-append, length-filter_both, List, nat_tests, not, Ok, SectionKind, ℕ, [], ◌*◌}
+use Terms.{◌+◌, ◌<◌, ◌^◌, ◌∷◌, ◌≡◌, ◌≤◌}
+use Rattle.std.proofs.Common.{length-drop, length-take-le, nat_le, ◌-◌}
 use Rattle.dwp_base.proofs.Bools.{by-bool}
-use Rattle.dwp_base.specs.declared.endian.Endianness.{Endianness}
-use Rattle.dwp_base.specs.declared.section.SectionKind.{SectionKind}
 use Rattle.dwp_base.specs.declared.section.SectionKind.TheVariants as kinds
 use Rattle.dwp_bytes.specs.Input.{Input, number_at, section, split_at}
 use Rattle.dwp_bytes.specs.declared.encoding.Format.{Format}
-use Rattle.dwp_elf.specs.Contents.{content_of}
 use Rattle.dwp_units.specs.Units.{header_at, initial_length_at, Unit as Header, unit_at}
 use Rattle.dwp_units.specs.declared.unit.UnitSection.{UnitSection}
 use Rattle.dwp_units.specs.declared.unit.UnitSection.TheVariants as places
 use Rattle.dwp_index.specs.Package.{place_of}
-use Rattle.thorin_index.specs.declared.entry.IndexEntry.{IndexEntry}
 use Rattle.thorin_join.specs.Laid.{is_at, IsLaid, Lie, same_place}
 
 -- ---- a unit

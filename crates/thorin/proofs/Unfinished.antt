@@ -1,39 +1,32 @@
 -- Why inputs that were taken aren't finished: their rows are in the format, so that an index is
 -- refused for two encodings alone, or for a number of a long section.
 use Rattle.thorin.proofs.Terms
-use Terms.{[], ap, AreTaken, arith, bind-was, Bool, cond, DwarfObject, Err, ErrorValue, false}
-use Terms.{filter, inl, InProgress, inr, is_some, IsSoundBegun, length, List, None, Ok, Option}
-use Terms.{refl, Result, Some, start, State, subst, sym, taken, true, ℕ, ◌>>=◌, ◌∙◌, ◌∷◌, ◌≡◌, ◌⊎◌}
+use Terms.{ap, AreMixed, AreTaken, arith, bind-was, Bool, content_of, Encoding, Err, ErrorValue}
+use Terms.{filter, IndexEntry, inl, InProgress, inr, is_some, IsSoundBegun, IsUnfinished}
+use Terms.{LacksInput, length, length-filter_both, List, names_in, nat_tests, None, not, Ok, Option}
+use Terms.{refl, Result, SectionKind, Some, start, State, subst, sym, taken, takes, tests_under}
+use Terms.{true, ℕ, [], ◌*◌, ◌>>=◌, ◌^◌, ◌∙◌, ◌∷◌, ◌≡◌, ◌≤◌, ◌⊎◌}
 use Rattle.std.proofs.ByRecursion.{all_kept_by}
-use Rattle.std.proofs.Common.{codes, find, not, ◌*◌, ◌^◌, ◌≤◌}
-use Rattle.std.proofs.lemmas.Bool.Decides.{nat_tests}
-use Rattle.std.proofs.lemmas.List.Filters.{length-filter_both}
+use Rattle.std.proofs.Common.{codes}
 use Rattle.std.specs.List.{AllByRecursion as Each}
 use Rattle.std.specs.Option.{ok_or}
 use Rattle.dwp_base.specs.declared.section.Contribution.{Contribution}
-use Rattle.dwp_base.specs.declared.section.SectionKind.{SectionKind}
 use Rattle.dwp_bytes.specs.Encoding.{index_version_of}
-use Rattle.dwp_bytes.specs.declared.encoding.Encoding.{Encoding}
-use Rattle.dwp_elf.specs.Contents.{content_of}
 use Rattle.dwp_elf.specs.Growing.{Contents}
 use Rattle.dwp_table.specs.Columns.{column_of, contribution_kinds}
 use Rattle.thorin_errors.specs.Errors.{MixedInputEncodings, NoOutputObjectCreated, NumberTooLarge}
 use Rattle.thorin_index.specs.Entries.{contribution_to, offset_or_0, size_or_0}
 use Rattle.thorin_index.specs.EntryTests.{contributions_test, count_test, each, encoding_test}
 use Rattle.thorin_index.specs.EntryTests.{format_test, index_tests, number_test, same_encoding}
-use Rattle.thorin_index.specs.EntryTests.{tests_under}
-use Rattle.thorin_index.specs.declared.entry.IndexEntry.{IndexEntry}
 use Rattle.thorin_input.specs.Names.{is_compilation}
-use Rattle.thorin_join.specs.Builder.{compilations, finish_test, indexes_test, is_missing, names_in}
-use Rattle.thorin_join.specs.Builder.{none_missing, targets_test, type_units}
+use Rattle.thorin_join.specs.Builder.{compilations, finish_test, indexes_test, targets_test}
+use Rattle.thorin_join.specs.Builder.{type_units}
 use Rattle.thorin_join.specs.Represents.{IsSound, LieInside}
 use Rattle.thorin_join.specs.StandApart.{contents_begun, EachRow}
-use Rattle.thorin_join.proofs.Joined.{takes}
 use Rattle.thorin_join.proofs.Rows.StandApart.{sound-inside}
 use Rattle.thorin_join.proofs.Units.ReadInTurn.{each-all}
 use Rattle.thorin_again.specs.InFormat.{AreInFormat, HasEncodingOfOne, HaveEncodingsOf, IsInFormat}
-use Rattle.thorin.specs.Unfinished.{AreMixed, HasLongSection, IsIndexNumber, IsUnfinished}
-use Rattle.thorin.specs.Unfinished.{LacksInput, LacksTarget}
+use Rattle.thorin.specs.Unfinished.{HasLongSection, IsIndexNumber, LacksTarget}
 use Rattle.thorin.proofs.LongSections.{many-long}
 use Rattle.thorin.proofs.Running.{begun-then}
 
@@ -72,30 +65,16 @@ number-failed what n error h = grind (arith, nat_tests)
 range-long : (c : Contents) (row : IndexEntry) → LieInside c row → (kind : SectionKind)
     → (offset_or_0 (contribution_to kind row) ≤ length (content_of kind c))
     × (size_or_0 (contribution_to kind row) ≤ length (content_of kind c))
-range-long c row lie kind = by (contribution_to kind row) refl
-  where
-    by : (range : Option Contribution) → contribution_to kind row ≡ range
-        → (offset_or_0 range ≤ length (content_of kind c))
-        × (size_or_0 range ≤ length (content_of kind c))
-    by None is = (omega arith, omega arith)
-    by (Some range) is =
-        let inside = lie.inside kind range is in
-        (omega (arith, inside), omega (arith, inside))
+range-long c row lie kind = grind (arith, lie.inside kind)
 
 -- a row of an encoding of the version, in the format
 abbrev IsOfVersion : Encoding → IndexEntry → Type 0
 IsOfVersion encoding row = row.encoding.version ≡ encoding.version
 
-passes : (b : Bool) (e error : ErrorValue) → b ≡ true
-    → ◌≡◌ {A = Result (Unit {0}) ErrorValue} (cond b (Ok tt) (Err e)) (Err error) → ⊥
-passes true e error is h = absurd cc
-passes false e error is h = absurd cc
-
 no-column : (version : ℕ) (kind : SectionKind) (range : Option Contribution) (error : ErrorValue)
     → (is_some range ≡ true → is_some (column_of version kind) ≡ true)
     → format_test version kind range ≡ Err error → ⊥
-no-column version kind None error has h = absurd cc
-no-column version kind (Some range) error has h = passes _ _ error (has refl) h
+no-column version kind range error has h = grind (arith, has)
 
 same-version : (encoding : Encoding) (row : IndexEntry) → encoding_test encoding row ≡ Ok tt
     → IsOfVersion encoding row
@@ -242,40 +221,22 @@ module _ (inputs : List (List ℕ)) (state : State) (made : InProgress)
       (chosen-known is (omega (arith, all)), chosen-known isnt (omega (arith, all)))
 
 -- a state that has taken an input has begun a package
-some-is : {X : Type 0} (x : X) → ◌≡◌ {A = Option X} (Some x) None → ⊥
-some-is x h = absurd cc
-
 taken-begins : (bytes : List ℕ) (old next : State) → taken bytes old ≡ Ok next
     → next.begun ≡ None → ⊥
 taken-begins bytes old next took none =
-    elim (takes bytes old.begun next.begun (begun-then bytes old next took)).does [
-      | inl units ↦ some-is _ (units.1.is ∙ none)
-      | inr nothing ↦ some-is _ (nothing.1 ∙ none)
-    ]
-
-begun-stays : (inputs : List (List ℕ)) (old new : State) → AreTaken inputs old new
-    → new.begun ≡ None → old.begun ≡ None
-begun-stays [] old new are none = sym (ap (λ (s : State). s.begun) are.1) ∙ none
-begun-stays (bytes ∷ rest) old new are none = absurd (taken-begins bytes
-    (record old { targets = are.0 }) are.1 are.2 (begun-stays rest are.1 new are.3 none))
+    let t = takes bytes old.begun next.begun (begun-then bytes old next took) in
+    grind (arith, t.does, none)
 
 none-taken : (inputs : List (List ℕ)) (old new : State) → AreTaken inputs old new
-    → new.begun ≡ None → inputs ≡ []
-none-taken [] old new are none = refl
+    → new.begun ≡ None → (inputs ≡ []) × (old.begun ≡ None)
+none-taken [] old new are none = (refl, sym (ap (λ (s : State). s.begun) are.1) ∙ none)
 none-taken (bytes ∷ rest) old new are none = absurd (taken-begins bytes
-    (record old { targets = are.0 }) are.1 are.2 (begun-stays rest are.1 new are.3 none))
+    (record old { targets = are.0 }) are.1 are.2 (none-taken rest are.1 new are.3 none).1)
 
 target-failed : (state : State) (error : ErrorValue)
     → targets_test (names_in state.begun) state.targets ≡ Err error → LacksTarget state error
 unfolding targets_test
-target-failed state error h =
-    by (find (is_missing (names_in state.begun)) state.targets) refl h
-  where
-    by : (found : Option DwarfObject)
-        → find (is_missing (names_in state.begun)) state.targets ≡ found
-        → none_missing found ≡ Err error → LacksTarget state error
-    by None is k = absurd cc
-    by (Some name) is k = (name, is, cc)
+target-failed state error h = grind arith
 
 pub unfinished : (inputs : List (List ℕ)) (state : State) (error : ErrorValue)
     → AreTaken inputs start state → IsSoundBegun state.begun → AreInFormat state.begun
@@ -291,7 +252,7 @@ unfinished inputs state error are sound format encodings h =
     by : (begun : Option InProgress) → state.begun ≡ begun
         → (ok_or begun NoOutputObjectCreated >>= indexes_test) ≡ Err error
         → LacksInput inputs error ⊎ IsRefused inputs state error
-    by None is k = inl (none-taken inputs start state are is, cc)
+    by None is k = inl ((none-taken inputs start state are is).0, cc)
     by (Some made) is k =
         let known = either-known inputs state made is (rw is at sound) format encodings in
         inr (elim (step-failed (index_tests (compilations made.rows)) _ error k) [

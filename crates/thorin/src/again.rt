@@ -69,7 +69,7 @@ pub fn written_packages_are_taken_again()
     inputs_of_one_encoding_keep_their_strings();
 }
 
-/// The same laws as `written_packages_are_taken_again`, of what `pack` gives. It does nothing.
+/// The laws of `written_packages_are_taken_again`, of what `pack` gives. It does nothing.
 pub fn packed_files_are_taken_again<Sess: Session<RelocationEntry>>(session: &Sess)
     ensures again { (inputs : List Input) (packed : Packed)
         (is : IsPacked (Sess.offer session.now) inputs packed)

@@ -25,7 +25,8 @@ pub enum Input<'a> {
     Bytes(&'a [u8]),
     /// The objects that the executable at a path refers to.
     Executable(Path<'a>, MissingReferencedObjectBehaviour),
-    /// The same, where units of the executable that name no object are passed over.
+    /// The objects that the executable at a path refers to, but its units that name no object are
+    /// passed over.
     ExecutableSkippingNameless(Path<'a>, MissingReferencedObjectBehaviour),
 }
 

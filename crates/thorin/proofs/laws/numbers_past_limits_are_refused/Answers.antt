@@ -1,7 +1,6 @@
 use Rattle.thorin.proofs.Terms
-use Terms.{[], arith, refl, ◌∷◌}
+use Terms.{arith, refl, tests_under, [], ◌∷◌}
 use Rattle.dwp_elf.specs.Numbers.{Fits}
-use Rattle.thorin_index.specs.EntryTests.{tests_under}
 use Rattle.thorin_strings.specs.StringOffsets.{fitting_offset, remapped_entry}
 use Rattle.dwp_elf_read.specs.declared.error.WriteError.TheVariants as written
 use Rattle.thorin.proofs.laws.numbers_past_limits_are_refused.Goals as goal
